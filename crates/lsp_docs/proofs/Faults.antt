@@ -1,0 +1,29 @@
+-- Faults of changes, and clauses on results.
+use Rattle.std.proofs.Common.{◌≡◌, ℕ, refl, sym, ap, ◌∙◌, subst, Result, Ok, Err}
+use Rattle.std.specs.Prelude.{OnOk, OnErr, IfErr}
+use Rattle.lsp_text.specs.declared.fault.TextFault.{TextFault}
+use Rattle.lsp_text.specs.declared.fault.TextFault.TheVariants as text
+use Rattle.lsp_text.specs.Edits.{IsFaultOf}
+use Rattle.lsp_docs.specs.Texts.{Text}
+use Rattle.lsp_docs.specs.Fault.{Breaks, fault_of}
+
+-- a fault of a text is a fault of its document
+pub breaks-fault : (r : Result Text ℕ) (f : TextFault) → IsFaultOf r f → Breaks r (fault_of f)
+breaks-fault r (text.Rule n) h = h
+breaks-fault r text.Memory h = tt
+
+pub on_ok : {U E : Type 0} {P Q : Type 0} (r : Result U E) → (P → Q) → OnOk r P → OnOk r Q
+on_ok (Ok u) f h = f h
+on_ok (Err e) f h = tt
+
+pub on_err : {U E : Type 0} {P Q : Type 0} (r : Result U E) → (P → Q) → OnErr r P → OnErr r Q
+on_err (Ok u) f h = tt
+on_err (Err e) f h = f h
+
+pub if_err : {U E : Type 0} {P Q : E → Type 0} (r : Result U E) → ((e : E) → P e → Q e) → IfErr r P → IfErr r Q
+if_err (Ok u) f h = tt
+if_err (Err e) f h = f e h
+
+pub on_ok_two : {U E : Type 0} {P Q R : Type 0} (r : Result U E) → (P → Q → R) → OnOk r P → OnOk r Q → OnOk r R
+on_ok_two (Ok u) f h k = f h k
+on_ok_two (Err e) f h k = tt

@@ -1,0 +1,16 @@
+pub mod Words
+pub mod Queues
+pub mod HeldSteps
+pub mod DocumentSteps
+pub mod WaitingSteps
+pub mod QueueSteps
+pub mod Standing
+pub mod Stepping
+pub mod Entries
+pub mod Faults
+pub mod Accepted
+pub mod Agreeing
+pub mod Bindings
+pub mod Setters
+pub mod Unmatched
+pub mod Rows

@@ -1,0 +1,49 @@
+-- Queue by URI: what is kept and added.
+use Rattle.std.proofs.Common.{◌≡◌, ℕ, ◌+◌, Bool, true, false, List, [], ◌∷◌, ◌++◌, filter, length, refl, sym, ap, ◌∙◌, inl, inr, arith, length-append, true≢false}
+use Rattle.std.specs.Str.{bytes_eq}
+use Rattle.lsp_docs.specs.Calls.{Bytes}
+use Rattle.lsp_docs.specs.Documents.{Version}
+use Rattle.lsp_docs.specs.State.{Queue, queue_of, keep_in, add_in, total}
+use Rattle.lsp_docs.proofs.Words.{true_or_false, uri_is, uri_same}
+
+pub queue-kept : (u : Bytes) (p : Version → Bool) (ns : List Queue) → queue_of u (keep_in u p ns) ≡ filter p (queue_of u ns)
+queue-kept u p [] = refl
+queue-kept u p (n ∷ ns) =
+    elim (true_or_false (bytes_eq u n.uri)) [ inl h ↦ rw (h, h) refl | inr h ↦ rw (h, h) (queue-kept u p ns) ]
+
+pub queue-others : (x u : Bytes) (p : Version → Bool) (ns : List Queue) → bytes_eq x u ≡ false → queue_of x (keep_in u p ns) ≡ queue_of x ns
+queue-others x u p [] e = refl
+queue-others x u p (n ∷ ns) e =
+    elim (true_or_false (bytes_eq u n.uri)) [
+      | inl h ↦ rw (h, ap (bytes_eq x) (sym (uri_is u n.uri h)) ∙ e) refl
+      | inr h ↦ rw h (elim (true_or_false (bytes_eq x n.uri)) [ inl k ↦ rw k refl | inr k ↦ rw k (queue-others x u p ns e) ])
+    ]
+
+pub total-kept : (u : Bytes) (p : Version → Bool) (ns : List Queue) → total (keep_in u p ns) + length (queue_of u ns) ≡ total ns + length (filter p (queue_of u ns))
+total-kept u p [] = refl
+total-kept u p (n ∷ ns) =
+    elim (true_or_false (bytes_eq u n.uri)) [
+      | inl h ↦ rw h (omega arith)
+      | inr h ↦ rw h (omega (arith, total-kept u p ns))
+    ]
+
+pub queue-added : (u : Bytes) (v : Version) (ns : List Queue) → queue_of u (add_in u v ns) ≡ queue_of u ns ++ v ∷ []
+queue-added u v [] = rw (uri_same u) refl
+queue-added u v (n ∷ ns) =
+    elim (true_or_false (bytes_eq u n.uri)) [ inl h ↦ rw (h, h) refl | inr h ↦ rw (h, h) (queue-added u v ns) ]
+
+pub queue-added-others : (x u : Bytes) (v : Version) (ns : List Queue) → bytes_eq x u ≡ false → queue_of x (add_in u v ns) ≡ queue_of x ns
+queue-added-others x u v [] e = rw e refl
+queue-added-others x u v (n ∷ ns) e =
+    elim (true_or_false (bytes_eq u n.uri)) [
+      | inl h ↦ rw (h, ap (bytes_eq x) (sym (uri_is u n.uri h)) ∙ e) refl
+      | inr h ↦ rw h (elim (true_or_false (bytes_eq x n.uri)) [ inl k ↦ rw k refl | inr k ↦ rw k (queue-added-others x u v ns e) ])
+    ]
+
+pub total-added : (u : Bytes) (v : Version) (ns : List Queue) → total (add_in u v ns) ≡ total ns + 1
+total-added u v [] = refl
+total-added u v (n ∷ ns) =
+    elim (true_or_false (bytes_eq u n.uri)) [
+      | inl h ↦ rw (h, length-append n.versions (v ∷ [])) (omega arith)
+      | inr h ↦ rw (h, total-added u v ns) (omega arith)
+    ]

@@ -1,0 +1,256 @@
+-- The snapshots that were never compared: those that wait, and those that were missed.
+use Rattle.std.proofs.Common.{◌≡◌, ℕ, ◌+◌, Bool, true, false, ◌&&◌, ◌||◌, ◌⊎◌, List, [], ◌∷◌, ◌++◌, filter, length, length-append, refl, sym, ap, ◌∙◌, subst, Option, Some, None, inl, inr, append_assoc, append-nil, true≢false, arith}
+use Rattle.std.specs.Prelude.{ℤ, int_lt, not, is_some, if◌then◌else◌}
+use Rattle.std.specs.List.{list_any}
+use Rattle.std.specs.Ordering.{int_eq}
+use Rattle.std.specs.Str.{bytes_eq}
+use Rattle.std.proofs.lemmas.Bool.{or_parts}
+use Rattle.std.proofs.lemmas.Bool.Decides.{Decides-int_eq}
+use Rattle.std.proofs.lemmas.Int.{ints}
+use Rattle.lsp_docs.specs.Texts.{Text}
+use Rattle.lsp_docs.specs.Calls.{Bytes, Call, opens, changes, closes, saves, shows, is_close}
+use Rattle.lsp_docs.specs.Documents.{Version, versioned, held}
+use Rattle.lsp_docs.specs.Snapshots.{Shown, is_ahead, waits, shown_entry, waiting_in, waiting, versions_of, holds_number, sets, comes_to, is_compared, unmatched_entry, unmatched_in, unmatched}
+use Rattle.lsp_docs.specs.Rules.{call_rule, AreAcceptedFrom, AreAccepted}
+use Rattle.lsp_docs.specs.Missed.{ends_waiting, missed}
+use Rattle.lsp_docs.proofs.Words.{true_or_false, both_parts, either, int_is, filter-append, uri_is, uri_same, uri_flip}
+use Rattle.lsp_docs.proofs.HeldSteps.{next_held, held-snoc}
+use Rattle.lsp_docs.proofs.WaitingSteps.{still, still_at, ahead-step, and_true, and_false, or_false, none_row, no_some, change_parts, waiting-push, missed-push}
+use Rattle.lsp_docs.proofs.Standing.{accepted-push}
+use Rattle.lsp_docs.proofs.Stepping.{held-shown, not_ahead, ahead}
+
+-- the call brings the snapshot's URI to its version
+abbrev meets : Call → Shown → Bool
+meets c s = sets s.uri s.version.number c
+
+-- ---- one more call, for `comes_to`
+
+later-one : (s c x l y : Bool) → (s || (not c && (x || (not l && y)))) ≡ ((s || (not c && x)) || (not (c || l) && y))
+later-one true c x l y = refl
+later-one false true x l y = refl
+later-one false false x l y = refl
+
+comes_to-snoc : (uri : Bytes) (n : ℤ) (after : List Call) (c : Call) → comes_to uri n (after ++ c ∷ []) ≡ (comes_to uri n after || (not (list_any (is_close uri) after) && sets uri n c))
+comes_to-snoc uri n [] c = ap (λ b. sets uri n c || b) (and_false (not (is_close uri c))) ∙ or_false (sets uri n c)
+comes_to-snoc uri n (d ∷ after) c =
+    ap (λ b. sets uri n d || (not (is_close uri d) && b)) (comes_to-snoc uri n after c)
+    ∙ later-one (sets uri n d) (is_close uri d) (comes_to uri n after) (list_any (is_close uri) after) (sets uri n c)
+
+-- ---- a version that was come to is held or passed, until a close
+
+not_less_now : (m n : ℤ) → int_eq m n ≡ true → int_lt m n ≡ false
+not_less_now m n h = grind (arith, ints)
+
+ends_still : (uri u : Bytes) (m n : ℤ) → (bytes_eq uri u && int_eq m n) ≡ true → (not (bytes_eq u uri) || int_lt m n) ≡ false
+ends_still uri u m n h =
+    let parts = both_parts (bytes_eq uri u) (int_eq m n) h in
+    rw (uri_flip u uri ∙ parts.0, not_less_now m n parts.1) refl
+
+set_ends : (uri : Bytes) (n : ℤ) (c : Call) → sets uri n c ≡ true → still_at c uri n ≡ false
+set_ends uri n (opens u m t) h = ends_still uri u m n h
+set_ends uri n (changes enc k u m cs) h = ends_still uri u m n h
+set_ends uri n (closes u) h = absurd (true≢false (sym h))
+set_ends uri n (saves u t) h = absurd (true≢false (sym h))
+set_ends uri n (shows u m t) h = absurd (true≢false (sym h))
+
+pub set_opens : (uri : Bytes) (n : ℤ) (c : Call) → sets uri n c ≡ true → is_close uri c ≡ false
+set_opens uri n (opens u m t) h = refl
+set_opens uri n (changes enc k u m cs) h = refl
+set_opens uri n (closes u) h = absurd (true≢false (sym h))
+set_opens uri n (saves u t) h = refl
+set_opens uri n (shows u m t) h = refl
+
+first_of_both : (x cl : Bool) → cl ≡ false → (x && not cl) ≡ false → x ≡ false
+first_of_both true cl p h = absurd (true≢false (sym (ap (λ b. true && not b) p) ∙ h))
+first_of_both false cl p h = refl
+
+module _ (limit : ℕ) (uri : Bytes) (n : ℤ) where
+  -- the version is held or passed
+  abbrev IsReached : List Call → Type 0
+  IsReached calls = is_ahead n (held limit uri calls) ≡ false
+
+  reached-kept : (calls : List Call) (c : Call) → call_rule limit calls c ≡ None → is_close uri c ≡ false → IsReached calls → IsReached (calls ++ c ∷ [])
+  reached-kept calls c e open_still h =
+      ap (is_ahead n) (held-snoc limit uri calls c)
+      ∙ first_of_both (is_ahead n (next_held limit uri (held limit uri calls) c)) (is_close uri c) open_still
+      (ahead-step limit uri n calls c e ∙ ap (λ b. b && still_at c uri n) h)
+
+  reached-set : (calls : List Call) (c : Call) → call_rule limit calls c ≡ None → sets uri n c ≡ true → IsReached (calls ++ c ∷ [])
+  reached-set calls c e h =
+      ap (is_ahead n) (held-snoc limit uri calls c)
+      ∙ first_of_both (is_ahead n (next_held limit uri (held limit uri calls) c)) (is_close uri c) (set_opens uri n c h)
+      (ahead-step limit uri n calls c e ∙ (ap (λ b. is_ahead n (held limit uri calls) && b) (set_ends uri n c h) ∙ and_false (is_ahead n (held limit uri calls))))
+
+  reached-on : (calls more : List Call) → AreAcceptedFrom limit calls more → list_any (is_close uri) more ≡ false → IsReached calls → IsReached (calls ++ more)
+  reached-on calls [] h open_still r = subst IsReached (sym (append-nil calls)) r
+  reached-on calls (c ∷ more) h open_still r =
+      let closing = or_parts (is_close uri c) (list_any (is_close uri) more) open_still in
+      subst IsReached (append_assoc calls (c ∷ []) more) (reached-on (calls ++ c ∷ []) more h.1 closing.1 (reached-kept calls c h.0 closing.0 r))
+
+  come : (s cl x : Bool) → (s || (not cl && x)) ≡ true → cl ≡ false → (s ≡ true) ⊎ (x ≡ true)
+  come true cl x h p = inl refl
+  come false cl x h p = inr (sym (ap (λ b. not b && x) p) ∙ h)
+
+  reached-come : (calls more : List Call) → AreAcceptedFrom limit calls more → list_any (is_close uri) more ≡ false → comes_to uri n more ≡ true → IsReached (calls ++ more)
+  reached-come calls [] h open_still r = absurd (true≢false (sym r))
+  reached-come calls (c ∷ more) h open_still r =
+      let closing = or_parts (is_close uri c) (list_any (is_close uri) more) open_still in
+      subst IsReached (append_assoc calls (c ∷ []) more)
+      (elim (come (sets uri n c) (is_close uri c) (comes_to uri n more) r closing.0) [
+        | inl p ↦ reached-on (calls ++ c ∷ []) more h.1 closing.1 (reached-set calls c h.0 p)
+        | inr p ↦ reached-come (calls ++ c ∷ []) more h.1 closing.1 p
+      ])
+
+  -- a snapshot that was compared waits no more
+  compared-reached : (before after : List Call) (t : Text) → AreAcceptedFrom limit before (shows uri n t ∷ after) → list_any (is_close uri) after ≡ false
+      → is_compared limit before uri n after ≡ true → IsReached (before ++ shows uri n t ∷ after)
+  compared-reached before after t h open_still is =
+      let s = shows uri n t in
+      subst IsReached (append_assoc before (s ∷ []) after)
+      (elim (either (holds_number n (held limit uri before)) (comes_to uri n after) is) [
+        | inl p ↦ reached-on (before ++ s ∷ []) after h.1 open_still (ap (is_ahead n) (held-shown limit before uri n t) ∙ not_ahead n (held limit uri before) p)
+        | inr p ↦ reached-come (before ++ s ∷ []) after h.1 open_still p
+      ])
+
+  -- and a call comes only to a version that was ahead
+  sets-ahead : (calls : List Call) (c : Call) → call_rule limit calls c ≡ None → sets uri n c ≡ true → is_ahead n (held limit uri calls) ≡ true
+  sets-ahead calls (opens u m t) e h =
+      let parts = both_parts (bytes_eq uri u) (int_eq m n) h in
+      let none = no_some (held limit u calls) (none_row (is_some (held limit u calls)) 601 _ e).0 in
+      ap (λ x. is_ahead n (held limit x calls)) (uri_is uri u parts.0) ∙ ap (is_ahead n) none
+  sets-ahead calls (changes enc k u m cs) e h =
+      let both = both_parts (bytes_eq uri u) (int_eq m n) h in
+      let parts = change_parts limit _ enc k m cs (held limit u calls) e in
+      ap (λ x. is_ahead n (held limit x calls)) (uri_is uri u both.0) ∙ (ap (is_ahead n) parts.is ∙ (ap (int_lt parts.old.number) (sym (int_is m n both.1)) ∙ parts.rises))
+  sets-ahead calls (closes u) e h = absurd (true≢false (sym h))
+  sets-ahead calls (saves u t) e h = absurd (true≢false (sym h))
+  sets-ahead calls (shows u m t) e h = absurd (true≢false (sym h))
+
+-- ---- one more call, for one snapshot
+
+entry_lem : (f x a cl y : Bool) (s : Shown) (p : Shown → Bool) → p s ≡ y → (y ≡ true → a ≡ true) → (cl ≡ false → (f || x) ≡ true → a ≡ false)
+    → (if f || (x || (not cl && y)) then 0 else 1) + length (filter p (if a && not cl then s ∷ [] else [])) ≡ (if f || x then 0 else 1)
+entry_lem true x true true y s p e up down = refl
+entry_lem true x true false y s p e up down = absurd (true≢false (down refl refl))
+entry_lem true x false cl y s p e up down = refl
+entry_lem false true true true y s p e up down = refl
+entry_lem false true true false y s p e up down = absurd (true≢false (down refl refl))
+entry_lem false true false cl y s p e up down = refl
+entry_lem false false true true y s p e up down = refl
+entry_lem false false true false true s p e up down = rw e refl
+entry_lem false false true false false s p e up down = rw e refl
+entry_lem false false false true y s p e up down = refl
+entry_lem false false false false true s p e up down = absurd (true≢false (sym (up refl)))
+entry_lem false false false false false s p e up down = refl
+
+not_both : (a : Bool) → (a ≡ true → a ≡ false) → a ≡ false
+not_both true f = f refl
+not_both false f = refl
+
+entry-push : (limit : ℕ) (before after : List Call) (d c : Call) → AreAcceptedFrom limit before (d ∷ after) → call_rule limit (before ++ d ∷ after) c ≡ None
+    → unmatched_entry limit before d (after ++ c ∷ []) + length (filter (meets c) (shown_entry limit (before ++ d ∷ after) d after)) ≡ unmatched_entry limit before d after
+entry-push limit before after (opens u n t) c h e = refl
+entry-push limit before after (changes enc k u n cs) c h e = refl
+entry-push limit before after (closes u) c h e = refl
+entry-push limit before after (saves u t) c h e = refl
+entry-push limit before after (shows u n t) c h e =
+    let all = before ++ shows u n t ∷ after in
+    let s : Shown = record { uri = u; version = versioned n t } in
+    let held_now = holds_number n (held limit u before) in
+    ap (λ b. (if held_now || b then 0 else 1) + length (filter (meets c) (shown_entry limit all (shows u n t) after))) (comes_to-snoc u n after c)
+    ∙ entry_lem held_now (comes_to u n after) (is_ahead n (held limit u all)) (list_any (is_close u) after) (sets u n c) s (meets c) refl
+    (λ y. sets-ahead limit u n all c e y) (λ open_still is. compared-reached limit u n before after t h open_still is)
+
+unmatched_in-push : (limit : ℕ) (before after : List Call) (c : Call) → AreAcceptedFrom limit before after → call_rule limit (before ++ after) c ≡ None
+    → unmatched_in limit before (after ++ c ∷ []) + length (filter (meets c) (waiting_in limit (before ++ after) after)) ≡ unmatched_in limit before after + unmatched_entry limit (before ++ after) c []
+unmatched_in-push limit before [] c h e = rw (append-nil before) (omega arith)
+unmatched_in-push limit before (d ∷ after) c h e =
+    let all = before ++ d ∷ after in
+    let same : (before ++ d ∷ []) ++ after ≡ all = append_assoc before (d ∷ []) after in
+    let rest = unmatched_in-push limit (before ++ d ∷ []) after c h.1 (ap (λ l. call_rule limit l c) same ∙ e) in
+    let rest_all = subst (λ l. unmatched_in limit (before ++ d ∷ []) (after ++ c ∷ []) + length (filter (meets c) (waiting_in limit l after))
+    ≡ unmatched_in limit (before ++ d ∷ []) after + unmatched_entry limit l c []) same rest in
+    let one = entry-push limit before after d c h e in
+    let one_list = shown_entry limit all d after in
+    let rest_list = waiting_in limit all after in
+    let split : length (filter (meets c) (one_list ++ rest_list)) ≡ length (filter (meets c) one_list) + length (filter (meets c) rest_list) =
+    ap length (filter-append (meets c) one_list rest_list) ∙ length-append (filter (meets c) one_list) (filter (meets c) rest_list) in
+    omega (arith, rest_all, one, split)
+
+-- ---- each snapshot that waits goes on, is missed or is compared
+
+data Fate (s e m : Bool) : Type 0 where
+  goes_on : s ≡ true → e ≡ false → m ≡ false → Fate s e m
+  is_missed : s ≡ false → e ≡ true → m ≡ false → Fate s e m
+  is_met : s ≡ false → e ≡ false → m ≡ true → Fate s e m
+
+less_or : (m n : ℤ) → Fate (int_lt m n) (int_lt n m) (int_eq m n)
+less_or m n =
+    elim (true_or_false (int_lt m n)) [
+      | inl p ↦ goes_on p (let h = p in grind (arith, ints)) (let h = p in grind (arith, ints))
+      | inr p ↦ elim (true_or_false (int_lt n m)) [
+        | inl q ↦ is_missed p q (let h = q in grind (arith, ints))
+        | inr q ↦ is_met p q (let h = p in let k = q in grind (arith, ints))
+      ]
+    ]
+
+fate_of : (u uri : Bytes) (m n : ℤ) → Fate (not (bytes_eq u uri) || int_lt m n) (bytes_eq u uri && int_lt n m) (bytes_eq uri u && int_eq m n)
+fate_of u uri m n =
+    elim (true_or_false (bytes_eq u uri)) [
+      | inl p ↦ rw (uri_flip uri u, p) (less_or m n)
+      | inr p ↦ rw (uri_flip uri u, p) (goes_on refl refl refl)
+    ]
+
+fate : (c : Call) (s : Shown) → Fate (still c s) (ends_waiting c s) (meets c s)
+fate (opens u m t) s = fate_of u s.uri m s.version.number
+fate (changes enc k u m cs) s = fate_of u s.uri m s.version.number
+fate (closes u) s = elim (true_or_false (bytes_eq u s.uri)) [ inl p ↦ rw p (is_missed refl refl refl) | inr p ↦ rw p (goes_on refl refl refl) ]
+fate (saves u t) s = goes_on refl refl refl
+fate (shows u m t) s = goes_on refl refl refl
+
+thirds : (c : Call) (ws : List Shown) → length (filter (still c) ws) + length (filter (ends_waiting c) ws) + length (filter (meets c) ws) ≡ length ws
+thirds c [] = refl
+thirds c (s ∷ ws) =
+    let rest = thirds c ws in
+    elim (fate c s) [
+      | goes_on p q r ↦ rw (p, q, r) (omega (arith, rest))
+      | is_missed p q r ↦ rw (p, q, r) (omega (arith, rest))
+      | is_met p q r ↦ rw (p, q, r) (omega (arith, rest))
+    ]
+
+-- ---- all calls
+
+new-entry : (limit : ℕ) (calls : List Call) (c : Call) → call_rule limit calls c ≡ None → length (shown_entry limit (calls ++ c ∷ []) c []) ≡ unmatched_entry limit calls c []
+new-entry limit calls (opens u n t) e = refl
+new-entry limit calls (changes enc k u n cs) e = refl
+new-entry limit calls (closes u) e = refl
+new-entry limit calls (saves u t) e = refl
+new-entry limit calls (shows u n t) e =
+    let s : Shown = record { uri = u; version = versioned n t } in
+    let now = ap (is_ahead n) (held-shown limit calls u n t) in
+    elim (true_or_false (holds_number n (held limit u calls))) [
+      | inl p ↦ rw (now ∙ not_ahead n (held limit u calls) p, p) refl
+      | inr p ↦ rw (now ∙ ahead n t (held limit u calls) limit (versions_of u (waiting limit calls)) u e p, p) refl
+    ]
+
+split-push : (limit : ℕ) (calls : List Call) (c : Call) → AreAccepted limit calls → call_rule limit calls c ≡ None → unmatched limit calls ≡ length (waiting limit calls) + missed limit calls
+    → unmatched limit (calls ++ c ∷ []) ≡ length (waiting limit (calls ++ c ∷ [])) + missed limit (calls ++ c ∷ [])
+split-push limit calls c h e so_far =
+    let pushed = unmatched_in-push limit [] calls c h e in
+    let waits_now : length (waiting limit (calls ++ c ∷ [])) ≡ length (filter (still c) (waiting limit calls)) + length (shown_entry limit (calls ++ c ∷ []) c []) =
+    ap length (waiting-push limit calls c e) ∙ length-append (filter (still c) (waiting limit calls)) (shown_entry limit (calls ++ c ∷ []) c []) in
+    let missed_now = missed-push limit calls c in
+    let parts = thirds c (waiting limit calls) in
+    let new = new-entry limit calls c e in
+    omega (arith, pushed, waits_now, missed_now, parts, new, so_far)
+
+split-from : (limit : ℕ) (before after : List Call) → AreAccepted limit before → AreAcceptedFrom limit before after → unmatched limit before ≡ length (waiting limit before) + missed limit before
+    → unmatched limit (before ++ after) ≡ length (waiting limit (before ++ after)) + missed limit (before ++ after)
+split-from limit before [] done h so_far = subst (λ l. unmatched limit l ≡ length (waiting limit l) + missed limit l) (sym (append-nil before)) so_far
+split-from limit before (c ∷ after) done h so_far =
+    subst (λ l. unmatched limit l ≡ length (waiting limit l) + missed limit l) (append_assoc before (c ∷ []) after)
+    (split-from limit (before ++ c ∷ []) after (accepted-push limit before c done h.0) h.1 (split-push limit before c done h.0 so_far))
+
+-- **The snapshots that were never compared are those that wait and those that were missed.**
+pub unmatched-parts : (limit : ℕ) (calls : List Call) → AreAccepted limit calls → unmatched limit calls ≡ length (waiting limit calls) + missed limit calls
+unmatched-parts limit calls h = split-from limit [] calls tt h refl

@@ -1,0 +1,210 @@
+-- What one more call does to the snapshots that wait.
+use Rattle.std.proofs.Common.{◌≡◌, ℕ, ◌+◌, Bool, true, false, ◌||◌, ◌&&◌, List, [], ◌∷◌, ◌++◌, map, filter, length, refl, sym, ap, ◌∙◌, Option, Some, None, inl, inr, append_assoc, append-nil, subst, Result, Ok, Err, true≢false, arith}
+use Rattle.std.specs.Prelude.{if◌then◌else◌, option_map, ℤ, not, is_some, int_lt}
+use Rattle.std.specs.Str.{bytes_eq}
+use Rattle.std.specs.Option.{option_or}
+use Rattle.std.specs.List.{list_any}
+use Rattle.std.proofs.lemmas.Option.{none-some, same_Some}
+use Rattle.std.proofs.lemmas.List.Folds.{list_any-append}
+use Rattle.lsp_rpc.specs.declared.plain.Encoding.{Encoding}
+use Rattle.lsp_rpc.specs.declared.plain.SyncKind.{SyncKind}
+use Rattle.lsp_docs.specs.Texts.{Text}
+use Rattle.lsp_text.specs.Edits.{Edit, applied}
+use Rattle.lsp_docs.specs.Calls.{Bytes, Call, opens, changes, closes, saves, shows, uri_of, is_close}
+use Rattle.lsp_docs.specs.Documents.{Version, versioned, opening, revised, revised_by, held_since, held}
+use Rattle.lsp_docs.specs.Snapshots.{Shown, is_ahead, waits, shown_entry, waiting_in, waiting, is_of, versions_of}
+use Rattle.lsp_docs.specs.Rules.{fits_kind, version_rule, text_rule, change_rule, rule_of, call_rule}
+use Rattle.lsp_docs.specs.Missed.{ends_waiting, missed_from, missed}
+use Rattle.lsp_docs.proofs.Words.{true_or_false, filter-append, map-append, uri_is, uri_same, uri_flip, lt_trans}
+use Rattle.lsp_docs.proofs.HeldSteps.{next_held, held-snoc}
+
+-- a snapshot of the URI and version waits on after the call
+abbrev pub still_at : Call → Bytes → ℤ → Bool
+still_at (opens u m t) uri n = not (bytes_eq u uri) || int_lt m n
+still_at (changes enc k u m cs) uri n = not (bytes_eq u uri) || int_lt m n
+still_at (closes u) uri n = not (bytes_eq u uri)
+still_at (saves u t) uri n = true
+still_at (shows u m t) uri n = true
+
+abbrev pub still : Call → Shown → Bool
+still c s = still_at c s.uri s.version.number
+
+-- ---- what a rule that does not apply says
+
+pub none_row : (b : Bool) (n : ℕ) (rest : Option ℕ) → (if b then Some n else rest) ≡ None → (b ≡ false) × (rest ≡ None)
+none_row true n rest h = absurd (none-some n (sym h))
+none_row false n rest h = (refl, h)
+
+pub none_last : (x : Option ℕ) → (if true then x else None) ≡ None → x ≡ None
+none_last x h = h
+
+pub not_false : (b : Bool) → not b ≡ false → b ≡ true
+not_false true h = refl
+not_false false h = absurd (true≢false h)
+
+pub no_some : (o : Option Version) → is_some o ≡ false → o ≡ None
+no_some None h = refl
+no_some (Some v) h = absurd (true≢false h)
+
+-- what an accepted change says
+pub record Changes (limit : ℕ) (ws : List Version) (enc : Encoding) (m : ℤ) (cs : List Edit) (h : Option Version) : Type 0 where
+  pub old : Version
+  pub text : Text
+  pub is : h ≡ Some old
+  pub rises : int_lt old.number m ≡ true
+  pub made : applied limit enc old.text cs ≡ Ok text
+  pub agrees : version_rule ws (versioned m text) ≡ None
+
+text_made : (limit : ℕ) (ws : List Version) (m : ℤ) (r : Result Text ℕ) → text_rule ws m r ≡ None → (t : Text) × (r ≡ Ok t) × (version_rule ws (versioned m t) ≡ None)
+text_made limit ws m (Ok t) h = (t, refl, h)
+text_made limit ws m (Err rule) h = absurd (none-some rule (sym h))
+
+pub change_parts : (limit : ℕ) (ws : List Version) (enc : Encoding) (k : SyncKind) (m : ℤ) (cs : List Edit) (h : Option Version)
+    → change_rule limit ws enc k m cs h ≡ None → Changes limit ws enc m cs h
+change_parts limit ws enc k m cs None e = absurd (let n : ℕ = 602 in none-some n (sym e))
+change_parts limit ws enc k m cs (Some v) e =
+    let first = none_row (not (int_lt v.number m)) 603 _ e in
+    let second = none_row (not (fits_kind k cs)) 604 _ first.1 in
+    let made = text_made limit ws m (applied limit enc v.text cs) second.1 in
+    record { old = v; text = made.0; is = refl; rises = not_false (int_lt v.number m) first.0; made = made.1; agrees = made.2 }
+
+-- ---- one more call, for one snapshot
+
+pub and_true : (b : Bool) → (b && true) ≡ b
+and_true true = refl
+and_true false = refl
+
+pub and_false : (b : Bool) → (b && false) ≡ false
+and_false true = refl
+and_false false = refl
+
+pub or_false : (b : Bool) → (b || false) ≡ b
+or_false true = refl
+or_false false = refl
+
+shuffle : (a x b cl st : Bool) → (x && not cl) ≡ (a && st) → (x && not (b || (cl || false))) ≡ ((a && not b) && st)
+shuffle a x true cl st e = and_false x ∙ sym (ap (λ y. y && st) (and_false a))
+shuffle a x false cl st e = ap (λ y. x && not y) (or_false cl) ∙ (e ∙ sym (ap (λ y. y && st) (and_true a)))
+
+lesser : (a m n : ℤ) → int_lt a m ≡ true → int_lt m n ≡ (int_lt a n && int_lt m n)
+lesser a m n h =
+    elim (true_or_false (int_lt m n)) [
+      | inl p ↦ rw (p, lt_trans a m n h p) refl
+      | inr p ↦ rw (p, and_false (int_lt a n)) refl
+    ]
+
+module _ (limit : ℕ) (uri : Bytes) (n : ℤ) where
+  same_ahead : (c : Call) → ((v : Version) → revised limit uri v c ≡ v) → (o : Option Version) → is_ahead n (option_or (option_map (λ v. revised limit uri v c) o) None) ≡ is_ahead n o
+  same_ahead c same None = refl
+  same_ahead c same (Some v) = ap (λ w. int_lt w.number n) (same v)
+
+  pub ahead-step : (calls : List Call) (c : Call) → call_rule limit calls c ≡ None
+      → (is_ahead n (next_held limit uri (held limit uri calls) c) && not (is_close uri c)) ≡ (is_ahead n (held limit uri calls) && still_at c uri n)
+  ahead-step calls (opens u m t) e =
+      let none = no_some (held limit u calls) (none_row (is_some (held limit u calls)) 601 _ e).0 in
+      elim (true_or_false (bytes_eq uri u)) [
+        | inl p ↦ rw (ap (λ x. held limit x calls) (uri_is uri u p) ∙ none, uri_flip u uri, p) (and_true (int_lt m n))
+        | inr p ↦ rw (uri_flip u uri, p) (ap (λ b. b && true) (same_ahead (opens u m t) (λ v. refl) (held limit uri calls)))
+      ]
+  ahead-step calls (changes enc k u m cs) e =
+      let parts = change_parts limit _ enc k m cs (held limit u calls) e in
+      elim (true_or_false (bytes_eq uri u)) [
+        | inl p ↦ rw (ap (λ x. held limit x calls) (uri_is uri u p) ∙ parts.is, uri_flip u uri, p) (and_true (int_lt m n) ∙ lesser parts.old.number m n parts.rises)
+        | inr p ↦ ap (λ b. b && true) (same_ahead (changes enc k u m cs) (λ v. rw p refl) (held limit uri calls))
+            ∙ sym (ap (λ b. is_ahead n (held limit uri calls) && (not b || int_lt m n)) (uri_flip u uri ∙ p))
+      ]
+  ahead-step calls (closes u) e =
+      elim (true_or_false (bytes_eq uri u)) [
+        | inl p ↦ rw (uri_flip u uri, p) (sym (and_false (is_ahead n (held limit uri calls))))
+        | inr p ↦ rw (uri_flip u uri, p) (ap (λ b. b && true) (same_ahead (closes u) (λ v. refl) (held limit uri calls)))
+      ]
+  ahead-step calls (saves u t) e = ap (λ b. b && true) (same_ahead (saves u t) (λ v. refl) (held limit uri calls))
+  ahead-step calls (shows u m t) e = ap (λ b. b && true) (same_ahead (shows u m t) (λ v. refl) (held limit uri calls))
+
+  pub waits-push : (calls after : List Call) (c : Call) → call_rule limit calls c ≡ None
+      → waits limit (calls ++ c ∷ []) uri n (after ++ c ∷ []) ≡ (waits limit calls uri n after && still_at c uri n)
+  waits-push calls after c e =
+      rw (held-snoc limit uri calls c, list_any-append (is_close uri) after (c ∷ []))
+      (shuffle (is_ahead n (held limit uri calls)) (is_ahead n (next_held limit uri (held limit uri calls) c)) (list_any (is_close uri) after) (is_close uri c) (still_at c uri n) (ahead-step calls c e))
+
+-- ---- all snapshots
+
+entry_is : (a : Bool) (x : Shown) (p : Shown → Bool) → (if a && p x then x ∷ [] else []) ≡ filter p (if a then x ∷ [] else [])
+entry_is false x p = refl
+entry_is true x p = elim (true_or_false (p x)) [ inl h ↦ rw h refl | inr h ↦ rw h refl ]
+
+shown_entry-push : (limit : ℕ) (calls after : List Call) (c d : Call) → call_rule limit calls c ≡ None
+    → shown_entry limit (calls ++ c ∷ []) d (after ++ c ∷ []) ≡ filter (still c) (shown_entry limit calls d after)
+shown_entry-push limit calls after c (opens u n t) e = refl
+shown_entry-push limit calls after c (changes enc k u n cs) e = refl
+shown_entry-push limit calls after c (closes u) e = refl
+shown_entry-push limit calls after c (saves u t) e = refl
+shown_entry-push limit calls after c (shows u n t) e =
+    let x : Shown = record { uri = u; version = versioned n t } in
+    ap (λ b. if b then x ∷ [] else []) (waits-push limit u n calls after c e) ∙ entry_is (waits limit calls u n after) x (still c)
+
+waiting_in-push : (limit : ℕ) (calls after : List Call) (c : Call) → call_rule limit calls c ≡ None
+    → waiting_in limit (calls ++ c ∷ []) (after ++ c ∷ []) ≡ filter (still c) (waiting_in limit calls after) ++ shown_entry limit (calls ++ c ∷ []) c []
+waiting_in-push limit calls [] c e = append-nil (shown_entry limit (calls ++ c ∷ []) c [])
+waiting_in-push limit calls (d ∷ after) c e =
+    rw (shown_entry-push limit calls after c d e, waiting_in-push limit calls after c e, filter-append (still c) (shown_entry limit calls d after) (waiting_in limit calls after))
+    (sym (append_assoc (filter (still c) (shown_entry limit calls d after)) _ _))
+
+-- **One more call** ends the waiting of some snapshots, and one may come
+pub waiting-push : (limit : ℕ) (calls : List Call) (c : Call) → call_rule limit calls c ≡ None
+    → waiting limit (calls ++ c ∷ []) ≡ filter (still c) (waiting limit calls) ++ shown_entry limit (calls ++ c ∷ []) c []
+waiting-push limit calls c e = waiting_in-push limit calls calls c e
+
+missed_from-push : (limit : ℕ) (before after : List Call) (c : Call)
+    → missed_from limit before (after ++ c ∷ []) ≡ missed_from limit before after + length (filter (ends_waiting c) (waiting limit (before ++ after)))
+missed_from-push limit before [] c = rw (append-nil before) (omega arith)
+missed_from-push limit before (d ∷ after) c =
+    rw (missed_from-push limit (before ++ d ∷ []) after c, append_assoc before (d ∷ []) after) (omega arith)
+
+pub missed-push : (limit : ℕ) (calls : List Call) (c : Call) → missed limit (calls ++ c ∷ []) ≡ missed limit calls + length (filter (ends_waiting c) (waiting limit calls))
+missed-push limit calls c = missed_from-push limit [] calls c
+
+-- ---- those of one URI
+
+module _ (uri : Bytes) (p : Shown → Bool) (q : Version → Bool) (same : (s : Shown) → bytes_eq uri s.uri ≡ true → p s ≡ q s.version) where
+  pub versions-kept : (ws : List Shown) → versions_of uri (filter p ws) ≡ filter q (versions_of uri ws)
+  versions-kept [] = refl
+  versions-kept (s ∷ ws) =
+      elim (true_or_false (bytes_eq uri s.uri)) [
+        | inl h ↦ elim (true_or_false (q s.version)) [
+          | inl k ↦ rw (same s h, k, h, k) (ap (λ l. s.version ∷ l) (versions-kept ws))
+          | inr k ↦ rw (same s h, k, h, k) (versions-kept ws)
+        ]
+        | inr h ↦ elim (true_or_false (p s)) [
+          | inl k ↦ rw (k, h) (versions-kept ws)
+          | inr k ↦ rw (k, h) (versions-kept ws)
+        ]
+      ]
+
+  pub count-kept : ((s : Shown) → bytes_eq uri s.uri ≡ false → p s ≡ true) → (ws : List Shown)
+      → length (filter p ws) + length (versions_of uri ws) ≡ length ws + length (filter q (versions_of uri ws))
+  count-kept others [] = refl
+  count-kept others (s ∷ ws) =
+      let rest = count-kept others ws in
+      elim (true_or_false (bytes_eq uri s.uri)) [
+        | inl h ↦ elim (true_or_false (q s.version)) [
+          | inl k ↦ rw (same s h, k, h, k) (omega (arith, rest))
+          | inr k ↦ rw (same s h, k, h, k) (omega (arith, rest))
+        ]
+        | inr h ↦ rw (others s h, h) (omega (arith, rest))
+      ]
+
+  pub count-ended : ((s : Shown) → bytes_eq uri s.uri ≡ false → p s ≡ false) → (ws : List Shown) → length (filter p ws) ≡ length (filter q (versions_of uri ws))
+  count-ended others [] = refl
+  count-ended others (s ∷ ws) =
+      let rest = count-ended others ws in
+      elim (true_or_false (bytes_eq uri s.uri)) [
+        | inl h ↦ elim (true_or_false (q s.version)) [
+          | inl k ↦ rw (same s h, k, h, k) (omega (arith, rest))
+          | inr k ↦ rw (same s h, k, h, k) rest
+        ]
+        | inr h ↦ rw (others s h, h) rest
+      ]
+
+pub versions_of-append : (uri : Bytes) (xs ys : List Shown) → versions_of uri (xs ++ ys) ≡ versions_of uri xs ++ versions_of uri ys
+versions_of-append uri xs ys = ap (map (λ s. s.version)) (filter-append (is_of uri) xs ys) ∙ map-append (λ s. s.version) (filter (is_of uri) xs) (filter (is_of uri) ys)

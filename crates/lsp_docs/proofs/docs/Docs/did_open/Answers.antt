@@ -1,0 +1,62 @@
+use Rattle.std.proofs.Common.{◌≡◌, ap, ◌∙◌, refl, sym, subst, List, ◌++◌, ◌∷◌, [], None, Some, w32, not, true, if◌then◌else◌, rules, map}
+use Rattle.std.specs.Str.{chars}
+use Rattle.std.specs.List.{list_any}
+use Rattle.std.proofs.lemmas.Int.{to_z-of_z}
+use mir.Val.{SFits}
+use Rattle.lsp_docs.specs.Calls.{Call, opens}
+use Rattle.lsp_docs.specs.Documents.{versioned}
+use Rattle.lsp_docs.specs.Rules.{differs, version_rule, call_rule}
+use Rattle.lsp_docs.specs.State.{Stands, held_in, queue_of, rule_at, reached}
+use Rattle.lsp_docs.specs.Fault.{Names}
+use Rattle.lsp_docs.proofs.Stepping.{Stands-opened, names-stands, open-early, open-late, rule-stands, stated, version-refuted, version-agrees}
+use Rattle.lsp_docs.proofs.Entries.{seen}
+use Rattle.lsp_docs.proofs.docs.Docs.did_open.Goals as goal
+
+pub returns-in_err-store-clause-rule : goal.returns-in_err-store-clause-rule
+returns-in_err-store-clause-rule g c =
+    let s = c.args.self.now in
+    let uri = c.args.uri.now in
+    let named : (calls : List Call) → Stands s calls → Names (call_rule s.limit calls (opens uri c.args.version (chars c.args.text.now))) c.in_err-store.field-0.0 =
+    λ calls h. names-stands s calls (opens uri c.args.version (chars c.args.text.now)) _ h
+    (open-early s.limit (held_in uri s.documents) (queue_of uri s.waits.queues) uri c.args.version (chars c.args.text.now) _ c.in_err-store.ensures.rule) in
+    search rules
+
+pub returns-then-refutes-clause-rule : goal.returns-then-refutes-clause-rule
+returns-then-refutes-clause-rule g c = λ calls h.
+    let fits : SFits w32 c.args.version = c.ranges.version in
+    let s = c.args.self.now in
+    let uri = c.args.uri.now in
+    let tested = simp to_z-of_z at c.refutes.ensures in
+    let other = ap (λ x. list_any (differs (versioned c.args.version x)) (queue_of uri s.waits.queues)) (sym c.in_ok-store.ensures.store) ∙ (sym tested ∙ c.if-refutes.true) in
+    sym (rule-stands s calls (opens uri c.args.version (chars c.args.text.now)) h)
+    ∙ (open-late s.limit (held_in uri s.documents) (queue_of uri s.waits.queues) uri c.args.version (chars c.args.text.now) c.in_ok-store.ensures.new c.in_ok-store.ensures.fits
+    ∙ version-refuted (queue_of uri s.waits.queues) (versioned c.args.version (chars c.args.text.now)) other)
+
+pub returns-clause-accepted : goal.returns-clause-accepted
+returns-clause-accepted g c = λ calls h.
+    let fits : SFits w32 c.args.version = c.ranges.version in
+    let s = c.args.self.now in
+    let uri = c.args.uri.now in
+    let t = chars c.args.text.now in
+    let n = c.args.version in
+    let tested = simp to_z-of_z at c.refutes.ensures in
+    let quiet = ap (λ x. list_any (differs (versioned n x)) (queue_of uri s.waits.queues)) (sym c.in_ok-store.ensures.store) ∙ (sym tested ∙ c.if-refutes.false) in
+    sym (rule-stands s calls (opens uri n t) h)
+    ∙ (open-late s.limit (held_in uri s.documents) (queue_of uri s.waits.queues) uri n t c.in_ok-store.ensures.new c.in_ok-store.ensures.fits
+    ∙ version-agrees (queue_of uri s.waits.queues) (versioned n t) quiet)
+
+pub returns-clause-stands : goal.returns-clause-stands
+returns-clause-stands g c = λ calls h.
+    let fits : SFits w32 c.args.version = c.ranges.version in
+    let ins = simp to_z-of_z at c.in_ok-insert.ensures.ok in
+    let re = simp to_z-of_z at c.reach.ensures in
+    let s = c.args.self.now in
+    let uri = c.args.uri.now in
+    let t = chars c.args.text.now in
+    let n = c.args.version in
+    let call = opens uri n t in
+    let accepted = rule-stands s calls call h ∙ returns-clause-accepted g c calls h in
+    subst (λ w. Stands (stated c.self.inside.limit (map (seen (λ d. d.version) (λ d. g.S.TextStore.content d.store)) c.self.inside.documents.entries) w) (calls ++ call ∷ [])) (sym re)
+    (subst (λ x. Stands (stated x.limit x.documents (reached uri n x.waits)) (calls ++ call ∷ [])) (sym (c.self.view_is ∙ ins))
+    (subst (λ x. Stands (stated s.limit (s.documents ++ record { uri = uri; version = versioned n x } ∷ []) (reached uri n s.waits)) (calls ++ call ∷ [])) (sym c.in_ok-store.ensures.store)
+    (Stands-opened s calls uri n t accepted h)))

@@ -1,0 +1,17 @@
+use Rattle.std.proofs.Common.{◌≡◌, ◌+◌, refl, sym, ap, ◌∙◌}
+use Rattle.std.specs.Prelude.{length}
+use Rattle.lsp_docs.specs.Snapshots.{waiting}
+use Rattle.lsp_docs.specs.Missed.{missed}
+use Rattle.lsp_docs.specs.State.{capped, total}
+use Rattle.lsp_docs.proofs.Words.{capped-add_capped}
+use Rattle.lsp_docs.proofs.Unmatched.{unmatched-parts}
+use Rattle.lsp_docs.proofs.docs.Docs.unmatched.Goals as goal
+
+pub returns : goal.returns
+returns g c = λ calls h.
+    let limit = c.args.self.now.limit in
+    c.unmatched.ensures
+    ∙ (ap (λ s. capped (capped (total s.waits.queues) + s.waits.missed)) c.self.view_is
+    ∙ (ap (λ n. capped (capped n + c.args.self.now.waits.missed)) h.waits.count
+    ∙ (ap (λ n. capped (capped (length (waiting limit calls)) + n)) h.waits.missed
+    ∙ (capped-add_capped (length (waiting limit calls)) (missed limit calls) ∙ ap capped (sym (unmatched-parts limit calls h.accepted))))))

@@ -1,0 +1,12 @@
+pub mod Texts
+pub mod Calls
+pub mod Documents
+pub mod Snapshots
+pub mod Rules
+pub mod Missed
+pub mod State
+pub mod Fault
+pub mod Kept
+pub mod Answer
+pub mod Binding
+pub mod Laws

@@ -1,0 +1,76 @@
+-- Which snapshots wait for their version, and which were never compared.
+use Rattle.std.specs.Prelude.{ℕ, ℤ, int_lt, ◌+◌, List, [], ◌∷◌, ◌++◌, map, filter, Bool, true, false, ◌&&◌, ◌||◌, not, if◌then◌else◌, Option, Some, None}
+use Rattle.std.specs.List.{list_any}
+use Rattle.std.specs.Ordering.{int_eq}
+use Rattle.std.specs.Str.{bytes_eq}
+use Rattle.lsp_docs.specs.Calls.{Bytes, Call, opens, changes, shows, is_close}
+use Rattle.lsp_docs.specs.Documents.{Version, versioned, held}
+
+-- a snapshot that was shown
+pub record Shown : Type 0 where
+  pub uri : Bytes
+  pub version : Version
+
+-- ---- snapshots that wait
+
+-- no opening stands, or it holds a lesser version
+abbrev pub is_ahead : ℤ → Option Version → Bool
+is_ahead number None = true
+is_ahead number (Some v) = int_lt v.number number
+
+-- a snapshot waits after `all`, where `after` came behind it: its opening was not closed, and is still to come or holds a lesser version
+abbrev pub waits : ℕ → List Call → Bytes → ℤ → List Call → Bool
+waits limit all uri number after = is_ahead number (held limit uri all) && not (list_any (is_close uri) after)
+
+abbrev pub shown_entry : ℕ → List Call → Call → List Call → List Shown
+shown_entry limit all (shows uri number t) after = if waits limit all uri number after then record { uri = uri; version = versioned number t } ∷ [] else []
+shown_entry limit all _ after = []
+
+abbrev pub waiting_in : ℕ → List Call → List Call → List Shown
+waiting_in limit all [] = []
+waiting_in limit all (c ∷ after) = shown_entry limit all c after ++ waiting_in limit all after
+
+-- the snapshots that wait after the calls
+abbrev pub waiting : ℕ → List Call → List Shown
+waiting limit all = waiting_in limit all all
+
+abbrev pub is_of : Bytes → Shown → Bool
+is_of uri s = bytes_eq uri s.uri
+
+-- those of one URI
+abbrev pub versions_of : Bytes → List Shown → List Version
+versions_of uri ss = map (λ s. s.version) (filter (is_of uri) ss)
+
+-- ---- snapshots that were never compared
+
+-- this is the version that is held
+abbrev pub holds_number : ℤ → Option Version → Bool
+holds_number number None = false
+holds_number number (Some v) = int_eq v.number number
+
+-- the call brings the URI to this version
+abbrev pub sets : Bytes → ℤ → Call → Bool
+sets uri number (opens u n t) = bytes_eq uri u && int_eq n number
+sets uri number (changes enc kind u n cs) = bytes_eq uri u && int_eq n number
+sets uri number _ = false
+
+-- one of the calls brings the URI to this version, and none before it closes it
+abbrev pub comes_to : Bytes → ℤ → List Call → Bool
+comes_to uri number [] = false
+comes_to uri number (c ∷ after) = sets uri number c || (not (is_close uri c) && comes_to uri number after)
+
+-- a snapshot between these calls is compared: its version is held where it stands, or a later call comes to it before the URI is closed
+abbrev pub is_compared : ℕ → List Call → Bytes → ℤ → List Call → Bool
+is_compared limit before uri number after = holds_number number (held limit uri before) || comes_to uri number after
+
+abbrev pub unmatched_entry : ℕ → List Call → Call → List Call → ℕ
+unmatched_entry limit before (shows uri number t) after = if is_compared limit before uri number after then 0 else 1
+unmatched_entry limit before _ after = 0
+
+abbrev pub unmatched_in : ℕ → List Call → List Call → ℕ
+unmatched_in limit before [] = 0
+unmatched_in limit before (c ∷ after) = unmatched_entry limit before c after + unmatched_in limit (before ++ c ∷ []) after
+
+-- how many snapshots were never compared: passed over, closed with their opening, or waiting still
+abbrev pub unmatched : ℕ → List Call → ℕ
+unmatched limit calls = unmatched_in limit [] calls

@@ -1,0 +1,138 @@
+-- What documents hold, and the calls that this stands for.
+use Rattle.std.specs.Prelude.{◌≡◌, ℕ, ℤ, ◌+◌, ◌-◌, ◌^◌, min, int_lt, List, [], ◌∷◌, ◌++◌, filter, length, Bool, false, if◌then◌else◌, not, Option, Some, None, Result, Ok, Err}
+use Rattle.std.specs.Ordering.{int_eq}
+use Rattle.std.specs.Str.{bytes_eq}
+use Rattle.lsp_rpc.specs.declared.plain.Encoding.{Encoding}
+use Rattle.lsp_rpc.specs.declared.plain.SyncKind.{SyncKind}
+use Rattle.lsp_docs.specs.Texts.{Text}
+use Rattle.lsp_text.specs.Edits.{Edit, applied}
+use Rattle.lsp_docs.specs.Calls.{Bytes, Call, uri_of}
+use Rattle.lsp_docs.specs.Documents.{Version, versioned, Held, revised, held, documents}
+use Rattle.lsp_docs.specs.Snapshots.{waiting, versions_of}
+use Rattle.lsp_docs.specs.Rules.{rule_of, first_row, fits_kind, version_rule, AreAccepted}
+use Rattle.lsp_docs.specs.Missed.{missed}
+
+-- the snapshots of one URI that wait
+pub record Queue : Type 0 where
+  pub uri : Bytes
+  pub versions : List Version
+
+-- the snapshots that wait, by URI, and how many were missed
+pub record Waits : Type 0 where
+  pub queues : List Queue
+  pub missed : ℕ
+
+pub record State : Type 0 where
+  pub limit : ℕ
+  pub documents : List Held
+  pub waits : Waits
+
+-- a count, as far as 64 bits tell it
+abbrev pub capped : ℕ → ℕ
+capped n = min n (2 ^ 64 - 1)
+
+-- ---- documents
+
+abbrev pub held_in : Bytes → List Held → Option Version
+held_in uri [] = None
+held_in uri (h ∷ hs) = if bytes_eq uri h.uri then Some h.version else held_in uri hs
+
+-- with `v` as the version of the first document of the URI
+abbrev pub set_in : Bytes → Version → List Held → List Held
+set_in uri v [] = []
+set_in uri v (h ∷ hs) = if bytes_eq uri h.uri then record { uri = h.uri; version = v } ∷ hs else h ∷ set_in uri v hs
+
+-- without the first document of the URI
+abbrev pub without : Bytes → List Held → List Held
+without uri [] = []
+without uri (h ∷ hs) = if bytes_eq uri h.uri then hs else h ∷ without uri hs
+
+-- ---- snapshots
+
+abbrev pub queue_of : Bytes → List Queue → List Version
+queue_of uri [] = []
+queue_of uri (n ∷ ns) = if bytes_eq uri n.uri then n.versions else queue_of uri ns
+
+-- those of the URI that pass the test stay
+abbrev pub keep_in : Bytes → (Version → Bool) → List Queue → List Queue
+keep_in uri p [] = []
+keep_in uri p (n ∷ ns) = if bytes_eq uri n.uri then record { uri = n.uri; versions = filter p n.versions } ∷ ns else n ∷ keep_in uri p ns
+
+-- one more of the URI
+abbrev pub add_in : Bytes → Version → List Queue → List Queue
+add_in uri v [] = record { uri = uri; versions = v ∷ [] } ∷ []
+add_in uri v (n ∷ ns) = if bytes_eq uri n.uri then record { uri = n.uri; versions = n.versions ++ v ∷ [] } ∷ ns else n ∷ add_in uri v ns
+
+-- how many wait
+abbrev pub total : List Queue → ℕ
+total [] = 0
+total (n ∷ ns) = length n.versions + total ns
+
+abbrev pub is_after : ℤ → Version → Bool
+is_after number v = int_lt number v.number
+
+abbrev pub is_before : ℤ → Version → Bool
+is_before number v = int_lt v.number number
+
+abbrev pub is_at : ℤ → Version → Bool
+is_at number v = int_eq v.number number
+
+-- the URI comes to this version: the snapshots of a greater one wait on, those of a lesser one are missed
+abbrev pub reached : Bytes → ℤ → Waits → Waits
+reached uri number w = record {
+  queues = keep_in uri (is_after number) w.queues;
+  missed = capped (w.missed + length (filter (is_before number) (queue_of uri w.queues)));
+}
+
+-- the URI is closed: its snapshots are missed
+abbrev pub released : Bytes → Waits → Waits
+released uri w = record {
+  queues = keep_in uri (λ _. false) w.queues;
+  missed = capped (w.missed + length (queue_of uri w.queues));
+}
+
+-- one more snapshot waits
+abbrev pub shown_to : Bytes → Version → Waits → Waits
+shown_to uri v w = record { queues = add_in uri v w.queues; missed = w.missed }
+
+-- ---- changes
+
+abbrev pub with_held : List Held → State → State
+with_held hs s = record { limit = s.limit; documents = hs; waits = s.waits }
+
+abbrev pub text_in : Option Version → Text
+text_in None = []
+text_in (Some v) = v.text
+
+-- what the changes make of the held text
+abbrev pub changed_at : State → Encoding → Bytes → List Edit → Result Text ℕ
+changed_at s enc uri cs = applied s.limit enc (text_in (held_in uri s.documents)) cs
+
+-- the URI has come to this version, with the text that the changes made
+pub record IsChanged (old new : State) (uri : Bytes) (number : ℤ) (r : Result Text ℕ) : Type 0 where
+  pub text : Text
+  pub made : r ≡ Ok text
+  pub is : new ≡ with_held (set_in uri (versioned number text) old.documents) old
+
+-- the rules of a change that don't look at its text
+abbrev pub early_rule : SyncKind → ℤ → List Edit → Option Version → Option ℕ
+early_rule kind number cs None = Some 602
+early_rule kind number cs (Some v) = first_row ((not (int_lt v.number number), Some 603) ∷ (not (fits_kind kind cs), Some 604) ∷ [])
+
+-- ---- standing for a list of calls
+
+-- the snapshots that wait are those that the definitions give for these calls
+pub record AreWaits (limit : ℕ) (w : Waits) (calls : List Call) : Type 0 where
+  pub queues : (uri : Bytes) → queue_of uri w.queues ≡ versions_of uri (waiting limit calls)
+  pub count : total w.queues ≡ length (waiting limit calls)
+  pub missed : w.missed ≡ capped (missed limit calls)
+
+-- the state is what the definitions give for these calls, each of which was accepted
+pub record Stands (s : State) (calls : List Call) : Type 0 where
+  pub accepted : AreAccepted s.limit calls
+  pub documents : s.documents ≡ documents s.limit calls
+  pub waits : AreWaits s.limit s.waits calls
+
+-- the rule that a call breaks, read off the state
+abbrev pub rule_at : State → Call → Option ℕ
+rule_at s c = rule_of s.limit (held_in (uri_of c) s.documents) (queue_of (uri_of c) s.waits.queues) c

@@ -1,0 +1,412 @@
+//! The open documents of a session.
+
+ghost use Rattle.std.specs.Prelude.{◌≡◌, [], ◌++◌, ◌∷◌, List, None, Some, Ok, true, false, length, not, map, slice_get, is_some, if◌then◌else◌, nat_lt, IfErr, IfOk, OnOk, OnErr, IsTrue, ◌↔◌, option_map};
+ghost use Rattle.std.specs.List.{list_any};
+ghost use Rattle.std.specs.Str.{chars, bytes_eq};
+ghost use Rattle.lsp_docs.specs.declared.fault.DocFault.TheVariants.{Rule};
+ghost use Rattle.lsp_docs.specs.Texts.{byte_len};
+ghost use Rattle.lsp_text.specs.Edits.{applied};
+ghost use Rattle.lsp_docs.specs.Calls.{Call, opens, changes as changes_by, closes, saves, shows};
+ghost use Rattle.lsp_docs.specs.Documents.{versioned, held, documents};
+ghost use Rattle.lsp_docs.specs.Snapshots.{waiting, unmatched, holds_number};
+ghost use Rattle.lsp_docs.specs.Rules.{differs, version_rule, show_rule, text_rule, call_rule};
+ghost use Rattle.lsp_docs.specs.State.{capped, held_in, queue_of, set_in, changed_at, early_rule, IsChanged, with_held, Stands};
+ghost use Rattle.lsp_docs.specs.Fault.{Names, Breaks};
+ghost use Rattle.lsp_docs.specs.Kept.{version_of};
+ghost use Rattle.lsp_text.specs.Changes.{edits_of, edit_of};
+ghost use Rattle.lsp_docs.specs.Answer.{answer_of};
+
+use crate::document::{Document, has_text};
+use crate::fault::DocFault;
+use crate::kind::fits_kind;
+use crate::snapshot::{Match, any_differs, is_due};
+use crate::waiting::Waiting;
+use indexmap::IndexMap;
+use lsp_frame::Limits;
+use lsp_rpc::{Change, Encoding, SyncKind};
+use lsp_text::{TextStore, change_all};
+use std::alloc::{AllocError, Global};
+use std::marker::Model;
+
+/// The open documents in order of opening, and the snapshots that wait for their versions.
+///
+/// It stands for the list of the calls that it accepted (LSP 3.17, "Text Document Synchronization"). URIs compare byte for
+/// byte. A refused call, also one refused for want of memory, changes nothing.
+#[derive(Drop)]
+pub struct Docs<S: TextStore> {
+    limit: u64,
+    documents: IndexMap<String, Document<S>>,
+    waiting: Waiting,
+}
+
+impl<S: TextStore> Model for Docs<S> {
+    ghost use Rattle.std.specs.Prelude.{map, string_bytes};
+    ghost use Rattle.lsp_docs.specs.Documents.{versioned};
+    ghost use Rattle.lsp_docs.specs.State.{State};
+
+    ghost Value = { State };
+
+    ghost view = { λ d. record {
+      limit = d.limit;
+      documents = map (λ e. record { uri = string_bytes e.0; version = versioned e.1.version (S.content e.1.store) }) d.documents.entries;
+      waits = d.waiting;
+    } };
+}
+
+impl<S: TextStore> Docs<S> {
+    /// No document is open. A text has at most `limits.document()` bytes of UTF-8.
+    pub fn new(alloc: Global, limits: Limits) -> Self
+        ensures limit { result.limit ≡ limits.document }
+        ensures stands { Stands result [] }
+    {
+        Docs {
+            limit: limits.document(),
+            documents: IndexMap::new(alloc),
+            waiting: Waiting::new(alloc),
+        }
+    }
+
+    /// How many documents are open.
+    pub fn len(&self) -> usize
+        ensures { (calls : List Call) → Stands self.now calls → result ≡ length (documents self.now.limit calls) }
+    {
+        self.documents.len()
+    }
+
+    /// The URI of the document at this place in order of opening, from 0.
+    pub fn at(&self, index: usize) -> Option<&str>
+        ensures { (calls : List Call) → Stands self.now calls
+            → option_map (λ uri. uri.now) result ≡ slice_get (map (λ h. h.uri) (documents self.now.limit calls)) index }
+    {
+        let (uri, _) = self.documents.get_index(index)?;
+        Some(uri.as_str())
+    }
+
+    /// The version that the server holds of a URI, if it is open.
+    pub fn version_of(&self, uri: &str) -> Option<i32>
+        ensures { (calls : List Call) → Stands self.now calls
+            → result ≡ option_map (λ v. v.number) (held self.now.limit uri.now calls) }
+    {
+        match self.get(uri) {
+            Some(document) => Some(document.version),
+            None => None,
+        }
+    }
+
+    /// The text that the server holds of a URI, if it is open.
+    pub fn store_of(&self, uri: &str) -> Option<&S>
+        ensures { (calls : List Call) → Stands self.now calls
+            → option_map (λ store. S.content store.now) result ≡ option_map (λ v. v.text) (held self.now.limit uri.now calls) }
+    {
+        match self.get(uri) {
+            Some(document) => Some(&document.store),
+            None => None,
+        }
+    }
+
+    /// How many snapshots may still be compared, at most 2^64 - 1.
+    pub fn waiting(&self) -> u64
+        ensures { (calls : List Call) → Stands self.now calls → result ≡ capped (length (waiting self.now.limit calls)) }
+    {
+        self.waiting.len()
+    }
+
+    /// How many snapshots were never compared so far, those that wait included, at most 2^64 - 1.
+    pub fn unmatched(&self) -> u64
+        ensures { (calls : List Call) → Stands self.now calls → result ≡ capped (unmatched self.now.limit calls) }
+    {
+        self.waiting.unmatched()
+    }
+
+    /// Opens a document (LSP 3.17, "didOpen").
+    ///
+    /// Refused by 601 where the URI is open, 607 where the text has more bytes of UTF-8 than the limit, 702 where a snapshot
+    /// that waits for this version has another text; by the least of them.
+    pub fn did_open(&mut self, uri: &str, version: i32, text: &str) -> Result<(), DocFault>
+        ensures stands { OnOk result ((calls : List Call) → Stands self.old calls
+            → Stands self.new (calls ++ opens uri.now version (chars text.now) ∷ [])) }
+        ensures accepted { OnOk result ((calls : List Call) → Stands self.old calls
+            → call_rule self.old.limit calls (opens uri.now version (chars text.now)) ≡ None) }
+        ensures limit { self.new.limit ≡ self.old.limit }
+        ensures rule { IfErr result (λ fault. (calls : List Call) → Stands self.old calls
+            → Names (call_rule self.old.limit calls (opens uri.now version (chars text.now))) fault) }
+        ensures err { OnErr result (self.new ≡ self.old) }
+    {
+        let store = self.new_store(uri, text)?;
+        if self.refutes(uri, version, &store) {
+            return Err(DocFault::Rule(702));
+        }
+        self.insert(uri, version, store)?;
+        self.waiting.reach(uri, version);
+        Ok(())
+    }
+
+    /// Makes the changes in order, each in the text that the one before left (LSP 3.17, "didChange"). Columns count units of
+    /// the encoding. The version is that of the text after all of them.
+    ///
+    /// Refused by 602 where the URI is not open, 603 where the version is not greater than the held one, 604 where the kind
+    /// allows no changes, or none with a span and one has it; then by the first change that fails: 605 a position inside a
+    /// character, 606 a reversed span, 607 a text over the limit; then by 702 where a snapshot that waits for this version
+    /// has another text.
+    pub fn did_change(
+        &mut self,
+        encoding: Encoding,
+        kind: SyncKind,
+        uri: &str,
+        version: i32,
+        changes: &[Change],
+    ) -> Result<(), DocFault>
+        ensures stands { OnOk result ((calls : List Call) → Stands self.old calls
+            → Stands self.new (calls ++ changes_by encoding kind uri.now version (edits_of changes.now) ∷ [])) }
+        ensures accepted { OnOk result ((calls : List Call) → Stands self.old calls
+            → call_rule self.old.limit calls (changes_by encoding kind uri.now version (edits_of changes.now)) ≡ None) }
+        ensures limit { self.new.limit ≡ self.old.limit }
+        ensures rule { IfErr result (λ fault. (calls : List Call) → Stands self.old calls
+            → Names (call_rule self.old.limit calls (changes_by encoding kind uri.now version (edits_of changes.now))) fault) }
+        ensures err { OnErr result (self.new ≡ self.old) }
+    {
+        if let Some(rule) = self.change_rule(kind, uri, version, changes) {
+            return Err(DocFault::Rule(rule));
+        }
+        self.set_text(encoding, uri, version, changes)?;
+        self.waiting.reach(uri, version);
+        Ok(())
+    }
+
+    /// Closes a document, and ends the waiting of its snapshots (LSP 3.17, "didClose"). Refused by 602 where the URI is not
+    /// open.
+    pub fn did_close(&mut self, uri: &str) -> Result<(), DocFault>
+        ensures stands { OnOk result ((calls : List Call) → Stands self.old calls
+            → Stands self.new (calls ++ closes uri.now ∷ [])) }
+        ensures accepted { OnOk result ((calls : List Call) → Stands self.old calls
+            → call_rule self.old.limit calls (closes uri.now) ≡ None) }
+        ensures limit { self.new.limit ≡ self.old.limit }
+        ensures rule { IfErr result (λ fault. (calls : List Call) → Stands self.old calls
+            → Names (call_rule self.old.limit calls (closes uri.now)) fault) }
+        ensures err { OnErr result (self.new ≡ self.old) }
+    {
+        if self.documents.shift_remove(uri).is_none() {
+            return Err(DocFault::Rule(602));
+        }
+        self.waiting.release(uri);
+        Ok(())
+    }
+
+    /// Judges a saved text against the held one (LSP 3.17, "didSave"). Refused by 608 where the document is open, a text is
+    /// given and it is another.
+    pub fn did_save(&self, uri: &str, text: Option<&str>) -> Result<(), DocFault>
+        ensures stands { OnOk result ((calls : List Call) → Stands self.now calls
+            → Stands self.now (calls ++ saves uri.now (option_map (λ t. chars t.now) text.entry) ∷ [])) }
+        ensures accepted { OnOk result ((calls : List Call) → Stands self.now calls
+            → call_rule self.now.limit calls (saves uri.now (option_map (λ t. chars t.now) text.entry)) ≡ None) }
+        ensures rule { IfErr result (λ fault. (calls : List Call) → Stands self.now calls
+            → Names (call_rule self.now.limit calls (saves uri.now (option_map (λ t. chars t.now) text.entry))) fault) }
+    {
+        let Some(text) = text else {
+            return Ok(());
+        };
+        let Some(document) = self.get(uri) else {
+            return Ok(());
+        };
+        if has_text(&document.store, text) {
+            Ok(())
+        } else {
+            Err(DocFault::Rule(608))
+        }
+    }
+
+    /// Takes a snapshot: it is compared at once where its version is held, and else waits for it.
+    ///
+    /// Refused by 701 where a greater version is held, and by 702 where its version is held with another text.
+    pub fn snapshot(&mut self, uri: &str, version: i32, text: &str) -> Result<Match, DocFault>
+        ensures stands { OnOk result ((calls : List Call) → Stands self.old calls
+            → Stands self.new (calls ++ shows uri.now version (chars text.now) ∷ [])) }
+        ensures accepted { OnOk result ((calls : List Call) → Stands self.old calls
+            → call_rule self.old.limit calls (shows uri.now version (chars text.now)) ≡ None) }
+        ensures answer { IfOk result (λ answer. (calls : List Call) → Stands self.old calls
+            → answer ≡ answer_of version (held self.old.limit uri.now calls)) }
+        ensures limit { self.new.limit ≡ self.old.limit }
+        ensures rule { IfErr result (λ fault. (calls : List Call) → Stands self.old calls
+            → Names (call_rule self.old.limit calls (shows uri.now version (chars text.now))) fault) }
+        ensures err { OnErr result (self.new ≡ self.old) }
+    {
+        match self.judge(uri, version, text)? {
+            Match::Equal => Ok(Match::Equal),
+            Match::Waits => {
+                self.waiting.add(uri, version, text)?;
+                Ok(Match::Waits)
+            }
+        }
+    }
+
+    /// Judges a snapshot by what is held of its URI.
+    fn judge(&self, uri: &str, version: i32, text: &str) -> Result<Match, DocFault>
+        ensures answer { IfOk result (λ answer. answer ≡ answer_of version (held_in uri.now self.now.documents)) }
+        ensures allowed { OnOk result (show_rule version (chars text.now) (held_in uri.now self.now.documents) ≡ None) }
+        ensures rule { IfErr result (Names (show_rule version (chars text.now) (held_in uri.now self.now.documents))) }
+    {
+        match self.get(uri) {
+            Some(document) => document.judge(version, text),
+            None => Ok(Match::Waits),
+        }
+    }
+
+    fn get(&self, uri: &str) -> Option<&Document<S>>
+        ensures { option_map (λ d. versioned d.now.version (S.content d.now.store)) result ≡ held_in uri.now self.now.documents }
+    {
+        self.documents.get(uri)
+    }
+
+    /// A store of a text that a document may open with.
+    fn new_store(&self, uri: &str, text: &str) -> Result<S, DocFault>
+        ensures store { IfOk result (λ store. S.content store ≡ chars text.now) }
+        ensures new { OnOk result (held_in uri.now self.now.documents ≡ None) }
+        ensures fits { OnOk result (nat_lt self.now.limit (byte_len (chars text.now)) ≡ false) }
+        ensures rule { IfErr result (Names (if is_some (held_in uri.now self.now.documents) then Some 601
+            else (if nat_lt self.now.limit (byte_len (chars text.now)) then Some 607 else None))) }
+    {
+        if self.get(uri).is_some() {
+            return Err(DocFault::Rule(601));
+        }
+        let store = S::from_text(*self.documents.allocator(), text)?;
+        if self.limit < store.byte_len() {
+            return Err(DocFault::Rule(607));
+        }
+        Ok(store)
+    }
+
+    /// Whether a snapshot that waits for this version has another text.
+    fn refutes(&self, uri: &str, version: i32, store: &S) -> bool
+        ensures { result ≡ list_any (differs (versioned version (S.content store.now))) (queue_of uri.now self.now.waits.queues) }
+    {
+        any_differs(self.waiting.of(uri), version, store)
+    }
+
+    fn insert(&mut self, uri: &str, version: i32, store: S) -> Result<(), AllocError>
+        requires { held_in uri.now self.old.documents ≡ None }
+        ensures ok { OnOk result (self.new ≡ with_held (self.old.documents
+            ++ (record { uri = uri.now; version = versioned version (S.content store) }) ∷ []) self.old) }
+        ensures err { OnErr result (self.new ≡ self.old) }
+    {
+        let key = String::from_str(*self.documents.allocator(), uri)?;
+        self.documents.insert(key, Document { version, store })?;
+        Ok(())
+    }
+
+    /// The rule that a change breaks, whatever text it leads to.
+    fn change_rule(
+        &self,
+        kind: SyncKind,
+        uri: &str,
+        version: i32,
+        changes: &[Change],
+    ) -> Option<u16>
+        ensures { result ≡ early_rule kind version (edits_of changes.now) (held_in uri.now self.now.documents) }
+    {
+        let Some(document) = self.get(uri) else {
+            return Some(602);
+        };
+        if version <= document.version {
+            Some(603)
+        } else if !fits_kind(kind, changes) {
+            Some(604)
+        } else {
+            None
+        }
+    }
+
+    /// Makes the changes, which no waiting snapshot of the version may contradict.
+    fn set_text(
+        &mut self,
+        encoding: Encoding,
+        uri: &str,
+        version: i32,
+        changes: &[Change],
+    ) -> Result<(), DocFault>
+        requires { is_some (held_in uri.now self.old.documents) ≡ true }
+        ensures ok { OnOk result (IsChanged self.old self.new uri.now version (changed_at self.old encoding uri.now (edits_of changes.now))) }
+        ensures allowed { OnOk result (text_rule (queue_of uri.now self.old.waits.queues) version
+            (changed_at self.old encoding uri.now (edits_of changes.now)) ≡ None) }
+        ensures rule { IfErr result (Names (text_rule (queue_of uri.now self.old.waits.queues) version
+            (changed_at self.old encoding uri.now (edits_of changes.now)))) }
+        ensures err { OnErr result (self.new ≡ self.old) }
+    {
+        if changes.len() == 1 && !is_due(self.waiting.of(uri), version) {
+            self.change_held(encoding, uri, version, &changes[0])
+        } else {
+            self.change_copy(encoding, uri, version, changes)
+        }
+    }
+
+    /// Makes one change in the held store, which a refused change leaves as it is.
+    fn change_held(
+        &mut self,
+        encoding: Encoding,
+        uri: &str,
+        version: i32,
+        change: &Change,
+    ) -> Result<(), DocFault>
+        requires { is_some (held_in uri.now self.old.documents) ≡ true }
+        ensures ok { OnOk result (IsChanged self.old self.new uri.now version (changed_at self.old encoding uri.now (edit_of change.now ∷ []))) }
+        ensures fault { IfErr result (Breaks (changed_at self.old encoding uri.now (edit_of change.now ∷ []))) }
+        ensures err { OnErr result (self.new ≡ self.old) }
+    {
+        let limit = self.limit;
+        let Some(document) = self.documents.get_mut(uri) else {
+            return Ok(());
+        };
+        document.change(limit, encoding, version, change)
+    }
+
+    /// Makes the changes in a copy, which takes the place of the held store if no waiting snapshot contradicts it.
+    fn change_copy(
+        &mut self,
+        encoding: Encoding,
+        uri: &str,
+        version: i32,
+        changes: &[Change],
+    ) -> Result<(), DocFault>
+        requires { is_some (held_in uri.now self.old.documents) ≡ true }
+        ensures ok { OnOk result (IsChanged self.old self.new uri.now version (changed_at self.old encoding uri.now (edits_of changes.now))) }
+        ensures allowed { OnOk result (text_rule (queue_of uri.now self.old.waits.queues) version
+            (changed_at self.old encoding uri.now (edits_of changes.now)) ≡ None) }
+        ensures rule { IfErr result (Names (text_rule (queue_of uri.now self.old.waits.queues) version
+            (changed_at self.old encoding uri.now (edits_of changes.now)))) }
+        ensures err { OnErr result (self.new ≡ self.old) }
+    {
+        let changed = self.changed_store(encoding, uri, changes)?;
+        if self.refutes(uri, version, &changed) {
+            return Err(DocFault::Rule(702));
+        }
+        self.set(uri, version, changed);
+        Ok(())
+    }
+
+    /// A copy of the held store with the changes made.
+    fn changed_store(
+        &self,
+        encoding: Encoding,
+        uri: &str,
+        changes: &[Change],
+    ) -> Result<S, DocFault>
+        requires { is_some (held_in uri.now self.now.documents) ≡ true }
+        ensures ok { IfOk result (λ store. changed_at self.now encoding uri.now (edits_of changes.now) ≡ Ok (S.content store)) }
+        ensures fault { IfErr result (Breaks (changed_at self.now encoding uri.now (edits_of changes.now))) }
+    {
+        let document = self.get(uri).unwrap();
+        let mut store = document.store.copy(*self.documents.allocator())?;
+        change_all(&mut store, encoding, changes, self.limit)?;
+        Ok(store)
+    }
+
+    /// Puts a version in the place of the held one.
+    fn set(&mut self, uri: &str, version: i32, store: S)
+        requires { is_some (held_in uri.now self.old.documents) ≡ true }
+        ensures { self.new ≡ with_held (set_in uri.now (versioned version (S.content store)) self.old.documents) self.old }
+    {
+        let Some(document) = self.documents.get_mut(uri) else {
+            return;
+        };
+        *document = Document { version, store };
+    }
+}

@@ -1,0 +1,23 @@
+//! The documents that an editor has open, as its messages leave them, and snapshots of what it really had.
+//!
+//! [`Docs`] follows `didOpen`, `didChange`, `didClose` and `didSave` (LSP 3.17, "Text Document Synchronization") over any
+//! store of texts. A snapshot is a URI, a version and a text: it is compared with what is held at that version, at once or
+//! when the version comes, and otherwise counted as unmatched. A call that breaks a rule is refused with the rule's number
+//! and changes nothing.
+#![tactic(auto)]
+
+mod docs;
+mod document;
+mod fault;
+mod kind;
+mod laws;
+mod snapshot;
+mod waiting;
+
+pub use docs::Docs;
+pub use fault::DocFault;
+pub use laws::{documents_are_held, held_is_shown, setters_compare, snapshots_agree, versions_rise};
+pub use snapshot::Match;
+
+#[cfg(test)]
+mod tests;

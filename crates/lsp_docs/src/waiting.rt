@@ -1,0 +1,172 @@
+//! The snapshots that wait for their versions.
+
+ghost use Rattle.std.specs.Prelude.{◌≡◌, ◌+◌, [], length, filter, false, None, OnOk, OnErr, string_bytes};
+ghost use Rattle.std.specs.Map.{lookup};
+ghost use Rattle.std.specs.Str.{chars, bytes_eq};
+ghost use Rattle.lsp_docs.specs.Documents.{versioned};
+ghost use Rattle.lsp_docs.specs.State.{capped, queue_of, keep_in, add_in, total, reached, released, shown_to, is_after, is_before};
+ghost use Rattle.lsp_docs.specs.Kept.{version_of, versions, queues_in};
+
+use crate::snapshot::Snapshot;
+use indexmap::IndexMap;
+use std::alloc::{AllocError, Global};
+use std::marker::Model;
+
+type SnapshotMap = IndexMap<String, Vec<Snapshot>>;
+
+/// The snapshots that wait, by URI, and how many were missed.
+#[derive(Drop)]
+pub(crate) struct Waiting {
+    snapshots: SnapshotMap,
+    missed: u64,
+}
+
+impl Model for Waiting {
+    ghost use Rattle.lsp_docs.specs.State.{Waits};
+
+    ghost Value = { Waits };
+
+    ghost use Rattle.lsp_docs.specs.Kept.{queues_in};
+
+    ghost view = { λ w. record { queues = queues_in w.snapshots.entries; missed = w.missed } };
+}
+
+impl Waiting {
+    pub(crate) fn new(alloc: Global) -> Self
+        ensures { result ≡ record { queues = []; missed = 0 } }
+    {
+        Waiting {
+            snapshots: IndexMap::new(alloc),
+            missed: 0,
+        }
+    }
+
+    /// Those of a URI.
+    pub(crate) fn of(&self, uri: &str) -> &[Snapshot]
+        ensures { versions result.now ≡ queue_of uri.now self.now.queues }
+    {
+        match self.snapshots.get(uri) {
+            Some(snapshots) => snapshots.as_slice(),
+            None => &[],
+        }
+    }
+
+    /// Adds a snapshot of a URI.
+    pub(crate) fn add(&mut self, uri: &str, version: i32, text: &str) -> Result<(), AllocError>
+        ensures ok { OnOk result (self.new ≡ shown_to uri.now (versioned version (chars text.now)) self.old) }
+        ensures err { OnErr result (self.new ≡ self.old) }
+    {
+        let text = String::from_str(*self.snapshots.allocator(), text)?;
+        add_to(&mut self.snapshots, uri, Snapshot { version, text })
+    }
+
+    /// Lets go of the snapshots of a URI that wait no more once it holds a version.
+    pub(crate) fn reach(&mut self, uri: &str, version: i32)
+        ensures { self.new ≡ reached uri.now version self.old }
+    {
+        let missed = drop_reached(&mut self.snapshots, uri, version);
+        self.missed = self.missed.saturating_add(missed);
+    }
+
+    /// Lets go of the snapshots of a URI that is closed.
+    pub(crate) fn release(&mut self, uri: &str)
+        ensures { self.new ≡ released uri.now self.old }
+    {
+        let missed = drop_all(&mut self.snapshots, uri);
+        self.missed = self.missed.saturating_add(missed);
+    }
+
+    /// How many wait.
+    pub(crate) fn len(&self) -> u64
+        ensures { result ≡ capped (total self.now.queues) }
+    {
+        let mut count: u64 = 0;
+        for snapshots in self.snapshots.values() {
+            count = count.saturating_add(snapshots.len() as u64);
+        }
+        count
+    }
+
+    /// How many were never compared so far.
+    pub(crate) fn unmatched(&self) -> u64
+        ensures { result ≡ capped (capped (total self.now.queues) + self.now.missed) }
+    {
+        self.len().saturating_add(self.missed)
+    }
+}
+
+/// Adds a snapshot of a URI behind its others.
+fn add_to(snapshots: &mut SnapshotMap, uri: &str, snapshot: Snapshot) -> Result<(), AllocError>
+    ensures ok { OnOk result (queues_in snapshots.new.entries ≡ add_in uri.now (version_of snapshot) (queues_in snapshots.old.entries)) }
+    ensures err { OnErr result (queues_in snapshots.new.entries ≡ queues_in snapshots.old.entries) }
+{
+    let Some(waiting) = snapshots.get_mut(uri) else {
+        return add_first(snapshots, uri, snapshot);
+    };
+    waiting.push(snapshot)?;
+    Ok(())
+}
+
+/// Adds the first snapshot of a URI.
+fn add_first(snapshots: &mut SnapshotMap, uri: &str, snapshot: Snapshot) -> Result<(), AllocError>
+    requires { lookup (λ key. bytes_eq uri.now (string_bytes key)) snapshots.old.entries ≡ None }
+    ensures ok { OnOk result (queues_in snapshots.new.entries ≡ add_in uri.now (version_of snapshot) (queues_in snapshots.old.entries)) }
+    ensures err { OnErr result (queues_in snapshots.new.entries ≡ queues_in snapshots.old.entries) }
+{
+    let alloc = *snapshots.allocator();
+    let mut waiting = Vec::new(alloc);
+    waiting.push(snapshot)?;
+    let key = String::from_str(alloc, uri)?;
+    snapshots.insert(key, waiting)?;
+    Ok(())
+}
+
+/// Drops the snapshots of a URI that wait no more at a version, and counts those of lesser ones.
+fn drop_reached(snapshots: &mut SnapshotMap, uri: &str, version: i32) -> u64
+    ensures left { queues_in snapshots.new.entries ≡ keep_in uri.now (is_after version) (queues_in snapshots.old.entries) }
+    ensures missed { result ≡ length (filter (is_before version) (queue_of uri.now (queues_in snapshots.old.entries))) }
+{
+    match snapshots.get_mut(uri) {
+        Some(waiting) => {
+            let missed = count_before(waiting.as_slice(), version);
+            keep_after(waiting, version);
+            missed
+        }
+        None => 0,
+    }
+}
+
+/// Drops the snapshots of a URI, and counts them.
+fn drop_all(snapshots: &mut SnapshotMap, uri: &str) -> u64
+    ensures left { queues_in snapshots.new.entries ≡ keep_in uri.now (λ _. false) (queues_in snapshots.old.entries) }
+    ensures missed { result ≡ length (queue_of uri.now (queues_in snapshots.old.entries)) }
+{
+    match snapshots.get_mut(uri) {
+        Some(waiting) => {
+            let missed = waiting.len() as u64;
+            waiting.clear();
+            missed
+        }
+        None => 0,
+    }
+}
+
+/// Drops the snapshots that wait no more at a version.
+fn keep_after(snapshots: &mut Vec<Snapshot>, version: i32)
+    ensures { snapshots.new.items ≡ filter (λ s. is_after version (version_of s)) snapshots.old.items }
+{
+    snapshots.retain(|s| waits_past(s, version));
+}
+
+/// How many are of a lesser version.
+fn count_before(snapshots: &[Snapshot], version: i32) -> u64
+    ensures { result ≡ length (filter (λ s. is_before version (version_of s)) snapshots.now) }
+{
+    snapshots.iter().filter(|s| s.version < version).count() as u64
+}
+
+fn waits_past(snapshot: &Snapshot, version: i32) -> bool
+    ensures { result ≡ is_after version (version_of snapshot.now) }
+{
+    version < snapshot.version
+}

@@ -1,0 +1,10 @@
+pub mod Fields
+pub mod Numbers
+pub mod HeaderLoop
+pub mod Splits
+pub mod Frames
+pub mod Starts
+pub mod Readings
+pub mod Canonical
+pub mod Steps
+pub mod Writing

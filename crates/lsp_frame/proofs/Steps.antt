@@ -1,0 +1,182 @@
+-- One step of a decoder, over its buffer.
+use Rattle.std.proofs.Common.{◌≡◌, ℕ, ◌+◌, ◌-◌, ◌≤◌, List, [], ◌∷◌, ◌++◌, length, take, drop, Option, None, Some, Result, Ok, Err, append_assoc, ◌<◌, refl, sym, ap, subst, ◌∙◌, arith}
+use Rattle.std.proofs.lemmas.List.{length-append, take-append-drop, take-take, length-take, length-drop, drop-drop, drop_at, drop-take, take_rest, append-nil}
+use Rattle.std.specs.Prelude.{OnOk, IfSome}
+use Rattle.lsp_frame.specs.declared.decoder.FrameFault.{FrameFault}
+use Rattle.lsp_frame.specs.Bounds.{Bounds}
+use Rattle.lsp_frame.specs.declared.start.FrameSize.{FrameSize}
+use Rattle.lsp_frame.specs.Start.{StartsWithHeader}
+use Rattle.lsp_frame.specs.Frame.{IsFrame, Begins, Frames, Breaks, IsStream}
+use Rattle.lsp_frame.specs.Decoder.{State, GivesFrame, GivesNothing, GivesFault, finish_at, empty, pushed, pushed_at, StandsFor, RestAt, EndsWith, Step, StepOf, Next}
+use Rattle.lsp_frame.specs.Buffer.{last_of, FaultStands}
+use Rattle.lsp_frame.proofs.Starts.{front_of, unfinished_content}
+use Rattle.lsp_frame.proofs.Readings.{rest_short}
+use Rattle.lsp_frame.proofs.Frames.{frames_more, frames_push, breaks_more, breaks_no_frame}
+
+take_on : (s n : ℕ) (items : List ℕ) → take (s + n) items ≡ take s items ++ take n (drop s items)
+take_on s n items =
+    sym (take-append-drop s (take (s + n) items))
+    ∙ ap (λ (w : List ℕ). w ++ drop s (take (s + n) items)) (take-take s (s + n) items (omega arith))
+    ∙ ap (λ (w : List ℕ). take s items ++ w) (drop-take s n items)
+
+last_is : (kept frame : List ℕ) (header content : ℕ) → length frame ≡ header + content → last_of (kept ++ frame) content ≡ drop header frame
+last_is kept frame header content len =
+    let at : length (kept ++ frame) - content ≡ length kept + header = omega (arith, length-append kept frame, len) in
+    ap (λ (k : ℕ). drop k (kept ++ frame)) at ∙ sym (drop-drop header (length kept) (kept ++ frame)) ∙ ap (drop header) (drop_at kept frame (length kept) refl)
+
+abbrev pub state_at : Bounds → List ℕ → ℕ → Option ℕ → State
+state_at limits items start fault = record { limits = limits; kept = take start items; rest = drop start items; fault = fault }
+
+pub gives_frame : (limits : Bounds) (items : List ℕ) (start header content : ℕ) (fault : Option ℕ) → fault ≡ None → start ≤ length items → StartsWithHeader limits (drop start items) (record { header = header; content = content })
+    → header + content ≤ length (drop start items) → (content ≤ length (take (start + (header + content)) items)) × GivesFrame (state_at limits items start fault) (state_at limits items (start + (header + content)) fault) (last_of (take (start + (header + content)) items) content)
+gives_frame limits items start header content fault none fits starts inside =
+    let rest = drop start items in
+    let n = header + content in
+    let frame = take n rest in
+    let front = front_of limits rest (record { header = header; content = content }) starts inside in
+    let kept : take (start + n) items ≡ take start items ++ frame = take_on start n items in
+    let last : last_of (take (start + n) items) content ≡ drop header frame = ap (λ (w : List ℕ). last_of w content) kept ∙ last_is (take start items) frame header content front.len in (
+      omega (arith, length-take (start + n) items, length-drop start items, inside),
+      record {
+        open_before = none;
+        frame = frame;
+        is_frame = subst (λ (w : List ℕ). IsFrame limits frame w) (sym last) front.is_frame;
+        rest = sym (take-append-drop n rest) ∙ ap (λ (w : List ℕ). frame ++ w) (drop-drop n start items);
+        same = ap (λ (w : List ℕ). record { limits = limits; kept = w; rest = drop (start + n) items; fault = fault }) kept;
+      },
+    )
+
+pub unfinished_end : (fault : Option ℕ) (rest : List ℕ) → fault ≡ None → 0 < length rest → Err (record { rule = 107 }) ≡ finish_at fault rest
+unfinished_end fault [] none some = absurd (omega arith)
+unfinished_end fault (b ∷ rest) none some = ap (λ (f : Option ℕ). finish_at f (b ∷ rest)) (sym none)
+
+-- the slice from a place on
+pub rest_slice : (xs items : List ℕ) (i : ℕ) → xs ≡ items → take (length xs - i) (drop i xs) ≡ drop i items
+rest_slice xs items i same = take_rest xs i ∙ ap (drop i) same
+
+-- ---- the streams that a decoder stands for
+
+pub new_stands : (limits : Bounds) → StandsFor (empty limits) [] []
+new_stands limits = record { rest = []; frames = refl; held = refl }
+
+rest_pushed : (fault : Option ℕ) (s : State) (rest piece : List ℕ) → s.fault ≡ fault → RestAt fault s rest → RestAt fault (pushed_at fault s piece) (rest ++ piece)
+rest_pushed None s rest piece is held = ap (λ (w : List ℕ). w ++ piece) held
+rest_pushed (Some rule) s rest piece is held = (held.0 ++ piece, ap (λ (w : List ℕ). w ++ piece) held.1 ∙ append_assoc s.rest held.0 piece, held.2)
+
+same_fault_kept : (fault : Option ℕ) (s : State) (piece : List ℕ) → (pushed_at fault s piece).fault ≡ s.fault
+same_fault_kept None s piece = refl
+same_fault_kept (Some rule) s piece = refl
+
+same_limits_kept : (fault : Option ℕ) (s : State) (piece : List ℕ) → (pushed_at fault s piece).limits ≡ s.limits
+same_limits_kept None s piece = refl
+same_limits_kept (Some rule) s piece = refl
+
+pub push_stands : (s : State) (piece bytes : List ℕ) (contents : List (List ℕ)) → StandsFor s bytes contents → StandsFor (pushed s piece) (bytes ++ piece) contents
+push_stands s piece bytes contents stands = record {
+  rest = stands.rest ++ piece;
+  frames = subst (λ (l : Bounds). Frames l (bytes ++ piece) contents (stands.rest ++ piece)) (sym (same_limits_kept s.fault s piece)) (frames_more s.limits bytes contents stands.rest piece stands.frames);
+  held = subst (λ (f : Option ℕ). RestAt f (pushed s piece) (stands.rest ++ piece)) (sym (same_fault_kept s.fault s piece)) (rest_pushed s.fault s stands.rest piece refl stands.held);
+}
+
+open_rest : (s : State) (rest : List ℕ) → s.fault ≡ None → RestAt s.fault s rest → rest ≡ s.rest
+open_rest s rest none held = let at : RestAt None s rest = subst (λ (f : Option ℕ). RestAt f s rest) none held in at
+
+frame_stands : (old new : State) (content bytes : List ℕ) (contents : List (List ℕ)) → GivesFrame old new content → StandsFor old bytes contents → StepOf new bytes contents (Ok (Some content))
+frame_stands old new content bytes contents gives stands =
+    let same_rest = open_rest old stands.rest gives.open_before stands.held in
+    let begins : Begins old.limits stands.rest content new.rest = (gives.frame, same_rest ∙ gives.rest, gives.is_frame) in
+    let frames = frames_push old.limits bytes contents stands.rest content new.rest stands.frames begins in
+    let limits : new.limits ≡ old.limits = ap (λ (s : State). s.limits) gives.same in
+    let fault : new.fault ≡ None = ap (λ (s : State). s.fault) gives.same ∙ gives.open_before in
+    record {
+      rest = new.rest;
+      frames = subst (λ (l : Bounds). Frames l bytes (contents ++ content ∷ []) new.rest) (sym limits) frames;
+      held = subst (λ (f : Option ℕ). RestAt f new new.rest) (sym fault) refl;
+    }
+
+nothing_stands : (old new : State) (bytes : List ℕ) (contents : List (List ℕ)) → GivesNothing old new → StandsFor old bytes contents → StepOf new bytes contents (Ok None)
+nothing_stands old new bytes contents gives stands =
+    let same_rest = open_rest old stands.rest gives.open_before stands.held in
+    let stream : IsStream old.limits bytes contents old.rest None = record {
+      frames = subst (λ (w : List ℕ). Frames old.limits bytes contents w) same_rest stands.frames;
+      no_more = gives.no_frame;
+      fault = gives.no_fault;
+    } in
+    subst (λ (s : State). StandsFor s bytes contents × EndsWith s bytes contents None) (sym gives.same) (stands, (gives.open_before, stream))
+
+-- the rest of the stream goes on behind the decoder's
+rest_goes_on : (fault : Option ℕ) (s : State) (rest : List ℕ) → RestAt fault s rest → (more : List ℕ) × (rest ≡ s.rest ++ more)
+rest_goes_on None s rest held = ([], held ∙ sym (append-nil s.rest))
+rest_goes_on (Some rule) s rest held = (held.0, held.1)
+
+fault_stands : (old new : State) (rule : ℕ) (bytes : List ℕ) (contents : List (List ℕ)) → GivesFault old new rule → StandsFor old bytes contents → StepOf new bytes contents (Err rule)
+fault_stands old new rule bytes contents gives stands =
+    let goes = rest_goes_on old.fault old stands.rest stands.held in
+    let breaks : Breaks old.limits stands.rest rule = subst (λ (w : List ℕ). Breaks old.limits w rule) (sym goes.1) (breaks_more old.limits old.rest rule goes.0 gives.breaks) in
+    let stream : IsStream old.limits bytes contents stands.rest (Some rule) = record {
+      frames = stands.frames;
+      no_more = breaks_no_frame old.limits stands.rest rule breaks;
+      fault = breaks;
+    } in
+    let kept : StandsFor (record old { fault = Some rule }) bytes contents = record {
+      rest = stands.rest;
+      frames = stands.frames;
+      held = (goes.0, goes.1, gives.breaks);
+    } in
+    subst (λ (s : State). StandsFor s bytes contents × EndsWith s bytes contents (Some rule)) (sym gives.same) (kept, (stands.rest, stream))
+
+pub next_of : (old new : State) (answer : Result (Option (List ℕ)) ℕ) → Step old new answer → Next old new answer
+next_of old new (Ok (Some content)) step = record { step = step; stands = λ bytes contents. frame_stands old new content bytes contents step }
+next_of old new (Ok None) step = record { step = step; stands = λ bytes contents. nothing_stands old new bytes contents step }
+next_of old new (Err rule) step = record { step = step; stands = λ bytes contents. fault_stands old new rule bytes contents step }
+
+-- the frame ahead is whole
+pub frame_next : (limits : Bounds) (items : List ℕ) (start : ℕ) (size : FrameSize) (fault : Option ℕ) (old : State) → state_at limits items start fault ≡ old → old.fault ≡ None → start ≤ length items → StartsWithHeader old.limits old.rest size
+    → size.content ≤ length items - start - size.header → (size.content ≤ length (take (start + (size.header + size.content)) items)) × Next old (state_at limits items (start + (size.header + size.content)) fault) (Ok (Some (last_of (take (start + (size.header + size.content)) items) size.content)))
+frame_next limits items start size fault old is none fits starts whole =
+    let now = state_at limits items start fault in
+    let new = state_at limits items (start + (size.header + size.content)) fault in
+    let open_now : fault ≡ None = ap (λ (s : State). s.fault) is ∙ none in
+    let starts_now : StartsWithHeader limits (drop start items) size = subst (λ (s : State). StartsWithHeader s.limits s.rest size) (sym is) starts in
+    let header_fits = starts_now.fits in
+    let gives = gives_frame limits items start size.header size.content fault open_now fits starts_now (omega (arith, length-drop start items)) in
+    (gives.0, subst (λ (s : State). Next s new (Ok (Some (last_of (take (start + (size.header + size.content)) items) size.content)))) is (next_of now new (Ok (Some (last_of (take (start + (size.header + size.content)) items) size.content))) gives.1))
+
+-- the content ahead isn't whole yet
+pub unfinished_next : (limits : Bounds) (items : List ℕ) (start : ℕ) (size : FrameSize) (fault : Option ℕ) (old : State) → state_at limits items start fault ≡ old → old.fault ≡ None → StartsWithHeader old.limits old.rest size
+    → length items - start - size.header < size.content → Next old (state_at limits items start fault) (Ok None)
+unfinished_next limits items start size fault old is none starts short =
+    let len : length items - start ≡ length old.rest = sym (length-drop start items) ∙ ap (λ (s : State). length s.rest) is in
+    let unfinished = unfinished_content old.limits old.rest size starts (omega (arith, len)) in
+    next_of old (state_at limits items start fault) (Ok None) (record { open_before = none; no_frame = unfinished.no_frame; no_fault = unfinished.no_fault; same = is })
+
+pub push_stands_ok : {E : Type 0} (r : Result (Unit {0}) E) (old new : State) (piece : List ℕ) → OnOk r (new ≡ pushed old piece) → OnOk r ((bytes : List ℕ) (contents : List (List ℕ)) → StandsFor old bytes contents → StandsFor new (bytes ++ piece) contents)
+push_stands_ok (Ok u) old new piece is = λ bytes contents stands. subst (λ (s : State). StandsFor s (bytes ++ piece) contents) (sym is) (push_stands old piece bytes contents stands)
+push_stands_ok (Err e) old new piece is = tt
+
+-- what is held after a piece, where all frames before it were given and there was no fault
+held_within : (fault : Option ℕ) (s : State) (piece bytes : List ℕ) (contents : List (List ℕ)) → s.fault ≡ fault → StandsFor s bytes contents → IsStream s.limits bytes contents s.rest None
+    → length (pushed_at fault s piece).kept + length (pushed_at fault s piece).rest ≤ s.limits.header + s.limits.content + length piece
+held_within None s piece bytes contents is stands stream = omega (arith, rest_short s.limits bytes contents s.rest stream, length-append s.rest piece)
+held_within (Some rule) s piece bytes contents is stands stream =
+    let kept : RestAt (Some rule) s stands.rest = subst (λ (f : Option ℕ). RestAt f s stands.rest) is stands.held in
+    absurd (stream.fault rule kept.2)
+
+pub push_room_ok : {E : Type 0} (r : Result (Unit {0}) E) (old new : State) (piece : List ℕ) → OnOk r (new ≡ pushed old piece)
+    → OnOk r ((bytes : List ℕ) (contents : List (List ℕ)) → StandsFor old bytes contents → IsStream old.limits bytes contents old.rest None → length new.kept + length new.rest ≤ old.limits.header + old.limits.content + length piece)
+push_room_ok (Ok u) old new piece is = λ bytes contents stands stream.
+    subst (λ (s : State). length s.kept + length s.rest ≤ old.limits.header + old.limits.content + length piece) (sym is) (held_within old.fault old piece bytes contents refl stands stream)
+push_room_ok (Err e) old new piece is = tt
+
+-- a fault that was given is the answer again
+pub given_again : (old new : State) (rule : ℕ) (fault : FrameFault) → GivesFault old new fault.rule → old.fault ≡ Some rule → fault ≡ record { rule = rule }
+given_again old new rule fault gives is =
+    let again : fault.rule ≡ rule = sym (subst (λ (f : Option ℕ). IfSome f (λ before. before ≡ fault.rule)) is gives.again) in
+    ap (λ (r : ℕ). record { rule = r }) again
+
+-- a fault that was given is given again
+pub kept_fault : (s : State) (rule : ℕ) → s.fault ≡ Some rule → FaultStands s.limits s.rest s.fault → Next s s (Err rule)
+kept_fault s rule is stands =
+    let breaks : Breaks s.limits s.rest rule = subst (λ (f : Option ℕ). FaultStands s.limits s.rest f) is stands in
+    let same : s ≡ record s { fault = Some rule } = ap (λ (f : Option ℕ). record s { fault = f }) is in
+    next_of s s (Err rule) (record { breaks = breaks; again = rw is refl; same = same })

@@ -1,0 +1,11 @@
+pub mod Failures
+pub mod Bounds
+pub mod Header
+pub mod Frame
+pub mod Laws
+pub mod Reading
+pub mod Start
+pub mod Sink
+pub mod Decoder
+pub mod Buffer
+pub mod Lending

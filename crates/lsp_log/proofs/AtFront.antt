@@ -1,0 +1,112 @@
+-- A record at the front of a tape, or why there is none.
+use Rattle.std.proofs.Common.{◌≡◌, ℕ, ◌+◌, ◌<◌, ◌≤◌, Bool, true, false, List, [], ◌∷◌, ◌++◌, length, take, drop, Option, Some, None, refl, sym, ap, subst, ◌∙◌, append_assoc, inl, inr, arith}
+use Rattle.std.specs.List.{flat_map}
+use Rattle.std.proofs.lemmas.List.{take_all, nil_from_length}
+use Rattle.lsp_frame.specs.Bounds.{Bounds}
+use Rattle.lsp_frame.specs.Sink.{Told}
+use Rattle.lsp_log.specs.Log as log
+use Rattle.lsp_log.specs.Log.{Flaw, bad_line, bad_number, cut_short, bad_end, not_utf8, Breaks, EndsWith, HasLine, HasHead, Fits, spelling, head_line, in_range, with_feed, holds_feed, head_of, parts_of, IsText}
+use Rattle.lsp_log.specs.Words.{head_view, IsHead}
+use Rattle.lsp_log.specs.Tape.{Held, Pulled, Filled, Taken, ReadFailed, Refused, IsOver}
+use Rattle.lsp_log.specs.Stops.{Ends, StopAnswer, PartsBreak, PartsLack, HasParts, Found, wants_bytes}
+use Rattle.lsp_log.specs.declared.head.Head.{Head}
+use Rattle.lsp_log.specs.declared.stop.Stop.{Stop}
+use Rattle.lsp_log.specs.declared.stop.Stop.TheVariants.{FirstLine, Nothing, Form, Number, Short, End, Text, Read, Memory}
+use Rattle.lsp_log.proofs.Tapes.{pulled_then, failed_then, refused_then, pulled_from}
+
+pub full_window : (limits : Bounds) (old new : Held) (before after : Told) (piece near : List ℕ) → Filled old new before after piece → holds_feed new.rest ≡ false → near ≡ new.rest → length near ≡ 64
+    → Ends (EndsWith limits) old new before after (Some bad_line)
+full_window limits old new before after piece near f none same full = record {
+  piece = piece;
+  pulled = f.pulled;
+  holds = inl (
+    omega (arith, ap length f.rest, ap length same, full),
+    ap (λ (w : List ℕ). holds_feed (take 64 w)) (sym f.rest) ∙ ap holds_feed (take_all 64 new.rest (omega (arith, ap length same, full))) ∙ none,
+  );
+  over = λ h. absurd cc;
+}
+
+-- a head was found, and the tape went past its line
+pub record AtParts (limits : Bounds) (old mid : Held) (before now : Told) (h : log.Head) : Type 0 where
+  pub line : List ℕ
+  pub piece : List ℕ
+  pub pulled : Pulled old.left mid.left before now piece
+  pub whole : old.rest ++ piece ≡ with_feed line ++ mid.rest
+  pub short : length line < 64
+  pub one : holds_feed line ≡ false
+  pub is : line ≡ head_line h
+  pub range : in_range limits h ≡ true
+
+pub at_parts : (limits : Bounds) (old new mid : Held) (before now : Told) (piece near : List ℕ) (end : ℕ) (h : Head) → Filled old new before now piece → HasLine new.rest (take end new.rest) (drop (end + 1) new.rest) → near ≡ new.rest
+    → IsHead limits (take end near) h → mid ≡ record new { rest = drop (end + 1) new.rest } → AtParts limits old mid before now (head_view h)
+at_parts limits old new mid before now piece near end h f line same head is = record {
+  line = take end new.rest;
+  piece = piece;
+  pulled = subst (λ (m : Held). Pulled old.left m.left before now piece) (sym is) f.pulled;
+  whole = sym f.rest ∙ line.whole ∙ ap (λ (m : Held). with_feed (take end new.rest) ++ m.rest) (sym is);
+  short = line.short;
+  one = line.one;
+  is = ap (take end) (sym same) ∙ head.is;
+  range = head.range;
+}
+
+all_bytes : (limits : Bounds) (old mid : Held) (before now : Told) (h : log.Head) (more : List ℕ) (a : AtParts limits old mid before now h) → old.rest ++ (a.piece ++ more) ≡ with_feed (head_line h) ++ (mid.rest ++ more)
+all_bytes limits old mid before now h more a =
+    sym (append_assoc old.rest a.piece more) ∙ ap (λ (w : List ℕ). w ++ more) a.whole ∙ append_assoc (with_feed a.line) mid.rest more ∙ ap (λ (w : List ℕ). with_feed w ++ (mid.rest ++ more)) a.is
+
+has_head : (limits : Bounds) (old mid : Held) (before now : Told) (h : log.Head) (more : List ℕ) (a : AtParts limits old mid before now h) → HasHead limits (old.rest ++ (a.piece ++ more)) h (mid.rest ++ more)
+has_head limits old mid before now h more a = record {
+  line = record {
+    whole = all_bytes limits old mid before now h more a;
+    short = subst (λ (w : List ℕ). length w < 64) a.is a.short;
+    one = ap holds_feed (sym a.is) ∙ a.one;
+  };
+  range = a.range;
+}
+
+parts_break : (limits : Bounds) (old mid : Held) (before now : Told) (h : log.Head) (more : List ℕ) (a : AtParts limits old mid before now h) (flaw : Option Flaw) → PartsBreak h (mid.rest ++ more) flaw → EndsWith limits (old.rest ++ (a.piece ++ more)) flaw
+parts_break limits old mid before now h more a None p = absurd p
+parts_break limits old mid before now h more a (Some bad_line) p = absurd p
+parts_break limits old mid before now h more a (Some bad_number) p = absurd p
+parts_break limits old mid before now h more a (Some cut_short) p = inr (h, mid.rest ++ more, has_head limits old mid before now h more a, p)
+parts_break limits old mid before now h more a (Some bad_end) p = (h, mid.rest ++ more, has_head limits old mid before now h more a, p)
+parts_break limits old mid before now h more a (Some not_utf8) p = (
+  p.0,
+  p.1,
+  all_bytes limits old mid before now h more a ∙ ap (λ (k : log.Head). with_feed (head_line k) ++ (mid.rest ++ more)) (sym p.2) ∙ ap (λ (w : List ℕ). with_feed (head_line (head_of p.0)) ++ w) p.3
+      ∙ sym (append_assoc (with_feed (head_line (head_of p.0))) (flat_map with_feed (parts_of p.0)) p.1),
+  ap (in_range limits) p.2 ∙ a.range,
+  p.4,
+)
+
+ends_parts : (limits : Bounds) (old mid new : Held) (before now after : Told) (h : log.Head) (flaw : Option Flaw) → AtParts limits old mid before now h → Ends (PartsBreak h) mid new now after flaw → Ends (EndsWith limits) old new before after flaw
+ends_parts limits old mid new before now after h flaw a f = record {
+  piece = a.piece ++ f.piece;
+  pulled = pulled_then old.left mid.left new.left before now after a.piece f.piece a.pulled f.pulled;
+  holds = parts_break limits old mid before now h f.piece a flaw f.holds;
+  over = f.over;
+}
+
+pub stop_at_parts : (limits : Bounds) (old mid new : Held) (before now after : Told) (h : log.Head) (stop : Stop) → AtParts limits old mid before now h → StopAnswer (PartsBreak h) mid new now after stop → StopAnswer (EndsWith limits) old new before after stop
+stop_at_parts limits old mid new before now after h FirstLine a s = s
+stop_at_parts limits old mid new before now after h Nothing a s = ends_parts limits old mid new before now after h None a s
+stop_at_parts limits old mid new before now after h Form a s = ends_parts limits old mid new before now after h (Some bad_line) a s
+stop_at_parts limits old mid new before now after h Number a s = ends_parts limits old mid new before now after h (Some bad_number) a s
+stop_at_parts limits old mid new before now after h Short a s = ends_parts limits old mid new before now after h (Some cut_short) a s
+stop_at_parts limits old mid new before now after h End a s = ends_parts limits old mid new before now after h (Some bad_end) a s
+stop_at_parts limits old mid new before now after h Text a s = ends_parts limits old mid new before now after h (Some not_utf8) a s
+stop_at_parts limits old mid new before now after h Read a s = failed_then old.left mid.left before now after a.piece a.pulled s
+stop_at_parts limits old mid new before now after h Memory a s = refused_then old.left mid.left before now after a.piece a.pulled s
+
+pub found_record : (limits : Bounds) (old mid new : Held) (before now after : Told) (h : log.Head) (r : log.Record) → AtParts limits old mid before now h → HasParts mid new now after h r → Found limits old new before after [] r
+found_record limits old mid new before now after h r a p = record {
+  taken = record {
+    piece = a.piece ++ p.taken.piece;
+    pulled = pulled_then old.left mid.left new.left before now after a.piece p.taken.piece a.pulled p.taken.pulled;
+    whole = all_bytes limits old mid before now h p.taken.piece a
+        ∙ ap (λ (k : log.Head). with_feed (head_line k) ++ (mid.rest ++ p.taken.piece)) (sym p.heads)
+        ∙ ap (λ (w : List ℕ). with_feed (head_line (head_of r)) ++ w) p.taken.whole
+        ∙ sym (append_assoc (with_feed (head_line (head_of r))) (flat_map with_feed (parts_of r)) new.rest);
+  };
+  fits = record { range = ap (in_range limits) p.heads ∙ a.range; text = p.text };
+}

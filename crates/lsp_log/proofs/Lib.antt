@@ -1,0 +1,15 @@
+pub mod Numerals
+pub mod LogLemmas
+pub mod Bytes
+pub mod Heads
+pub mod Tapes
+pub mod Fitting
+pub mod AtFront
+pub mod Parts
+pub mod Breaking
+pub mod Reading
+pub mod Ended
+pub mod OneLog
+pub mod Callers
+pub mod FirstLines
+pub mod Written

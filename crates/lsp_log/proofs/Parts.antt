@@ -1,0 +1,119 @@
+-- The parts of a record at the front of a tape.
+use Rattle.std.proofs.Common.{◌≡◌, ℕ, ℤ, ◌+◌, ◌<◌, ◌≤◌, Bool, true, false, List, [], ◌∷◌, ◌++◌, length, drop, Option, Some, None, Result, Ok, Err, refl, sym, ap, subst, ◌∙◌, append_assoc, append-nil, arith}
+use Rattle.std.specs.Prelude.{◌==◌, nat_le, slice_index, if◌then◌else◌, IsUtf8, String}
+use Rattle.std.specs.Global.{Global}
+use Rattle.std.specs.List.{flat_map}
+use borrow.Author.Tests.{le-leb, leb-true}
+use Rattle.lsp_frame.specs.Bounds.{Bounds}
+use Rattle.lsp_frame.specs.Sink.{Told}
+use Rattle.lsp_log.specs.Log as log
+use Rattle.lsp_log.specs.Log.{Flaw, cut_short, bad_end, not_utf8, parts_flaw, with_feed, head_of, parts_of, shown, shown_head, IsText, EndsWith}
+use Rattle.lsp_log.specs.Tape.{Held, Pulled, Taken, Wants, Misses, PartAnswer}
+use Rattle.lsp_log.specs.Stops.{Ends, StopAnswer, PartsBreak, PartsLack, HasParts, TwoParts, TwoPartsAnswer, TextAnswer, PartsAnswer, FoundAnswer}
+use Rattle.lsp_log.specs.declared.record.Record.{Record}
+use Rattle.lsp_log.specs.declared.stop.Stop.{Stop}
+use Rattle.lsp_log.specs.declared.stop.Stop.TheVariants.{FirstLine, Nothing, Form, Number, Short, End, Text, Read, Memory}
+use Rattle.lsp_log.specs.declared.tape.PartFault.{PartFault}
+use Rattle.lsp_log.specs.declared.tape.PartFault.TheVariants as faults
+use Rattle.lsp_log.proofs.LogLemmas.{one_part}
+use Rattle.lsp_log.proofs.Tapes.{pulled_then, failed_then, refused_then, taken_both}
+use Rattle.lsp_log.proofs.AtFront.{AtParts, stop_at_parts, found_record}
+use Rattle.lsp_log.specs.Records.{record_view}
+
+lacks : (short at : Bool) (rest : Option Flaw) → short ≡ true → (if short then Some cut_short else (if at then rest else Some bad_end)) ≡ Some cut_short
+lacks true at rest p = refl
+lacks false at rest p = absurd cc
+
+misses : (short at : Bool) (rest : Option Flaw) → short ≡ false → at ≡ false → (if short then Some cut_short else (if at then rest else Some bad_end)) ≡ Some bad_end
+misses false false rest p q = refl
+misses false true rest p q = absurd cc
+misses true at rest p q = absurd cc
+
+pub not_le : (m n : ℕ) → n < m → nat_le m n ≡ false
+not_le m n more = by_test (nat_le m n) refl
+  where
+    by_test : (t : Bool) → nat_le m n ≡ t → t ≡ false
+    by_test false e = refl
+    by_test true e = absurd (omega (arith, leb-true m n e))
+
+pub part_lacks : (n : ℕ) (ns bytes : List ℕ) → length bytes ≤ n → parts_flaw (n ∷ ns) bytes ≡ Some cut_short
+part_lacks n ns bytes less = lacks (nat_le (length bytes) n) (slice_index bytes n == 10) (parts_flaw ns (drop (n + 1) bytes)) (le-leb (length bytes) n less)
+
+pub part_ends_badly : (n : ℕ) (ns bytes : List ℕ) → n < length bytes → (slice_index bytes n == 10) ≡ false → parts_flaw (n ∷ ns) bytes ≡ Some bad_end
+part_ends_badly n ns bytes more other = misses (nat_le (length bytes) n) (slice_index bytes n == 10) (parts_flaw ns (drop (n + 1) bytes)) (not_le (length bytes) n more) other
+
+-- behind a whole part
+behind_part : (old mid : Held) (before now : Told) (front more : List ℕ) (t : Taken old mid before now (with_feed front)) → old.rest ++ (t.piece ++ more) ≡ with_feed front ++ (mid.rest ++ more)
+behind_part old mid before now front more t = sym (append_assoc old.rest t.piece more) ∙ ap (λ (w : List ℕ). w ++ more) t.whole ∙ append_assoc (with_feed front) mid.rest more
+
+flaw_behind : (old mid : Held) (before now : Told) (front more : List ℕ) (first second : ℕ) (flaw : Flaw) (t : Taken old mid before now (with_feed front)) → length front ≡ first → parts_flaw (second ∷ []) (mid.rest ++ more) ≡ Some flaw
+    → parts_flaw (first ∷ second ∷ []) (old.rest ++ (t.piece ++ more)) ≡ Some flaw
+flaw_behind old mid before now front more first second flaw t len is =
+    ap (parts_flaw (first ∷ second ∷ [])) (behind_part old mid before now front more t)
+    ∙ ap (λ (n : ℕ). parts_flaw (n ∷ second ∷ []) (with_feed front ++ (mid.rest ++ more))) (sym len)
+    ∙ one_part front (second ∷ []) (mid.rest ++ more)
+    ∙ is
+
+pub second_fails : (old mid new : Held) (before now after : Told) (front : List ℕ) (first second : ℕ) (fault : PartFault) → Taken old mid before now (with_feed front) → length front ≡ first → PartAnswer mid new now after second (Err fault)
+    → TwoPartsAnswer old new before after first second (Err fault)
+second_fails old mid new before now after front first second faults.Short t len w = record {
+  piece = t.piece ++ w.piece;
+  pulled = pulled_then old.left mid.left new.left before now after t.piece w.piece t.pulled w.pulled;
+  holds = flaw_behind old mid before now front w.piece first second cut_short t len (part_lacks second [] (mid.rest ++ w.piece) w.less);
+  over = λ _. w.over;
+}
+second_fails old mid new before now after front first second faults.End t len m = record {
+  piece = t.piece ++ m.piece;
+  pulled = pulled_then old.left mid.left new.left before now after t.piece m.piece t.pulled m.pulled;
+  holds = flaw_behind old mid before now front m.piece first second bad_end t len (part_ends_badly second [] (mid.rest ++ m.piece) m.more m.other);
+  over = λ h. absurd cc;
+}
+second_fails old mid new before now after front first second faults.Read t len f = failed_then old.left mid.left before now after t.piece t.pulled f
+second_fails old mid new before now after front first second faults.Memory t len r = refused_then old.left mid.left before now after t.piece t.pulled r
+
+pub two_taken : (old mid new : Held) (before now after : Told) (front back : List ℕ) (first second : ℕ) → Taken old mid before now (with_feed front) → length front ≡ first → Taken mid new now after (with_feed back) → length back ≡ second
+    → TwoParts old new before after first second front back
+two_taken old mid new before now after front back first second t len u more = record {
+  taken = taken_both old mid new before now after (with_feed front) (with_feed back) t u;
+  front_len = len;
+  back_len = more;
+}
+
+-- ---- the texts of a snapshot
+
+both_parts : (front back rest : List ℕ) → (with_feed front ++ with_feed back) ++ rest ≡ flat_map with_feed (front ∷ back ∷ []) ++ rest
+both_parts front back rest = ap (λ (w : List ℕ). (with_feed front ++ w) ++ rest) (sym (append-nil (with_feed back)))
+
+no_text : (old new : Held) (before after : Told) (v : ℤ) (first second : ℕ) (front back : List ℕ) → TwoParts old new before after first second front back → (IsUtf8 front × IsUtf8 back → ⊥) → Ends (PartsBreak (shown_head v first second)) old new before after (Some not_utf8)
+no_text old new before after v first second front back two none = record {
+  piece = two.taken.piece;
+  pulled = two.taken.pulled;
+  holds = (shown v front back, new.rest, cc (two.front_len, two.back_len), two.taken.whole ∙ both_parts front back new.rest, none);
+  over = λ h. absurd cc;
+}
+
+pub uri_stops : (old new : Held) (before after : Told) (v : ℤ) (first second : ℕ) (front back : List ℕ) (stop : Stop) → TwoParts old new before after first second front back → TextAnswer front (Err stop) → StopAnswer (PartsBreak (shown_head v first second)) old new before after stop
+uri_stops old new before after v first second front back Text two bad = no_text old new before after v first second front back two (λ t. bad t.0)
+uri_stops old new before after v first second front back stop two bad = absurd bad
+
+pub text_stops : (old new : Held) (before after : Told) (v : ℤ) (first second : ℕ) (front back : List ℕ) (stop : Stop) → TwoParts old new before after first second front back → TextAnswer back (Err stop) → StopAnswer (PartsBreak (shown_head v first second)) old new before after stop
+text_stops old new before after v first second front back Text two bad = no_text old new before after v first second front back two (λ t. bad t.1)
+text_stops old new before after v first second front back stop two bad = absurd bad
+
+pub snapshot_found : (old new : Held) (before after : Told) (v w : ℤ) (first second : ℕ) (front back uri text : List ℕ) → TwoParts old new before after first second front back → uri ≡ front → text ≡ back → IsUtf8 uri → IsUtf8 text → w ≡ v
+    → HasParts old new before after (shown_head v first second) (shown w uri text)
+snapshot_found old new before after v w first second front back uri text two is_uri is_text one other version = record {
+  taken = record {
+    piece = two.taken.piece;
+    pulled = two.taken.pulled;
+    whole = two.taken.whole ∙ both_parts front back new.rest ∙ ap (λ (w : List ℕ). flat_map with_feed (w ∷ back ∷ []) ++ new.rest) (sym is_uri) ∙ ap (λ (w : List ℕ). flat_map with_feed (uri ∷ w ∷ []) ++ new.rest) (sym is_text);
+  };
+  heads = cc (version, ap length is_uri, ap length is_text, two.front_len, two.back_len);
+  text = (one, other);
+}
+
+-- ---- the parts behind a first line
+
+pub parts_found : (limits : Bounds) (old mid new : Held) (before now after : Told) (h : log.Head) (result : Result Record Stop) → AtParts limits old mid before now h → PartsAnswer mid new now after h result → FoundAnswer limits old new before after result
+parts_found limits old mid new before now after h (Ok r) a p = found_record limits old mid new before now after h (record_view r) a p
+parts_found limits old mid new before now after h (Err stop) a p = stop_at_parts limits old mid new before now after h stop a p

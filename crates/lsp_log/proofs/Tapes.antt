@@ -1,0 +1,258 @@
+-- What a tape holds after it was read into and given from.
+use Rattle.std.proofs.Common.{◌≡◌, Bool, true, false, ℕ, zero, suc, ◌+◌, ◌-◌, ◌<◌, ◌≤◌, List, [], ◌∷◌, ◌++◌, length, take, drop, Option, Some, None, refl, sym, ap, subst, ◌∙◌, append_assoc, append-nil, arith}
+use Rattle.std.specs.Io.KnownBytes.{Consumes, IsAtEnd, Keeps}
+use Rattle.std.proofs.lemmas.List.{length-append, length-take, length-drop, take-append-le, take_at}
+use Rattle.std.proofs.lemmas.Slice.{take-put_mid_below, take-put_mid}
+use borrow.Rule.Slice.PartMut.{put_mid, mid_of}
+use Rattle.lsp_frame.specs.Failures.{after_failure}
+use Rattle.lsp_frame.specs.Sink.{Told}
+use Rattle.memchr.specs.Find.{Passes, Nowhere, NoneBefore, is_byte}
+use Rattle.lsp_log.specs.Log.{HasLine, holds_feed}
+use Rattle.lsp_log.proofs.Bytes.{first_cut, nowhere_none}
+use Rattle.std.specs.Prelude.{slice_index, ◌==◌}
+use Rattle.std.proofs.lemmas.List.{nil_from_length, take_all, take-append-drop, take-take}
+use Rattle.std.proofs.lemmas.Bool.{cases_lt}
+use Rattle.std.proofs.Common.{inl, inr}
+use Rattle.std.proofs.lemmas.Map.Views.{exact_unsigned_eq}
+use Rattle.lsp_log.specs.Log.{with_feed}
+use Rattle.lsp_log.specs.Tape.{Held, Pulled, IsOver, ReadFailed, Refused, Filled, Taken, Wants, Misses}
+
+pub consumes_then : (a b c : Option (List ℕ)) (x y : List ℕ) → Consumes a b x → Consumes b c y → Consumes a c (x ++ y)
+consumes_then None b c x y p q = tt
+consumes_then (Some us) None c x y p q = absurd p
+consumes_then (Some us) (Some vs) None x y p q = absurd q
+consumes_then (Some us) (Some vs) (Some ws) x y p q = p ∙ ap (λ (w : List ℕ). x ++ w) q ∙ sym (append_assoc x y ws)
+
+pub consumes_nothing : (a : Option (List ℕ)) → Consumes a a []
+consumes_nothing None = tt
+consumes_nothing (Some x) = refl
+
+pub keeps_consumes : (a b : Option (List ℕ)) → Keeps a b → Consumes a b []
+keeps_consumes None b k = tt
+keeps_consumes (Some x) None k = k
+keeps_consumes (Some x) (Some y) k = sym k
+
+take_nothing : (n : ℕ) → take {A = ℕ} n [] ≡ []
+take_nothing zero = refl
+take_nothing (suc n) = refl
+
+drop_take : (count len : ℕ) (xs : List ℕ) → take (len - count) (drop count xs) ≡ drop count (take len xs)
+drop_take zero len xs = ap (λ n. take n xs) (omega arith)
+drop_take (suc count) zero xs = ap (λ n. take n (drop (suc count) xs)) (let e : 0 - suc count ≡ 0 = omega arith in e)
+drop_take (suc count) (suc len) [] = take_nothing (suc len - suc count)
+drop_take (suc count) (suc len) (x ∷ xs) = ap (λ n. take n (drop count xs)) (let e : suc len - suc count ≡ len - count = omega arith in e) ∙ drop_take count len xs
+
+pub skipped : (near turned : List ℕ) (len count left : ℕ) → count ≤ length (take len near) → len ≤ 64 → length near ≡ 64 → turned ≡ drop count near ++ take count near
+    → (record { rest = take (len - count) turned; left = left }) ≡ (let h : Held = record { rest = drop count (take len near); left = left } in h)
+skipped near turned len count left fits small full is =
+    ap (λ (w : List ℕ). let h : Held = record { rest = w; left = left } in h)
+    (ap (take (len - count)) is
+    ∙ take-append-le (len - count) (drop count near) (take count near) (omega (arith, length-drop count near, length-take len near, fits, small, full))
+    ∙ drop_take count len near)
+
+-- ---- pulls
+
+pub pulled_then : (a b c : ℕ) (before now after : Told) (x y : List ℕ) → Pulled a b before now x → Pulled b c now after y → Pulled a c before after (x ++ y)
+pulled_then a b c before now after x y p q = record {
+  read = consumes_then before.bytes now.bytes after.bytes x y p.read q.read;
+  left = omega (arith, p.left, q.left, length-append x y);
+  failures = q.failures ∙ p.failures;
+}
+
+pub pulled_nothing : (a : ℕ) (now : Told) → Pulled a a now now []
+pulled_nothing a now = record { read = consumes_nothing now.bytes; left = omega arith; failures = refl }
+
+pub failed_now : (before after : Told) → Keeps before.bytes after.bytes → after.failures ≡ after_failure before.failures → (left : ℕ) → ReadFailed left before after
+failed_now before after keeps failed left = record { piece = []; read = keeps_consumes before.bytes after.bytes keeps; within = omega arith; failures = failed }
+
+pub failed_then : (a b : ℕ) (before now after : Told) (x : List ℕ) → Pulled a b before now x → ReadFailed b now after → ReadFailed a before after
+failed_then a b before now after x p f = record {
+  piece = x ++ f.piece;
+  read = consumes_then before.bytes now.bytes after.bytes x f.piece p.read f.read;
+  within = omega (arith, length-append x f.piece, p.left, f.within);
+  failures = f.failures ∙ ap after_failure p.failures;
+}
+
+pub refused_then : (a b : ℕ) (before now after : Told) (x : List ℕ) → Pulled a b before now x → Refused b now after → Refused a before after
+refused_then a b before now after x p r = record {
+  piece = x ++ r.piece;
+  read = consumes_then before.bytes now.bytes after.bytes x r.piece p.read r.read;
+  within = omega (arith, length-append x r.piece, p.left, r.within);
+  failures = r.failures ∙ p.failures;
+}
+
+pub taken_both : (a b c : Held) (before now after : Told) (x y : List ℕ) → Taken a b before now x → Taken b c now after y → Taken a c before after (x ++ y)
+taken_both a b c before now after x y p q = record {
+  piece = p.piece ++ q.piece;
+  pulled = pulled_then a.left b.left c.left before now after p.piece q.piece p.pulled q.pulled;
+  whole = sym (append_assoc a.rest p.piece q.piece) ∙ ap (λ (w : List ℕ). w ++ q.piece) p.whole ∙ append_assoc x b.rest q.piece ∙ ap (λ (w : List ℕ). x ++ w) q.whole ∙ sym (append_assoc x y c.rest);
+}
+
+pub filled_then : (a b c : Held) (before now after : Told) (x y : List ℕ) → Filled a b before now x → Filled b c now after y → Filled a c before after (x ++ y)
+filled_then a b c before now after x y p q = record {
+  pulled = pulled_then a.left b.left c.left before now after x y p.pulled q.pulled;
+  rest = q.rest ∙ ap (λ (w : List ℕ). w ++ y) p.rest ∙ append_assoc a.rest x y;
+}
+
+pub filled_nothing : (a : Held) (now : Told) → Filled a a now now []
+filled_nothing a now = record { pulled = pulled_nothing a.left now; rest = sym (append-nil a.rest) }
+
+take_past : (xs ys : List ℕ) (n : ℕ) → take (length xs + n) (xs ++ ys) ≡ xs ++ take n ys
+take_past [] ys n = ap (λ k. take k ys) (omega arith)
+take_past (x ∷ xs) ys n = ap (λ k. take k (x ∷ (xs ++ ys))) (let e : suc (length xs) + n ≡ suc (length xs + n) = omega arith in e) ∙ ap (λ w. x ∷ w) (take_past xs ys n)
+
+-- a front of the buffer that was written behind what stood there
+pub take_written : (xs buffer tail : List ℕ) (len count : ℕ) → length xs ≡ len → count ≤ length buffer → take (len + count) (xs ++ (buffer ++ tail)) ≡ xs ++ take count buffer
+take_written xs buffer tail len count is fits =
+    ap (λ k. take (k + count) (xs ++ (buffer ++ tail))) (sym is) ∙ take_past xs (buffer ++ tail) count ∙ ap (λ w. xs ++ w) (take-append-le count buffer tail fits)
+
+-- what was read stands behind what was held
+pub filled_window : (near buffer : List ℕ) (len count left_old left_new : ℕ) (before after : Told) → len ≤ 64 → length near ≡ 64 → count ≤ length buffer → length buffer ≡ 64 - len → Pulled left_old left_new before after (take count buffer)
+    → Filled (record { rest = take len near; left = left_old }) (record { rest = take (len + count) (put_mid len (64 - len) near buffer); left = left_new }) before after (take count buffer)
+filled_window near buffer len count left_old left_new before after small full fits same pulled = record {
+  pulled = pulled;
+  rest = take_written (take len near) buffer _ len count (omega (arith, length-take len near, small, full)) fits;
+}
+
+-- ---- a line
+
+pub line_found : (near rest : List ℕ) (at : ℕ) → near ≡ rest → length near ≤ 64 → NoneBefore (Passes (is_byte 10) near) 0 (length near) at → Passes (is_byte 10) near at
+    → (at < length rest) × HasLine rest (take at rest) (drop (at + 1) rest)
+line_found near rest at same short none is =
+    let cut = first_cut 10 near at none is in
+    subst (λ (w : List ℕ). (at < length w) × HasLine w (take at w) (drop (at + 1) w)) same (
+      none.high,
+      record {
+        whole = cut.whole ∙ sym (append_assoc (take at near) (10 ∷ []) (drop (at + 1) near));
+        short = omega (arith, none.high, short, length-take at near);
+        one = cut.none;
+      },
+    )
+
+pub no_line : (near rest : List ℕ) → near ≡ rest → Nowhere (Passes (is_byte 10) near) 0 (length near) → holds_feed rest ≡ false
+no_line near rest same nowhere = subst (λ (w : List ℕ). holds_feed w ≡ false) same (nowhere_none 10 near nowhere)
+
+-- ---- a buffer
+
+pub buffer_more : (start now next : ℕ) (before mid after : Told) (buffer more : List ℕ) (filled count : ℕ) → filled ≤ length buffer → count ≤ length more
+    → Pulled start now before mid (take filled buffer) → Pulled now next mid after (take count more)
+    → Pulled start next before after (take (filled + count) (put_mid filled (length buffer - filled) buffer more))
+buffer_more start now next before mid after buffer more filled count within fits p q =
+    subst (λ (w : List ℕ). Pulled start next before after w)
+    (sym (take_written (take filled buffer) more _ filled count (omega (arith, length-take filled buffer, within)) fits))
+    (pulled_then start now next before mid after (take filled buffer) (take count more) p q)
+
+pub written_fits : (buffer more : List ℕ) (filled count : ℕ) → filled ≤ length buffer → count ≤ length more → filled + count ≤ length (put_mid filled (length buffer - filled) buffer more)
+written_fits buffer more filled count within fits =
+    let rest = drop (length buffer - filled) (drop filled buffer) in
+    omega (arith, length-append (take filled buffer) (more ++ rest), length-append more rest, length-take filled buffer, within, fits)
+
+pub nothing_more : (b c : Held) (now after : Told) (y : List ℕ) → Filled b c now after y → length y ≡ 0 → b.rest ≡ c.rest
+nothing_more b c now after y f none = sym (f.rest ∙ ap (λ (w : List ℕ). b.rest ++ w) (nil_from_length y none) ∙ append-nil b.rest)
+
+-- ---- bytes that are taken
+
+pub taken_then : (a b c : Held) (before now after : Told) (given y : List ℕ) → Taken a b before now given → Filled b c now after y → Taken a c before after given
+taken_then a b c before now after given y t f = record {
+  piece = t.piece ++ y;
+  pulled = pulled_then a.left b.left c.left before now after t.piece y t.pulled f.pulled;
+  whole = sym (append_assoc a.rest t.piece y) ∙ ap (λ (w : List ℕ). w ++ y) t.whole ∙ append_assoc given b.rest y ∙ ap (λ (w : List ℕ). given ++ w) (sym f.rest);
+}
+
+pub part_short : (a c : Held) (before after : Told) (given : List ℕ) (len : ℕ) → Taken a c before after given → length given ≡ len → length c.rest ≡ 0 → IsOver c.left after → Wants a c before after len
+part_short a c before after given len t is none over = record {
+  piece = t.piece;
+  pulled = t.pulled;
+  less = omega (arith, ap length t.whole, length-append given c.rest, is, none);
+  over = over;
+}
+
+first_of_rest : (xs : List ℕ) → 0 < length xs → slice_index xs 0 ≡ 10 → xs ≡ 10 ∷ drop 1 xs
+first_of_rest [] some is = absurd (omega (arith, some))
+first_of_rest (x ∷ xs) some is = ap (λ b. b ∷ xs) is
+
+pub part_ends : (a c d : Held) (before after : Told) (given : List ℕ) → Taken a c before after given → 0 < length c.rest → slice_index c.rest 0 ≡ 10 → d ≡ record c { rest = drop 1 c.rest } → Taken a d before after (with_feed given)
+part_ends a c d before after given t some is same =
+    subst (λ (h : Held). Taken a h before after (with_feed given)) (sym same)
+    (record {
+      piece = t.piece;
+      pulled = t.pulled;
+      whole = t.whole ∙ ap (λ (w : List ℕ). given ++ w) (first_of_rest c.rest some is) ∙ sym (append_assoc given (10 ∷ []) (drop 1 c.rest));
+    })
+
+index_past : (xs ys : List ℕ) (n : ℕ) → length xs ≡ n → slice_index (xs ++ ys) n ≡ slice_index ys 0
+index_past [] ys zero e = refl
+index_past [] ys (suc n) e = absurd (omega (arith, e))
+index_past (x ∷ xs) ys zero e = absurd (omega (arith, e))
+index_past (x ∷ xs) ys (suc n) e = index_past xs ys n (omega (arith, e))
+
+not_equal : (b c : ℕ) → (b ≡ c → ⊥) → (b == c) ≡ false
+not_equal b c differ = by_test (b == c) refl
+  where
+    by_test : (t : Bool) → (b == c) ≡ t → t ≡ false
+    by_test false e = refl
+    by_test true e = absurd (differ (exact_unsigned_eq b c e))
+
+pub part_misses : (a c : Held) (before after : Told) (given : List ℕ) (len : ℕ) → Taken a c before after given → length given ≡ len → 0 < length c.rest → (slice_index c.rest 0 ≡ 10 → ⊥) → Misses a c before after len
+part_misses a c before after given len t is some differ = record {
+  piece = t.piece;
+  pulled = t.pulled;
+  more = omega (arith, ap length t.whole, length-append given c.rest, is, some);
+  other = ap (λ (w : List ℕ). slice_index w len == 10) t.whole ∙ ap (λ b. b == 10) (index_past given c.rest len is) ∙ not_equal (slice_index c.rest 0) 10 differ;
+}
+
+pub some_there : (near rest : List ℕ) → near ≡ rest → (length near == 0) ≡ false → 0 < length rest
+some_there [] rest same some = absurd cc
+some_there (x ∷ near) rest same some = omega (arith, ap length (sym same))
+
+-- ---- bytes from the window, and then from the reader
+
+vec_written : (d buffer tail : List ℕ) (held len : ℕ) → length d ≡ len → held ≤ len → length buffer ≡ len - held
+    → take len ((take held d ++ (buffer ++ drop (length d - held) (drop held d))) ++ tail) ≡ take held d ++ buffer
+vec_written d buffer tail held len full within is =
+    let none : drop (length d - held) (drop held d) ≡ [] = nil_from_length (drop (length d - held) (drop held d)) (omega (arith, length-drop (length d - held) (drop held d), length-drop held d)) in
+    let front : take held d ++ (buffer ++ drop (length d - held) (drop held d)) ≡ take held d ++ buffer = ap (λ (w : List ℕ). take held d ++ (buffer ++ w)) none ∙ ap (λ (w : List ℕ). take held d ++ w) (append-nil buffer) in
+    ap (λ (w : List ℕ). take len (w ++ tail)) front ∙ take_at (take held d ++ buffer) tail len (omega (arith, length-append (take held d) buffer, length-take held d, full, within, is))
+
+front_then : (rest buffer : List ℕ) (held len : ℕ) → held ≤ len → held ≤ length rest → (held < len → held ≡ length rest) → length buffer ≡ len - held → rest ++ buffer ≡ (take held rest ++ buffer) ++ drop held rest
+front_then rest buffer held len a b c is = elim (cases_lt held len) [
+  | inl less ↦
+      let all : take held rest ≡ rest = take_all held rest (omega (arith, c less)) in
+      let none : drop held rest ≡ [] = nil_from_length (drop held rest) (omega (arith, length-drop held rest, c less)) in
+      sym (append-nil (rest ++ buffer)) ∙ ap (λ (w : List ℕ). (w ++ buffer) ++ []) (sym all) ∙ ap (λ (w : List ℕ). (take held rest ++ buffer) ++ w) (sym none)
+  | inr from ↦
+      let none : buffer ≡ [] = nil_from_length buffer (omega (arith, is, from)) in
+      ap (λ (w : List ℕ). rest ++ w) none ∙ append-nil rest ∙ sym (take-append-drop held rest) ∙ ap (λ (w : List ℕ). w ++ drop held rest) (sym (append-nil (take held rest)) ∙ ap (λ (w : List ℕ). take held rest ++ w) (sym none))
+]
+
+-- the vector holds the front of what was held, and then what was read
+pub took_all : (old new : Held) (before after : Told) (d buffer tail : List ℕ) (held len count : ℕ) → length d ≡ len → held ≤ len → held ≤ length old.rest → (held < len → held ≡ length old.rest)
+    → take held d ≡ take held old.rest → length buffer ≡ len - held → count ≤ length buffer → len ≤ held + count → new.rest ≡ drop held old.rest → Pulled old.left new.left before after (take count buffer)
+    → Taken old new before after (take len ((take held d ++ (buffer ++ drop (length d - held) (drop held d))) ++ tail)) × (length (take len ((take held d ++ (buffer ++ drop (length d - held) (drop held d))) ++ tail)) ≡ len)
+took_all old new before after d buffer tail held len count full within near all same is fits enough rest pulled =
+    let written : take len ((take held d ++ (buffer ++ drop (length d - held) (drop held d))) ++ tail) ≡ take held old.rest ++ buffer = vec_written d buffer tail held len full within is ∙ ap (λ (w : List ℕ). w ++ buffer) same in
+    let whole : take count buffer ≡ buffer = take_all count buffer (omega (arith, is, enough)) in (
+      record {
+        piece = buffer;
+        pulled = subst (λ (w : List ℕ). Pulled old.left new.left before after w) whole pulled;
+        whole = front_then old.rest buffer held len within near all is ∙ ap (λ (w : List ℕ). (take held old.rest ++ buffer) ++ w) (sym rest) ∙ ap (λ (w : List ℕ). w ++ new.rest) (sym written);
+      },
+      ap length written ∙ omega (arith, length-append (take held old.rest) buffer, length-take held old.rest, is, within, near),
+    )
+
+-- the vector begins with the front of the window
+pub same_front : (d resized extended bytes slice near filler : List ℕ) (held len window : ℕ) → d ≡ resized → resized ≡ take len extended ++ filler → extended ≡ bytes ++ slice → bytes ≡ [] → slice ≡ take held near
+    → held ≤ len → held ≤ window → window ≤ 64 → length near ≡ 64 → take held d ≡ take held (take window near)
+same_front d resized extended bytes slice near filler held len window a b c none is within inside small full =
+    let front : extended ≡ take held near = c ∙ ap (λ (w : List ℕ). w ++ slice) none ∙ is in
+    let short : length (take held near) ≡ held = omega (arith, length-take held near, inside, small, full) in
+    let all : take len (take held near) ≡ take held near = take_all len (take held near) (omega (arith, short, within)) in
+    ap (take held) (a ∙ b ∙ ap (λ (w : List ℕ). take len w ++ filler) front ∙ ap (λ (w : List ℕ). w ++ filler) all)
+    ∙ take_at (take held near) filler held short
+    ∙ sym (take-take held window near inside)
+
+pub pulled_from : (a b c : ℕ) (before after : Told) (x : List ℕ) → a ≡ b → Pulled a c before after x → Pulled b c before after x
+pulled_from a b c before after x same p = subst (λ (n : ℕ). Pulled n c before after x) same p
+
+pub pulled_to : (a b c : ℕ) (before after : Told) (x : List ℕ) → b ≡ c → Pulled a b before after x → Pulled a c before after x
+pulled_to a b c before after x same p = subst (λ (n : ℕ). Pulled a n before after x) same p

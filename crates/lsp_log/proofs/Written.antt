@@ -1,0 +1,40 @@
+-- Puts one after another, and what they write of a record.
+use Rattle.std.proofs.Common.{◌≡◌, List, ℕ, ℤ, [], ◌∷◌, ◌++◌, length, Result, Ok, Err, sym, ap, subst, ◌∙◌, append_assoc, append-nil}
+use Rattle.std.specs.Prelude.{codes, decimal}
+use Rattle.std.specs.Fmt.{signed_decimal}
+use Rattle.lsp_rpc.specs.declared.plain.Side.{Side}
+use Rattle.lsp_frame.specs.Sink.{Told, Wrote, Stopped, Writes}
+use Rattle.lsp_frame.proofs.Writing.{wrote_then, stopped_then, stopped_before, stopped_first, stopped_second, stopped_third, writes_four, four}
+use Rattle.lsp_log.specs.Log.{spelling, letter, chunk, shown, head_line, shown_head, with_feed}
+
+pub writes_then : {X E : Type 0} (a b c : Told) (r : Result X E) (x y : List ℕ) → Wrote a b x → Writes b c r y → Writes a c r (x ++ y)
+writes_then a b c (Ok v) x y p q = wrote_then a b c x y p q
+writes_then a b c (Err e) x y p q = stopped_then a b c x y p q
+
+pub due_stops : (a b : Told) (x due : List ℕ) → due ≡ x → Stopped a b x → Stopped a b due
+due_stops a b x due e s = subst (λ (w : List ℕ). Stopped a b w) (sym e) s
+
+pub due_writes : {X E : Type 0} (a b : Told) (r : Result X E) (x due : List ℕ) → due ≡ x → Writes a b r x → Writes a b r due
+due_writes a b r x due e s = subst (λ (w : List ℕ). Writes a b r w) (sym e) s
+
+-- ---- three parts, one after another
+
+pub stopped_second_of : (a b c : Told) (x y z : List ℕ) → Wrote a b x → Stopped b c y → Stopped a c (x ++ (y ++ z))
+stopped_second_of a b c x y z p s = stopped_then a b c x (y ++ z) p (stopped_before b c y z s)
+
+pub writes_three : {X E : Type 0} (a b c d : Told) (r : Result X E) (x y z : List ℕ) → Wrote a b x → Wrote b c y → Writes c d r z → Writes a d r (x ++ (y ++ z))
+writes_three a b c d r x y z p q s = writes_then a b d r x (y ++ z) p (writes_then b c d r y z q s)
+
+-- ---- what is due
+
+pub chunk_parts : (side : Side) (bytes : List ℕ) → spelling (chunk side bytes) ≡ letter side ++ (with_feed (decimal (length bytes)) ++ with_feed bytes)
+chunk_parts side bytes =
+    ap (λ (w : List ℕ). with_feed (letter side ++ decimal (length bytes)) ++ w) (append-nil (with_feed bytes))
+    ∙ ap (λ (w : List ℕ). w ++ with_feed bytes) (append_assoc (letter side) (decimal (length bytes)) (10 ∷ []))
+    ∙ append_assoc (letter side) (with_feed (decimal (length bytes))) (with_feed bytes)
+
+pub shown_parts : (version : ℤ) (uri text : List ℕ) → spelling (shown version uri text) ≡ with_feed (head_line (shown_head version (length uri) (length text))) ++ (with_feed uri ++ with_feed text)
+shown_parts version uri text = ap (λ (w : List ℕ). with_feed (head_line (shown_head version (length uri) (length text))) ++ (with_feed uri ++ w)) (append-nil (with_feed text))
+
+pub head_words : (version : ℤ) (uri text : ℕ) → with_feed (head_line (shown_head version uri text)) ≡ four (codes "T ") (signed_decimal version ++ 32 ∷ []) (decimal uri ++ 32 ∷ []) (with_feed (decimal text))
+head_words version uri text = simp append_assoc

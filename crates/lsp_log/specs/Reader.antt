@@ -1,0 +1,116 @@
+-- What a reader of a log gives, and what it stands for.
+use Rattle.std.specs.Prelude.{◌≡◌, ◌⊎◌, ℕ, ◌+◌, ◌≤◌, List, [], ◌∷◌, ◌++◌, length, Option, Some, None, Result, Ok, Err}
+use Rattle.std.specs.Io.KnownBytes.{Consumes, IsAtEnd}
+use Rattle.std.specs.List.{flat_map, AllByRecursion}
+use Rattle.lsp_frame.specs.Bounds.{Bounds, IsInRange}
+use Rattle.lsp_frame.specs.Failures.{after_failure}
+use Rattle.lsp_frame.specs.Sink.{Told}
+use Rattle.lsp_log.specs.Log as log
+use Rattle.lsp_log.specs.Log.{Fits, spelling, first_line, BeginsLog, IsLog}
+use Rattle.lsp_log.specs.Tape.{Held}
+use Rattle.lsp_log.specs.Records.{record_view}
+use Rattle.lsp_log.specs.declared.record.Record.{Record}
+use Rattle.lsp_log.specs.declared.fault.LogFault.{LogFault}
+use Rattle.lsp_log.specs.declared.fault.LogFault.TheVariants.{Bad, Read, Memory}
+use Rattle.lsp_log.specs.declared.reader.Progress.{Progress}
+use Rattle.lsp_log.specs.declared.reader.Progress.TheVariants.{FirstLine, Records, Over}
+
+-- what a reader holds: its limits, the bytes that were read and not given, how far it is, and how many records it gave
+pub record State : Type 0 where
+  pub limits : Bounds
+  pub tape : Held
+  pub progress : Progress
+  pub given : ℕ
+
+-- a reader by which nothing was read
+abbrev pub empty : Bounds → State
+empty limits = record { limits = limits; tape = record { rest = []; left = limits.log }; progress = FirstLine; given = 0 }
+
+-- how many bytes may still be given
+abbrev pub ahead : State → ℕ
+ahead s = s.tape.left + length s.tape.rest
+
+-- ---- the answer that is kept
+
+abbrev pub answer_of : {X : Type 0} → Result X LogFault → Result (Option Record) LogFault
+answer_of (Ok x) = Ok None
+answer_of (Err fault) = Err fault
+
+-- the answer that a reader gives from now on, if any
+abbrev pub kept_in : Progress → Option (Result (Option Record) LogFault)
+kept_in (Over end) = Some (answer_of end)
+kept_in progress = None
+
+abbrev pub kept_by : State → Option (Result (Option Record) LogFault)
+kept_by s = kept_in s.progress
+
+-- every answer but a record is kept
+abbrev pub keeps_of : Result (Option Record) LogFault → Option (Result (Option Record) LogFault)
+keeps_of (Ok (Some r)) = None
+keeps_of answer = Some answer
+
+-- a kept answer is given again, and nothing is read or changed
+abbrev pub RepeatsKept : State → State → Told → Told → Result (Option Record) LogFault → Type 0
+RepeatsKept old new before after result = (answer : Result (Option Record) LogFault) → kept_by old ≡ Some answer → (new ≡ old) × (after ≡ before) × (result ≡ answer)
+
+-- ---- what a reader stands for
+
+-- the bytes are the first line, these records within the limits, and the rest, which was not yet given
+pub record Reads (s : State) (bytes : List ℕ) (records : List log.Record) : Type 0 where
+  pub whole : bytes ≡ (first_line ++ flat_map spelling records) ++ s.tape.rest
+  pub fits : AllByRecursion (Fits s.limits) records
+  pub left : s.tape.left + length bytes ≡ s.limits.log
+  pub given : s.given ≡ length records
+
+-- none of the bytes was given
+pub record ReadsNone (s : State) (bytes : List ℕ) (records : List log.Record) : Type 0 where
+  pub none : records ≡ []
+  pub whole : bytes ≡ s.tape.rest
+  pub left : s.tape.left + length bytes ≡ s.limits.log
+  pub given : s.given ≡ 0
+
+-- every log that begins with the bytes begins with these records
+abbrev pub Begins : Bounds → List ℕ → List log.Record → Type 0
+Begins limits bytes records = (records ≡ []) ⊎ ((more : List ℕ) → (rest : List ℕ) × BeginsLog limits (bytes ++ more) records rest)
+
+abbrev pub StandsAt : Progress → State → List ℕ → List log.Record → Type 0
+StandsAt FirstLine s bytes records = ReadsNone s bytes records
+StandsAt Records s bytes records = Reads s bytes records
+StandsAt (Over (Ok end)) s bytes records = IsLog s.limits bytes records None
+StandsAt (Over (Err (Bad number code))) s bytes records = IsLog s.limits bytes records (Some (number, code))
+StandsAt (Over (Err Read)) s bytes records = Begins s.limits bytes records
+StandsAt (Over (Err Memory)) s bytes records = Begins s.limits bytes records
+
+-- **A reader stands for the bytes that its readers gave and the records that it gave.**
+abbrev pub StandsFor : State → List ℕ → List log.Record → Type 0
+StandsFor s bytes records = IsInRange s.limits × StandsAt s.progress s bytes records
+
+-- ---- what the next call gives
+
+-- the records that were given, and the one that this answer gives
+abbrev pub records_with : List log.Record → Result (Option Record) LogFault → List log.Record
+records_with records (Ok (Some r)) = records ++ record_view r ∷ []
+records_with records answer = records
+
+-- where the reader's end was met, no bytes follow
+abbrev pub MayFollow : Told → List ℕ → Type 0
+MayFollow after more = IsAtEnd after.bytes → more ≡ []
+
+-- what an answer says of all the bytes that were read, of the records given, and of the reader
+abbrev pub Tells : State → Told → Told → List ℕ → List log.Record → Result (Option Record) LogFault → Type 0
+Tells new before after bytes records (Ok (Some r)) = (length new.tape.rest ≤ 64) × (after.failures ≡ before.failures)
+Tells new before after bytes records (Ok None) = IsAtEnd after.bytes × IsLog new.limits bytes records None × (after.failures ≡ before.failures)
+Tells new before after bytes records (Err (Bad number code)) = ((more : List ℕ) → MayFollow after more → IsLog new.limits (bytes ++ more) records (Some (number, code))) × (after.failures ≡ before.failures)
+Tells new before after bytes records (Err Read) = after.failures ≡ after_failure before.failures
+Tells new before after bytes records (Err Memory) = after.failures ≡ before.failures
+
+-- the bytes that the reader gave in the call, and what holds of them and of all that it gave before
+pub record Given (new : State) (before after : Told) (result : Result (Option Record) LogFault) (bytes : List ℕ) (records : List log.Record) : Type 0 where
+  pub piece : List ℕ
+  pub read : Consumes before.bytes after.bytes piece
+  pub within : length (bytes ++ piece) ≤ new.limits.log + 1
+  pub stands : StandsFor new (bytes ++ piece) (records_with records result)
+  pub tells : Tells new before after (bytes ++ piece) records result
+
+abbrev pub Gives : State → State → Told → Told → Result (Option Record) LogFault → Type 0
+Gives old new before after result = (bytes : List ℕ) (records : List log.Record) → StandsFor old bytes records → Given new before after result bytes records

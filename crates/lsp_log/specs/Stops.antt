@@ -1,0 +1,112 @@
+-- Why no record stands at the front of a tape, as the code says it.
+use Rattle.std.specs.Prelude.{◌≡◌, ℕ, ◌<◌, List, [], ◌∷◌, ◌++◌, length, Option, Some, None, Bool, true, false, Result, Ok, Err, IsUtf8, string_bytes, String, Vec}
+use Rattle.std.specs.List.{flat_map}
+use Rattle.std.specs.Global.{Global}
+use Rattle.lsp_frame.specs.Bounds.{Bounds}
+use Rattle.lsp_frame.specs.Sink.{Told}
+use Rattle.lsp_log.specs.Log as log
+use Rattle.lsp_log.specs.Log.{Flaw, bad_line, bad_number, cut_short, bad_end, not_utf8, EndsWith, Fits, spelling, parts_flaw, parts_of, lengths_of, with_feed, first_line, head_of, IsText}
+use Rattle.lsp_log.specs.Tape.{Held, Pulled, IsOver, ReadFailed, Refused, Taken}
+use Rattle.lsp_log.specs.Records.{record_view}
+use Rattle.lsp_log.specs.declared.head.HeadFault.{HeadFault}
+use Rattle.lsp_log.specs.declared.head.HeadFault.TheVariants as heads
+use Rattle.lsp_log.specs.declared.tape.PartFault.{PartFault}
+use Rattle.lsp_log.specs.declared.tape.PartFault.TheVariants as faults
+use Rattle.lsp_log.specs.declared.record.Record.{Record}
+use Rattle.lsp_log.specs.declared.stop.Stop.{Stop}
+use Rattle.lsp_log.specs.declared.stop.Stop.TheVariants.{FirstLine, Nothing, Form, Number, Short, End, Text, Read, Memory}
+
+abbrev pub IsHeadStop : HeadFault → Stop → Type 0
+IsHeadStop heads.Form stop = stop ≡ Form
+IsHeadStop heads.Number stop = stop ≡ Number
+
+abbrev pub IsPartStop : PartFault → Stop → Type 0
+IsPartStop faults.Short stop = stop ≡ Short
+IsPartStop faults.End stop = stop ≡ End
+IsPartStop faults.Read stop = stop ≡ Read
+IsPartStop faults.Memory stop = stop ≡ Memory
+
+abbrev pub TextAnswer : List ℕ → Result (String Global) Stop → Type 0
+TextAnswer bytes (Ok text) = string_bytes text ≡ bytes
+TextAnswer bytes (Err Text) = IsUtf8 bytes → ⊥
+TextAnswer bytes (Err stop) = ⊥
+
+-- the bytes don't begin with the first line, and where they are fewer than its 14, no more can be read
+pub record LacksFirst (old new : Held) (before after : Told) : Type 0 where
+  pub piece : List ℕ
+  pub pulled : Pulled old.left new.left before after piece
+  pub none : (rest : List ℕ) → old.rest ++ piece ≡ first_line ++ rest → ⊥
+  pub over : length (old.rest ++ piece) < 14 → IsOver new.left after
+
+abbrev pub FirstAnswer : {X : Type 0} → Held → Held → Told → Told → Result X Stop → Type 0
+FirstAnswer old new before after (Ok x) = Taken old new before after first_line
+FirstAnswer old new before after (Err FirstLine) = LacksFirst old new before after
+FirstAnswer old new before after (Err Read) = ReadFailed old.left before after
+FirstAnswer old new before after (Err stop) = ⊥
+
+-- the records end for want of bytes
+abbrev pub wants_bytes : Option Flaw → Bool
+wants_bytes None = true
+wants_bytes (Some cut_short) = true
+wants_bytes (Some flaw) = false
+
+-- this holds of the bytes read; where bytes are wanted, no more can be read
+pub record Ends (P : List ℕ → Option Flaw → Type 0) (old new : Held) (before after : Told) (flaw : Option Flaw) : Type 0 where
+  pub piece : List ℕ
+  pub pulled : Pulled old.left new.left before after piece
+  pub holds : P (old.rest ++ piece) flaw
+  pub over : wants_bytes flaw ≡ true → IsOver new.left after
+
+abbrev pub StopAnswer : (List ℕ → Option Flaw → Type 0) → Held → Held → Told → Told → Stop → Type 0
+StopAnswer P old new before after FirstLine = ⊥
+StopAnswer P old new before after Nothing = Ends P old new before after None
+StopAnswer P old new before after Form = Ends P old new before after (Some bad_line)
+StopAnswer P old new before after Number = Ends P old new before after (Some bad_number)
+StopAnswer P old new before after Short = Ends P old new before after (Some cut_short)
+StopAnswer P old new before after End = Ends P old new before after (Some bad_end)
+StopAnswer P old new before after Text = Ends P old new before after (Some not_utf8)
+StopAnswer P old new before after Read = ReadFailed old.left before after
+StopAnswer P old new before after Memory = Refused old.left before after
+
+-- parts of these lengths don't stand there
+abbrev pub PartsLack : List ℕ → List ℕ → Option Flaw → Type 0
+PartsLack lengths bytes (Some cut_short) = parts_flaw lengths bytes ≡ Some cut_short
+PartsLack lengths bytes (Some bad_end) = parts_flaw lengths bytes ≡ Some bad_end
+PartsLack lengths bytes flaw = ⊥
+
+-- two parts, one after the other
+pub record TwoParts (old new : Held) (before after : Told) (first second : ℕ) (front back : List ℕ) : Type 0 where
+  pub taken : Taken old new before after (with_feed front ++ with_feed back)
+  pub front_len : length front ≡ first
+  pub back_len : length back ≡ second
+
+abbrev pub TwoPartsAnswer : Held → Held → Told → Told → ℕ → ℕ → Result (Vec ℕ Global × Vec ℕ Global) PartFault → Type 0
+TwoPartsAnswer old new before after first second (Ok parts) = TwoParts old new before after first second (parts.0).items (parts.1).items
+TwoPartsAnswer old new before after first second (Err faults.Short) = Ends (PartsLack (first ∷ second ∷ [])) old new before after (Some cut_short)
+TwoPartsAnswer old new before after first second (Err faults.End) = Ends (PartsLack (first ∷ second ∷ [])) old new before after (Some bad_end)
+TwoPartsAnswer old new before after first second (Err faults.Read) = ReadFailed old.left before after
+TwoPartsAnswer old new before after first second (Err faults.Memory) = Refused old.left before after
+
+-- the parts behind a head are flawed
+abbrev pub PartsBreak : log.Head → List ℕ → Option Flaw → Type 0
+PartsBreak head bytes (Some not_utf8) = (r : log.Record) × (after : List ℕ) × (head_of r ≡ head) × (bytes ≡ flat_map with_feed (parts_of r) ++ after) × (IsText r → ⊥)
+PartsBreak head bytes flaw = PartsLack (lengths_of head) bytes flaw
+
+-- the parts of a record with this head
+pub record HasParts (old new : Held) (before after : Told) (head : log.Head) (r : log.Record) : Type 0 where
+  pub taken : Taken old new before after (flat_map with_feed (parts_of r))
+  pub heads : head_of r ≡ head
+  pub text : IsText r
+
+abbrev pub PartsAnswer : Held → Held → Told → Told → log.Head → Result Record Stop → Type 0
+PartsAnswer old new before after head (Ok r) = HasParts old new before after head (record_view r)
+PartsAnswer old new before after head (Err stop) = StopAnswer (PartsBreak head) old new before after stop
+
+pub record Found (limits : Bounds) (old new : Held) (before after : Told) (front : List ℕ) (r : log.Record) : Type 0 where
+  pub taken : Taken old new before after (front ++ spelling r)
+  pub fits : Fits limits r
+
+-- a record, or why there is none
+abbrev pub FoundAnswer : Bounds → Held → Held → Told → Told → Result Record Stop → Type 0
+FoundAnswer limits old new before after (Ok r) = Found limits old new before after [] (record_view r)
+FoundAnswer limits old new before after (Err stop) = StopAnswer (EndsWith limits) old new before after stop

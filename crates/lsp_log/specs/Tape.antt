@@ -1,0 +1,108 @@
+-- What a tape holds, and what it takes of its reader.
+use Rattle.std.specs.Prelude.{◌≡◌, ◌==◌, ◌⊎◌, ℕ, ◌+◌, ◌<◌, ◌≤◌, List, [], ◌∷◌, ◌++◌, length, take, drop, Option, Some, None, Bool, true, false, Result, Ok, Err, slice_index}
+use Rattle.std.specs.Io.KnownBytes.{Consumes, IsAtEnd, Keeps}
+use Rattle.std.specs.Prelude.{Vec}
+use Rattle.std.specs.Global.{Global}
+use Rattle.lsp_frame.specs.Failures.{after_failure}
+use Rattle.lsp_frame.specs.Sink.{Told}
+use Rattle.lsp_log.specs.Log.{HasLine, holds_feed, with_feed}
+use Rattle.lsp_log.specs.declared.tape.PartFault.{PartFault}
+use Rattle.lsp_log.specs.declared.tape.PartFault.TheVariants.{Short, End, Read, Memory}
+
+-- the bytes that were read and not given, and how many more may be read
+pub record Held : Type 0 where
+  pub rest : List ℕ
+  pub left : ℕ
+
+-- the reader gave these bytes, and didn't fail
+pub record Pulled (left_old left_new : ℕ) (before after : Told) (piece : List ℕ) : Type 0 where
+  pub read : Consumes before.bytes after.bytes piece
+  pub left : left_new + length piece ≡ left_old
+  pub failures : after.failures ≡ before.failures
+
+-- no more can be read: the reader is at its end, or all that may be read was
+abbrev pub IsOver : ℕ → Told → Type 0
+IsOver left after = 0 < left → IsAtEnd after.bytes
+
+-- the reader failed after it gave some bytes, no more than may be read
+pub record ReadFailed (left : ℕ) (before after : Told) : Type 0 where
+  pub piece : List ℕ
+  pub read : Consumes before.bytes after.bytes piece
+  pub within : length piece ≤ left
+  pub failures : after.failures ≡ after_failure before.failures
+
+abbrev pub PullAnswer : {E : Type 0} → ℕ → ℕ → Told → Told → List ℕ → Result ℕ E → Type 0
+PullAnswer left_old left_new before after buffer (Ok n) = Pulled left_old left_new before after (take n buffer) × (n ≡ 0 → 0 < length buffer → IsOver left_new after)
+PullAnswer left_old left_new before after buffer (Err e) = Keeps before.bytes after.bytes × (after.failures ≡ after_failure before.failures)
+
+-- the tape reads some bytes behind those that it holds
+pub record Filled (old new : Held) (before after : Told) (piece : List ℕ) : Type 0 where
+  pub pulled : Pulled old.left new.left before after piece
+  pub rest : new.rest ≡ old.rest ++ piece
+
+abbrev pub FillAnswer : {E : Type 0} → Held → Held → Told → Told → Result ℕ E → Type 0
+FillAnswer old new before after (Ok n) = (piece : List ℕ) × Filled old new before after piece × (length piece ≡ n) × (n ≡ 0 → length old.rest < 64 → IsOver new.left after)
+FillAnswer old new before after (Err e) = ReadFailed old.left before after
+
+abbrev pub ReachAnswer : {E X : Type 0} → Held → Held → Told → Told → ℕ → Result X E → Type 0
+ReachAnswer old new before after count (Ok x) = (piece : List ℕ) × Filled old new before after piece × (length new.rest < count → IsOver new.left after)
+ReachAnswer old new before after count (Err e) = ReadFailed old.left before after
+
+abbrev pub LineAnswer : {E : Type 0} → Held → Held → Told → Told → Result (Option ℕ) E → Type 0
+LineAnswer old new before after (Ok (Some at)) = (piece : List ℕ) × Filled old new before after piece × (at < length new.rest) × HasLine new.rest (take at new.rest) (drop (at + 1) new.rest)
+LineAnswer old new before after (Ok None) = (piece : List ℕ) × Filled old new before after piece × (holds_feed new.rest ≡ false) × (length new.rest < 64 → IsOver new.left after)
+LineAnswer old new before after (Err e) = ReadFailed old.left before after
+
+abbrev pub BufferAnswer : {E : Type 0} → ℕ → ℕ → Told → Told → List ℕ → Result ℕ E → Type 0
+BufferAnswer left_old left_new before after buffer (Ok n) = Pulled left_old left_new before after (take n buffer) × (n < length buffer → IsOver left_new after)
+BufferAnswer left_old left_new before after buffer (Err e) = ReadFailed left_old before after
+
+-- the bytes held and those read are these, and what the tape holds now
+pub record Taken (old new : Held) (before after : Told) (given : List ℕ) : Type 0 where
+  pub piece : List ℕ
+  pub pulled : Pulled old.left new.left before after piece
+  pub whole : old.rest ++ piece ≡ given ++ new.rest
+
+-- so many bytes are wanted, and there are less
+pub record Wants (old new : Held) (before after : Told) (len : ℕ) : Type 0 where
+  pub piece : List ℕ
+  pub pulled : Pulled old.left new.left before after piece
+  pub less : length (old.rest ++ piece) ≤ len
+  pub over : IsOver new.left after
+
+-- no LF stands at that place
+pub record Misses (old new : Held) (before after : Told) (len : ℕ) : Type 0 where
+  pub piece : List ℕ
+  pub pulled : Pulled old.left new.left before after piece
+  pub more : len < length (old.rest ++ piece)
+  pub other : (slice_index (old.rest ++ piece) len == 10) ≡ false
+
+-- memory was refused after the reader gave some bytes
+pub record Refused (left : ℕ) (before after : Told) : Type 0 where
+  pub piece : List ℕ
+  pub read : Consumes before.bytes after.bytes piece
+  pub within : length piece ≤ left
+  pub failures : after.failures ≡ before.failures
+
+abbrev pub TakeAnswer : Held → Held → Told → Told → ℕ → Result (Vec ℕ Global) PartFault → Type 0
+TakeAnswer old new before after len (Ok bytes) = Taken old new before after bytes.items × (length bytes.items ≡ len)
+TakeAnswer old new before after len (Err Short) = Wants old new before after len
+TakeAnswer old new before after len (Err End) = ⊥
+TakeAnswer old new before after len (Err Read) = ReadFailed old.left before after
+TakeAnswer old new before after len (Err Memory) = Refused old.left before after
+
+abbrev pub PartAnswer : Held → Held → Told → Told → ℕ → Result (Vec ℕ Global) PartFault → Type 0
+PartAnswer old new before after len (Ok bytes) = Taken old new before after (with_feed bytes.items) × (length bytes.items ≡ len)
+PartAnswer old new before after len (Err Short) = Wants old new before after len
+PartAnswer old new before after len (Err End) = Misses old new before after len
+PartAnswer old new before after len (Err Read) = ReadFailed old.left before after
+PartAnswer old new before after len (Err Memory) = Refused old.left before after
+
+-- one byte past all that may be read was there; or nothing was read, and where nothing more may be read the reader is at its end
+abbrev pub IsCutAt : ℕ → Told → Told → Bool → Type 0
+IsCutAt left before after true = (left ≡ 0) × (byte : ℕ) × Consumes before.bytes after.bytes (byte ∷ []) × (after.failures ≡ before.failures)
+IsCutAt left before after false = Consumes before.bytes after.bytes [] × (IsOver left before → IsAtEnd after.bytes) × (after.failures ≡ before.failures)
+
+abbrev pub CutAnswer : {E : Type 0} → ℕ → Told → Told → Result Bool E → Type 0
+CutAnswer left before after (Ok cut) = IsCutAt left before after cut
+CutAnswer left before after (Err e) = (left ≡ 0) × ReadFailed 0 before after

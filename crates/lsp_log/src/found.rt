@@ -1,0 +1,129 @@
+//! The record at the front of a tape.
+ghost use Rattle.std.specs.Prelude.{◌≤◌, length};
+ghost use Rattle.lsp_log.specs.Log.{shown_head};
+ghost use Rattle.lsp_log.specs.Stops.{TextAnswer, FirstAnswer, TwoPartsAnswer, PartsAnswer, FoundAnswer};
+ghost use Rattle.lsp_log.specs.Words.{head_view};
+
+use crate::head::{Head, read_head};
+use crate::record::Record;
+use crate::stop::Stop;
+use crate::tape::{PartFault, Tape, WINDOW};
+use lsp_frame::{Limits, Source};
+use std::alloc::Global;
+
+/// The first line of a log.
+pub const FIRST_LINE: &[u8] = b"lsp-session 1\n";
+
+/// The text of the bytes.
+fn text_of(bytes: Vec<u8>) -> Result<String, Stop>
+    ensures { TextAnswer bytes.items result }
+{
+    match String::from_utf8(bytes) {
+        Ok(text) => Ok(text),
+        Err(_) => Err(Stop::Text),
+    }
+}
+
+/// Goes past the first line.
+pub fn first_line<R: Source>(tape: &mut Tape, reader: &mut R) -> Result<(), Stop>
+    ensures { FirstAnswer tape.old tape.new
+        (record { bytes = R.remaining reader.old; failures = R.failures reader.old })
+        (record { bytes = R.remaining reader.new; failures = R.failures reader.new })
+        result }
+{
+    tape.reach(reader, FIRST_LINE.len())?;
+    if !tape.near().starts_with(FIRST_LINE) {
+        return Err(Stop::FirstLine);
+    }
+    tape.skip(FIRST_LINE.len());
+    Ok(())
+}
+
+/// Takes two parts of these lengths, one after the other.
+fn two_parts<R: Source>(
+    alloc: Global,
+    tape: &mut Tape,
+    reader: &mut R,
+    first: usize,
+    second: usize,
+) -> Result<(Vec<u8>, Vec<u8>), PartFault>
+    ensures short { length tape.new.rest ≤ 64 }
+    ensures answer { TwoPartsAnswer tape.old tape.new
+        (record { bytes = R.remaining reader.old; failures = R.failures reader.old })
+        (record { bytes = R.remaining reader.new; failures = R.failures reader.new })
+        first second result }
+{
+    let front = tape.part(alloc, reader, first)?;
+    let back = tape.part(alloc, reader, second)?;
+    Ok((front, back))
+}
+
+/// The snapshot of this version, whose URI and text have these lengths.
+fn snapshot<R: Source>(
+    alloc: Global,
+    tape: &mut Tape,
+    reader: &mut R,
+    version: i32,
+    uri: u64,
+    text: u64,
+) -> Result<Record, Stop>
+    ensures short { length tape.new.rest ≤ 64 }
+    ensures answer { PartsAnswer tape.old tape.new
+        (record { bytes = R.remaining reader.old; failures = R.failures reader.old })
+        (record { bytes = R.remaining reader.new; failures = R.failures reader.new })
+        (shown_head version uri text) result }
+{
+    let (uri, text) = two_parts(alloc, tape, reader, uri as usize, text as usize)?;
+    let uri = text_of(uri)?;
+    let text = text_of(text)?;
+    Ok(Record::Snapshot { version, uri, text })
+}
+
+/// The record behind its first line.
+fn parts<R: Source>(
+    alloc: Global,
+    tape: &mut Tape,
+    reader: &mut R,
+    head: Head,
+) -> Result<Record, Stop>
+    ensures short { length tape.new.rest ≤ 64 }
+    ensures answer { PartsAnswer tape.old tape.new
+        (record { bytes = R.remaining reader.old; failures = R.failures reader.old })
+        (record { bytes = R.remaining reader.new; failures = R.failures reader.new })
+        (head_view head) result }
+{
+    match head {
+        Head::Bytes { side, len } => {
+            let bytes = tape.part(alloc, reader, len as usize)?;
+            Ok(Record::Bytes { side, bytes })
+        }
+        Head::Snapshot { version, uri, text } => {
+            snapshot(alloc, tape, reader, version, uri, text)
+        }
+    }
+}
+
+/// The next record.
+pub fn record<R: Source>(
+    alloc: Global,
+    limits: &Limits,
+    tape: &mut Tape,
+    reader: &mut R,
+) -> Result<Record, Stop>
+    ensures short { length tape.new.rest ≤ 64 }
+    ensures answer { FoundAnswer limits.now tape.old tape.new
+        (record { bytes = R.remaining reader.old; failures = R.failures reader.old })
+        (record { bytes = R.remaining reader.new; failures = R.failures reader.new })
+        result }
+{
+    let Some(end) = tape.line(reader)? else {
+        return match tape.near().len() {
+            0 => Err(Stop::Nothing),
+            WINDOW => Err(Stop::Form),
+            _ => Err(Stop::Short),
+        };
+    };
+    let head = read_head(limits, &tape.near()[..end])?;
+    tape.skip(end + 1);
+    parts(alloc, tape, reader, head)
+}

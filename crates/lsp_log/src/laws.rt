@@ -1,0 +1,17 @@
+//! Laws of logs, each the contract of a function that does nothing.
+ghost use Rattle.lsp_log.specs.Laws.{OneLog, RecordsComeFirst, WrittenIsRead};
+
+/// Bytes are the log of one list of records, with one fault or none.
+pub fn one_log()
+    ensures { OneLog }
+{}
+
+/// Records that a log begins with are the first of its records, whatever stands behind them.
+pub fn records_come_first()
+    ensures { RecordsComeFirst }
+{}
+
+/// The first line and the spellings of records within the limits are the log of these records.
+pub fn written_is_read()
+    ensures { WrittenIsRead }
+{}

@@ -1,0 +1,162 @@
+//! Reads a log record by record.
+ghost use Rattle.std.specs.Prelude.{◌≡◌, ◌<◌, [], None, IfOk, IfSome};
+ghost use Rattle.lsp_log.specs.Reader.{empty, ahead, kept_by, keeps_of, RepeatsKept, Gives, StandsFor, answer_of};
+ghost use Rattle.lsp_log.specs.Ending.{FindAnswer, EndAnswer, fault_of};
+
+use crate::fault::{LogCode, LogFault};
+use crate::found::{first_line, record};
+use crate::record::Record;
+use crate::stop::Stop;
+use crate::tape::Tape;
+use lsp_frame::{Limits, Source};
+use std::alloc::Global;
+use std::marker::Model;
+
+/// How far a log was read.
+#[derive(Clone, Copy)]
+pub enum Progress {
+    FirstLine,
+    Records,
+    /// The answer that is given from now on.
+    Over(Result<(), LogFault>),
+}
+
+/// Gives the records of a log one after another.
+///
+/// It asks its reader for no more than it needs, and for at most 64 bytes past the record that
+/// it gives. Of a log that is over its limit it reads one byte past the limit.
+#[derive(Drop)]
+pub struct LogReader {
+    alloc: Global,
+    limits: Limits,
+    tape: Tape,
+    progress: Progress,
+    given: u64,
+}
+
+impl Model for LogReader {
+    ghost use Rattle.lsp_log.specs.Reader.{State};
+
+    ghost Value = { State };
+
+    ghost view = { λ a. record { limits = a.limits; tape = a.tape; progress = a.progress; given = a.given } };
+}
+
+impl LogReader {
+    /// A reader by which nothing was read.
+    pub fn new(alloc: Global, limits: Limits) -> LogReader
+        ensures value { result ≡ empty limits }
+        ensures stands { StandsFor result [] [] }
+    {
+        let left = limits.log();
+        LogReader {
+            alloc,
+            limits,
+            tape: Tape::new(left),
+            progress: Progress::FirstLine,
+            given: 0,
+        }
+    }
+
+    /// The next record, or None where the log ends without a fault.
+    ///
+    /// An answer that is no record is kept: it is given from then on, and nothing more is read.
+    pub fn next<R: Source>(&mut self, reader: &mut R) -> Result<Option<Record>, LogFault>
+        ensures limits { self.new.limits ≡ self.old.limits }
+        ensures less { IfOk result (λ answer. IfSome answer (λ _. ahead self.new < ahead self.old)) }
+        ensures keeps { kept_by self.new ≡ keeps_of result }
+        ensures kept { RepeatsKept self.old self.new
+            (record { bytes = R.remaining reader.old; failures = R.failures reader.old })
+            (record { bytes = R.remaining reader.new; failures = R.failures reader.new })
+            result }
+        ensures gives { kept_by self.old ≡ None → Gives self.old self.new
+            (record { bytes = R.remaining reader.old; failures = R.failures reader.old })
+            (record { bytes = R.remaining reader.new; failures = R.failures reader.new })
+            result }
+    {
+        if let Progress::Over(end) = self.progress {
+            return none_of(end);
+        }
+        match self.find(reader) {
+            Ok(record) => {
+                self.given = self.given.saturating_add(1);
+                Ok(Some(record))
+            }
+            Err(stop) => {
+                let end = self.end(reader, stop);
+                self.progress = Progress::Over(end);
+                none_of(end)
+            }
+        }
+    }
+
+    /// The next record.
+    fn find<R: Source>(&mut self, reader: &mut R) -> Result<Record, Stop>
+        requires { kept_by self.old ≡ None }
+        ensures limits { self.new.limits ≡ self.old.limits }
+        ensures given { self.new.given ≡ self.old.given }
+        ensures answer { FindAnswer self.old self.new
+            (record { bytes = R.remaining reader.old; failures = R.failures reader.old })
+            (record { bytes = R.remaining reader.new; failures = R.failures reader.new })
+            result }
+    {
+        if let Progress::FirstLine = self.progress {
+            first_line(&mut self.tape, reader)?;
+            self.progress = Progress::Records;
+        }
+        record(self.alloc, &self.limits, &mut self.tape, reader)
+    }
+
+    /// What is answered for good, where no record was found.
+    fn end<R: Source>(&self, reader: &mut R, stop: Stop) -> Result<(), LogFault>
+        ensures { EndAnswer self.now
+            (record { bytes = R.remaining reader.old; failures = R.failures reader.old })
+            (record { bytes = R.remaining reader.new; failures = R.failures reader.new })
+            stop result }
+    {
+        match stop {
+            Stop::Nothing | Stop::Short => match self.tape.is_cut(reader) {
+                Ok(cut) => fault_of(self.given, cut, stop),
+                Err(_) => Err(LogFault::Read),
+            },
+            _ => fault_of(self.given, false, stop),
+        }
+    }
+}
+
+/// The answer that ends a log behind so many records. Where the log goes on past its limit, that
+/// stands for bytes that are missing.
+fn fault_of(given: u64, is_cut: bool, stop: Stop) -> Result<(), LogFault>
+    ensures { result ≡ fault_of given is_cut stop }
+{
+    let code = match stop {
+        Stop::FirstLine => {
+            return Err(LogFault::Bad {
+                number: 0,
+                code: LogCode::L1,
+            });
+        }
+        Stop::Nothing | Stop::Short if is_cut => LogCode::L6,
+        Stop::Nothing => return Ok(()),
+        Stop::Form => LogCode::L2,
+        Stop::Number => LogCode::L3,
+        Stop::Short | Stop::End => LogCode::L4,
+        Stop::Text => LogCode::L5,
+        Stop::Read => return Err(LogFault::Read),
+        Stop::Memory => return Err(LogFault::Memory),
+    };
+    Err(LogFault::Bad {
+        number: given.saturating_add(1),
+        code,
+    })
+}
+
+/// The answer that gives no record.
+fn none_of(end: Result<(), LogFault>) -> Result<Option<Record>, LogFault>
+    ensures { result ≡ answer_of end }
+{
+    match end {
+        Ok(()) => Ok(None),
+        Err(fault) => Err(fault),
+    }
+}

@@ -1,0 +1,254 @@
+//! The bytes of a reader, a few of them looked at before they are given.
+ghost use Rattle.std.specs.Prelude.{◌≡◌, ◌≤◌, length, drop, IfOk, []};
+ghost use Rattle.lsp_log.specs.Tape.{PullAnswer, BufferAnswer, FillAnswer, ReachAnswer, LineAnswer, TakeAnswer, PartAnswer, CutAnswer};
+
+use lsp_frame::{Failed, Source};
+use memchr::memchr;
+use std::alloc::{AllocError, Global};
+use std::marker::Model;
+
+/// How many bytes are looked at before they are given.
+pub const WINDOW: usize = 64;
+
+/// Why no part stands where one is due.
+#[derive(Clone, Copy)]
+pub enum PartFault {
+    Short,
+    End,
+    Read,
+    Memory,
+}
+
+impl From<AllocError> for PartFault {
+    ghost use Rattle.std.specs.Prelude.{◌≡◌};
+    ghost use Rattle.lsp_log.specs.declared.tape.PartFault.TheVariants.{Memory};
+
+    ghost from_gives = { λ _ fault. fault ≡ Memory };
+
+    fn from(_error: AllocError) -> PartFault {
+        PartFault::Memory
+    }
+}
+
+impl From<Failed> for PartFault {
+    ghost use Rattle.std.specs.Prelude.{◌≡◌};
+    ghost use Rattle.lsp_log.specs.declared.tape.PartFault.TheVariants.{Read};
+
+    ghost from_gives = { λ _ fault. fault ≡ Read };
+
+    fn from(_failed: Failed) -> PartFault {
+        PartFault::Read
+    }
+}
+
+/// The bytes that were read and not given, at most a window of them.
+#[derive(Drop)]
+pub struct Tape {
+    near: [u8; WINDOW],
+    len: usize,
+    /// How many bytes more may be read.
+    left: u64,
+}
+
+impl Model for Tape {
+    ghost use Rattle.std.specs.Prelude.{◌≤◌, take};
+    ghost use Rattle.lsp_log.specs.Tape.{Held};
+
+    ghost Value = { Held };
+
+    ghost view = { λ a. record { rest = take a.len a.near; left = a.left } };
+
+    ghost invariant = { λ a. a.len ≤ 64 };
+}
+
+/// Reads into the front of the buffer, and counts what was read.
+fn pull_within<R: Source>(
+    reader: &mut R,
+    left: &mut u64,
+    buffer: &mut [u8],
+) -> Result<usize, Failed>
+    ensures len { length buffer.new ≡ length buffer.old }
+    ensures count { IfOk result (λ n. n ≤ length buffer.new) }
+    ensures bytes { PullAnswer left.old left.new
+        (record { bytes = R.remaining reader.old; failures = R.failures reader.old })
+        (record { bytes = R.remaining reader.new; failures = R.failures reader.new })
+        buffer.new result }
+{
+    let most = (*left).min(buffer.len() as u64) as usize;
+    if most == 0 {
+        return Ok(0);
+    }
+    let count = reader.pull(&mut buffer[..most])?;
+    *left -= count as u64;
+    Ok(count)
+}
+
+/// Reads until the buffer is full or no more can be read, and gives the number of bytes.
+fn fill_buffer<R: Source>(
+    reader: &mut R,
+    left: &mut u64,
+    buffer: &mut [u8],
+) -> Result<usize, Failed>
+    ensures len { length buffer.new ≡ length buffer.old }
+    ensures count { IfOk result (λ n. n ≤ length buffer.new) }
+    ensures bytes { BufferAnswer left.old left.new
+        (record { bytes = R.remaining reader.old; failures = R.failures reader.old })
+        (record { bytes = R.remaining reader.new; failures = R.failures reader.new })
+        buffer.new result }
+{
+    let mut filled = 0;
+    while filled < buffer.len() {
+        let count = pull_within(reader, left, &mut buffer[filled..])?;
+        if count == 0 {
+            return Ok(filled);
+        }
+        filled += count;
+    }
+    Ok(filled)
+}
+
+impl Tape {
+    /// A tape of which nothing was read.
+    pub fn new(left: u64) -> Tape
+        ensures { result ≡ record { rest = []; left = left } }
+    {
+        Tape {
+            near: [0; WINDOW],
+            len: 0,
+            left,
+        }
+    }
+
+    /// The bytes that were read and not given.
+    pub fn near(&self) -> &[u8]
+        ensures value { result.now ≡ self.now.rest }
+        ensures short { length result.now ≤ 64 }
+    {
+        &self.near[..self.len]
+    }
+
+    /// Gives bytes that were read.
+    pub fn skip(&mut self, count: usize)
+        requires { count ≤ length self.old.rest }
+        ensures { self.new ≡ record self.old { rest = drop count self.old.rest } }
+    {
+        self.near.rotate_left(count);
+        self.len -= count;
+    }
+
+    /// Reads more into the window.
+    fn fill<R: Source>(&mut self, reader: &mut R) -> Result<usize, Failed>
+        ensures short { length self.new.rest ≤ 64 }
+        ensures answer { FillAnswer self.old self.new
+            (record { bytes = R.remaining reader.old; failures = R.failures reader.old })
+            (record { bytes = R.remaining reader.new; failures = R.failures reader.new })
+            result }
+    {
+        let count = pull_within(reader, &mut self.left, &mut self.near[self.len..])?;
+        self.len += count;
+        Ok(count)
+    }
+
+    /// Reads until this many bytes are in the window, or no more can be read.
+    pub fn reach<R: Source>(&mut self, reader: &mut R, count: usize) -> Result<(), Failed>
+        requires { count ≤ 64 }
+        ensures short { length self.new.rest ≤ 64 }
+        ensures answer { ReachAnswer self.old self.new
+            (record { bytes = R.remaining reader.old; failures = R.failures reader.old })
+            (record { bytes = R.remaining reader.new; failures = R.failures reader.new })
+            count result }
+    {
+        while self.len < count {
+            if self.fill(reader)? == 0 {
+                return Ok(());
+            }
+        }
+        Ok(())
+    }
+
+    /// Reads until a line end is in the window, and gives its place.
+    pub fn line<R: Source>(&mut self, reader: &mut R) -> Result<Option<usize>, Failed>
+        ensures short { length self.new.rest ≤ 64 }
+        ensures answer { LineAnswer self.old self.new
+            (record { bytes = R.remaining reader.old; failures = R.failures reader.old })
+            (record { bytes = R.remaining reader.new; failures = R.failures reader.new })
+            result }
+    {
+        loop {
+            if let Some(end) = memchr(b'\n', self.near()) {
+                return Ok(Some(end));
+            }
+            if self.len == WINDOW {
+                return Ok(None);
+            }
+            if self.fill(reader)? == 0 {
+                return Ok(None);
+            }
+        }
+    }
+
+    /// Takes this many bytes: those in the window, then what is read.
+    fn take<R: Source>(
+        &mut self,
+        alloc: Global,
+        reader: &mut R,
+        len: usize,
+    ) -> Result<Vec<u8>, PartFault>
+        ensures short { length self.new.rest ≤ 64 }
+        ensures answer { TakeAnswer self.old self.new
+            (record { bytes = R.remaining reader.old; failures = R.failures reader.old })
+            (record { bytes = R.remaining reader.new; failures = R.failures reader.new })
+            len result }
+    {
+        let held = self.len.min(len);
+        let mut bytes = Vec::with_capacity(alloc, len)?;
+        bytes.extend_from_slice(&self.near[..held])?;
+        bytes.resize(len, 0)?;
+        self.skip(held);
+        let count = fill_buffer(reader, &mut self.left, &mut bytes[held..])?;
+        if held + count < len {
+            return Err(PartFault::Short);
+        }
+        Ok(bytes)
+    }
+
+    /// Takes this many bytes and the line end behind them.
+    pub fn part<R: Source>(
+        &mut self,
+        alloc: Global,
+        reader: &mut R,
+        len: usize,
+    ) -> Result<Vec<u8>, PartFault>
+        ensures short { length self.new.rest ≤ 64 }
+        ensures answer { PartAnswer self.old self.new
+            (record { bytes = R.remaining reader.old; failures = R.failures reader.old })
+            (record { bytes = R.remaining reader.new; failures = R.failures reader.new })
+            len result }
+    {
+        let bytes = self.take(alloc, reader, len)?;
+        self.reach(reader, 1)?;
+        let near = self.near();
+        if near.is_empty() {
+            return Err(PartFault::Short);
+        }
+        if near[0] != b'\n' {
+            return Err(PartFault::End);
+        }
+        self.skip(1);
+        Ok(bytes)
+    }
+
+    /// Whether a byte stands behind all that may be read. It reads that byte, where no other may be read.
+    pub fn is_cut<R: Source>(&self, reader: &mut R) -> Result<bool, Failed>
+        ensures { CutAnswer self.now.left
+            (record { bytes = R.remaining reader.old; failures = R.failures reader.old })
+            (record { bytes = R.remaining reader.new; failures = R.failures reader.new })
+            result }
+    {
+        if self.left > 0 {
+            return Ok(false);
+        }
+        let mut next = [0];
+        Ok(reader.pull(&mut next)? > 0)
+    }
+}

@@ -1,0 +1,108 @@
+//! Writes a log.
+ghost use Rattle.std.specs.Prelude.{◌≡◌, ◌++◌, ◌∷◌, []};
+ghost use Rattle.lsp_frame.specs.Bounds.{profile};
+ghost use Rattle.lsp_frame.specs.Sink.{Writes};
+ghost use Rattle.lsp_log.specs.Log.{first_line, spelling, letter, chunk, shown, head_line, shown_head, Fits, with_feed};
+ghost use Rattle.lsp_log.specs.Records.{record_view};
+
+use crate::found::FIRST_LINE;
+use crate::record::Record;
+use itoa::Buffer;
+use lsp_frame::{Sink, WriteFault, put_all};
+use lsp_rpc::Side;
+
+/// Writes the first line of a log. After a fault a prefix of it is written.
+pub fn write_head<W: Sink>(writer: &mut W) -> Result<(), WriteFault>
+    ensures { Writes (record { bytes = W.taken writer.old; failures = W.failures writer.old })
+        (record { bytes = W.taken writer.new; failures = W.failures writer.new })
+        result first_line }
+{
+    put_all(writer, FIRST_LINE)
+}
+
+/// Writes a record, in the one spelling that a log has for it. After a fault a prefix of that is
+/// written.
+pub fn write_record<W: Sink>(writer: &mut W, entry: &Record) -> Result<(), WriteFault>
+    requires { Fits profile (record_view entry.now) }
+    ensures { Writes (record { bytes = W.taken writer.old; failures = W.failures writer.old })
+        (record { bytes = W.taken writer.new; failures = W.failures writer.new })
+        result (spelling (record_view entry.now)) }
+{
+    match entry {
+        Record::Bytes { side, bytes } => put_chunk(writer, *side, bytes),
+        Record::Snapshot { version, uri, text } => put_snapshot(writer, *version, uri, text),
+    }
+}
+
+fn letter(side: Side) -> &'static [u8]
+    ensures { result.now ≡ letter side }
+{
+    match side {
+        Side::Editor => b"E ",
+        Side::Server => b"S ",
+    }
+}
+
+/// Writes a record of bytes.
+fn put_chunk<W: Sink>(writer: &mut W, side: Side, bytes: &[u8]) -> Result<(), WriteFault>
+    ensures { Writes (record { bytes = W.taken writer.old; failures = W.failures writer.old })
+        (record { bytes = W.taken writer.new; failures = W.failures writer.new })
+        result (spelling (chunk side bytes.now)) }
+{
+    put_all(writer, letter(side))?;
+    put_line(writer, Buffer::new().format(bytes.len()).as_bytes())?;
+    put_line(writer, bytes)
+}
+
+/// Writes a snapshot.
+fn put_snapshot<W: Sink>(
+    writer: &mut W,
+    version: i32,
+    uri: &str,
+    text: &str,
+) -> Result<(), WriteFault>
+    ensures { Writes (record { bytes = W.taken writer.old; failures = W.failures writer.old })
+        (record { bytes = W.taken writer.new; failures = W.failures writer.new })
+        result (spelling (shown version uri.now text.now)) }
+{
+    put_snapshot_head(writer, version, uri.len(), text.len())?;
+    put_line(writer, uri.as_bytes())?;
+    put_line(writer, text.as_bytes())
+}
+
+/// Writes the first line of a snapshot whose URI and text have these lengths.
+fn put_snapshot_head<W: Sink>(
+    writer: &mut W,
+    version: i32,
+    uri: usize,
+    text: usize,
+) -> Result<(), WriteFault>
+    ensures { Writes (record { bytes = W.taken writer.old; failures = W.failures writer.old })
+        (record { bytes = W.taken writer.new; failures = W.failures writer.new })
+        result (with_feed (head_line (shown_head version uri text))) }
+{
+    put_all(writer, b"T ")?;
+    put_word(writer, Buffer::new().format(version).as_bytes())?;
+    put_word(writer, Buffer::new().format(uri).as_bytes())?;
+    put_line(writer, Buffer::new().format(text).as_bytes())
+}
+
+/// Writes the bytes and a space.
+fn put_word<W: Sink>(writer: &mut W, bytes: &[u8]) -> Result<(), WriteFault>
+    ensures { Writes (record { bytes = W.taken writer.old; failures = W.failures writer.old })
+        (record { bytes = W.taken writer.new; failures = W.failures writer.new })
+        result (bytes.now ++ 32 ∷ []) }
+{
+    put_all(writer, bytes)?;
+    put_all(writer, b" ")
+}
+
+/// Writes the bytes and a line end.
+fn put_line<W: Sink>(writer: &mut W, bytes: &[u8]) -> Result<(), WriteFault>
+    ensures { Writes (record { bytes = W.taken writer.old; failures = W.failures writer.old })
+        (record { bytes = W.taken writer.new; failures = W.failures writer.new })
+        result (with_feed bytes.now) }
+{
+    put_all(writer, bytes)?;
+    put_all(writer, b"\n")
+}

@@ -1,0 +1,11 @@
+pub mod Ident
+pub mod Message
+pub mod Shape
+pub mod Reading
+pub mod Words
+pub mod Act
+pub mod Params
+pub mod Results
+pub mod View
+pub mod Fault
+pub mod Laws

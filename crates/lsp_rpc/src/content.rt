@@ -1,0 +1,218 @@
+// From the bytes of a content to its message.
+ghost use Rattle.std.specs.Prelude.{◌≡◌, ◌&&◌, ◌∷◌, [], Some, None, true, codes, IfOk, OnOk, IfErr, not, option_map, option_and_then, string_bytes, is_some};
+ghost use Rattle.serde_json.specs.Data.{string};
+ghost use Rattle.serde_json.specs.View.{view};
+ghost use Rattle.lsp_rpc.specs.Ident.{id_view};
+ghost use Rattle.lsp_rpc.specs.Message.{response};
+ghost use Rattle.lsp_rpc.specs.View.{message_view, answer_view, parts_view};
+ghost use Rattle.lsp_rpc.specs.Shape as shape;
+ghost use Rattle.lsp_rpc.specs.Shape.{as_id, is_id, unless_null, holds_unless_absent};
+ghost use Rattle.lsp_rpc.specs.Reading as reading;
+ghost use Rattle.lsp_rpc.specs.Reading.{least_broken};
+ghost use Rattle.lsp_rpc.specs.Fault.{Names, rule_unless_read};
+
+use crate::fault::RpcFault;
+use crate::message::{Answer, Id, Message};
+use crate::parts::{Parts, parts_of};
+use crate::shape::{integer_of, is_structure, is_text};
+use serde_json::Value;
+use std::alloc::Global;
+
+/// Rule 205: the value is neither an integer nor a string.
+fn id_of(value: Value) -> Result<Id, RpcFault>
+    ensures ok { IfOk result (λ id. as_id (view value) ≡ Some (id_view id)) }
+    ensures rule { IfErr result (Names (rule_unless_read 205 (as_id (view value)))) }
+{
+    match value {
+        Value::String(text) => Ok(Id::Text(text)),
+        value => integer_of(&value)
+            .map(Id::Number)
+            .ok_or(RpcFault::Rule(205)),
+    }
+}
+
+/// The method, where there is one. Rule 204: it is no string.
+fn method_of(method: Option<Value>) -> Result<Option<String>, RpcFault>
+    ensures ok { IfOk result (λ name.
+        option_map view method ≡ option_map (λ s. string (string_bytes s)) name) }
+    ensures rule { IfErr result (Names (least_broken
+        ((204, not (holds_unless_absent shape.is_string (option_map view method))) ∷ []))) }
+{
+    match method {
+        Some(Value::String(name)) => Ok(Some(name)),
+        Some(_) => Err(RpcFault::Rule(204)),
+        None => Ok(None),
+    }
+}
+
+/// The id of a call, where there is one. Rule 205: it is neither an integer nor a string.
+fn call_id(id: Option<Value>) -> Result<Option<Id>, RpcFault>
+    ensures ok { IfOk result (λ own.
+        option_map id_view own ≡ option_and_then as_id (option_map view id)) }
+    ensures good { OnOk result (holds_unless_absent is_id (option_map view id) ≡ true) }
+    ensures rule { IfErr result (Names (least_broken
+        ((205, not (holds_unless_absent is_id (option_map view id))) ∷ []))) }
+{
+    id.map(id_of).transpose()
+}
+
+/// The id of a response, `None` where it is null. Rule 205: it is none of an integer, a string and
+/// null. Rule 207: there is no id.
+fn response_id(id: Option<Value>) -> Result<Option<Id>, RpcFault>
+    ensures ok { IfOk result (λ own.
+        option_map id_view own ≡ option_and_then as_id (option_map view id)) }
+    ensures there { OnOk result (is_some id ≡ true) }
+    ensures good { OnOk result (holds_unless_absent shape.is_id_or_null (option_map view id)
+        ≡ true) }
+    ensures rule { IfErr result (Names (least_broken
+        ((205, not (holds_unless_absent shape.is_id_or_null (option_map view id)))
+        ∷ (207, not (is_some id)) ∷ []))) }
+{
+    match id {
+        Some(Value::Null) => Ok(None),
+        Some(id) => Ok(Some(id_of(id)?)),
+        None => Err(RpcFault::Rule(207)),
+    }
+}
+
+/// The params, where there are any; null stands for none. Rule 206: they are neither an array, an
+/// object nor null.
+fn params_of(params: Option<Value>) -> Result<Option<Value>, RpcFault>
+    ensures ok { IfOk result (λ own.
+        option_map view own ≡ option_and_then unless_null (option_map view params)) }
+    ensures good { OnOk result
+        (holds_unless_absent shape.is_structure_or_null (option_map view params) ≡ true) }
+    ensures rule { IfErr result (Names (least_broken
+        ((206, not (holds_unless_absent shape.is_structure_or_null (option_map view params)))
+        ∷ []))) }
+{
+    match params {
+        Some(Value::Null) | None => Ok(None),
+        Some(params) if is_structure(&params) => Ok(Some(params)),
+        Some(_) => Err(RpcFault::Rule(206)),
+    }
+}
+
+/// The code of an error object (JSON-RPC 2.0, section 5.1).
+fn code_of(error: &Value) -> Option<i32>
+    ensures { result ≡ reading.code_of (view error.now) }
+{
+    if !error.get("message")?.is_string() {
+        return None;
+    }
+    integer_of(error.get("code")?)
+}
+
+/// What a response answers. Rule 207: there is not exactly one of a result and an error. Rule 208:
+/// the error is no error object.
+fn answer_of(value: Option<Value>, error: Option<Value>) -> Result<Answer, RpcFault>
+    ensures ok { IfOk result (λ answer.
+        reading.reply_in (option_map view value) (option_map view error)
+        ≡ Some (answer_view answer)) }
+    ensures one { OnOk result
+        (reading.either (option_map view value) (option_map view error) ≡ true) }
+    ensures good { OnOk result (holds_unless_absent reading.is_error (option_map view error)
+        ≡ true) }
+    ensures rule { IfErr result (Names (least_broken
+        ((207, not (reading.either (option_map view value) (option_map view error)))
+        ∷ (208, not (holds_unless_absent reading.is_error (option_map view error))) ∷ []))) }
+{
+    match (value, error) {
+        (Some(value), None) => Ok(Answer::Result(value)),
+        (None, Some(error)) => {
+            let code = code_of(&error).ok_or(RpcFault::Rule(208))?;
+            Ok(Answer::Error { code })
+        }
+        _ => Err(RpcFault::Rule(207)),
+    }
+}
+
+/// A request or a notification.
+fn call_of(method: String, id: Option<Value>, params: Option<Value>) -> Result<Message, RpcFault>
+    ensures ok { IfOk result (λ message. message_view message ≡ reading.call (string_bytes method)
+        (option_and_then as_id (option_map view id))
+        (option_and_then unless_null (option_map view params))) }
+    ensures keeps { OnOk result (least_broken
+        ((205, not (holds_unless_absent is_id (option_map view id)))
+        ∷ (206, not (holds_unless_absent shape.is_structure_or_null (option_map view params)))
+        ∷ []) ≡ None) }
+    ensures rule { IfErr result (Names (least_broken
+        ((205, not (holds_unless_absent is_id (option_map view id)))
+        ∷ (206, not (holds_unless_absent shape.is_structure_or_null (option_map view params)))
+        ∷ []))) }
+{
+    let id = call_id(id)?;
+    let params = params_of(params)?;
+    Ok(match id {
+        Some(id) => Message::Request { id, method, params },
+        None => Message::Notification { method, params },
+    })
+}
+
+fn response_of(
+    id: Option<Value>,
+    value: Option<Value>,
+    error: Option<Value>,
+) -> Result<Message, RpcFault>
+    ensures ok { IfOk result (λ message. Some (message_view message) ≡ option_map
+        (response (option_and_then as_id (option_map view id)))
+        (reading.reply_in (option_map view value) (option_map view error))) }
+    ensures keeps { OnOk result (least_broken
+        ((205, not (holds_unless_absent shape.is_id_or_null (option_map view id)))
+        ∷ (207, not (is_some id && reading.either (option_map view value) (option_map view error)))
+        ∷ (208, not (holds_unless_absent reading.is_error (option_map view error))) ∷ []) ≡ None) }
+    ensures rule { IfErr result (Names (least_broken
+        ((205, not (holds_unless_absent shape.is_id_or_null (option_map view id)))
+        ∷ (207, not (is_some id && reading.either (option_map view value) (option_map view error)))
+        ∷ (208, not (holds_unless_absent reading.is_error (option_map view error))) ∷ []))) }
+{
+    let id = response_id(id)?;
+    let answer = answer_of(value, error)?;
+    Ok(Message::Response { id, answer })
+}
+
+fn has_version(version: Option<&Value>) -> bool
+    ensures { result
+        ≡ shape.holds_of (shape.is_text (codes "2.0")) (option_map (λ v. view v.now) version.entry) }
+{
+    version.is_some_and(|version| is_text(version, "2.0"))
+}
+
+/// The message that the parts make. The refusal is the least rule that they break.
+fn assemble(parts: Parts) -> Result<Message, RpcFault>
+    ensures ok { IfOk result (λ message.
+        reading.message_in (parts_view parts) ≡ Some (message_view message)) }
+    ensures keeps { OnOk result (least_broken (reading.rules_on (parts_view parts)) ≡ None) }
+    ensures rule { IfErr result (Names (least_broken (reading.rules_on (parts_view parts)))) }
+{
+    if !has_version(parts.version.as_ref()) {
+        return Err(RpcFault::Rule(203));
+    }
+    match method_of(parts.method)? {
+        Some(method) => call_of(method, parts.id, parts.params),
+        None => response_of(parts.id, parts.result, parts.error),
+    }
+}
+
+/// The message that a value is. The refusal is the least rule that it breaks.
+fn message_of(value: Value) -> Result<Message, RpcFault>
+    ensures ok { IfOk result (λ message. reading.IsMessage (view value) (message_view message)) }
+    ensures rule { IfErr result (Names (reading.broken_rule (view value))) }
+{
+    assemble(parts_of(value)?)
+}
+
+/// Reads a content (JSON-RPC 2.0, sections 4 and 5; LSP 3.17, Base Protocol). The refusal is the
+/// least rule that it breaks: 201 where it is no JSON text, 202 to 208 where its value is no
+/// message.
+pub fn read(alloc: Global, content: &[u8]) -> Result<Message, RpcFault>
+    ensures ok { IfOk result (λ message. reading.Reads content.now (message_view message)) }
+    ensures rule { IfErr result (reading.IsRefusal content.now) }
+{
+    let value = match Value::from_slice(alloc, content) {
+        Ok(value) => value,
+        Err(error) if error.is_memory() => return Err(RpcFault::Memory),
+        Err(_) => return Err(RpcFault::Rule(201)),
+    };
+    message_of(value)
+}

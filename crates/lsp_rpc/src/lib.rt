@@ -1,0 +1,40 @@
+//! Messages of JSON-RPC 2.0, as they stand in the contents of a stream, and what they mean to a
+//! session of the Language Server Protocol.
+//!
+//! `read` gives the message of a content, `act_of` what a message means on its side, `picked_of`
+//! what the result of an `initialize` picks, and `words_of` the words that name a message.
+#![tactic(auto)]
+
+mod act;
+mod changes;
+mod content;
+mod documents;
+mod fault;
+mod ids;
+mod initialize;
+mod laws;
+mod memory;
+mod message;
+mod methods;
+mod params;
+mod parts;
+mod plain;
+mod results;
+mod shape;
+#[cfg(test)]
+mod tests;
+mod words;
+
+pub use act::{Act, Change, Offer, Picked};
+pub use content::read;
+pub use fault::RpcFault;
+pub use ids::{copy_id, same_id};
+pub use laws::{
+    message_breaks_no_rule, message_or_rule, one_message, one_rule, same_id_is_equality,
+};
+pub use memory::Memory;
+pub use message::{Answer, Id, Message};
+pub use methods::act_of;
+pub use plain::{Encoding, Position, Side, Span, SyncKind};
+pub use results::picked_of;
+pub use words::{push_id, push_quoted, words_of};

@@ -1,0 +1,53 @@
+// The members of a message, moved out of their object.
+ghost use Rattle.std.specs.Prelude.{◌≡◌, ℕ, List, Some, None, IfOk, OnOk, IfErr, true, false, if◌then◌else◌, option_map};
+ghost use Rattle.std.specs.Str.{bytes_eq};
+ghost use Rattle.serde_json.specs.Find.{get_member};
+ghost use Rattle.serde_json.specs.View.{view, members_view};
+ghost use Rattle.lsp_rpc.specs.Shape.{is_object};
+ghost use Rattle.lsp_rpc.specs.Reading as reading;
+ghost use Rattle.lsp_rpc.specs.View.{parts_view};
+ghost use Rattle.lsp_rpc.specs.Fault.{Names};
+
+use crate::fault::RpcFault;
+use serde_json::{Map, Value};
+
+/// The members that a message is made of; `None` is a member that is missing.
+#[derive(Drop)]
+pub(crate) struct Parts {
+    pub(crate) version: Option<Value>,
+    pub(crate) method: Option<Value>,
+    pub(crate) id: Option<Value>,
+    pub(crate) params: Option<Value>,
+    pub(crate) result: Option<Value>,
+    pub(crate) error: Option<Value>,
+}
+
+/// Takes the member of this name out.
+fn take_member(members: &mut Map<String, Value>, name: &str) -> Option<Value>
+    ensures taken { option_map view result
+        ≡ get_member name.now (members_view members.old.entries) }
+    ensures others { (other : List ℕ) → bytes_eq name.now other ≡ false
+        → get_member other (members_view members.new.entries)
+        ≡ get_member other (members_view members.old.entries) }
+{
+    members.remove(name)
+}
+
+/// The parts of a value. Rule 202: it is no object.
+pub(crate) fn parts_of(value: Value) -> Result<Parts, RpcFault>
+    ensures ok { IfOk result (λ parts. parts_view parts ≡ reading.parts_of (view value)) }
+    ensures object { OnOk result (is_object (view value) ≡ true) }
+    ensures rule { IfErr result (Names (if is_object (view value) then None else Some 202)) }
+{
+    let Value::Object(mut members) = value else {
+        return Err(RpcFault::Rule(202));
+    };
+    Ok(Parts {
+        version: take_member(&mut members, "jsonrpc"),
+        method: take_member(&mut members, "method"),
+        id: take_member(&mut members, "id"),
+        params: take_member(&mut members, "params"),
+        result: take_member(&mut members, "result"),
+        error: take_member(&mut members, "error"),
+    })
+}

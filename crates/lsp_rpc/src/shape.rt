@@ -1,0 +1,42 @@
+// What a value looks like.
+ghost use Rattle.std.specs.Prelude.{◌≡◌, option_map};
+ghost use Rattle.serde_json.specs.View.{view};
+ghost use Rattle.lsp_rpc.specs.Shape.{as_integer};
+ghost use Rattle.lsp_rpc.specs.Params as params;
+ghost use Rattle.lsp_rpc.specs.Shape as shape;
+
+use serde_json::Value;
+
+pub(crate) fn is_text(value: &Value, text: &str) -> bool
+    ensures { result ≡ shape.is_text text.now (view value.now) }
+{
+    match value {
+        Value::String(found) => found.as_str() == text,
+        _ => false,
+    }
+}
+
+pub(crate) fn integer_of(value: &Value) -> Option<i32>
+    ensures { result ≡ as_integer (view value.now) }
+{
+    let n = value.as_i64()?;
+    if i64::from(i32::MIN) <= n && n <= i64::from(i32::MAX) {
+        Some(n as i32)
+    } else {
+        None
+    }
+}
+
+pub(crate) fn is_structure(value: &Value) -> bool
+    ensures { result ≡ shape.is_structure (view value.now) }
+{
+    value.is_array() || value.is_object()
+}
+
+/// The member, where it is neither missing nor null.
+pub(crate) fn given<'a>(value: &'a Value, name: &str) -> Option<&'a Value>
+    ensures { option_map (λ v. view v.now) result ≡ params.given name.now (view value.now) }
+{
+    let member = value.get(name)?;
+    if member.is_null() { None } else { Some(member) }
+}

@@ -1,0 +1,45 @@
+-- Small facts about tests.
+use Rattle.std.proofs.Common.{◌≡◌, ◌⊎◌, inl, inr, Bool, true, false, not, ◌&&◌, ◌||◌, true≢false, refl, sym, ap}
+
+pub true_or_false : (b : Bool) → (b ≡ true) ⊎ (b ≡ false)
+true_or_false true = inl refl
+true_or_false false = inr refl
+
+pub or_true : (b : Bool) → (b || true) ≡ true
+or_true true = refl
+or_true false = refl
+
+pub or_false : (b : Bool) → (b || false) ≡ b
+or_false true = refl
+or_false false = refl
+
+pub or_assoc : (a b c : Bool) → ((a || b) || c) ≡ (a || (b || c))
+or_assoc true b c = refl
+or_assoc false b c = refl
+
+-- what an `||` that is false says of its halves
+pub left_false : (a b : Bool) → (a || b) ≡ false → a ≡ false
+left_false true b h = absurd (true≢false h)
+left_false false b h = refl
+
+pub right_false : (a b : Bool) → (a || b) ≡ false → b ≡ false
+right_false true b h = absurd (true≢false h)
+right_false false b h = h
+
+pub or_split : (a b : Bool) → (a || b) ≡ true → a ≡ false → b ≡ true
+or_split true b h k = absurd (true≢false k)
+or_split false b h k = h
+
+-- what an `&&` that is true says of its halves
+pub and_left : (a b : Bool) → (a && b) ≡ true → a ≡ true
+and_left true b h = refl
+and_left false b h = absurd (true≢false (sym h))
+
+pub and_right_false : (a b : Bool) → (a && not b) ≡ true → b ≡ false
+and_right_false true true h = absurd (true≢false (sym h))
+and_right_false true false h = refl
+and_right_false false b h = absurd (true≢false (sym h))
+
+pub and_false : (a b : Bool) → b ≡ true → (a && not b) ≡ false
+and_false true b h = ap not h
+and_false false b h = refl

@@ -1,0 +1,121 @@
+-- What a session finds by what it keeps is what the list of messages says.
+use Rattle.std.proofs.Common.{◌≡◌, ℕ, List, ◌∷◌, [], Bool, true, false, not, ◌&&◌, ◌||◌, Option, Some, None, is_some, option_and_then, refl}
+use Rattle.lsp_rpc.specs.Act.{Act}
+use Rattle.lsp_rpc.specs.Message.{Message}
+use Rattle.lsp_rpc.specs.declared.plain.Side.{Side}
+use Rattle.lsp_rpc.specs.declared.plain.Side.TheVariants.{Editor, Server}
+use Rattle.lsp_session.specs.ByState as by_state
+use Rattle.lsp_session.specs.Handshake.{Settled, first_settled, is_done, is_empty, open_initializes, was_sent}
+use Rattle.lsp_session.specs.Lifecycle.{is_early, lifecycle_rule, reports_on}
+use Rattle.lsp_session.specs.Negotiation.{agreed, agreed_at, first_row}
+use Rattle.lsp_session.specs.Requests.{open_requests, request_rule}
+use Rattle.lsp_session.specs.Rules.{rule_after}
+use Rattle.lsp_session.specs.Sent.{Sent, is_exit, is_initialize, is_initialized, is_response, is_shutdown, other_side}
+use Rattle.lsp_session.specs.State.{agreed_in, state_of}
+
+pub open_of-state_of : (side : Side) (before : List Sent) → by_state.open_of side (state_of before) ≡ open_requests side before
+open_of-state_of Editor before = refl
+open_of-state_of Server before = refl
+
+pub is_done-state_of : (before : List Sent) → by_state.is_done (state_of before) ≡ is_done before
+is_done-state_of before = some (first_settled before)
+  where
+    some : (settled : Option Settled) → is_some (agreed_in settled) ≡ is_some settled
+    some None = refl
+    some (Some s) = refl
+
+pub agreement-state_of : (before : List Sent) → by_state.agreement (state_of before) ≡ agreed before
+agreement-state_of before = inner (first_settled before)
+  where
+    inner : (settled : Option Settled) → option_and_then (λ a. a) (agreed_in settled) ≡ option_and_then (λ s. agreed_at s.value) settled
+    inner None = refl
+    inner (Some s) = refl
+
+request_rule-state_of : (before : List Sent) (m : Sent) → by_state.request_rule (state_of before) m.side m.message ≡ request_rule before m
+request_rule-state_of before m = rw (open_of-state_of m.side before, open_of-state_of (other_side m.side) before) refl
+
+-- ---- the table, beside the order in which a session asks
+
+editor_rows : (exited response an_exit an_initialize done empty shutdown initialized an_initialized : Bool)
+    → first_row {X = ℕ} (
+    (exited, Some 406)
+    ∷ (response, None)
+    ∷ (an_exit, None)
+    ∷ (
+      true,
+      first_row {X = ℕ} (
+          ((not done && empty) && an_initialize, None)
+          ∷ (not done && empty, Some 401)
+          ∷ (not done && not empty, Some 402)
+          ∷ (shutdown, Some 405)
+          ∷ (an_initialize, Some 404)
+          ∷ (not initialized && an_initialized, None)
+          ∷ (not initialized, Some 403)
+          ∷ (an_initialized, Some 404)
+          ∷ []),
+    )
+    ∷ [])
+    ≡ first_row {X = ℕ} (
+    (exited, Some 406)
+    ∷ ((not response && an_exit) && true, None)
+    ∷ ((not response && an_initialize) && (not done && empty), None)
+    ∷ (not response && (not done && empty), Some 401)
+    ∷ (not response && (not done && not empty), Some 402)
+    ∷ (not response && (done && shutdown), Some 405)
+    ∷ ((not response && an_initialize) && done, Some 404)
+    ∷ ((not response && an_initialized) && (done && not initialized), None)
+    ∷ (not response && (done && not initialized), Some 403)
+    ∷ ((not response && an_initialized) && done, Some 404)
+    ∷ (not response && done, None)
+    ∷ [])
+editor_rows true response an_exit an_initialize done empty shutdown initialized an_initialized = refl
+editor_rows false true an_exit an_initialize done empty shutdown initialized an_initialized = refl
+editor_rows false false true an_initialize done empty shutdown initialized an_initialized = refl
+editor_rows false false false true false true shutdown initialized an_initialized = refl
+editor_rows false false false true false false shutdown initialized an_initialized = refl
+editor_rows false false false true true empty true initialized an_initialized = refl
+editor_rows false false false true true empty false initialized an_initialized = refl
+editor_rows false false false false false true shutdown initialized an_initialized = refl
+editor_rows false false false false false false shutdown initialized an_initialized = refl
+editor_rows false false false false true empty true initialized an_initialized = refl
+editor_rows false false false false true empty false true true = refl
+editor_rows false false false false true empty false true false = refl
+editor_rows false false false false true empty false false true = refl
+editor_rows false false false false true empty false false false = refl
+
+server_rows : (response done empty early reports : Bool)
+    → first_row {X = ℕ} (
+    (response, None)
+    ∷ (not done && empty, Some 411)
+    ∷ ((not done && not empty) && (early || reports), None)
+    ∷ (not done && not empty, Some 412)
+    ∷ [])
+    ≡ first_row {X = ℕ} (
+    (not response && (not done && empty), Some 411)
+    ∷ ((not response && early) && (not done && not empty), None)
+    ∷ ((not response && reports) && (not done && not empty), None)
+    ∷ (not response && (not done && not empty), Some 412)
+    ∷ (not response && done, None)
+    ∷ [])
+server_rows true done empty early reports = refl
+server_rows false true empty true true = refl
+server_rows false true empty true false = refl
+server_rows false true empty false true = refl
+server_rows false true empty false false = refl
+server_rows false false true early reports = refl
+server_rows false false false true reports = refl
+server_rows false false false false true = refl
+server_rows false false false false false = refl
+
+lifecycle_rule-state_of : (before : List Sent) (side : Side) (message : Message) (act : Act)
+    → by_state.lifecycle_rule (state_of before) side message act ≡ lifecycle_rule before (record { side = side; message = message; act = act })
+lifecycle_rule-state_of before Editor message act =
+    rw (is_done-state_of before)
+    (editor_rows (was_sent is_exit before) (is_response message) (is_exit act) (is_initialize act) (is_done before) (is_empty (open_initializes before)) (was_sent is_shutdown before) (was_sent is_initialized before) (is_initialized act))
+lifecycle_rule-state_of before Server message act =
+    rw (is_done-state_of before)
+    (server_rows (is_response message) (is_done before) (is_empty (open_initializes before)) (is_early act) (reports_on (open_initializes before) act))
+
+-- the rules by the state are the rules by the list
+pub rule_by-state_of : (before : List Sent) (m : Sent) → by_state.rule_by (state_of before) m ≡ rule_after before m
+rule_by-state_of before m = rw (request_rule-state_of before m, lifecycle_rule-state_of before m.side m.message m.act) refl

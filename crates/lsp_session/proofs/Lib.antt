@@ -1,0 +1,8 @@
+pub mod Bools
+pub mod Ids
+pub mod Entries
+pub mod Steps
+pub mod ByStateLemmas
+pub mod LawLemmas
+pub mod SessionMessages
+pub mod Sessions

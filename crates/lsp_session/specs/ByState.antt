@@ -1,0 +1,87 @@
+-- The rules and readings as a session finds them by what it keeps.
+use Rattle.std.specs.Prelude.{ℕ, List, [], ◌∷◌, Bool, true, not, ◌&&◌, ◌||◌, Option, Some, None, is_some, option_and_then}
+use Rattle.std.specs.Option.{option_or}
+use Rattle.lsp_rpc.specs.Act.{Act}
+use Rattle.lsp_rpc.specs.Message.{Message}
+use Rattle.lsp_rpc.specs.declared.plain.Side.{Side}
+use Rattle.lsp_rpc.specs.declared.plain.Side.TheVariants.{Editor, Server}
+use Rattle.lsp_session.specs.Entry.{Entry}
+use Rattle.lsp_session.specs.Handshake.{is_empty, settled_among}
+use Rattle.lsp_session.specs.Lifecycle.{is_early, reports_on}
+use Rattle.lsp_session.specs.Negotiation.{first_row, register_rule, settled_rule}
+use Rattle.lsp_session.specs.OpenInitialize.{Initialize}
+use Rattle.lsp_session.specs.Requests.{id_rule}
+use Rattle.lsp_session.specs.Sent.{Sent, is_exit, is_initialize, is_initialized, is_response, other_side}
+use Rattle.lsp_session.specs.State.{State}
+use Rattle.lsp_session.specs.declared.negotiation.Agreed.{Agreed}
+
+abbrev pub open_of : Side → State → List Entry
+open_of Editor s = s.editor
+open_of Server s = s.server
+
+abbrev pub is_done : State → Bool
+is_done s = is_some s.agreed
+
+abbrev pub is_waiting : State → Bool
+is_waiting s = not (is_done s) && not (is_empty s.initializes)
+
+abbrev pub is_fresh : State → Bool
+is_fresh s = not (is_done s) && is_empty s.initializes
+
+abbrev pub agreement : State → Option Agreed
+agreement s = option_and_then (λ agreed. agreed) s.agreed
+
+-- ---- the rules
+
+abbrev pub request_rule : State → Side → Message → Option ℕ
+request_rule s side message = id_rule (open_of side s) (open_of (other_side side) s) message
+
+-- for a request or notification of the editor, other than `exit`
+abbrev pub handshake_rule : State → Act → Option ℕ
+handshake_rule s act =
+    first_row (
+    (is_fresh s && is_initialize act, None)
+    ∷ (is_fresh s, Some 401)
+    ∷ (is_waiting s, Some 402)
+    ∷ (s.shutdown, Some 405)
+    ∷ (is_initialize act, Some 404)
+    ∷ (not s.initialized && is_initialized act, None)
+    ∷ (not s.initialized, Some 403)
+    ∷ (is_initialized act, Some 404)
+    ∷ [])
+
+abbrev pub editor_rule : State → Message → Act → Option ℕ
+editor_rule s message act =
+    first_row (
+    (s.exit, Some 406)
+    ∷ (is_response message, None)
+    ∷ (is_exit act, None)
+    ∷ (true, handshake_rule s act)
+    ∷ [])
+
+-- what the server may send while an `initialize` is open
+abbrev pub comes_early : List Initialize → Act → Bool
+comes_early unanswered act = is_early act || reports_on unanswered act
+
+abbrev pub server_rule : State → Message → Act → Option ℕ
+server_rule s message act =
+    first_row (
+    (is_response message, None)
+    ∷ (is_fresh s, Some 411)
+    ∷ (is_waiting s && comes_early s.initializes act, None)
+    ∷ (is_waiting s, Some 412)
+    ∷ [])
+
+abbrev pub lifecycle_rule : State → Side → Message → Act → Option ℕ
+lifecycle_rule s Editor message act = editor_rule s message act
+lifecycle_rule s Server message act = server_rule s message act
+
+abbrev pub result_rule : State → Side → Message → Option ℕ
+result_rule s side message = settled_rule (settled_among s.initializes side message)
+
+-- the least rule that the message breaks
+abbrev pub rule_by : State → Sent → Option ℕ
+rule_by s m =
+    option_or (request_rule s m.side m.message)
+    (option_or (lifecycle_rule s m.side m.message m.act)
+    (option_or (result_rule s m.side m.message) (register_rule m.side m.act)))

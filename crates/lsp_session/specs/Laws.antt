@@ -1,0 +1,42 @@
+-- Laws of the definitions.
+use Rattle.std.specs.Prelude.{◌≡◌, ◌⊎◌, List, ◌∷◌, ◌++◌, Bool, true, false, None}
+use Rattle.lsp_session.specs.Handshake.{is_done, is_fresh, is_waiting}
+use Rattle.lsp_session.specs.Requests.{answers}
+use Rattle.lsp_session.specs.Rules.{IsAdmitted, rule_after}
+use Rattle.lsp_session.specs.Sent.{Sent, is_response}
+
+-- a request among these that `m` answers, and its place
+pub record AnsweredRequest (before : List Sent) (m : Sent) : Type 0 where
+  pub earlier : List Sent
+  pub asked : Sent
+  pub between : List Sent
+  pub place : before ≡ earlier ++ asked ∷ between
+  pub answers : answers asked between m ≡ true
+
+-- a response that breaks no rule answers a request
+abbrev pub AnswersARequest : Type 0
+AnswersARequest = (before : List Sent) (m : Sent) → rule_after before m ≡ None → is_response m.message ≡ true → AnsweredRequest before m
+
+-- among admitted messages, no response answers requests at two places
+abbrev pub AnswersNoOther : Type 0
+AnswersNoOther = (earlier : List Sent) (first : Sent) (between : List Sent) (second : Sent) (after : List Sent) (m : Sent)
+    → IsAdmitted (earlier ++ first ∷ (between ++ second ∷ after))
+    → answers first (between ++ second ∷ after) m ≡ true
+    → answers second after m ≡ false
+
+-- a request that was answered is not answered again
+abbrev pub AnsweredOnce : Type 0
+AnsweredOnce = (asked : Sent) (between : List Sent) (m : Sent) (after : List Sent) (again : Sent)
+    → answers asked between m ≡ true
+    → answers asked (between ++ m ∷ after) again ≡ false
+
+-- exactly one of three
+abbrev pub OneOf : Bool → Bool → Bool → Type 0
+OneOf a b c =
+    ((a ≡ true) × (b ≡ false) × (c ≡ false))
+    ⊎ ((a ≡ false) × (b ≡ true) × (c ≡ false))
+    ⊎ ((a ≡ false) × (b ≡ false) × (c ≡ true))
+
+-- the handshake is always in exactly one of its three states
+abbrev pub OneHandshake : Type 0
+OneHandshake = (before : List Sent) → OneOf (is_fresh before) (is_waiting before) (is_done before)

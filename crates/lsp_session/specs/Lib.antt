@@ -1,0 +1,14 @@
+pub mod Sent
+pub mod Entry
+pub mod Requests
+pub mod OpenInitialize
+pub mod Handshake
+pub mod Lifecycle
+pub mod Negotiation
+pub mod Rules
+pub mod Laws
+pub mod Held
+pub mod State
+pub mod ByState
+pub mod View
+pub mod Refusal

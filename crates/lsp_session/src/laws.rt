@@ -1,0 +1,22 @@
+// Laws of the definitions that the contracts cite.
+ghost use Rattle.lsp_session.specs.Laws.{AnsweredOnce, AnswersARequest, AnswersNoOther, OneHandshake};
+
+/// Proves that a response that breaks no rule answers a request of the other side.
+pub fn answers_a_request()
+    ensures { AnswersARequest }
+{}
+
+/// Proves that among admitted messages no response answers two requests.
+pub fn answers_no_other()
+    ensures { AnswersNoOther }
+{}
+
+/// Proves that no request is answered twice.
+pub fn answered_once()
+    ensures { AnsweredOnce }
+{}
+
+/// Proves that the handshake is always in exactly one of its three states.
+pub fn one_handshake()
+    ensures { OneHandshake }
+{}

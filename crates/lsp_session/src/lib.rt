@@ -1,0 +1,22 @@
+//! What the two sides of a session may send, and when: which response answers which request, how
+//! far the handshake has come, and what was agreed in it.
+//!
+//! `Session` judges one message after another; `Pending` is the list of the open requests of one
+//! side.
+#![tactic(auto)]
+
+mod handshake;
+mod laws;
+mod negotiation;
+mod pending;
+mod phase;
+mod refusal;
+mod session;
+#[cfg(test)]
+mod tests;
+
+pub use laws::{answered_once, answers_a_request, answers_no_other, one_handshake};
+pub use pending::{OpenRequest, Pending};
+pub use phase::Phase;
+pub use refusal::Refusal;
+pub use session::Session;

@@ -1,0 +1,119 @@
+// What the two sides agree on.
+ghost use Rattle.std.specs.Prelude.{◌≡◌, Some, None, IfOk, IfErr, OnOk, codes, option_map};
+ghost use Rattle.std.specs.List.{list_any};
+ghost use Rattle.std.specs.Str.{bytes_eq};
+ghost use Rattle.serde_json.specs.View.{view};
+ghost use Rattle.lsp_rpc.specs.View.{offer_view, picked_view, texts_view, act_view};
+ghost use Rattle.lsp_rpc.specs.Results.{picked_at};
+ghost use Rattle.lsp_session.specs.Negotiation as spec;
+ghost use Rattle.lsp_session.specs.Refusal.{Names};
+
+use crate::refusal::Refusal;
+use lsp_rpc::{Act, Encoding, Offer, Picked, RpcFault, SyncKind, picked_of};
+use serde_json::Value;
+use std::alloc::Global;
+
+/// What an `initialize` and its result agree on.
+#[derive(Clone, Copy, Debug, PartialEq, Eq)]
+pub(crate) struct Agreed {
+    pub encoding: Encoding,
+    pub kind: SyncKind,
+}
+
+fn encoding_named(name: &str) -> Option<Encoding>
+    ensures { result ≡ spec.encoding_named name.now }
+{
+    match name {
+        "utf-8" => Some(Encoding::Utf8),
+        "utf-16" => Some(Encoding::Utf16),
+        "utf-32" => Some(Encoding::Utf32),
+        _ => None,
+    }
+}
+
+fn lists(names: &[String], name: &str) -> bool
+    ensures { result ≡ list_any (bytes_eq name.now) (texts_view names.now) }
+{
+    for listed in names {
+        if name == listed.as_str() {
+            return true;
+        }
+    }
+    false
+}
+
+fn offers(offer: &Offer, name: &str) -> bool
+    ensures { result ≡ spec.offers (offer_view offer.now) name.now }
+{
+    if name == "utf-16" {
+        return true;
+    }
+    match &offer.encodings {
+        Some(encodings) => lists(encodings.as_slice(), name),
+        None => false,
+    }
+}
+
+fn check_picked(offer: &Offer, picked: &Picked) -> Result<Agreed, Refusal>
+    ensures ok { IfOk result (λ agreed. spec.agreed_by (picked_view picked.now) ≡ Some agreed) }
+    ensures allowed { OnOk result
+        (spec.pick_rule (offer_view offer.now) (Some (picked_view picked.now)) ≡ None) }
+    ensures rule { IfErr result
+        (Names (spec.pick_rule (offer_view offer.now) (Some (picked_view picked.now)))) }
+{
+    if !offers(offer, picked.encoding.as_str()) {
+        return Err(Refusal::Rule(502));
+    }
+    match encoding_named(picked.encoding.as_str()) {
+        Some(encoding) => Ok(Agreed {
+            encoding,
+            kind: picked.kind,
+        }),
+        None => Err(Refusal::Rule(503)),
+    }
+}
+
+/// What a result agrees on that answers this offer.
+pub(crate) fn agree(alloc: Global, offer: &Offer, value: &Value) -> Result<Agreed, Refusal>
+    ensures ok { IfOk result (λ agreed. spec.agreed_at (view value.now) ≡ Some agreed) }
+    ensures allowed { OnOk result
+        (spec.pick_rule (offer_view offer.now) (picked_at (view value.now)) ≡ None) }
+    ensures rule { IfErr result
+        (Names (spec.pick_rule (offer_view offer.now) (picked_at (view value.now)))) }
+{
+    match picked_of(alloc, value) {
+        Ok(picked) => check_picked(offer, &picked),
+        Err(RpcFault::Rule(rule)) => Err(Refusal::Rule(rule)),
+        Err(RpcFault::Memory) => Err(Refusal::Memory),
+    }
+}
+
+fn is_synchronisation(method: &str) -> bool
+    ensures { result ≡ spec.is_synchronisation method.now }
+{
+    matches!(
+        method,
+        "textDocument/didOpen" | "textDocument/didChange" | "textDocument/didClose"
+    )
+}
+
+fn any_synchronisation(methods: &[String]) -> bool
+    ensures { result ≡ list_any spec.is_synchronisation (texts_view methods.now) }
+{
+    for method in methods {
+        if is_synchronisation(method.as_str()) {
+            return true;
+        }
+    }
+    false
+}
+
+/// Whether the act registers for opens, changes or closes of documents.
+pub(crate) fn registers_synchronisation(act: &Act) -> bool
+    ensures { result ≡ spec.registers_synchronisation (act_view act.now) }
+{
+    match act {
+        Act::Register { methods } => any_synchronisation(methods.as_slice()),
+        _ => false,
+    }
+}

@@ -1,0 +1,209 @@
+-- Places of a line, from its units.
+use Rattle.std.proofs.Common.{◌≡◌, ◌<◌, ◌≤◌, ◌+◌, ◌-◌, ℕ, List, [], ◌∷◌, ◌++◌, length, take, drop, min, Option, Some, None, zero, suc, refl, sym, ap, subst, ◌∙◌, inl, inr, ⊎_elim, arith, length-append}
+use Rattle.std.proofs.lemmas.List.{take-append-drop, length-take-le, take_at, take_all, drop-drop}
+use Rattle.std.proofs.lemmas.Bool.{cases_lt}
+use Rattle.std.proofs.lemmas.Bool.Decides.{nat_tests}
+use Rattle.std.proofs.lemmas.Str.{len_utf8_bounds, IsUtf8-take, IsUtf8-drop, IsCharBoundary-start, IsCharBoundary-end, IsCharBoundary-from_rest, chars-append, chars-nil}
+use Rattle.std.specs.Option.{option_map}
+use Rattle.std.specs.Str.{chars, IsUtf8, IsCharBoundary}
+use lib.Utf8.{encodes}
+use Rattle.lsp_rpc.specs.declared.plain.Encoding.{Encoding}
+use Rattle.lsp_rpc.specs.declared.plain.Encoding.TheVariants.{Utf8, Utf16, Utf32}
+use Rattle.lsp_text.specs.Places.{units, units_of_char, place_in_line}
+use Rattle.lsp_text.specs.Offsets.{IsOffset, IsSkipped}
+use Rattle.lsp_text.proofs.Counting.{units-append, units-utf8, units-utf8_text, is_offset, seam}
+use Rattle.lsp_text.proofs.Denoting.{IsBefore, past, units_some, place_in_line-complete, place_in_line-sound}
+use Rattle.lsp_text.proofs.HeldText.{length_le_units}
+use Rattle.lsp_text.proofs.Positions.{take-add_here}
+use Rattle.lsp_text.proofs.Splices.{chars-cut}
+
+pub units-utf32 : (cs : List ℕ) → units Utf32 cs ≡ length cs
+units-utf32 [] = refl
+units-utf32 (c ∷ cs) = omega (arith, units-utf32 cs)
+
+-- a character of one byte has one unit
+one_unit : (enc : Encoding) (c : ℕ) → units_of_char Utf8 c ≡ 1 → units_of_char enc c ≡ 1
+one_unit Utf8 c h = h
+one_unit Utf16 c h = grind (arith, nat_tests)
+one_unit Utf32 c h = refl
+
+-- characters of one byte each have one unit each
+pub units-plain : (enc : Encoding) (cs : List ℕ) → units Utf8 cs ≡ length cs → units enc cs ≡ length cs
+units-plain enc [] h = refl
+units-plain enc (c ∷ cs) h =
+    let least = length_le_units cs in
+    let bytes = (len_utf8_bounds c).0 in
+    let first : units_of_char Utf8 c ≡ 1 = omega arith in
+    let rest : units Utf8 cs ≡ length cs = omega arith in
+    omega (arith, one_unit enc c first, units-plain enc cs rest)
+
+plain_take : (cs : List ℕ) (k : ℕ) → units Utf8 cs ≡ length cs → units Utf8 (take k cs) ≡ length (take k cs)
+plain_take cs k h =
+    let all = take-append-drop k cs in
+    omega (
+      arith,
+      ap (units Utf8) all,
+      ap length all,
+      units-append Utf8 (take k cs) (drop k cs),
+      length-append (take k cs) (drop k cs),
+      length_le_units (take k cs),
+      length_le_units (drop k cs),
+    )
+
+-- a column past the line is its end
+pub offset_at_end : (enc : Encoding) (bs : List ℕ) (column width : ℕ) → width ≡ units enc (chars bs) → width ≤ column → IsOffset enc bs column (length bs)
+offset_at_end enc bs column width is le =
+    record {
+      boundary = IsCharBoundary-end bs;
+      place =
+          place_in_line-complete enc (chars bs) column (length (chars bs)) (record { within = omega arith; column_is = inl (omega arith, refl) })
+          ∙ ap (λ (x : List ℕ). Some (length (chars x))) (sym (take_all (length bs) bs (omega arith)));
+    }
+
+-- a column among characters of one byte each counts their bytes
+pub offset_in_plain : (enc : Encoding) (bs : List ℕ) (column width count : ℕ) → IsUtf8 bs → width ≡ units enc (chars bs) → count ≡ units Utf32 (chars bs) → column < width → count ≡ length bs →
+    IsOffset enc bs column column
+offset_in_plain enc bs column width count u is number lt same =
+    let cs = chars bs in
+    let plain : units Utf8 cs ≡ length cs = omega (arith, units-utf8_text bs u, units-utf32 cs) in
+    let within : column ≤ length cs = omega (arith, units-plain enc cs plain) in
+    let len = length-take-le column cs within in
+    let front = plain_take cs column plain in
+    let before : units enc (take column cs) ≡ column = units-plain enc (take column cs) front ∙ len in
+    let bytes : column ≡ length (encodes (take column cs)) = omega (arith, units-utf8 (take column cs)) in
+    is_offset enc bs column column column u within bytes (place_in_line-complete enc cs column column (record { within = within; column_is = inr before }))
+
+-- what stands before a boundary, and its bytes
+pub record IsFront (bs : List ℕ) (offset : ℕ) : Type 0 where
+  pub within : length (chars (take offset bs)) ≤ length (chars bs)
+  pub front : take (length (chars (take offset bs))) (chars bs) ≡ chars (take offset bs)
+  pub bytes : units Utf8 (chars (take offset bs)) ≡ offset
+
+is_front : (bs : List ℕ) (offset : ℕ) → IsUtf8 bs → IsCharBoundary bs offset → IsFront bs offset
+is_front bs offset u b =
+    let cut = chars-cut bs offset u b in
+    record {
+      within = omega (arith, ap length cut, length-append (chars (take offset bs)) (chars (drop offset bs)));
+      front =
+          ap (take (length (chars (take offset bs)))) cut ∙ take_at (chars (take offset bs)) (chars (drop offset bs)) (length (chars (take offset bs))) refl;
+      bytes = units-utf8_text (take offset bs) (IsUtf8-take bs offset u b) ∙ length-take-le offset bs b.0;
+    }
+
+-- under UTF-8 a column is the number of bytes before it
+pub offset_at_byte : (bs : List ℕ) (column offset : ℕ) → IsUtf8 bs → offset ≡ min (length bs) column → IsCharBoundary bs offset → IsOffset Utf8 bs column offset
+offset_at_byte bs column offset u is b =
+    let f = is_front bs offset u b in
+    let k = length (chars (take offset bs)) in
+    let whole = units-utf8_text bs u in
+    let cut = chars-cut bs offset u b in
+    let before : IsBefore Utf8 (chars bs) column k =
+    record {
+      within = f.within;
+      column_is =
+          ⊎_elim
+          (λ lt. inr (ap (units Utf8) f.front ∙ f.bytes ∙ (let e : offset ≡ column = omega arith in e)))
+          (λ ge.
+          let e : offset ≡ length bs = omega arith in
+          inl (omega arith, ap (λ (x : List ℕ). length (chars x)) (take_all offset bs (omega arith))))
+          (cases_lt column (length bs));
+    }
+    in record { boundary = b; place = place_in_line-complete Utf8 (chars bs) column k before }
+
+none_or : (o : Option ℕ) → ((k : ℕ) → o ≡ Some k → ⊥) → o ≡ None
+none_or None h = refl
+none_or (Some k) h = absurd (h k refl)
+
+pub no_place_at_byte : (bs : List ℕ) (column offset : ℕ) → IsUtf8 bs → offset ≡ min (length bs) column → (IsCharBoundary bs offset → ⊥) → place_in_line Utf8 (chars bs) column ≡ None
+no_place_at_byte bs column offset u is apart =
+    none_or (place_in_line Utf8 (chars bs) column) (λ k h.
+    let b = place_in_line-sound Utf8 (chars bs) column k h in
+    let whole = units-utf8_text bs u in
+    let cs = chars bs in
+    ⊎_elim
+    (λ p.
+    let q = p.0 in
+    let e : length bs ≡ offset = omega arith in
+    apart (subst (λ (x : ℕ). IsCharBoundary bs x) e (IsCharBoundary-end bs)))
+    (λ p.
+    let at = seam bs k column u (sym p ∙ units-utf8 (take k cs)) in
+    let le = at.boundary.0 in
+    let e : column ≡ offset = omega arith in
+    apart (subst (λ (x : ℕ). IsCharBoundary bs x) e at.boundary))
+    b.column_is)
+
+option_map-zero : (o : Option ℕ) → o ≡ option_map (λ (k : ℕ). 0 + k) o
+option_map-zero None = refl
+option_map-zero (Some k) = ap Some (omega arith)
+
+option_map-more : (n : ℕ) (o : Option ℕ) → option_map (λ (k : ℕ). k + 1) (option_map (λ (k : ℕ). n + k) o) ≡ option_map (λ (k : ℕ). suc n + k) o
+option_map-more n None = refl
+option_map-more n (Some k) = ap Some (omega arith)
+
+-- a column that leaves some characters behind
+pub place_in_line-append : (enc : Encoding) (xs ys : List ℕ) (column left : ℕ) → units enc xs + left ≡ column →
+    place_in_line enc (xs ++ ys) column ≡ option_map (λ (k : ℕ). length xs + k) (place_in_line enc ys left)
+place_in_line-append enc [] ys column left is =
+    let e : column ≡ left = omega arith in
+    ap (place_in_line enc ys) e ∙ option_map-zero (place_in_line enc ys left)
+place_in_line-append enc (x ∷ xs) ys column left is =
+    let rest : units enc xs + left ≡ column - units_of_char enc x = omega arith in
+    past enc x (xs ++ ys) column (omega arith)
+    ∙ ap (option_map (λ (k : ℕ). k + 1)) (place_in_line-append enc xs ys (column - units_of_char enc x) left rest)
+    ∙ option_map-more (length xs) (place_in_line enc ys left)
+
+-- whole chunks are left behind, and a column is looked for in the rest
+pub place_past_skipped : (enc : Encoding) (line rest : List ℕ) (column bytes left : ℕ) → IsUtf8 line → IsSkipped enc line column bytes left → rest ≡ drop bytes line →
+    place_in_line enc (chars line) column ≡ option_map (λ (k : ℕ). length (chars (take bytes line)) + k) (place_in_line enc (chars rest) left)
+place_past_skipped enc line rest column bytes left u h is =
+    ap (λ (x : List ℕ). place_in_line enc x column) (chars-cut line bytes u h.boundary)
+    ∙ place_in_line-append enc (chars (take bytes line)) (chars (drop bytes line)) column left h.left_is
+    ∙ ap (λ (x : List ℕ). option_map (λ (k : ℕ). length (chars (take bytes line)) + k) (place_in_line enc (chars x) left)) (sym is)
+
+pub offset_past_skipped : (enc : Encoding) (line rest : List ℕ) (column bytes left offset : ℕ) → IsUtf8 line → IsSkipped enc line column bytes left → rest ≡ drop bytes line → IsOffset enc rest left offset →
+    IsOffset enc line column (bytes + offset)
+offset_past_skipped enc line rest column bytes left offset u h is o =
+    let at : IsCharBoundary (drop bytes line) offset = subst (λ (x : List ℕ). IsCharBoundary x offset) is o.boundary in
+    let xs = take offset rest in
+    let len : length xs ≡ offset = length-take-le offset rest o.boundary.0 in
+    let front : take (bytes + offset) line ≡ take bytes line ++ xs =
+    take-add_here line bytes offset xs (drop offset rest) (sym is ∙ sym (take-append-drop offset rest)) len in
+    record {
+      boundary = IsCharBoundary-from_rest line bytes offset h.boundary.0 at;
+      place =
+          place_past_skipped enc line rest column bytes left u h is ∙ ap (option_map (λ (k : ℕ). length (chars (take bytes line)) + k)) o.place
+          ∙ ap Some (sym (length-append (chars (take bytes line)) (chars xs)) ∙ ap length (sym (chars-append (take bytes line) xs (IsUtf8-take line bytes u h.boundary)) ∙ ap chars (sym front)));
+    }
+
+-- what is left after whole chunks
+pub record IsLeft (enc : Encoding) (line : List ℕ) (column bytes left : ℕ) (rest : List ℕ) : Type 0 where
+  pub skipped : IsSkipped enc line column bytes left
+  pub rest_is : rest ≡ drop bytes line
+  pub utf8 : IsUtf8 rest
+
+pub all_left : (enc : Encoding) (line : List ℕ) (column : ℕ) → IsUtf8 line → IsLeft enc line column 0 column line
+all_left enc line column u =
+    record {
+      skipped = record { boundary = IsCharBoundary-start line u; left_is = ap (λ (x : List ℕ). units enc x + column) chars-nil ∙ (let e : 0 + column ≡ column = omega arith in e) };
+      rest_is = refl;
+      utf8 = u;
+    }
+
+-- one more chunk is left behind
+pub skip_more : (enc : Encoding) (line rest chunk tail : List ℕ) (column bytes left width mid : ℕ) → IsUtf8 line → IsLeft enc line column bytes left rest → IsCharBoundary rest mid →
+    chunk ≡ take mid rest → tail ≡ drop mid rest → length chunk ≡ mid → width ≡ units enc (chars chunk) → width ≤ left → IsLeft enc line column (bytes + length chunk) (left - width) tail
+skip_more enc line rest chunk tail column bytes left width mid u h b front back len wide le =
+    let is = h.rest_is in
+    let old = h.skipped.left_is in
+    let here : drop bytes line ≡ chunk ++ tail = sym is ∙ sym (ap (λ (x : List ℕ). x ++ tail) front ∙ ap (λ (x : List ℕ). take mid rest ++ x) back ∙ take-append-drop mid rest) in
+    let more : take (bytes + length chunk) line ≡ take bytes line ++ chunk = take-add_here line bytes (length chunk) chunk tail here refl in
+    let chars_more : chars (take (bytes + length chunk) line) ≡ chars (take bytes line) ++ chars chunk = ap chars more ∙ chars-append (take bytes line) chunk (IsUtf8-take line bytes u h.skipped.boundary) in
+    let at : IsCharBoundary (drop bytes line) (length chunk) = subst (λ (x : List ℕ). IsCharBoundary x (length chunk)) is (subst (λ (x : ℕ). IsCharBoundary rest x) (sym len) b) in
+    record {
+      skipped =
+          record {
+            boundary = IsCharBoundary-from_rest line bytes (length chunk) h.skipped.boundary.0 at;
+            left_is = omega (arith, ap (units enc) chars_more, units-append enc (chars (take bytes line)) (chars chunk));
+          };
+      rest_is = back ∙ ap (drop mid) is ∙ drop-drop mid bytes line ∙ ap (λ (x : ℕ). drop (bytes + x) line) (sym len);
+      utf8 = subst (λ (x : List ℕ). IsUtf8 x) (sym back) (IsUtf8-drop rest mid h.utf8 b);
+    }

@@ -1,0 +1,7 @@
+use Rattle.std.proofs.Common.{◌≡◌, ◌++◌, take}
+use lib.Utf8.{encodes}
+use Rattle.lsp_text.specs.Lines.{text_of}
+use Rattle.lsp_text.proofs.lined.held.spell.Given as goal
+
+abbrev pub invariant-loop-line : goal.invariant-loop-line
+invariant-loop-line l = l.text ≡ encodes (text_of (take l.line-index l.lines)) ++ l.rest

@@ -1,0 +1,12 @@
+use Rattle.std.proofs.Common.{◌≡◌, length, arith, ap, sym, ◌∙◌}
+use Rattle.lsp_rpc.specs.declared.plain.Encoding.TheVariants.{Utf8}
+use Rattle.lsp_text.specs.Lines.{Line, lines_of}
+use Rattle.lsp_text.specs.Places.{units}
+use Rattle.lsp_text.proofs.Rewrites.{line_of_kept}
+use Rattle.lsp_text.proofs.lined.lines.Lines.body_len.Goals as goal
+
+pub returns : goal.returns
+returns c =
+    let lines : lines_of c.args.self.now ≡ c.self.inside.items.items = ap lines_of (sym c.self.view_is) ∙ c.self.invariant.lines in
+    c.body_len.ensures
+    ∙ ap (λ (l : Line). units Utf8 l.text) (line_of_kept c.args.self.now c.self.inside.items.items c.args.i c.index.result.now lines (omega (arith, ap length lines)) c.index.ensures)

@@ -1,0 +1,13 @@
+-- The changes of a notification, as edits of a text.
+use Rattle.std.specs.Prelude.{List, map}
+use Rattle.std.specs.Str.{chars}
+use Rattle.std.specs.String.{string_bytes}
+use Rattle.lsp_rpc.specs.declared.act.Change.{Change}
+use Rattle.lsp_text.specs.Edits.{Edit}
+
+-- a change, its text as characters
+abbrev pub edit_of : Change → Edit
+edit_of c = record { span = c.span; text = chars (string_bytes c.text) }
+
+abbrev pub edits_of : List Change → List Edit
+edits_of cs = map edit_of cs

@@ -1,0 +1,66 @@
+-- What a change makes of a text.
+use Rattle.std.specs.Prelude.{◌≡◌, ℕ, cond, nat_lt, List, [], ◌∷◌, ◌++◌, take, drop}
+use Rattle.std.specs.declared.option.Option.{Option}
+use Rattle.std.specs.declared.option.Option.TheVariants.{Some, None}
+use Rattle.std.specs.declared.result.Result.{Result}
+use Rattle.std.specs.declared.result.Result.TheVariants.{Ok, Err}
+use Rattle.lsp_rpc.specs.declared.plain.Encoding.{Encoding}
+use Rattle.lsp_rpc.specs.declared.plain.Encoding.TheVariants.{Utf8}
+use Rattle.lsp_rpc.specs.declared.plain.Span.{Span}
+use Rattle.lsp_text.specs.declared.fault.TextFault.{TextFault}
+use Rattle.lsp_text.specs.declared.fault.TextFault.TheVariants.{Rule, Memory}
+use Rattle.lsp_text.specs.declared.store.Place.{Place}
+use Rattle.lsp_text.specs.Places.{units, place_of}
+
+-- `s` in the place of the characters from `a` up to `b`
+abbrev pub splice : List ℕ → ℕ → ℕ → List ℕ → List ℕ
+splice t a b s = take a t ++ s ++ drop b t
+
+-- a text of at most `limit` bytes, or 607
+abbrev pub limited : ℕ → List ℕ → Result (List ℕ) ℕ
+limited limit t = cond (nat_lt limit (units Utf8 t)) (Err 607) (Ok t)
+
+-- a splice between two places: 605 where one is none, 606 where they are reversed
+abbrev pub spliced : List ℕ → Option ℕ → Option ℕ → List ℕ → ℕ → Result (List ℕ) ℕ
+spliced t None b s limit = Err 605
+spliced t (Some a) None s limit = Err 605
+spliced t (Some a) (Some b) s limit = cond (nat_lt b a) (Err 606) (limited limit (splice t a b s))
+
+-- `s` in the place of what a span holds: the text, or the rule that refuses it
+abbrev pub replaced : Encoding → List ℕ → Span → List ℕ → ℕ → Result (List ℕ) ℕ
+replaced enc t span s limit = spliced t (place_of enc t span.first) (place_of enc t span.second) s limit
+
+-- a change: of a span, or of the whole text
+abbrev pub changed : Encoding → List ℕ → Option Span → List ℕ → ℕ → Result (List ℕ) ℕ
+changed enc t None s limit = limited limit s
+changed enc t (Some span) s limit = replaced enc t span s limit
+
+-- a change: `text` in the place of the span, or of all where there is none
+pub record Edit : Type 0 where
+  pub span : Option Span
+  pub text : List ℕ
+
+-- what comes next, unless a rule was broken
+abbrev pub and_then : Result (List ℕ) ℕ → (List ℕ → Result (List ℕ) ℕ) → Result (List ℕ) ℕ
+and_then (Err rule) f = Err rule
+and_then (Ok t) f = f t
+
+-- changes in order, each of the text that the one before left: the text, or the rule that refuses the first change that fails
+abbrev pub applied : ℕ → Encoding → List ℕ → List Edit → Result (List ℕ) ℕ
+applied limit enc t [] = Ok t
+applied limit enc t (c ∷ cs) = and_then (changed enc t c.span c.text limit) (λ u. applied limit enc u cs)
+
+-- some of the changes, from the first on, make this text
+pub record MakesFirst (limit : ℕ) (enc : Encoding) (t : List ℕ) (cs : List Edit) (u : List ℕ) : Type 0 where
+  pub count : ℕ
+  pub made : applied limit enc t (take count cs) ≡ Ok u
+
+-- the fault is that rule, or that memory was refused
+abbrev pub IsFaultOf : Result (List ℕ) ℕ → TextFault → Type 0
+IsFaultOf r (Rule rule) = r ≡ Err rule
+IsFaultOf r Memory = Unit {0}
+
+-- the place, or 605 where there is none
+abbrev pub IsPlaceOr605 : Option ℕ → Result Place TextFault → Type 0
+IsPlaceOr605 None r = r ≡ Err (Rule 605)
+IsPlaceOr605 (Some k) r = r ≡ Ok (record { chars = k })

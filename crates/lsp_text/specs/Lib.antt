@@ -1,0 +1,13 @@
+pub mod Lines
+pub mod Places
+pub mod Edits
+pub mod Changes
+pub mod FirstLine
+pub mod LineEnd
+pub mod Offsets
+pub mod HeldLine
+pub mod HeldLines
+pub mod Rewriting
+pub mod Steps
+pub mod Spots
+pub mod Counted

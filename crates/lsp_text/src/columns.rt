@@ -1,0 +1,136 @@
+//! Columns of a line, which count units of an encoding, as offsets in its bytes.
+
+ghost use Rattle.std.specs.Prelude.{◌≡◌, None, MatchOption};
+ghost use Rattle.std.specs.Str.{chars};
+ghost use Rattle.lsp_text.specs.Places.{units, units_of_char, place_in_line};
+ghost use Rattle.lsp_text.specs.Offsets.{IsOffset, IsSkipped};
+
+use crate::counts::measure;
+use lsp_rpc::Encoding;
+
+/// The bytes of which the units are counted at once.
+const CHUNK: usize = 512;
+
+/// The part of a line that a column leaves behind it, and the column in what is left.
+#[derive(Clone, Copy)]
+struct Skipped {
+    bytes: usize,
+    left: u32,
+}
+
+/// The bytes of a line before a column, or `None` where the column lies inside a character. The line's
+/// units and its characters are counted already: they tell where a column past the line and one of
+/// characters of one byte each lie.
+pub(crate) fn offset_in_counted(
+    line: &str,
+    width: u64,
+    count: u64,
+    encoding: Encoding,
+    column: u32,
+) -> Option<usize>
+    requires width { width ≡ units encoding (chars line.now) }
+    requires count { count ≡ units Encoding.Utf32 (chars line.now) }
+    ensures { MatchOption result (place_in_line encoding (chars line.now) column ≡ None) (IsOffset encoding line.now column) }
+{
+    if width <= column as u64 {
+        return Some(line.len());
+    }
+    if count == line.len() as u64 {
+        return Some(column as usize);
+    }
+    offset_in_line(line, encoding, column)
+}
+
+/// The bytes of a line before a column, or `None` where the column lies inside a character.
+pub(crate) fn offset_in_line(line: &str, encoding: Encoding, column: u32) -> Option<usize>
+    ensures { MatchOption result (place_in_line encoding (chars line.now) column ≡ None) (IsOffset encoding line.now column) }
+{
+    match encoding {
+        Encoding::Utf8 => offset_of_byte(line, column),
+        Encoding::Utf16 | Encoding::Utf32 => offset_past_chunks(line, encoding, column),
+    }
+}
+
+// The same under UTF-8, where a column counts bytes.
+fn offset_of_byte(line: &str, column: u32) -> Option<usize>
+    ensures { MatchOption result (place_in_line Encoding.Utf8 (chars line.now) column ≡ None) (IsOffset Encoding.Utf8 line.now column) }
+{
+    let offset = line.len().min(column as usize);
+    if line.is_char_boundary(offset) {
+        Some(offset)
+    } else {
+        None
+    }
+}
+
+// The same by whole chunks, and then by characters.
+fn offset_past_chunks(line: &str, encoding: Encoding, column: u32) -> Option<usize>
+    ensures { MatchOption result (place_in_line encoding (chars line.now) column ≡ None) (IsOffset encoding line.now column) }
+{
+    let skipped = skip_chunks(line, encoding, column);
+    let (_, rest) = line.split_at(skipped.bytes);
+    let offset = offset_by_chars(rest, encoding, skipped.left)?;
+    Some(skipped.bytes + offset)
+}
+
+// Whole chunks before a column.
+fn skip_chunks(line: &str, encoding: Encoding, column: u32) -> Skipped
+    ensures { IsSkipped encoding line.now column result.bytes result.left }
+{
+    let mut bytes = 0;
+    let mut left = column;
+    let mut rest = line;
+    while rest.len() > CHUNK {
+        let (chunk, tail) = rest.split_at(rest.floor_char_boundary(CHUNK));
+        let width = width_of(chunk, encoding);
+        if chunk.is_empty() || width > left as u64 {
+            break;
+        }
+        bytes += chunk.len();
+        left -= width as u32;
+        rest = tail;
+    }
+    Skipped { bytes, left }
+}
+
+// The units of a text.
+fn width_of(text: &str, encoding: Encoding) -> u64
+    ensures { result ≡ units encoding (chars text.now) }
+{
+    match encoding {
+        Encoding::Utf8 => text.len() as u64,
+        Encoding::Utf16 => measure(text).utf16,
+        Encoding::Utf32 => measure(text).chars,
+    }
+}
+
+// The units of a character.
+fn units_of(c: char, encoding: Encoding) -> u32
+    ensures { result ≡ units_of_char encoding c }
+{
+    match encoding {
+        Encoding::Utf8 => c.len_utf8() as u32,
+        Encoding::Utf16 => c.len_utf16() as u32,
+        Encoding::Utf32 => 1,
+    }
+}
+
+// The bytes of a text before a column, character by character.
+fn offset_by_chars(text: &str, encoding: Encoding, column: u32) -> Option<usize>
+    ensures { MatchOption result (place_in_line encoding (chars text.now) column ≡ None) (IsOffset encoding text.now column) }
+{
+    let mut left = column;
+    let mut offset = 0;
+    for c in text.chars() {
+        if left == 0 {
+            return Some(offset);
+        }
+        let width = units_of(c, encoding);
+        if left < width {
+            return None;
+        }
+        left -= width;
+        offset += c.len_utf8();
+    }
+    Some(offset)
+}

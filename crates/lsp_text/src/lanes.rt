@@ -1,0 +1,59 @@
+//! Bytes of UTF-8 counted 32 at a time.
+
+ghost use Rattle.std.specs.Prelude.{◌≡◌, length, count_by, nat_lt};
+
+use std::simd::u8x32;
+
+/// The least byte that goes on with a character.
+const CONTINUATION: u8 = 0x80;
+
+/// The least byte that begins a character of several bytes.
+const LEAD: u8 = 0xC0;
+
+/// The least byte that begins a character of four bytes.
+const LEAD_OF_FOUR: u8 = 0xF0;
+
+/// How many bytes lie below the continuation bytes, below the lead bytes, and below the lead bytes of four.
+#[derive(Clone, Copy)]
+pub(crate) struct BytesBelow {
+    pub(crate) continuations: usize,
+    pub(crate) leads: usize,
+    pub(crate) leads_of_four: usize,
+}
+
+/// Counts the bytes below each bound, in one pass.
+pub(crate) fn count_below(bytes: &[u8]) -> BytesBelow
+    ensures continuations { result.continuations ≡ count_by (λ x. nat_lt x CONTINUATION) bytes.now }
+    ensures leads { result.leads ≡ count_by (λ x. nat_lt x LEAD) bytes.now }
+    ensures leads_of_four { result.leads_of_four ≡ count_by (λ x. nat_lt x LEAD_OF_FOUR) bytes.now }
+{
+    let mut continuations = 0;
+    let mut leads = 0;
+    let mut leads_of_four = 0;
+    let mut at = 0;
+    while at + 32 <= bytes.len() {
+        let block = u8x32::from_slice(&bytes[at..]);
+        continuations += count_in(block, CONTINUATION) as usize;
+        leads += count_in(block, LEAD) as usize;
+        leads_of_four += count_in(block, LEAD_OF_FOUR) as usize;
+        at += 32;
+    }
+    for byte in &bytes[at..] {
+        continuations += (*byte < CONTINUATION) as usize;
+        leads += (*byte < LEAD) as usize;
+        leads_of_four += (*byte < LEAD_OF_FOUR) as usize;
+    }
+    BytesBelow {
+        continuations,
+        leads,
+        leads_of_four,
+    }
+}
+
+// How many of 32 bytes lie below a bound.
+fn count_in(block: u8x32, bound: u8) -> u32
+    requires { length block ≡ 32 }
+    ensures { result ≡ count_by (λ x. nat_lt x bound) block }
+{
+    block.simd_lt(u8x32::splat(bound)).to_bitmask().count_ones()
+}

@@ -1,0 +1,31 @@
+//! Laws of the definitions. Each function has no code: its contract is the law.
+
+ghost use Rattle.lsp_text.specs.Lines.{LinesAreTheCut, LinesOfJoined};
+ghost use Rattle.lsp_text.specs.Places.{PlacesAreDenoted, OnePlaceAtMost, CharactersDenote};
+
+/// Every text has exactly one cut into lines, as LSP 3.17, "Text Documents", has them: each line but the
+/// last ends with CR LF, LF or CR, none has a line end inside, and no CR before a LF ends a line by itself.
+pub fn lines_are_the_cut()
+    ensures { LinesAreTheCut }
+{}
+
+/// The law of re-cutting: where a text ends with a line end, and no CR at its end meets a LF, its lines stay
+/// when a text follows, and that text's lines come after them.
+pub fn lines_of_joined()
+    ensures { LinesOfJoined }
+{}
+
+/// A position denotes exactly the place that is computed.
+pub fn places_are_denoted()
+    ensures { PlacesAreDenoted }
+{}
+
+/// A position of an encoding denotes at most one place.
+pub fn positions_denote_one_place()
+    ensures { OnePlaceAtMost }
+{}
+
+/// Where columns count characters (UTF-32), each position denotes a place.
+pub fn characters_denote()
+    ensures { CharactersDenote }
+{}

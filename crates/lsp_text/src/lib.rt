@@ -1,0 +1,33 @@
+//! Texts as lists of characters: the places that positions denote, and stores that are edited.
+//!
+//! [`TextStore`] says what a store of a text is, and [`change`] and [`change_all`] make the changes of
+//! a `textDocument/didChange` in any of them. [`Plain`] keeps a text in one `String`. [`Lined`] keeps
+//! its lines, and an edit touches no others than those of its span and the one before. [`measure`]
+//! counts characters and units of UTF-16.
+#![tactic(auto)]
+
+mod changes;
+mod columns;
+mod counts;
+mod cut;
+mod edit;
+mod fault;
+mod lanes;
+mod laws;
+mod lined;
+mod plain;
+mod spot;
+mod store;
+#[cfg(test)]
+mod tests;
+
+pub use changes::{change, change_all};
+pub use counts::{Counts, measure};
+pub use fault::TextFault;
+pub use laws::{
+    characters_denote, lines_are_the_cut, lines_of_joined, places_are_denoted,
+    positions_denote_one_place,
+};
+pub use lined::Lined;
+pub use plain::Plain;
+pub use store::{Place, TextStore};

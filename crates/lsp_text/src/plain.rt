@@ -1,0 +1,144 @@
+//! A text in one `String`, cut into lines anew at each position.
+
+ghost use Rattle.std.specs.Prelude.{◌≡◌, ◌≤◌, None, length, MatchOption};
+ghost use Rattle.std.specs.Str.{chars};
+ghost use Rattle.lsp_text.specs.Lines.{lines_of};
+ghost use Rattle.lsp_text.specs.Places.{place_of};
+ghost use Rattle.lsp_text.specs.Offsets.{IsTextOffset};
+
+use crate::columns::offset_in_line;
+use crate::counts::measure;
+use crate::cut::FirstLine;
+use crate::fault::{INSIDE_CHARACTER, OVER_LIMIT, REVERSED, TextFault};
+use crate::store::{Place, TextStore};
+use lsp_rpc::{Encoding, Memory, Position, Span};
+use std::alloc::Global;
+use std::marker::Model;
+
+/// A text in one `String`. A position costs a look at the lines up to its own, and an edit moves the bytes
+/// behind it.
+#[derive(Drop)]
+pub struct Plain {
+    text: String,
+}
+
+impl Model for Plain {
+    ghost use Rattle.std.specs.Prelude.{List, ℕ};
+    ghost use Rattle.std.specs.Str.{chars};
+    ghost use Rattle.std.specs.String.{string_bytes};
+
+    ghost Value = { List ℕ };
+
+    ghost view = { λ a. chars (string_bytes a.text) };
+}
+
+impl TextStore for Plain {
+    ghost content = { λ s. s };
+
+    fn from_text(alloc: Global, text: &str) -> Result<Plain, Memory> {
+        let text = String::from_str(alloc, text)?;
+        Ok(Plain { text })
+    }
+
+    fn resolve(&self, encoding: Encoding, position: Position) -> Result<Place, TextFault> {
+        let text = self.text.as_str();
+        match offset_of(text, encoding, position) {
+            None => Err(TextFault::Rule(INSIDE_CHARACTER)),
+            Some(offset) => {
+                let (front, _) = text.split_at(offset);
+                Ok(Place {
+                    chars: measure(front).chars,
+                })
+            }
+        }
+    }
+
+    fn replace(
+        &mut self,
+        encoding: Encoding,
+        span: Span,
+        text: &str,
+        limit: u64,
+    ) -> Result<(), TextFault> {
+        let held = self.text.as_str();
+        let Some(first) = offset_of(held, encoding, span.first) else {
+            return Err(TextFault::Rule(INSIDE_CHARACTER));
+        };
+        let Some(second) = offset_of(held, encoding, span.second) else {
+            return Err(TextFault::Rule(INSIDE_CHARACTER));
+        };
+        if second < first {
+            return Err(TextFault::Rule(REVERSED));
+        }
+        if limit < (first + text.len() + (held.len() - second)) as u64 {
+            return Err(TextFault::Rule(OVER_LIMIT));
+        }
+        self.text.replace_range(first..second, text)?;
+        Ok(())
+    }
+
+    fn replace_all(&mut self, text: &str, limit: u64) -> Result<(), TextFault> {
+        if limit < text.len() as u64 {
+            return Err(TextFault::Rule(OVER_LIMIT));
+        }
+        let len = self.text.as_str().len();
+        self.text.replace_range(0..len, text)?;
+        Ok(())
+    }
+
+    fn equals(&self, text: &str) -> bool {
+        self.text.as_str() == text
+    }
+
+    fn to_text(&self, alloc: Global) -> Result<String, Memory> {
+        Ok(String::from_str(alloc, self.text.as_str())?)
+    }
+
+    fn byte_len(&self) -> u64 {
+        self.text.as_str().len() as u64
+    }
+
+    fn line_count(&self) -> u64 {
+        count_lines(self.text.as_str())
+    }
+
+    fn copy(&self, alloc: Global) -> Result<Plain, Memory> {
+        Plain::from_text(alloc, self.text.as_str())
+    }
+}
+
+// The lines of a text.
+fn count_lines(text: &str) -> u64
+    ensures { result ≡ length (lines_of (chars text.now)) }
+{
+    let mut count = 1;
+    let mut rest = text;
+    while let Some(line) = FirstLine::of(rest) {
+        count += 1;
+        rest = line.rest;
+    }
+    count
+}
+
+// The bytes of a text before a position, or `None` where it lies inside a character.
+fn offset_of(text: &str, encoding: Encoding, position: Position) -> Option<usize>
+    ensures { MatchOption result (place_of encoding (chars text.now) position ≡ None) (IsTextOffset encoding text.now position) }
+{
+    let mut start = 0;
+    let mut rest = text;
+    for i in 0..position.line {
+        match FirstLine::of(rest) {
+            None => return Some(text.len()),
+            Some(line) => {
+                start += line.text.len() + line.end.len();
+                rest = line.rest;
+            }
+        }
+    }
+    let line = match FirstLine::of(rest) {
+        None => rest,
+        Some(line) => line.text,
+    };
+    let offset = offset_in_line(line, encoding, position.column)?;
+    Some(start + offset)
+}

@@ -1,0 +1,5 @@
+pub mod PartsLemmas
+pub mod Found
+pub mod Streams
+pub mod Runs
+pub mod Endings
