@@ -1,18 +1,18 @@
 -- A record at the front of a tape, or why there is none.
-use Rattle.std.proofs.Common.{◌≡◌, ℕ, ◌+◌, ◌<◌, ◌≤◌, Bool, true, false, List, [], ◌∷◌, ◌++◌, length, take, drop, Option, Some, None, refl, sym, ap, subst, ◌∙◌, append_assoc, inl, inr, arith}
+use Rattle.std.proofs.Common.{◌≡◌, ℕ, ◌+◌, ◌<◌, true, false, List, [], ◌++◌, length, take, drop, Option, Some, None, sym, ap, subst, ◌∙◌, append_assoc, inl, inr, arith}
 use Rattle.std.specs.List.{flat_map}
-use Rattle.std.proofs.lemmas.List.{take_all, nil_from_length}
+use Rattle.std.proofs.lemmas.List.{take_all}
 use Rattle.lsp_frame.specs.Bounds.{Bounds}
 use Rattle.lsp_frame.specs.Sink.{Told}
 use Rattle.lsp_log.specs.Log as log
 use Rattle.lsp_log.specs.Log.{Flaw, bad_line, bad_number, cut_short, bad_end, not_utf8, Breaks, EndsWith, HasLine, HasHead, Fits, spelling, head_line, in_range, with_feed, holds_feed, head_of, parts_of, IsText}
 use Rattle.lsp_log.specs.Words.{head_view, IsHead}
-use Rattle.lsp_log.specs.Tape.{Held, Pulled, Filled, Taken, ReadFailed, Refused, IsOver}
-use Rattle.lsp_log.specs.Stops.{Ends, StopAnswer, PartsBreak, PartsLack, HasParts, Found, wants_bytes}
+use Rattle.lsp_log.specs.Tape.{Held, Pulled, Filled}
+use Rattle.lsp_log.specs.Stops.{Ends, StopAnswer, PartsBreak, HasParts, Found}
 use Rattle.lsp_log.specs.declared.head.Head.{Head}
 use Rattle.lsp_log.specs.declared.stop.Stop.{Stop}
 use Rattle.lsp_log.specs.declared.stop.Stop.TheVariants.{FirstLine, Nothing, Form, Number, Short, End, Text, Read, Memory}
-use Rattle.lsp_log.proofs.Tapes.{pulled_then, failed_then, refused_then, pulled_from}
+use Rattle.lsp_log.proofs.Tapes.{pulled_then, failed_then, refused_then}
 
 pub full_window : (limits : Bounds) (old new : Held) (before after : Told) (piece near : List ℕ) → Filled old new before after piece → holds_feed new.rest ≡ false → near ≡ new.rest → length near ≡ 64
     → Ends (EndsWith limits) old new before after (Some bad_line)

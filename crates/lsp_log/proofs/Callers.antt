@@ -1,5 +1,5 @@
 -- What a caller of `next` concludes from the answers.
-use Rattle.std.proofs.Common.{◌≡◌, ℕ, ◌+◌, ◌^◌, ◌≤◌, List, [], ◌∷◌, ◌++◌, length, Option, Some, None, Result, Ok, Err, refl, sym, ap, subst, ◌∙◌, append_assoc, append-nil, arith}
+use Rattle.std.proofs.Common.{◌≡◌, ℕ, ◌+◌, ◌^◌, ◌≤◌, List, [], ◌∷◌, ◌++◌, length, Option, Some, None, Result, Ok, Err, refl, sym, ap, subst, ◌∙◌, append-nil, arith}
 use Rattle.std.proofs.lemmas.List.{length-append}
 use Rattle.std.specs.Io.KnownBytes.{Consumes, IsAtEnd}
 use Rattle.lsp_frame.specs.Bounds.{Bounds}
@@ -7,7 +7,7 @@ use Rattle.lsp_frame.specs.Sink.{Told}
 use Rattle.lsp_log.specs.Log as log
 use Rattle.lsp_log.specs.Log.{IsLog}
 use Rattle.lsp_log.specs.Records.{record_view}
-use Rattle.lsp_log.specs.Reader.{State, StandsFor, Given, Gives, empty, kept_by, records_with}
+use Rattle.lsp_log.specs.Reader.{State, StandsFor, Gives, empty, kept_by, records_with}
 use Rattle.lsp_log.specs.declared.fault.LogCode.{LogCode}
 use Rattle.lsp_log.specs.declared.fault.LogFault.{LogFault}
 use Rattle.lsp_log.specs.declared.fault.LogFault.TheVariants.{Bad}
@@ -100,6 +100,8 @@ counted_whole all start before after old new limits count c known same gives =
 pub counted_bad : (all : List ℕ) (start : Option (List ℕ)) (before after : Told) (old new : State) (limits : Bounds) (count number : ℕ) (code : LogCode) (fault : LogFault) → Counted start before old limits count → start ≡ Some all → new.limits ≡ old.limits
     → fault ≡ Bad number code → (kept_by old ≡ None → Gives old new before after (Err fault)) → (records : List log.Record) × IsLog limits all records (Some (number, code))
 counted_bad all start before after old new limits count number code fault c known same is gives =
-    let follows = subst (λ (w : Option (List ℕ)). Follows w before old c.bytes c.records) known c.follows in
-    (c.records, subst (λ (b : Bounds). IsLog b all c.records (Some (number, code))) (same ∙ c.limits_are)
-    (bad_log all before after old new c.bytes c.records number code follows (subst (λ (f : LogFault). Gives old new before after (Err f)) is (gives c.free))))
+    let follows = subst (λ (w : Option (List ℕ)). Follows w before old c.bytes c.records) known c.follows in (
+      c.records,
+      subst (λ (b : Bounds). IsLog b all c.records (Some (number, code))) (same ∙ c.limits_are)
+          (bad_log all before after old new c.bytes c.records number code follows (subst (λ (f : LogFault). Gives old new before after (Err f)) is (gives c.free))),
+    )

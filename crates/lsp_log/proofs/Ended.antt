@@ -1,5 +1,5 @@
 -- What a reader answers where no record is left, or where reading stops.
-use Rattle.std.proofs.Common.{◌≡◌, ◌⊎◌, ℕ, zero, suc, ◌+◌, ◌-◌, ◌^◌, ◌<◌, ◌≤◌, Bool, true, false, List, [], ◌∷◌, ◌++◌, length, take, drop, Option, Some, None, Result, Ok, Err, refl, sym, ap, subst, ◌∙◌, append_assoc, append-nil, inl, inr, arith, lit≤, min}
+use Rattle.std.proofs.Common.{◌≡◌, ◌⊎◌, ℕ, ◌+◌, ◌-◌, ◌<◌, ◌≤◌, Bool, true, false, List, [], ◌∷◌, ◌++◌, length, take, drop, Option, Some, None, Result, Ok, Err, refl, sym, ap, subst, ◌∙◌, append_assoc, append-nil, inl, inr, arith}
 use Rattle.std.specs.Prelude.{nat_lt}
 use Rattle.std.specs.List.{flat_map, AllByRecursion}
 use Rattle.std.specs.Io.KnownBytes.{Consumes, IsAtEnd}
@@ -7,25 +7,24 @@ use Rattle.std.proofs.lemmas.List.{length-append, take-append-le, take-append-dr
 use Rattle.std.proofs.lemmas.Bool.{cases_lt}
 use borrow.Author.Tests.{lt-ltb, ltb-true}
 use Rattle.lsp_frame.specs.Bounds.{Bounds, IsInRange}
-use Rattle.lsp_frame.specs.Failures.{after_failure}
 use Rattle.lsp_frame.specs.Sink.{Told}
 use Rattle.lsp_log.specs.Log as log
 use Rattle.lsp_log.specs.Log.{Flaw, bad_line, bad_number, cut_short, bad_end, not_utf8, EndsWith, Fits, spelling, with_feed, head_line, head_of, parts_of, first_line, BeginsLog, HasRecords, IsLog, code_of, at_record}
-use Rattle.lsp_log.specs.Tape.{Held, Pulled, ReadFailed, Refused, IsOver, IsCutAt}
-use Rattle.lsp_log.specs.Stops.{Ends, LacksFirst, Found, wants_bytes}
+use Rattle.lsp_log.specs.Tape.{Held, ReadFailed, Refused, IsOver, IsCutAt}
+use Rattle.lsp_log.specs.Stops.{Ends, LacksFirst, wants_bytes}
 use Rattle.lsp_log.specs.Records.{record_view}
 use Rattle.lsp_log.specs.Reader.{State, ahead, StandsFor, StandsAt, Begins, Given, Gives, kept_by, kept_in, MayFollow, answer_of}
 use Rattle.lsp_log.specs.declared.reader.Progress.{Progress}
 use Rattle.lsp_log.specs.Ending.{first_of, FindAnswer, EndsBehind, EndAnswer, CutEnd, end_of, next_number, fault_of}
 use Rattle.lsp_log.specs.declared.fault.LogCode.{LogCode}
-use Rattle.lsp_log.specs.declared.fault.LogCode.TheVariants.{L1, L2, L3, L4, L5, L6}
+use Rattle.lsp_log.specs.declared.fault.LogCode.TheVariants.{L1}
 use Rattle.lsp_log.specs.declared.fault.LogFault.{LogFault}
 use Rattle.lsp_log.specs.declared.fault.LogFault.TheVariants as log_fault
 use Rattle.lsp_log.specs.declared.record.Record.{Record}
 use Rattle.lsp_log.specs.declared.stop.Stop.{Stop}
 use Rattle.lsp_log.specs.declared.stop.Stop.TheVariants.{FirstLine, Nothing, Form, Number, Short, End, Text, Read, Memory}
 use Rattle.lsp_log.specs.declared.reader.Progress.TheVariants as progress
-use Rattle.lsp_log.proofs.Tapes.{consumes_then, failed_then, pulled_then}
+use Rattle.lsp_log.proofs.Tapes.{consumes_then, failed_then}
 use Rattle.lsp_log.proofs.Reading.{IsOpen, is_open, behind, number_is, ends_there, two_codes, take_more, record_stands}
 
 -- the log ends so behind these records, whatever may follow
@@ -85,8 +84,8 @@ closed_whole s before now bytes records left flaw none r = record {
   failures = r.failures;
   at_end = λ is. has_code flaw none is;
   holds = λ more _. subst (λ (c : Option LogCode). HasRecords s.limits ((bytes ++ r.piece) ++ more) records c)
-  (two_codes flaw (nat_lt s.limits.log (length ((bytes ++ r.piece) ++ more))) false none)
-  (ends_there s.limits (bytes ++ r.piece) more r.rest records flaw r.whole r.fits (omega (arith, r.left_is)) r.ends (λ w. let clash : true ≡ false = sym w ∙ none in absurd cc));
+      (two_codes flaw (nat_lt s.limits.log (length ((bytes ++ r.piece) ++ more))) false none)
+      (ends_there s.limits (bytes ++ r.piece) more r.rest records flaw r.whole r.fits (omega (arith, r.left_is)) r.ends (λ w. let clash : true ≡ false = sym w ∙ none in absurd cc));
 }
   where
     has_code : {X : Type 0} (f : Option Flaw) → wants_bytes f ≡ false → code_of f false ≡ None → X
@@ -110,11 +109,11 @@ closed_cut s before now after bytes records left flaw wants r (none, byte, read,
       failures = failures ∙ r.failures;
       at_end = λ is. has_code flaw wants is;
       holds = λ more _.
-      let whole : (bytes ++ r.piece) ++ (byte ∷ more) ≡ (bytes ++ (r.piece ++ byte ∷ [])) ++ more = sym (append_assoc (bytes ++ r.piece) (byte ∷ []) more) ∙ ap (λ (w : List ℕ). w ++ more) (sym same) in
-      let long : nat_lt s.limits.log (length ((bytes ++ r.piece) ++ (byte ∷ more))) ≡ true = is_less s.limits.log (length ((bytes ++ r.piece) ++ (byte ∷ more))) (omega (arith, length-append (bytes ++ r.piece) (byte ∷ more), full)) in
-      subst (λ (w : List ℕ). HasRecords s.limits w records (code_of flaw true)) whole
-      (with_code s.limits ((bytes ++ r.piece) ++ (byte ∷ more)) records flaw (nat_lt s.limits.log (length ((bytes ++ r.piece) ++ (byte ∷ more)))) true long
-      (ends_there s.limits (bytes ++ r.piece) (byte ∷ more) r.rest records flaw r.whole r.fits (omega (arith, full)) r.ends (λ w. inl (omega (arith, full)))));
+          let whole : (bytes ++ r.piece) ++ (byte ∷ more) ≡ (bytes ++ (r.piece ++ byte ∷ [])) ++ more = sym (append_assoc (bytes ++ r.piece) (byte ∷ []) more) ∙ ap (λ (w : List ℕ). w ++ more) (sym same) in
+          let long : nat_lt s.limits.log (length ((bytes ++ r.piece) ++ (byte ∷ more))) ≡ true = is_less s.limits.log (length ((bytes ++ r.piece) ++ (byte ∷ more))) (omega (arith, length-append (bytes ++ r.piece) (byte ∷ more), full)) in
+          subst (λ (w : List ℕ). HasRecords s.limits w records (code_of flaw true)) whole
+          (with_code s.limits ((bytes ++ r.piece) ++ (byte ∷ more)) records flaw (nat_lt s.limits.log (length ((bytes ++ r.piece) ++ (byte ∷ more)))) true long
+          (ends_there s.limits (bytes ++ r.piece) (byte ∷ more) r.rest records flaw r.whole r.fits (omega (arith, full)) r.ends (λ w. inl (omega (arith, full)))));
     }
   where
     has_code : {X : Type 0} (f : Option Flaw) → wants_bytes f ≡ true → code_of f true ≡ None → X
@@ -135,12 +134,12 @@ closed_at_end s before now after bytes records left flaw wants r (read, over, fa
   failures = failures ∙ r.failures;
   at_end = λ _. over (r.over wants);
   holds = λ more follows.
-  let none : more ≡ [] = follows (over (r.over wants)) in
-  let whole : (bytes ++ r.piece) ++ [] ≡ (bytes ++ (r.piece ++ [])) ++ more = append-nil (bytes ++ r.piece) ∙ sym same ∙ sym (append-nil (bytes ++ (r.piece ++ []))) ∙ ap (λ (w : List ℕ). (bytes ++ (r.piece ++ [])) ++ w) (sym none) in
-  let short : nat_lt s.limits.log (length ((bytes ++ r.piece) ++ [])) ≡ false = not_less s.limits.log (length ((bytes ++ r.piece) ++ [])) (omega (arith, ap length (append-nil (bytes ++ r.piece)), r.left_is)) in
-  subst (λ (w : List ℕ). HasRecords s.limits w records (code_of flaw false)) whole
-  (with_code s.limits ((bytes ++ r.piece) ++ []) records flaw (nat_lt s.limits.log (length ((bytes ++ r.piece) ++ []))) false short
-  (ends_there s.limits (bytes ++ r.piece) [] r.rest records flaw r.whole r.fits (omega (arith, r.left_is)) r.ends (λ w. inr refl)));
+      let none : more ≡ [] = follows (over (r.over wants)) in
+      let whole : (bytes ++ r.piece) ++ [] ≡ (bytes ++ (r.piece ++ [])) ++ more = append-nil (bytes ++ r.piece) ∙ sym same ∙ sym (append-nil (bytes ++ (r.piece ++ []))) ∙ ap (λ (w : List ℕ). (bytes ++ (r.piece ++ [])) ++ w) (sym none) in
+      let short : nat_lt s.limits.log (length ((bytes ++ r.piece) ++ [])) ≡ false = not_less s.limits.log (length ((bytes ++ r.piece) ++ [])) (omega (arith, ap length (append-nil (bytes ++ r.piece)), r.left_is)) in
+      subst (λ (w : List ℕ). HasRecords s.limits w records (code_of flaw false)) whole
+      (with_code s.limits ((bytes ++ r.piece) ++ []) records flaw (nat_lt s.limits.log (length ((bytes ++ r.piece) ++ []))) false short
+      (ends_there s.limits (bytes ++ r.piece) [] r.rest records flaw r.whole r.fits (omega (arith, r.left_is)) r.ends (λ w. inr refl)));
 }
   where
     same : bytes ++ (r.piece ++ []) ≡ bytes ++ r.piece
@@ -221,14 +220,13 @@ given_first s mid tape given before now bytes records l at stands =
 begins_at : (s : State) (bytes piece : List ℕ) (records : List log.Record) (p : Progress) → kept_in p ≡ None → StandsAt p s bytes records → Begins s.limits (bytes ++ piece) records
 begins_at s bytes piece records progress.FirstLine free st = inl st.none
 begins_at s bytes piece records progress.Records free st = inr (λ more.
-  let tail : List ℕ = take (s.limits.log - length bytes) (piece ++ more) in
-  (
-    s.tape.rest ++ tail,
-    record {
-      whole = ap (take s.limits.log) (append_assoc bytes piece more) ∙ take_more s.limits.log bytes (piece ++ more) (omega (arith, st.left)) ∙ ap (λ (w : List ℕ). w ++ tail) st.whole ∙ append_assoc (first_line ++ flat_map spelling records) s.tape.rest tail;
-      fits = st.fits;
-    },
-  ))
+    let tail : List ℕ = take (s.limits.log - length bytes) (piece ++ more) in (
+      s.tape.rest ++ tail,
+      record {
+        whole = ap (take s.limits.log) (append_assoc bytes piece more) ∙ take_more s.limits.log bytes (piece ++ more) (omega (arith, st.left)) ∙ ap (λ (w : List ℕ). w ++ tail) st.whole ∙ append_assoc (first_line ++ flat_map spelling records) s.tape.rest tail;
+        fits = st.fits;
+      },
+    ))
 begins_at s bytes piece records (progress.Over end) free st = absurd cc
 
 given_read : (s : State) (tape : Held) (given : ℕ) (before after : Told) (bytes : List ℕ) (records : List log.Record) → kept_by s ≡ None → StandsFor s bytes records → ReadFailed s.tape.left before after

@@ -1,11 +1,11 @@
 -- Whether a snapshot is within the limits.
-use Rattle.std.proofs.Common.{◌≡◌, ℕ, ℤ, pos, negsuc, ◌<◌, ◌^◌, Bool, true, false, ◌&&◌, List, length, refl, ap, sym, ◌∙◌, w32, arith}
+use Rattle.std.proofs.Common.{◌≡◌, ℕ, ℤ, pos, negsuc, ◌^◌, Bool, true, ◌&&◌, List, length, sym, ◌∙◌, w32}
 use Rattle.std.specs.Prelude.{IsTrue, IsUtf8, ◌↔◌}
 use Rattle.std.proofs.lemmas.Bool.{and_parts}
 use borrow.Author.Tests.{lt-ltb}
-use mir.Val.{SFits, hbits}
+use mir.Val.{SFits}
 use Rattle.lsp_frame.specs.Bounds.{Bounds}
-use Rattle.lsp_log.specs.Log.{Record, shown, Fits, is_within, is_i32, in_range, head_of}
+use Rattle.lsp_log.specs.Log.{shown, Fits, is_within, is_i32}
 use Rattle.lsp_log.proofs.LogLemmas.{true_both}
 
 pub i32_fits : (v : ℤ) → SFits w32 v → is_i32 v ≡ true

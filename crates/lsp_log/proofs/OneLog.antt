@@ -6,7 +6,7 @@ use Rattle.std.proofs.lemmas.List.{append_cancel_left, length-append, take_all}
 use Rattle.lsp_frame.specs.Bounds.{Bounds, IsInRange}
 use Rattle.lsp_log.specs.declared.fault.LogCode.{LogCode}
 use Rattle.lsp_log.specs.Laws.{OneLog, RecordsComeFirst, WrittenIsRead}
-use Rattle.lsp_log.specs.Log.{first_line, HasRecords, IsLog, BeginsLog, at_record, code_of, Flaw, bad_line, bad_number, cut_short, bad_end, not_utf8, EndsWith, Breaks, HasLine, HasHead, Fits, parts_flaw, lengths_of, in_range, is_writable, Record, Head, head_line, head_of, parts_of, with_feed, spelling, holds_feed}
+use Rattle.lsp_log.specs.Log.{first_line, HasRecords, at_record, code_of, Flaw, bad_line, bad_number, cut_short, bad_end, not_utf8, EndsWith, Breaks, HasLine, Fits, parts_flaw, lengths_of, in_range, is_writable, Record, Head, head_line, head_of, parts_of, with_feed, spelling, holds_feed}
 use Rattle.lsp_log.proofs.LogLemmas.{cut_one, same_head, head_holds_no, head_short, holds_near, holds_cut, parts_stand, range_writable, clash, records_one, spelling_one, no_record_at_end, has_first_line, T-is}
 use Rattle.lsp_log.proofs.Ended.{not_less}
 

@@ -1,18 +1,17 @@
 -- The parts of a record at the front of a tape.
-use Rattle.std.proofs.Common.{◌≡◌, ℕ, ℤ, ◌+◌, ◌<◌, ◌≤◌, Bool, true, false, List, [], ◌∷◌, ◌++◌, length, drop, Option, Some, None, Result, Ok, Err, refl, sym, ap, subst, ◌∙◌, append_assoc, append-nil, arith}
-use Rattle.std.specs.Prelude.{◌==◌, nat_le, slice_index, if◌then◌else◌, IsUtf8, String}
-use Rattle.std.specs.Global.{Global}
+use Rattle.std.proofs.Common.{◌≡◌, ℕ, ℤ, ◌+◌, ◌<◌, ◌≤◌, Bool, true, false, List, [], ◌∷◌, ◌++◌, length, drop, Option, Some, Result, Ok, Err, refl, sym, ap, ◌∙◌, append_assoc, append-nil, arith}
+use Rattle.std.specs.Prelude.{◌==◌, nat_le, slice_index, if◌then◌else◌, IsUtf8}
 use Rattle.std.specs.List.{flat_map}
 use borrow.Author.Tests.{le-leb, leb-true}
 use Rattle.lsp_frame.specs.Bounds.{Bounds}
 use Rattle.lsp_frame.specs.Sink.{Told}
 use Rattle.lsp_log.specs.Log as log
 use Rattle.lsp_log.specs.Log.{Flaw, cut_short, bad_end, not_utf8, parts_flaw, with_feed, head_of, parts_of, shown, shown_head, IsText, EndsWith}
-use Rattle.lsp_log.specs.Tape.{Held, Pulled, Taken, Wants, Misses, PartAnswer}
-use Rattle.lsp_log.specs.Stops.{Ends, StopAnswer, PartsBreak, PartsLack, HasParts, TwoParts, TwoPartsAnswer, TextAnswer, PartsAnswer, FoundAnswer}
+use Rattle.lsp_log.specs.Tape.{Held, Taken, PartAnswer}
+use Rattle.lsp_log.specs.Stops.{Ends, StopAnswer, PartsBreak, HasParts, TwoParts, TwoPartsAnswer, TextAnswer, PartsAnswer, FoundAnswer}
 use Rattle.lsp_log.specs.declared.record.Record.{Record}
 use Rattle.lsp_log.specs.declared.stop.Stop.{Stop}
-use Rattle.lsp_log.specs.declared.stop.Stop.TheVariants.{FirstLine, Nothing, Form, Number, Short, End, Text, Read, Memory}
+use Rattle.lsp_log.specs.declared.stop.Stop.TheVariants.{Text}
 use Rattle.lsp_log.specs.declared.tape.PartFault.{PartFault}
 use Rattle.lsp_log.specs.declared.tape.PartFault.TheVariants as faults
 use Rattle.lsp_log.proofs.LogLemmas.{one_part}

@@ -1,26 +1,25 @@
 -- What a reader stands for, and what its next answer adds.
-use Rattle.std.proofs.Common.{◌≡◌, ◌⊎◌, ℕ, zero, suc, ◌+◌, ◌-◌, ◌^◌, ◌<◌, ◌≤◌, Bool, true, false, List, [], ◌∷◌, ◌++◌, length, take, drop, Option, Some, None, Result, Ok, Err, refl, sym, ap, subst, ◌∙◌, append_assoc, append-nil, inl, inr, arith, lit≤, min}
+use Rattle.std.proofs.Common.{◌≡◌, ◌⊎◌, ℕ, zero, suc, ◌+◌, ◌-◌, ◌^◌, ◌≤◌, Bool, true, false, List, [], ◌∷◌, ◌++◌, length, take, Option, Some, None, Result, Ok, Err, refl, sym, ap, subst, ◌∙◌, append_assoc, append-nil, inl, inr, arith, lit≤, min}
 use Rattle.std.specs.Prelude.{nat_lt}
 use Rattle.std.specs.List.{flat_map, AllByRecursion}
-use Rattle.std.specs.Io.KnownBytes.{Consumes, IsAtEnd}
-use Rattle.std.proofs.lemmas.List.{length-append, take_all, take-append-le, nil_from_length}
+use Rattle.std.proofs.lemmas.List.{length-append}
 use Rattle.std.proofs.lemmas.Grind.{flat_map-append}
 use Rattle.std.proofs.Math.Nat.{min-eq_left}
 use Rattle.lsp_frame.specs.Bounds.{Bounds, IsInRange}
 use Rattle.lsp_frame.specs.Sink.{Told}
 use Rattle.lsp_log.specs.Log as log
 use Rattle.lsp_log.specs.Log.{Flaw, bad_line, bad_number, cut_short, bad_end, not_utf8, EndsWith, Fits, spelling, with_feed, head_line, head_of, parts_of, first_line, BeginsLog, HasRecords, IsLog, code_of}
-use Rattle.lsp_log.specs.Tape.{Held, Pulled, Taken, ReadFailed, Refused, IsOver, IsCutAt}
-use Rattle.lsp_log.specs.Stops.{Ends, LacksFirst, Found, StopAnswer, FoundAnswer, wants_bytes}
+use Rattle.lsp_log.specs.Tape.{Held, Taken}
+use Rattle.lsp_log.specs.Stops.{Ends, Found, FoundAnswer, wants_bytes}
 use Rattle.lsp_log.specs.Records.{record_view}
-use Rattle.lsp_log.specs.Reader.{State, Reads, ReadsNone, StandsFor, StandsAt, Begins, Given, Gives, kept_by, kept_in, MayFollow}
+use Rattle.lsp_log.specs.Reader.{State, StandsFor, StandsAt, kept_by, kept_in}
 use Rattle.lsp_log.specs.Ending.{first_of, FindAnswer, EndsBehind}
 use Rattle.lsp_log.specs.declared.record.Record.{Record}
 use Rattle.lsp_log.specs.declared.reader.Progress.{Progress}
 use Rattle.lsp_log.specs.declared.reader.Progress.TheVariants as progress
 use Rattle.lsp_log.specs.declared.stop.Stop.{Stop}
 use Rattle.lsp_log.specs.declared.stop.Stop.TheVariants.{FirstLine, Nothing, Form, Number, Short, End, Text, Read, Memory}
-use Rattle.lsp_log.proofs.Tapes.{consumes_then, consumes_nothing, pulled_then, pulled_nothing, failed_then, refused_then, taken_both}
+use Rattle.lsp_log.proofs.Tapes.{pulled_then, pulled_nothing, failed_then, refused_then, taken_both}
 use Rattle.lsp_log.proofs.Breaking.{ends_more}
 
 -- ---- an open reader, whether its first line was given or not
@@ -118,12 +117,12 @@ pub record_stands : (old new : State) (before after : Told) (bytes : List ℕ) (
 record_stands old new before after bytes records r f o limits at given = (
   subst IsInRange (sym limits) o.range,
   subst (λ (p : Progress). StandsAt p new (bytes ++ f.taken.piece) (records ++ r ∷ [])) (sym at)
-  (record {
-    whole = behind old bytes records o f.taken.piece (spelling r ++ new.tape.rest) (f.taken.whole ∙ append_assoc (first_of old.progress) (spelling r) new.tape.rest) ∙ spelled_snoc records r new.tape.rest;
-    fits = subst (λ (b : Bounds). AllByRecursion (Fits b) (records ++ r ∷ [])) (sym limits) (fits_snoc old.limits records r o.fits f.fits);
-    left = omega (arith, f.taken.pulled.left, o.left, length-append bytes f.taken.piece, ap (λ (b : Bounds). b.log) limits);
-    given = given ∙ number_is old bytes records o ∙ omega (arith, length-append records (r ∷ []));
-  }),
+      (record {
+        whole = behind old bytes records o f.taken.piece (spelling r ++ new.tape.rest) (f.taken.whole ∙ append_assoc (first_of old.progress) (spelling r) new.tape.rest) ∙ spelled_snoc records r new.tape.rest;
+        fits = subst (λ (b : Bounds). AllByRecursion (Fits b) (records ++ r ∷ [])) (sym limits) (fits_snoc old.limits records r o.fits f.fits);
+        left = omega (arith, f.taken.pulled.left, o.left, length-append bytes f.taken.piece, ap (λ (b : Bounds). b.log) limits);
+        given = given ∙ number_is old bytes records o ∙ omega (arith, length-append records (r ∷ []));
+      }),
 )
 
 -- ---- how a record is found behind the first line

@@ -1,9 +1,8 @@
 -- What a tape holds after it was read into and given from.
 use Rattle.std.proofs.Common.{◌≡◌, Bool, true, false, ℕ, zero, suc, ◌+◌, ◌-◌, ◌<◌, ◌≤◌, List, [], ◌∷◌, ◌++◌, length, take, drop, Option, Some, None, refl, sym, ap, subst, ◌∙◌, append_assoc, append-nil, arith}
-use Rattle.std.specs.Io.KnownBytes.{Consumes, IsAtEnd, Keeps}
+use Rattle.std.specs.Io.KnownBytes.{Consumes, Keeps}
 use Rattle.std.proofs.lemmas.List.{length-append, length-take, length-drop, take-append-le, take_at}
-use Rattle.std.proofs.lemmas.Slice.{take-put_mid_below, take-put_mid}
-use borrow.Rule.Slice.PartMut.{put_mid, mid_of}
+use borrow.Rule.Slice.PartMut.{put_mid}
 use Rattle.lsp_frame.specs.Failures.{after_failure}
 use Rattle.lsp_frame.specs.Sink.{Told}
 use Rattle.memchr.specs.Find.{Passes, Nowhere, NoneBefore, is_byte}

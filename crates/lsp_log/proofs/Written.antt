@@ -4,7 +4,7 @@ use Rattle.std.specs.Prelude.{codes, decimal}
 use Rattle.std.specs.Fmt.{signed_decimal}
 use Rattle.lsp_rpc.specs.declared.plain.Side.{Side}
 use Rattle.lsp_frame.specs.Sink.{Told, Wrote, Stopped, Writes}
-use Rattle.lsp_frame.proofs.Writing.{wrote_then, stopped_then, stopped_before, stopped_first, stopped_second, stopped_third, writes_four, four}
+use Rattle.lsp_frame.proofs.Writing.{wrote_then, stopped_then, stopped_before, four}
 use Rattle.lsp_log.specs.Log.{spelling, letter, chunk, shown, head_line, shown_head, with_feed}
 
 pub writes_then : {X E : Type 0} (a b c : Told) (r : Result X E) (x y : List ℕ) → Wrote a b x → Writes b c r y → Writes a c r (x ++ y)

@@ -1,9 +1,16 @@
 //! Logs of recorded sessions: a reader that gives record by record, and a writer.
+//!
+//! A log is the line `lsp-session 1` and then records, in the order in which the editor wrote and
+//! read. A record is what the editor wrote (`E n`, a line end, n bytes, a line end), what it read
+//! (`S n` and the same), or a text that it showed (`T v a b`, a line end, a bytes of the URI, a
+//! line end, b bytes of the text, a line end; v is the version). Line ends are LF, words are
+//! separated by one space, and numbers are decimal without leading zeros. The format is this
+//! project's own.
 #![tactic(auto)]
 
 mod fault;
-mod head;
 mod found;
+mod head;
 mod laws;
 mod reader;
 mod record;

@@ -7,13 +7,16 @@ use lsp_frame::Limits;
 use lsp_rpc::Side;
 
 /// The longest URI of a snapshot, in bytes.
-const MAX_URI: u64 = 8192;
+pub const MAX_URI: u64 = 8192;
 
 /// One record of a log.
 #[derive(Debug, Drop, PartialEq, Eq)]
 pub enum Record {
     /// Bytes that the editor wrote, or that it read from the server.
-    Bytes { side: Side, bytes: Vec<u8> },
+    Bytes {
+        side: Side,
+        bytes: Vec<u8>,
+    },
     /// A text that the editor showed.
     Snapshot {
         version: i32,

@@ -34,11 +34,7 @@ impl Read for Pieces<'_> {
 }
 
 /// The number of records of a log. Its contract is proved from that of `next` alone.
-fn count_records<R: Source>(
-    alloc: Global,
-    limits: Limits,
-    reader: &mut R,
-) -> Result<u64, LogFault>
+fn count_records<R: Source>(alloc: Global, limits: Limits, reader: &mut R) -> Result<u64, LogFault>
     ensures whole { (all : List ℕ) → R.remaining reader.old ≡ Some all
         → IfOk result (λ n. (records : List log.Record) × IsLog limits all records None × (n ≡ length records)) }
     ensures bad { (all : List ℕ) (number : ℕ) (code : LogCode) → R.remaining reader.old ≡ Some all
@@ -73,17 +69,26 @@ fn logs_end_with_their_fault(rt: HostRuntime) {
         (b"lsp-session 1\nE 3\nabc\n", Ok(1)),
         (b"lsp-session 1\nE 3\nabc\nS 3\nabc\n", Ok(2)),
         (b"lsp-session 1\nT -2147483648 1 0\na\n\n", Ok(1)),
-        (b"lsp-session 1\nT -2147483649 1 0\na\n\n", bad(1, LogCode::L3)),
+        (
+            b"lsp-session 1\nT -2147483649 1 0\na\n\n",
+            bad(1, LogCode::L3),
+        ),
         (b"lsp-session 1\nE 0\n", bad(1, LogCode::L3)),
         (b"lsp-session 1\nE 1048577\n", bad(1, LogCode::L3)),
-        (b"lsp-session 1\nE 99999999999999999999999\n", bad(1, LogCode::L3)),
+        (
+            b"lsp-session 1\nE 99999999999999999999999\n",
+            bad(1, LogCode::L3),
+        ),
         (b"lsp-session 1\nT -0 1 0\n", bad(1, LogCode::L2)),
         (b"lsp-session 1\nE 01\na\n", bad(1, LogCode::L2)),
         (b"lsp-session 1\nX\n", bad(1, LogCode::L2)),
         (b"lsp-session 1\nX", bad(1, LogCode::L4)),
         (b"lsp-session 1\nE 2\nab", bad(1, LogCode::L4)),
         (b"lsp-session 1\nE 2\nabc", bad(1, LogCode::L4)),
-        (b"lsp-session 1\nE 1\na\nT 1 1 1\na\n\xff\n", bad(2, LogCode::L5)),
+        (
+            b"lsp-session 1\nE 1\na\nT 1 1 1\na\n\xff\n",
+            bad(2, LogCode::L5),
+        ),
         (b"lsp-session 9\n", bad(0, LogCode::L1)),
         (b"lsp-session 1", bad(0, LogCode::L1)),
         (b"", bad(0, LogCode::L1)),
@@ -101,7 +106,9 @@ fn small_limits_decide(rt: HostRuntime) {
     let small = Limits::new(64, 8, 4, 0, 4096).expect(&rt, "limits");
     let mut endless = Vec::from_slice(rt.alloc(), b"lsp-session 1\n").expect(&rt, "memory");
     for _ in 0..400 {
-        endless.extend_from_slice(b"T 1 1 0\na\n\n").expect(&rt, "memory");
+        endless
+            .extend_from_slice(b"T 1 1 0\na\n\n")
+            .expect(&rt, "memory");
     }
     let logs: [(Limits, &[u8], Result<u64, LogFault>); 7] = [
         (least, b"lsp-session 1\nE 1\n{\n", bad(1, LogCode::L6)),
@@ -129,11 +136,19 @@ fn a_read_fault_behind_a_record_waits(rt: HostRuntime) {
         fails: true,
     });
     let mut reader = LogReader::new(rt.alloc(), Limits::profile());
-    let record = reader.next(&mut input).expect(&rt, "no fault").expect(&rt, "a record");
+    let record = reader
+        .next(&mut input)
+        .expect(&rt, "no fault")
+        .expect(&rt, "a record");
     assert!(rt; record.fits(&Limits::profile()));
     for _ in 0..2 {
         let end = reader.next(&mut input);
-        assert!(rt; end == Err(LogFault::Bad { number: 2, code: LogCode::L2 }));
+        assert!(rt;
+            end == Err(LogFault::Bad {
+                number: 2,
+                code: LogCode::L2
+            })
+        );
     }
 }
 

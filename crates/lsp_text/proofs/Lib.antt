@@ -12,6 +12,7 @@ pub mod Denoting
 pub mod Applied
 pub mod Widths
 pub mod LineEdits
+pub mod Marks
 pub mod Vectors
 pub mod Spotting
 pub mod Editing

@@ -1,16 +1,16 @@
 -- Places of a text, by their lines.
-use Rattle.std.proofs.Common.{◌≡◌, ◌<◌, ◌≤◌, ◌+◌, ◌-◌, ℕ, List, [], ◌∷◌, ◌++◌, length, take, drop, Some, Bor, refl, sym, ap, subst, ◌∙◌, arith, append_assoc, length-append}
-use Rattle.std.proofs.lemmas.List.{append-nil, take-append-drop, drop_more, drop_all, take_at, drop_at, take-append-le, length-take-le}
+use Rattle.std.proofs.Common.{◌≡◌, ◌<◌, ◌≤◌, ◌+◌, ◌-◌, ℕ, List, [], ◌∷◌, ◌++◌, length, take, drop, Option, Some, None, IfSome, Bor, refl, sym, ap, subst, ◌∙◌, ⊎_elim, arith, append_assoc, length-append}
+use Rattle.std.proofs.lemmas.List.{append-nil, take-append-drop, drop_more, drop_all, take_at, drop_at, take-append-le, length-take-le, take_all}
 use Rattle.std.specs.Option.{option_map}
 use Rattle.std.specs.Str.{chars, IsUtf8, IsCharBoundary}
-use Rattle.std.proofs.lemmas.Str.{chars-nil, IsUtf8-nil, IsUtf8-append, IsUtf8-take, IsUtf8-drop, IsCharBoundary-at_seam}
+use Rattle.std.proofs.lemmas.Str.{chars-nil, encodes-chars, IsUtf8-nil, IsUtf8-append, IsUtf8-take, IsUtf8-drop, IsCharBoundary-at_seam}
 use lib.Utf8.{encodes}
 use Rattle.lsp_rpc.specs.declared.plain.Encoding.{Encoding}
 use Rattle.lsp_rpc.specs.declared.plain.Encoding.TheVariants.{Utf8}
 use Rattle.lsp_rpc.specs.declared.plain.Position.{Position}
 use Rattle.lsp_text.specs.Lines.{Line, open_line, spelled, text_of, lines_of}
 use Rattle.lsp_text.specs.Places.{units, place_of, place_at, place_in_line}
-use Rattle.lsp_text.specs.Offsets.{IsOffset}
+use Rattle.lsp_text.specs.Offsets.{IsOffset, IsSkipped}
 use Rattle.lsp_text.specs.Steps.{line_at, line_number}
 use Rattle.lsp_text.specs.Spots.{IsIn, IsSpot, place_from, line_before}
 use Rattle.lsp_text.specs.declared.spot.Spot.{Spot}
@@ -18,6 +18,8 @@ use Rattle.lsp_text.proofs.Cuts.{lines_of-HasFirst, IsCut-lines_of}
 use Rattle.lsp_text.proofs.Counting.{seam, IsSeam, units-utf8}
 use Rattle.lsp_text.proofs.Positions.{slice_get-drop, slice_get-past, text_of-lines_of}
 use Rattle.lsp_text.proofs.Splices.{chars-cut}
+use Rattle.lsp_text.proofs.Denoting.{place_in_line-sound}
+use Rattle.lsp_text.proofs.Widths.{is_front}
 use Rattle.lsp_text.proofs.Splicing.{text_about}
 
 pub some_line : (t : List ℕ) → 0 < length (lines_of t)
@@ -55,7 +57,7 @@ last_has_no_end t i e =
 
 -- a position past the last line
 pub spot_past : (enc : Encoding) (t : List ℕ) (p : Position) (line : ℕ) (text : Bor (List ℕ)) (none : Bor (List ℕ)) → IsUtf8 text.now → none.now ≡ [] → line ≡ line_number t p → line < p.line →
-    chars text.now ≡ spelled (line_at line t) → IsSpot enc t p (record { line = line; before = text; after = none })
+    chars text.now ≡ spelled (line_at line t) → IsSpot enc t p (record { line = line; column = None; before = text; after = none })
 spot_past enc t p line text none u empty number past is =
     let ls = lines_of t in
     let some = some_line t in
@@ -68,6 +70,7 @@ spot_past enc t p line text none u empty number past is =
     text_of-lines_of t ∙ text_about t line (omega arith) ∙ ap (λ x. text_of (take line ls) ++ (spelled (line_at line t) ++ x)) back ∙ ap (λ x. text_of (take line ls) ++ x) (append-nil (spelled (line_at line t)) ∙ sym is) in
     record {
       line = number;
+      column = tt;
       inside =
           record {
             within = omega arith;
@@ -102,6 +105,32 @@ boundary_in text l n offset b h =
     subst (λ x. IsCharBoundary text x) (length-take-le offset body h.0)
     (IsCharBoundary-at_seam text (take offset body) back parts (IsUtf8-append (drop offset body) (drop n text) (IsUtf8-drop body offset b.body_utf8 h) b.end_utf8))
 
+-- the units before the place of a column that is not past the line
+units_before_column : (enc : Encoding) (bs : List ℕ) (column offset : ℕ) → IsUtf8 bs → IsOffset enc bs column offset → column ≤ units enc (chars bs) → units enc (chars (take offset bs)) ≡ column
+units_before_column enc bs column offset u at le =
+    let cs = chars bs in
+    let k = length (chars (take offset bs)) in
+    let b = place_in_line-sound enc cs column k at.place in
+    let f = is_front bs offset u at.boundary in
+    ⊎_elim
+    (λ p.
+    let q = p.0 in
+    let all : chars (take offset bs) ≡ cs = sym f.front ∙ ap (λ (n : ℕ). take n cs) p.1 ∙ take_all (length cs) cs (omega arith) in
+    ap (units enc) all ∙ (let e : units enc cs ≡ column = omega arith in e))
+    (λ p. ap (units enc) (sym f.front) ∙ p)
+    b.column_is
+
+-- the column of a spot
+known_column : (enc : Encoding) (t : List ℕ) (line column offset : ℕ) (bs : List ℕ) (known : Option ℕ) → IsUtf8 bs → chars bs ≡ (line_at line t).text → IsOffset enc bs column offset →
+    IfSome known (λ n. (n ≡ column) × (column ≤ units enc (line_at line t).text)) → IfSome known (λ n. IsSkipped enc (encodes (line_at line t).text) n offset 0)
+known_column enc t line column offset bs None u is at h = tt
+known_column enc t line column offset bs (Some n) u is at h =
+    let same : bs ≡ encodes (line_at line t).text = sym (encodes-chars bs u) ∙ ap encodes is in
+    let le : column ≤ units enc (chars bs) = subst (λ (x : List ℕ). column ≤ units enc x) (sym is) h.1 in
+    let before = units_before_column enc bs column offset u at le in
+    let same_column = h.0 in
+    subst (λ (x : List ℕ). IsSkipped enc x n offset 0) same (record { boundary = at.boundary; left_is = omega arith })
+
 -- the place of a column in its line
 pub place_in_its_line : (enc : Encoding) (t : List ℕ) (p : Position) (line : ℕ) → line < length (lines_of t) → line ≡ p.line →
     place_of enc t p ≡ option_map (λ (k : ℕ). length (text_of (take line (lines_of t))) + k) (place_in_line enc (line_at line t).text p.column)
@@ -111,10 +140,10 @@ place_in_its_line enc t p line lt e =
     ap (place_at enc ls p) (slice_get-drop ls p.line l (drop (p.line + 1) ls) (subst (λ (x : ℕ). drop x ls ≡ l ∷ drop (x + 1) ls) e (drop_more ls line (open_line []) lt)))
     ∙ ap (λ (x : ℕ). option_map (λ (k : ℕ). length (text_of (take x ls)) + k) (place_in_line enc l.text p.column)) (sym e)
 
-pub spot_at : (enc : Encoding) (t : List ℕ) (p : Position) (line n offset : ℕ) (text before after : Bor (List ℕ)) → IsUtf8 text.now → line ≡ line_number t p → p.line ≤ line →
+pub spot_at : (enc : Encoding) (t : List ℕ) (p : Position) (line n offset : ℕ) (known : Option ℕ) (text before after : Bor (List ℕ)) → IsUtf8 text.now → line ≡ line_number t p → p.line ≤ line →
     chars text.now ≡ spelled (line_at line t) → n ≡ units Utf8 (line_at line t).text → IsOffset enc (take n text.now) p.column offset → before.now ≡ take offset text.now → after.now ≡ drop offset text.now →
-    IsSpot enc t p (record { line = line; before = before; after = after })
-spot_at enc t p line n offset text before after u number le is len at front back =
+    IfSome known (λ c. (c ≡ p.column) × (p.column ≤ units enc (line_at line t).text)) → IsSpot enc t p (record { line = line; column = known; before = before; after = after })
+spot_at enc t p line n offset known text before after u number le is len at front back column =
     let ls = lines_of t in
     let l = line_at line t in
     let b : IsBody text.now l n = is_body text.now l n u is len in
@@ -124,8 +153,10 @@ spot_at enc t p line n offset text before after u number le is len at front back
     let same : take offset text.now ≡ take offset body = ap (take offset) (sym (take-append-drop n text.now)) ∙ take-append-le offset body (drop n text.now) at.boundary.0 in
     let chars_same : chars before.now ≡ chars (take offset body) = ap chars (front ∙ same) in
     let parts : chars body ≡ chars (take offset body) ++ chars (drop offset body) = chars-cut body offset b.body_utf8 at.boundary in
+    let before_len : length before.now ≡ offset = ap length front ∙ length-take-le offset text.now seam_at.0 in
     record {
       line = number;
+      column = subst (λ (x : ℕ). IfSome known (λ c. IsSkipped enc (encodes l.text) c x 0)) (sym before_len) (known_column enc t line p.column offset body known b.body_utf8 b.body at column);
       inside =
           record {
             within = omega arith;

@@ -79,7 +79,7 @@ pub record IsFront (bs : List ℕ) (offset : ℕ) : Type 0 where
   pub front : take (length (chars (take offset bs))) (chars bs) ≡ chars (take offset bs)
   pub bytes : units Utf8 (chars (take offset bs)) ≡ offset
 
-is_front : (bs : List ℕ) (offset : ℕ) → IsUtf8 bs → IsCharBoundary bs offset → IsFront bs offset
+pub is_front : (bs : List ℕ) (offset : ℕ) → IsUtf8 bs → IsCharBoundary bs offset → IsFront bs offset
 is_front bs offset u b =
     let cut = chars-cut bs offset u b in
     record {

@@ -1,5 +1,6 @@
 -- A place of a text, in its line.
-use Rattle.std.specs.Prelude.{◌≡◌, ◌≤◌, ◌<◌, ◌+◌, ◌-◌, ℕ, true, List, ◌++◌, length, take, slice_range}
+use Rattle.std.specs.Prelude.{◌≡◌, ◌≤◌, ◌<◌, ◌+◌, ◌-◌, ℕ, true, List, ◌++◌, length, take, slice_range, IfSome}
+use lib.Utf8.{encodes}
 use Rattle.std.specs.declared.option.Option.TheVariants.{Some}
 use Rattle.std.specs.Str.{chars, IsUtf8}
 use Rattle.lsp_rpc.specs.declared.plain.Encoding.{Encoding}
@@ -7,6 +8,7 @@ use Rattle.lsp_rpc.specs.declared.plain.Encoding.TheVariants.{Utf8}
 use Rattle.lsp_rpc.specs.declared.plain.Position.{Position}
 use Rattle.lsp_text.specs.Lines.{lines_of, text_of, spelled, has_no_line_end}
 use Rattle.lsp_text.specs.Places.{units, place_of}
+use Rattle.lsp_text.specs.Offsets.{IsSkipped}
 use Rattle.lsp_text.specs.Steps.{line_at, line_number}
 use Rattle.lsp_text.specs.declared.spot.Spot.{Spot}
 
@@ -26,6 +28,7 @@ place_from t s = length (text_of (take s.line (lines_of t))) + length (chars s.b
 pub record IsSpot (enc : Encoding) (t : List ℕ) (p : Position) (s : Spot) : Type 0 where
   pub line : s.line ≡ line_number t p
   pub inside : IsIn t s
+  pub column : IfSome s.column (λ n. IsSkipped enc (encodes (line_at s.line t).text) n (length s.before.now) 0)
   pub place : place_of enc t p ≡ Some (place_from t s)
 
 -- the line before line `i`, or nothing

@@ -48,7 +48,8 @@ pub(crate) fn edit(
     };
     let (line, last) = (first.line, second.line);
     if stays_in_line(lines, &first, &second, text) {
-        let (from, to) = (first.before.len(), second.before.len());
+        let (from, to, column) = (first.before.len(), second.before.len(), first.column);
+        lines.mark(line, from, encoding, column);
         lines.replace_in(line, from, to, text, bytes)?;
         steps.add(text.len());
         return Ok(());

@@ -1,6 +1,6 @@
 //! A place of a text, in its line.
 
-ghost use Rattle.std.specs.Prelude.{◌≡◌, ◌<◌, ◌⊎◌, ◌↔◌, None, length, MatchOption, IsTrue};
+ghost use Rattle.std.specs.Prelude.{◌≡◌, ◌<◌, ◌≤◌, ◌⊎◌, ◌↔◌, None, length, MatchOption, IfSome, IsTrue};
 ghost use Rattle.std.specs.Str.{chars};
 ghost use Rattle.lsp_text.specs.Lines.{spelled};
 ghost use Rattle.lsp_text.specs.Places.{place_of};
@@ -10,10 +10,12 @@ use crate::columns::offset_in_counted;
 use crate::lined::lines::Lines;
 use lsp_rpc::{Encoding, Position};
 
-/// A place in a line: what stands before it there, and what from it on, the line's end included.
+/// A place in a line: what stands before it there, and what from it on, the line's end included; and the
+/// column that denotes it, unless the column is past the line.
 #[derive(Clone, Copy)]
 pub(crate) struct Spot<'a> {
     pub(crate) line: usize,
+    pub(crate) column: Option<u32>,
     pub(crate) before: &'a str,
     pub(crate) after: &'a str,
 }
@@ -36,6 +38,7 @@ impl<'a> Spot<'a> {
         if line < position.line as usize {
             return Some(Spot {
                 line,
+                column: None,
                 before: text,
                 after: "",
             });
@@ -43,10 +46,12 @@ impl<'a> Spot<'a> {
         let (body, _) = text.split_at(lines.body_len(line));
         let width = lines.width(line, encoding);
         let count = lines.width(line, Encoding::Utf32);
-        let offset = offset_in_counted(body, width, count, encoding, position.column)?;
+        let known = lines.known_before(line, encoding, position.column);
+        let offset = offset_in_counted(body, width, count, known, encoding, position.column)?;
         let (before, after) = text.split_at(offset);
         Some(Spot {
             line,
+            column: column_within(position.column, width),
             before,
             after,
         })
@@ -59,4 +64,14 @@ impl<'a> Spot<'a> {
         self.line < other.line
             || (self.line == other.line && self.before.len() < other.before.len())
     }
+}
+
+// A column that is not past a line of so many units.
+fn column_within(column: u32, width: u64) -> Option<u32>
+    ensures { IfSome result (λ within. (within ≡ column) × (column ≤ width)) }
+{
+    if width < column as u64 {
+        return None;
+    }
+    Some(column)
 }

@@ -12,16 +12,15 @@ use Rattle.lsp_frame.specs.Decoder.{State, StandsFor, EndsWith, empty, pushed, p
 use Rattle.lsp_frame.proofs.Frames.{frames_first, frames_more, faulty_more}
 use Rattle.lsp_frame.proofs.Readings.{some_stream}
 use Rattle.lsp_frame.proofs.Steps.{new_stands}
-use Rattle.lsp_frame.proofs.Writing.{wrote_then, wrote_nothing, stopped_then}
+use Rattle.lsp_frame.proofs.Writing.{wrote_then, wrote_nothing}
 use Rattle.lspcheck.specs.declared.outcome.Mode.{Mode}
 use Rattle.lspcheck.specs.declared.outcome.Outcome.{Outcome}
 use Rattle.lspcheck.specs.declared.outcome.Outcome.TheVariants.{Stream}
 use Rattle.lspcheck.specs.declared.outcome.RunFault.{RunFault}
 use Rattle.lspcheck.specs.declared.outcome.RunFault.TheVariants as faults
-use Rattle.lspcheck.specs.declared.outcome.StreamFault.{StreamFault}
 use Rattle.lspcheck.specs.declared.outcome.StreamFault.TheVariants.{Rule, TooLong}
 use Rattle.lspcheck.specs.Parts.{Refuses, outcome_at, RunsThrough}
-use Rattle.lspcheck.specs.Run.{fault_of, HasParts, HasRead, GoesOn, source_failures, sink_failures}
+use Rattle.lspcheck.specs.Run.{fault_of, HasParts, source_failures, sink_failures}
 use Rattle.lspcheck.specs.Steps.{AreParts, FoundAll, StopsAt, FoundFault, FoundBroken, Finds, WroteParts, BrokeOff}
 use Rattle.lspcheck.proofs.PartsLemmas.{run_through, run_refused}
 use Rattle.lspcheck.proofs.Streams.{stream_front}

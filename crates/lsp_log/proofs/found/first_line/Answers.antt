@@ -1,4 +1,4 @@
-use Rattle.std.proofs.Common.{◌≡◌, ◌++◌, List, ℕ, drop, true, false, not}
+use Rattle.std.proofs.Common.{◌≡◌, ◌++◌, drop, true}
 use Rattle.std.proofs.lemmas.Slice.Eq.{starts_is}
 use Rattle.std.proofs.lemmas.Bool.Decides.{Decides-eqb}
 use Rattle.lsp_log.specs.Log.{first_line}

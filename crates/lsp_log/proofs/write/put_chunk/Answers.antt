@@ -2,7 +2,7 @@ use Rattle.std.proofs.Common.{◌≡◌, ◌++◌, ◌∙◌, ap, sym, List, ℕ
 use Rattle.std.specs.Prelude.{decimal}
 use Rattle.std.proofs.lemmas.Result.{err_from_is_err_and}
 use Rattle.lsp_frame.proofs.Writing.{stopped_before}
-use Rattle.lsp_log.specs.Log.{spelling, chunk, letter, with_feed}
+use Rattle.lsp_log.specs.Log.{spelling, chunk, with_feed}
 use Rattle.lsp_log.proofs.Written.{due_stops, due_writes, stopped_second_of, writes_three, chunk_parts}
 use Rattle.lsp_log.proofs.write.put_chunk.Goals as goal
 

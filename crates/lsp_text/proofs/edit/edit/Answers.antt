@@ -1,5 +1,8 @@
-use Rattle.std.proofs.Common.{◌≤◌, ℕ, List, Result, Ok, length, arith, ap, sym, ◌∙◌}
+use Rattle.std.proofs.Common.{◌≡◌, ◌≤◌, ℕ, List, Result, Ok, length, arith, ap, sym, subst, ◌∙◌}
 use Rattle.std.specs.Str.{chars}
+use Rattle.lsp_rpc.specs.declared.plain.Encoding.TheVariants.{Utf8}
+use Rattle.lsp_text.specs.Places.{units}
+use Rattle.lsp_text.specs.Rewriting.{rewritten, line_after, StaysInLine}
 use Rattle.lsp_text.specs.Spots.{place_from}
 use Rattle.lsp_text.proofs.StepCounts.{counted_first, counted_second, counted_before, counted_in_line, counted_all}
 use Rattle.lsp_text.proofs.Editing.{edit_reversed, edit_over, spot_lt, spots_ordered, bytes_ordered, is_edit, is_edit_of, is_edit_in_line, IsEditInLine, on_err}
@@ -51,11 +54,13 @@ in_line c order =
 pub replace_in-requires-clause-stays : goal.replace_in-requires-clause-stays
 replace_in-requires-clause-stays c =
     let at = goal.at.replace_in-requires-clause-stays c in
+    subst (λ (t : List ℕ). StaysInLine t c.in-Some.first.line (length c.in-Some.first.before.now) (length c.in-Some-find.second.before.now) c.args.text.now) (sym c.mark.ensures)
     (in_line at.Then-stays_in_line (ordered at.After-bytes_outside-outside).1).stays
 
 pub replace_in-requires-clause-bytes : goal.replace_in-requires-clause-bytes
 replace_in-requires-clause-bytes c =
     let at = goal.at.replace_in-requires-clause-bytes c in
+    subst (λ (t : List ℕ). c.in-Some-sum_within.bytes ≡ units Utf8 (rewritten t c.in-Some.first.line c.in-Some.first.line (line_after t c.in-Some.first.line (length c.in-Some.first.before.now) (length c.in-Some-find.second.before.now) c.args.text.now))) (sym c.mark.ensures)
     (in_line at.Then-stays_in_line (ordered at.After-bytes_outside-outside).1).bytes
 
 pub returns-in_err-replace_in-clause-err_counted : goal.returns-in_err-replace_in-clause-err_counted
@@ -65,7 +70,9 @@ returns-in_err-replace_in-clause-err_counted c =
 pub returns-then-stays_in_line-clause-ok : goal.returns-then-stays_in_line-clause-ok
 returns-then-stays_in_line-clause-ok c =
     let at = goal.at.returns-then-stays_in_line-clause-ok c in
-    (in_line at.Then-stays_in_line (ordered at.After-bytes_outside-outside).1).done ∙ ap (λ (x : List ℕ). let r : Result (List ℕ) ℕ = Ok x in r) (sym c.in_ok-replace_in.ensures.ok)
+    (in_line at.Then-stays_in_line (ordered at.After-bytes_outside-outside).1).done
+    ∙ ap (λ (t : List ℕ). let r : Result (List ℕ) ℕ = Ok (rewritten t c.in-Some.first.line c.in-Some.first.line (line_after t c.in-Some.first.line (length c.in-Some.first.before.now) (length c.in-Some-find.second.before.now) c.args.text.now)) in r) (sym c.mark.ensures)
+    ∙ ap (λ (x : List ℕ). let r : Result (List ℕ) ℕ = Ok x in r) (sym c.in_ok-replace_in.ensures.ok)
 
 pub returns-then-stays_in_line-clause-counted : goal.returns-then-stays_in_line-clause-counted
 returns-then-stays_in_line-clause-counted c =

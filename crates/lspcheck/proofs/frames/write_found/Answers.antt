@@ -1,4 +1,4 @@
-use Rattle.std.proofs.Common.{arith, ◌+◌, Ok, Err, Some, None, ◌∙◌}
+use Rattle.std.proofs.Common.{arith, ◌∙◌}
 use Rattle.std.proofs.lemmas.Result.{err_from_is_err_and}
 use Rattle.lspcheck.proofs.Found.{at_end, at_fault, one_more, one_broken, one_refused, frame_step}
 use Rattle.lspcheck.proofs.frames.write_found.Goals as goal

@@ -1,6 +1,6 @@
-use Rattle.std.proofs.Common.{◌≡◌, ◌∙◌, sym, ap, subst, refl, None}
+use Rattle.std.proofs.Common.{◌≡◌, ◌∙◌, sym, ap}
 use Rattle.lsp_frame.specs.Sink.{Told}
-use Rattle.lsp_log.specs.Reader.{State, kept_by, kept_in}
+use Rattle.lsp_log.specs.Reader.{State, kept_in}
 use Rattle.lsp_log.specs.Ending.{first_of}
 use Rattle.lsp_log.specs.declared.reader.LogReader.TheInside.{Inside}
 use Rattle.lsp_log.specs.declared.reader.Progress.TheVariants as progress

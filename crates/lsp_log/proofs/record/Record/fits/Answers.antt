@@ -1,4 +1,4 @@
-use Rattle.std.proofs.Common.{◌≡◌, ℕ, length, rules, w32, sym, ◌∙◌, ap}
+use Rattle.std.proofs.Common.{◌≡◌, length, rules, w32}
 use Rattle.std.specs.Prelude.{string_bytes}
 use mir.Val.{SFits}
 use Rattle.std.proofs.lemmas.Str.{IsUtf8-string_bytes}

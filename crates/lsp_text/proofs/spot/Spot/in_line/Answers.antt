@@ -1,10 +1,12 @@
-use Rattle.std.proofs.Common.{◌+◌, ℕ, List, length, take, arith, refl, ap, sym, subst, ◌∙◌}
+use Rattle.std.proofs.Common.{◌≡◌, ◌≤◌, IfSome, ◌+◌, ℕ, List, length, take, arith, refl, ap, sym, subst, ◌∙◌}
 use Rattle.std.specs.Option.{option_map}
 use Rattle.std.specs.Str.{chars, IsCharBoundary}
 use Rattle.lsp_text.specs.Lines.{lines_of, text_of}
 use Rattle.lsp_rpc.specs.declared.plain.Encoding.TheVariants.{Utf32}
 use Rattle.lsp_text.specs.Places.{units, place_in_line}
-use Rattle.lsp_text.specs.Offsets.{IsOffset}
+use Rattle.lsp_text.specs.Offsets.{IsOffset, IsSkipped}
+use lib.Utf8.{encodes}
+use Rattle.std.proofs.lemmas.Str.{encodes-chars}
 use Rattle.lsp_text.specs.Steps.{line_at}
 use Rattle.lsp_text.proofs.Spotting.{line_number_lt, spot_past, is_body, IsBody, boundary_in, place_in_its_line, spot_at}
 use Rattle.lsp_text.proofs.spot.Spot.in_line.Goals as goal
@@ -35,6 +37,16 @@ offset_in_counted-requires-clause-count c =
     let b = is_body c.args.text.now (line_at c.args.line c.args.lines.now) c.body_len.result c.utf8.text c.requires.text c.body_len.ensures in
     c.width-count.ensures ∙ ap (units Utf32) (sym (ap chars c.split_at.ensures.front ∙ b.body))
 
+pub known_before-known-requires : goal.known_before-known-requires
+known_before-known-requires c = let lt = line_number_lt c.args.lines.now c.args.position in omega arith
+
+pub offset_in_counted-requires-clause-known : goal.offset_in_counted-requires-clause-known
+offset_in_counted-requires-clause-known c =
+    let b = is_body c.args.text.now (line_at c.args.line c.args.lines.now) c.body_len.result c.utf8.text c.requires.text c.body_len.ensures in
+    let same : encodes (line_at c.args.line c.args.lines.now).text ≡ c.split_at.result.0.now =
+    ap encodes (sym b.body) ∙ encodes-chars (take c.body_len.result c.args.text.now) b.body_utf8 ∙ sym c.split_at.ensures.front in
+    subst (λ (x : List ℕ). IfSome c.known_before-known.result (λ s. IsSkipped c.args.encoding x c.args.position.column s.bytes s.left)) same c.known_before-known.ensures
+
 pub returns-in_err-offset : goal.returns-in_err-offset
 returns-in_err-offset c =
     let t = c.args.lines.now in
@@ -53,7 +65,8 @@ split_at-requires-2 c =
 
 pub returns : goal.returns
 returns c =
-    spot_at c.args.encoding c.args.lines.now c.args.position c.args.line c.body_len.result c.in_ok-offset.offset c.args.text c.split_at-2.result.0 c.split_at-2.result.1
+    spot_at c.args.encoding c.args.lines.now c.args.position c.args.line c.body_len.result c.in_ok-offset.offset c.column_within.result c.args.text c.split_at-2.result.0 c.split_at-2.result.1
     c.utf8.text c.requires.number c.if-line-position.false c.requires.text c.body_len.ensures
     (subst (λ (x : List ℕ). IsOffset c.args.encoding x c.args.position.column c.in_ok-offset.offset) c.split_at.ensures.front c.in_ok-offset.ensures)
     c.split_at-2.ensures.front c.split_at-2.ensures.back
+    (subst (λ (x : ℕ). IfSome c.column_within.result (λ n. (n ≡ c.args.position.column) × (c.args.position.column ≤ x))) c.width-width.ensures c.column_within.ensures)

@@ -1,14 +1,16 @@
-use Rattle.std.proofs.Common.{◌≡◌, List, ℕ, length, set, refl, arith, ap, sym, subst, ◌∙◌}
+use Rattle.std.proofs.Common.{◌≡◌, List, [], ℕ, length, set, get_or, refl, arith, ap, sym, subst, ◌∙◌}
 use Rattle.std.specs.List.{replace_range}
 use Rattle.std.specs.Str.{chars, IsCharBoundary}
 use lib.Utf8.{encodes}
 use Rattle.lsp_rpc.specs.declared.plain.Encoding.TheVariants.{Utf8}
-use Rattle.lsp_text.specs.Lines.{Line, lines_of, text_of}
+use Rattle.lsp_text.specs.Lines.{Line, open_line, lines_of, text_of}
 use Rattle.lsp_text.specs.Places.{units}
 use Rattle.lsp_text.specs.Steps.{line_at}
 use Rattle.lsp_text.specs.Rewriting.{with_text}
 use Rattle.lsp_text.proofs.Rewrites.{line_of_kept}
 use Rattle.lsp_text.proofs.LineEdits.{IsLineEdit, is_line_edit}
+use Rattle.lsp_text.proofs.Marks.{marks_kept}
+use Rattle.lsp_text.specs.Offsets.{IsSkipped}
 use Rattle.lsp_text.proofs.lined.lines.Lines.replace_in.Goals as goal
 use Rattle.lsp_text.proofs.lined.lines.Lines.replace_in.Goals.{After-index_mut, In_ok-replace}
 
@@ -44,6 +46,10 @@ invariant_of-self-2 c =
       lines = ap (λ (x : List Line). lines_of (text_of x)) (sym items) ∙ e.lines ∙ items;
       bytes_are = c.requires.bytes ∙ ap (units Utf8) (sym (ap text_of (sym items) ∙ e.text));
       fits = omega arith;
+      marked =
+          marks_kept c.self.inside.items.items c.replace.new.self c.args.i c.args.from (let lt = c.requires.stays.line in omega (arith, ap length lines)) c.self.inside.mark c.mark_before-self-inside.result c.self.invariant.marked c.mark_before-self-inside.ensures
+          (λ enc column offset le m.
+          e.kept enc column offset le (subst (λ (x : List Line). IsSkipped enc (encodes (get_or x c.args.i (open_line [])).text) column offset 0) (sym lines) m));
     }
 
 pub returns-clause-ok : goal.returns-clause-ok
