@@ -1,6 +1,6 @@
 -- Lists of accepted calls: their parts, and what one accepted call does to what is held.
-use Rattle.std.proofs.Common.{◌≡◌, ℕ, Bool, true, false, ◌||◌, List, [], ◌∷◌, ◌++◌, refl, sym, ap, ◌∙◌, subst, Option, Some, None, inl, inr, append_assoc, append-nil, true≢false}
-use Rattle.std.specs.Prelude.{ℤ, int_lt, if◌then◌else◌, option_map}
+use Rattle.std.proofs.Common.{◌≡◌, ℕ, true, false, ◌||◌, List, [], ◌∷◌, ◌++◌, refl, sym, ap, ◌∙◌, subst, Some, None, inl, inr, append_assoc, append-nil, true≢false}
+use Rattle.std.specs.Prelude.{int_lt, if◌then◌else◌}
 use Rattle.std.specs.List.{list_any}
 use Rattle.std.specs.Option.{option_or}
 use Rattle.std.specs.Str.{bytes_eq}
@@ -8,7 +8,7 @@ use Rattle.std.proofs.lemmas.Bool.{or_parts}
 use Rattle.std.proofs.lemmas.Option.{same_Some}
 use Rattle.lsp_text.specs.Edits.{applied}
 use Rattle.lsp_docs.specs.Calls.{Bytes, Call, opens, changes, closes, saves, shows, is_close, is_change}
-use Rattle.lsp_docs.specs.Documents.{Version, versioned, revised, text_or, held}
+use Rattle.lsp_docs.specs.Documents.{Version, versioned, text_or, held}
 use Rattle.lsp_docs.specs.Rules.{call_rule, AreAcceptedFrom, AreAccepted}
 use Rattle.lsp_docs.proofs.Words.{true_or_false, uri_is, lt_trans}
 use Rattle.lsp_docs.proofs.HeldSteps.{next_held, held-snoc}

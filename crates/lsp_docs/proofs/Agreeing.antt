@@ -1,14 +1,13 @@
 -- Snapshots agree with what is held of their opening at their version.
-use Rattle.std.proofs.Common.{◌≡◌, ℕ, Bool, true, false, ◌&&◌, ◌||◌, List, [], ◌∷◌, ◌++◌, map, refl, sym, ap, ◌∙◌, subst, Option, Some, None, Ok, Err, inl, inr, append_assoc, append-nil, true≢false}
-use Rattle.std.specs.Prelude.{ℤ, int_lt, not, is_some, nat_lt, if◌then◌else◌, option_map}
+use Rattle.std.proofs.Common.{◌≡◌, ℕ, Bool, true, false, ◌&&◌, ◌||◌, List, [], ◌∷◌, ◌++◌, refl, sym, ap, ◌∙◌, subst, Option, Some, None, inl, inr, append_assoc, append-nil, true≢false}
+use Rattle.std.specs.Prelude.{ℤ, int_lt, not, is_some, nat_lt}
 use Rattle.std.specs.List.{list_any}
-use Rattle.std.specs.Option.{option_or}
 use Rattle.std.specs.Ordering.{int_eq}
 use Rattle.std.specs.Str.{bytes_eq}
 use Rattle.std.proofs.lemmas.Bool.{or_parts}
 use Rattle.std.proofs.lemmas.Cmp.{int_eq_equiv}
 use Rattle.std.proofs.lemmas.List.Folds.{list_any-append}
-use Rattle.std.proofs.lemmas.Option.{same_Some, none-some}
+use Rattle.std.proofs.lemmas.Option.{same_Some}
 use Rattle.std.proofs.lemmas.Slice.Eq.{bytes_eq-Decides}
 use Rattle.lsp_docs.specs.Texts.{Text, byte_len}
 use Rattle.lsp_text.specs.Edits.{applied}
@@ -19,7 +18,7 @@ use Rattle.lsp_docs.specs.Rules.{differs, version_rule, show_rule, call_rule, Ar
 use Rattle.lsp_docs.proofs.Words.{true_or_false, unchanged, uri_is, uri_same}
 use Rattle.lsp_docs.proofs.HeldSteps.{next_held, held-snoc}
 use Rattle.lsp_docs.proofs.WaitingSteps.{none_row, no_some, change_parts, versions_of-append}
-use Rattle.lsp_docs.proofs.Accepted.{accepted-split, accepted-last, risen}
+use Rattle.lsp_docs.proofs.Accepted.{accepted-split, risen}
 
 -- where the held version is the snapshot's, the texts agree
 abbrev pub Agrees : ℕ → Bytes → ℤ → Text → List Call → Type 0

@@ -1,5 +1,5 @@
 -- A snapshot and a prefix of the calls that belong to one opening: no close stands between them.
-use Rattle.std.proofs.Common.{◌≡◌, ℕ, ◌+◌, ◌<◌, ◌⊎◌, Bool, true, false, ◌&&◌, ◌||◌, List, [], ◌∷◌, ◌++◌, length, take, drop, refl, sym, ap, ◌∙◌, subst, Option, Some, None, inl, inr, append_assoc, append-nil, true≢false, arith, length-append, suc, zero}
+use Rattle.std.proofs.Common.{◌≡◌, ℕ, ◌+◌, ◌<◌, Bool, true, false, ◌&&◌, List, [], ◌∷◌, ◌++◌, length, refl, sym, ap, ◌∙◌, subst, Option, Some, None, inl, inr, append_assoc, append-nil, true≢false, arith, length-append}
 use Rattle.std.specs.Prelude.{ℤ, not, is_some, if◌then◌else◌, option_map}
 use Rattle.std.specs.List.{list_any}
 use Rattle.std.specs.Option.{option_or}
@@ -9,7 +9,7 @@ use Rattle.std.proofs.lemmas.List.Folds.{list_any-append}
 use Rattle.std.proofs.lemmas.Option.{same_Some, none-some}
 use Rattle.lsp_docs.specs.Texts.{Text}
 use Rattle.lsp_docs.specs.Calls.{Bytes, Call, opens, changes, closes, saves, shows, is_close}
-use Rattle.lsp_docs.specs.Documents.{Version, versioned, opening, held_since, held}
+use Rattle.lsp_docs.specs.Documents.{Version, opening, held_since, held}
 use Rattle.lsp_docs.specs.Rules.{call_rule, AreAcceptedFrom, AreAccepted}
 use Rattle.lsp_docs.specs.Binding.{standing, next_opening, binding}
 use Rattle.lsp_docs.proofs.Words.{true_or_false, uri_is}
@@ -151,7 +151,7 @@ none-closes limit uri calls (c ∷ m) h none opened =
     let parts = or_parts (is_some (opening uri c)) (list_any (λ d. is_some (opening uri d)) m) opened in
     let close = not_closing limit uri calls c none h.0 in
     let still : held limit uri (calls ++ c ∷ []) ≡ None = held-snoc limit uri calls c
-        ∙ (ap (λ x. next_held limit uri x c) none ∙ (ap (λ b. if b then None else option_or None (opening uri c)) close ∙ not_opening (opening uri c) parts.0)) in
+    ∙ (ap (λ x. next_held limit uri x c) none ∙ (ap (λ b. if b then None else option_or None (opening uri c)) close ∙ not_opening (opening uri c) parts.0)) in
     rw close (none-closes limit uri (calls ++ c ∷ []) m h.1 still parts.1)
 
 -- ---- between a snapshot and a prefix of one opening no close stands
@@ -177,6 +177,7 @@ stood uri xs front rest mid o s e less still = go (cuts xs (o ∷ rest) front s 
     inside (x ∷ m) p q =
         let tail : rest ≡ m ++ s ∷ mid = cc q in
         (or_parts (is_close uri s) (list_any (is_close uri) mid) (any_behind uri m (s ∷ mid) (ap (list_any (is_close uri)) (sym tail) ∙ still)).1).1
+
     go : Cuts xs (o ∷ rest) front s mid → list_any (is_close uri) mid ≡ false
     go (earlier m p q) =
         let longer : length xs ≡ length (front ++ s ∷ m) = ap length p in
@@ -198,7 +199,7 @@ comes limit uri xs front rest mid after o s k e n h none next is still = go (cut
         let at : length m ≡ k = omega (arith, long, length-append front (s ∷ m), n) in
         let all : next_opening uri (m ++ (o ∷ rest ++ after)) ≡ Some k = ap (next_opening uri) (sym (append_assoc m (o ∷ rest) after) ∙ ap (λ l. l ++ after) (sym q)) ∙ next in
         let first = none-closes limit uri (front ++ s ∷ []) m (accepted-split limit (front ++ s ∷ []) m (o ∷ rest) (subst (AreAcceptedFrom limit (front ++ s ∷ [])) q h)).0 none
-            (none-opens uri m (o ∷ rest ++ after) k all at) in
+        (none-opens uri m (o ∷ rest ++ after) k all at) in
         ap (list_any (is_close uri)) q ∙ (list_any-append (is_close uri) m (o ∷ rest) ∙ rw (first, opening_closes uri o is) still)
 
 shown_none : (limit : ℕ) (uri : Bytes) (front : List Call) (u : Bytes) (n : ℤ) (t : Text) → held limit uri front ≡ None → held limit uri (front ++ shows u n t ∷ []) ≡ None
@@ -215,8 +216,10 @@ module _ (limit : ℕ) (uri : Bytes) (n : ℤ) (t : Text) where
     where
       there : (i : ℕ) × (standing uri (front ++ s ∷ mid) ≡ Some i)
       there = held-standing limit uri (front ++ s ∷ mid) v now
+
       at : StandsAt uri (front ++ s ∷ mid) there.0
       at = standing-at uri (front ++ s ∷ mid) there.0 there.1
+
       go : (o : Option ℕ) → standing uri front ≡ o → list_any (is_close uri) mid ≡ false
       go (Some j) e =
           let own = standing-at uri front j e in
@@ -226,7 +229,7 @@ module _ (limit : ℕ) (uri : Bytes) (n : ℤ) (t : Text) where
           stood uri at.before front at.after mid at.call s (sym at.whole) less at.still_open
       go None e =
           let next = mapped (λ i. length front + 1 + i) (next_opening uri (mid ++ after)) there.0
-              (sym (ap (λ o. option_or o (option_map (λ i. length front + 1 + i) (next_opening uri (mid ++ after)))) e) ∙ (same ∙ there.1)) in
+          (sym (ap (λ o. option_or o (option_map (λ i. length front + 1 + i) (next_opening uri (mid ++ after)))) e) ∙ (same ∙ there.1)) in
           comes limit uri at.before front at.after mid after at.call s next.0 (sym at.whole) (at.place ∙ sym next.2) (accepted-split limit [] front (s ∷ mid) h).1.1
           (shown_none limit uri front uri n t (standing-none limit uri front e)) next.1 at.is_opening at.still_open
 
@@ -236,12 +239,16 @@ module _ (limit : ℕ) (uri : Bytes) (n : ℤ) (t : Text) where
     where
       there : (i : ℕ) × (standing uri before ≡ Some i)
       there = held-standing limit uri before v now
+
       at : StandsAt uri before there.0
       at = standing-at uri before there.0 there.1
+
       long : length before ≡ length (at.before ++ at.call ∷ at.after)
       long = ap length at.whole
+
       less : there.0 < length before
       less = omega (arith, long, length-append at.before (at.call ∷ at.after), at.place)
+
       go : (o : Option ℕ) → standing uri (before ++ mid) ≡ o → list_any (is_close uri) mid ≡ false
       go (Some j) e =
           let own = standing-at uri (before ++ mid) j e in
@@ -255,7 +262,7 @@ module _ (limit : ℕ) (uri : Bytes) (n : ℤ) (t : Text) where
               absurd (omega (arith, longer, length-append before m, place, less))
       go None e =
           let next = mapped (λ i. length (before ++ mid) + 1 + i) (next_opening uri back) there.0
-              (sym (ap (λ o. option_or o (option_map (λ i. length (before ++ mid) + 1 + i) (next_opening uri back))) e) ∙ (same ∙ there.1)) in
+          (sym (ap (λ o. option_or o (option_map (λ i. length (before ++ mid) + 1 + i) (next_opening uri back))) e) ∙ (same ∙ there.1)) in
           absurd (omega (arith, next.2, length-append before mid, less))
 
 -- **After any calls, a held text is that of each snapshot that belongs to its opening and version.**
@@ -272,6 +279,6 @@ bound-agrees limit before after front back uri n t v h e same now number = go (c
     go (later mid p q) =
         let open_still = ahead limit uri n t before mid back v now (ap (λ l. binding uri l back) (sym p) ∙ same) in
         let cut : before ++ after ≡ (before ++ mid ++ shows uri n t ∷ []) ++ back =
-            ap (λ l. before ++ l) q ∙ (sym (append_assoc before mid (shows uri n t ∷ back)) ∙ sym (append_assoc (before ++ mid) (shows uri n t ∷ []) back)) in
+        ap (λ l. before ++ l) q ∙ (sym (append_assoc before mid (shows uri n t ∷ back)) ∙ sym (append_assoc (before ++ mid) (shows uri n t ∷ []) back)) in
         let accepted = (accepted-split limit [] (before ++ mid ++ shows uri n t ∷ []) back (subst (AreAccepted limit) cut h)).0 in
         agrees-before limit before mid uri n t v accepted open_still now number

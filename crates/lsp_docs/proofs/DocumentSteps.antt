@@ -1,20 +1,17 @@
 -- What one more call does to the list of the open documents.
-use Rattle.std.proofs.Common.{◌≡◌, ℕ, Bool, true, false, ◌||◌, List, [], ◌∷◌, ◌++◌, map, filter, refl, sym, ap, ◌∙◌, Option, Some, None, inl, inr, append_assoc, append-nil, subst, Result, Ok, Err, true≢false}
-use Rattle.std.specs.Prelude.{if◌then◌else◌, option_map, ℤ, not, is_some}
+use Rattle.std.proofs.Common.{◌≡◌, ℕ, Bool, true, false, List, [], ◌∷◌, ◌++◌, map, filter, refl, sym, ap, ◌∙◌, Option, Some, None, inl, inr, append_assoc, append-nil, subst, Ok, true≢false}
+use Rattle.std.specs.Prelude.{if◌then◌else◌, ℤ, not}
 use Rattle.std.specs.Str.{bytes_eq}
 use Rattle.std.specs.Option.{option_or}
-use Rattle.std.specs.List.{list_any}
 use Rattle.std.proofs.lemmas.Option.{none-some, same_Some}
 use Rattle.lsp_rpc.specs.declared.plain.Encoding.{Encoding}
 use Rattle.lsp_rpc.specs.declared.plain.SyncKind.{SyncKind}
 use Rattle.lsp_docs.specs.Texts.{Text}
 use Rattle.lsp_text.specs.Edits.{Edit, applied}
-use Rattle.lsp_docs.specs.Calls.{Bytes, Call, opens, changes, closes, saves, shows, uri_of, is_close}
-use Rattle.lsp_docs.specs.Documents.{Version, versioned, opening, revised, revised_by, held_since, held, Held, as_held, held_entry, documents, text_or}
-use Rattle.lsp_docs.specs.Snapshots.{versions_of, waiting}
-use Rattle.lsp_docs.specs.Rules.{call_rule, rule_of, AreAcceptedFrom, AreAccepted}
+use Rattle.lsp_docs.specs.Calls.{Bytes, Call, opens, changes, closes, saves, shows, is_close}
+use Rattle.lsp_docs.specs.Documents.{Version, versioned, revised, held_since, held, Held, as_held, held_entry, documents}
 use Rattle.lsp_docs.specs.State.{held_in, set_in, without}
-use Rattle.lsp_docs.proofs.Words.{true_or_false, filter-append, map-append, uri_is, uri_same, uri_flip}
+use Rattle.lsp_docs.proofs.Words.{true_or_false, filter-append, map-append, uri_is, uri_flip}
 use Rattle.lsp_docs.proofs.HeldSteps.{since, held_since-snoc}
 
 abbrev pub stays : Call → Held → Bool

@@ -1,5 +1,5 @@
 -- The map of the documents beside the list that it stands for.
-use Rattle.std.proofs.Common.{◌≡◌, ℕ, ℤ, List, [], ◌∷◌, ◌++◌, map, Option, Some, None, option_map, is_some, inl, inr, Bool, true, false, cond, refl, sym, ap, ◌∙◌, string_bytes, String, Global, Bor, true≢false}
+use Rattle.std.proofs.Common.{◌≡◌, ℕ, ℤ, List, [], ◌∷◌, ◌++◌, map, Option, Some, None, option_map, is_some, inl, inr, Bool, true, cond, refl, sym, ap, ◌∙◌, string_bytes, String, Global, Bor, true≢false}
 use Rattle.std.specs.Prelude.{slice_get}
 use Rattle.std.proofs.lemmas.Option.{none-some, slice_get-map}
 use Rattle.std.specs.Option.{option_copied}
@@ -9,7 +9,7 @@ use Rattle.std.specs.Str.{bytes_eq}
 use Rattle.indexmap.specs.IndexMap.{insert_entry}
 use Rattle.lsp_docs.specs.Texts.{Text}
 use Rattle.lsp_docs.specs.Documents.{Version, versioned, Held}
-use Rattle.lsp_docs.specs.State.{State, Waits, held_in, set_in, without, with_held}
+use Rattle.lsp_docs.specs.State.{Waits, held_in, set_in, without, with_held}
 use Rattle.lsp_docs.proofs.Words.{true_or_false}
 use Rattle.lsp_docs.proofs.Queues.{rest_of, head_is, not_head}
 use Rattle.lsp_docs.proofs.Stepping.{stated}

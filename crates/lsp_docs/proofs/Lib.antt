@@ -13,4 +13,4 @@ pub mod Agreeing
 pub mod Bindings
 pub mod Setters
 pub mod Unmatched
-pub mod Rows
+pub mod Sessions

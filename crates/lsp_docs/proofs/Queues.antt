@@ -2,11 +2,11 @@
 use Rattle.std.proofs.Common.{◌≡◌, ℕ, List, [], ◌∷◌, ◌++◌, map, Option, Some, None, inl, inr, Bool, true, false, cond, refl, sym, ap, ◌∙◌, string_bytes, String, Vec, Global, filter, true≢false}
 use Rattle.std.proofs.lemmas.Option.{same_Some, none-some}
 use Rattle.std.specs.String.{string_eq}
-use Rattle.std.specs.Map.{lookup, set_value}
+use Rattle.std.specs.Map.{lookup, set_value, remove_entry}
 use Rattle.std.specs.Str.{bytes_eq}
 use Rattle.indexmap.specs.IndexMap.{insert_entry}
 use Rattle.lsp_docs.specs.Documents.{Version}
-use Rattle.lsp_docs.specs.State.{Queue, Waits, queue_of, keep_in, add_in, total}
+use Rattle.lsp_docs.specs.State.{Queue, Waits, queue_of, keep_in, without_queue, add_in, total}
 use Rattle.lsp_docs.specs.Kept.{version_of, queues_in, lengths}
 use Rattle.lsp_docs.specs.declared.snapshot.Snapshot.{Snapshot}
 use Rattle.lsp_docs.proofs.Words.{true_or_false, length-map}
@@ -61,6 +61,10 @@ module _ {D : Type 0} (versions : D → List Version) where
     keep_in-absent q (e ∷ es) h =
         let p = not_head (is_key e.0) e.1 (lookup is_key es) h in
         rw p (ap (λ l. queued e ∷ l) (keep_in-absent q es (rest_of (is_key e.0) e.1 (lookup is_key es) None h p)))
+
+    pub without-removed : (es : List (String Global × D)) → map queued (remove_entry is_key es) ≡ without_queue uri (map queued es)
+    without-removed [] = refl
+    without-removed (e ∷ es) = elim (true_or_false (is_key e.0)) [ inl p ↦ rw p refl | inr p ↦ rw p (ap (λ l. queued e ∷ l) (without-removed es)) ]
 
     pub add_in-there : (v : Version) (d w : D) → versions w ≡ versions d ++ v ∷ [] → (es : List (String Global × D)) → lookup is_key es ≡ Some d
         → map queued (set_value is_key es w) ≡ add_in uri v (map queued es)

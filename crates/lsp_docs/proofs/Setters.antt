@@ -6,20 +6,19 @@ use Rattle.std.specs.Option.{option_or}
 use Rattle.std.specs.Ordering.{int_eq}
 use Rattle.std.specs.Str.{bytes_eq}
 use Rattle.std.proofs.lemmas.Bool.{or_parts}
-use Rattle.std.proofs.lemmas.Bool.Decides.{Decides-int_eq}
 use Rattle.std.proofs.lemmas.Cmp.{int_eq_equiv}
 use Rattle.std.proofs.lemmas.List.Folds.{list_any-append}
 use Rattle.std.proofs.lemmas.Option.{same_Some, none-some}
 use Rattle.lsp_docs.specs.Texts.{Text}
 use Rattle.lsp_text.specs.Edits.{applied}
 use Rattle.lsp_docs.specs.Calls.{Bytes, Call, opens, changes, closes, saves, shows, is_close, is_change}
-use Rattle.lsp_docs.specs.Documents.{Version, versioned, opening, revised, text_or, held}
+use Rattle.lsp_docs.specs.Documents.{Version, versioned, opening, text_or, held}
 use Rattle.lsp_docs.specs.Snapshots.{holds_number, sets, comes_to, is_compared}
 use Rattle.lsp_docs.specs.Rules.{show_rule, call_rule, AreAcceptedFrom, AreAccepted}
 use Rattle.lsp_docs.specs.Binding.{standing, next_opening, binding, IsSet}
 use Rattle.lsp_docs.proofs.Words.{true_or_false, both_parts, either, int_is, unchanged, uri_is}
 use Rattle.lsp_docs.proofs.HeldSteps.{next_held, held-snoc}
-use Rattle.lsp_docs.proofs.WaitingSteps.{none_row, no_some, change_parts, or_false}
+use Rattle.lsp_docs.proofs.WaitingSteps.{none_row, no_some, change_parts}
 use Rattle.lsp_docs.proofs.Accepted.{accepted-split, risen}
 use Rattle.lsp_docs.proofs.Unmatched.{set_opens}
 use Rattle.lsp_docs.proofs.Bindings.{mapped, Cuts, earlier, later, cuts, held-standing, any_behind, behind, ahead}
@@ -144,8 +143,10 @@ binding-stands uri front m rest u n t i open_still at = go (standing uri front) 
   where
     s : Call
     s = shows u n t
+
     cut : standing uri ((front ++ shows u n t ∷ []) ++ m) ≡ Some i
     cut = ap (standing uri) (append_assoc front (shows u n t ∷ []) m) ∙ at
+
     none_next : (x : Option ℕ) → next_opening uri m ≡ x → standing uri front ≡ None → binding uri front (m ++ rest) ≡ Some i
     none_next None e none =
         absurd (none-some i (sym (standing-without uri (front ++ shows u n t ∷ []) m open_still (standing-one uri front (shows u n t) None false refl none refl) e) ∙ cut))
@@ -155,6 +156,7 @@ binding-stands uri front m rest u n t i open_still at = go (standing uri front) 
         let place : length front + 1 + k ≡ i = omega (arith, length-append front (shows u n t ∷ []), same) in
         ap (λ o. option_or o (option_map (λ j. length front + 1 + j) (next_opening uri (m ++ rest)))) none
         ∙ (ap (option_map (λ j. length front + 1 + j)) (next_opening-more uri m rest k e) ∙ ap (λ j. let bound : Option ℕ = Some j in bound) place)
+
     go : (o : Option ℕ) → standing uri front ≡ o → binding uri front (m ++ rest) ≡ Some i
     go None e = none_next (next_opening uri m) refl e
     go (Some o) e =
@@ -242,6 +244,7 @@ set-before limit uri calls (c ∷ more) h so_far v i now at =
   where
     set_here : (w : Version) (j : ℕ) → standing uri (calls ++ c ∷ []) ≡ Some j → sets uri w.number c ≡ true → IsSet uri w.number (calls ++ c ∷ []) j
     set_here w j stands p = record { before = calls; call = c; after = []; whole = refl; comes = p; stands = stands }
+
     step : (w : Version) (j : ℕ) → held limit uri (calls ++ c ∷ []) ≡ Some w → standing uri (calls ++ c ∷ []) ≡ Some j → IsSet uri w.number (calls ++ c ∷ []) j
     step w j held_now stands =
         elim (true_or_false (sets uri w.number c)) [
@@ -368,7 +371,7 @@ module _ (limit : ℕ) (front back : List Call) (uri : Bytes) (n : ℤ) (t : Tex
       let ends : (front ++ s ∷ mid) ++ (c ∷ after) ≡ ((front ++ s ∷ mid) ++ c ∷ []) ++ after = sym (append_assoc (front ++ s ∷ mid) (c ∷ []) after) in
       let accepted = subst (AreAccepted limit) join (accepted-split limit [] ((front ++ s ∷ mid) ++ c ∷ []) after (subst (AreAccepted limit) (cut ∙ ends) h)).0 in
       let same : binding uri front ((mid ++ c ∷ []) ++ after) ≡ standing uri (front ++ s ∷ (mid ++ c ∷ [])) =
-          ap (binding uri front) (append_assoc mid (c ∷ []) after ∙ sym q) ∙ (bound ∙ (sym stands ∙ ap (standing uri) join)) in
+      ap (binding uri front) (append_assoc mid (c ∷ []) after ∙ sym q) ∙ (bound ∙ (sym stands ∙ ap (standing uri) join)) in
       let still = behind limit uri n t front (mid ++ c ∷ []) after now.version accepted (ap (held limit uri) (sym join) ∙ now.is) same in
       ap (comes_to uri n) q ∙ comes_there uri n mid c after (any_behind uri mid (c ∷ []) still).0 p
 
@@ -402,6 +405,7 @@ module _ (limit : ℕ) (front back : List Call) (uri : Bytes) (n : ℤ) (t : Tex
           let same : set.call ≡ x = cc q in
           let cut : front ≡ (set.before ++ set.call ∷ []) ++ mid = p ∙ (ap (λ c. set.before ++ c ∷ mid) (sym same) ∙ sym (append_assoc set.before (set.call ∷ []) mid)) in
           or_false_parts (holds_number n (held limit uri front)) (comes_to uri n back) none (inl (set_ahead place set.before mid set.call cut set.comes bound set.stands))
+
       go : Cuts set.before (set.call ∷ set.after) front s back → ⊥
       go (earlier mid p q) =
           or_false_parts (holds_number n (held limit uri front)) (comes_to uri n back) none

@@ -1,24 +1,22 @@
 -- What each accepted call leaves stands for the calls with it behind them.
-use Rattle.std.proofs.Common.{◌≡◌, ℕ, ◌+◌, Bool, true, false, ◌||◌, ◌&&◌, List, [], ◌∷◌, ◌++◌, map, filter, length, length-append, refl, sym, ap, ◌∙◌, Option, Some, None, inl, inr, append_assoc, append-nil, subst, Result, Ok, Err, true≢false, arith, zero, suc}
-use Rattle.std.specs.Prelude.{if◌then◌else◌, ℤ, not, is_some, int_lt, slice_get}
+use Rattle.std.proofs.Common.{◌≡◌, ℕ, ◌+◌, Bool, true, false, ◌||◌, ◌&&◌, List, [], ◌∷◌, ◌++◌, filter, length, length-append, refl, sym, ap, ◌∙◌, Some, None, inl, inr, append_assoc, append-nil, subst, arith, zero, suc}
+use Rattle.std.specs.Prelude.{ℤ, not, is_some, int_lt, slice_get}
 use Rattle.std.specs.Str.{bytes_eq}
-use Rattle.std.specs.Option.{option_or}
 use Rattle.std.proofs.lemmas.Option.{none-some, same_Some}
 use Rattle.lsp_rpc.specs.declared.plain.Encoding.{Encoding}
 use Rattle.lsp_rpc.specs.declared.plain.SyncKind.{SyncKind}
 use Rattle.lsp_docs.specs.Texts.{Text}
-use Rattle.lsp_text.specs.Edits.{Edit, applied}
-use Rattle.lsp_docs.specs.Calls.{Bytes, Call, opens, changes, closes, saves, shows, uri_of, is_close}
-use Rattle.lsp_docs.specs.Documents.{Version, versioned, held, Held, held_entry, documents}
-use Rattle.lsp_docs.specs.Snapshots.{Shown, is_ahead, shown_entry, waiting, versions_of}
-use Rattle.lsp_docs.specs.Rules.{rule_of, call_rule, AreAcceptedFrom, AreAccepted}
+use Rattle.lsp_text.specs.Edits.{Edit}
+use Rattle.lsp_docs.specs.Calls.{Bytes, Call, opens, changes, closes, saves, shows}
+use Rattle.lsp_docs.specs.Documents.{Version, versioned, held, Held, documents}
+use Rattle.lsp_docs.specs.Snapshots.{Shown, shown_entry, waiting, versions_of}
+use Rattle.lsp_docs.specs.Rules.{call_rule, AreAcceptedFrom, AreAccepted}
 use Rattle.lsp_docs.specs.Missed.{ends_waiting, missed}
-use Rattle.lsp_docs.specs.State.{State, Waits, Queue, held_in, set_in, without, queue_of, keep_in, add_in, total, capped, reached, released, shown_to, is_after, is_before, AreWaits, Stands, rule_at, with_held}
-use Rattle.lsp_docs.proofs.Words.{true_or_false, filter-all, filter-none, capped-add, uri_is, uri_same, uri_flip}
-use Rattle.lsp_docs.proofs.HeldSteps.{held-snoc}
-use Rattle.lsp_docs.proofs.DocumentSteps.{after_call, stays, revised_held, documents-push, held-documents, IsDistinct, all_stay, all_saved, all_shown, closed_is, changed_is, not_here}
-use Rattle.lsp_docs.proofs.WaitingSteps.{still, waiting-push, missed-push, versions-kept, count-kept, count-ended, versions_of-append, change_parts, none_row, no_some}
-use Rattle.lsp_docs.proofs.QueueSteps.{queue-kept, queue-others, total-kept, queue-added, queue-added-others, total-added}
+use Rattle.lsp_docs.specs.State.{Queue, Waits, held_in, queue_of, keep_in, without_queue, add_in, total, capped, reached, released, shown_to, is_after, is_before, AreWaits}
+use Rattle.lsp_docs.proofs.Words.{true_or_false, filter-none, filter-all, capped-add, uri_is, uri_same, uri_flip}
+use Rattle.lsp_docs.proofs.DocumentSteps.{after_call, stays, documents-push, held-documents, IsDistinct, all_stay, not_here}
+use Rattle.lsp_docs.proofs.WaitingSteps.{still, waiting-push, missed-push, versions-kept, count-kept, count-ended, versions_of-append, none_row, no_some}
+use Rattle.lsp_docs.proofs.QueueSteps.{queue-without-others, total-without, queue-kept, queue-others, total-kept, queue-added, queue-added-others, total-added}
 
 -- ---- accepted calls
 
@@ -96,7 +94,10 @@ documents-held limit calls i h accepted e =
 
 module _ (limit : ℕ) (w : Waits) (calls : List Call) (c : Call) (h : AreWaits limit w calls) (e : call_rule limit calls c ≡ None) where
   -- a call that judges the snapshots of one URI
-  module _ (u : Bytes) (q r : Version → Bool) (nothing : shown_entry limit (calls ++ c ∷ []) c [] ≡ [])
+  module _ (u : Bytes) (q r : Version → Bool) (ns : List Queue)
+      (own : queue_of u ns ≡ filter q (queue_of u w.queues)) (rest : (x : Bytes) → bytes_eq x u ≡ false → queue_of x ns ≡ queue_of x w.queues)
+      (sums : total ns + length (queue_of u w.queues) ≡ total w.queues + length (filter q (queue_of u w.queues)))
+      (nothing : shown_entry limit (calls ++ c ∷ []) c [] ≡ [])
       (stay : (s : Shown) → bytes_eq u s.uri ≡ true → still c s ≡ q s.version) (others : (s : Shown) → bytes_eq u s.uri ≡ false → still c s ≡ true)
       (go : (s : Shown) → bytes_eq u s.uri ≡ true → ends_waiting c s ≡ r s.version) (none : (s : Shown) → bytes_eq u s.uri ≡ false → ends_waiting c s ≡ false) where
     left : waiting limit (calls ++ c ∷ []) ≡ filter (still c) (waiting limit calls)
@@ -105,22 +106,22 @@ module _ (limit : ℕ) (w : Waits) (calls : List Call) (c : Call) (h : AreWaits 
     apart : (x : Bytes) → bytes_eq x u ≡ false → (s : Shown) → bytes_eq x s.uri ≡ true → still c s ≡ true
     apart x p s k = others s (ap (bytes_eq u) (sym (uri_is x s.uri k)) ∙ (uri_flip u x ∙ p))
 
-    queues_now : (x : Bytes) → queue_of x (keep_in u q w.queues) ≡ versions_of x (waiting limit (calls ++ c ∷ []))
+    queues_now : (x : Bytes) → queue_of x ns ≡ versions_of x (waiting limit (calls ++ c ∷ []))
     queues_now x =
         elim (true_or_false (bytes_eq x u)) [
-          | inl p ↦ ap (λ y. queue_of y (keep_in u q w.queues)) (uri_is x u p)
-              ∙ (queue-kept u q w.queues ∙ (ap (filter q) (h.queues u)
+          | inl p ↦ ap (λ y. queue_of y ns) (uri_is x u p)
+              ∙ (own ∙ (ap (filter q) (h.queues u)
               ∙ (sym (versions-kept u (still c) q stay (waiting limit calls)) ∙ (ap (versions_of u) (sym left) ∙ ap (λ y. versions_of y (waiting limit (calls ++ c ∷ []))) (sym (uri_is x u p))))))
-          | inr p ↦ queue-others x u q w.queues p ∙ (h.queues x
+          | inr p ↦ rest x p ∙ (h.queues x
               ∙ (sym (filter-all (versions_of x (waiting limit calls))) ∙ (sym (versions-kept x (still c) (λ _. true) (apart x p) (waiting limit calls)) ∙ ap (versions_of x) (sym left))))
         ]
 
-    count_now : total (keep_in u q w.queues) ≡ length (waiting limit (calls ++ c ∷ []))
+    count_now : total ns ≡ length (waiting limit (calls ++ c ∷ []))
     count_now =
         let vs = versions_of u (waiting limit calls) in
-        let here = subst (λ l. total (keep_in u q w.queues) + length l ≡ total w.queues + length (filter q l)) (h.queues u) (total-kept u q w.queues) in
+        let here = subst (λ l. total ns + length l ≡ total w.queues + length (filter q l)) (h.queues u) sums in
         let defined = count-kept u (still c) q stay others (waiting limit calls) in
-        let same : total (keep_in u q w.queues) ≡ length (filter (still c) (waiting limit calls)) = omega (arith, here, defined, h.count) in
+        let same : total ns ≡ length (filter (still c) (waiting limit calls)) = omega (arith, here, defined, h.count) in
         same ∙ ap length (sym left)
 
     missed_now : capped (w.missed + length (filter r (queue_of u w.queues))) ≡ capped (missed limit (calls ++ c ∷ []))
@@ -130,7 +131,7 @@ module _ (limit : ℕ) (w : Waits) (calls : List Call) (c : Call) (h : AreWaits 
         ∙ ap capped (ap (λ l. missed limit calls + length (filter r l)) (h.queues u)
         ∙ (ap (λ m. missed limit calls + m) (sym (count-ended u (ends_waiting c) r go none (waiting limit calls))) ∙ sym (missed-push limit calls c))))
 
-    pub waits-judged : AreWaits limit (record { queues = keep_in u q w.queues; missed = capped (w.missed + length (filter r (queue_of u w.queues))) }) (calls ++ c ∷ [])
+    pub waits-judged : AreWaits limit (record { queues = ns; missed = capped (w.missed + length (filter r (queue_of u w.queues))) }) (calls ++ c ∷ [])
     waits-judged = record { queues = queues_now; count = count_now; missed = missed_now }
 
   -- a call that leaves all that waits
@@ -164,23 +165,26 @@ and_none b x p = rw p refl
 pub waits-opened : (limit : ℕ) (w : Waits) (calls : List Call) (u : Bytes) (n : ℤ) (t : Text) → AreWaits limit w calls → call_rule limit calls (opens u n t) ≡ None
     → AreWaits limit (reached u n w) (calls ++ opens u n t ∷ [])
 waits-opened limit w calls u n t h e =
-    waits-judged limit w calls (opens u n t) h e u (is_after n) (is_before n) refl
+    waits-judged limit w calls (opens u n t) h e u (is_after n) (is_before n) (keep_in u (is_after n) w.queues) (queue-kept u (is_after n) w.queues) (λ x p. queue-others x u (is_after n) w.queues p) (total-kept u (is_after n) w.queues) refl
     (λ s p. judged_true (bytes_eq u s.uri) (int_lt n s.version.number) p) (λ s p. judged_false (bytes_eq u s.uri) (int_lt n s.version.number) p)
     (λ s p. and_first (bytes_eq u s.uri) (int_lt s.version.number n) p) (λ s p. and_none (bytes_eq u s.uri) (int_lt s.version.number n) p)
 
 pub waits-changed : (limit : ℕ) (w : Waits) (calls : List Call) (enc : Encoding) (k : SyncKind) (u : Bytes) (n : ℤ) (cs : List Edit) → AreWaits limit w calls → call_rule limit calls (changes enc k u n cs) ≡ None
     → AreWaits limit (reached u n w) (calls ++ changes enc k u n cs ∷ [])
 waits-changed limit w calls enc k u n cs h e =
-    waits-judged limit w calls (changes enc k u n cs) h e u (is_after n) (is_before n) refl
+    waits-judged limit w calls (changes enc k u n cs) h e u (is_after n) (is_before n) (keep_in u (is_after n) w.queues) (queue-kept u (is_after n) w.queues) (λ x p. queue-others x u (is_after n) w.queues p) (total-kept u (is_after n) w.queues) refl
     (λ s p. judged_true (bytes_eq u s.uri) (int_lt n s.version.number) p) (λ s p. judged_false (bytes_eq u s.uri) (int_lt n s.version.number) p)
     (λ s p. and_first (bytes_eq u s.uri) (int_lt s.version.number n) p) (λ s p. and_none (bytes_eq u s.uri) (int_lt s.version.number n) p)
 
-pub waits-closed : (limit : ℕ) (w : Waits) (calls : List Call) (u : Bytes) → AreWaits limit w calls → call_rule limit calls (closes u) ≡ None
+pub waits-closed : (limit : ℕ) (w : Waits) (calls : List Call) (u : Bytes) → AreWaits limit w calls → call_rule limit calls (closes u) ≡ None → queue_of u (without_queue u w.queues) ≡ []
     → AreWaits limit (released u w) (calls ++ closes u ∷ [])
-waits-closed limit w calls u h e =
-    subst (λ l. AreWaits limit (record { queues = keep_in u (λ _. false) w.queues; missed = capped (w.missed + length l) }) (calls ++ closes u ∷ []))
-    (filter-all (queue_of u w.queues))
-    (waits-judged limit w calls (closes u) h e u (λ _. false) (λ _. true) refl
+waits-closed limit w calls u h e gone =
+    let mine = queue_of u w.queues in
+    let all : total (without_queue u w.queues) + length mine ≡ total w.queues + 0 = omega (arith, total-without u w.queues) in
+    let sums = subst (λ l. total (without_queue u w.queues) + length mine ≡ total w.queues + length l) (sym (filter-none mine)) all in
+    subst (λ l. AreWaits limit (record { queues = without_queue u w.queues; missed = capped (w.missed + length l) }) (calls ++ closes u ∷ []))
+    (filter-all mine)
+    (waits-judged limit w calls (closes u) h e u (λ _. false) (λ _. true) (without_queue u w.queues) (gone ∙ sym (filter-none mine)) (λ x p. queue-without-others x u w.queues p) sums refl
     (λ s p. rw p refl) (λ s p. rw p refl) (λ s p. p) (λ s p. p))
 
 pub waits-kept : (limit : ℕ) (w : Waits) (calls : List Call) (c : Call) → AreWaits limit w calls → call_rule limit calls c ≡ None

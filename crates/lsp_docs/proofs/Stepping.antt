@@ -1,12 +1,11 @@
 -- What stands for a list of calls, from one accepted call to the next.
-use Rattle.std.proofs.Common.{◌≡◌, ℕ, ◌+◌, Bool, true, false, ◌&&◌, List, [], ◌∷◌, ◌++◌, refl, sym, ap, ◌∙◌, Option, Some, None, inl, inr, append-nil, subst, Result, Ok, Err, true≢false, arith}
+use Rattle.std.proofs.Common.{◌≡◌, ℕ, Bool, true, false, ◌&&◌, List, [], ◌∷◌, ◌++◌, refl, sym, ap, ◌∙◌, Option, Some, None, inl, inr, append-nil, subst, Result, Ok, true≢false, arith}
 use Rattle.std.proofs.lemmas.Int.{ints}
 use Rattle.std.proofs.lemmas.Bool.{or_parts}
 use Rattle.std.proofs.lemmas.Bool.Decides.{Decides-int_eq}
-use Rattle.std.specs.Prelude.{if◌then◌else◌, ℤ, not, is_some, int_lt, option_map, nat_lt}
+use Rattle.std.specs.Prelude.{if◌then◌else◌, ℤ, not, is_some, int_lt, nat_lt}
 use Rattle.std.specs.Str.{bytes_eq}
 use Rattle.std.specs.Ordering.{int_eq}
-use Rattle.std.specs.Option.{option_or}
 use Rattle.std.specs.List.{list_any}
 use Rattle.std.proofs.lemmas.Option.{none-some}
 use Rattle.lsp_rpc.specs.declared.plain.Encoding.{Encoding}
@@ -17,15 +16,15 @@ use Rattle.lsp_docs.specs.Texts.{Text, byte_len}
 use Rattle.lsp_text.specs.Edits.{Edit, applied}
 use Rattle.lsp_docs.specs.Calls.{Bytes, Call, opens, changes, closes, saves, shows, uri_of}
 use Rattle.lsp_docs.specs.Documents.{Version, versioned, held, Held, documents}
-use Rattle.lsp_docs.specs.Snapshots.{is_ahead, shown_entry, waiting, versions_of, holds_number}
-use Rattle.lsp_docs.specs.Rules.{rule_of, call_rule, version_rule, text_rule, differs, fits_kind, change_rule, AreAccepted}
-use Rattle.lsp_docs.specs.State.{State, Waits, held_in, set_in, without, queue_of, reached, released, shown_to, AreWaits, Stands, rule_at, with_held, text_in, changed_at, IsChanged, early_rule, is_at}
+use Rattle.lsp_docs.specs.Snapshots.{is_ahead, holds_number}
+use Rattle.lsp_docs.specs.Rules.{rule_of, call_rule, version_rule, text_rule, differs, fits_kind, change_rule}
+use Rattle.lsp_docs.specs.State.{State, Waits, held_in, set_in, without, queue_of, without_queue, reached, released, shown_to, Stands, rule_at, text_in, changed_at, early_rule, is_at}
 use Rattle.lsp_docs.specs.Fault.{Names}
 use Rattle.lsp_docs.specs.Answer.{answer_of}
 use Rattle.lsp_docs.specs.declared.snapshot.Match.TheVariants as answers
 use Rattle.lsp_docs.proofs.Words.{true_or_false, unchanged}
 use Rattle.lsp_docs.proofs.HeldSteps.{held-snoc}
-use Rattle.lsp_docs.proofs.DocumentSteps.{after_call, documents-push, held-documents, IsDistinct, all_stay, all_saved, all_shown, closed_is, changed_is}
+use Rattle.lsp_docs.proofs.DocumentSteps.{documents-push, held-documents, all_stay, all_saved, all_shown, closed_is, changed_is}
 use Rattle.lsp_docs.proofs.WaitingSteps.{change_parts, none_row}
 use Rattle.lsp_docs.proofs.Standing.{accepted-push, documents-distinct, waits-opened, waits-changed, waits-closed, waits-kept, waits-shown}
 
@@ -76,16 +75,16 @@ Stands-changed s calls enc k u n cs t e made h =
       waits = waits-changed s.limit s.waits calls enc k u n cs h.waits rule;
     }
 
-pub Stands-closed : (s : State) (calls : List Call) (u : Bytes) → rule_at s (closes u) ≡ None → Stands s calls
+pub Stands-closed : (s : State) (calls : List Call) (u : Bytes) → rule_at s (closes u) ≡ None → queue_of u (without_queue u s.waits.queues) ≡ [] → Stands s calls
     → Stands (stated s.limit (without u s.documents) (released u s.waits)) (calls ++ closes u ∷ [])
-Stands-closed s calls u e h =
+Stands-closed s calls u e gone h =
     let c = closes u in
     let rule = sym (rule-stands s calls c h) ∙ e in
     record {
       accepted = accepted-push s.limit calls c h.accepted rule;
       documents = ap (without u) h.documents
           ∙ (sym (closed_is s.limit u (documents s.limit calls) (documents-distinct s.limit calls h.accepted)) ∙ (sym (append-nil _) ∙ sym (documents-push s.limit calls c)));
-      waits = waits-closed s.limit s.waits calls u h.waits rule;
+      waits = waits-closed s.limit s.waits calls u h.waits rule gone;
     }
 
 pub Stands-saved : (s : State) (calls : List Call) (u : Bytes) (t : Option Text) → rule_at s (saves u t) ≡ None → Stands s calls → Stands s (calls ++ saves u t ∷ [])

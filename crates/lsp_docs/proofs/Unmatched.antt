@@ -1,21 +1,20 @@
 -- The snapshots that were never compared: those that wait, and those that were missed.
-use Rattle.std.proofs.Common.{◌≡◌, ℕ, ◌+◌, Bool, true, false, ◌&&◌, ◌||◌, ◌⊎◌, List, [], ◌∷◌, ◌++◌, filter, length, length-append, refl, sym, ap, ◌∙◌, subst, Option, Some, None, inl, inr, append_assoc, append-nil, true≢false, arith}
+use Rattle.std.proofs.Common.{◌≡◌, ℕ, ◌+◌, Bool, true, false, ◌&&◌, ◌||◌, ◌⊎◌, List, [], ◌∷◌, ◌++◌, filter, length, length-append, refl, sym, ap, ◌∙◌, subst, None, inl, inr, append_assoc, append-nil, true≢false, arith}
 use Rattle.std.specs.Prelude.{ℤ, int_lt, not, is_some, if◌then◌else◌}
 use Rattle.std.specs.List.{list_any}
 use Rattle.std.specs.Ordering.{int_eq}
 use Rattle.std.specs.Str.{bytes_eq}
 use Rattle.std.proofs.lemmas.Bool.{or_parts}
-use Rattle.std.proofs.lemmas.Bool.Decides.{Decides-int_eq}
 use Rattle.std.proofs.lemmas.Int.{ints}
 use Rattle.lsp_docs.specs.Texts.{Text}
 use Rattle.lsp_docs.specs.Calls.{Bytes, Call, opens, changes, closes, saves, shows, is_close}
-use Rattle.lsp_docs.specs.Documents.{Version, versioned, held}
-use Rattle.lsp_docs.specs.Snapshots.{Shown, is_ahead, waits, shown_entry, waiting_in, waiting, versions_of, holds_number, sets, comes_to, is_compared, unmatched_entry, unmatched_in, unmatched}
+use Rattle.lsp_docs.specs.Documents.{versioned, held}
+use Rattle.lsp_docs.specs.Snapshots.{Shown, is_ahead, shown_entry, waiting_in, waiting, versions_of, holds_number, sets, comes_to, is_compared, unmatched_entry, unmatched_in, unmatched}
 use Rattle.lsp_docs.specs.Rules.{call_rule, AreAcceptedFrom, AreAccepted}
 use Rattle.lsp_docs.specs.Missed.{ends_waiting, missed}
-use Rattle.lsp_docs.proofs.Words.{true_or_false, both_parts, either, int_is, filter-append, uri_is, uri_same, uri_flip}
+use Rattle.lsp_docs.proofs.Words.{true_or_false, both_parts, either, int_is, filter-append, uri_is, uri_flip}
 use Rattle.lsp_docs.proofs.HeldSteps.{next_held, held-snoc}
-use Rattle.lsp_docs.proofs.WaitingSteps.{still, still_at, ahead-step, and_true, and_false, or_false, none_row, no_some, change_parts, waiting-push, missed-push}
+use Rattle.lsp_docs.proofs.WaitingSteps.{still, still_at, ahead-step, and_false, or_false, none_row, no_some, change_parts, waiting-push, missed-push}
 use Rattle.lsp_docs.proofs.Standing.{accepted-push}
 use Rattle.lsp_docs.proofs.Stepping.{held-shown, not_ahead, ahead}
 

@@ -1,21 +1,21 @@
 -- What one more call does to the snapshots that wait.
-use Rattle.std.proofs.Common.{◌≡◌, ℕ, ◌+◌, Bool, true, false, ◌||◌, ◌&&◌, List, [], ◌∷◌, ◌++◌, map, filter, length, refl, sym, ap, ◌∙◌, Option, Some, None, inl, inr, append_assoc, append-nil, subst, Result, Ok, Err, true≢false, arith}
+use Rattle.std.proofs.Common.{◌≡◌, ℕ, ◌+◌, Bool, true, false, ◌||◌, ◌&&◌, List, [], ◌∷◌, ◌++◌, map, filter, length, refl, sym, ap, ◌∙◌, Option, Some, None, inl, inr, append_assoc, append-nil, Result, Ok, Err, true≢false, arith}
 use Rattle.std.specs.Prelude.{if◌then◌else◌, option_map, ℤ, not, is_some, int_lt}
 use Rattle.std.specs.Str.{bytes_eq}
 use Rattle.std.specs.Option.{option_or}
 use Rattle.std.specs.List.{list_any}
-use Rattle.std.proofs.lemmas.Option.{none-some, same_Some}
+use Rattle.std.proofs.lemmas.Option.{none-some}
 use Rattle.std.proofs.lemmas.List.Folds.{list_any-append}
 use Rattle.lsp_rpc.specs.declared.plain.Encoding.{Encoding}
 use Rattle.lsp_rpc.specs.declared.plain.SyncKind.{SyncKind}
 use Rattle.lsp_docs.specs.Texts.{Text}
 use Rattle.lsp_text.specs.Edits.{Edit, applied}
-use Rattle.lsp_docs.specs.Calls.{Bytes, Call, opens, changes, closes, saves, shows, uri_of, is_close}
-use Rattle.lsp_docs.specs.Documents.{Version, versioned, opening, revised, revised_by, held_since, held}
+use Rattle.lsp_docs.specs.Calls.{Bytes, Call, opens, changes, closes, saves, shows, is_close}
+use Rattle.lsp_docs.specs.Documents.{Version, versioned, revised, held}
 use Rattle.lsp_docs.specs.Snapshots.{Shown, is_ahead, waits, shown_entry, waiting_in, waiting, is_of, versions_of}
-use Rattle.lsp_docs.specs.Rules.{fits_kind, version_rule, text_rule, change_rule, rule_of, call_rule}
+use Rattle.lsp_docs.specs.Rules.{fits_kind, version_rule, text_rule, change_rule, call_rule}
 use Rattle.lsp_docs.specs.Missed.{ends_waiting, missed_from, missed}
-use Rattle.lsp_docs.proofs.Words.{true_or_false, filter-append, map-append, uri_is, uri_same, uri_flip, lt_trans}
+use Rattle.lsp_docs.proofs.Words.{true_or_false, filter-append, map-append, uri_is, uri_flip, lt_trans}
 use Rattle.lsp_docs.proofs.HeldSteps.{next_held, held-snoc}
 
 -- a snapshot of the URI and version waits on after the call

@@ -1,7 +1,7 @@
 -- Small lemmas on Booleans, lists and counts.
 use Rattle.std.proofs.Common.{◌≡◌, Option, Some, None, true≢false, ℕ, List, [], ◌∷◌, ◌++◌, map, inl, inr, ◌⊎◌, Bool, true, false, ◌&&◌, ◌||◌, refl, sym, ap, ◌∙◌, filter, length, arith, ◌+◌, suc}
 use Rattle.std.proofs.lemmas.Int.{ints}
-use Rattle.std.specs.Prelude.{ℤ, int_lt, min, ◌-◌, ◌^◌, not, if◌then◌else◌, option_map}
+use Rattle.std.specs.Prelude.{ℤ, int_lt, min, ◌-◌, ◌^◌, option_map}
 use Rattle.std.specs.List.{list_any}
 use Rattle.std.specs.Str.{bytes_eq}
 use Rattle.std.specs.Option.{option_or}

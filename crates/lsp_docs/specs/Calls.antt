@@ -1,5 +1,5 @@
 -- What is said of documents, one call after another: a URI, and then what the message or the snapshot says of it.
-use Rattle.std.specs.Prelude.{ℕ, ℤ, List, Bool, true, false, Option}
+use Rattle.std.specs.Prelude.{ℕ, ℤ, List, Bool, false, Option}
 use Rattle.std.specs.Str.{bytes_eq}
 use Rattle.lsp_rpc.specs.declared.plain.Encoding.{Encoding}
 use Rattle.lsp_rpc.specs.declared.plain.SyncKind.{SyncKind}

@@ -1,5 +1,5 @@
 -- What a fault says.
-use Rattle.std.specs.Prelude.{◌≡◌, ℕ, List, Option, Some, Result, Err}
+use Rattle.std.specs.Prelude.{◌≡◌, ℕ, Option, Some, Result, Err}
 use Rattle.lsp_text.specs.declared.fault.TextFault.{TextFault}
 use Rattle.lsp_text.specs.declared.fault.TextFault.TheVariants as text
 use Rattle.lsp_docs.specs.Texts.{Text}

@@ -1,5 +1,5 @@
 -- The snapshots that can be compared no more: a count that only rises.
-use Rattle.std.specs.Prelude.{ℕ, ◌+◌, int_lt, List, [], ◌∷◌, ◌++◌, filter, length, Bool, true, false, ◌&&◌}
+use Rattle.std.specs.Prelude.{ℕ, ◌+◌, int_lt, List, [], ◌∷◌, ◌++◌, filter, length, Bool, false, ◌&&◌}
 use Rattle.std.specs.Str.{bytes_eq}
 use Rattle.lsp_docs.specs.Calls.{Call, opens, changes, closes}
 use Rattle.lsp_docs.specs.Snapshots.{Shown, waiting}

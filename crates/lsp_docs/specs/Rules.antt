@@ -8,7 +8,7 @@ use Rattle.lsp_rpc.specs.declared.plain.SyncKind.{SyncKind}
 use Rattle.lsp_rpc.specs.declared.plain.SyncKind.TheVariants.{Nothing, Full, Incremental}
 use Rattle.lsp_docs.specs.Texts.{Text, byte_len}
 use Rattle.lsp_text.specs.Edits.{Edit, applied}
-use Rattle.lsp_docs.specs.Calls.{Bytes, Call, opens, changes, closes, saves, shows, uri_of}
+use Rattle.lsp_docs.specs.Calls.{Call, opens, changes, closes, saves, shows, uri_of}
 use Rattle.lsp_docs.specs.Documents.{Version, versioned, held}
 use Rattle.lsp_docs.specs.Snapshots.{waiting, versions_of}
 

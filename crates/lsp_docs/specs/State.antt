@@ -1,5 +1,5 @@
 -- What documents hold, and the calls that this stands for.
-use Rattle.std.specs.Prelude.{◌≡◌, ℕ, ℤ, ◌+◌, ◌-◌, ◌^◌, min, int_lt, List, [], ◌∷◌, ◌++◌, filter, length, Bool, false, if◌then◌else◌, not, Option, Some, None, Result, Ok, Err}
+use Rattle.std.specs.Prelude.{◌≡◌, ℕ, ℤ, ◌+◌, ◌-◌, ◌^◌, min, int_lt, List, [], ◌∷◌, ◌++◌, filter, length, Bool, if◌then◌else◌, not, Option, Some, None, Result, Ok}
 use Rattle.std.specs.Ordering.{int_eq}
 use Rattle.std.specs.Str.{bytes_eq}
 use Rattle.lsp_rpc.specs.declared.plain.Encoding.{Encoding}
@@ -7,9 +7,9 @@ use Rattle.lsp_rpc.specs.declared.plain.SyncKind.{SyncKind}
 use Rattle.lsp_docs.specs.Texts.{Text}
 use Rattle.lsp_text.specs.Edits.{Edit, applied}
 use Rattle.lsp_docs.specs.Calls.{Bytes, Call, uri_of}
-use Rattle.lsp_docs.specs.Documents.{Version, versioned, Held, revised, held, documents}
+use Rattle.lsp_docs.specs.Documents.{Version, versioned, Held, documents}
 use Rattle.lsp_docs.specs.Snapshots.{waiting, versions_of}
-use Rattle.lsp_docs.specs.Rules.{rule_of, first_row, fits_kind, version_rule, AreAccepted}
+use Rattle.lsp_docs.specs.Rules.{rule_of, first_row, fits_kind, AreAccepted}
 use Rattle.lsp_docs.specs.Missed.{missed}
 
 -- the snapshots of one URI that wait
@@ -58,6 +58,11 @@ abbrev pub keep_in : Bytes → (Version → Bool) → List Queue → List Queue
 keep_in uri p [] = []
 keep_in uri p (n ∷ ns) = if bytes_eq uri n.uri then record { uri = n.uri; versions = filter p n.versions } ∷ ns else n ∷ keep_in uri p ns
 
+-- without the first queue of the URI
+abbrev pub without_queue : Bytes → List Queue → List Queue
+without_queue uri [] = []
+without_queue uri (q ∷ qs) = if bytes_eq uri q.uri then qs else q ∷ without_queue uri qs
+
 -- one more of the URI
 abbrev pub add_in : Bytes → Version → List Queue → List Queue
 add_in uri v [] = record { uri = uri; versions = v ∷ [] } ∷ []
@@ -87,7 +92,7 @@ reached uri number w = record {
 -- the URI is closed: its snapshots are missed
 abbrev pub released : Bytes → Waits → Waits
 released uri w = record {
-  queues = keep_in uri (λ _. false) w.queues;
+  queues = without_queue uri w.queues;
   missed = capped (w.missed + length (queue_of uri w.queues));
 }
 

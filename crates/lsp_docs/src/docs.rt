@@ -1,15 +1,14 @@
 //! The open documents of a session.
 
-ghost use Rattle.std.specs.Prelude.{◌≡◌, [], ◌++◌, ◌∷◌, List, None, Some, Ok, true, false, length, not, map, slice_get, is_some, if◌then◌else◌, nat_lt, IfErr, IfOk, OnOk, OnErr, IsTrue, ◌↔◌, option_map};
+ghost use Rattle.std.specs.Prelude.{◌≡◌, [], ◌++◌, ◌∷◌, List, None, Some, Ok, true, false, length, not, map, slice_get, is_some, if◌then◌else◌, nat_lt, IfErr, IfOk, OnOk, OnErr, option_map};
 ghost use Rattle.std.specs.List.{list_any};
-ghost use Rattle.std.specs.Str.{chars, bytes_eq};
+ghost use Rattle.std.specs.Str.{chars};
 ghost use Rattle.lsp_docs.specs.declared.fault.DocFault.TheVariants.{Rule};
 ghost use Rattle.lsp_docs.specs.Texts.{byte_len};
-ghost use Rattle.lsp_text.specs.Edits.{applied};
 ghost use Rattle.lsp_docs.specs.Calls.{Call, opens, changes as changes_by, closes, saves, shows};
 ghost use Rattle.lsp_docs.specs.Documents.{versioned, held, documents};
-ghost use Rattle.lsp_docs.specs.Snapshots.{waiting, unmatched, holds_number};
-ghost use Rattle.lsp_docs.specs.Rules.{differs, version_rule, show_rule, text_rule, call_rule};
+ghost use Rattle.lsp_docs.specs.Snapshots.{waiting, unmatched};
+ghost use Rattle.lsp_docs.specs.Rules.{differs, show_rule, text_rule, call_rule};
 ghost use Rattle.lsp_docs.specs.State.{capped, held_in, queue_of, set_in, changed_at, early_rule, IsChanged, with_held, Stands};
 ghost use Rattle.lsp_docs.specs.Fault.{Names, Breaks};
 ghost use Rattle.lsp_docs.specs.Kept.{version_of};
@@ -17,7 +16,10 @@ ghost use Rattle.lsp_text.specs.Changes.{edits_of, edit_of};
 ghost use Rattle.lsp_docs.specs.Answer.{answer_of};
 
 use crate::document::{Document, has_text};
-use crate::fault::DocFault;
+use crate::fault::{
+    ALREADY_OPEN, DocFault, NOT_OPEN, OVER_LIMIT, SAVED_TEXT_DIFFERS, SNAPSHOT_DIFFERS,
+    VERSION_STAYS, WRONG_KIND,
+};
 use crate::kind::fits_kind;
 use crate::snapshot::{Match, any_differs, is_due};
 use crate::waiting::Waiting;
@@ -118,7 +120,7 @@ impl<S: TextStore> Docs<S> {
         self.waiting.unmatched()
     }
 
-    /// Opens a document (LSP 3.17, "didOpen").
+    /// Opens a document (LSP 3.17, "DidOpenTextDocument Notification").
     ///
     /// Refused by 601 where the URI is open, 607 where the text has more bytes of UTF-8 than the limit, 702 where a snapshot
     /// that waits for this version has another text; by the least of them.
@@ -134,15 +136,15 @@ impl<S: TextStore> Docs<S> {
     {
         let store = self.new_store(uri, text)?;
         if self.refutes(uri, version, &store) {
-            return Err(DocFault::Rule(702));
+            return Err(DocFault::Rule(SNAPSHOT_DIFFERS));
         }
         self.insert(uri, version, store)?;
         self.waiting.reach(uri, version);
         Ok(())
     }
 
-    /// Makes the changes in order, each in the text that the one before left (LSP 3.17, "didChange"). Columns count units of
-    /// the encoding. The version is that of the text after all of them.
+    /// Makes the changes in order, each in the text that the one before left (LSP 3.17, "DidChangeTextDocument
+    /// Notification"). Columns count units of the encoding. The version is that of the text after all of them.
     ///
     /// Refused by 602 where the URI is not open, 603 where the version is not greater than the held one, 604 where the kind
     /// allows no changes, or none with a span and one has it; then by the first change that fails: 605 a position inside a
@@ -173,8 +175,9 @@ impl<S: TextStore> Docs<S> {
         Ok(())
     }
 
-    /// Closes a document, and ends the waiting of its snapshots (LSP 3.17, "didClose"). Refused by 602 where the URI is not
-    /// open.
+    /// Closes a document, and ends the waiting of its snapshots (LSP 3.17, "DidCloseTextDocument Notification").
+    ///
+    /// Refused by 602 where the URI is not open.
     pub fn did_close(&mut self, uri: &str) -> Result<(), DocFault>
         ensures stands { OnOk result ((calls : List Call) → Stands self.old calls
             → Stands self.new (calls ++ closes uri.now ∷ [])) }
@@ -186,14 +189,15 @@ impl<S: TextStore> Docs<S> {
         ensures err { OnErr result (self.new ≡ self.old) }
     {
         if self.documents.shift_remove(uri).is_none() {
-            return Err(DocFault::Rule(602));
+            return Err(DocFault::Rule(NOT_OPEN));
         }
         self.waiting.release(uri);
         Ok(())
     }
 
-    /// Judges a saved text against the held one (LSP 3.17, "didSave"). Refused by 608 where the document is open, a text is
-    /// given and it is another.
+    /// Judges a saved text against the held one (LSP 3.17, "DidSaveTextDocument Notification").
+    ///
+    /// Refused by 608 where the document is open, a text is given and it is another than the held one.
     pub fn did_save(&self, uri: &str, text: Option<&str>) -> Result<(), DocFault>
         ensures stands { OnOk result ((calls : List Call) → Stands self.now calls
             → Stands self.now (calls ++ saves uri.now (option_map (λ t. chars t.now) text.entry) ∷ [])) }
@@ -211,7 +215,7 @@ impl<S: TextStore> Docs<S> {
         if has_text(&document.store, text) {
             Ok(())
         } else {
-            Err(DocFault::Rule(608))
+            Err(DocFault::Rule(SAVED_TEXT_DIFFERS))
         }
     }
 
@@ -266,11 +270,11 @@ impl<S: TextStore> Docs<S> {
             else (if nat_lt self.now.limit (byte_len (chars text.now)) then Some 607 else None))) }
     {
         if self.get(uri).is_some() {
-            return Err(DocFault::Rule(601));
+            return Err(DocFault::Rule(ALREADY_OPEN));
         }
         let store = S::from_text(*self.documents.allocator(), text)?;
         if self.limit < store.byte_len() {
-            return Err(DocFault::Rule(607));
+            return Err(DocFault::Rule(OVER_LIMIT));
         }
         Ok(store)
     }
@@ -304,12 +308,12 @@ impl<S: TextStore> Docs<S> {
         ensures { result ≡ early_rule kind version (edits_of changes.now) (held_in uri.now self.now.documents) }
     {
         let Some(document) = self.get(uri) else {
-            return Some(602);
+            return Some(NOT_OPEN);
         };
         if version <= document.version {
-            Some(603)
+            Some(VERSION_STAYS)
         } else if !fits_kind(kind, changes) {
-            Some(604)
+            Some(WRONG_KIND)
         } else {
             None
         }
@@ -376,7 +380,7 @@ impl<S: TextStore> Docs<S> {
     {
         let changed = self.changed_store(encoding, uri, changes)?;
         if self.refutes(uri, version, &changed) {
-            return Err(DocFault::Rule(702));
+            return Err(DocFault::Rule(SNAPSHOT_DIFFERS));
         }
         self.set(uri, version, changed);
         Ok(())

@@ -9,7 +9,7 @@ ghost use Rattle.lsp_docs.specs.Answer.{answer_of};
 ghost use Rattle.lsp_docs.specs.Fault.{Breaks, Names};
 ghost use Rattle.lsp_text.specs.Changes.{edit_of};
 
-use crate::fault::DocFault;
+use crate::fault::{DocFault, LATE_SNAPSHOT, SNAPSHOT_DIFFERS};
 use crate::snapshot::Match;
 use lsp_rpc::{Change, Encoding};
 use lsp_text::{TextStore, change};
@@ -53,13 +53,13 @@ impl<S: TextStore> Document<S> {
         ensures rule { IfErr result (Names (show_rule version (chars text.now) (Some (versioned self.now.version (S.content self.now.store))))) }
     {
         if version < self.version {
-            Err(DocFault::Rule(701))
+            Err(DocFault::Rule(LATE_SNAPSHOT))
         } else if self.version < version {
             Ok(Match::Waits)
         } else if has_text(&self.store, text) {
             Ok(Match::Equal)
         } else {
-            Err(DocFault::Rule(702))
+            Err(DocFault::Rule(SNAPSHOT_DIFFERS))
         }
     }
 }

@@ -2,7 +2,7 @@
 
 ghost use Rattle.lsp_docs.specs.Laws.{VersionsRise, SnapshotsAgree, HeldIsShown, SettersCompare, DocumentsAreHeld};
 
-/// The versions of each opening strictly rise with its changes (LSP 3.17, "didChange").
+/// The versions of each opening strictly rise with its changes (LSP 3.17, "DidChangeTextDocument Notification").
 pub fn versions_rise()
     ensures { VersionsRise }
 {}

@@ -16,7 +16,9 @@ mod waiting;
 
 pub use docs::Docs;
 pub use fault::DocFault;
-pub use laws::{documents_are_held, held_is_shown, setters_compare, snapshots_agree, versions_rise};
+pub use laws::{
+    documents_are_held, held_is_shown, setters_compare, snapshots_agree, versions_rise,
+};
 pub use snapshot::Match;
 
 #[cfg(test)]

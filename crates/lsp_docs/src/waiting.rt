@@ -1,10 +1,10 @@
 //! The snapshots that wait for their versions.
 
-ghost use Rattle.std.specs.Prelude.{◌≡◌, ◌+◌, [], length, filter, false, None, OnOk, OnErr, string_bytes};
+ghost use Rattle.std.specs.Prelude.{◌≡◌, ◌+◌, [], length, filter, None, OnOk, OnErr, string_bytes};
 ghost use Rattle.std.specs.Map.{lookup};
 ghost use Rattle.std.specs.Str.{chars, bytes_eq};
 ghost use Rattle.lsp_docs.specs.Documents.{versioned};
-ghost use Rattle.lsp_docs.specs.State.{capped, queue_of, keep_in, add_in, total, reached, released, shown_to, is_after, is_before};
+ghost use Rattle.lsp_docs.specs.State.{capped, queue_of, keep_in, without_queue, add_in, total, reached, released, shown_to, is_after, is_before};
 ghost use Rattle.lsp_docs.specs.Kept.{version_of, versions, queues_in};
 
 use crate::snapshot::Snapshot;
@@ -70,7 +70,8 @@ impl Waiting {
 
     /// Lets go of the snapshots of a URI that is closed.
     pub(crate) fn release(&mut self, uri: &str)
-        ensures { self.new ≡ released uri.now self.old }
+        ensures left { self.new ≡ released uri.now self.old }
+        ensures gone { queue_of uri.now self.new.queues ≡ [] }
     {
         let missed = drop_all(&mut self.snapshots, uri);
         self.missed = self.missed.saturating_add(missed);
@@ -138,15 +139,12 @@ fn drop_reached(snapshots: &mut SnapshotMap, uri: &str, version: i32) -> u64
 
 /// Drops the snapshots of a URI, and counts them.
 fn drop_all(snapshots: &mut SnapshotMap, uri: &str) -> u64
-    ensures left { queues_in snapshots.new.entries ≡ keep_in uri.now (λ _. false) (queues_in snapshots.old.entries) }
+    ensures left { queues_in snapshots.new.entries ≡ without_queue uri.now (queues_in snapshots.old.entries) }
+    ensures gone { queue_of uri.now (queues_in snapshots.new.entries) ≡ [] }
     ensures missed { result ≡ length (queue_of uri.now (queues_in snapshots.old.entries)) }
 {
-    match snapshots.get_mut(uri) {
-        Some(waiting) => {
-            let missed = waiting.len() as u64;
-            waiting.clear();
-            missed
-        }
+    match snapshots.shift_remove(uri) {
+        Some(waiting) => waiting.len() as u64,
         None => 0,
     }
 }

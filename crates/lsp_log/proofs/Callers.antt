@@ -1,18 +1,19 @@
 -- What a caller of `next` concludes from the answers.
-use Rattle.std.proofs.Common.{◌≡◌, ℕ, ◌+◌, ◌^◌, ◌≤◌, List, [], ◌∷◌, ◌++◌, length, Option, Some, None, Result, Ok, Err, refl, sym, ap, subst, ◌∙◌, append-nil, arith}
+use Rattle.std.proofs.Common.{◌≡◌, ◌⊎◌, inl, inr, ℕ, ◌+◌, ◌^◌, ◌≤◌, List, [], ◌∷◌, ◌++◌, length, Option, Some, None, Result, Ok, Err, refl, sym, ap, subst, ◌∙◌, append-nil, arith}
 use Rattle.std.proofs.lemmas.List.{length-append}
 use Rattle.std.specs.Io.KnownBytes.{Consumes, IsAtEnd}
 use Rattle.lsp_frame.specs.Bounds.{Bounds}
 use Rattle.lsp_frame.specs.Sink.{Told}
 use Rattle.lsp_log.specs.Log as log
-use Rattle.lsp_log.specs.Log.{IsLog}
+use Rattle.lsp_log.specs.Log.{IsLog, BeginsLog}
 use Rattle.lsp_log.specs.Records.{record_view}
-use Rattle.lsp_log.specs.Reader.{State, StandsFor, Gives, empty, kept_by, records_with}
+use Rattle.lsp_log.specs.Reader.{State, StandsFor, Begins, Gives, empty, kept_by, records_with}
 use Rattle.lsp_log.specs.declared.fault.LogCode.{LogCode}
 use Rattle.lsp_log.specs.declared.fault.LogFault.{LogFault}
 use Rattle.lsp_log.specs.declared.fault.LogFault.TheVariants.{Bad}
 use Rattle.lsp_log.specs.declared.record.Record.{Record}
 use Rattle.lsp_log.proofs.Tapes.{consumes_then, consumes_nothing}
+use Rattle.lsp_log.proofs.Ended.{begins_at}
 use Rattle.lsp_log.proofs.Reading.{is_open, records_few}
 
 -- between two calls: the reader stands for all the bytes that its source gave since it had these
@@ -56,6 +57,20 @@ bad_log all before after old new bytes records number code f g =
 -- records are few: a log has at most 2^40 bytes
 pub few_given : (start : Option (List ℕ)) (now : Told) (s : State) (bytes : List ℕ) (records : List log.Record) → kept_by s ≡ None → Follows start now s bytes records → length records ≤ 2 ^ 40
 few_given start now s bytes records free f = records_few s bytes records (is_open s bytes records free f.stands)
+
+-- **The records given so far stand first in every log that begins with the bytes read.**
+pub begins_open : (s : State) (bytes : List ℕ) (records : List log.Record) → kept_by s ≡ None → StandsFor s bytes records → Begins s.limits bytes records
+begins_open s bytes records free stands = subst (λ (w : List ℕ). Begins s.limits w records) (append-nil bytes) (begins_at s bytes [] records s.progress free stands.1)
+
+begins_from : (limits : Bounds) (all : List ℕ) (left : Option (List ℕ)) (bytes : List ℕ) (records : List log.Record) → Consumes (Some all) left bytes → Begins limits bytes records → (records ≡ []) ⊎ ((rest : List ℕ) × BeginsLog limits all records rest)
+begins_from limits all None bytes records read b = absurd read
+begins_from limits all (Some left) bytes records read (inl none) = inl none
+begins_from limits all (Some left) bytes records read (inr b) =
+    let begins = b left in
+    inr (begins.0, subst (λ (w : List ℕ). BeginsLog limits w records begins.0) (sym read) begins.1)
+
+pub begins_all : (all : List ℕ) (now : Told) (s : State) (bytes : List ℕ) (records : List log.Record) → kept_by s ≡ None → Follows (Some all) now s bytes records → (records ≡ []) ⊎ ((rest : List ℕ) × BeginsLog s.limits all records rest)
+begins_all all now s bytes records free f = begins_from s.limits all now.bytes bytes records f.read (begins_open s bytes records free f.stands)
 
 -- ---- a count of the records
 

@@ -217,7 +217,7 @@ given_first s mid tape given before now bytes records l at stands =
 
 -- ---- reading stops
 
-begins_at : (s : State) (bytes piece : List ℕ) (records : List log.Record) (p : Progress) → kept_in p ≡ None → StandsAt p s bytes records → Begins s.limits (bytes ++ piece) records
+pub begins_at : (s : State) (bytes piece : List ℕ) (records : List log.Record) (p : Progress) → kept_in p ≡ None → StandsAt p s bytes records → Begins s.limits (bytes ++ piece) records
 begins_at s bytes piece records progress.FirstLine free st = inl st.none
 begins_at s bytes piece records progress.Records free st = inr (λ more.
     let tail : List ℕ = take (s.limits.log - length bytes) (piece ++ more) in (
@@ -320,7 +320,7 @@ gives_record s new before after r limits given free a bytes records stands =
       read = (a.0).taken.pulled.read;
       within = omega (arith, (a.0).taken.pulled.left, o.left, length-append bytes (a.0).taken.piece, ap (λ (b : Bounds). b.log) limits);
       stands = record_stands s new before after bytes records (record_view r) a.0 o limits a.1 given;
-      tells = (a.2, (a.0).taken.pulled.failures);
+      tells = (a.0).taken.pulled.failures;
     }
 
 spelling_some : (r : log.Record) → 0 < length (spelling r)
@@ -345,6 +345,9 @@ less_ahead s new before after r a =
 
 pub less_ahead_from : (s m i : State) (given : ℕ) (before after : Told) (r : Record) → i ≡ m → FindAnswer s m before after (Ok r) → ahead (record i { given = given }) < ahead s
 less_ahead_from s m i given before after r same a = subst (λ (x : State). ahead (record x { given = given }) < ahead s) (sym same) (less_ahead s m before after r a)
+
+pub near_from : (s m i : State) (given : ℕ) (before after : Told) (r : Record) → i ≡ m → FindAnswer s m before after (Ok r) → length i.tape.rest ≤ 64
+near_from s m i given before after r same a = subst (λ (x : State). length x.tape.rest ≤ 64) (sym same) a.2
 
 pub gives_record_from : (s m i : State) (given : ℕ) (before after : Told) (r : Record) → i ≡ m → m.limits ≡ s.limits → m.given ≡ s.given → given ≡ next_number i.given → kept_by s ≡ None → FindAnswer s m before after (Ok r) → Gives s (record i { given = given }) before after (Ok (Some r))
 gives_record_from s m i given before after r same limits so_far number free a =

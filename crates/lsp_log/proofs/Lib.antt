@@ -11,5 +11,6 @@ pub mod Reading
 pub mod Ended
 pub mod OneLog
 pub mod Callers
+mod Rows
 pub mod FirstLines
 pub mod Written

@@ -98,7 +98,7 @@ MayFollow after more = IsAtEnd after.bytes → more ≡ []
 
 -- what an answer says of all the bytes that were read, of the records given, and of the reader
 abbrev pub Tells : State → Told → Told → List ℕ → List log.Record → Result (Option Record) LogFault → Type 0
-Tells new before after bytes records (Ok (Some r)) = (length new.tape.rest ≤ 64) × (after.failures ≡ before.failures)
+Tells new before after bytes records (Ok (Some r)) = after.failures ≡ before.failures
 Tells new before after bytes records (Ok None) = IsAtEnd after.bytes × IsLog new.limits bytes records None × (after.failures ≡ before.failures)
 Tells new before after bytes records (Err (Bad number code)) = ((more : List ℕ) → MayFollow after more → IsLog new.limits (bytes ++ more) records (Some (number, code))) × (after.failures ≡ before.failures)
 Tells new before after bytes records (Err Read) = after.failures ≡ after_failure before.failures

@@ -1,5 +1,5 @@
 //! Reads a log record by record.
-ghost use Rattle.std.specs.Prelude.{◌≡◌, ◌<◌, [], None, IfOk, IfSome};
+ghost use Rattle.std.specs.Prelude.{◌≡◌, ◌<◌, ◌≤◌, [], None, IfOk, IfSome, length};
 ghost use Rattle.lsp_log.specs.Reader.{empty, ahead, kept_by, keeps_of, RepeatsKept, Gives, StandsFor, answer_of};
 ghost use Rattle.lsp_log.specs.Ending.{FindAnswer, EndAnswer, fault_of};
 
@@ -60,15 +60,30 @@ impl LogReader {
 
     /// The next record, or None where the log ends without a fault.
     ///
+    /// Of a log over its limit the bytes up to the limit are read, and one more that shows it.
+    /// Where these bytes end behind a record or inside one, the fault is L6.
+    ///
     /// An answer that is no record is kept: it is given from then on, and nothing more is read.
+    ///
+    /// # Errors
+    /// `Bad` names what is wrong with the log and at which record. `Read` is answered where the
+    /// reader failed, and `Memory` where it was refused for a record.
     pub fn next<R: Source>(&mut self, reader: &mut R) -> Result<Option<Record>, LogFault>
+        // The limits stay.
         ensures limits { self.new.limits ≡ self.old.limits }
+        // A record leaves less to give, so that a caller's loop ends.
         ensures less { IfOk result (λ answer. IfSome answer (λ _. ahead self.new < ahead self.old)) }
+        // At most 64 bytes behind the record were read.
+        ensures near { IfOk result (λ answer. IfSome answer (λ _. length self.new.tape.rest ≤ 64)) }
+        // Every answer but a record is kept.
         ensures keeps { kept_by self.new ≡ keeps_of result }
+        // A kept answer is given again, and nothing is read or changed.
         ensures kept { RepeatsKept self.old self.new
             (record { bytes = R.remaining reader.old; failures = R.failures reader.old })
             (record { bytes = R.remaining reader.new; failures = R.failures reader.new })
             result }
+        // Otherwise the reader stands for the bytes read and the records given, this one
+        // included, and the answer is that of the log.
         ensures gives { kept_by self.old ≡ None → Gives self.old self.new
             (record { bytes = R.remaining reader.old; failures = R.failures reader.old })
             (record { bytes = R.remaining reader.new; failures = R.failures reader.new })

@@ -1,20 +1,15 @@
--- The map of a `Pending` beside the open requests that it stands for.
-use Rattle.std.proofs.Common.{Bor, ◌≡◌, ℕ, zero, suc, ◌+◌, ◌<◌, ◌≤◌, List, [], ◌∷◌, ◌++◌, Option, Some, None, option_map, is_some, length, inl, inr, Bool, true, false, cond, ◌||◌, true≢false, refl, sym, ap, ◌∙◌, subst, arith, add-one, one-add}
-use Rattle.std.specs.Prelude.{filter, position, slice_get}
+-- What a `Pending` keeps beside the open requests that it stands for.
+use Rattle.std.proofs.Common.{Bor, ◌≡◌, ℕ, zero, suc, List, [], ◌∷◌, ◌++◌, Option, Some, None, option_map, is_some, length, inl, inr, Bool, true, false, cond, ◌||◌, true≢false, refl, sym, ap, ◌∙◌, subst}
+use Rattle.std.specs.Prelude.{IfSome, IsSome, filter, option_and_then, option_to_list, slice_get, slice_index_or}
 use Rattle.std.specs.Option.{option_copied}
-use Rattle.std.specs.Map.{lookup, remove_entry, set_value}
-use Rattle.std.proofs.lemmas.Option.{same_Some}
-use Rattle.std.specs.List.{position_or_len}
-use Rattle.std.specs.Map.{keys_of}
-use Rattle.indexmap.specs.IndexMap.{insert_entry}
-use Rattle.indexmap.proofs.MapLemmas.{Found-position}
+use Rattle.std.specs.Map.{lookup}
 use Rattle.lsp_rpc.specs.Ident.{Ident, id_view, same_id}
 use Rattle.lsp_rpc.specs.declared.message.Id.{Id}
 use Rattle.lsp_session.specs.Entry.{Entry, cancel, entry_of, has_id, request_view, without}
-use Rattle.lsp_session.specs.Held.{AllOpen, AnsweredFirst, IsHeld, IsUnder, KeysDiffer, KeysMatch, Marks, Requests, entries_in, entries_of, is_key}
+use Rattle.lsp_session.specs.Held.{AllDiffer, AllHave, IsHeld, IsOf, entries_in, entries_of, is_among, is_found, is_other, request_of}
 use Rattle.lsp_session.specs.declared.pending.OpenRequest.{OpenRequest}
 use Rattle.lsp_session.proofs.Bools.{left_false, or_false, right_false, true_or_false}
-use Rattle.lsp_session.proofs.Ids.{same_id-refl, same_id-true}
+use Rattle.lsp_rpc.proofs.IdLemmas.{same_id-refl, same_id-true}
 
 -- ---- entries alone
 
@@ -28,20 +23,20 @@ cancel-absent id [] h = refl
 cancel-absent id (e ∷ es) h =
     rw (left_false (same_id id e.id) _ h) (ap (λ l. e ∷ l) (cancel-absent id es (right_false (same_id id e.id) _ h)))
 
-pub entry_of-absent : (id : Ident) (es : List Entry) → has_id id es ≡ false → entry_of id es ≡ None
-entry_of-absent id [] h = refl
-entry_of-absent id (e ∷ es) h = rw (left_false (same_id id e.id) _ h) (entry_of-absent id es (right_false (same_id id e.id) _ h))
-
-pub is_some-entry_of : (id : Ident) (es : List Entry) → is_some (entry_of id es) ≡ has_id id es
+is_some-entry_of : (id : Ident) (es : List Entry) → is_some (entry_of id es) ≡ has_id id es
 is_some-entry_of id [] = refl
 is_some-entry_of id (e ∷ es) =
     elim (true_or_false (same_id id e.id)) [ inl p ↦ rw p refl | inr p ↦ rw p (is_some-entry_of id es) ]
+
+is_some-view : (slot : Option OpenRequest) → is_some (option_map request_view slot) ≡ is_some slot
+is_some-view None = refl
+is_some-view (Some r) = refl
 
 pub option_map-copied : (o : Option (Bor OpenRequest)) → option_map (λ r. request_view r.now) o ≡ option_map request_view (option_copied o)
 option_map-copied None = refl
 option_map-copied (Some r) = refl
 
--- ---- the map alone
+-- ---- ids
 
 same_id-flip : (a b : Ident) → same_id a b ≡ false → same_id b a ≡ false
 same_id-flip a b h = elim (true_or_false (same_id b a)) [
@@ -49,389 +44,317 @@ same_id-flip a b h = elim (true_or_false (same_id b a)) [
   | inr p ↦ p
 ]
 
--- an id that is no key has no open request
-pub has_id-no_key : (id : Ident) (es : Requests) → KeysMatch es → is_key id es ≡ false → has_id id (entries_of es) ≡ false
-has_id-no_key id [] h n = refl
-has_id-no_key id ((k, None) ∷ es) h n = has_id-no_key id es h.1 (right_false (same_id id (id_view k)) _ n)
-has_id-no_key id ((k, Some r) ∷ es) h n =
-    rw (ap (same_id id) (sym h.0) ∙ left_false (same_id id (id_view k)) _ n) (has_id-no_key id es h.1 (right_false (same_id id (id_view k)) _ n))
+is_among-push : (x : Ident) (ids : List Id) (k : Id) → is_among x (ids ++ k ∷ []) ≡ (is_among x ids || same_id x (id_view k))
+is_among-push x [] k = or_false (same_id x (id_view k))
+is_among-push x (id ∷ ids) k =
+    elim (true_or_false (same_id x (id_view id))) [ inl p ↦ rw p refl | inr p ↦ rw p (is_among-push x ids k) ]
 
--- where all are open, an id without an open request is no key
-pub is_key-open : (id : Ident) (es : Requests) → KeysMatch es → AllOpen es → has_id id (entries_of es) ≡ is_key id es
-is_key-open id [] h o = refl
-is_key-open id ((k, None) ∷ es) h o = absurd (true≢false (sym o.0))
-is_key-open id ((k, Some r) ∷ es) h o = rw (h.0, is_key-open id es h.1 o.1) refl
-
-pub KeysMatch-push : (es : Requests) (e : Id × Option OpenRequest) → KeysMatch es → IsUnder (id_view e.0) e.1 → KeysMatch (es ++ e ∷ [])
-KeysMatch-push [] e h k = (k, tt)
-KeysMatch-push (f ∷ es) e h k = (h.0, KeysMatch-push es e h.1 k)
-
-is_key-push : (id : Ident) (es : Requests) (e : Id × Option OpenRequest) → is_key id es ≡ false → same_id id (id_view e.0) ≡ false → is_key id (es ++ e ∷ []) ≡ false
-is_key-push id [] e h p = or_false (same_id id (id_view e.0)) ∙ p
-is_key-push id (f ∷ es) e h p =
-    rw (left_false (same_id id (id_view f.0)) _ h) (is_key-push id es e (right_false (same_id id (id_view f.0)) _ h) p)
-
-KeysDiffer-push : (es : Requests) (e : Id × Option OpenRequest) → is_key (id_view e.0) es ≡ false → KeysDiffer es → KeysDiffer (es ++ e ∷ [])
-KeysDiffer-push [] e h d = (refl, tt)
-KeysDiffer-push (f ∷ es) e h d = (
-  is_key-push (id_view f.0) es e d.0 (same_id-flip (id_view e.0) (id_view f.0) (left_false (same_id (id_view e.0) (id_view f.0)) _ h)),
-  KeysDiffer-push es e (right_false (same_id (id_view e.0) (id_view f.0)) _ h) d.1,
+AllDiffer-push : (ids : List Id) (k : Id) → AllDiffer ids → is_among (id_view k) ids ≡ false → AllDiffer (ids ++ k ∷ [])
+AllDiffer-push [] k d n = (refl, tt)
+AllDiffer-push (id ∷ ids) k d n = (
+  is_among-push (id_view id) ids k
+      ∙ rw (d.0, same_id-flip (id_view k) (id_view id) (left_false (same_id (id_view k) (id_view id)) _ n)) refl,
+  AllDiffer-push ids k d.1 (right_false (same_id (id_view k) (id_view id)) _ n),
 )
 
-AllOpen-push : (es : Requests) (k : Id) (r : OpenRequest) → AllOpen es → AllOpen (es ++ (k, Some r) ∷ [])
-AllOpen-push [] k r h = (refl, tt)
-AllOpen-push (f ∷ es) k r h = (h.0, AllOpen-push es k r h.1)
+-- an id is taken out
 
-AnsweredFirst-push : (n : ℕ) (es : Requests) (k : Id) (r : OpenRequest) → AnsweredFirst n es → AnsweredFirst n (es ++ (k, Some r) ∷ [])
-AnsweredFirst-push zero es k r h = AllOpen-push es k r h
-AnsweredFirst-push (suc n) [] k r h = absurd h
-AnsweredFirst-push (suc n) (f ∷ es) k r h = (h.0, AnsweredFirst-push n es k r h.1)
+is_among-filter : (id x : Ident) (ids : List Id) → is_among x ids ≡ false → is_among x (filter (is_other id) ids) ≡ false
+is_among-filter id x [] n = refl
+is_among-filter id x (other ∷ ids) n =
+    let rest = is_among-filter id x ids (right_false (same_id x (id_view other)) _ n) in
+    elim (true_or_false (same_id id (id_view other))) [ inl p ↦ rw p rest | inr p ↦ rw (p, left_false (same_id x (id_view other)) _ n) rest ]
 
-entries_of-push : (es : Requests) (k : Id) (r : OpenRequest) → entries_of (es ++ (k, Some r) ∷ []) ≡ entries_of es ++ request_view r ∷ []
-entries_of-push [] k r = refl
-entries_of-push ((l, None) ∷ es) k r = entries_of-push es k r
-entries_of-push ((l, Some s) ∷ es) k r = ap (λ rest. request_view s ∷ rest) (entries_of-push es k r)
-
--- ---- the places of the map
-
-length-open : (es : Requests) → AllOpen es → length (entries_of es) ≡ length es
-length-open [] h = refl
-length-open ((k, None) ∷ es) h = absurd (true≢false (sym h.0))
-length-open ((k, Some r) ∷ es) h = ap suc (length-open es h.1)
-
-pub length-entries_of : (n : ℕ) (es : Requests) → AnsweredFirst n es → n + length (entries_of es) ≡ length es
-length-entries_of zero es h = omega (arith, length-open es h)
-length-entries_of (suc n) [] h = absurd h
-length-entries_of (suc n) ((k, None) ∷ es) h = omega (arith, length-entries_of n es h.1)
-length-entries_of (suc n) ((k, Some r) ∷ es) h = absurd (true≢false (ap is_some h.0))
-
--- the request at a place of the map
-abbrev pub entry_at : Option (Id × Option OpenRequest) → Option Entry
-entry_at None = None
-entry_at (Some e) = option_map request_view e.1
-
-slice_get-open : (es : Requests) → AllOpen es → (i : ℕ) → slice_get (entries_of es) i ≡ entry_at (slice_get es i)
-slice_get-open [] h i = refl
-slice_get-open ((k, None) ∷ es) h i = absurd (true≢false (sym h.0))
-slice_get-open ((k, Some r) ∷ es) h zero = refl
-slice_get-open ((k, Some r) ∷ es) h (suc i) = slice_get-open es h.1 i
-
-pub slice_get-entries_of : (n : ℕ) (es : Requests) → AnsweredFirst n es → (i p : ℕ) → p ≡ n + i → slice_get (entries_of es) i ≡ entry_at (slice_get es p)
-slice_get-entries_of zero es h i p e = let same : p ≡ i = omega arith in rw same (slice_get-open es h i)
-slice_get-entries_of (suc n) [] h i p e = absurd h
-slice_get-entries_of (suc n) (f ∷ es) h i zero e = absurd (omega arith)
-slice_get-entries_of (suc n) ((k, None) ∷ es) h i (suc p) e = slice_get-entries_of n es h.1 i p (omega arith)
-slice_get-entries_of (suc n) ((k, Some r) ∷ es) h i (suc p) e = absurd (true≢false (ap is_some h.0))
-
--- ---- the answered ones are taken out
-
-abbrev pub is_open : Id × Option OpenRequest → Bool
-is_open e = is_some e.1
-
-pub entries_of-filter : (es : Requests) → entries_of (filter is_open es) ≡ entries_of es
-entries_of-filter [] = refl
-entries_of-filter ((k, None) ∷ es) = entries_of-filter es
-entries_of-filter ((k, Some r) ∷ es) = ap (λ rest. request_view r ∷ rest) (entries_of-filter es)
-
-is_key-filter : (id : Ident) (es : Requests) → is_key id es ≡ false → is_key id (filter is_open es) ≡ false
-is_key-filter id [] h = refl
-is_key-filter id ((k, None) ∷ es) h = is_key-filter id es (right_false (same_id id (id_view k)) _ h)
-is_key-filter id ((k, Some r) ∷ es) h =
-    rw (left_false (same_id id (id_view k)) _ h) (is_key-filter id es (right_false (same_id id (id_view k)) _ h))
-
-KeysMatch-filter : (es : Requests) → KeysMatch es → KeysMatch (filter is_open es)
-KeysMatch-filter [] h = tt
-KeysMatch-filter ((k, None) ∷ es) h = KeysMatch-filter es h.1
-KeysMatch-filter ((k, Some r) ∷ es) h = (h.0, KeysMatch-filter es h.1)
-
-KeysDiffer-filter : (es : Requests) → KeysDiffer es → KeysDiffer (filter is_open es)
-KeysDiffer-filter [] h = tt
-KeysDiffer-filter ((k, None) ∷ es) h = KeysDiffer-filter es h.1
-KeysDiffer-filter ((k, Some r) ∷ es) h = (is_key-filter (id_view k) es h.0, KeysDiffer-filter es h.1)
-
-AllOpen-filter : (es : Requests) → AllOpen (filter is_open es)
-AllOpen-filter [] = tt
-AllOpen-filter ((k, None) ∷ es) = AllOpen-filter es
-AllOpen-filter ((k, Some r) ∷ es) = (refl, AllOpen-filter es)
-
-pub IsHeld-filter : (n : ℕ) (es : Requests) → IsHeld n es → IsHeld 0 (filter is_open es)
-IsHeld-filter n es h = record { keys = KeysMatch-filter es h.keys; differ = KeysDiffer-filter es h.differ; order = AllOpen-filter es }
-
--- ---- the place of a key
-
--- the first key that passes the test stands at this place
-abbrev pub IsAt : (Id → Bool) → Requests → ℕ → Type 0
-IsAt t [] i = ⊥
-IsAt t (e ∷ es) zero = t e.0 ≡ true
-IsAt t (e ∷ es) (suc i) = (t e.0 ≡ false) × IsAt t es i
-
-pub IsAt-position : (t : Id → Bool) (es : Requests) → position_or_len t (keys_of es) < length es → IsAt t es (position_or_len t (keys_of es))
-IsAt-position t [] h = omega arith
-IsAt-position t (e ∷ es) h =
-    elim (true_or_false (t e.0)) [
-      | inl p ↦ rw (p, p) refl
-      | inr p ↦ rw (p, one-add) (p, IsAt-position t es (omega (arith, rw p at h)))
+AllDiffer-filter : (id : Ident) (ids : List Id) → AllDiffer ids → AllDiffer (filter (is_other id) ids)
+AllDiffer-filter id [] d = tt
+AllDiffer-filter id (other ∷ ids) d =
+    elim (true_or_false (same_id id (id_view other))) [
+      | inl p ↦ rw p (AllDiffer-filter id ids d.1)
+      | inr p ↦ rw p (is_among-filter id (id_view other) ids d.0, AllDiffer-filter id ids d.1)
     ]
 
-pub IsAt-index : (t : Id → Bool) (es : Requests) (i : ℕ) → Some i ≡ position t (keys_of es) → IsAt t es i
-IsAt-index t es i e =
-    let found = Found-position t es i (sym e) in
-    subst (IsAt t es) found.or_len (IsAt-position t es (omega (arith, found.or_len, found.within)))
+-- another id that is gone then was gone before
+is_among-before : (id x : Ident) (ids : List Id) → same_id id x ≡ false → is_among x (filter (is_other id) ids) ≡ false → is_among x ids ≡ false
+is_among-before id x [] s n = refl
+is_among-before id x (other ∷ ids) s n =
+    elim (true_or_false (same_id id (id_view other))) [
+      | inl p ↦
+          let apart : same_id x (id_view other) ≡ false = same_id-flip (id_view other) x (subst (λ y. same_id y x ≡ false) (same_id-true id (id_view other) p) s) in
+          rw apart (is_among-before id x ids s (rw p at n))
+      | inr p ↦
+          let kept : (same_id x (id_view other) || is_among x (filter (is_other id) ids)) ≡ false = rw p at n in
+          rw (left_false (same_id x (id_view other)) _ kept) (is_among-before id x ids s (right_false (same_id x (id_view other)) _ kept))
+    ]
 
--- ---- the map, where the test t is that of the id
+filter-absent : (id : Ident) (ids : List Id) → is_among id ids ≡ false → filter (is_other id) ids ≡ ids
+filter-absent id [] n = refl
+filter-absent id (other ∷ ids) n =
+    rw (left_false (same_id id (id_view other)) _ n) (ap (λ l. other ∷ l) (filter-absent id ids (right_false (same_id id (id_view other)) _ n)))
 
-abbrev pub open_in : Option (Option OpenRequest) → Bool
-open_in None = false
-open_in (Some slot) = is_some slot
+pub filter-first : (id : Ident) (first : Id) (rest : List Id) → AllDiffer (first ∷ rest) → same_id id (id_view first) ≡ true → filter (is_other id) (first ∷ rest) ≡ rest
+filter-first id first rest d p =
+    rw p (filter-absent id rest (subst (λ x. is_among x rest ≡ false) (sym (same_id-true id (id_view first) p)) d.0))
 
-abbrev pub found_in : Option (Option OpenRequest) → Option Entry
-found_in None = None
-found_in (Some slot) = option_map request_view slot
+pub filter-last : (id : Ident) (front : List Id) (last : Id) → AllDiffer (front ++ last ∷ []) → same_id id (id_view last) ≡ true → filter (is_other id) (front ++ last ∷ []) ≡ front
+filter-last id [] last d p = rw p refl
+filter-last id (other ∷ front) last d p =
+    let apart : same_id id (id_view other) ≡ false =
+    same_id-flip (id_view other) id
+    (subst (λ x. same_id (id_view other) x ≡ false) (sym (same_id-true id (id_view last) p)) (not_last (id_view other) front (sym (is_among-push (id_view other) front last) ∙ d.0))) in
+    rw apart (ap (λ l. other ∷ l) (filter-last id front last d.1 p))
+  where
+    not_last : (x : Ident) (ids : List Id) → (is_among x ids || same_id x (id_view last)) ≡ false → same_id x (id_view last) ≡ false
+    not_last x ids h = right_false (is_among x ids) _ h
 
-module _ (id : Ident) (t : Id → Bool) (agrees : (k : Id) → t k ≡ same_id id (id_view k)) where
-  -- where the first key is the id, the others are not
-  no_other : (k : Id) (es : Requests) → t k ≡ true → is_key (id_view k) es ≡ false → is_key id es ≡ false
-  no_other k es p d = subst (λ x. is_key x es ≡ false) (sym (same_id-true id (id_view k) (sym (agrees k) ∙ p))) d
+-- the id that a look at one end of the order finds is the id
+abbrev hits : Ident → Option (Bor Id) → Bool
+hits id found = is_found id (option_copied found)
 
-  gone : (k : Id) (es : Requests) → KeysMatch es → t k ≡ true → is_key (id_view k) es ≡ false → has_id id (entries_of es) ≡ false
-  gone k es h p d = has_id-no_key id es h (no_other k es p d)
+pub first_out : (id : Ident) (ids left : List Id) (found : Option (Bor Id)) (out : Option Id) → AllDiffer ids → true ≡ hits id found
+    → IfSome found (λ x. x.now ≡ slice_index_or ids 0 x.now) → ((d : Id) → IsSome found → out ≡ Some (slice_index_or ids 0 d)) → ids ≡ option_to_list out ++ left
+    → left ≡ filter (is_other id) ids
+first_out id ids left None out d hit seen value e = absurd (true≢false hit)
+first_out id ids left (Some x) out d hit seen value e =
+    let first : out ≡ Some x.now = value x.now refl ∙ ap (λ y. Some y) (sym seen) in
+    let parts : ids ≡ x.now ∷ left = e ∙ ap (λ o. option_to_list o ++ left) first in
+    rw parts (sym (filter-first id x.now left (subst AllDiffer parts d) (sym hit)))
 
-  tested : (k : Id) (r : OpenRequest) (b : Bool) → id_view k ≡ id_view r.id → t k ≡ b → same_id id (id_view r.id) ≡ b
-  tested k r b h p = ap (same_id id) (sym h) ∙ (sym (agrees k) ∙ p)
+pub last_out : (id : Ident) (ids left : List Id) (n : ℕ) (found : Option (Bor Id)) (out : Option Id) → AllDiffer ids → true ≡ hits id found
+    → IfSome found (λ x. x.now ≡ slice_index_or ids n x.now) → ((d : Id) → IsSome found → out ≡ Some (slice_index_or ids n d)) → ids ≡ left ++ option_to_list out
+    → left ≡ filter (is_other id) ids
+last_out id ids left n None out d hit seen value e = absurd (true≢false hit)
+last_out id ids left n (Some x) out d hit seen value e =
+    let last : out ≡ Some x.now = value x.now refl ∙ ap (λ y. Some y) (sym seen) in
+    let parts : ids ≡ left ++ x.now ∷ [] = e ∙ ap (λ o. left ++ option_to_list o) last in
+    rw parts (sym (filter-last id left x.now (subst AllDiffer parts d) (sym hit)))
 
-  pub lookup_view : (es : Requests) → KeysMatch es → KeysDiffer es → found_in (lookup t es) ≡ entry_of id (entries_of es)
-  lookup_view [] h d = refl
-  lookup_view ((k, None) ∷ es) h d =
-      elim (true_or_false (t k)) [
-        | inl p ↦ rw p (sym (entry_of-absent id (entries_of es) (gone k es h.1 p d.0)))
-        | inr p ↦ rw p (lookup_view es h.1 d.1)
+-- ---- what is kept, and the entries
+
+module _ (g : Ident → Option OpenRequest) where
+  first_has : (x k : Ident) (slot : Option OpenRequest) (rest : List Entry) → IsOf k slot → has_id x (entries_in slot ++ rest) ≡ (same_id x k || has_id x rest)
+  first_has x k None rest h = absurd h
+  first_has x k (Some r) rest h = rw h refl
+
+  has_id-among : (x : Ident) (ids : List Id) → AllHave ids g → has_id x (entries_of ids g) ≡ is_among x ids
+  has_id-among x [] h = refl
+  has_id-among x (id ∷ ids) h =
+      first_has x (id_view id) (g (id_view id)) (entries_of ids g) h.0 ∙ ap (λ b. same_id x (id_view id) || b) (has_id-among x ids h.1)
+
+  first_entry : (x k : Ident) (slot : Option OpenRequest) (rest : List Entry) → IsOf k slot → same_id x k ≡ true → entry_of x (entries_in slot ++ rest) ≡ option_map request_view slot
+  first_entry x k None rest h p = absurd h
+  first_entry x k (Some r) rest h p = rw (sym (ap (same_id x) h) ∙ p) refl
+
+  later_entry : (x k : Ident) (slot : Option OpenRequest) (rest : List Entry) → IsOf k slot → same_id x k ≡ false → entry_of x (entries_in slot ++ rest) ≡ entry_of x rest
+  later_entry x k None rest h p = absurd h
+  later_entry x k (Some r) rest h p = rw (sym (ap (same_id x) h) ∙ p) refl
+
+  entry_of-among : (x : Ident) (ids : List Id) → AllHave ids g → is_among x ids ≡ true → entry_of x (entries_of ids g) ≡ option_map request_view (g x)
+  entry_of-among x [] h n = absurd (true≢false (sym n))
+  entry_of-among x (id ∷ ids) h n =
+      elim (true_or_false (same_id x (id_view id))) [
+        | inl p ↦ first_entry x (id_view id) (g (id_view id)) (entries_of ids g) h.0 p ∙ ap (λ y. option_map request_view (g y)) (sym (same_id-true x (id_view id) p))
+        | inr p ↦ later_entry x (id_view id) (g (id_view id)) (entries_of ids g) h.0 p ∙ entry_of-among x ids h.1 (rw p at n)
       ]
-  lookup_view ((k, Some r) ∷ es) h d =
-      elim (true_or_false (t k)) [
-        | inl p ↦ rw (p, tested k r true h.0 p) refl
-        | inr p ↦ rw (p, tested k r false h.0 p) (lookup_view es h.1 d.1)
+
+  entry_of-absent : (x : Ident) (es : List Entry) → has_id x es ≡ false → entry_of x es ≡ None
+  entry_of-absent x [] n = refl
+  entry_of-absent x (e ∷ es) n = rw (left_false (same_id x e.id) _ n) (entry_of-absent x es (right_false (same_id x e.id) _ n))
+
+  -- the request that is kept under an id is the entry of that id
+  pub entry_of-held : (k : Id) (ids : List Id) → IsHeld ids g → option_map request_view (g (id_view k)) ≡ entry_of (id_view k) (entries_of ids g)
+  entry_of-held k ids h =
+      elim (true_or_false (is_among (id_view k) ids)) [
+        | inl p ↦ sym (entry_of-among (id_view k) ids h.have p)
+        | inr p ↦ ap (option_map request_view) (h.others k p) ∙ sym (entry_of-absent (id_view k) (entries_of ids g) (has_id-among (id_view k) ids h.have ∙ p))
       ]
 
-  is_some-found_in : (slot : Option (Option OpenRequest)) → is_some (found_in slot) ≡ open_in slot
-  is_some-found_in None = refl
-  is_some-found_in (Some None) = refl
-  is_some-found_in (Some (Some r)) = refl
+  pub has_id-held : (k : Id) (ids : List Id) → IsHeld ids g → is_some (g (id_view k)) ≡ has_id (id_view k) (entries_of ids g)
+  has_id-held k ids h =
+      sym (is_some-view (g (id_view k))) ∙ (ap is_some (entry_of-held k ids h) ∙ is_some-entry_of (id_view k) (entries_of ids g))
 
-  pub has_view : (es : Requests) → KeysMatch es → KeysDiffer es → (slot : Option (Option OpenRequest)) → slot ≡ lookup t es → open_in slot ≡ has_id id (entries_of es)
-  has_view es h d slot e =
-      sym (is_some-found_in slot) ∙ (ap (λ s. is_some (found_in s)) e ∙ (ap is_some (lookup_view es h d) ∙ is_some-entry_of id (entries_of es)))
+  -- ---- the places
 
-  pub no_key : (es : Requests) → is_some (lookup t es) ≡ false → is_key id es ≡ false
-  no_key [] n = refl
-  no_key (e ∷ es) n =
-      elim (true_or_false (t e.0)) [
-        | inl p ↦ absurd (true≢false (ap is_some (sym (ap (λ b. cond b (Some e.1) (lookup t es)) p)) ∙ n))
-        | inr p ↦ rw (sym (agrees e.0) ∙ p) (no_key es (ap is_some (sym (ap (λ b. cond b (Some e.1) (lookup t es)) p)) ∙ n))
-      ]
+  first_length : (k : Ident) (slot : Option OpenRequest) (rest : List Entry) → IsOf k slot → length (entries_in slot ++ rest) ≡ suc (length rest)
+  first_length k None rest h = absurd h
+  first_length k (Some r) rest h = refl
 
-  -- the value under the id is another
+  pub length-entries_of : (ids : List Id) → AllHave ids g → length (entries_of ids g) ≡ length ids
+  length-entries_of [] h = refl
+  length-entries_of (id ∷ ids) h = first_length (id_view id) (g (id_view id)) (entries_of ids g) h.0 ∙ ap suc (length-entries_of ids h.1)
 
-  is_key-set : (x : Ident) (w : Option OpenRequest) (es : Requests) → is_key x (set_value t es w) ≡ is_key x es
-  is_key-set x w [] = refl
-  is_key-set x w (e ∷ es) =
-      elim (true_or_false (t e.0)) [ inl p ↦ rw p refl | inr p ↦ rw p (ap (λ b. same_id x (id_view e.0) || b) (is_key-set x w es)) ]
+  first_place : (k : Ident) (slot : Option OpenRequest) (rest : List Entry) → IsOf k slot → slice_get (entries_in slot ++ rest) 0 ≡ option_map request_view slot
+  first_place k None rest h = absurd h
+  first_place k (Some r) rest h = refl
 
-  pub KeysDiffer-set : (w : Option OpenRequest) (es : Requests) → KeysDiffer es → KeysDiffer (set_value t es w)
-  KeysDiffer-set w [] d = tt
-  KeysDiffer-set w (e ∷ es) d =
-      elim (true_or_false (t e.0)) [ inl p ↦ rw p d | inr p ↦ rw p (is_key-set (id_view e.0) w es ∙ d.0, KeysDiffer-set w es d.1) ]
+  later_place : (k : Ident) (slot : Option OpenRequest) (rest : List Entry) (i : ℕ) → IsOf k slot → slice_get (entries_in slot ++ rest) (suc i) ≡ slice_get rest i
+  later_place k None rest i h = absurd h
+  later_place k (Some r) rest i h = refl
+
+  pub slice_get-entries_of : (ids : List Id) (i : ℕ) → AllHave ids g → slice_get (entries_of ids g) i ≡ option_and_then (λ id. option_map request_view (g (id_view id))) (slice_get ids i)
+  slice_get-entries_of [] i h = refl
+  slice_get-entries_of (id ∷ ids) zero h = first_place (id_view id) (g (id_view id)) (entries_of ids g) h.0
+  slice_get-entries_of (id ∷ ids) (suc i) h = later_place (id_view id) (g (id_view id)) (entries_of ids g) i h.0 ∙ slice_get-entries_of ids i h.1
+
+-- ---- a change under one id
+
+-- the requests after `w` is put under the id, or taken away
+abbrev pub PutsUnder : Ident → Option OpenRequest → (Ident → Option OpenRequest) → (Ident → Option OpenRequest) → Type 0
+PutsUnder id w g next = (k : Id) → next (id_view k) ≡ cond (same_id id (id_view k)) w (g (id_view k))
+
+module _ (id : Ident) (w : Option OpenRequest) (g next : Ident → Option OpenRequest) (puts : PutsUnder id w g next) where
+  at_other : (k : Id) → same_id id (id_view k) ≡ false → next (id_view k) ≡ g (id_view k)
+  at_other k p = puts k ∙ ap (λ b. cond b w (g (id_view k))) p
+
+  at_id : (k : Id) → same_id id (id_view k) ≡ true → next (id_view k) ≡ w
+  at_id k p = puts k ∙ ap (λ b. cond b w (g (id_view k))) p
+
+  -- ---- a new request
+
+  entries_of-absent : (ids : List Id) → is_among id ids ≡ false → entries_of ids next ≡ entries_of ids g
+  entries_of-absent [] n = refl
+  entries_of-absent (k ∷ ids) n =
+      rw (at_other k (left_false (same_id id (id_view k)) _ n)) (ap (λ l. entries_in (g (id_view k)) ++ l) (entries_of-absent ids (right_false (same_id id (id_view k)) _ n)))
+
+  AllHave-absent : (ids : List Id) → is_among id ids ≡ false → AllHave ids g → AllHave ids next
+  AllHave-absent [] n h = tt
+  AllHave-absent (k ∷ ids) n h = (
+    subst (IsOf (id_view k)) (sym (at_other k (left_false (same_id id (id_view k)) _ n))) h.0,
+    AllHave-absent ids (right_false (same_id id (id_view k)) _ n) h.1,
+  )
+
+  entries_of-push : (ids : List Id) (k : Id) → entries_of (ids ++ k ∷ []) next ≡ entries_of ids next ++ entries_in (next (id_view k))
+  entries_of-push [] k = append-nil-sym (entries_in (next (id_view k)))
+    where
+      append-nil-sym : (es : List Entry) → es ++ [] ≡ es
+      append-nil-sym [] = refl
+      append-nil-sym (e ∷ es) = ap (λ l. e ∷ l) (append-nil-sym es)
+  entries_of-push (i ∷ ids) k = ap (λ l. entries_in (next (id_view i)) ++ l) (entries_of-push ids k) ∙ assoc (entries_in (next (id_view i))) (entries_of ids next) (entries_in (next (id_view k)))
+    where
+      assoc : (a b c : List Entry) → a ++ (b ++ c) ≡ (a ++ b) ++ c
+      assoc [] b c = refl
+      assoc (e ∷ a) b c = ap (λ l. e ∷ l) (assoc a b c)
+
+  AllHave-push : (ids : List Id) (k : Id) → AllHave ids next → IsOf (id_view k) (next (id_view k)) → AllHave (ids ++ k ∷ []) next
+  AllHave-push [] k h own = (own, tt)
+  AllHave-push (i ∷ ids) k h own = (h.0, AllHave-push ids k h.1 own)
 
   -- ---- a cancel
 
-  first_marked : (v w : Option OpenRequest) → Marks v w → IsUnder id v → (rest : List Entry) → has_id id rest ≡ false → entries_in w ++ rest ≡ cancel id (entries_in v ++ rest)
-  first_marked None None m own rest h = sym (cancel-absent id rest h)
-  first_marked None (Some w) m own rest h = absurd (true≢false (ap is_some m))
-  first_marked (Some v) None m own rest h = absurd (true≢false (sym (ap is_some m)))
-  first_marked (Some v) (Some w) m own rest h =
-      rw (same_Some _ _ m, sym own, same_id-refl id, cancel-absent id rest h) refl
-
-  -- the place of a request with another id
-  cancel-other : (k : Id) (slot : Option OpenRequest) (rest : List Entry) → IsUnder (id_view k) slot → t k ≡ false → cancel id (entries_in slot ++ rest) ≡ entries_in slot ++ cancel id rest
-  cancel-other k None rest h p = refl
-  cancel-other k (Some r) rest h p = rw (tested k r false h p) refl
-
-  module _ (v w : Option OpenRequest) (m : Marks v w) where
-    pub entries_of-cancel : (es : Requests) → KeysMatch es → KeysDiffer es → lookup t es ≡ Some v → entries_of (set_value t es w) ≡ cancel id (entries_of es)
-    entries_of-cancel [] h d f = refl
-    entries_of-cancel (e ∷ es) h d f =
-        elim (true_or_false (t e.0)) [
+  module _ (v : OpenRequest) (n : OpenRequest) (is : w ≡ Some n) (was : g id ≡ Some v) (flag : request_view n ≡ record (request_view v) { cancelled = true }) where
+    first_cancel : (k : Id) (rest : List Entry) → IsOf (id_view k) (g (id_view k)) → entries_in (next (id_view k)) ++ cancel id rest ≡ cancel id (entries_in (g (id_view k)) ++ rest)
+    first_cancel k rest own =
+        elim (true_or_false (same_id id (id_view k))) [
           | inl p ↦
-              let is_v : e.1 ≡ v = same_Some e.1 v (sym (ap (λ b. cond b (Some e.1) (lookup t es)) p) ∙ f) in
-              let own : IsUnder id v = subst (IsUnder id) is_v (subst (λ x. IsUnder x e.1) (sym (same_id-true id (id_view e.0) (sym (agrees e.0) ∙ p))) h.0) in
-              rw (p, is_v) (first_marked v w m own (entries_of es) (gone e.0 es h.1 p d.0))
-          | inr p ↦
-              let rest = entries_of-cancel es h.1 d.1 (sym (ap (λ b. cond b (Some e.1) (lookup t es)) p) ∙ f) in
-              rw p (ap (λ l. entries_in e.1 ++ l) rest ∙ sym (cancel-other e.0 e.1 (entries_of es) h.0 p))
+              let here : g (id_view k) ≡ Some v = ap g (sym (same_id-true id (id_view k) p)) ∙ was in
+              let name : id_view k ≡ id_view v.id = subst (IsOf (id_view k)) here own in
+              let hit : same_id id (id_view v.id) ≡ true = ap (same_id id) (sym name) ∙ p in
+              rw (at_id k p, is, here, hit, flag) refl
+          | inr p ↦ rw (at_other k p) (apart (g (id_view k)) own p)
         ]
+      where
+        apart : (slot : Option OpenRequest) → IsOf (id_view k) slot → same_id id (id_view k) ≡ false → entries_in slot ++ cancel id rest ≡ cancel id (entries_in slot ++ rest)
+        apart None h p = absurd h
+        apart (Some r) h p = rw (ap (same_id id) (sym h) ∙ p) refl
 
-    same_some : (x y : Option OpenRequest) → Marks x y → is_some y ≡ is_some x
-    same_some None None n = refl
-    same_some None (Some y) n = absurd (true≢false (ap is_some n))
-    same_some (Some x) None n = absurd (true≢false (sym (ap is_some n)))
-    same_some (Some x) (Some y) n = refl
+    pub entries_of-cancel : (ids : List Id) → AllHave ids g → entries_of ids next ≡ cancel id (entries_of ids g)
+    entries_of-cancel [] h = refl
+    entries_of-cancel (k ∷ ids) h = ap (λ l. entries_in (next (id_view k)) ++ l) (entries_of-cancel ids h.1) ∙ first_cancel k (entries_of ids g) h.0
 
-    same_under : (x : Ident) (u y : Option OpenRequest) → Marks u y → IsUnder x u → IsUnder x y
-    same_under x None None n own = tt
-    same_under x None (Some y) n own = absurd (true≢false (ap is_some n))
-    same_under x (Some u) None n own = tt
-    same_under x (Some u) (Some y) n own = own ∙ ap (λ e. e.id) (sym (same_Some _ _ n))
+    AllHave-cancel : (ids : List Id) → AllHave ids g → AllHave ids next
+    AllHave-cancel [] h = tt
+    AllHave-cancel (k ∷ ids) h = (
+      elim (true_or_false (same_id id (id_view k))) [
+        | inl p ↦
+            let here : g (id_view k) ≡ Some v = ap g (sym (same_id-true id (id_view k) p)) ∙ was in
+            subst (IsOf (id_view k)) (sym (at_id k p ∙ is)) (subst (IsOf (id_view k)) here h.0 ∙ ap (λ e. e.id) (sym flag))
+        | inr p ↦ subst (IsOf (id_view k)) (sym (at_other k p)) h.0
+      ],
+      AllHave-cancel ids h.1,
+    )
 
-    AllOpen-cancel : (es : Requests) → AllOpen es → lookup t es ≡ Some v → AllOpen (set_value t es w)
-    AllOpen-cancel [] h f = tt
-    AllOpen-cancel (e ∷ es) h f =
-        elim (true_or_false (t e.0)) [
-          | inl p ↦
-              let is_v : e.1 ≡ v = same_Some e.1 v (sym (ap (λ b. cond b (Some e.1) (lookup t es)) p) ∙ f) in
-              rw p (same_some v w m ∙ (ap is_some (sym is_v) ∙ h.0), h.1)
-          | inr p ↦ rw p (h.0, AllOpen-cancel es h.1 (sym (ap (λ b. cond b (Some e.1) (lookup t es)) p) ∙ f))
-        ]
-
-    none_marked : (x y : Option OpenRequest) → Marks x y → x ≡ None → y ≡ None
-    none_marked x None n e = refl
-    none_marked None (Some y) n e = absurd (true≢false (ap is_some n))
-    none_marked (Some x) (Some y) n e = absurd (true≢false (ap is_some e))
-
-    AnsweredFirst-cancel : (n : ℕ) (es : Requests) → AnsweredFirst n es → lookup t es ≡ Some v → AnsweredFirst n (set_value t es w)
-    AnsweredFirst-cancel zero es h f = AllOpen-cancel es h f
-    AnsweredFirst-cancel (suc n) [] h f = absurd h
-    AnsweredFirst-cancel (suc n) (e ∷ es) h f =
-        elim (true_or_false (t e.0)) [
-          | inl p ↦
-              let is_v : e.1 ≡ v = same_Some e.1 v (sym (ap (λ b. cond b (Some e.1) (lookup t es)) p) ∙ f) in
-              rw p (none_marked v w m (sym is_v ∙ h.0), h.1)
-          | inr p ↦ rw p (h.0, AnsweredFirst-cancel n es h.1 (sym (ap (λ b. cond b (Some e.1) (lookup t es)) p) ∙ f))
-        ]
-
-    KeysMatch-cancel : (es : Requests) → KeysMatch es → lookup t es ≡ Some v → KeysMatch (set_value t es w)
-    KeysMatch-cancel [] h f = tt
-    KeysMatch-cancel (e ∷ es) h f =
-        elim (true_or_false (t e.0)) [
-          | inl p ↦
-              let is_v : e.1 ≡ v = same_Some e.1 v (sym (ap (λ b. cond b (Some e.1) (lookup t es)) p) ∙ f) in
-              rw p (same_under (id_view e.0) v w m (subst (IsUnder (id_view e.0)) is_v h.0), h.1)
-          | inr p ↦ rw p (h.0, KeysMatch-cancel es h.1 (sym (ap (λ b. cond b (Some e.1) (lookup t es)) p) ∙ f))
-        ]
-
-    pub IsHeld-cancel : (n : ℕ) (es : Requests) → IsHeld n es → lookup t es ≡ Some v → IsHeld n (set_value t es w)
-    IsHeld-cancel n es h f = record {
-      keys = KeysMatch-cancel es h.keys f;
-      differ = KeysDiffer-set w es h.differ;
-      order = AnsweredFirst-cancel n es h.order f;
+    pub IsHeld-cancel : (ids : List Id) → IsHeld ids g → IsHeld ids next
+    IsHeld-cancel ids h = record {
+      have = AllHave-cancel ids h.have;
+      differ = h.differ;
+      others = λ k gone. elim (true_or_false (same_id id (id_view k))) [
+        | inl p ↦ absurd (true≢false (ap is_some (sym was ∙ (ap g (same_id-true id (id_view k) p) ∙ h.others k gone))))
+        | inr p ↦ at_other k p ∙ h.others k gone
+      ];
     }
 
-  -- ---- an answer to the oldest open request, which stays as an answered one
-
-  pub entries_of-answer : (es : Requests) → KeysMatch es → KeysDiffer es → entries_of (set_value t es None) ≡ without id (entries_of es)
-  entries_of-answer [] h d = refl
-  entries_of-answer ((k, None) ∷ es) h d =
-      elim (true_or_false (t k)) [
-        | inl p ↦ rw p (sym (without-absent id (entries_of es) (gone k es h.1 p d.0)))
-        | inr p ↦ rw p (entries_of-answer es h.1 d.1)
-      ]
-  entries_of-answer ((k, Some r) ∷ es) h d =
-      elim (true_or_false (t k)) [
-        | inl p ↦ rw (p, tested k r true h.0 p) (sym (without-absent id (entries_of es) (gone k es h.1 p d.0)))
-        | inr p ↦ rw (p, tested k r false h.0 p) (ap (λ l. request_view r ∷ l) (entries_of-answer es h.1 d.1))
-      ]
-
-  KeysMatch-answer : (es : Requests) → KeysMatch es → KeysMatch (set_value t es None)
-  KeysMatch-answer [] h = tt
-  KeysMatch-answer (e ∷ es) h = elim (true_or_false (t e.0)) [ inl p ↦ rw p (tt, h.1) | inr p ↦ rw p (h.0, KeysMatch-answer es h.1) ]
-
-  AnsweredFirst-answer : (n : ℕ) (es : Requests) → AnsweredFirst n es → IsAt t es n → AnsweredFirst (suc n) (set_value t es None)
-  AnsweredFirst-answer zero [] h i = absurd i
-  AnsweredFirst-answer zero (e ∷ es) h i = rw i (refl, h.1)
-  AnsweredFirst-answer (suc n) [] h i = absurd h
-  AnsweredFirst-answer (suc n) (e ∷ es) h i = rw i.0 (h.0, AnsweredFirst-answer n es h.1 i.1)
-
-  pub IsHeld-answer : (n : ℕ) (es : Requests) → IsHeld n es → IsAt t es n → IsHeld (n + 1) (set_value t es None)
-  IsHeld-answer n es h i = record {
-    keys = KeysMatch-answer es h.keys;
-    differ = KeysDiffer-set None es h.differ;
-    order = rw (add-one n) (AnsweredFirst-answer n es h.order i);
-  }
-
-  -- an answered one is no open one
-  pub answered_before : (n i : ℕ) (es : Requests) → AnsweredFirst n es → IsAt t es i → i < n → lookup t es ≡ Some None
-  answered_before zero i es h f l = absurd (omega arith)
-  answered_before (suc n) i [] h f l = absurd h
-  answered_before (suc n) zero (e ∷ es) h f l = rw f (ap (λ slot. Some slot) h.0)
-  answered_before (suc n) (suc i) (e ∷ es) h f l = rw f.0 (answered_before n i es h.1 f.1 (omega arith))
-
-  -- ---- an answer to a later one
-
-  pub entries_of-remove : (es : Requests) → KeysMatch es → KeysDiffer es → entries_of (remove_entry t es) ≡ without id (entries_of es)
-  entries_of-remove [] h d = refl
-  entries_of-remove ((k, None) ∷ es) h d =
-      elim (true_or_false (t k)) [
-        | inl p ↦ rw p (sym (without-absent id (entries_of es) (gone k es h.1 p d.0)))
-        | inr p ↦ rw p (entries_of-remove es h.1 d.1)
-      ]
-  entries_of-remove ((k, Some r) ∷ es) h d =
-      elim (true_or_false (t k)) [
-        | inl p ↦ rw (p, tested k r true h.0 p) (sym (without-absent id (entries_of es) (gone k es h.1 p d.0)))
-        | inr p ↦ rw (p, tested k r false h.0 p) (ap (λ l. request_view r ∷ l) (entries_of-remove es h.1 d.1))
-      ]
-
-  is_key-remove : (x : Ident) (es : Requests) → is_key x es ≡ false → is_key x (remove_entry t es) ≡ false
-  is_key-remove x [] h = refl
-  is_key-remove x (e ∷ es) h =
-      let rest = right_false (same_id x (id_view e.0)) _ h in
-      elim (true_or_false (t e.0)) [
-        | inl p ↦ rw p rest
-        | inr p ↦ rw (p, left_false (same_id x (id_view e.0)) _ h) (is_key-remove x es rest)
-      ]
-
-  KeysMatch-remove : (es : Requests) → KeysMatch es → KeysMatch (remove_entry t es)
-  KeysMatch-remove [] h = tt
-  KeysMatch-remove (e ∷ es) h = elim (true_or_false (t e.0)) [ inl p ↦ rw p h.1 | inr p ↦ rw p (h.0, KeysMatch-remove es h.1) ]
-
-  KeysDiffer-remove : (es : Requests) → KeysDiffer es → KeysDiffer (remove_entry t es)
-  KeysDiffer-remove [] h = tt
-  KeysDiffer-remove (e ∷ es) h =
-      elim (true_or_false (t e.0)) [ inl p ↦ rw p h.1 | inr p ↦ rw p (is_key-remove (id_view e.0) es h.0, KeysDiffer-remove es h.1) ]
-
-  AllOpen-remove : (es : Requests) → AllOpen es → AllOpen (remove_entry t es)
-  AllOpen-remove [] h = tt
-  AllOpen-remove (e ∷ es) h = elim (true_or_false (t e.0)) [ inl p ↦ rw p h.1 | inr p ↦ rw p (h.0, AllOpen-remove es h.1) ]
-
-  AnsweredFirst-remove : (n i : ℕ) (es : Requests) → AnsweredFirst n es → IsAt t es i → n ≤ i → AnsweredFirst n (remove_entry t es)
-  AnsweredFirst-remove zero i es h f l = AllOpen-remove es h
-  AnsweredFirst-remove (suc n) i [] h f l = absurd h
-  AnsweredFirst-remove (suc n) zero (e ∷ es) h f l = absurd (omega arith)
-  AnsweredFirst-remove (suc n) (suc i) (e ∷ es) h f l = rw f.0 (h.0, AnsweredFirst-remove n i es h.1 f.1 (omega arith))
-
-  pub IsHeld-remove : (n i : ℕ) (es : Requests) → IsHeld n es → IsAt t es i → n ≤ i → IsHeld n (remove_entry t es)
-  IsHeld-remove n i es h f l = record {
-    keys = KeysMatch-remove es h.keys;
-    differ = KeysDiffer-remove es h.differ;
-    order = AnsweredFirst-remove n i es h.order f l;
-  }
-
--- ---- a new request goes last
-
-insert_entry-absent : (eq : Id → Id → Bool) (k : Id) (v : Option OpenRequest) → ((x : Id) → eq k x ≡ same_id (id_view k) (id_view x)) → (es : Requests)
-    → is_key (id_view k) es ≡ false → insert_entry eq es k v ≡ es ++ (k, v) ∷ []
-insert_entry-absent eq k v agrees [] n = refl
-insert_entry-absent eq k v agrees (e ∷ es) n =
-    rw (agrees e.0 ∙ left_false (same_id (id_view k) (id_view e.0)) _ n)
-    (ap (λ l. e ∷ l) (insert_entry-absent eq k v agrees es (right_false (same_id (id_view k) (id_view e.0)) _ n)))
-
--- what `ask` leaves
-pub asked : (eq : Id → Id → Bool) (k : Id) (r : OpenRequest) → ((x : Id) → eq k x ≡ same_id (id_view k) (id_view x)) → id_view r.id ≡ id_view k → (n : ℕ) (es new : Requests) → IsHeld n es
-    → is_key (id_view k) es ≡ false → new ≡ insert_entry eq es k (Some r) → IsHeld n new × (entries_of new ≡ entries_of es ++ request_view r ∷ [])
-asked eq k r agrees own n es new held none e =
-    let at_end : new ≡ es ++ (k, Some r) ∷ [] = e ∙ insert_entry-absent eq k (Some r) agrees es none in
-    rw at_end (
+-- a new request under an id that is none of these
+pub asked : (k : Id) (r : OpenRequest) (g next : Ident → Option OpenRequest) → PutsUnder (id_view k) (Some r) g next → id_view r.id ≡ id_view k → (ids : List Id)
+    → IsHeld ids g → is_some (g (id_view k)) ≡ false → IsHeld (ids ++ k ∷ []) next × (entries_of (ids ++ k ∷ []) next ≡ entries_of ids g ++ request_view r ∷ [])
+asked k r g next puts own ids h none =
+    let id = id_view k in
+    let gone : is_among id ids ≡ false = sym (has_id-among g id ids h.have) ∙ (sym (has_id-held g k ids h) ∙ none) in
+    let here : next id ≡ Some r = at_id id (Some r) g next puts k (same_id-refl id) in
+    let of : IsOf id (next id) = subst (IsOf id) (sym here) (sym own) in (
       record {
-        keys = KeysMatch-push es (k, Some r) held.keys (sym own);
-        differ = KeysDiffer-push es (k, Some r) none held.differ;
-        order = AnsweredFirst-push n es k r held.order;
+        have = AllHave-push id (Some r) g next puts ids k (AllHave-absent id (Some r) g next puts ids gone h.have) of;
+        differ = AllDiffer-push ids k h.differ gone;
+        others = λ q away.
+            let apart = sym (is_among-push (id_view q) ids k) ∙ away in
+            at_other id (Some r) g next puts q (same_id-flip (id_view q) id (right_false (is_among (id_view q) ids) _ apart))
+            ∙ h.others q (left_false (is_among (id_view q) ids) _ apart);
       },
-      entries_of-push es k r,
+      entries_of-push id (Some r) g next puts ids k
+          ∙ (ap (λ slot. entries_of ids next ++ entries_in slot) here ∙ ap (λ l. l ++ request_view r ∷ []) (entries_of-absent id (Some r) g next puts ids gone)),
     )
+
+-- ---- a request is taken out
+
+module _ (id : Ident) (g next : Ident → Option OpenRequest) (puts : PutsUnder id None g next) where
+  pub entries_of-answer : (ids : List Id) → AllHave ids g → entries_of (filter (is_other id) ids) next ≡ without id (entries_of ids g)
+  entries_of-answer [] h = refl
+  entries_of-answer (k ∷ ids) h =
+      elim (true_or_false (same_id id (id_view k))) [
+        | inl p ↦ rw p (entries_of-answer ids h.1 ∙ sym (left_out (g (id_view k)) h.0 p))
+        | inr p ↦ rw (p, at_other id None g next puts k p) (ap (λ l. entries_in (g (id_view k)) ++ l) (entries_of-answer ids h.1) ∙ sym (kept (g (id_view k)) h.0 p))
+      ]
+    where
+      left_out : (slot : Option OpenRequest) → IsOf (id_view k) slot → same_id id (id_view k) ≡ true → without id (entries_in slot ++ entries_of ids g) ≡ without id (entries_of ids g)
+      left_out None h p = absurd h
+      left_out (Some r) h p = rw (ap (same_id id) (sym h) ∙ p) refl
+
+      kept : (slot : Option OpenRequest) → IsOf (id_view k) slot → same_id id (id_view k) ≡ false → without id (entries_in slot ++ entries_of ids g) ≡ entries_in slot ++ without id (entries_of ids g)
+      kept None h p = absurd h
+      kept (Some r) h p = rw (ap (same_id id) (sym h) ∙ p) refl
+
+  AllHave-answer : (ids : List Id) → AllHave ids g → AllHave (filter (is_other id) ids) next
+  AllHave-answer [] h = tt
+  AllHave-answer (k ∷ ids) h =
+      elim (true_or_false (same_id id (id_view k))) [
+        | inl p ↦ rw p (AllHave-answer ids h.1)
+        | inr p ↦ rw p (subst (IsOf (id_view k)) (sym (at_other id None g next puts k p)) h.0, AllHave-answer ids h.1)
+      ]
+
+  pub IsHeld-answer : (ids : List Id) → IsHeld ids g → IsHeld (filter (is_other id) ids) next
+  IsHeld-answer ids h = record {
+    have = AllHave-answer ids h.have;
+    differ = AllDiffer-filter id ids h.differ;
+    others = λ q away. elim (true_or_false (same_id id (id_view q))) [
+      | inl p ↦ at_id id None g next puts q p
+      | inr p ↦ at_other id None g next puts q p ∙ h.others q (is_among-before id (id_view q) ids p away)
+    ];
+  }
+
+-- ---- the map
+
+-- a look-up is one by the id
+pub lookup-request_of : (t : Id → Bool) (id : Ident) → ((k : Id) → t k ≡ same_id id (id_view k)) → (es : List (Id × OpenRequest)) → lookup t es ≡ request_of es id
+lookup-request_of t id agrees [] = refl
+lookup-request_of t id agrees (e ∷ es) =
+    elim (true_or_false (t e.0)) [
+      | inl p ↦ rw (p, sym (agrees e.0) ∙ p) refl
+      | inr p ↦ rw (p, sym (agrees e.0) ∙ p) (lookup-request_of t id agrees es)
+    ]
+
+-- what the map's own words say of a change
+pub puts-updates : (eq : Id → Id → Bool) → ((a b : Id) → eq a b ≡ same_id (id_view a) (id_view b)) → (id : Ident) (t : Id → Bool) → ((q : Id) → t q ≡ same_id id (id_view q))
+    → (w : Option OpenRequest) (es fs : List (Id × OpenRequest)) → ((q : Id) → lookup (eq q) fs ≡ cond (t q) w (lookup (eq q) es)) → PutsUnder id w (request_of es) (request_of fs)
+puts-updates eq agrees id t at w es fs says k =
+    sym (lookup-request_of (eq k) (id_view k) (agrees k) fs)
+    ∙ (says k
+    ∙ (ap (λ b. cond b w (lookup (eq k) es)) (at k)
+    ∙ ap (λ slot. cond (same_id id (id_view k)) w slot) (lookup-request_of (eq k) (id_view k) (agrees k) es)))

@@ -12,7 +12,7 @@ use Rattle.lsp_session.specs.Requests.{answers, answers_request, id_rule, is_ans
 use Rattle.lsp_session.specs.Rules.{AdmittedAfter, rule_after}
 use Rattle.lsp_session.specs.Sent.{Sent, answered_from, answered_id, is_response, other_side, request_by, request_of, response_id, same_side}
 use Rattle.lsp_session.proofs.Bools.{and_false, and_left, and_right_false, left_false, or_assoc, or_split, or_true, true_or_false}
-use Rattle.lsp_session.proofs.Ids.{same_id-refl, same_id-true}
+use Rattle.lsp_rpc.proofs.IdLemmas.{same_id-refl, same_id-true}
 
 none_left : {X : Type 0} (a b : Option X) → option_or a b ≡ None → a ≡ None
 none_left None b e = refl

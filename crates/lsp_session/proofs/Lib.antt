@@ -4,5 +4,6 @@ pub mod Entries
 pub mod Steps
 pub mod ByStateLemmas
 pub mod LawLemmas
+pub mod LeastRuleLemmas
 pub mod SessionMessages
 pub mod Sessions

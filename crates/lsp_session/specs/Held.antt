@@ -1,58 +1,55 @@
--- What the map of a `Pending` stands for.
-use Rattle.std.specs.Prelude.{◌≡◌, ℕ, zero, suc, List, [], ◌∷◌, ◌++◌, Bool, true, false, ◌||◌, Option, Some, None, is_some, option_map}
+-- What a `Pending` keeps, the ids in order of asking beside the requests by their ids, and what it stands for.
+use Rattle.std.specs.Prelude.{◌≡◌, List, [], ◌∷◌, ◌++◌, Bool, false, not, ◌||◌, Option, Some, None}
+use Rattle.std.specs.Map.{lookup}
 use Rattle.lsp_rpc.specs.Ident.{Ident, id_view, same_id}
 use Rattle.lsp_rpc.specs.declared.message.Id.{Id}
 use Rattle.lsp_session.specs.Entry.{Entry, request_view}
 use Rattle.lsp_session.specs.declared.pending.OpenRequest.{OpenRequest}
 
--- the ids, each with its request, or with none where that was answered
-abbrev pub Requests : Type 0
-Requests = List (Id × Option OpenRequest)
+-- the request of this id in a map
+abbrev pub request_of : List (Id × OpenRequest) → Ident → Option OpenRequest
+request_of es id = lookup (λ key. same_id id (id_view key)) es
 
 abbrev pub entries_in : Option OpenRequest → List Entry
 entries_in None = []
 entries_in (Some request) = request_view request ∷ []
 
--- the requests that were not answered
-abbrev pub entries_of : Requests → List Entry
-entries_of [] = []
-entries_of (e ∷ es) = entries_in e.1 ++ entries_of es
-
--- a request stands under its own id
-abbrev pub IsUnder : Ident → Option OpenRequest → Type 0
-IsUnder id None = Unit {0}
-IsUnder id (Some request) = id ≡ id_view request.id
-
-abbrev pub KeysMatch : Requests → Type 0
-KeysMatch [] = Unit {0}
-KeysMatch (e ∷ es) = IsUnder (id_view e.0) e.1 × KeysMatch es
+-- the requests of these ids
+abbrev pub entries_of : List Id → (Ident → Option OpenRequest) → List Entry
+entries_of [] requests = []
+entries_of (id ∷ ids) requests = entries_in (requests (id_view id)) ++ entries_of ids requests
 
 -- the id is one of these
-abbrev pub is_key : Ident → Requests → Bool
-is_key id [] = false
-is_key id (e ∷ es) = same_id id (id_view e.0) || is_key id es
+abbrev pub is_among : Ident → List Id → Bool
+is_among id [] = false
+is_among id (other ∷ ids) = same_id id (id_view other) || is_among id ids
 
 -- no id stands twice
-abbrev pub KeysDiffer : Requests → Type 0
-KeysDiffer [] = Unit {0}
-KeysDiffer (e ∷ es) = (is_key (id_view e.0) es ≡ false) × KeysDiffer es
+abbrev pub AllDiffer : List Id → Type 0
+AllDiffer [] = Unit {0}
+AllDiffer (id ∷ ids) = (is_among (id_view id) ids ≡ false) × AllDiffer ids
 
-abbrev pub AllOpen : Requests → Type 0
-AllOpen [] = Unit {0}
-AllOpen (e ∷ es) = (is_some e.1 ≡ true) × AllOpen es
+-- there is a request, and it has this id
+abbrev pub IsOf : Ident → Option OpenRequest → Type 0
+IsOf id None = ⊥
+IsOf id (Some request) = id ≡ id_view request.id
 
--- the first `answered` requests were answered, and the others were not
-abbrev pub AnsweredFirst : ℕ → Requests → Type 0
-AnsweredFirst zero es = AllOpen es
-AnsweredFirst (suc n) [] = ⊥
-AnsweredFirst (suc n) (e ∷ es) = (e.1 ≡ None) × AnsweredFirst n es
+-- each of these ids has its request
+abbrev pub AllHave : List Id → (Ident → Option OpenRequest) → Type 0
+AllHave [] requests = Unit {0}
+AllHave (id ∷ ids) requests = IsOf (id_view id) (requests (id_view id)) × AllHave ids requests
 
 -- what a `Pending` keeps
-pub record IsHeld (answered : ℕ) (es : Requests) : Type 0 where
-  pub keys : KeysMatch es
-  pub differ : KeysDiffer es
-  pub order : AnsweredFirst answered es
+pub record IsHeld (ids : List Id) (requests : Ident → Option OpenRequest) : Type 0 where
+  pub have : AllHave ids requests
+  pub differ : AllDiffer ids
+  pub others : (id : Id) → is_among (id_view id) ids ≡ false → requests (id_view id) ≡ None
 
--- the new request is the old one, marked as cancelled
-abbrev pub Marks : Option OpenRequest → Option OpenRequest → Type 0
-Marks old new = option_map request_view new ≡ option_map (λ r. record (request_view r) { cancelled = true }) old
+-- the id is this one, if there is one
+abbrev pub is_found : Ident → Option Id → Bool
+is_found id None = false
+is_found id (Some other) = same_id id (id_view other)
+
+-- an id that is another one
+abbrev pub is_other : Ident → Id → Bool
+is_other id other = not (same_id id (id_view other))

@@ -1,9 +1,20 @@
 -- Laws of the definitions.
-use Rattle.std.specs.Prelude.{◌≡◌, ◌⊎◌, List, ◌∷◌, ◌++◌, Bool, true, false, None}
+use Rattle.std.specs.Prelude.{◌≡◌, ◌⊎◌, ℕ, ◌≤◌, List, ◌∷◌, ◌++◌, Bool, true, false, Some, None}
 use Rattle.lsp_session.specs.Handshake.{is_done, is_fresh, is_waiting}
-use Rattle.lsp_session.specs.Requests.{answers}
+use Rattle.lsp_session.specs.Lifecycle.{lifecycle_rule}
+use Rattle.lsp_session.specs.Negotiation.{negotiation_rule}
+use Rattle.lsp_session.specs.Requests.{answers, request_rule}
 use Rattle.lsp_session.specs.Rules.{IsAdmitted, rule_after}
 use Rattle.lsp_session.specs.Sent.{Sent, is_response}
+
+-- one of the three kinds of rules that the message breaks is this one
+abbrev pub IsBroken : List Sent → Sent → ℕ → Type 0
+IsBroken before m rule = (request_rule before m ≡ Some rule) ⊎ ((lifecycle_rule before m ≡ Some rule) ⊎ (negotiation_rule before m ≡ Some rule))
+
+-- the rule that a message breaks is the least of those that it breaks
+abbrev pub LeastRule : Type 0
+LeastRule = (before : List Sent) (m : Sent) (rule : ℕ) → rule_after before m ≡ Some rule
+    → IsBroken before m rule × ((other : ℕ) → IsBroken before m other → rule ≤ other)
 
 -- a request among these that `m` answers, and its place
 pub record AnsweredRequest (before : List Sent) (m : Sent) : Type 0 where

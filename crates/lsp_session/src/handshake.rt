@@ -54,7 +54,8 @@ fn copy_texts(alloc: Global, texts: &[String]) -> Result<Vec<String>, Memory>
 
 /// Whether the server may send this while the `initialize` is open.
 pub(crate) fn comes_early(initialize: &OpenInitialize, act: &Act) -> bool
-    ensures { result ≡ by_state.comes_early (initializes_view (Some initialize.now)) (act_view act.now) }
+    ensures { result
+        ≡ by_state.comes_early (initializes_view (Some initialize.now)) (act_view act.now) }
 {
     match (act, &initialize.offer.token) {
         (Act::Early, _) => true,

@@ -1,5 +1,16 @@
 // Laws of the definitions that the contracts cite.
-ghost use Rattle.lsp_session.specs.Laws.{AnsweredOnce, AnswersARequest, AnswersNoOther, OneHandshake};
+ghost use Rattle.lsp_session.specs.Laws.{
+  AnsweredOnce,
+  AnswersARequest,
+  AnswersNoOther,
+  LeastRule,
+  OneHandshake,
+};
+
+/// Proves that the rule that a message breaks is the least of those that it breaks.
+pub fn least_rule()
+    ensures { LeastRule }
+{}
 
 /// Proves that a response that breaks no rule answers a request of the other side.
 pub fn answers_a_request()

@@ -2,7 +2,7 @@ ghost use Rattle.std.specs.Prelude.{◌≡◌};
 ghost use Rattle.lsp_session.specs.declared.refusal.Refusal.TheVariants as refusals;
 
 use lsp_rpc::Memory;
-use std::alloc::AllocFailed;
+use std::alloc::{AllocError, AllocFailed};
 use thiserror::Error;
 
 /// Why a message was not admitted, or a request not added.
@@ -20,6 +20,14 @@ impl From<Memory> for Refusal {
     ghost from_gives = { λ _ refusal. refusal ≡ refusals.Memory };
 
     fn from(_refused: Memory) -> Refusal {
+        Refusal::Memory
+    }
+}
+
+impl From<AllocError> for Refusal {
+    ghost from_gives = { λ _ refusal. refusal ≡ refusals.Memory };
+
+    fn from(_refused: AllocError) -> Refusal {
         Refusal::Memory
     }
 }

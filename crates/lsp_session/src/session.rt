@@ -10,7 +10,7 @@ ghost use Rattle.lsp_session.specs.Requests.{open_requests};
 ghost use Rattle.lsp_session.specs.Rules.{rule_after};
 ghost use Rattle.lsp_session.specs.Sent.{Sent, other_side};
 ghost use Rattle.lsp_session.specs.Sent as message_spec;
-ghost use Rattle.lsp_session.specs.State.{Stands, after_answer, agreed_in, next, next_open};
+ghost use Rattle.lsp_session.specs.State.{Stands, after_answer, next, next_open};
 ghost use Rattle.lsp_session.specs.View.{sent};
 
 use crate::handshake::{OpenInitialize, comes_early, open_initialize};
@@ -100,21 +100,24 @@ impl Session {
 
     /// What columns count, once a result has answered `initialize`.
     pub fn encoding(&self) -> Option<Encoding>
-        ensures { (before : List Sent) → Stands self.now before → result ≡ negotiation.encoding before }
+        ensures { (before : List Sent) → Stands self.now before
+            → result ≡ negotiation.encoding before }
     {
         self.agreed.map(|agreed| agreed.encoding)
     }
 
     /// How the editor sends changes, once a result has answered `initialize`.
     pub fn sync_kind(&self) -> Option<SyncKind>
-        ensures { (before : List Sent) → Stands self.now before → result ≡ negotiation.sync_kind before }
+        ensures { (before : List Sent) → Stands self.now before
+            → result ≡ negotiation.sync_kind before }
     {
         self.agreed.map(|agreed| agreed.kind)
     }
 
     /// How far the session has come.
     pub fn phase(&self) -> Phase
-        ensures { (before : List Sent) → Stands self.now before → result ≡ handshake.phase before }
+        ensures { (before : List Sent) → Stands self.now before
+            → result ≡ handshake.phase before }
     {
         if self.exited {
             Phase::Exited
@@ -133,7 +136,8 @@ impl Session {
 
     /// The requests of this side that wait for their response.
     pub fn pending(&self, side: Side) -> &Pending
-        ensures { (before : List Sent) → Stands self.now before → result.now ≡ open_requests side before }
+        ensures { (before : List Sent) → Stands self.now before
+            → result.now ≡ open_requests side before }
     {
         self.asked_by(side)
     }
@@ -157,7 +161,8 @@ impl Session {
         }
     }
 
-    /// The rule on ids: a response answers an open request, and a request has an id that is not open.
+    /// The rule on ids: a response answers an open request, and a request has an id that is not
+    /// open.
     fn request_rule(&self, side: Side, message: &Message) -> Option<u16>
         ensures { result ≡ by_state.request_rule self.now side (message_view message.now) }
     {
@@ -182,7 +187,8 @@ impl Session {
     }
 
     fn lifecycle_rule(&self, side: Side, message: &Message, act: &Act) -> Option<u16>
-        ensures { result ≡ by_state.lifecycle_rule self.now side (message_view message.now) (act_view act.now) }
+        ensures { result
+            ≡ by_state.lifecycle_rule self.now side (message_view message.now) (act_view act.now) }
     {
         match side {
             Side::Editor => self.editor_rule(message, act),
@@ -191,7 +197,8 @@ impl Session {
     }
 
     fn editor_rule(&self, message: &Message, act: &Act) -> Option<u16>
-        ensures { result ≡ by_state.editor_rule self.now (message_view message.now) (act_view act.now) }
+        ensures { result
+            ≡ by_state.editor_rule self.now (message_view message.now) (act_view act.now) }
     {
         if self.exited {
             Some(406)
@@ -235,7 +242,8 @@ impl Session {
     }
 
     fn server_rule(&self, message: &Message, act: &Act) -> Option<u16>
-        ensures { result ≡ by_state.server_rule self.now (message_view message.now) (act_view act.now) }
+        ensures { result
+            ≡ by_state.server_rule self.now (message_view message.now) (act_view act.now) }
     {
         if is_response(message) || self.agreed.is_some() {
             return None;
@@ -249,10 +257,12 @@ impl Session {
 
     /// What a result agrees on that answers the open `initialize`; `None` for other messages.
     fn settle(&self, side: Side, message: &Message) -> Result<Option<Agreed>, Refusal>
-        ensures ok { IfOk result (λ agreed. agreed_in (handshake.settled_among self.now.initializes side (message_view message.now))
-            ≡ option_map (λ a. Some a) agreed) }
-        ensures allowed { OnOk result (by_state.result_rule self.now side (message_view message.now) ≡ None) }
-        ensures rule { IfErr result (Names (by_state.result_rule self.now side (message_view message.now))) }
+        ensures ok { IfOk result (λ agreed. option_map (λ a. Some a) agreed
+            ≡ by_state.agreed_by self.now side (message_view message.now)) }
+        ensures allowed { OnOk result
+            (by_state.result_rule self.now side (message_view message.now) ≡ None) }
+        ensures rule { IfErr result
+            (Names (by_state.result_rule self.now side (message_view message.now))) }
     {
         match (side, message, &self.initialize) {
             (
@@ -278,8 +288,10 @@ impl Session {
         agreed: Option<Agreed>,
     ) -> Result<(), Memory>
         requires ids { by_state.request_rule self.old side (message_view message.now) ≡ None }
-        requires lifecycle { by_state.lifecycle_rule self.old side (message_view message.now) (act_view act.now) ≡ None }
-        requires agreed { agreed_in (handshake.settled_among self.old.initializes side (message_view message.now)) ≡ option_map (λ a. Some a) agreed }
+        requires lifecycle { by_state.lifecycle_rule self.old side
+            (message_view message.now) (act_view act.now) ≡ None }
+        requires agreed { option_map (λ a. Some a) agreed
+            ≡ by_state.agreed_by self.old side (message_view message.now) }
         ensures ok { OnOk result (self.new ≡ next self.old (sent side message.now act.now)) }
         ensures err { OnErr result (self.new ≡ self.old) }
     {
@@ -301,7 +313,8 @@ impl Session {
     /// Takes in what the message does to the open requests.
     fn take_open(&mut self, side: Side, message: &Message, act: &Act) -> Result<(), Memory>
         requires ids { by_state.request_rule self.old side (message_view message.now) ≡ None }
-        requires lifecycle { by_state.lifecycle_rule self.old side (message_view message.now) (act_view act.now) ≡ None }
+        requires lifecycle { by_state.lifecycle_rule self.old side
+            (message_view message.now) (act_view act.now) ≡ None }
         ensures ok { OnOk result (self.new ≡ next_open self.old (sent side message.now act.now)) }
         ensures err { OnErr result (self.new ≡ self.old) }
     {
@@ -366,7 +379,8 @@ fn is_response(message: &Message) -> bool
 /// Adds a request that is not open yet.
 fn ask(pending: &mut Pending, id: &Id, method: &str) -> Result<(), Memory>
     requires { has_id (id_view id.now) pending.old ≡ false }
-    ensures ok { OnOk result (pending.new ≡ pending.old ++ new_entry (id_view id.now) method.now ∷ []) }
+    ensures ok { OnOk result
+        (pending.new ≡ pending.old ++ new_entry (id_view id.now) method.now ∷ []) }
     ensures err { OnErr result (pending.new ≡ pending.old) }
 {
     match pending.ask(id, method) {

@@ -1,5 +1,5 @@
 -- The mark of kept lines, after an edit of the marked line.
-use Rattle.std.proofs.Common.{◌≡◌, ◌<◌, ◌≤◌, ℕ, List, [], length, get_or, set, Option, Some, None, IfSome, sym, subst, ◌∙◌}
+use Rattle.std.proofs.Common.{◌≡◌, ◌<◌, ◌≤◌, ℕ, List, [], length, get_or, set, Option, Some, None, IfSome, sym, subst}
 use Rattle.std.proofs.lemmas.List.{get_or-set_same}
 use lib.Utf8.{encodes}
 use Rattle.lsp_rpc.specs.declared.plain.Encoding.{Encoding}

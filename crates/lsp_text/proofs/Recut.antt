@@ -2,7 +2,7 @@
 use Rattle.std.proofs.Common.{◌≡◌, ◌⊎◌, ◌||◌, ℕ, Bool, true, false, List, [], ◌∷◌, ◌++◌, refl, sym, ap, subst, ◌∙◌, inl, inr}
 use Rattle.std.proofs.lemmas.List.{append-nil}
 use Rattle.std.proofs.lemmas.Bool.{false≢true, eqb-true}
-use Rattle.lsp_text.specs.Lines.{Line, open_line, text_of, is_feed, is_return, starts_with_feed, has_no_line_end, IsEndBefore, AreEnded, lines_of, EndsWith, EndsWithLineEnd, LinesOfJoined}
+use Rattle.lsp_text.specs.Lines.{Line, open_line, text_of, is_feed, is_return, starts_with_feed, has_no_line_end, IsEndBefore, AreEnded, lines_of, EndsWith, LinesOfJoined}
 use Rattle.lsp_text.proofs.Cuts.{HasFirst, IsCut-lines_of, lines_of-IsCut, lines_of-ended, lines_of-joined, last_is_return, last_is_return-append, text_of-append, whole_parts}
 use Rattle.lsp_text.proofs.Positions.{text_of-lines_of}
 

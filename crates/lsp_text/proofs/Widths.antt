@@ -1,5 +1,5 @@
 -- Places of a line, from its units.
-use Rattle.std.proofs.Common.{◌≡◌, ◌<◌, ◌≤◌, ◌+◌, ◌-◌, ℕ, List, [], ◌∷◌, ◌++◌, length, take, drop, min, Option, Some, None, zero, suc, refl, sym, ap, subst, ◌∙◌, inl, inr, ⊎_elim, arith, length-append}
+use Rattle.std.proofs.Common.{◌≡◌, ◌<◌, ◌≤◌, ◌+◌, ◌-◌, ℕ, List, [], ◌∷◌, ◌++◌, length, take, drop, min, Option, Some, None, suc, refl, sym, ap, subst, ◌∙◌, inl, inr, ⊎_elim, arith, length-append}
 use Rattle.std.proofs.lemmas.List.{take-append-drop, length-take-le, take_at, take_all, drop-drop}
 use Rattle.std.proofs.lemmas.Bool.{cases_lt}
 use Rattle.std.proofs.lemmas.Bool.Decides.{nat_tests}
@@ -12,7 +12,7 @@ use Rattle.lsp_rpc.specs.declared.plain.Encoding.TheVariants.{Utf8, Utf16, Utf32
 use Rattle.lsp_text.specs.Places.{units, units_of_char, place_in_line}
 use Rattle.lsp_text.specs.Offsets.{IsOffset, IsSkipped}
 use Rattle.lsp_text.proofs.Counting.{units-append, units-utf8, units-utf8_text, is_offset, seam}
-use Rattle.lsp_text.proofs.Denoting.{IsBefore, past, units_some, place_in_line-complete, place_in_line-sound}
+use Rattle.lsp_text.proofs.Denoting.{IsBefore, past, place_in_line-complete, place_in_line-sound}
 use Rattle.lsp_text.proofs.HeldText.{length_le_units}
 use Rattle.lsp_text.proofs.Positions.{take-add_here}
 use Rattle.lsp_text.proofs.Splices.{chars-cut}

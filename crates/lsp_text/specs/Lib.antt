@@ -5,7 +5,7 @@ pub mod Changes
 pub mod FirstLine
 pub mod LineEnd
 pub mod Offsets
-pub mod HeldLine
+pub mod CountedLine
 pub mod HeldLines
 pub mod Rewriting
 pub mod Steps

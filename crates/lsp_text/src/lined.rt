@@ -1,5 +1,6 @@
 //! A text as its lines, each with its counts.
 
+mod counted;
 mod held;
 pub(crate) mod lines;
 

@@ -317,7 +317,20 @@ fn hold_the_same(alloc: Global, plain: &Plain, lined: &Lined) -> Result<bool, Fa
     Ok(lined.equals(text.as_str()) && lined.line_count() == plain.line_count())
 }
 
-/// Makes an edit and then each of the table on a text, in each encoding.
+/// The spans of the table, and what is inserted there.
+const SPANS: [((u32, u32), (u32, u32)); 7] = [
+    ((1, 0), (1, 1)),
+    ((1, 0), (1, 0)),
+    ((0, 1), (1, 0)),
+    ((0, 1), (0, 1)),
+    ((1, 0), (2, 0)),
+    ((0, 0), (4, 4)),
+    ((0, 2), (0, 1)),
+];
+
+const INSERTED: [&str; 5] = ["", "\n", "\r", "\r\n\r", "x"];
+
+/// Makes an edit on a text and then every other one, in each encoding.
 fn agree_after(
     rt: &impl Abort,
     alloc: Global,
@@ -325,37 +338,43 @@ fn agree_after(
     held: Span,
     inserted: &str,
 ) -> Result<(), Fail> {
-    for (_, first, second, then, _, _) in EDITS {
-        for encoding in ENCODINGS {
-            let mut plain = Plain::from_text(alloc, text)?;
-            let mut lined = Lined::from_text(alloc, text)?;
-            edits_both(rt, &mut plain, &mut lined, encoding, held, inserted, 60);
-            assert!(rt; hold_the_same(alloc, &plain, &lined)?);
-            edits_both(
-                rt,
-                &mut plain,
-                &mut lined,
-                encoding,
-                span(first, second),
-                then,
-                60,
-            );
-            assert!(rt; hold_the_same(alloc, &plain, &lined)?);
+    for encoding in ENCODINGS {
+        let mut plain = Plain::from_text(alloc, text)?;
+        let mut lined = Lined::from_text(alloc, text)?;
+        edits_both(rt, &mut plain, &mut lined, encoding, held, inserted, 60);
+        assert!(rt; hold_the_same(alloc, &plain, &lined)?);
+        for (first, second) in SPANS {
+            for then in INSERTED {
+                let mut plain = plain.copy(alloc)?;
+                let mut lined = lined.copy(alloc)?;
+                edits_both(
+                    rt,
+                    &mut plain,
+                    &mut lined,
+                    encoding,
+                    span(first, second),
+                    then,
+                    60,
+                );
+                assert!(rt; hold_the_same(alloc, &plain, &lined)?);
+            }
         }
     }
     Ok(())
 }
 
-/// Makes each two edits of the table on a text.
+/// Makes every two edits on a text.
 fn agree_on(rt: &impl Abort, alloc: Global, text: &str) -> Result<(), Fail> {
-    for (_, first, second, inserted, _, _) in EDITS {
-        agree_after(rt, alloc, text, span(first, second), inserted)?;
+    for (first, second) in SPANS {
+        for inserted in INSERTED {
+            agree_after(rt, alloc, text, span(first, second), inserted)?;
+        }
     }
     Ok(())
 }
 
 #[test]
-fn both_agree_after_two_edits(rt: HostRuntime) -> Result<(), Fail> {
+fn both_agree_after_every_two_edits(rt: HostRuntime) -> Result<(), Fail> {
     for (text, _, _, _, _, _) in EDITS {
         agree_on(&rt, rt.alloc(), text)?;
     }

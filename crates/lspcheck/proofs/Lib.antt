@@ -3,3 +3,4 @@ pub mod Found
 pub mod Streams
 pub mod Runs
 pub mod Endings
+pub mod Outputs

@@ -61,11 +61,10 @@ pub run_begins : (mode : Mode) (frame : ℕ) (contents more : List (List ℕ)) (
 run_begins mode frame [] more fault parts out outcome are run = (out, ap (λ (w : List ℕ). w ++ out) (sym are))
 run_begins mode frame (c ∷ cs) more fault parts out outcome are (inl x) =
     let first = one_part mode frame c x.0 are.0 x.2 are.2 in
-    let others = run_begins mode (frame + 1) cs more fault are.1 x.1 outcome are.3 x.3 in
-    (
+    let others = run_begins mode (frame + 1) cs more fault are.1 x.1 outcome are.3 x.3 in (
       others.0,
       x.4 ∙ ap (λ (w : List ℕ). w ++ x.1) first ∙ ap (λ (w : List ℕ). are.0 ++ w) others.1
-      ∙ sym (append_assoc are.0 are.1 others.0) ∙ ap (λ (w : List ℕ). w ++ others.0) (sym are.4),
+          ∙ sym (append_assoc are.0 are.1 others.0) ∙ ap (λ (w : List ℕ). w ++ others.0) (sym are.4),
     )
 run_begins mode frame (c ∷ cs) more fault parts out outcome are (inr x) = absurd (not_refused mode frame c are.0 x.0 are.2 x.1)
 

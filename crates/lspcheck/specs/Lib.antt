@@ -4,3 +4,4 @@ pub mod Report
 pub mod Parts
 pub mod Run
 pub mod Steps
+pub mod Laws

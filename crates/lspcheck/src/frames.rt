@@ -1,4 +1,5 @@
-//! A run over one raw stream: one direction of what passed between an editor and a server.
+//! A run over one raw stream of frames (LSP 3.17, "Base Protocol"): one direction of what passed
+//! between an editor and a server.
 ghost use Rattle.std.specs.Prelude.{◌≡◌, ◌≤◌, ◌<◌, ◌+◌, ◌^◌, ℕ, List, length, None, false, IfOk, OnErr, vec_len};
 ghost use Rattle.std.specs.Io.KnownBytes.{IsAtEnd};
 ghost use Rattle.lsp_frame.specs.Bounds.{IsInRange};
@@ -10,22 +11,21 @@ ghost use Rattle.lspcheck.specs.Steps.{WritesPart, AreParts, Finds, PartsAnswer,
 
 use crate::outcome::{Mode, Outcome, RunFault, StreamFault};
 use crate::report::stream_report;
-use lsp_frame::{
-    Decoder, Limits, Sink, Source, WriteFault, put_all, put_number, write_frame,
-};
+use lsp_frame::{Decoder, Limits, Sink, Source, WriteFault, put_all, put_number, write_frame};
 use lsp_rpc::{RpcFault, words_of};
 use std::alloc::{AllocError, Global};
 
 /// How many bytes are asked of the source at once.
 const PIECE: usize = 65_536;
 
+/// The buffer that the source fills, piece after piece.
 fn piece_buffer(alloc: Global) -> Result<Vec<u8>, AllocError>
     ensures { IfOk result (λ buffer. 0 < vec_len buffer) }
 {
     vec![in alloc; 0; PIECE]
 }
 
-/// Writes the frame's number and the bytes of its content, and the end.
+/// Writes the frame's number, the length of its content in bytes, and the end.
 fn write_numbers<W: Sink>(
     writer: &mut W,
     frame: u64,
@@ -42,6 +42,7 @@ fn write_numbers<W: Sink>(
     put_all(writer, end)
 }
 
+/// Writes a frame's numbers and the words that name its message.
 fn write_kind_line<W: Sink>(
     writer: &mut W,
     frame: u64,
@@ -57,7 +58,8 @@ fn write_kind_line<W: Sink>(
     put_all(writer, b"\n")
 }
 
-/// Writes the words of the content's message, or gives the rule that it breaks.
+/// Writes the line of the message that the content is (JSON-RPC 2.0, sections 4 and 5), or gives the
+/// rule that it breaks.
 fn write_kind<W: Sink>(
     alloc: Global,
     writer: &mut W,
@@ -101,8 +103,8 @@ fn write_part<W: Sink>(
     Ok(None)
 }
 
-/// Writes the part of each whole frame, until nothing whole is left or a fault is met, whose rule is
-/// given.
+/// Writes the part of each whole frame that the decoder holds and counts it, until nothing whole is
+/// left or a fault is met, whose rule is given.
 fn write_found<W: Sink>(
     alloc: Global,
     decoder: &mut Decoder,
@@ -217,10 +219,15 @@ fn write_closing<W: Sink>(
     Ok(())
 }
 
-/// Reads one raw stream of frames, and writes for each frame what the mode says. In `Canonical` the
-/// report of a fault is the caller's to show; in the other modes it follows on the same sink.
+/// Reads one raw stream of frames (LSP 3.17, "Base Protocol"), and writes for each frame what the
+/// mode says. In `Canonical` the report of a fault is the caller's to show; in the other modes it
+/// follows on the same sink.
 ///
-/// A stream of more bytes than the limit is read by its first that many, and one byte more.
+/// A stream of more bytes than the log limit is judged by its first that many; one byte more is read
+/// to see that it goes on.
+///
+/// The answer is `Read` where the source failed, `Write` where the sink did, and `Memory` where
+/// memory was refused; what was written before stays written.
 pub fn run_frames<R: Source, W: Sink>(
     alloc: Global,
     reader: &mut R,

@@ -6,6 +6,7 @@
 
 mod command;
 mod frames;
+mod laws;
 mod outcome;
 mod report;
 mod status;

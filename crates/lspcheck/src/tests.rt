@@ -233,6 +233,43 @@ fn canonical_frames_without_the_report(rt: HostRuntime) {
     }
 }
 
+/// The canonical frames of a request, a shutdown, an exit and three answers.
+const MESSAGES: &[u8] =
+    b"Content-Length: 75\r\n\r\n{\"jsonrpc\":\"2.0\",\"id\":1,\"method\":\"initialize\",\"params\":{\"capabilities\":{}}}Content-Length: 58\r\n\r\n{\"jsonrpc\":\"2.0\",\"id\":2,\"method\":\"shutdown\",\"params\":null}Content-Length: 33\r\n\r\n{\"jsonrpc\":\"2.0\",\"method\":\"exit\"}Content-Length: 38\r\n\r\n{\"jsonrpc\":\"2.0\",\"id\":2,\"result\":null}Content-Length: 62\r\n\r\n{\"jsonrpc\":\"2.0\",\"id\":7,\"error\":{\"code\":-32800,\"message\":\"c\"}}Content-Length: 41\r\n\r\n{\"jsonrpc\":\"2.0\",\"id\":null,\"result\":null}";
+
+#[test]
+fn kinds_up_to_the_first_content_that_is_no_message(rt: HostRuntime) {
+    let rows: [(&[u8], Result<Outcome, RunFault>, &str); 4] = [
+        (
+            MESSAGES,
+            Ok(Outcome::Done),
+            "1 75 request 1 \"initialize\"\n2 58 request 2 \"shutdown\"\n3 33 notification \"exit\"\n4 38 result 2\n5 62 error 7 -32800\n6 41 result null\n",
+        ),
+        (
+            b"Content-Length: 9\r\n\r\n{\"a\":\"\xc3\xa9\"}",
+            fault(1, 201),
+            "fault 201 frame 1\ncontent is not JSON\n",
+        ),
+        (
+            b"Content-Length: 33\r\n\r\n{\"jsonrpc\":\"2.0\",\"method\":\"exit\"}Content-Length: 2\r\n\r\n[]\n\n",
+            fault(2, 202),
+            "1 33 notification \"exit\"\nfault 202 frame 2\nmessage is not an object\n",
+        ),
+        (
+            b"Content-Length: 33\r\n\r\n{\"jsonrpc\":\"2.0\",\"method\":\"exit\"}Content",
+            fault(2, 107),
+            "1 33 notification \"exit\"\nfault 107 frame 2\nstream ends inside a frame\n",
+        ),
+    ];
+    for (stream, ended, output) in rows {
+        for single_bytes in [false, true] {
+            let (answer, written) = run_in_pieces(rt.alloc(), stream, single_bytes, Mode::Kinds);
+            assert_eq!(rt; answer, ended, "{output}");
+            assert_eq!(rt; written.as_slice(), output.as_bytes());
+        }
+    }
+}
+
 /// Two frames, and then a header part that is cut off: 41 bytes, so 42 calls read it by single bytes.
 const CUT_OFF: &[u8] = b"Content-Length: 1\r\n\r\n1Content-Length: 2\r\n";
 

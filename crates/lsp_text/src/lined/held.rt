@@ -9,21 +9,16 @@ ghost use Rattle.lsp_text.specs.Places.{units};
 ghost use Rattle.lsp_text.specs.Rewriting.{but_last, with_text};
 ghost use lib.Utf8.{encodes};
 
-use crate::counts::measure;
+use super::counted::CountedLine;
 use crate::cut::FirstLine;
 use lsp_rpc::Encoding;
 use std::alloc::{AllocError, Global};
 use std::marker::Model;
 
-/// A line with its end, and its counts.
+/// A counted line behind a pointer, so that the entries of a long text are moved at a small cost.
 #[derive(Drop)]
 pub(super) struct HeldLine {
-    // The line, and then its end.
-    text: String,
-    // The bytes, the characters and the units of UTF-16 before the end.
-    body: usize,
-    chars: u64,
-    utf16: u64,
+    line: Box<CountedLine>,
 }
 
 impl Model for HeldLine {
@@ -31,11 +26,7 @@ impl Model for HeldLine {
 
     ghost Value = { Line };
 
-    ghost use Rattle.lsp_text.specs.HeldLine.{line_of, IsHeldLine};
-
-    ghost view = { line_of };
-
-    ghost invariant = { IsHeldLine };
+    ghost view = { λ a. a.line.value };
 }
 
 impl HeldLine {
@@ -45,15 +36,9 @@ impl HeldLine {
         requires end { units Encoding.Utf8 (chars end.now) ≡ length (chars end.now) }
         ensures { IfOk result (λ line. line ≡ record { text = chars text.now; end = chars end.now }) }
     {
-        let mut whole = String::with_capacity(alloc, text.len() + end.len())?;
-        whole.push_str(text)?;
-        whole.push_str(end)?;
-        let counts = measure(text);
+        let line = CountedLine::new(alloc, text, end)?;
         Ok(HeldLine {
-            text: whole,
-            body: text.len(),
-            chars: counts.chars,
-            utf16: counts.utf16,
+            line: Box::new(alloc, line)?,
         })
     }
 
@@ -61,54 +46,17 @@ impl HeldLine {
     fn copy(&self, alloc: Global) -> Result<HeldLine, AllocError>
         ensures { IfOk result (λ line. line ≡ self.now) }
     {
+        let line = self.line.copy(alloc)?;
         Ok(HeldLine {
-            text: String::from_str(alloc, self.text.as_str())?,
-            body: self.body,
-            chars: self.chars,
-            utf16: self.utf16,
+            line: Box::new(alloc, line)?,
         })
     }
-}
 
-impl HeldLine {
-    /// The line and its end.
-    pub(super) fn as_str(&self) -> &str
-        ensures { chars result.now ≡ spelled self.now }
+    /// Its text, end and counts.
+    pub(super) fn counted(&self) -> &CountedLine
+        ensures { result.now ≡ self.now }
     {
-        self.text.as_str()
-    }
-
-    /// The bytes of the line without its end.
-    pub(super) fn body_len(&self) -> usize
-        ensures { result ≡ units Encoding.Utf8 self.now.text }
-    {
-        self.body
-    }
-
-    /// The units of the line without its end.
-    pub(super) fn width(&self, encoding: Encoding) -> u64
-        ensures { result ≡ units encoding self.now.text }
-    {
-        match encoding {
-            Encoding::Utf8 => self.body as u64,
-            Encoding::Utf16 => self.utf16,
-            Encoding::Utf32 => self.chars,
-        }
-    }
-
-    /// The characters of the line and its end.
-    fn count(&self) -> u64
-        ensures { result ≡ length (spelled self.now) }
-    {
-        let end = self.text.as_str().len() - self.body;
-        self.chars + end as u64
-    }
-
-    /// The bytes of the line and its end.
-    fn len(&self) -> usize
-        ensures { result ≡ units Encoding.Utf8 (spelled self.now) }
-    {
-        self.text.as_str().len()
+        &self.line
     }
 
     /// Puts a text in the place of the bytes from `from` up to `to`, which lie before the line's end.
@@ -120,16 +68,7 @@ impl HeldLine {
         ensures ok { OnOk result (self.new ≡ with_text self.old (chars (replace_range (encodes self.old.text) from to text.now))) }
         ensures err { OnErr result (self.new ≡ self.old) }
     {
-        let end = self.text.as_str().len() - self.body;
-        let (front, _) = self.text.as_str().split_at(to);
-        let (_, between) = front.split_at(from);
-        let removed = measure(between);
-        let inserted = measure(text);
-        self.text.replace_range(from..to, text)?;
-        self.body = self.text.as_str().len() - end;
-        self.chars = self.chars - removed.chars + inserted.chars;
-        self.utf16 = self.utf16 - removed.utf16 + inserted.utf16;
-        Ok(())
+        self.line.replace(from, to, text)
     }
 }
 
@@ -180,7 +119,7 @@ pub(super) fn bytes_of(lines: &[HeldLine]) -> u64
 {
     let mut bytes = 0;
     for line in lines {
-        bytes += line.len() as u64;
+        bytes += line.counted().len() as u64;
     }
     bytes
 }
@@ -192,7 +131,7 @@ pub(super) fn chars_of(lines: &[HeldLine]) -> u64
 {
     let mut chars = 0;
     for line in lines {
-        chars += line.count();
+        chars += line.counted().count();
     }
     chars
 }
@@ -203,7 +142,7 @@ pub(super) fn spell(lines: &[HeldLine], text: &str) -> bool
 {
     let mut rest = text.as_bytes();
     for line in lines {
-        let held = line.as_str().as_bytes();
+        let held = line.counted().as_str().as_bytes();
         if !rest.starts_with(held) {
             return false;
         }
@@ -218,7 +157,7 @@ pub(super) fn joined(alloc: Global, lines: &[HeldLine], bytes: usize) -> Result<
 {
     let mut text = String::with_capacity(alloc, bytes)?;
     for line in lines {
-        text.push_str(line.as_str())?;
+        text.push_str(line.counted().as_str())?;
     }
     Ok(text)
 }

@@ -6,9 +6,9 @@ ghost use Rattle.std.specs.String.{string_bytes};
 ghost use Rattle.lsp_text.specs.Lines.{lines_of, text_of, spelled};
 ghost use Rattle.lsp_text.specs.Places.{units};
 ghost use Rattle.lsp_text.specs.Steps.{raised, line_at, line_number};
-ghost use lib.Utf8.{encodes};
 ghost use Rattle.lsp_text.specs.Offsets.{IsSkipped};
 ghost use Rattle.lsp_text.specs.Rewriting.{rewritten, line_after, StandsApart, StaysInLine};
+ghost use lib.Utf8.{encodes};
 
 use super::held::{HeldLine, bytes_of, chars_of, copies, cut, cut_before, joined, put, spell};
 use crate::columns::Skipped;
@@ -106,7 +106,7 @@ impl Lines {
         requires { i < length (lines_of self.now) }
         ensures { result ≡ units Encoding.Utf8 (line_at i self.now).text }
     {
-        self.items[i].body_len()
+        self.items[i].counted().body_len()
     }
 
     /// The units of a line before its end.
@@ -114,7 +114,7 @@ impl Lines {
         requires { i < length (lines_of self.now) }
         ensures { result ≡ units encoding (line_at i self.now).text }
     {
-        self.items[i].width(encoding)
+        self.items[i].counted().width(encoding)
     }
 
     /// The bytes of the lines from `first` to `last`.
@@ -132,7 +132,7 @@ impl Lines {
         ensures value { chars result.now ≡ spelled (line_at i self.now) }
         ensures counted { steps.new ≡ raised steps.old (length result.now) }
     {
-        let text = self.items[i].as_str();
+        let text = self.items[i].counted().as_str();
         steps.add(text.len());
         text
     }
@@ -142,7 +142,7 @@ impl Lines {
         requires { i < length (lines_of self.now) }
         ensures { chars result.now ≡ spelled (line_at i self.now) }
     {
-        self.items[i].as_str()
+        self.items[i].counted().as_str()
     }
 
     /// The characters of the lines before one.

@@ -1,4 +1,4 @@
-use Rattle.std.proofs.Common.{◌≡◌, ◌∙◌, sym, ap, []}
+use Rattle.std.proofs.Common.{◌∙◌, sym, ap, []}
 use Rattle.std.specs.Prelude.{int_lt}
 use Rattle.std.proofs.lemmas.Option.{same_Some}
 use Rattle.lsp_docs.proofs.Accepted.{accepted-split, risen}

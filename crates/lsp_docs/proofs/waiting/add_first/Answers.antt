@@ -1,4 +1,4 @@
-use Rattle.std.proofs.Common.{◌≡◌, refl, sym, ap, ◌∙◌, ◌++◌, ◌∷◌, []}
+use Rattle.std.proofs.Common.{ap, ◌∙◌, ◌++◌, ◌∷◌, []}
 use Rattle.lsp_docs.specs.Kept.{versions, version_of, queues_in}
 use Rattle.lsp_docs.proofs.Queues.{add_in-new}
 use Rattle.lsp_docs.proofs.waiting.add_first.Goals as goal

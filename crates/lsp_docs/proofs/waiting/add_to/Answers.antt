@@ -1,4 +1,4 @@
-use Rattle.std.proofs.Common.{◌≡◌, refl, sym, ap, ◌∙◌, ◌∷◌, [], rules}
+use Rattle.std.proofs.Common.{◌≡◌, sym, ap, ◌∙◌, ◌∷◌, [], rules}
 use Rattle.lsp_docs.specs.Kept.{versions, version_of, queues_in}
 use Rattle.lsp_docs.proofs.Words.{map-append}
 use Rattle.lsp_docs.proofs.Queues.{add_in-there, queued-same}

@@ -1,4 +1,4 @@
-use Rattle.std.proofs.Common.{◌≡◌, refl, sym, ap, ◌∙◌, filter, length, w32}
+use Rattle.std.proofs.Common.{sym, ap, ◌∙◌, filter, length, w32}
 use Rattle.std.proofs.lemmas.Int.{to_z-of_z}
 use mir.Val.{SFits}
 use Rattle.lsp_docs.specs.State.{is_after, is_before}

@@ -1,7 +1,7 @@
-use Rattle.std.proofs.Common.{◌≡◌, ℕ, List, Ok, ap, sym, ◌∙◌}
+use Rattle.std.proofs.Common.{ℕ, List, ap, sym, ◌∙◌}
 use Rattle.std.specs.Str.{chars}
-use Rattle.lsp_text.specs.Edits.{changed, IsFaultOf}
-use Rattle.lsp_text.proofs.Applied.{none_made, one_more_made, fault_made, makes_first}
+use Rattle.lsp_text.specs.Edits.{changed}
+use Rattle.lsp_text.proofs.Applied.{none_made, one_more_made, makes_first}
 use Rattle.lsp_text.proofs.Editing.{on_err}
 use Rattle.lsp_text.proofs.changes.change_all.Goals as goal
 

@@ -1,4 +1,4 @@
-use Rattle.std.proofs.Common.{◌≡◌, refl, sym, ap, ◌∙◌, Some, map, string_bytes, option_map}
+use Rattle.std.proofs.Common.{sym, ap, ◌∙◌, Some, map, string_bytes, option_map}
 use Rattle.std.specs.Prelude.{slice_get}
 use Rattle.lsp_docs.specs.Documents.{Held}
 use Rattle.lsp_docs.proofs.Entries.{uri-at}

@@ -1,4 +1,4 @@
-use Rattle.std.proofs.Common.{◌≡◌, ap, ◌∙◌, refl, sym, subst, is_some, option_map, ◌∷◌, [], w32}
+use Rattle.std.proofs.Common.{ap, ◌∙◌, refl, sym, subst, is_some, option_map, ◌∷◌, [], w32}
 use Rattle.std.proofs.lemmas.Int.{to_z-of_z}
 use mir.Val.{SFits}
 use Rattle.lsp_text.specs.Edits.{applied}

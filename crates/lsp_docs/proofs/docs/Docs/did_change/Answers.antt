@@ -1,10 +1,9 @@
-use Rattle.std.proofs.Common.{◌≡◌, ap, ◌∙◌, refl, sym, subst, List, ◌++◌, ◌∷◌, [], None, Some, map, w32, rules}
+use Rattle.std.proofs.Common.{◌∙◌, sym, subst, List, ◌++◌, ◌∷◌, [], map, w32, rules}
 use Rattle.std.proofs.lemmas.Int.{to_z-of_z}
 use mir.Val.{SFits}
 use Rattle.lsp_docs.specs.Calls.{Call, changes}
-use Rattle.lsp_docs.specs.Documents.{versioned}
 use Rattle.lsp_docs.specs.Rules.{call_rule}
-use Rattle.lsp_docs.specs.State.{Stands, held_in, set_in, queue_of, rule_at, reached}
+use Rattle.lsp_docs.specs.State.{Stands, held_in, queue_of, reached}
 use Rattle.lsp_text.specs.Changes.{edits_of}
 use Rattle.lsp_docs.specs.Fault.{Names}
 use Rattle.lsp_docs.proofs.Stepping.{Stands-changed, names-stands, rule-stands, early-rule, late-rule, stated}

@@ -1,12 +1,12 @@
-use Rattle.std.proofs.Common.{◌≡◌, ap, ◌∙◌, refl, sym, subst, List, ◌++◌, ◌∷◌, [], None, Some, w32, not, true, if◌then◌else◌, rules, map}
+use Rattle.std.proofs.Common.{ap, ◌∙◌, sym, subst, List, ◌++◌, ◌∷◌, [], w32, rules, map}
 use Rattle.std.specs.Str.{chars}
 use Rattle.std.specs.List.{list_any}
 use Rattle.std.proofs.lemmas.Int.{to_z-of_z}
 use mir.Val.{SFits}
 use Rattle.lsp_docs.specs.Calls.{Call, opens}
 use Rattle.lsp_docs.specs.Documents.{versioned}
-use Rattle.lsp_docs.specs.Rules.{differs, version_rule, call_rule}
-use Rattle.lsp_docs.specs.State.{Stands, held_in, queue_of, rule_at, reached}
+use Rattle.lsp_docs.specs.Rules.{differs, call_rule}
+use Rattle.lsp_docs.specs.State.{Stands, held_in, queue_of, reached}
 use Rattle.lsp_docs.specs.Fault.{Names}
 use Rattle.lsp_docs.proofs.Stepping.{Stands-opened, names-stands, open-early, open-late, rule-stands, stated, version-refuted, version-agrees}
 use Rattle.lsp_docs.proofs.Entries.{seen}

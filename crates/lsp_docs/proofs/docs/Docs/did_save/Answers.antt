@@ -1,8 +1,8 @@
-use Rattle.std.proofs.Common.{◌≡◌, ℕ, ap, ◌∙◌, refl, sym, List, None, Some, Option, option_map, Bor}
+use Rattle.std.proofs.Common.{ℕ, ap, ◌∙◌, sym, List, Option, option_map, Bor}
 use Rattle.std.specs.Str.{chars}
-use Rattle.lsp_docs.specs.Calls.{Call, saves}
-use Rattle.lsp_docs.specs.Documents.{Version, versioned}
-use Rattle.lsp_docs.specs.State.{Stands, held_in, queue_of, rule_at}
+use Rattle.lsp_docs.specs.Calls.{saves}
+use Rattle.lsp_docs.specs.Documents.{versioned}
+use Rattle.lsp_docs.specs.State.{held_in, queue_of, rule_at}
 use Rattle.lsp_docs.proofs.Stepping.{Stands-saved, rule-stands, save-differs, save-same, save-no-text, save-closed}
 use Rattle.lsp_docs.proofs.docs.Docs.did_save.Goals as goal
 

@@ -1,10 +1,9 @@
-use Rattle.std.proofs.Common.{◌≡◌, ap, ◌∙◌, refl, sym, false, w32, rules, arith, ◌∷◌, []}
+use Rattle.std.proofs.Common.{◌≡◌, ap, ◌∙◌, sym, false, w32, rules, arith, ◌∷◌, []}
 use Rattle.std.proofs.lemmas.Grind.{common_steps}
-use Rattle.std.specs.Prelude.{OnOk}
 use Rattle.std.specs.List.{list_any}
 use Rattle.std.proofs.lemmas.Int.{to_z-of_z}
 use mir.Val.{SFits}
-use Rattle.lsp_docs.specs.State.{queue_of, is_at, IsChanged, changed_at}
+use Rattle.lsp_docs.specs.State.{queue_of, is_at, changed_at}
 use Rattle.lsp_docs.specs.Kept.{version_of}
 use Rattle.lsp_text.specs.Changes.{edits_of}
 use Rattle.lsp_docs.proofs.Words.{any-map}

@@ -1,4 +1,4 @@
-use Rattle.std.proofs.Common.{◌≡◌, refl, sym, ap, ◌∙◌, subst, List, ◌++◌, ◌∷◌, [], map, w32, rules}
+use Rattle.std.proofs.Common.{sym, ap, ◌∙◌, subst, List, ◌++◌, ◌∷◌, [], map, w32, rules}
 use Rattle.std.specs.Str.{chars}
 use Rattle.std.proofs.lemmas.Int.{to_z-of_z}
 use mir.Val.{SFits}

@@ -1,4 +1,4 @@
-use Rattle.std.proofs.Common.{◌≡◌, ◌+◌, refl, sym, ap, ◌∙◌}
+use Rattle.std.proofs.Common.{◌+◌, sym, ap, ◌∙◌}
 use Rattle.std.specs.Prelude.{length}
 use Rattle.lsp_docs.specs.Snapshots.{waiting}
 use Rattle.lsp_docs.specs.Missed.{missed}

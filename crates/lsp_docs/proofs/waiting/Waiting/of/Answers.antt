@@ -1,4 +1,4 @@
-use Rattle.std.proofs.Common.{refl, sym, ap, ◌∙◌}
+use Rattle.std.proofs.Common.{sym, ap, ◌∙◌}
 use Rattle.lsp_docs.specs.Kept.{versions}
 use Rattle.lsp_docs.proofs.Queues.{queue_of-there, queue_of-absent}
 use Rattle.lsp_docs.proofs.waiting.Waiting.of.Goals as goal

@@ -1,26 +1,31 @@
-use Rattle.std.proofs.Common.{◌≤◌, length, refl, sym, ap, ◌∙◌, arith}
-use Rattle.std.proofs.lemmas.Option.{slice_get_past}
+use Rattle.std.proofs.Common.{◌≡◌, Some, option_map, sym, ap, ◌∙◌}
+use Rattle.std.specs.Prelude.{option_and_then, slice_get}
+use Rattle.std.proofs.lemmas.Option.{slice_get-get_or, slice_get_past}
+use Rattle.lsp_rpc.specs.Ident.{id_view}
+use Rattle.lsp_rpc.specs.contracts.message.IdPartialEq.TheImpl.{eq-value}
 use Rattle.lsp_session.specs.Entry.{request_view}
-use Rattle.lsp_session.specs.Held.{entries_of}
-use Rattle.std.specs.Prelude.{option_map}
-use Rattle.lsp_session.proofs.Entries.{entry_at, length-entries_of, option_map-copied, slice_get-entries_of}
+use Rattle.lsp_session.specs.Held.{request_of}
+use Rattle.lsp_session.proofs.Entries.{lookup-request_of, option_map-copied, slice_get-entries_of}
+use Rattle.lsp_session.proofs.Ids.{eq_is_same_id}
 use Rattle.lsp_session.proofs.pending.Pending.at.Goals as goal
 
-pub overflow_sub-held : goal.overflow_sub-held
-overflow_sub-held c =
-    let all = length-entries_of _ _ c.self.invariant.order in
-    omega (arith, all, c.len-held.ensures.len)
-
-pub returns-then-index-held : goal.returns-then-index-held
-returns-then-index-held c =
-    let all = length-entries_of _ _ c.self.invariant.order in
-    let past : length (entries_of c.self.inside.requests.entries) ≤ c.args.index = omega (arith, all, c.len-held.ensures.len, c.if-index-held.true) in
-    rw (← c.self.view_is) (sym (slice_get_past _ c.args.index past))
+pub returns-in_err-id : goal.returns-in_err-id
+returns-in_err-id c =
+    let es = c.self.inside.requests.entries in
+    let ids = c.self.inside.order.items in
+    rw (← c.self.view_is, c.from_residual.ensures)
+    (sym (slice_get-entries_of (request_of es) ids c.args.index c.self.invariant.have
+    ∙ ap (option_and_then (λ id. option_map request_view (request_of es (id_view id)))) (slice_get_past ids c.args.index c.in_err-id.ensures.item.3)))
 
 pub returns : goal.returns
 returns c =
+    let es = c.self.inside.requests.entries in
+    let ids = c.self.inside.order.items in
+    let id = c.in_ok-id.id.now in
+    let place : slice_get ids c.args.index ≡ Some id =
+    slice_get-get_or ids c.args.index id c.in_ok-id.ensures.item.3.0 ∙ ap (λ x. Some x) (sym c.in_ok-id.ensures.lookup) in
     rw (← c.self.view_is)
-    (option_map-copied c.as_ref.result
-    ∙ (ap (option_map request_view) c.as_ref.ensures.value
-    ∙ (ap entry_at c.in_ok-request.ensures.entry
-    ∙ sym (slice_get-entries_of _ _ c.self.invariant.order c.args.index _ refl))))
+    (option_map-copied c.get-2.result
+    ∙ (ap (option_map request_view) (c.get-2.ensures.value ∙ lookup-request_of ((eq-value).it id) (id_view id) (eq_is_same_id id) es)
+    ∙ sym (slice_get-entries_of (request_of es) ids c.args.index c.self.invariant.have
+    ∙ ap (option_and_then (λ k. option_map request_view (request_of es (id_view k)))) place)))

@@ -1,13 +1,6 @@
-use Rattle.std.proofs.Common.{arith}
+use Rattle.std.proofs.Common.{sym, ◌∙◌}
 use Rattle.lsp_session.proofs.Entries.{length-entries_of}
 use Rattle.lsp_session.proofs.pending.Pending.len.Goals as goal
 
-pub overflow_sub-result : goal.overflow_sub-result
-overflow_sub-result c =
-    let all = length-entries_of _ _ c.self.invariant.order in
-    omega (arith, all, c.len.ensures.len)
-
 pub returns : goal.returns
-returns c =
-    let all = length-entries_of _ _ c.self.invariant.order in
-    rw (← c.self.view_is) (omega (arith, all, c.len.ensures.len))
+returns c = rw (← c.self.view_is) (c.len.ensures ∙ c.self.inside.order.ok.0 ∙ sym (length-entries_of _ _ c.self.invariant.have))

@@ -14,7 +14,7 @@ returns-then-not-starts_with c =
     let ls = c.args.lines.now in
     let l = c.line-item.result in
     let held = c.as_bytes-held.result.now in
-    let line : encodes (spelled l) ≡ held = ap encodes (sym c.as_str.ensures) ∙ encodes-chars c.as_str.result.now c.as_str.utf8 ∙ sym c.as_bytes-held.ensures.value in
+    let line : encodes (spelled l) ≡ held = ap encodes (sym (c.as_str.ensures ∙ ap spelled c.counted.ensures)) ∙ encodes-chars c.as_str.result.now c.as_str.utf8 ∙ sym c.as_bytes-held.ensures.value in
     let starts = starts_is Decides-eqb c.loop-line.rest.now held c.starts_with.result c.starts_with.ensures.value in (
       λ t. absurd (false≢true t),
       λ same.
@@ -28,7 +28,7 @@ loop-line-preserved c =
     let l = c.line-item.result in
     let held = c.as_bytes-held.result.now in
     let rest = c.loop-line.rest.now in
-    let line : encodes (spelled l) ≡ held = ap encodes (sym c.as_str.ensures) ∙ encodes-chars c.as_str.result.now c.as_str.utf8 ∙ sym c.as_bytes-held.ensures.value in
+    let line : encodes (spelled l) ≡ held = ap encodes (sym (c.as_str.ensures ∙ ap spelled c.counted.ensures)) ∙ encodes-chars c.as_str.result.now c.as_str.utf8 ∙ sym c.as_bytes-held.ensures.value in
     let starts = starts_is Decides-eqb rest held c.starts_with.result c.starts_with.ensures.value in
     spell_more ls c.loop-line.line-index l c.args.text.now rest held (omega arith) c.line-item.is line c.loop-line.invariant (starts.0 c.if-not-starts_with.false)
     ∙ ap (λ x. encodes (text_of (take (c.loop-line.line-index + 1) ls)) ++ x) (sym (tail_is rest (length held)))

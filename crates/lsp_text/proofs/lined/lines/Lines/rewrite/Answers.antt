@@ -1,8 +1,8 @@
-use Rattle.std.proofs.Common.{◌≡◌, ◌+◌, List, ltb, length, arith, ap, sym, ◌∙◌}
+use Rattle.std.proofs.Common.{◌≡◌, ◌+◌, ltb, length, arith, ap, sym, ◌∙◌}
 use Rattle.std.proofs.lemmas.Bool.{ltb-true, ltb-false}
 use Rattle.std.specs.Str.{chars}
 use Rattle.lsp_rpc.specs.declared.plain.Encoding.TheVariants.{Utf8}
-use Rattle.lsp_text.specs.Lines.{Line, lines_of}
+use Rattle.lsp_text.specs.Lines.{lines_of}
 use Rattle.lsp_text.specs.Places.{units}
 use Rattle.lsp_text.proofs.Rewrites.{IsRewritten, IsKept, rewritten_by, kept_after}
 use Rattle.lsp_text.proofs.lined.lines.Lines.rewrite.Goals as goal

@@ -8,4 +8,4 @@ pub returns : goal.returns
 returns c =
     let lines : lines_of c.args.self.now ≡ c.self.inside.items.items = ap lines_of (sym c.self.view_is) ∙ c.self.invariant.lines in
     c.width.ensures
-    ∙ ap (λ (l : Line). units c.args.encoding l.text) (line_of_kept c.args.self.now c.self.inside.items.items c.args.i c.index.result.now lines (omega (arith, ap length lines)) c.index.ensures)
+    ∙ ap (λ (l : Line). units c.args.encoding l.text) (c.counted.ensures ∙ line_of_kept c.args.self.now c.self.inside.items.items c.args.i c.index.result.now lines (omega (arith, ap length lines)) c.index.ensures)

@@ -1,0 +1,65 @@
+-- Small logs, computed by the definitions.
+use Rattle.std.proofs.Common.{◌≡◌, ℕ, List, true, false, ap, ◌∷◌, [], Some, None, refl, inl, inr, lit<}
+use Rattle.std.specs.Prelude.{pos, negsuc, codes, slice_index, ◌==◌}
+use Rattle.std.specs.Fmt.{digits}
+use Rattle.lsp_rpc.specs.declared.plain.Side.TheVariants.{Editor, Server}
+use Rattle.lsp_frame.specs.Bounds.{profile}
+use Rattle.lsp_log.specs.declared.fault.LogCode.TheVariants.{L1, L3}
+use Rattle.lsp_log.specs.Log.{chunk, shown, spelling, IsLog, Breaks, bad_number, cut_short, bad_end, chunk_head}
+
+a_snapshot : spelling (shown (pos 1) (codes "file:///a") (codes "ab")) ≡ codes "T 1 9 2\nfile:///a\nab\n"
+unfolding digits
+a_snapshot = refl
+
+a_version_below_zero : spelling (shown (negsuc 6) (codes "a") []) ≡ codes "T -7 1 0\na\n\n"
+unfolding digits
+a_version_below_zero = refl
+
+bytes_that_were_read : spelling (chunk Server (codes "abc")) ≡ codes "S 3\nabc\n"
+unfolding digits
+bytes_that_were_read = refl
+
+no_bytes_are_out_of_range : Breaks profile (codes "E 0\n") bad_number
+unfolding digits
+no_bytes_are_out_of_range = (chunk_head Editor 0, [], record { whole = refl; short = lit< tt; one = refl }, refl, refl)
+
+too_many_bytes_are_out_of_range : Breaks profile (codes "E 1048577\n") bad_number
+unfolding digits
+too_many_bytes_are_out_of_range = (chunk_head Editor 1048577, [], record { whole = refl; short = lit< tt; one = refl }, refl, refl)
+
+a_line_without_its_end_is_cut_short : Breaks profile (codes "X") cut_short
+a_line_without_its_end_is_cut_short = inl (lit< tt, lit< tt, refl)
+
+bytes_without_a_line_end_are_cut_short : Breaks profile (codes "E 2\nab") cut_short
+unfolding digits
+bytes_without_a_line_end_are_cut_short = inr (chunk_head Editor 2, codes "ab", record { line = record { whole = refl; short = lit< tt; one = refl }; range = refl }, refl)
+
+another_byte_is_no_line_end : Breaks profile (codes "E 2\nabc") bad_end
+unfolding digits
+another_byte_is_no_line_end = (chunk_head Editor 2, codes "abc", record { line = record { whole = refl; short = lit< tt; one = refl }; range = refl }, refl)
+
+-- ---- whole logs
+
+the_first_line_alone : IsLog profile (codes "lsp-session 1\n") [] None
+the_first_line_alone = inl (None, record { rest = []; flaw = None; begins = record { whole = refl; fits = tt }; ends = refl; code = refl }, refl)
+
+one_record : IsLog profile (codes "lsp-session 1\nE 3\nabc\n") (chunk Editor (codes "abc") ∷ []) None
+unfolding digits
+one_record = inl (None, record { rest = []; flaw = None; begins = record { whole = refl; fits = (record { range = refl; text = tt }, tt) }; ends = refl; code = refl }, refl)
+
+a_fault_has_the_number_of_its_record : IsLog profile (codes "lsp-session 1\nE 3\nabc\nE 0\n") (chunk Editor (codes "abc") ∷ []) (Some (2, L3))
+unfolding digits
+a_fault_has_the_number_of_its_record = inl (
+  Some L3,
+  record {
+    rest = codes "E 0\n";
+    flaw = Some bad_number;
+    begins = record { whole = refl; fits = (record { range = refl; text = tt }, tt) };
+    ends = no_bytes_are_out_of_range;
+    code = refl;
+  },
+  refl,
+)
+
+another_first_line : IsLog profile (codes "lsp-session 9\n") [] (Some (0, L1))
+another_first_line = inr (refl, refl, λ rest e. let differs : false ≡ true = ap (λ (w : List ℕ). slice_index w 12 == 49) e in absurd cc)

@@ -1,0 +1,132 @@
+//! A line with its counts.
+
+ghost use Rattle.std.specs.Prelude.{◌≡◌, ◌+◌, ◌<◌, ◌≤◌, ◌^◌, length, IfOk, OnOk, OnErr};
+ghost use Rattle.std.specs.List.{replace_range};
+ghost use Rattle.std.specs.Str.{chars, IsCharBoundary};
+ghost use Rattle.lsp_text.specs.Lines.{spelled};
+ghost use Rattle.lsp_text.specs.Places.{units};
+ghost use Rattle.lsp_text.specs.Rewriting.{with_text};
+ghost use lib.Utf8.{encodes};
+
+use crate::counts::measure;
+use lsp_rpc::Encoding;
+use std::alloc::{AllocError, Global};
+use std::marker::Model;
+
+/// A line with its end, and its counts.
+#[derive(Drop)]
+pub(super) struct CountedLine {
+    // The line, and then its end.
+    text: String,
+    // The bytes, the characters and the units of UTF-16 before the end.
+    body: usize,
+    chars: u64,
+    utf16: u64,
+}
+
+impl Model for CountedLine {
+    ghost use Rattle.lsp_text.specs.Lines.{Line};
+
+    ghost Value = { Line };
+
+    ghost use Rattle.lsp_text.specs.CountedLine.{line_of, IsCounted};
+
+    ghost view = { line_of };
+
+    ghost invariant = { IsCounted };
+}
+
+impl CountedLine {
+    /// A line of this text and end.
+    pub(super) fn new(alloc: Global, text: &str, end: &str) -> Result<CountedLine, AllocError>
+        requires fits { length text.now + length end.now < 2 ^ 64 }
+        requires end { units Encoding.Utf8 (chars end.now) ≡ length (chars end.now) }
+        ensures { IfOk result (λ line. line ≡ record { text = chars text.now; end = chars end.now }) }
+    {
+        let mut whole = String::with_capacity(alloc, text.len() + end.len())?;
+        whole.push_str(text)?;
+        whole.push_str(end)?;
+        let counts = measure(text);
+        Ok(CountedLine {
+            text: whole,
+            body: text.len(),
+            chars: counts.chars,
+            utf16: counts.utf16,
+        })
+    }
+
+    /// The same line again.
+    pub(super) fn copy(&self, alloc: Global) -> Result<CountedLine, AllocError>
+        ensures { IfOk result (λ line. line ≡ self.now) }
+    {
+        Ok(CountedLine {
+            text: String::from_str(alloc, self.text.as_str())?,
+            body: self.body,
+            chars: self.chars,
+            utf16: self.utf16,
+        })
+    }
+}
+
+impl CountedLine {
+    /// The line and its end.
+    pub(super) fn as_str(&self) -> &str
+        ensures { chars result.now ≡ spelled self.now }
+    {
+        self.text.as_str()
+    }
+
+    /// The bytes of the line without its end.
+    pub(super) fn body_len(&self) -> usize
+        ensures { result ≡ units Encoding.Utf8 self.now.text }
+    {
+        self.body
+    }
+
+    /// The units of the line without its end.
+    pub(super) fn width(&self, encoding: Encoding) -> u64
+        ensures { result ≡ units encoding self.now.text }
+    {
+        match encoding {
+            Encoding::Utf8 => self.body as u64,
+            Encoding::Utf16 => self.utf16,
+            Encoding::Utf32 => self.chars,
+        }
+    }
+
+    /// The characters of the line and its end.
+    pub(super) fn count(&self) -> u64
+        ensures { result ≡ length (spelled self.now) }
+    {
+        let end = self.text.as_str().len() - self.body;
+        self.chars + end as u64
+    }
+
+    /// The bytes of the line and its end.
+    pub(super) fn len(&self) -> usize
+        ensures { result ≡ units Encoding.Utf8 (spelled self.now) }
+    {
+        self.text.as_str().len()
+    }
+
+    /// Puts a text in the place of the bytes from `from` up to `to`, which lie before the line's end.
+    pub(super) fn replace(&mut self, from: usize, to: usize, text: &str) -> Result<(), AllocError>
+        requires order { from ≤ to }
+        requires before_end { to ≤ units Encoding.Utf8 self.old.text }
+        requires from_boundary { IsCharBoundary (encodes self.old.text) from }
+        requires to_boundary { IsCharBoundary (encodes self.old.text) to }
+        ensures ok { OnOk result (self.new ≡ with_text self.old (chars (replace_range (encodes self.old.text) from to text.now))) }
+        ensures err { OnErr result (self.new ≡ self.old) }
+    {
+        let end = self.text.as_str().len() - self.body;
+        let (front, _) = self.text.as_str().split_at(to);
+        let (_, between) = front.split_at(from);
+        let removed = measure(between);
+        let inserted = measure(text);
+        self.text.replace_range(from..to, text)?;
+        self.body = self.text.as_str().len() - end;
+        self.chars = self.chars - removed.chars + inserted.chars;
+        self.utf16 = self.utf16 - removed.utf16 + inserted.utf16;
+        Ok(())
+    }
+}
