@@ -1,28 +1,24 @@
 //! `lspcheck` judges what passed between an editor and a language server.
 //!
-//! `lspcheck frames` reads one raw stream, one direction of such a session, and writes a line for
-//! each of its frames or their canonical form, or names the first fault.
+//! `lspcheck check` reads the log of a recorded session and reports the verdict on it. `lspcheck
+//! frames` reads one raw stream, one direction of such a session, and writes a line for each of its
+//! frames or their canonical form, or names the first fault.
 #![tactic(auto)]
 
 mod command;
-mod frames;
-mod laws;
-mod outcome;
-mod report;
 mod status;
 #[cfg(test)]
 mod tests;
-mod texts;
 
 use clap::Error;
 use clap::error::ErrorKind;
-use command::{Request, request_of};
-use frames::run_frames;
-use lsp_frame::{Input, Limits, Output};
-use outcome::{Mode, Outcome, RunFault};
-use report::stream_report;
+use command::{Request, Task, request_of};
+use lsp_judge::{
+    Input, Limits, Mode, Outcome, Output, RunFault, run_check, run_frames, stream_report,
+};
 use status::status_of;
-use std::io::{BufWriter, Read, Write};
+use std::alloc::Global;
+use std::io::{BufReader, BufWriter, Read, Write};
 use std::process::ExitCode;
 use std::rt::{Env, Files};
 use std::{env, fs, io, str};
@@ -30,23 +26,43 @@ use std::{env, fs, io, str};
 /// The status where the words of the command line do not parse.
 const USAGE: u8 = 64;
 
-/// How many bytes are gathered before they go to standard output.
+/// How many bytes are gathered before they go to standard output, and asked for at once of a log.
 const GATHERED: usize = 65_536;
+
+/// Does the task over one open stream.
+fn run_task<I: Read + Drop, W: Write>(
+    alloc: Global,
+    task: Task,
+    input: I,
+    writer: &mut W,
+) -> Result<Outcome, RunFault> {
+    let mut sink = Output::new(writer);
+    match task {
+        Task::Check => {
+            // A log is read record by record, with many small reads.
+            let Ok(gathered) = BufReader::with_capacity(alloc, GATHERED, input) else {
+                return Err(RunFault::Memory);
+            };
+            let mut source = Input::new(gathered);
+            run_check(alloc, &mut source, &mut sink, Limits::profile())
+        }
+        Task::Frames(mode) => {
+            let mut source = Input::new(input);
+            run_frames(alloc, &mut source, &mut sink, Limits::profile(), mode)
+        }
+    }
+}
 
 /// Runs over one open stream. What was written reaches standard output also where the run failed.
 fn run_on<R: Print + AllocGlobal, I: Read + Drop>(
     rt: &R,
     input: I,
-    mode: Mode,
+    task: Task,
 ) -> Result<Outcome, RunFault> {
     let Ok(mut writer) = BufWriter::with_capacity(rt.alloc(), GATHERED, io::writer(rt)) else {
         return Err(RunFault::Memory);
     };
-    let ended = {
-        let mut source = Input::new(input);
-        let mut sink = Output::new(&mut writer);
-        run_frames(rt.alloc(), &mut source, &mut sink, Limits::profile(), mode)
-    };
+    let ended = run_task(rt.alloc(), task, input, &mut writer);
     match writer.flush() {
         Err(_) if ended.is_ok() => Err(RunFault::Write),
         _ => ended,
@@ -59,10 +75,10 @@ fn run<R: Files + io::Input + Print + AllocGlobal>(
     request: &Request<'_>,
 ) -> Result<Outcome, RunFault> {
     let Some(path) = request.file else {
-        return run_on(rt, rt.reader(), request.mode);
+        return run_on(rt, rt.reader(), request.task);
     };
     match fs::open(rt, path) {
-        Ok(file) => run_on(rt, file, request.mode),
+        Ok(file) => run_on(rt, file, request.task),
         Err(_) => Err(RunFault::Read),
     }
 }
@@ -70,13 +86,13 @@ fn run<R: Files + io::Input + Print + AllocGlobal>(
 /// Shows on standard error the report that is not part of what the mode writes.
 fn show_report<R: Eprint + AllocGlobal>(
     rt: &R,
-    mode: Mode,
+    task: Task,
     outcome: Outcome,
 ) -> Result<Outcome, RunFault> {
-    if let Outcome::Stream { frame, fault } = outcome
-        && mode == Mode::Canonical
+    if let Outcome::Stream { frame, fault } = &outcome
+        && matches!(task, Task::Frames(Mode::Canonical))
     {
-        let report = stream_report(rt.alloc(), frame, fault)?;
+        let report = stream_report(rt.alloc(), *frame, *fault)?;
         if let Ok(text) = str::from_utf8(report.as_slice()) {
             // A failure of standard error changes nothing.
             let _ = rt.eprint(text);
@@ -87,7 +103,7 @@ fn show_report<R: Eprint + AllocGlobal>(
 
 /// The status of a run, whose fault, if any, is shown on standard error.
 fn status_shown<R: Eprint>(rt: &R, ended: Result<Outcome, RunFault>) -> u8 {
-    if let Err(fault) = ended {
+    if let Err(fault) = &ended {
         let _ = eprintln!(rt; "lspcheck: {fault}");
     }
     status_of(&ended)
@@ -127,7 +143,7 @@ fn answer<R: Env + Files + io::Input + Print + Eprint + AllocGlobal>(rt: &R) -> 
         Err(error) => status_without_run(rt, &error),
         Ok(request) => {
             let ended = match run(rt, &request) {
-                Ok(outcome) => show_report(rt, request.mode, outcome),
+                Ok(outcome) => show_report(rt, request.task, outcome),
                 Err(fault) => Err(fault),
             };
             status_shown(rt, ended)

@@ -1,6 +1,5 @@
 use super::*;
-use crate::outcome::StreamFault;
-use lsp_frame::Sink;
+use lsp_judge::StreamFault;
 use std::alloc::{AllocError, Global};
 use std::test::*;
 
@@ -81,18 +80,23 @@ impl Read for Endless {
     }
 }
 
-fn fault(frame: u64, rule: u16) -> Result<Outcome, RunFault> {
-    let fault = StreamFault::Rule(rule);
-    Ok(Outcome::Stream { frame, fault })
+/// How a run over a stream ended: without a fault, or with that of the frame of this number.
+type Ended = Result<Option<(u64, StreamFault)>, RunFault>;
+
+fn fault(frame: u64, rule: u16) -> Ended {
+    Ok(Some((frame, StreamFault::Rule(rule))))
+}
+
+fn ended_of(answer: &Result<Outcome, RunFault>) -> Ended {
+    match answer {
+        Ok(Outcome::Stream { frame, fault }) => Ok(Some((*frame, *fault))),
+        Ok(_) => Ok(None),
+        Err(fault) => Err(*fault),
+    }
 }
 
 /// Runs over a stream that comes in pieces, and gives the answer and what was written.
-fn run_in_pieces(
-    alloc: Global,
-    stream: &[u8],
-    single_bytes: bool,
-    mode: Mode,
-) -> (Result<Outcome, RunFault>, Vec<u8>) {
+fn run_in_pieces(alloc: Global, stream: &[u8], single_bytes: bool, mode: Mode) -> (Ended, Vec<u8>) {
     let mut written = Vec::new(alloc);
     let mut source = Input::new(Pieces {
         rest: stream,
@@ -103,7 +107,7 @@ fn run_in_pieces(
         let mut sink = Output::new(&mut written);
         run_frames(alloc, &mut source, &mut sink, Limits::profile(), mode)
     };
-    (ended, written)
+    (ended_of(&ended), written)
 }
 
 /// A header part whose field `X` has so many letters, and a content of two bytes.
@@ -120,11 +124,11 @@ fn long_header(alloc: Global, letters: usize) -> Result<Vec<u8>, AllocError> {
 fn lengths_of_streams_whole_and_in_single_bytes(rt: HostRuntime) -> Result<(), Fail> {
     let longest = long_header(rt.alloc(), 4070)?;
     let too_long = long_header(rt.alloc(), 4071)?;
-    let rows: [(&[u8], Result<Outcome, RunFault>, &str); 16] = [
-        (b"", Ok(Outcome::Done), ""),
+    let rows: [(&[u8], Ended, &str); 16] = [
+        (b"", Ok(None), ""),
         (
             b"Content-Length: 10\r\n\r\n{\"a\":\"\xc3\xa9\"}",
-            Ok(Outcome::Done),
+            Ok(None),
             "1 10\n",
         ),
         (
@@ -147,17 +151,13 @@ fn lengths_of_streams_whole_and_in_single_bytes(rt: HostRuntime) -> Result<(), F
             fault(1, 102),
             "fault 102 frame 1\nbad header line\n",
         ),
-        (longest.as_slice(), Ok(Outcome::Done), "1 2\n"),
+        (longest.as_slice(), Ok(None), "1 2\n"),
         (
             too_long.as_slice(),
             fault(1, 101),
             "fault 101 frame 1\nheader part too long\n",
         ),
-        (
-            b"Content-Length: 0000000002\r\n\r\n{}",
-            Ok(Outcome::Done),
-            "1 2\n",
-        ),
+        (b"Content-Length: 0000000002\r\n\r\n{}", Ok(None), "1 2\n"),
         (
             b"Content-Length: 1\r\n\r\n1Content-Length: +2\r\n\r\n{}",
             fault(2, 104),
@@ -180,7 +180,7 @@ fn lengths_of_streams_whole_and_in_single_bytes(rt: HostRuntime) -> Result<(), F
         ),
         (
             b"Content-Type: a; charset=utf8\r\nContent-Length: 0\r\n\r\n",
-            Ok(Outcome::Done),
+            Ok(None),
             "1 0\n",
         ),
         (
@@ -188,7 +188,7 @@ fn lengths_of_streams_whole_and_in_single_bytes(rt: HostRuntime) -> Result<(), F
             fault(1, 106),
             "fault 106 frame 1\ncharset is not utf-8\n",
         ),
-        (b"Content-Length: 0\r\n\r\n", Ok(Outcome::Done), "1 0\n"),
+        (b"Content-Length: 0\r\n\r\n", Ok(None), "1 0\n"),
     ];
     for (stream, ended, output) in rows {
         for single_bytes in [false, true] {
@@ -202,15 +202,15 @@ fn lengths_of_streams_whole_and_in_single_bytes(rt: HostRuntime) -> Result<(), F
 
 #[test]
 fn canonical_frames_without_the_report(rt: HostRuntime) {
-    let rows: [(&[u8], Result<Outcome, RunFault>, &[u8]); 3] = [
+    let rows: [(&[u8], Ended, &[u8]); 3] = [
         (
             b"content-length:0000000002 \r\n\r\n{}",
-            Ok(Outcome::Done),
+            Ok(None),
             b"Content-Length: 2\r\n\r\n{}",
         ),
         (
             b"Content-Type: a; charset=\"UTF8\"\r\nContent-Length: 0\r\n\r\n",
-            Ok(Outcome::Done),
+            Ok(None),
             b"Content-Length: 0\r\n\r\n",
         ),
         (
@@ -239,10 +239,10 @@ const MESSAGES: &[u8] =
 
 #[test]
 fn kinds_up_to_the_first_content_that_is_no_message(rt: HostRuntime) {
-    let rows: [(&[u8], Result<Outcome, RunFault>, &str); 4] = [
+    let rows: [(&[u8], Ended, &str); 4] = [
         (
             MESSAGES,
-            Ok(Outcome::Done),
+            Ok(None),
             "1 75 request 1 \"initialize\"\n2 58 request 2 \"shutdown\"\n3 33 notification \"exit\"\n4 38 result 2\n5 62 error 7 -32800\n6 41 result null\n",
         ),
         (
@@ -295,10 +295,10 @@ fn a_reader_that_fails_at_any_call(rt: HostRuntime) {
             )
         };
         if calls <= CUT_OFF.len() as u64 {
-            assert_eq!(rt; ended, Err(RunFault::Read));
+            assert_eq!(rt; ended_of(&ended), Err(RunFault::Read));
             assert_eq!(rt; status_of(&ended), 3);
         } else {
-            assert_eq!(rt; ended, fault(2, 107));
+            assert_eq!(rt; ended_of(&ended), fault(2, 107));
             assert_eq!(rt; status_of(&ended), 2);
         }
         assert!(rt; CUT_OFF_LINES.starts_with(written.as_slice()));
@@ -326,10 +326,10 @@ fn a_writer_that_fails_or_takes_nothing_at_any_call(rt: HostRuntime) {
                 )
             };
             if calls < CUT_OFF_LINES.len() as u64 {
-                assert_eq!(rt; ended, Err(RunFault::Write));
+                assert_eq!(rt; ended_of(&ended), Err(RunFault::Write));
                 assert_eq!(rt; status_of(&ended), 3);
             } else {
-                assert_eq!(rt; ended, fault(2, 107));
+                assert_eq!(rt; ended_of(&ended), fault(2, 107));
             }
             assert_eq!(rt; writer.bytes.len() as u64, calls);
             assert!(rt; CUT_OFF_LINES.starts_with(writer.bytes.as_slice()));
@@ -352,13 +352,7 @@ fn an_endless_reader_is_read_one_byte_past_the_limit(rt: HostRuntime) -> Result<
         let mut sink = Output::new(&mut written);
         run_frames(rt.alloc(), &mut source, &mut sink, limits, Mode::Lengths)
     };
-    assert_eq!(rt;
-        ended,
-        Ok(Outcome::Stream {
-            frame: 43,
-            fault: StreamFault::TooLong
-        })
-    );
+    assert_eq!(rt; ended_of(&ended), Ok(Some((43, StreamFault::TooLong))));
     assert_eq!(rt; status_of(&ended), 2);
     assert_eq!(rt; written.as_slice(), lines.as_bytes());
     assert_eq!(rt; endless.given, 4097);

@@ -1,0 +1,72 @@
+-- One more event that doesn't offend, and the No at one that does.
+use Rattle.std.proofs.Common.{◌≡◌, ℕ, List, [], ◌∷◌, ◌++◌, Option, Some, None, sym, ap, subst, ◌∙◌, append-nil}
+use Rattle.std.specs.Prelude.{ℤ, option_map}
+use Rattle.std.specs.Option.{option_or}
+use Rattle.std.proofs.lemmas.Option.{same_Some}
+use Rattle.lsp_rpc.specs.declared.plain.Side.{Side}
+use Rattle.lsp_session.specs.Sent.{Sent}
+use Rattle.lsp_session.specs.State as session
+use Rattle.lsp_docs.specs.Calls.{Call, shows}
+use Rattle.lsp_docs.specs.Fault as docs_fault
+use Rattle.lsp_docs.specs.State as docs
+use Rattle.lsp_docs.specs.declared.fault.DocFault.{DocFault}
+use Rattle.lsp_docs.specs.declared.fault.DocFault.TheVariants as faults
+use Rattle.lsp_judge.specs.Calls.{call_at, calls}
+use Rattle.lsp_judge.specs.Contents.{ReadsAs}
+use Rattle.lsp_judge.specs.Event.{Event, message, fault, snapshot, sent_in}
+use Rattle.lsp_judge.specs.Faults.{of_call, Names}
+use Rattle.lsp_judge.specs.Given.{as_given}
+use Rattle.lsp_judge.specs.Rulings.{verdict_in, IsNoAt, IsNoAtSome}
+use Rattle.lsp_judge.specs.Standing.{AreCounts, Holds, Follows}
+use Rattle.lsp_judge.specs.Verdict.{offence, first_no, no_at, no_by, no_next, whose, who_of}
+use Rattle.lsp_judge.specs.declared.counts.Counts.{Counts}
+use Rattle.lsp_judge.specs.declared.ruling.Ruling.{Ruling}
+use Rattle.lsp_judge.specs.declared.ruling.Ruling.TheVariants.{No, BadLog, Memory}
+use Rattle.lsp_judge.specs.declared.verdict.Who.{Who}
+use Rattle.lsp_judge.proofs.LookBackLemmas.{first_of-snoc, each_of-snoc}
+use Rattle.lsp_judge.proofs.Messages.{sent_in-append}
+
+-- an event that a content is read as is its side's
+pub whose_content : (side : Side) (bytes : List ℕ) (e : Event) → ReadsAs side bytes e → whose e ≡ who_of side
+whose_content side bytes (message m) reads = ap who_of reads.by
+whose_content side bytes (fault by rule) reads = ap who_of reads.0
+whose_content side bytes (snapshot uri n t) reads = absurd reads
+
+clean_on : (limit : ℕ) (events : List Event) (e : Event) → first_no limit events ≡ None → offence limit events e ≡ None → first_no limit (events ++ e ∷ []) ≡ None
+clean_on limit events e none clean =
+    first_of-snoc (no_at limit) events e ∙ ap (λ o. option_or o (no_at limit events e)) none ∙ ap (option_map (no_by events e)) clean
+
+-- one more event that doesn't offend
+pub follows_on : (old_m new_m : session.State) (old_d new_d : docs.State) (old_c new_c : Counts) (events : List Event) (e : Event) → Follows old_m old_d old_c events → new_d.limit ≡ old_d.limit
+    → offence old_d.limit events e ≡ None → Holds new_m new_d (events ++ e ∷ []) → AreCounts new_c (events ++ e ∷ []) → Follows new_m new_d new_c (events ++ e ∷ [])
+follows_on old_m new_m old_d new_d old_c new_c events e follows limit clean holds counted = record {
+  clean = ap (λ l. first_no l (events ++ e ∷ [])) limit ∙ clean_on old_d.limit events e follows.clean clean;
+  holds = holds;
+  counted = counted;
+}
+
+-- the No at an event
+pub ruled : (limit : ℕ) (events : List Event) (e : Event) (rule : ℕ) (by : Who) (r : Ruling) → offence limit events e ≡ Some rule → whose e ≡ by → verdict_in r ≡ Some (as_given (no_next rule by events)) → IsNoAt limit events e r
+ruled limit events e rule by (No n w k at) breaks is told =
+    (no_by events e rule, ap (option_map (no_by events e)) breaks, same_Some _ _ told ∙ ap (λ w. as_given (no_next rule w events)) (sym is))
+ruled limit events e rule by (BadLog n code) breaks is told = let same = told in absurd cc
+ruled limit events e rule by Memory breaks is told = tt
+
+pub ruled_some : (limit : ℕ) (events : List Event) (IsSuch : Event → Type 0) (e : Event) (r : Ruling) → IsSuch e → IsNoAt limit events e r → IsNoAtSome limit events IsSuch r
+ruled_some limit events IsSuch e (No n w k at) is ruling = (e, is, ruling)
+ruled_some limit events IsSuch e (BadLog n code) is ruling = ruling
+ruled_some limit events IsSuch e Memory is ruling = tt
+
+-- ---- snapshots
+
+-- a snapshot that the documents accept
+pub shown_holds : (old_m : session.State) (new_d : docs.State) (events : List Event) (uri : List ℕ) (n : ℤ) (t : List ℕ) → session.Stands old_m (sent_in events) → docs.Stands new_d (calls events ++ shows uri n t ∷ [])
+    → Holds old_m new_d (events ++ snapshot uri n t ∷ [])
+shown_holds old_m new_d events uri n t sent called = record {
+  sent = subst (λ (w : List Sent). session.Stands old_m w) (sym (sent_in-append events (snapshot uri n t ∷ []) ∙ append-nil (sent_in events))) sent;
+  called = subst (λ (w : List Call). docs.Stands new_d w) (sym (each_of-snoc call_at events (snapshot uri n t))) called;
+}
+
+pub call_named : (rule : Option ℕ) (f : DocFault) → docs_fault.Names rule f → Names rule (of_call f)
+call_named rule (faults.Rule n) e = e
+call_named rule faults.Memory e = tt

@@ -1,0 +1,246 @@
+-- One more record, and for which records a judge stands.
+use Rattle.std.proofs.Common.{◌≡◌, ℕ, List, [], ◌∷◌, ◌++◌, Option, Some, None, inl, inr, refl, sym, ap, subst, ◌∙◌, append_assoc, append-nil, length, arith}
+use Rattle.std.proofs.lemmas.List.{length-append}
+use Rattle.std.specs.Prelude.{ℤ, chars, option_map, if◌then◌else◌, Bool, true, false}
+use Rattle.std.specs.List.{AllZip}
+use Rattle.lsp_frame.specs.Bounds.{Bounds, IsInRange}
+use Rattle.lsp_frame.specs.Decoder as decoder
+use Rattle.lsp_frame.specs.Frame.{Begins, Breaks}
+use Rattle.lsp_frame.specs.Header.{blank_line}
+use Rattle.lsp_rpc.specs.declared.plain.Side.{Side}
+use Rattle.lsp_rpc.specs.declared.plain.Side.TheVariants.{Editor, Server}
+use Rattle.lsp_session.specs.Sent.{same_side}
+use Rattle.lsp_log.specs.Log.{Record, chunk, shown}
+use Rattle.lsp_judge.specs.Event.{Event, snapshot}
+use Rattle.lsp_judge.specs.Given.{as_given}
+use Rattle.lsp_judge.specs.Placed.{Raw, show, Brings, PlacedAfter, IsSession, Reads, joined}
+use Rattle.lsp_judge.specs.Rulings.{IsNoAt, verdict_in}
+use Rattle.lsp_judge.specs.Standing.{Follows, IsDrained, State, IsOpen, HasOffence, Rules, AreLimits, Keeps, StandsBy, Stands}
+use Rattle.lsp_judge.specs.Taking.{Taken, Refused}
+use Rattle.lsp_judge.specs.Verdict.{Verdict, no, no_at, first_no}
+use Rattle.lsp_judge.specs.declared.ruling.Ruling.{Ruling}
+use Rattle.lsp_judge.specs.declared.ruling.Ruling.TheVariants.{No, BadLog, Memory}
+use Rattle.lsp_judge.proofs.Bringing.{no_found}
+use Rattle.lsp_judge.proofs.LookBackLemmas.{first_of-more}
+use Rattle.lsp_judge.proofs.OneEvent.{lists_join}
+use Rattle.lsp_judge.proofs.Outcomes.{session_front}
+use Rattle.lsp_judge.proofs.PlacedLemmas.{placed-snoc}
+use Rattle.lsp_judge.proofs.Sessions.{some_session, same_session}
+
+-- ---- the bytes of a side, with one more record
+
+joined-snoc : (side : Side) (rs : List Record) (r : Record) → joined side (rs ++ r ∷ []) ≡ joined side rs ++ joined side (r ∷ [])
+joined-snoc side [] r = refl
+joined-snoc side (chunk by b ∷ rs) r = by_side (same_side side by) (joined-snoc side rs r)
+  where
+    by_side : (own : Bool) → joined side (rs ++ r ∷ []) ≡ joined side rs ++ joined side (r ∷ [])
+        → (if own then b ++ joined side (rs ++ r ∷ []) else joined side (rs ++ r ∷ [])) ≡ (if own then b ++ joined side rs else joined side rs) ++ joined side (r ∷ [])
+    by_side true e = ap (λ w. b ++ w) e ∙ sym (append_assoc b (joined side rs) (joined side (r ∷ [])))
+    by_side false e = e
+joined-snoc side (shown n uri t ∷ rs) r = joined-snoc side rs r
+
+-- a record of a side's bytes comes behind its bytes
+joined_own : (side : Side) (rs : List Record) (b : List ℕ) → joined side (rs ++ chunk side b ∷ []) ≡ joined side rs ++ b
+joined_own Editor rs b = joined-snoc Editor rs (chunk Editor b) ∙ ap (λ w. joined Editor rs ++ w) (append-nil b)
+joined_own Server rs b = joined-snoc Server rs (chunk Server b) ∙ ap (λ w. joined Server rs ++ w) (append-nil b)
+
+joined_server : (rs : List Record) (b : List ℕ) → joined Server (rs ++ chunk Editor b ∷ []) ≡ joined Server rs
+joined_server rs b = joined-snoc Server rs (chunk Editor b) ∙ append-nil (joined Server rs)
+
+joined_editor : (rs : List Record) (b : List ℕ) → joined Editor (rs ++ chunk Server b ∷ []) ≡ joined Editor rs
+joined_editor rs b = joined-snoc Editor rs (chunk Server b) ∙ append-nil (joined Editor rs)
+
+joined_shown : (side : Side) (rs : List Record) (n : ℤ) (uri t : List ℕ) → joined side (rs ++ shown n uri t ∷ []) ≡ joined side rs
+joined_shown side rs n uri t = joined-snoc side rs (shown n uri t) ∙ append-nil (joined side rs)
+
+drained_along : (d : decoder.State) (bytes more : List ℕ) → bytes ≡ more → IsDrained d bytes → IsDrained d more
+drained_along d bytes more e p = subst (IsDrained d) e p
+
+-- ---- the session, with one more record
+
+placed_one : (limits : Bounds) (side : Side) (rs : List Record) (b : List ℕ) (now : List Raw) → Brings limits side (joined side rs) b now → PlacedAfter limits (joined Editor rs) (joined Server rs) (chunk side b ∷ []) now
+placed_one limits Editor rs b now brings = (now, [], sym (append-nil now), brings, refl)
+placed_one limits Server rs b now brings = (now, [], sym (append-nil now), brings, refl)
+
+session_bytes : (limits : Bounds) (side : Side) (rs : List Record) (b : List ℕ) (events later : List Event) (now : List Raw) → IsSession limits rs events → Brings limits side (joined side rs) b now → AllZip Reads now later
+    → IsSession limits (rs ++ chunk side b ∷ []) (events ++ later)
+session_bytes limits side rs b events later now session brings reads =
+    (session.0 ++ now, placed-snoc limits [] [] rs (chunk side b) session.0 now session.1 (placed_one limits side rs b now brings), lists_join session.0 now events later session.2 reads)
+
+session_shown : (limits : Bounds) (rs : List Record) (n : ℤ) (uri t : List ℕ) (events : List Event) → IsSession limits rs events → IsSession limits (rs ++ shown n uri t ∷ []) (events ++ snapshot uri n (chars t) ∷ [])
+session_shown limits rs n uri t events session =
+    (session.0 ++ show n uri t ∷ [], placed-snoc limits [] [] rs (shown n uri t) session.0 (show n uri t ∷ []) session.1 ([], refl, refl), lists_join session.0 (show n uri t ∷ []) events (snapshot uri n (chars t) ∷ []) session.2 (refl, tt))
+
+-- ---- steps of a judge
+
+-- bytes of the editor's that don't offend
+pub editor_taken : (old new : State) (rs : List Record) (b : List ℕ) → AreLimits old → (open_before : IsOpen old rs) → new.limits ≡ old.limits → new.editor.limits ≡ old.editor.limits → new.server ≡ old.server
+    → Taken Editor new.editor new.messages new.documents new.counts (joined Editor rs) b open_before.events → IsOpen new (rs ++ chunk Editor b ∷ [])
+editor_taken old new rs b limits o same kept other t =
+    let all : new.editor.limits ≡ new.limits = kept ∙ limits.editor ∙ sym same in
+    record {
+      events = o.events ++ t.later;
+      is_session = session_bytes new.limits Editor rs b o.events t.later t.now (subst (λ (w : Bounds). IsSession w rs o.events) (sym same) o.is_session) (subst (λ (w : Bounds). Brings w Editor (joined Editor rs) b t.now) all t.brings) t.reads;
+      follows = t.follows;
+      editor = drained_along new.editor (joined Editor rs ++ b) (joined Editor (rs ++ chunk Editor b ∷ [])) (sym (joined_own Editor rs b)) t.drained;
+      server = drained_along new.server (joined Server rs) (joined Server (rs ++ chunk Editor b ∷ [])) (sym (joined_server rs b)) (subst (λ (d : decoder.State). IsDrained d (joined Server rs)) (sym other) o.server);
+    }
+
+-- bytes of the server's that don't offend
+pub server_taken : (old new : State) (rs : List Record) (b : List ℕ) → AreLimits old → (open_before : IsOpen old rs) → new.limits ≡ old.limits → new.server.limits ≡ old.server.limits → new.editor ≡ old.editor
+    → Taken Server new.server new.messages new.documents new.counts (joined Server rs) b open_before.events → IsOpen new (rs ++ chunk Server b ∷ [])
+server_taken old new rs b limits o same kept other t =
+    let all : new.server.limits ≡ new.limits = kept ∙ limits.server ∙ sym same in
+    record {
+      events = o.events ++ t.later;
+      is_session = session_bytes new.limits Server rs b o.events t.later t.now (subst (λ (w : Bounds). IsSession w rs o.events) (sym same) o.is_session) (subst (λ (w : Bounds). Brings w Server (joined Server rs) b t.now) all t.brings) t.reads;
+      follows = t.follows;
+      server = drained_along new.server (joined Server rs ++ b) (joined Server (rs ++ chunk Server b ∷ [])) (sym (joined_own Server rs b)) t.drained;
+      editor = drained_along new.editor (joined Editor rs) (joined Editor (rs ++ chunk Server b ∷ [])) (sym (joined_editor rs b)) (subst (λ (d : decoder.State). IsDrained d (joined Editor rs)) (sym other) o.editor);
+    }
+
+-- a snapshot that doesn't offend
+pub shown_taken : (old new : State) (rs : List Record) (n : ℤ) (uri t : List ℕ) → (open_before : IsOpen old rs) → new.limits ≡ old.limits → new.editor ≡ old.editor → new.server ≡ old.server
+    → Follows new.messages new.documents new.counts (open_before.events ++ snapshot uri n (chars t) ∷ []) → IsOpen new (rs ++ shown n uri t ∷ [])
+shown_taken old new rs n uri t o same editor server follows = record {
+  events = o.events ++ snapshot uri n (chars t) ∷ [];
+  is_session = session_shown new.limits rs n uri t o.events (subst (λ (w : Bounds). IsSession w rs o.events) (sym same) o.is_session);
+  follows = follows;
+  editor = drained_along new.editor (joined Editor rs) (joined Editor (rs ++ shown n uri t ∷ [])) (sym (joined_shown Editor rs n uri t)) (subst (λ (d : decoder.State). IsDrained d (joined Editor rs)) (sym editor) o.editor);
+  server = drained_along new.server (joined Server rs) (joined Server (rs ++ shown n uri t ∷ [])) (sym (joined_shown Server rs n uri t)) (subst (λ (d : decoder.State). IsDrained d (joined Server rs)) (sym server) o.server);
+}
+
+-- bytes that offend
+pub bytes_rule : (s : State) (rs : List Record) (side : Side) (b : List ℕ) (frames : Bounds) (limit : ℕ) (r : Ruling) → (open_before : IsOpen s rs) → frames ≡ s.limits → limit ≡ s.limits.document
+    → Refused side frames limit (joined side rs) b open_before.events r → Rules s.limits (rs ++ chunk side b ∷ []) r
+bytes_rule s rs side b frames limit (No rule by number at) o same same_limit broken = (
+  broken.verdict,
+  record {
+    events = o.events ++ broken.later;
+    session = session_bytes s.limits side rs b o.events broken.later broken.now o.is_session (subst (λ (w : Bounds). Brings w side (joined side rs) b broken.now) same broken.brings) broken.reads;
+    offends = ap (λ l. first_no l (o.events ++ broken.later)) (sym same_limit) ∙ broken.offends;
+  },
+  some_same broken.given,
+)
+  where
+    some_same : {v w : Verdict} → Some v ≡ Some w → v ≡ w
+    some_same e = cc e
+bytes_rule s rs side b frames limit (BadLog number code) o same same_limit broken = broken
+bytes_rule s rs side b frames limit Memory o same same_limit broken = tt
+
+-- a snapshot that offends
+pub shown_rule : (s : State) (rs : List Record) (n : ℤ) (uri t : List ℕ) (limit : ℕ) (r : Ruling) → (open_before : IsOpen s rs) → s.documents.limit ≡ s.limits.document → limit ≡ s.documents.limit
+    → IsNoAt limit open_before.events (snapshot uri n (chars t)) r → Rules s.limits (rs ++ shown n uri t ∷ []) r
+shown_rule s rs n uri t limit (No rule by number at) o same same_limit named = (
+  named.0,
+  record {
+    events = o.events ++ snapshot uri n (chars t) ∷ [];
+    session = session_shown s.limits rs n uri t o.events o.is_session;
+    offends =
+        ap (λ l. first_no l (o.events ++ snapshot uri n (chars t) ∷ [])) (sym same)
+        ∙ ap (λ l. first_no s.documents.limit l) (ap (λ w. w ++ snapshot uri n (chars t) ∷ []) (sym (append-nil o.events)) ∙ append_assoc o.events [] (snapshot uri n (chars t) ∷ []))
+        ∙ no_found s.documents.limit o.events [] [] (snapshot uri n (chars t)) named.0
+        (ap (first_no s.documents.limit) (append-nil o.events) ∙ o.follows.clean)
+        (ap (λ w. no_at s.documents.limit w (snapshot uri n (chars t))) (append-nil o.events) ∙ ap (λ l. no_at l o.events (snapshot uri n (chars t))) (sym same_limit) ∙ named.1);
+  },
+  named.2,
+)
+shown_rule s rs n uri t limit (BadLog number code) o same same_limit named = named
+shown_rule s rs n uri t limit Memory o same same_limit named = tt
+
+-- ---- what is known once an event offends
+
+-- an offence stays as records come
+pub offence_stays : (limits : Bounds) (rs more : List Record) (given : Verdict) → HasOffence limits rs given → HasOffence limits (rs ++ more) given
+offence_stays limits rs more given (v, offends, is) =
+    let all = some_session limits (rs ++ more) in
+    let cut = session_front limits rs more offends.events all.0 offends.session all.1 in
+    (v, record { events = all.0; session = all.1; offends = ap (first_no limits.document) cut.1 ∙ first_of-more (no_at limits.document) offends.events cut.0 v offends.offends }, is)
+
+-- the first offence of the session is it
+pub offence_first : (limits : Bounds) (rs : List Record) (given : Verdict) (events : List Event) → HasOffence limits rs given → IsSession limits rs events → Some given ≡ option_map as_given (first_no limits.document events)
+offence_first limits rs given events (v, offends, is) session =
+    let same = same_session limits rs rs events offends.events refl session offends.session in
+    ap Some is ∙ ap (option_map as_given) (sym (ap (first_no limits.document) same ∙ offends.offends))
+
+-- where nothing was given, there is none
+pub open_none : (s : State) (rs : List Record) (events : List Event) → AreLimits s → IsOpen s rs → IsSession s.limits rs events → None ≡ option_map as_given (first_no s.limits.document events)
+open_none s rs events limits o session =
+    let same = same_session s.limits rs rs events o.events refl session o.is_session in
+    ap (option_map as_given) (sym (ap (first_no s.limits.document) same ∙ ap (λ l. first_no l o.events) (sym limits.documents) ∙ o.follows.clean))
+
+-- ---- a judge that has just begun
+
+no_frame : (limits : Bounds) (content after : List ℕ) → Begins limits [] content after → ⊥
+no_frame limits content after b =
+    let ends = b.2.part.ends in
+    absurd (omega (arith, ap length b.1, length-append b.0 after, ap length b.2.whole, length-append b.2.header content, ap length ends.1, length-append ends.0 blank_line))
+
+no_fault : (limits : Bounds) → IsInRange limits → (rule : ℕ) → Breaks limits [] rule → ⊥
+no_fault limits sizes rule (inl b) = absurd (omega (arith, b.1.long, sizes.header_low))
+no_fault limits sizes rule (inr b) = absurd (omega (arith, ap length b.whole, length-append b.header b.after, ap length b.part.ends.1, length-append b.part.ends.0 blank_line))
+
+new_drained : (limits : Bounds) → IsInRange limits → (d : decoder.State) → d ≡ decoder.empty limits → decoder.StandsFor d [] [] → IsDrained d []
+new_drained limits sizes d is stands = record {
+  contents = [];
+  stands = stands;
+  ends = subst (λ (e : decoder.State). decoder.EndsWith e [] [] None) (sym is) (refl, record { frames = refl; no_more = no_frame limits; fault = no_fault limits sizes });
+}
+
+pub new_stands : (s : State) → IsInRange s.limits → s.editor ≡ decoder.empty s.limits → decoder.StandsFor s.editor [] [] → s.server ≡ decoder.empty s.limits → decoder.StandsFor s.server [] [] → s.documents.limit ≡ s.limits.document
+    → Follows s.messages s.documents s.counts [] → s.given ≡ None → Stands s []
+new_stands s sizes editor editor_stands server server_stands documents follows given = record {
+  limits = record { range = sizes; editor = ap (λ (d : decoder.State). d.limits) editor; server = ap (λ (d : decoder.State). d.limits) server; documents = documents };
+  given = subst (λ (o : Option Ruling). StandsBy o s []) (sym given)
+      (record { events = []; is_session = ([], refl, tt); follows = follows; editor = new_drained s.limits sizes s.editor editor editor_stands; server = new_drained s.limits sizes s.server server server_stands });
+}
+
+-- ---- a judge that gave a verdict
+
+pub offence_in : (s : State) (rs : List Record) (ruling : Ruling) (v : Verdict) → s.given ≡ Some ruling → verdict_in ruling ≡ Some v → Stands s rs → HasOffence s.limits rs v
+offence_in s rs (No rule by number at) v e is p =
+    let same : no rule by number at ≡ v = cc is in
+    subst (HasOffence s.limits rs) same (subst (λ (o : Option Ruling). StandsBy o s rs) e p.given)
+offence_in s rs (BadLog number code) v e is p = absurd (subst (λ (o : Option Ruling). StandsBy o s rs) e p.given)
+offence_in s rs Memory v e is p = absurd (subst (λ (o : Option Ruling). StandsBy o s rs) e p.given)
+
+pub given_stays : (s : State) (rs more : List Record) (ruling : Ruling) → s.given ≡ Some ruling → Stands s rs → Stands s (rs ++ more)
+given_stays s rs more (No rule by number at) e p = record {
+  limits = p.limits;
+  given = subst (λ (o : Option Ruling). StandsBy o s (rs ++ more)) (sym e) (offence_stays s.limits rs more (no rule by number at) (subst (λ (o : Option Ruling). StandsBy o s rs) e p.given));
+}
+given_stays s rs more (BadLog number code) e p = absurd (subst (λ (o : Option Ruling). StandsBy o s rs) e p.given)
+given_stays s rs more Memory e p = absurd (subst (λ (o : Option Ruling). StandsBy o s rs) e p.given)
+
+pub given_verdict : (s : State) (rs more : List Record) (ruling : Ruling) (v : Verdict) (events : List Event) → s.given ≡ Some ruling → verdict_in ruling ≡ Some v → Stands s rs → IsSession s.limits (rs ++ more) events
+    → Some v ≡ option_map as_given (first_no s.limits.document events)
+given_verdict s rs more ruling v events e is p session = offence_first s.limits (rs ++ more) v events (offence_stays s.limits rs more v (offence_in s rs ruling v e is p)) session
+
+-- ---- a judge that gave none
+
+pub is_open : (s : State) (rs : List Record) → s.given ≡ None → Stands s rs → IsOpen s rs
+is_open s rs e p = subst (λ (o : Option Ruling). StandsBy o s rs) e p.given
+
+kept_limits : (old new : State) → Keeps old new → AreLimits old → AreLimits new
+kept_limits old new keeps limits = record {
+  range = subst IsInRange (sym keeps.limits) limits.range;
+  editor = keeps.editor ∙ limits.editor ∙ sym keeps.limits;
+  server = keeps.server ∙ limits.server ∙ sym keeps.limits;
+  documents = keeps.documents ∙ limits.documents ∙ ap (λ (b : Bounds). b.document) (sym keeps.limits);
+}
+
+pub none_verdict : (old new : State) (rs more : List Record) (events : List Event) → old.given ≡ None → Keeps old new → (AreLimits old → IsOpen old rs → IsOpen new (rs ++ more)) → Stands old rs → IsSession old.limits (rs ++ more) events
+    → None ≡ option_map as_given (first_no old.limits.document events)
+none_verdict old new rs more events e keeps next p session =
+    subst (λ (b : Bounds). None ≡ option_map as_given (first_no b.document events)) keeps.limits
+    (open_none new (rs ++ more) events (kept_limits old new keeps p.limits) (next p.limits (is_open old rs e p)) (subst (λ (b : Bounds). IsSession b (rs ++ more) events) (sym keeps.limits) session))
+
+rules_offence : (limits : Bounds) (rs : List Record) (ruling : Ruling) (v : Verdict) → verdict_in ruling ≡ Some v → Rules limits rs ruling → HasOffence limits rs v
+rules_offence limits rs (No rule by number at) v is o = let same : no rule by number at ≡ v = cc is in subst (HasOffence limits rs) same o
+rules_offence limits rs (BadLog number code) v is o = absurd o
+rules_offence limits rs Memory v is o = let same : None ≡ Some v = is in absurd cc
+
+pub rule_verdict : (old : State) (rs more : List Record) (ruling : Ruling) (v : Verdict) (events : List Event) → old.given ≡ None → verdict_in ruling ≡ Some v → (AreLimits old → IsOpen old rs → Rules old.limits (rs ++ more) ruling)
+    → Stands old rs → IsSession old.limits (rs ++ more) events → Some v ≡ option_map as_given (first_no old.limits.document events)
+rule_verdict old rs more ruling v events e is rules p session =
+    offence_first old.limits (rs ++ more) v events (rules_offence old.limits (rs ++ more) ruling v is (rules p.limits (is_open old rs e p))) session

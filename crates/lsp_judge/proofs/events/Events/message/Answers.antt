@@ -1,0 +1,27 @@
+use Rattle.std.proofs.Common.{sym, subst, ◌∙◌}
+use Rattle.lsp_judge.specs.Contents.{ReadsAs}
+use Rattle.lsp_judge.specs.Standing.{AreCounts, Refuses}
+use Rattle.lsp_judge.specs.declared.counts.Counts.{Counts}
+use Rattle.lsp_judge.proofs.Following.{whose_content, follows_on, ruled, ruled_some}
+use Rattle.lsp_judge.proofs.events.Events.message.Goals as goal
+
+pub returns-in-Ok-clause-ok : goal.returns-in-Ok-clause-ok
+returns-in-Ok-clause-ok g c = λ events follows.
+    let h = c.in-Ok.ensures.ok events follows.holds in
+    let whose = whose_content c.args.side c.args.content.now h.event h.reads ∙ sym c.who_of.ensures in
+    let counted = subst (λ (w : Counts). AreCounts w events) (sym c.in-Ok.ensures.counts) follows.counted in (
+      h.event,
+      h.reads,
+      follows_on c.args.self.now.session c.hear.new.self.session c.args.self.now.docs c.hear.new.self.docs c.args.self.now.counts c.add.new.self events h.event follows c.in-Ok.ensures.limit h.clean h.holds
+          (c.add.ensures events h.event counted whose),
+    )
+
+pub returns-in-Err-Rule-clause-no : goal.returns-in-Err-Rule-clause-no
+returns-in-Err-Rule-clause-no g c = λ events follows.
+    let limit = c.args.self.now.docs.limit in
+    let told : Refuses c.args.side c.args.content.now limit events c.in-Err-Rule.field-0 = c.in-Err-Rule.ensures.rule events follows.holds in
+    let h = rw c.in-Err-Rule.field-0-is at told in
+    let whose = whose_content c.args.side c.args.content.now h.0 h.1 ∙ sym c.who_of-in-Err-Rule.ensures in
+    let counted = subst (λ (w : Counts). AreCounts w events) (sym c.in-Err-Rule.ensures.counts) follows.counted in
+    ruled_some limit events (ReadsAs c.args.side c.args.content.now) h.0 c.no.result h.1
+    (ruled limit events h.0 c.in-Err-Rule.rule c.who_of-in-Err-Rule.result c.no.result h.2 whose (c.no.ensures events counted))

@@ -1,0 +1,13 @@
+use Rattle.std.proofs.Common.{rules, w32}
+use Rattle.std.proofs.lemmas.Int.{to_z-of_z}
+use Rattle.std.proofs.lemmas.Result.{err_from_is_err_and}
+use mir.Val.{SFits}
+use Rattle.lsp_judge.proofs.events.apply.Goals as goal
+
+pub returns-in_err-change-in-DidChange-clause-rule : goal.returns-in_err-change-in-DidChange-clause-rule
+returns-in_err-change-in-DidChange-clause-rule g c =
+    let from = c.from_residual-in_err-change-in-DidChange in
+    let p = err_from_is_err_and from.result from.ensures.1 in
+    let fits : SFits w32 c.in-DidChange.version = search rules in
+    let rule = simp to_z-of_z at c.in_err-change-in-DidChange.ensures.rule in
+    rw p.1 (λ made stands. rw (p.2, c.in-DidChange.is, ← c.as_str-in-DidChange.ensures.value, ← c.as_slice.ensures.value) (rule made stands))

@@ -1,0 +1,16 @@
+use Rattle.std.proofs.Common.{ap, sym, ◌∙◌}
+use Rattle.lsp_judge.specs.Rulings.{verdict_in}
+use Rattle.lsp_judge.specs.Standing.{State}
+use Rattle.lsp_judge.proofs.Finals.{given_final, log_final}
+use Rattle.lsp_judge.proofs.judge.Judge.bad_log.Goals as goal
+
+pub returns-in-Some-No-clause-verdict : goal.returns-in-Some-No-clause-verdict
+returns-in-Some-No-clause-verdict g c = λ records v stands final.
+    let given = ap (λ (s : State). s.given) (sym c.self.view_is) ∙ c.in-Some-No.is in
+    let value = rw c.in-Some-No.is at c.in-Some-No.field-0-is in
+    given_final c.args.self.now records c.in-Some-No.field-0 _ v _ given (ap verdict_in value) stands final
+
+pub returns-in-None-clause-verdict : goal.returns-in-None-clause-verdict
+returns-in-None-clause-verdict g c = λ records v stands final.
+    let given = ap (λ (s : State). s.given) (sym c.self.view_is) ∙ c.in-None.is in
+    log_final c.args.self.now records c.args.number c.args.fault v given c.ranges.number.fits stands final

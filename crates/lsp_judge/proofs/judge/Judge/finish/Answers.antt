@@ -1,0 +1,24 @@
+use Rattle.std.proofs.Common.{◌≡◌, List, ap, sym, subst, ◌∙◌}
+use Rattle.lsp_judge.specs.Event.{Event}
+use Rattle.lsp_judge.specs.Given.{summary_view, as_given}
+use Rattle.lsp_judge.specs.Standing.{State, Follows}
+use Rattle.lsp_judge.specs.Verdict.{yes, summary}
+use Rattle.lsp_judge.proofs.Finals.{given_final, rest_final, yes_final}
+use Rattle.lsp_judge.proofs.Tails.{if_ok}
+use Rattle.lsp_judge.proofs.judge.Judge.finish.Goals as goal
+
+pub returns-in-Some-clause-verdict : goal.returns-in-Some-clause-verdict
+returns-in-Some-clause-verdict g c =
+    let given = ap (λ (s : State). s.given) (sym c.self.view_is) ∙ c.in-Some.is in
+    if_ok c.answer.result _ _ (λ answer is records v stands final. given_final c.args.self.now records c.in-Some.ruling _ v _ given is stands final) c.answer.ensures.ok
+
+pub returns-in-Some-rest-clause-verdict : goal.returns-in-Some-rest-clause-verdict
+returns-in-Some-rest-clause-verdict g c =
+    let given = ap (λ (s : State). s.given) (sym c.self.view_is) ∙ c.in_default.is in
+    if_ok c.answer-in-Some-rest.result _ _ (λ answer is records v stands final. rest_final c.args.self.now records c.in-Some-rest.ruling _ v given c.in-Some-rest.ensures is stands final) c.answer-in-Some-rest.ensures.ok
+
+pub returns-in-Ok-clause-verdict : goal.returns-in-Ok-clause-verdict
+returns-in-Ok-clause-verdict g c = λ records v stands final.
+    let given = ap (λ (s : State). s.given) (sym c.self.view_is) ∙ c.in_default.is in
+    let sums = subst (λ (s : State). (events : List Event) → Follows s.messages s.documents s.counts events → yes (summary_view c.in-Ok.summary) ≡ as_given (yes (summary s.documents.limit events))) c.self.view_is c.in-Ok.ensures in
+    yes_final c.args.self.now records _ v given c.in_default-rest.ensures sums stands final

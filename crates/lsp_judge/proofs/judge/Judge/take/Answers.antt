@@ -1,0 +1,25 @@
+use Rattle.std.proofs.Common.{ap, sym, ◌∙◌, ◌∷◌, []}
+use Rattle.lsp_log.specs.Records.{record_view}
+use Rattle.lsp_judge.specs.Standing.{State}
+use Rattle.lsp_judge.proofs.Records.{given_stays, given_verdict, none_verdict, rule_verdict}
+use Rattle.lsp_judge.proofs.judge.Judge.take.Goals as goal
+
+pub returns-in-Some-clause-stands : goal.returns-in-Some-clause-stands
+returns-in-Some-clause-stands g c = λ records stands.
+    let given = ap (λ (s : State). s.given) (sym c.self.view_is) ∙ c.in-Some.is in
+    given_stays c.args.self.now records (record_view c.args.next ∷ []) c.in-Some.ruling given stands
+
+pub returns-in-Some-clause-verdict : goal.returns-in-Some-clause-verdict
+returns-in-Some-clause-verdict g c = λ records events stands session.
+    let given = ap (λ (s : State). s.given) (sym c.self.view_is) ∙ c.in-Some.is in
+    given_verdict c.args.self.now records (record_view c.args.next ∷ []) c.in-Some.ruling _ events given c.in_ok-answer.ensures.ok stands session
+
+pub returns-in-Ok-clause-verdict : goal.returns-in-Ok-clause-verdict
+returns-in-Ok-clause-verdict g c = λ records events stands session.
+    let given = ap (λ (s : State). s.given) (sym c.self.view_is) ∙ c.in_default.is in
+    none_verdict c.args.self.now c.hear.new.self records (record_view c.args.next ∷ []) events given c.in-Ok.ensures.keeps (c.in-Ok.ensures.ok records) stands session
+
+pub returns-in_ok-answer-in-Err-clause-verdict : goal.returns-in_ok-answer-in-Err-clause-verdict
+returns-in_ok-answer-in-Err-clause-verdict g c = λ records events stands session.
+    let given = ap (λ (s : State). s.given) (sym c.self.view_is) ∙ c.in_default.is in
+    rule_verdict c.args.self.now records (record_view c.args.next ∷ []) c.in-Err.ruling _ events given c.in_ok-answer-in-Err.ensures.ok (c.in-Err.ensures.no records) stands session

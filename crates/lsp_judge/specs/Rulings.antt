@@ -1,0 +1,42 @@
+-- What a judge gives for good, in the words of verdicts.
+use Rattle.std.specs.Prelude.{◌≡◌, ℕ, List, Option, Some, None, Result, Ok, Err}
+use Rattle.lsp_rpc.specs.declared.memory.Memory as memory
+use Rattle.lsp_judge.specs.declared.ruling.Ruling.{Ruling}
+use Rattle.lsp_judge.specs.declared.ruling.Ruling.TheVariants.{No, BadLog, Memory}
+use Rattle.lsp_judge.specs.Event.{Event}
+use Rattle.lsp_judge.specs.Given.{as_given}
+use Rattle.lsp_judge.specs.Verdict.{Verdict, yes, no, bad_log, no_at}
+
+-- the verdict that it is, if any
+abbrev pub verdict_in : Ruling → Option Verdict
+verdict_in (No rule who number event) = Some (no rule who number event)
+verdict_in (BadLog number code) = Some (bad_log number code)
+verdict_in Memory = None
+
+-- an answer, as a verdict, if it is one
+abbrev pub answered : Result Verdict memory.Memory → Option Verdict
+answered (Ok v) = Some v
+answered (Err refused) = None
+
+-- the ruling is the No at this event, unless memory ran out
+abbrev pub IsNoAt : ℕ → List Event → Event → Ruling → Type 0
+IsNoAt limit before event (No rule who number at) = (v : Verdict) × (no_at limit before event ≡ Some v) × (no rule who number at ≡ as_given v)
+IsNoAt limit before event (BadLog number code) = ⊥
+IsNoAt limit before event Memory = Unit {0}
+
+-- the ruling is the No at an event of this kind, unless memory ran out
+abbrev pub IsNoAtSome : ℕ → List Event → (Event → Type 0) → Ruling → Type 0
+IsNoAtSome limit before IsSuch (No rule who number at) = (event : Event) × IsSuch event × IsNoAt limit before event (No rule who number at)
+IsNoAtSome limit before IsSuch (BadLog number code) = ⊥
+IsNoAtSome limit before IsSuch Memory = Unit {0}
+
+-- the ruling is the refusal that a rest makes, and there is none where there is no rest
+abbrev pub RestIs : Option Ruling → Option Verdict → Type 0
+RestIs None refusal = refusal ≡ None
+RestIs (Some ruling) refusal = (v : Verdict) × (refusal ≡ Some v) × (verdict_in ruling ≡ Some (as_given v))
+
+-- what holds of a verdict that is no Yes
+abbrev pub IfRefused : Verdict → Type 0 → Type 0
+IfRefused (yes s) P = Unit {0}
+IfRefused (no rule who number event) P = P
+IfRefused (bad_log number code) P = P

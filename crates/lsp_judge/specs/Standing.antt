@@ -1,0 +1,124 @@
+-- For which events, and for which records, the parts of a judge stand.
+use Rattle.std.specs.Prelude.{◌≡◌, ℕ, List, [], ◌∷◌, ◌++◌, length, Option, Some, None, option_and_then}
+use Rattle.lsp_frame.specs.Bounds.{Bounds, IsInRange}
+use Rattle.lsp_frame.specs.Decoder as decoder
+use Rattle.lsp_rpc.specs.declared.plain.Side.{Side}
+use Rattle.lsp_rpc.specs.declared.plain.Side.TheVariants.{Editor, Server}
+use Rattle.lsp_session.specs.State as session
+use Rattle.lsp_docs.specs.State as docs
+use Rattle.lsp_docs.specs.State.{capped}
+use Rattle.lsp_log.specs.Log.{Record}
+use Rattle.lsp_judge.specs.declared.counts.Counts.{Counts}
+use Rattle.lsp_judge.specs.declared.verdict.Who.TheVariants as who
+use Rattle.lsp_judge.specs.declared.ruling.Ruling.{Ruling}
+use Rattle.lsp_judge.specs.declared.ruling.Ruling.TheVariants.{No, BadLog, Memory}
+use Rattle.lsp_judge.specs.declared.fault.Fault.{Fault}
+use Rattle.lsp_judge.specs.declared.fault.Fault.TheVariants as fault
+use Rattle.lsp_judge.specs.declared.fault.Fault.TheVariants.{Rule}
+use Rattle.lsp_judge.specs.Calls.{calls}
+use Rattle.lsp_judge.specs.Contents.{ReadsAs}
+use Rattle.lsp_judge.specs.Event.{Event, sent_in}
+use Rattle.lsp_judge.specs.Given.{as_given}
+use Rattle.lsp_judge.specs.Outcome.{Offends}
+use Rattle.lsp_judge.specs.Placed.{IsSession, joined}
+use Rattle.lsp_judge.specs.Rulings.{verdict_in}
+use Rattle.lsp_judge.specs.Verdict.{Verdict, no, offence, first_no, belongs_to, count_of}
+
+-- ---- events
+
+-- the counts are those of these events
+pub record AreCounts (c : Counts) (events : List Event) : Type 0 where
+  pub editor : c.editor ≡ capped (count_of (belongs_to who.Editor) events)
+  pub server : c.server ≡ capped (count_of (belongs_to who.Server) events)
+  pub snapshots : c.snapshots ≡ capped (count_of (belongs_to who.Snapshot) events)
+  pub all : c.all ≡ capped (length events)
+
+-- the messages and the calls that the layers below stand for are those of the events
+pub record Holds (messages : session.State) (documents : docs.State) (events : List Event) : Type 0 where
+  pub sent : session.Stands messages (sent_in events)
+  pub called : docs.Stands documents (calls events)
+
+-- the content is an event that doesn't offend, and what is held is what the events come to with it
+pub record Hears (side : Side) (content : List ℕ) (limit : ℕ) (messages : session.State) (documents : docs.State) (events : List Event) : Type 0 where
+  pub event : Event
+  pub reads : ReadsAs side content event
+  pub clean : offence limit events event ≡ None
+  pub holds : Holds messages documents (events ++ event ∷ [])
+
+-- the content is an event that offends this rule, unless memory ran out
+abbrev pub Refuses : Side → List ℕ → ℕ → List Event → Fault → Type 0
+Refuses side content limit events (Rule rule) = (event : Event) × ReadsAs side content event × (offence limit events event ≡ Some rule)
+Refuses side content limit events fault.Memory = Unit {0}
+
+-- none of these events offends, and what is held is what they come to
+pub record Follows (messages : session.State) (documents : docs.State) (counts : Counts) (events : List Event) : Type 0 where
+  pub clean : first_no documents.limit events ≡ None
+  pub holds : Holds messages documents events
+  pub counted : AreCounts counts events
+
+-- ---- records
+
+-- the decoder was given these bytes, has given all contents of them, and they have no fault
+pub record IsDrained (d : decoder.State) (bytes : List ℕ) : Type 0 where
+  pub contents : List (List ℕ)
+  pub stands : decoder.StandsFor d bytes contents
+  pub ends : decoder.EndsWith d bytes contents None
+
+-- what a judge holds
+pub record State : Type 0 where
+  pub limits : Bounds
+  pub editor : decoder.State
+  pub server : decoder.State
+  pub messages : session.State
+  pub documents : docs.State
+  pub counts : Counts
+  pub given : Option Ruling
+
+-- nothing was given: no event of the records offends, and each layer stands for its part of them
+pub record IsOpen (s : State) (records : List Record) : Type 0 where
+  pub events : List Event
+  pub is_session : IsSession s.limits records events
+  pub follows : Follows s.messages s.documents s.counts events
+  pub editor : IsDrained s.editor (joined Editor records)
+  pub server : IsDrained s.server (joined Server records)
+
+-- an event of the records offends, and this is the No at the first
+abbrev pub HasOffence : Bounds → List Record → Verdict → Type 0
+HasOffence limits records given = (v : Verdict) × Offends limits records v × (given ≡ as_given v)
+
+-- what is left as it was by a step
+pub record Keeps (old new : State) : Type 0 where
+  pub limits : new.limits ≡ old.limits
+  pub editor : new.editor.limits ≡ old.editor.limits
+  pub server : new.server.limits ≡ old.server.limits
+  pub documents : new.documents.limit ≡ old.documents.limit
+  pub given : new.given ≡ old.given
+
+-- a ruling at the last of these records, unless memory ran out
+abbrev pub Rules : Bounds → List Record → Ruling → Type 0
+Rules limits records (No rule by number event) = HasOffence limits records (no rule by number event)
+Rules limits records (BadLog number code) = ⊥
+Rules limits records Memory = Unit {0}
+
+-- the verdict that is given from now on
+abbrev pub is_given : Option Ruling → Option Verdict
+is_given given = option_and_then verdict_in given
+
+-- what a judge gives, against the records taken; once it gave a fault of the log or was refused memory, it stands for none
+abbrev pub StandsBy : Option Ruling → State → List Record → Type 0
+StandsBy None s records = IsOpen s records
+StandsBy (Some (No rule by number event)) s records = HasOffence s.limits records (no rule by number event)
+StandsBy (Some (BadLog number code)) s records = ⊥
+StandsBy (Some Memory) s records = ⊥
+
+-- the parts are limited alike
+pub record AreLimits (s : State) : Type 0 where
+  pub range : IsInRange s.limits
+  pub editor : s.editor.limits ≡ s.limits
+  pub server : s.server.limits ≡ s.limits
+  pub documents : s.documents.limit ≡ s.limits.document
+
+-- **the judge stands for the records taken**
+pub record Stands (s : State) (records : List Record) : Type 0 where
+  pub limits : AreLimits s
+  pub given : StandsBy s.given s records

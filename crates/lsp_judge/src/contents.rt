@@ -1,0 +1,59 @@
+//! The contents that a record's bytes make whole.
+ghost use Rattle.std.specs.Prelude.{◌≡◌, ℕ, List, OnOk, IfErr};
+ghost use Rattle.lsp_frame.specs.Decoder.{StandsFor};
+ghost use Rattle.lsp_judge.specs.Event.{Event};
+ghost use Rattle.lsp_judge.specs.Standing.{Follows, IsDrained};
+ghost use Rattle.lsp_judge.specs.Taking.{HeardAll, Stopped, Taken, Refused};
+
+use crate::events::{Events, who_of};
+use crate::ruling::Ruling;
+use lsp_frame::Decoder;
+use lsp_rpc::Side;
+use lsp_text::TextStore;
+use std::alloc::Global;
+
+/// Takes bytes of a side, and hears the contents that they make whole.
+pub(crate) fn take_bytes<S: TextStore>(
+    alloc: Global,
+    side: Side,
+    bytes: &[u8],
+    decoder: &mut Decoder,
+    events: &mut Events<S>,
+) -> Result<(), Ruling>
+    ensures limits { decoder.new.limits ≡ decoder.old.limits }
+    ensures document { events.new.docs.limit ≡ events.old.docs.limit }
+    ensures ok { OnOk result ((before : List ℕ) (so_far : List Event) → IsDrained decoder.old before
+        → Follows events.old.session events.old.docs events.old.counts so_far
+        → Taken side decoder.new events.new.session events.new.docs events.new.counts before bytes.now so_far) }
+    ensures no { IfErr result (λ ruling. (before : List ℕ) (so_far : List Event) → IsDrained decoder.old before
+        → Follows events.old.session events.old.docs events.old.counts so_far
+        → Refused side decoder.old.limits events.old.docs.limit before bytes.now so_far ruling) }
+{
+    decoder.push(bytes)?;
+    hear_contents(alloc, side, decoder, events)
+}
+
+/// Hears each content that is whole, up to the first event that offends.
+fn hear_contents<S: TextStore>(
+    alloc: Global,
+    side: Side,
+    decoder: &mut Decoder,
+    events: &mut Events<S>,
+) -> Result<(), Ruling>
+    ensures limits { decoder.new.limits ≡ decoder.old.limits }
+    ensures document { events.new.docs.limit ≡ events.old.docs.limit }
+    ensures ok { OnOk result ((bytes : List ℕ) (contents : List (List ℕ)) (so_far : List Event) → StandsFor decoder.old bytes contents
+        → Follows events.old.session events.old.docs events.old.counts so_far
+        → HeardAll side decoder.new events.new.session events.new.docs events.new.counts bytes contents so_far) }
+    ensures no { IfErr result (λ ruling. (bytes : List ℕ) (contents : List (List ℕ)) (so_far : List Event) → StandsFor decoder.old bytes contents
+        → Follows events.old.session events.old.docs events.old.counts so_far
+        → Stopped side decoder.old.limits events.old.docs.limit bytes contents so_far ruling) }
+{
+    loop {
+        match decoder.next() {
+            Err(fault) => return Err(events.counts.no(fault.rule, who_of(side))),
+            Ok(None) => return Ok(()),
+            Ok(Some(content)) => events.message(alloc, side, content)?,
+        }
+    }
+}

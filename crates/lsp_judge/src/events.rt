@@ -1,0 +1,181 @@
+//! The events of a session, judged one after another.
+ghost use Rattle.std.specs.Prelude.{◌≡◌, ◌++◌, ◌∷◌, [], List, None, Option, option_and_then, IfErr, OnOk, OnErr, chars, map, unwrap_or};
+ghost use Rattle.std.specs.List.{cons_option};
+ghost use Rattle.lsp_rpc.specs.View.{act_view, changes_view};
+ghost use Rattle.lsp_docs.specs.Calls.{Call, changes};
+ghost use Rattle.lsp_docs.specs.Fault as doc_fault;
+ghost use Rattle.lsp_docs.specs.Rules.{call_rule};
+ghost use Rattle.lsp_docs.specs.State as docs_state;
+ghost use Rattle.lsp_judge.specs.Calls.{call_of, edit_of};
+ghost use Rattle.lsp_judge.specs.Contents.{ReadsAs};
+ghost use Rattle.lsp_judge.specs.Event.{Event, snapshot as shown};
+ghost use Rattle.lsp_judge.specs.Faults.{Names};
+ghost use Rattle.lsp_judge.specs.Rulings.{IsNoAt, IsNoAtSome};
+ghost use Rattle.lsp_judge.specs.Standing.{Follows, Holds, Hears, Refuses};
+ghost use Rattle.lsp_judge.specs.Verdict as spec;
+
+use crate::counts::Counts;
+use crate::fault::Fault;
+use crate::ruling::Ruling;
+use crate::verdict::Who;
+use lsp_docs::{DocFault, Docs};
+use lsp_frame::Limits;
+use lsp_rpc::{Act, Change, Encoding, Side, SyncKind, act_of, read};
+use lsp_session::Session;
+use lsp_text::TextStore;
+use std::alloc::Global;
+
+/// What the events so far have come to, none of which offends.
+#[derive(Drop)]
+pub(crate) struct Events<S: TextStore> {
+    pub session: Session,
+    pub docs: Docs<S>,
+    pub counts: Counts,
+}
+
+impl<S: TextStore> Events<S> {
+    pub(crate) fn new(alloc: Global, limits: Limits) -> Self
+        ensures limit { result.docs.limit ≡ limits.document }
+        ensures follows { Follows result.session result.docs result.counts [] }
+    {
+        Events {
+            session: Session::new(alloc),
+            docs: Docs::new(alloc, limits),
+            counts: Counts::new(),
+        }
+    }
+
+    /// Hears what a content of a side says: the next event, or the No at it.
+    pub(crate) fn message(
+        &mut self,
+        alloc: Global,
+        side: Side,
+        content: &[u8],
+    ) -> Result<(), Ruling>
+        ensures limit { self.new.docs.limit ≡ self.old.docs.limit }
+        ensures ok { OnOk result ((events : List Event) → Follows self.old.session self.old.docs self.old.counts events
+            → (event : Event) × ReadsAs side content.now event × Follows self.new.session self.new.docs self.new.counts (events ++ event ∷ [])) }
+        ensures no { IfErr result (λ ruling. (events : List Event) → Follows self.old.session self.old.docs self.old.counts events
+            → IsNoAtSome self.old.docs.limit events (ReadsAs side content.now) ruling) }
+    {
+        match self.hear(alloc, side, content) {
+            Ok(()) => {
+                self.counts.add(who_of(side));
+                Ok(())
+            }
+            Err(Fault::Rule(rule)) => Err(self.counts.no(rule, who_of(side))),
+            Err(Fault::Memory) => Err(Ruling::Memory),
+        }
+    }
+
+    /// Hears a snapshot: the next event, or the No at it.
+    pub(crate) fn snapshot(&mut self, uri: &str, version: i32, text: &str) -> Result<(), Ruling>
+        ensures limit { self.new.docs.limit ≡ self.old.docs.limit }
+        ensures ok { OnOk result ((events : List Event) → Follows self.old.session self.old.docs self.old.counts events
+            → Follows self.new.session self.new.docs self.new.counts (events ++ shown uri.now version (chars text.now) ∷ [])) }
+        ensures no { IfErr result (λ ruling. (events : List Event) → Follows self.old.session self.old.docs self.old.counts events
+            → IsNoAt self.old.docs.limit events (shown uri.now version (chars text.now)) ruling) }
+    {
+        match self.docs.snapshot(uri, version, text) {
+            Ok(_) => {
+                self.counts.add(Who::Snapshot);
+                Ok(())
+            }
+            Err(fault) => match Fault::from(fault) {
+                Fault::Rule(rule) => Err(self.counts.no(rule, Who::Snapshot)),
+                Fault::Memory => Err(Ruling::Memory),
+            },
+        }
+    }
+
+    /// Reads a content, admits its message, and takes over what it says of a document.
+    fn hear(&mut self, alloc: Global, side: Side, content: &[u8]) -> Result<(), Fault>
+        ensures limit { self.new.docs.limit ≡ self.old.docs.limit }
+        ensures counts { self.new.counts ≡ self.old.counts }
+        ensures ok { OnOk result ((events : List Event) → Holds self.old.session self.old.docs events
+            → Hears side content.now self.old.docs.limit self.new.session self.new.docs events) }
+        ensures rule { IfErr result (λ fault. (events : List Event) → Holds self.old.session self.old.docs events
+            → Refuses side content.now self.old.docs.limit events fault) }
+    {
+        let message = read(alloc, content)?;
+        let act = act_of(alloc, &message, side)?;
+        let encoding = self.session.encoding().unwrap_or(Encoding::Utf16);
+        let kind = self.session.sync_kind().unwrap_or(SyncKind::Nothing);
+        self.session.admit(side, &message, &act)?;
+        apply(&mut self.docs, encoding, kind, &act)?;
+        Ok(())
+    }
+}
+
+/// Whose a message of this side is.
+pub(crate) fn who_of(side: Side) -> Who
+    ensures { result ≡ spec.who_of side }
+{
+    match side {
+        Side::Editor => Who::Editor,
+        Side::Server => Who::Server,
+    }
+}
+
+/// Changes a document.
+fn change<S: TextStore>(
+    docs: &mut Docs<S>,
+    encoding: Encoding,
+    kind: SyncKind,
+    uri: &str,
+    version: i32,
+    edits: &[Change],
+) -> Result<(), DocFault>
+    ensures limit { docs.new.limit ≡ docs.old.limit }
+    ensures ok { OnOk result ((made : List Call) → docs_state.Stands docs.old made
+        → docs_state.Stands docs.new (made ++ changes encoding kind uri.now version (map edit_of (changes_view edits.now)) ∷ [])) }
+    ensures accepted { OnOk result ((made : List Call) → docs_state.Stands docs.old made
+        → call_rule docs.old.limit made (changes encoding kind uri.now version (map edit_of (changes_view edits.now))) ≡ None) }
+    ensures rule { IfErr result (λ fault. (made : List Call) → docs_state.Stands docs.old made
+        → doc_fault.Names (call_rule docs.old.limit made (changes encoding kind uri.now version (map edit_of (changes_view edits.now)))) fault) }
+{
+    docs.did_change(encoding, kind, uri, version, edits)
+}
+
+/// Takes over what an act says of a document.
+fn apply<S: TextStore>(
+    docs: &mut Docs<S>,
+    encoding: Encoding,
+    kind: SyncKind,
+    act: &Act,
+) -> Result<(), DocFault>
+    ensures limit { docs.new.limit ≡ docs.old.limit }
+    ensures ok { OnOk result ((made : List Call) → docs_state.Stands docs.old made
+        → docs_state.Stands docs.new (made ++ cons_option (call_of encoding kind (act_view act.now)) [])) }
+    ensures accepted { OnOk result ((made : List Call) → docs_state.Stands docs.old made
+        → option_and_then (call_rule docs.old.limit made) (call_of encoding kind (act_view act.now)) ≡ None) }
+    ensures rule { IfErr result (λ fault. (made : List Call) → docs_state.Stands docs.old made
+        → doc_fault.Names (option_and_then (call_rule docs.old.limit made) (call_of encoding kind (act_view act.now))) fault) }
+{
+    match act {
+        Act::DidOpen { uri, version, text } => {
+            docs.did_open(uri.as_str(), *version, text.as_str())?
+        }
+        Act::DidChange {
+            uri,
+            version,
+            changes,
+        } => {
+            let version = *version;
+            change(
+                docs,
+                encoding,
+                kind,
+                uri.as_str(),
+                version,
+                changes.as_slice(),
+            )?
+        }
+        Act::DidClose { uri } => docs.did_close(uri.as_str())?,
+        Act::DidSave { uri, text } => {
+            docs.did_save(uri.as_str(), text.as_ref().map(|text| text.as_str()))?
+        }
+        _ => {}
+    }
+    Ok(())
+}

@@ -1,0 +1,205 @@
+//! Judges a recorded session record by record.
+ghost use Rattle.std.specs.Prelude.{◌≡◌, ◌++◌, ◌∷◌, [], List, Option, Some, None, IfOk, IfErr, OnOk, OnErr, option_map};
+ghost use Rattle.lsp_log.specs.Log as log;
+ghost use Rattle.lsp_log.specs.Records.{record_view};
+ghost use Rattle.lsp_judge.specs.Event.{Event};
+ghost use Rattle.lsp_judge.specs.Given.{verdict_view, as_given};
+ghost use Rattle.lsp_judge.specs.Outcome.{IsFinal, is_rest};
+ghost use Rattle.lsp_judge.specs.Placed.{IsSession};
+ghost use Rattle.lsp_judge.specs.Rulings.{RestIs, IfRefused};
+ghost use Rattle.lsp_judge.specs.Standing.{AreCounts, IsOpen, AreLimits, Keeps, Rules, Stands, is_given};
+ghost use Rattle.lsp_judge.specs.Verdict as spec;
+
+use crate::contents::take_bytes;
+use crate::events::Events;
+use crate::ruling::Ruling;
+use crate::summary::summary_of;
+use crate::verdict::{Verdict, Who};
+use lsp_frame::{Decoder, Limits};
+use lsp_log::{LogCode, Record};
+use lsp_rpc::{Memory, Side};
+use lsp_text::TextStore;
+use std::alloc::Global;
+use std::marker::Model;
+
+/// Judges a recorded session of an editor and a language server, record by record.
+///
+/// It stands for the records taken. From the first record on that brings an event which offends,
+/// it answers the No at that event; a No, a fault of the log and a want of memory stay.
+#[derive(Drop)]
+pub struct Judge<S: TextStore> {
+    alloc: Global,
+    limits: Limits,
+    editor: Decoder,
+    server: Decoder,
+    events: Events<S>,
+    given: Option<Ruling>,
+}
+
+impl<S: TextStore> Model for Judge<S> {
+    ghost use Rattle.lsp_judge.specs.Standing.{State};
+
+    ghost Value = { State };
+
+    ghost view = { λ j. record {
+      limits = j.limits;
+      editor = j.editor;
+      server = j.server;
+      messages = j.events.session;
+      documents = j.events.docs;
+      counts = j.events.counts;
+      given = j.given;
+    } };
+}
+
+impl<S: TextStore> Judge<S> {
+    /// A judge that took no record.
+    pub fn new(alloc: Global, limits: Limits) -> Self
+        ensures limits { result.limits ≡ limits }
+        ensures stands { Stands result [] }
+    {
+        let _document = limits.document();
+        Judge {
+            alloc,
+            limits,
+            editor: Decoder::new(alloc, limits),
+            server: Decoder::new(alloc, limits),
+            events: Events::new(alloc, limits),
+            given: None,
+        }
+    }
+
+    /// Takes the next record, and answers the No at the first event that offends, from the record
+    /// on that brings it.
+    pub fn take(&mut self, next: Record) -> Result<Option<Verdict>, Memory>
+        ensures limits { self.new.limits ≡ self.old.limits }
+        ensures stands { OnOk result ((records : List log.Record) → Stands self.old records → Stands self.new (records ++ record_view next ∷ [])) }
+        ensures verdict { IfOk result (λ answer. (records : List log.Record) (events : List Event) → Stands self.old records
+            → IsSession self.old.limits (records ++ record_view next ∷ []) events
+            → option_map verdict_view answer ≡ option_map as_given (spec.first_no self.old.limits.document events)) }
+        ensures given { IfOk result (λ answer. option_map verdict_view answer ≡ is_given self.new.given) }
+        ensures kept { (ruling : Ruling) → self.old.given ≡ Some ruling → self.new ≡ self.old }
+        ensures memory { OnErr result (self.new.given ≡ Some Ruling.Memory) }
+    {
+        if let Some(ruling) = self.given {
+            return Ok(Some(ruling.answer()?));
+        }
+        match self.hear(next) {
+            Ok(()) => Ok(None),
+            Err(ruling) => {
+                self.given = Some(ruling);
+                Ok(Some(ruling.answer()?))
+            }
+        }
+    }
+
+    /// What a fault of the log behind the records makes of the session: the No that was answered
+    /// before, and else the fault.
+    pub fn bad_log(&mut self, number: u64, fault: LogCode) -> Verdict
+        requires memory { self.old.given ≡ Some Ruling.Memory → ⊥ }
+        ensures limits { self.new.limits ≡ self.old.limits }
+        ensures verdict { (records : List log.Record) (v : spec.Verdict) → Stands self.old records
+            → IsFinal self.old.limits records (Some (number, fault)) v → verdict_view result ≡ as_given v }
+        ensures given { Some (verdict_view result) ≡ is_given self.new.given }
+        ensures kept { (ruling : Ruling) → self.old.given ≡ Some ruling → self.new ≡ self.old }
+    {
+        match self.given {
+            Some(
+                Ruling::No {
+                    rule,
+                    who,
+                    number,
+                    event,
+                },
+            ) => Verdict::No {
+                rule,
+                who,
+                number,
+                event,
+            },
+            Some(Ruling::BadLog { number, fault }) => Verdict::BadLog { number, fault },
+            Some(Ruling::Memory) => Verdict::BadLog { number, fault },
+            None => {
+                self.given = Some(Ruling::BadLog { number, fault });
+                Verdict::BadLog { number, fault }
+            }
+        }
+    }
+
+    /// The verdict on the records taken, of a log without a fault.
+    pub fn finish(&mut self) -> Result<Verdict, Memory>
+        ensures limits { self.new.limits ≡ self.old.limits }
+        ensures verdict { IfOk result (λ answer. (records : List log.Record) (v : spec.Verdict) → Stands self.old records
+            → IsFinal self.old.limits records None v → verdict_view answer ≡ as_given v) }
+        ensures given { IfOk result (λ answer. IfRefused (verdict_view answer) (is_given self.new.given ≡ Some (verdict_view answer))) }
+        ensures kept { (ruling : Ruling) → self.old.given ≡ Some ruling → self.new ≡ self.old }
+        ensures memory { OnErr result (self.new.given ≡ Some Ruling.Memory) }
+    {
+        if let Some(ruling) = self.given {
+            return ruling.answer();
+        }
+        if let Some(ruling) = self.rest() {
+            self.given = Some(ruling);
+            return ruling.answer();
+        }
+        match summary_of(self.alloc, &self.events) {
+            Ok(summary) => Ok(Verdict::Yes(summary)),
+            Err(refused) => {
+                self.given = Some(Ruling::Memory);
+                Err(refused)
+            }
+        }
+    }
+
+    /// The No by bytes that are no whole frame, the editor's first.
+    fn rest(&self) -> Option<Ruling>
+        ensures { self.now.editor.fault ≡ None → self.now.server.fault ≡ None → (events : List Event) → AreCounts self.now.counts events
+            → RestIs result (spec.rest_of events (is_rest self.now.editor.rest) (is_rest self.now.server.rest)) }
+    {
+        if ends_inside_frame(&self.editor) {
+            return Some(self.events.counts.no(107, Who::Editor));
+        }
+        if ends_inside_frame(&self.server) {
+            return Some(self.events.counts.no(107, Who::Server));
+        }
+        None
+    }
+
+    /// Hears what a record brings, up to the first event that offends.
+    fn hear(&mut self, next: Record) -> Result<(), Ruling>
+        ensures keeps { Keeps self.old self.new }
+        ensures ok { OnOk result ((records : List log.Record) → AreLimits self.old → IsOpen self.old records
+            → IsOpen self.new (records ++ record_view next ∷ [])) }
+        ensures no { IfErr result (λ ruling. (records : List log.Record) → AreLimits self.old → IsOpen self.old records
+            → Rules self.old.limits (records ++ record_view next ∷ []) ruling) }
+    {
+        match next {
+            Record::Bytes { side, bytes } => match side {
+                Side::Editor => take_bytes(
+                    self.alloc,
+                    side,
+                    bytes.as_slice(),
+                    &mut self.editor,
+                    &mut self.events,
+                ),
+                Side::Server => take_bytes(
+                    self.alloc,
+                    side,
+                    bytes.as_slice(),
+                    &mut self.server,
+                    &mut self.events,
+                ),
+            },
+            Record::Snapshot { version, uri, text } => {
+                self.events.snapshot(uri.as_str(), version, text.as_str())
+            }
+        }
+    }
+}
+
+/// Whether bytes are left that are no whole frame.
+fn ends_inside_frame(decoder: &Decoder) -> bool
+    ensures { decoder.now.fault ≡ None → result ≡ is_rest decoder.now.rest }
+{
+    decoder.finish().is_err()
+}

@@ -1,0 +1,40 @@
+//! The judge of a recorded session: its events, which of them offends, and the verdict.
+//!
+//! `run_check` reads a log and writes the report of the verdict on it. `Judge` takes the records of a
+//! log one by one, `report_of` prints a verdict. `run_frames` reads one raw stream, one direction of
+//! a session, and says what its frames are.
+#![tactic(auto)]
+
+mod check;
+mod contents;
+mod counts;
+mod events;
+mod fault;
+mod frames;
+mod judge;
+mod laws;
+mod names;
+mod outcome;
+mod report;
+mod ruling;
+mod run;
+mod show;
+mod stream_laws;
+mod summary;
+mod texts;
+mod verdict;
+
+pub use check::run_check;
+pub use frames::run_frames;
+pub use judge::Judge;
+pub use laws::{
+    bad_log_means_fault, cuts_dont_matter, cuts_leave_verdict, kept_means_yes, no_names_the_first,
+    one_session, one_verdict, some_session, yes_answer_means_kept, yes_means_kept,
+};
+pub use lsp_frame::{Input, Limits, Output};
+pub use lsp_log::LogCode;
+pub use outcome::{Mode, Outcome, RunFault, StreamFault};
+pub use report::{report_of, stream_report};
+pub use run::{JudgeFault, judge_log};
+pub use stream_laws::{one_run, some_run};
+pub use verdict::{OpenDocument, Summary, Verdict, Who};

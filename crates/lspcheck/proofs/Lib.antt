@@ -1,6 +1,0 @@
-pub mod PartsLemmas
-pub mod Found
-pub mod Streams
-pub mod Runs
-pub mod Endings
-pub mod Outputs
