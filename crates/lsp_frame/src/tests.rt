@@ -4,6 +4,7 @@ use super::*;
 use std::alloc::Global;
 use std::io;
 use std::io::{Read, Write};
+use std::process::Abort;
 use std::test::*;
 
 /// A reader of these bytes whose calls fail from the given one on.
@@ -75,10 +76,30 @@ fn lengths_of(
     Ok((lengths, decoder.finish()))
 }
 
+/// The lengths of a stream's contents, and how it ends.
+type Row<'a> = (&'a [u8], &'a [usize], Result<(), FrameFault>);
+
+fn fault(rule: u16) -> Result<(), FrameFault> {
+    Err(FrameFault { rule })
+}
+
+/// Pushes the stream byte by byte, and whole.
+fn check_stream(
+    rt: &impl Abort,
+    alloc: Global,
+    (stream, lengths, end): Row<'_>,
+) -> Result<(), Fail> {
+    for step in [1, 8192] {
+        let (found, found_end) = lengths_of(alloc, stream, step)?;
+        assert_eq!(rt; found.as_slice(), lengths, "{stream:?} by {step}");
+        assert_eq!(rt; found_end, end, "{stream:?} by {step}");
+    }
+    Ok(())
+}
+
 #[test]
-fn streams_in_one_piece_and_byte_by_byte(rt: HostRuntime) -> Result<(), Fail> {
-    let fault = |rule: u16| Err(FrameFault { rule });
-    let rows: [(&[u8], &[usize], Result<(), FrameFault>); 23] = [
+fn contents_in_one_piece_and_byte_by_byte(rt: HostRuntime) -> Result<(), Fail> {
+    let rows: [Row<'_>; 7] = [
         (b"", &[], Ok(())),
         (
             b"Content-Length: 10\r\n\r\n{\"a\":\"\xc3\xa9\"}",
@@ -95,6 +116,23 @@ fn streams_in_one_piece_and_byte_by_byte(rt: HostRuntime) -> Result<(), Fail> {
             &[2, 0],
             Ok(()),
         ),
+        (b"Content-Length: 2\n\n{}", &[], fault(107)),
+        (b"Content-Length: 67108864\r\n\r\n{}", &[], fault(107)),
+        (
+            b"Content-Length: 1\r\n\r\naContent-Length: x\r\n\r\n",
+            &[1],
+            fault(104),
+        ),
+    ];
+    for row in rows {
+        check_stream(&rt, rt.alloc(), row)?;
+    }
+    Ok(())
+}
+
+#[test]
+fn header_lines_that_do_not_fit(rt: HostRuntime) -> Result<(), Fail> {
+    let rows: [Row<'_>; 9] = [
         (
             b"Content-Length: 2\r\nContent-Length: 2\r\n\r\n{}",
             &[],
@@ -102,7 +140,6 @@ fn streams_in_one_piece_and_byte_by_byte(rt: HostRuntime) -> Result<(), Fail> {
         ),
         (b"X: \r\n\r\n", &[], fault(103)),
         (b"\r\n\r\n", &[], fault(102)),
-        (b"Content-Length: 2\n\n{}", &[], fault(107)),
         (
             b"Content-Length: 2\n\n{}Content-Length: 2\r\n\r\n{}",
             &[],
@@ -113,54 +150,33 @@ fn streams_in_one_piece_and_byte_by_byte(rt: HostRuntime) -> Result<(), Fail> {
         (b"Content-Length: 00000000002\r\n\r\n{}", &[], fault(104)),
         (b"Content-Length: \r\n\r\n{}", &[], fault(104)),
         (b"Content-Length: 67108865\r\n\r\n{}", &[], fault(105)),
-        (b"Content-Length: 67108864\r\n\r\n{}", &[], fault(107)),
-        (
-            b"Content-Type: a; charset=\"UTF8\"\r\nContent-Length: 0\r\n\r\n",
-            &[0],
-            Ok(()),
-        ),
-        (
-            b"Content-Length: 0\r\nContent-Type: charset = x ; charset=utf8\r\n\r\n",
-            &[0],
-            Ok(()),
-        ),
-        (
-            b"Content-Length: 0\r\nContent-Type: charset=x\r\n\r\n",
-            &[],
-            fault(106),
-        ),
-        (
-            b"Content-Length: 0\r\nContent-Type: a; Charset=utf-16\r\n\r\n",
-            &[],
-            fault(106),
-        ),
-        (
-            b"Content-Length: 0\r\nContent-Type: a; charset=\"utf-8;x\"\r\n\r\n",
-            &[],
-            fault(106),
-        ),
-        (
-            b"Content-Length: 0\r\nContent-Type: a; charset=utf-8\"\r\n\r\n",
-            &[],
-            fault(106),
-        ),
-        (
-            b"Content-Type: charset=x\r\nContent-Length: 67108865\r\n\r\n",
-            &[],
-            fault(105),
-        ),
-        (
-            b"Content-Length: 1\r\n\r\naContent-Length: x\r\n\r\n",
-            &[1],
-            fault(104),
-        ),
     ];
-    for (stream, lengths, end) in rows {
-        for step in [1, 4096] {
-            let (found, found_end) = lengths_of(rt.alloc(), stream, step)?;
-            assert_eq!(rt; found.as_slice(), lengths, "{stream:?} by {step}");
-            assert_eq!(rt; found_end, end, "{stream:?} by {step}");
-        }
+    for row in rows {
+        check_stream(&rt, rt.alloc(), row)?;
+    }
+    Ok(())
+}
+
+#[test]
+fn charsets(rt: HostRuntime) -> Result<(), Fail> {
+    let rows: [(&[u8], Option<u16>); 7] = [
+        (b"a; charset=\"UTF8\"\r\nContent-Length: 0", None),
+        (b"charset = x ; charset=utf8\r\nContent-Length: 0", None),
+        (b"charset=x\r\nContent-Length: 0", Some(106)),
+        (b"a; Charset=utf-16\r\nContent-Length: 0", Some(106)),
+        (b"a; charset=\"utf-8;x\"\r\nContent-Length: 0", Some(106)),
+        (b"a; charset=utf-8\"\r\nContent-Length: 0", Some(106)),
+        (b"charset=x\r\nContent-Length: 67108865", Some(105)),
+    ];
+    for (lines, rule) in rows {
+        let mut stream = Vec::from_slice(rt.alloc(), b"Content-Type: ")?;
+        stream.extend_from_slice(lines)?;
+        stream.extend_from_slice(b"\r\n\r\n")?;
+        let row: Row<'_> = match rule {
+            None => (stream.as_slice(), &[0], Ok(())),
+            Some(rule) => (stream.as_slice(), &[], fault(rule)),
+        };
+        check_stream(&rt, rt.alloc(), row)?;
     }
     Ok(())
 }
@@ -174,11 +190,7 @@ fn a_header_part_has_at_most_4096_bytes(rt: HostRuntime) -> Result<(), Fail> {
         let mut stream = Vec::from_slice(rt.alloc(), b"Content-Length: 2\r\nX: ")?;
         stream.extend_from_slice(vec![in rt.alloc(); b'a'; letters]?.as_slice())?;
         stream.extend_from_slice(b"\r\n\r\n{}")?;
-        for step in [1, 8192] {
-            let (found, found_end) = lengths_of(rt.alloc(), stream.as_slice(), step)?;
-            assert_eq!(rt; found.as_slice(), lengths);
-            assert_eq!(rt; found_end, end);
-        }
+        check_stream(&rt, rt.alloc(), (stream.as_slice(), lengths, end))?;
     }
     Ok(())
 }

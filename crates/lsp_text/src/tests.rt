@@ -146,86 +146,76 @@ fn refuses_in_order_in_both(rt: HostRuntime) -> Result<(), Fail> {
     refuses_in_order::<Lined>(&rt, rt.alloc())
 }
 
+/// A span, and the text in its place.
 type Inserted = ((u32, u32), (u32, u32), &'static str);
 
-/// Changes in order, and what they make of the text, or the rule that they break.
-fn changes_in_order<S: TextStore>(rt: &impl Abort, alloc: Global) -> Result<(), Fail> {
-    let deletes: Inserted = ((0, 0), (0, 1), "");
-    let adds: Inserted = ((0, 1), (0, 1), "X");
-    let reversed: Inserted = ((0, 1), (0, 0), "");
-    let nothing: Inserted = ((0, 0), (0, 0), "");
-    for (encoding, text, edits, result, rule) in [
-        (
-            Encoding::Utf16,
-            "ab\r\ncd",
-            [((0, 99), (0, 99), "X"), ((7, 0), (7, 0), "Y"), nothing],
-            "abX\r\ncdY",
-            0,
-        ),
-        (
-            Encoding::Utf16,
-            "a\rb\n",
-            [((1, 0), (1, 1), ""), ((1, 0), (1, 0), "x"), nothing],
-            "a\r\nx",
-            0,
-        ),
-        (
-            Encoding::Utf8,
-            "\u{1F600}a",
-            [((0, 4), (0, 4), "x"), nothing, nothing],
-            "\u{1F600}xa",
-            0,
-        ),
-        (
-            Encoding::Utf16,
-            "\u{1F600}a",
-            [((0, 2), (0, 2), "x"), nothing, nothing],
-            "\u{1F600}xa",
-            0,
-        ),
-        (
-            Encoding::Utf32,
-            "\u{1F600}a",
-            [((0, 1), (0, 1), "x"), nothing, nothing],
-            "\u{1F600}xa",
-            0,
-        ),
-        (
-            Encoding::Utf8,
-            "\u{1F600}a",
-            [adds, nothing, nothing],
-            "\u{1F600}a",
-            605,
-        ),
-        (
-            Encoding::Utf16,
-            "\u{1F600}a",
-            [adds, nothing, nothing],
-            "\u{1F600}a",
-            605,
-        ),
-        (Encoding::Utf16, "ab", [deletes, adds, nothing], "bX", 0),
-        (Encoding::Utf16, "ab", [deletes, adds, reversed], "bX", 606),
+/// Makes the changes of this text in order, and compares the text then and the rule that one breaks.
+fn check_changes<S: TextStore>(
+    rt: &impl Abort,
+    alloc: Global,
+    encoding: Encoding,
+    text: &str,
+    edits: &[Inserted],
+    left: &str,
+    rule: Option<u16>,
+) -> Result<(), Fail> {
+    let mut store = S::from_text(alloc, text)?;
+    let mut changes = Vec::new(alloc);
+    for (first, second, inserted) in edits {
+        let text = String::from_str(alloc, inserted)?;
+        changes.push(Change {
+            span: Some(span(*first, *second)),
+            text,
+        })?;
+    }
+    let wanted = match rule {
+        None => Ok(()),
+        Some(rule) => Err(TextFault::Rule(rule)),
+    };
+    assert_eq!(rt; change_all(&mut store, encoding, &changes, 100), wanted);
+    assert!(rt; store.equals(left));
+    assert!(rt; store.copy(alloc)?.equals(left));
+    Ok(())
+}
+
+/// Positions past the ends, an edit that joins a line end, and columns in each encoding.
+fn changes_at_ends<S: TextStore>(rt: &impl Abort, alloc: Global) -> Result<(), Fail> {
+    let past: [Inserted; 2] = [((0, 99), (0, 99), "X"), ((7, 0), (7, 0), "Y")];
+    let joins: [Inserted; 2] = [((1, 0), (1, 1), ""), ((1, 0), (1, 0), "x")];
+    for (text, edits, result) in [
+        ("ab\r\ncd", past, "abX\r\ncdY"),
+        ("a\rb\n", joins, "a\r\nx"),
     ] {
-        let mut store = S::from_text(alloc, text)?;
-        let mut changes = Vec::new(alloc);
-        for (first, second, inserted) in edits {
-            let text = String::from_str(alloc, inserted)?;
-            changes.push(Change {
-                span: Some(span(first, second)),
-                text,
-            })?;
-        }
-        let wanted = if rule == 0 {
-            Ok(())
-        } else {
-            Err(TextFault::Rule(rule))
-        };
-        assert_eq!(rt; change_all(&mut store, encoding, &changes, 100), wanted);
-        assert!(rt; store.equals(result));
-        assert!(rt; store.copy(alloc)?.equals(result));
+        check_changes::<S>(rt, alloc, Encoding::Utf16, text, &edits, result, None)?;
+    }
+    for (encoding, column, result, rule) in [
+        (Encoding::Utf8, 4, "\u{1F600}xa", None),
+        (Encoding::Utf16, 2, "\u{1F600}xa", None),
+        (Encoding::Utf32, 1, "\u{1F600}xa", None),
+        (Encoding::Utf8, 1, "\u{1F600}a", Some(605)),
+        (Encoding::Utf16, 1, "\u{1F600}a", Some(605)),
+    ] {
+        let edits: [Inserted; 1] = [((0, column), (0, column), "x")];
+        check_changes::<S>(rt, alloc, encoding, "\u{1F600}a", &edits, result, rule)?;
     }
     Ok(())
+}
+
+/// Each change is made to the text that the one before it left.
+fn changes_in_order<S: TextStore>(rt: &impl Abort, alloc: Global) -> Result<(), Fail> {
+    let edits: [Inserted; 3] = [
+        ((0, 0), (0, 1), ""),
+        ((0, 1), (0, 1), "X"),
+        ((0, 1), (0, 0), ""),
+    ];
+    check_changes::<S>(rt, alloc, Encoding::Utf16, "ab", &edits[..2], "bX", None)?;
+    check_changes::<S>(rt, alloc, Encoding::Utf16, "ab", &edits, "bX", Some(606))
+}
+
+#[test]
+fn changes_at_ends_in_both(rt: HostRuntime) -> Result<(), Fail> {
+    changes_at_ends::<Plain>(&rt, rt.alloc())?;
+    changes_at_ends::<Lined>(&rt, rt.alloc())
 }
 
 #[test]

@@ -1,30 +1,61 @@
-use super::*;
-use lsp_judge::StreamFault;
-use std::alloc::{AllocError, Global};
-use std::test::*;
+//! Worked streams and sessions through the runs, over readers and writers that give and take little.
+mod check;
+mod frames;
+mod logs;
+mod sessions;
 
-/// A reader that gives what is asked for or a byte a call, and whose calls fail once none is left.
+use super::*;
+
+/// A reader that gives so many bytes a call at most, and whose calls fail once none is left.
 #[derive(Drop)]
 struct Pieces<'a> {
     rest: &'a [u8],
-    single_bytes: bool,
+    most: usize,
     calls_left: u64,
 }
 
-impl Read for Pieces<'_> {
-    ghost use Rattle.std.specs.Prelude.{Some};
+impl<'a> Pieces<'a> {
+    /// A reader whose calls don't fail.
+    fn new(rest: &'a [u8], most: usize) -> Pieces<'a> {
+        Pieces {
+            rest,
+            most,
+            calls_left: u64::MAX,
+        }
+    }
+}
 
-    ghost remaining = { λ s. Some s.rest.now };
+impl Read for Pieces<'_> {
+    ghost use Rattle.std.specs.Prelude.{None};
+
+    ghost remaining = { λ _. None };
 
     fn read(&mut self, buf: &mut [u8]) -> io::Result<usize> {
         if self.calls_left == 0 {
             return Err(io::Error::from(io::ErrorKind::Other));
         }
         self.calls_left -= 1;
-        if buf.is_empty() || !self.single_bytes {
-            return self.rest.read(buf);
+        let most = buf.len().min(self.most);
+        self.rest.read(&mut buf[..most])
+    }
+}
+
+/// A reader that gives these bytes and fails in place of its end.
+#[derive(Drop)]
+struct Broken<'a> {
+    rest: &'a [u8],
+}
+
+impl Read for Broken<'_> {
+    ghost use Rattle.std.specs.Prelude.{None};
+
+    ghost remaining = { λ _. None };
+
+    fn read(&mut self, buf: &mut [u8]) -> io::Result<usize> {
+        if self.rest.is_empty() {
+            return Err(io::Error::from(io::ErrorKind::Other));
         }
-        self.rest.read(&mut buf[..1])
+        self.rest.read(buf)
     }
 }
 
@@ -58,303 +89,4 @@ impl Write for Sparing {
     fn flush(&mut self) -> io::Result<()> {
         Ok(())
     }
-}
-
-/// One canonical frame of 75 bytes of content, over and over.
-static FRAME: [u8; 97] =
-    *b"Content-Length: 75\r\n\r\n{\"jsonrpc\":\"2.0\",\"id\":1,\"method\":\"initialize\",\"params\":{\"capabilities\":{}}}";
-
-/// A reader without an end.
-#[derive(Drop)]
-struct Endless {
-    given: u64,
-}
-
-impl Read for Endless {
-    fn read(&mut self, buf: &mut [u8]) -> io::Result<usize> {
-        for byte in buf.iter_mut() {
-            *byte = FRAME[(self.given % 97) as usize];
-            self.given = self.given.wrapping_add(1);
-        }
-        Ok(buf.len())
-    }
-}
-
-/// How a run over a stream ended: without a fault, or with that of the frame of this number.
-type Ended = Result<Option<(u64, StreamFault)>, RunFault>;
-
-fn fault(frame: u64, rule: u16) -> Ended {
-    Ok(Some((frame, StreamFault::Rule(rule))))
-}
-
-fn ended_of(answer: &Result<Outcome, RunFault>) -> Ended {
-    match answer {
-        Ok(Outcome::Stream { frame, fault }) => Ok(Some((*frame, *fault))),
-        Ok(_) => Ok(None),
-        Err(fault) => Err(*fault),
-    }
-}
-
-/// Runs over a stream that comes in pieces, and gives the answer and what was written.
-fn run_in_pieces(alloc: Global, stream: &[u8], single_bytes: bool, mode: Mode) -> (Ended, Vec<u8>) {
-    let mut written = Vec::new(alloc);
-    let mut source = Input::new(Pieces {
-        rest: stream,
-        single_bytes,
-        calls_left: u64::MAX,
-    });
-    let ended = {
-        let mut sink = Output::new(&mut written);
-        run_frames(alloc, &mut source, &mut sink, Limits::profile(), mode)
-    };
-    (ended_of(&ended), written)
-}
-
-/// A header part whose field `X` has so many letters, and a content of two bytes.
-fn long_header(alloc: Global, letters: usize) -> Result<Vec<u8>, AllocError> {
-    let mut stream = Vec::from_slice(alloc, b"Content-Length: 2\r\nX: ".as_slice())?;
-    for _ in 0..letters {
-        stream.push(b'a')?;
-    }
-    stream.extend_from_slice(b"\r\n\r\n{}".as_slice())?;
-    Ok(stream)
-}
-
-#[test]
-fn lengths_of_streams_whole_and_in_single_bytes(rt: HostRuntime) -> Result<(), Fail> {
-    let longest = long_header(rt.alloc(), 4070)?;
-    let too_long = long_header(rt.alloc(), 4071)?;
-    let rows: [(&[u8], Ended, &str); 16] = [
-        (b"", Ok(None), ""),
-        (
-            b"Content-Length: 10\r\n\r\n{\"a\":\"\xc3\xa9\"}",
-            Ok(None),
-            "1 10\n",
-        ),
-        (
-            b"Content-Length: 9\r\n\r\n{\"a\":\"\xc3\xa9\"}",
-            fault(2, 107),
-            "1 9\nfault 107 frame 2\nstream ends inside a frame\n",
-        ),
-        (
-            b"Content-Length: 2\r\nContent-Length: 2\r\n\r\n{}",
-            fault(1, 103),
-            "fault 103 frame 1\nnot exactly one Content-Length\n",
-        ),
-        (
-            b"Content-Length: 2\n\n{}",
-            fault(1, 107),
-            "fault 107 frame 1\nstream ends inside a frame\n",
-        ),
-        (
-            b"Content-Length: 2\n\n{}Content-Length: 2\r\n\r\n{}",
-            fault(1, 102),
-            "fault 102 frame 1\nbad header line\n",
-        ),
-        (longest.as_slice(), Ok(None), "1 2\n"),
-        (
-            too_long.as_slice(),
-            fault(1, 101),
-            "fault 101 frame 1\nheader part too long\n",
-        ),
-        (b"Content-Length: 0000000002\r\n\r\n{}", Ok(None), "1 2\n"),
-        (
-            b"Content-Length: 1\r\n\r\n1Content-Length: +2\r\n\r\n{}",
-            fault(2, 104),
-            "1 1\nfault 104 frame 2\nbad Content-Length number\n",
-        ),
-        (
-            b"Content-Length: 00000000002\r\n\r\n{}",
-            fault(1, 104),
-            "fault 104 frame 1\nbad Content-Length number\n",
-        ),
-        (
-            b"Content-Length:\r\n\r\n{}",
-            fault(1, 104),
-            "fault 104 frame 1\nbad Content-Length number\n",
-        ),
-        (
-            b"Content-Length: 67108865\r\n\r\n{}",
-            fault(1, 105),
-            "fault 105 frame 1\ncontent too long\n",
-        ),
-        (
-            b"Content-Type: a; charset=utf8\r\nContent-Length: 0\r\n\r\n",
-            Ok(None),
-            "1 0\n",
-        ),
-        (
-            b"Content-Type: a; charset=utf-16\r\nContent-Length: 0\r\n\r\n",
-            fault(1, 106),
-            "fault 106 frame 1\ncharset is not utf-8\n",
-        ),
-        (b"Content-Length: 0\r\n\r\n", Ok(None), "1 0\n"),
-    ];
-    for (stream, ended, output) in rows {
-        for single_bytes in [false, true] {
-            let (answer, written) = run_in_pieces(rt.alloc(), stream, single_bytes, Mode::Lengths);
-            assert_eq!(rt; answer, ended, "{output}");
-            assert_eq!(rt; written.as_slice(), output.as_bytes());
-        }
-    }
-    Ok(())
-}
-
-#[test]
-fn canonical_frames_without_the_report(rt: HostRuntime) {
-    let rows: [(&[u8], Ended, &[u8]); 3] = [
-        (
-            b"content-length:0000000002 \r\n\r\n{}",
-            Ok(None),
-            b"Content-Length: 2\r\n\r\n{}",
-        ),
-        (
-            b"Content-Type: a; charset=\"UTF8\"\r\nContent-Length: 0\r\n\r\n",
-            Ok(None),
-            b"Content-Length: 0\r\n\r\n",
-        ),
-        (
-            b"Content-Length: 9\r\n\r\n{\"a\":\"\xc3\xa9\"}",
-            fault(2, 107),
-            b"Content-Length: 9\r\n\r\n{\"a\":\"\xc3\xa9\"",
-        ),
-    ];
-    for (stream, ended, output) in rows {
-        for single_bytes in [false, true] {
-            let (answer, written) = run_in_pieces(
-                rt.alloc(),
-                stream,
-                single_bytes,
-                Mode::Canonical,
-            );
-            assert_eq!(rt; answer, ended);
-            assert_eq!(rt; written.as_slice(), output);
-        }
-    }
-}
-
-/// The canonical frames of a request, a shutdown, an exit and three answers.
-const MESSAGES: &[u8] =
-    b"Content-Length: 75\r\n\r\n{\"jsonrpc\":\"2.0\",\"id\":1,\"method\":\"initialize\",\"params\":{\"capabilities\":{}}}Content-Length: 58\r\n\r\n{\"jsonrpc\":\"2.0\",\"id\":2,\"method\":\"shutdown\",\"params\":null}Content-Length: 33\r\n\r\n{\"jsonrpc\":\"2.0\",\"method\":\"exit\"}Content-Length: 38\r\n\r\n{\"jsonrpc\":\"2.0\",\"id\":2,\"result\":null}Content-Length: 62\r\n\r\n{\"jsonrpc\":\"2.0\",\"id\":7,\"error\":{\"code\":-32800,\"message\":\"c\"}}Content-Length: 41\r\n\r\n{\"jsonrpc\":\"2.0\",\"id\":null,\"result\":null}";
-
-#[test]
-fn kinds_up_to_the_first_content_that_is_no_message(rt: HostRuntime) {
-    let rows: [(&[u8], Ended, &str); 4] = [
-        (
-            MESSAGES,
-            Ok(None),
-            "1 75 request 1 \"initialize\"\n2 58 request 2 \"shutdown\"\n3 33 notification \"exit\"\n4 38 result 2\n5 62 error 7 -32800\n6 41 result null\n",
-        ),
-        (
-            b"Content-Length: 9\r\n\r\n{\"a\":\"\xc3\xa9\"}",
-            fault(1, 201),
-            "fault 201 frame 1\ncontent is not JSON\n",
-        ),
-        (
-            b"Content-Length: 33\r\n\r\n{\"jsonrpc\":\"2.0\",\"method\":\"exit\"}Content-Length: 2\r\n\r\n[]\n\n",
-            fault(2, 202),
-            "1 33 notification \"exit\"\nfault 202 frame 2\nmessage is not an object\n",
-        ),
-        (
-            b"Content-Length: 33\r\n\r\n{\"jsonrpc\":\"2.0\",\"method\":\"exit\"}Content",
-            fault(2, 107),
-            "1 33 notification \"exit\"\nfault 107 frame 2\nstream ends inside a frame\n",
-        ),
-    ];
-    for (stream, ended, output) in rows {
-        for single_bytes in [false, true] {
-            let (answer, written) = run_in_pieces(rt.alloc(), stream, single_bytes, Mode::Kinds);
-            assert_eq!(rt; answer, ended, "{output}");
-            assert_eq!(rt; written.as_slice(), output.as_bytes());
-        }
-    }
-}
-
-/// Two frames, and then a header part that is cut off: 41 bytes, so 42 calls read it by single bytes.
-const CUT_OFF: &[u8] = b"Content-Length: 1\r\n\r\n1Content-Length: 2\r\n";
-
-const CUT_OFF_LINES: &[u8] = b"1 1\nfault 107 frame 2\nstream ends inside a frame\n";
-
-#[test]
-fn a_reader_that_fails_at_any_call(rt: HostRuntime) {
-    for calls in 0..CUT_OFF.len() as u64 + 2 {
-        let mut written = Vec::new(rt.alloc());
-        let mut source = Input::new(Pieces {
-            rest: CUT_OFF,
-            single_bytes: true,
-            calls_left: calls,
-        });
-        let ended = {
-            let mut sink = Output::new(&mut written);
-            run_frames(
-                rt.alloc(),
-                &mut source,
-                &mut sink,
-                Limits::profile(),
-                Mode::Lengths,
-            )
-        };
-        if calls <= CUT_OFF.len() as u64 {
-            assert_eq!(rt; ended_of(&ended), Err(RunFault::Read));
-            assert_eq!(rt; status_of(&ended), 3);
-        } else {
-            assert_eq!(rt; ended_of(&ended), fault(2, 107));
-            assert_eq!(rt; status_of(&ended), 2);
-        }
-        assert!(rt; CUT_OFF_LINES.starts_with(written.as_slice()));
-    }
-}
-
-#[test]
-fn a_writer_that_fails_or_takes_nothing_at_any_call(rt: HostRuntime) {
-    for takes_nothing in [false, true] {
-        for calls in 0..CUT_OFF_LINES.len() as u64 + 1 {
-            let mut writer = Sparing {
-                bytes: Vec::new(rt.alloc()),
-                calls_left: calls,
-                takes_nothing,
-            };
-            let mut source = Input::new(CUT_OFF);
-            let ended = {
-                let mut sink = Output::new(&mut writer);
-                run_frames(
-                    rt.alloc(),
-                    &mut source,
-                    &mut sink,
-                    Limits::profile(),
-                    Mode::Lengths,
-                )
-            };
-            if calls < CUT_OFF_LINES.len() as u64 {
-                assert_eq!(rt; ended_of(&ended), Err(RunFault::Write));
-                assert_eq!(rt; status_of(&ended), 3);
-            } else {
-                assert_eq!(rt; ended_of(&ended), fault(2, 107));
-            }
-            assert_eq!(rt; writer.bytes.len() as u64, calls);
-            assert!(rt; CUT_OFF_LINES.starts_with(writer.bytes.as_slice()));
-        }
-    }
-}
-
-#[test]
-fn an_endless_reader_is_read_one_byte_past_the_limit(rt: HostRuntime) -> Result<(), Fail> {
-    let limits = Limits::new(4096, 67_108_864, 1_048_576, 0, 4096).ok_or("limits")?;
-    let mut lines = String::new(rt.alloc());
-    for frame in 1..43u64 {
-        writeln!(lines, "{frame} 75")?;
-    }
-    lines.push_str("fault L6 frame 43\nlog too long\n")?;
-    let mut written = Vec::new(rt.alloc());
-    let mut endless = Endless { given: 0 };
-    let ended = {
-        let mut source = Input::new(&mut endless);
-        let mut sink = Output::new(&mut written);
-        run_frames(rt.alloc(), &mut source, &mut sink, limits, Mode::Lengths)
-    };
-    assert_eq!(rt; ended_of(&ended), Ok(Some((43, StreamFault::TooLong))));
-    assert_eq!(rt; status_of(&ended), 2);
-    assert_eq!(rt; written.as_slice(), lines.as_bytes());
-    assert_eq!(rt; endless.given, 4097);
-    Ok(())
 }
