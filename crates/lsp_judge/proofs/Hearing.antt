@@ -81,10 +81,11 @@ call_refused side bytes limit events m enc kind faults.Memory is none e k named 
 pub heard : (side : Side) (bytes : List ℕ) (limit : ℕ) (events : List Event) (m : Sent) (enc : Encoding) (kind : SyncKind) (messages : session.State) (documents : docs.State) → IsSent side bytes m → rule_after (sent_in events) m ≡ None
     → enc ≡ unwrap_or (encoding (sent_in events)) Utf16 → kind ≡ unwrap_or (sync_kind (sent_in events)) Nothing
     → option_and_then (call_rule limit (calls events)) (call_of enc kind m.act) ≡ None
-    → session.Stands messages (sent_in events ++ m ∷ []) → docs.Stands documents (calls events ++ cons_option (call_of enc kind m.act) []) → Hears side bytes limit messages documents events
+    → session.Stands messages (sent_in events ++ m ∷ []) → docs.Stands documents (calls events ++ cons_option (call_of enc kind m.act) []) → Hears side bytes m.message limit messages documents events
 heard side bytes limit events m enc kind messages documents is none e k accepted sent called = record {
-  event = message m;
+  sent = m;
   reads = is;
+  says = refl;
   clean = offence_is limit events m None none (rule_is limit events m enc kind e k ∙ accepted);
   holds = record {
     sent = subst (λ (w : List Sent). session.Stands messages w) (sym (sent_in-append events (message m ∷ []))) sent;

@@ -1,20 +1,21 @@
 -- The contents of a record's bytes, heard one after another.
-use Rattle.std.proofs.Common.{◌≡◌, ◌≤◌, ◌+◌, ℕ, List, [], ◌∷◌, ◌++◌, length, Some, None, Ok, Err, inl, inr, refl, sym, ap, subst, ◌∙◌, append_assoc, append-nil, arith}
+use Rattle.std.proofs.Common.{◌≡◌, ◌<◌, ℕ, List, [], ◌∷◌, ◌++◌, length, Some, None, Ok, Err, inl, inr, refl, sym, ap, subst, append_assoc, append-nil, arith}
 use Rattle.std.specs.List.{AllZip}
 use Rattle.std.proofs.lemmas.List.{length-append}
 use Rattle.lsp_frame.specs.Bounds.{Bounds}
 use Rattle.lsp_frame.specs.Decoder as decoder
 use Rattle.lsp_frame.specs.Frame.{Frames, IsStream}
 use Rattle.lsp_frame.specs.Header.{blank_line}
+use Rattle.lsp_rpc.specs.Message.{Message}
 use Rattle.lsp_rpc.specs.declared.plain.Side.{Side}
 use Rattle.lsp_session.specs.State as session
 use Rattle.lsp_docs.specs.State as docs
 use Rattle.lsp_judge.specs.Contents.{ReadsAs}
-use Rattle.lsp_judge.specs.Event.{Event, fault}
+use Rattle.lsp_judge.specs.Event.{Event, message, fault}
 use Rattle.lsp_judge.specs.Given.{as_given}
 use Rattle.lsp_judge.specs.Rulings.{verdict_in, IsNoAt, IsNoAtSome}
 use Rattle.lsp_judge.specs.Standing.{AreCounts, Follows}
-use Rattle.lsp_judge.specs.Taking.{Heard, HeardAll, IsNext, Stopped}
+use Rattle.lsp_judge.specs.Taking.{HeardAs, HeardOne, HeardNone, IsNext, StoppedNext, Heard, HeardAll, Stopped}
 use Rattle.lsp_judge.specs.Verdict.{first_no, no_next, who_of}
 use Rattle.lsp_judge.specs.declared.counts.Counts.{Counts}
 use Rattle.lsp_judge.specs.declared.ruling.Ruling.{Ruling}
@@ -29,7 +30,7 @@ zip_push P (a ∷ xs) [] x y p q = absurd p
 zip_push P (a ∷ xs) (b ∷ ys) x y p q = (p.0, zip_push P xs ys x y p.1 q)
 
 -- a frame is no empty list of bytes
-pub shorter : (old new : decoder.State) (content : List ℕ) → decoder.Next old new (Ok (Some content)) → length new.rest + 1 ≤ length old.rest
+pub shorter : (old new : decoder.State) (content : List ℕ) → decoder.Next old new (Ok (Some content)) → length new.rest < length old.rest
 shorter old new content next =
     let gives : decoder.GivesFrame old new content = next.step in
     let ends = gives.is_frame.part.ends in
@@ -39,6 +40,55 @@ pub same_limits : (old new : decoder.State) (content : List ℕ) → decoder.Nex
 same_limits old new content next =
     let gives : decoder.GivesFrame old new content = next.step in
     ap (λ (s : decoder.State). s.limits) gives.same
+
+-- ---- the next content
+
+module _ (side : Side) (bytes : List ℕ) (contents : List (List ℕ)) (events : List Event) where
+  -- there is none
+  pub none_next : (old new : decoder.State) (m : session.State) (documents : docs.State) (c : Counts) → decoder.StandsFor old bytes contents → Follows m documents c events → decoder.Next old new (Ok None)
+      → HeardNone new m documents c bytes contents events
+  none_next old new m documents c stands follows next =
+      let told = next.stands bytes contents stands in
+      record { stands = told.0; ends = told.1; follows = follows }
+
+  -- it is heard
+  pub one_next : (old new : decoder.State) (m : session.State) (documents : docs.State) (c : Counts) (content : List ℕ) (said : Message) → decoder.StandsFor old bytes contents → decoder.Next old new (Ok (Some content))
+      → HeardAs side content said m documents c events → HeardOne side new m documents c bytes contents events said
+  one_next old new m documents c content said stands next heard = record { content = content; stands = next.stands bytes contents stands; heard = heard }
+
+  stopped_next : (limits : Bounds) (limit : ℕ) (event : Event) (r : Ruling) → first_no limit events ≡ None → IsNext side limits bytes contents event → IsNoAt limit events event r → StoppedNext side limits limit bytes contents events r
+  stopped_next limits limit event (No rule by number at) clean next named = record { event = event; clean = clean; next = next; named = named }
+  stopped_next limits limit event (BadLog number code) clean next named = named
+  stopped_next limits limit event Memory clean next named = tt
+
+  -- the frames have a fault
+  pub fault_next : (old new : decoder.State) (m : session.State) (documents : docs.State) (c : Counts) (rule : ℕ) (by : Who) (r : Ruling) → decoder.StandsFor old bytes contents → Follows m documents c events
+      → decoder.Next old new (Err rule) → by ≡ who_of side → ((so_far : List Event) → AreCounts c so_far → verdict_in r ≡ Some (as_given (no_next rule by so_far)))
+      → StoppedNext side old.limits documents.limit bytes contents events r
+  fault_next old new m documents c rule by r stands follows next is told =
+      let gives : decoder.GivesFault old new rule = next.step in
+      let stream = (next.stands bytes contents stands).1 in
+      let kept : new.limits ≡ old.limits = ap (λ (s : decoder.State). s.limits) gives.same in
+      stopped_next old.limits documents.limit (fault side rule) r follows.clean
+      (inr (rule, refl, (stream.0, subst (λ (w : Bounds). IsStream w bytes contents stream.0 (Some rule)) kept stream.1)))
+      (ruled documents.limit events (fault side rule) rule by r refl (sym is) (told events follows.counted))
+
+  -- it offends
+  pub content_next : (old new : decoder.State) (m : session.State) (documents : docs.State) (c : Counts) (content : List ℕ) (r : Ruling) → decoder.StandsFor old bytes contents → Follows m documents c events
+      → decoder.Next old new (Ok (Some content)) → IsNoAtSome documents.limit events (ReadsAs side content) r
+      → StoppedNext side old.limits documents.limit bytes contents events r
+  content_next old new m documents c content (No rule by number at) stands follows next one =
+      let given = next.stands bytes contents stands in
+      record {
+        event = one.0;
+        clean = follows.clean;
+        next = inl (content, one.1, (given.rest, subst (λ (w : Bounds). Frames w bytes (contents ++ content ∷ []) given.rest) (same_limits old new content next) given.frames));
+        named = one.2;
+      }
+  content_next old new m documents c content (BadLog number code) stands follows next one = one
+  content_next old new m documents c content Memory stands follows next one = tt
+
+-- ---- one content after another
 
 module _ (side : Side) (bytes : List ℕ) (contents : List (List ℕ)) (events : List Event) where
   pub nothing_heard : (d : decoder.State) (m : session.State) (documents : docs.State) (c : Counts) → decoder.StandsFor d bytes contents → Follows m documents c events → Heard side d m documents c bytes contents events
@@ -50,58 +100,29 @@ module _ (side : Side) (bytes : List ℕ) (contents : List (List ℕ)) (events :
     follows = subst (λ (w : List Event). Follows m documents c w) (sym (append-nil events)) follows;
   }
 
-  -- the decoder has no more
-  pub heard_all : (old new : decoder.State) (m : session.State) (documents : docs.State) (c : Counts) → Heard side old m documents c bytes contents events → decoder.Next old new (Ok None) → HeardAll side new m documents c bytes contents events
-  heard_all old new m documents c h next =
-      let told = next.stands bytes (contents ++ h.more) h.stands in
-      record { heard = record { more = h.more; later = h.later; read = h.read; stands = told.0; follows = h.follows }; ends = told.1 }
+  module _ (d : decoder.State) (m : session.State) (documents : docs.State) (c : Counts) (h : Heard side d m documents c bytes contents events) where
+    -- the decoder has no more
+    pub heard_all : (new : decoder.State) (new_m : session.State) (new_d : docs.State) (new_c : Counts) → HeardNone new new_m new_d new_c bytes (contents ++ h.more) (events ++ h.later) → HeardAll side new new_m new_d new_c bytes contents events
+    heard_all new new_m new_d new_c none = record { heard = record { more = h.more; later = h.later; read = h.read; stands = none.stands; follows = none.follows }; ends = none.ends }
 
-  -- one more content
-  pub one_heard : (old new : decoder.State) (old_m new_m : session.State) (old_d new_d : docs.State) (old_c new_c : Counts) (content : List ℕ) → Heard side old old_m old_d old_c bytes contents events → decoder.Next old new (Ok (Some content))
-      → ((so_far : List Event) → Follows old_m old_d old_c so_far → (e : Event) × ReadsAs side content e × Follows new_m new_d new_c (so_far ++ e ∷ []))
-      → Heard side new new_m new_d new_c bytes contents events
-  one_heard old new old_m new_m old_d new_d old_c new_c content h next message =
-      let one = message (events ++ h.later) h.follows in
-      record {
-        more = h.more ++ content ∷ [];
-        later = h.later ++ one.0 ∷ [];
-        read = zip_push (ReadsAs side) h.more h.later content one.0 h.read one.1;
-        stands = subst (λ (w : List (List ℕ)). decoder.StandsFor new bytes w) (append_assoc contents h.more (content ∷ [])) (next.stands bytes (contents ++ h.more) h.stands);
-        follows = subst (λ (w : List Event). Follows new_m new_d new_c w) (append_assoc events h.later (one.0 ∷ [])) one.2;
-      }
+    -- one content more
+    pub one_heard : (new : decoder.State) (new_m : session.State) (new_d : docs.State) (new_c : Counts) (said : Message) → HeardOne side new new_m new_d new_c bytes (contents ++ h.more) (events ++ h.later) said → Heard side new new_m new_d new_c bytes contents events
+    one_heard new new_m new_d new_c said one = record {
+      more = h.more ++ one.content ∷ [];
+      later = h.later ++ message one.heard.sent ∷ [];
+      read = zip_push (ReadsAs side) h.more h.later one.content (message one.heard.sent) h.read one.heard.reads;
+      stands = subst (λ (w : List (List ℕ)). decoder.StandsFor new bytes w) (append_assoc contents h.more (one.content ∷ [])) one.stands;
+      follows = subst (λ (w : List Event). Follows new_m new_d new_c w) (append_assoc events h.later (message one.heard.sent ∷ [])) one.heard.follows;
+    }
 
-  stopped : (limits : Bounds) (limit : ℕ) (more : List (List ℕ)) (later : List Event) (event : Event) (r : Ruling) → AllZip (ReadsAs side) more later → first_no limit (events ++ later) ≡ None → IsNext side limits bytes (contents ++ more) event
-      → IsNoAt limit (events ++ later) event r → Stopped side limits limit bytes contents events r
-  stopped limits limit more later event (No rule by number at) read clean next named =
-      record { more = more; later = later; event = event; read = read; clean = clean; next = next; named = named }
-  stopped limits limit more later event (BadLog number code) read clean next named = named
-  stopped limits limit more later event Memory read clean next named = tt
+    stopped_by : (limits : Bounds) (limit : ℕ) (r : Ruling) → StoppedNext side limits limit bytes (contents ++ h.more) (events ++ h.later) r → Stopped side limits limit bytes contents events r
+    stopped_by limits limit (No rule by number at) o = record { more = h.more; later = h.later; event = o.event; read = h.read; clean = o.clean; next = o.next; named = o.named }
+    stopped_by limits limit (BadLog number code) o = o
+    stopped_by limits limit Memory o = tt
 
-  -- the frames have a fault
-  pub fault_stops : (limits : Bounds) (limit : ℕ) (old new : decoder.State) (m : session.State) (documents : docs.State) (c : Counts) (rule : ℕ) (by : Who) (r : Ruling) → Heard side old m documents c bytes contents events
-      → decoder.Next old new (Err rule) → old.limits ≡ limits → documents.limit ≡ limit → by ≡ who_of side → ((so_far : List Event) → AreCounts c so_far → verdict_in r ≡ Some (as_given (no_next rule by so_far)))
-      → Stopped side limits limit bytes contents events r
-  fault_stops limits limit old new m documents c rule by r h next same same_limit is told =
-      let gives : decoder.GivesFault old new rule = next.step in
-      let stream = (next.stands bytes (contents ++ h.more) h.stands).1 in
-      let kept : new.limits ≡ limits = ap (λ (s : decoder.State). s.limits) gives.same ∙ same in
-      stopped limits limit h.more h.later (fault side rule) r h.read
-      (ap (λ l. first_no l (events ++ h.later)) (sym same_limit) ∙ h.follows.clean)
-      (inr (rule, refl, (stream.0, subst (λ (w : Bounds). IsStream w bytes (contents ++ h.more) stream.0 (Some rule)) kept stream.1)))
-      (ruled limit (events ++ h.later) (fault side rule) rule by r refl (sym is) (told (events ++ h.later) h.follows.counted))
-
-  -- a content offends
-  pub content_stops : (limits : Bounds) (limit : ℕ) (old new : decoder.State) (m : session.State) (documents : docs.State) (c : Counts) (content : List ℕ) (r : Ruling) → Heard side old m documents c bytes contents events
-      → decoder.Next old new (Ok (Some content)) → old.limits ≡ limits → documents.limit ≡ limit
-      → ((so_far : List Event) → Follows m documents c so_far → IsNoAtSome documents.limit so_far (ReadsAs side content) r)
-      → Stopped side limits limit bytes contents events r
-  content_stops limits limit old new m documents c content (No rule by number at) h next same same_limit message =
-      let one = message (events ++ h.later) h.follows in
-      let stands = next.stands bytes (contents ++ h.more) h.stands in
-      let kept : new.limits ≡ limits = same_limits old new content next ∙ same in
-      stopped limits limit h.more h.later one.0 (No rule by number at) h.read
-      (ap (λ l. first_no l (events ++ h.later)) (sym same_limit) ∙ h.follows.clean)
-      (inl (content, one.1, (stands.rest, subst (λ (w : Bounds). Frames w bytes ((contents ++ h.more) ++ content ∷ []) stands.rest) kept stands.frames)))
-      (subst (λ (l : ℕ). IsNoAt l (events ++ h.later) one.0 (No rule by number at)) same_limit one.2)
-  content_stops limits limit old new m documents c content (BadLog number code) h next same same_limit message = message (events ++ h.later) h.follows
-  content_stops limits limit old new m documents c content Memory h next same same_limit message = tt
+    -- the next offends
+    pub stopped : (limits : Bounds) (limit : ℕ) (r : Ruling) → d.limits ≡ limits → documents.limit ≡ limit → StoppedNext side d.limits documents.limit bytes (contents ++ h.more) (events ++ h.later) r → Stopped side limits limit bytes contents events r
+    stopped limits limit r same same_limit o =
+        stopped_by limits limit r
+        (subst (λ (l : ℕ). StoppedNext side limits l bytes (contents ++ h.more) (events ++ h.later) r) same_limit
+        (subst (λ (w : Bounds). StoppedNext side w documents.limit bytes (contents ++ h.more) (events ++ h.later) r) same o))

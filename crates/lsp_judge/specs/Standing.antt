@@ -2,8 +2,10 @@
 use Rattle.std.specs.Prelude.{◌≡◌, ℕ, List, [], ◌∷◌, ◌++◌, length, Option, Some, None, option_and_then}
 use Rattle.lsp_frame.specs.Bounds.{Bounds, IsInRange}
 use Rattle.lsp_frame.specs.Decoder as decoder
+use Rattle.lsp_rpc.specs.Message.{Message}
 use Rattle.lsp_rpc.specs.declared.plain.Side.{Side}
 use Rattle.lsp_rpc.specs.declared.plain.Side.TheVariants.{Editor, Server}
+use Rattle.lsp_session.specs.Sent.{Sent}
 use Rattle.lsp_session.specs.State as session
 use Rattle.lsp_docs.specs.State as docs
 use Rattle.lsp_docs.specs.State.{capped}
@@ -16,8 +18,8 @@ use Rattle.lsp_judge.specs.declared.fault.Fault.{Fault}
 use Rattle.lsp_judge.specs.declared.fault.Fault.TheVariants as fault
 use Rattle.lsp_judge.specs.declared.fault.Fault.TheVariants.{Rule}
 use Rattle.lsp_judge.specs.Calls.{calls}
-use Rattle.lsp_judge.specs.Contents.{ReadsAs}
-use Rattle.lsp_judge.specs.Event.{Event, sent_in}
+use Rattle.lsp_judge.specs.Contents.{IsSent, ReadsAs}
+use Rattle.lsp_judge.specs.Event.{Event, message, sent_in}
 use Rattle.lsp_judge.specs.Given.{as_given}
 use Rattle.lsp_judge.specs.Outcome.{Offends}
 use Rattle.lsp_judge.specs.Placed.{IsSession, joined}
@@ -38,12 +40,13 @@ pub record Holds (messages : session.State) (documents : docs.State) (events : L
   pub sent : session.Stands messages (sent_in events)
   pub called : docs.Stands documents (calls events)
 
--- the content is an event that doesn't offend, and what is held is what the events come to with it
-pub record Hears (side : Side) (content : List ℕ) (limit : ℕ) (messages : session.State) (documents : docs.State) (events : List Event) : Type 0 where
-  pub event : Event
-  pub reads : ReadsAs side content event
-  pub clean : offence limit events event ≡ None
-  pub holds : Holds messages documents (events ++ event ∷ [])
+-- the content is this message, which doesn't offend, and what is held is what the events come to with it
+pub record Hears (side : Side) (content : List ℕ) (said : Message) (limit : ℕ) (messages : session.State) (documents : docs.State) (events : List Event) : Type 0 where
+  pub sent : Sent
+  pub reads : IsSent side content sent
+  pub says : sent.message ≡ said
+  pub clean : offence limit events (message sent) ≡ None
+  pub holds : Holds messages documents (events ++ message sent ∷ [])
 
 -- the content is an event that offends this rule, unless memory ran out
 abbrev pub Refuses : Side → List ℕ → ℕ → List Event → Fault → Type 0

@@ -1,7 +1,7 @@
 //! The events of a session, judged one after another.
-ghost use Rattle.std.specs.Prelude.{◌≡◌, ◌++◌, ◌∷◌, [], List, None, Option, option_and_then, IfErr, OnOk, OnErr, chars, map, unwrap_or};
+ghost use Rattle.std.specs.Prelude.{◌≡◌, ◌++◌, ◌∷◌, [], List, None, Option, option_and_then, IfOk, IfErr, OnOk, OnErr, chars, map, unwrap_or};
 ghost use Rattle.std.specs.List.{cons_option};
-ghost use Rattle.lsp_rpc.specs.View.{act_view, changes_view};
+ghost use Rattle.lsp_rpc.specs.View.{act_view, changes_view, message_view};
 ghost use Rattle.lsp_docs.specs.Calls.{Call, changes};
 ghost use Rattle.lsp_docs.specs.Fault as doc_fault;
 ghost use Rattle.lsp_docs.specs.Rules.{call_rule};
@@ -12,6 +12,7 @@ ghost use Rattle.lsp_judge.specs.Event.{Event, snapshot as shown};
 ghost use Rattle.lsp_judge.specs.Faults.{Names};
 ghost use Rattle.lsp_judge.specs.Rulings.{IsNoAt, IsNoAtSome};
 ghost use Rattle.lsp_judge.specs.Standing.{Follows, Holds, Hears, Refuses};
+ghost use Rattle.lsp_judge.specs.Taking.{HeardAs};
 ghost use Rattle.lsp_judge.specs.Verdict as spec;
 
 use crate::counts::Counts;
@@ -20,7 +21,7 @@ use crate::ruling::Ruling;
 use crate::verdict::Who;
 use lsp_docs::{DocFault, Docs};
 use lsp_frame::Limits;
-use lsp_rpc::{Act, Change, Encoding, Side, SyncKind, act_of, read};
+use lsp_rpc::{Act, Change, Encoding, Message, Side, SyncKind, act_of, read};
 use lsp_session::Session;
 use lsp_text::TextStore;
 use std::alloc::Global;
@@ -45,23 +46,23 @@ impl<S: TextStore> Events<S> {
         }
     }
 
-    /// Hears what a content of a side says: the next event, or the No at it.
+    /// Hears what a content of a side says: the message that is the next event, or the No at it.
     pub(crate) fn message(
         &mut self,
         alloc: Global,
         side: Side,
         content: &[u8],
-    ) -> Result<(), Ruling>
+    ) -> Result<Message, Ruling>
         ensures limit { self.new.docs.limit ≡ self.old.docs.limit }
-        ensures ok { OnOk result ((events : List Event) → Follows self.old.session self.old.docs self.old.counts events
-            → (event : Event) × ReadsAs side content.now event × Follows self.new.session self.new.docs self.new.counts (events ++ event ∷ [])) }
+        ensures ok { IfOk result (λ said. (events : List Event) → Follows self.old.session self.old.docs self.old.counts events
+            → HeardAs side content.now (message_view said) self.new.session self.new.docs self.new.counts events) }
         ensures no { IfErr result (λ ruling. (events : List Event) → Follows self.old.session self.old.docs self.old.counts events
             → IsNoAtSome self.old.docs.limit events (ReadsAs side content.now) ruling) }
     {
         match self.hear(alloc, side, content) {
-            Ok(()) => {
+            Ok(message) => {
                 self.counts.add(who_of(side));
-                Ok(())
+                Ok(message)
             }
             Err(Fault::Rule(rule)) => Err(self.counts.no(rule, who_of(side))),
             Err(Fault::Memory) => Err(Ruling::Memory),
@@ -89,11 +90,11 @@ impl<S: TextStore> Events<S> {
     }
 
     /// Reads a content, admits its message, and takes over what it says of a document.
-    fn hear(&mut self, alloc: Global, side: Side, content: &[u8]) -> Result<(), Fault>
+    fn hear(&mut self, alloc: Global, side: Side, content: &[u8]) -> Result<Message, Fault>
         ensures limit { self.new.docs.limit ≡ self.old.docs.limit }
         ensures counts { self.new.counts ≡ self.old.counts }
-        ensures ok { OnOk result ((events : List Event) → Holds self.old.session self.old.docs events
-            → Hears side content.now self.old.docs.limit self.new.session self.new.docs events) }
+        ensures ok { IfOk result (λ said. (events : List Event) → Holds self.old.session self.old.docs events
+            → Hears side content.now (message_view said) self.old.docs.limit self.new.session self.new.docs events) }
         ensures rule { IfErr result (λ fault. (events : List Event) → Holds self.old.session self.old.docs events
             → Refuses side content.now self.old.docs.limit events fault) }
     {
@@ -103,7 +104,7 @@ impl<S: TextStore> Events<S> {
         let kind = self.session.sync_kind().unwrap_or(SyncKind::Nothing);
         self.session.admit(side, &message, &act)?;
         apply(&mut self.docs, encoding, kind, &act)?;
-        Ok(())
+        Ok(message)
     }
 }
 

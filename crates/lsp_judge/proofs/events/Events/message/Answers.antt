@@ -1,5 +1,6 @@
 use Rattle.std.proofs.Common.{sym, subst, ◌∙◌}
 use Rattle.lsp_judge.specs.Contents.{ReadsAs}
+use Rattle.lsp_judge.specs.Event.{Event, message}
 use Rattle.lsp_judge.specs.Standing.{AreCounts, Refuses}
 use Rattle.lsp_judge.specs.declared.counts.Counts.{Counts}
 use Rattle.lsp_judge.proofs.Following.{whose_content, follows_on, ruled, ruled_some}
@@ -8,13 +9,16 @@ use Rattle.lsp_judge.proofs.events.Events.message.Goals as goal
 pub returns-in-Ok-clause-ok : goal.returns-in-Ok-clause-ok
 returns-in-Ok-clause-ok g c = λ events follows.
     let h = c.in-Ok.ensures.ok events follows.holds in
-    let whose = whose_content c.args.side c.args.content.now h.event h.reads ∙ sym c.who_of.ensures in
-    let counted = subst (λ (w : Counts). AreCounts w events) (sym c.in-Ok.ensures.counts) follows.counted in (
-      h.event,
-      h.reads,
-      follows_on c.args.self.now.session c.hear.new.self.session c.args.self.now.docs c.hear.new.self.docs c.args.self.now.counts c.add.new.self events h.event follows c.in-Ok.ensures.limit h.clean h.holds
-          (c.add.ensures events h.event counted whose),
-    )
+    let event : Event = message h.sent in
+    let whose = whose_content c.args.side c.args.content.now event h.reads ∙ sym c.who_of.ensures in
+    let counted = subst (λ (w : Counts). AreCounts w events) (sym c.in-Ok.ensures.counts) follows.counted in
+    record {
+      sent = h.sent;
+      reads = h.reads;
+      says = h.says;
+      follows = follows_on c.args.self.now.session c.hear.new.self.session c.args.self.now.docs c.hear.new.self.docs c.args.self.now.counts c.add.new.self events event follows c.in-Ok.ensures.limit h.clean h.holds
+          (c.add.ensures events event counted whose);
+    }
 
 pub returns-in-Err-Rule-clause-no : goal.returns-in-Err-Rule-clause-no
 returns-in-Err-Rule-clause-no g c = λ events follows.
