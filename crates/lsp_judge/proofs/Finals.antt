@@ -46,7 +46,7 @@ final_is s rs flaw v limits o final =
     ∙ ap (λ x. verdict s.limits.document o.events (ending flaw x final.server)) editor
     ∙ ap (λ x. verdict s.limits.document o.events (ending flaw s.editor.rest x)) server
 
-open_clean : (s : State) (rs : List Record) → AreLimits s → (o : IsOpen s rs) → first_no s.limits.document o.events ≡ None
+pub open_clean : (s : State) (rs : List Record) → AreLimits s → (o : IsOpen s rs) → first_no s.limits.document o.events ≡ None
 open_clean s rs limits o = ap (λ l. first_no l o.events) (sym limits.documents) ∙ o.follows.clean
 
 -- nothing offends and the log has no fault: the rest decides
@@ -82,7 +82,7 @@ yes_final s rs given v none told sums stands final =
     ∙ ap (λ r. unwrap_or r (yes (summary s.limits.document o.events))) rest in
     sums o.events o.follows ∙ ap (λ l. as_given (yes (summary l o.events))) stands.limits.documents ∙ ap as_given (sym decides)
 
-capped_is : (n : ℕ) → n < 2 ^ 64 → capped n ≡ n
+pub capped_is : (n : ℕ) → n < 2 ^ 64 → capped n ≡ n
 capped_is n small = omega (arith, small)
 
 pub log_final : (s : State) (rs : List Record) (number : ℕ) (code : LogCode) (v : Verdict) → s.given ≡ None → number < 2 ^ 64 → Stands s rs → IsFinal s.limits rs (Some (number, code)) v → bad_log number code ≡ as_given v

@@ -33,3 +33,5 @@ pub mod StreamRuns
 pub mod StreamEndings
 pub mod StreamOutputs
 pub mod Logging
+pub mod Answering
+pub mod LogEnds

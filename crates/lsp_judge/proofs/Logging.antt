@@ -73,7 +73,7 @@ begins_log s bytes rs more st =
       },
     )
 
-as_some : (o : Option Verdict) (v : Verdict) → Some v ≡ option_map as_given o → (w : Verdict) × (o ≡ Some w) × (v ≡ as_given w)
+pub as_some : (o : Option Verdict) (v : Verdict) → Some v ≡ option_map as_given o → (w : Verdict) × (o ≡ Some w) × (v ≡ as_given w)
 as_some None v e = absurd cc
 as_some (Some w) v e = (w, refl, same_Some _ _ e)
 
@@ -221,13 +221,13 @@ broke_all limits before mid now r j fault so_far broke =
 
 -- ---- the steps come to an end
 
-spelling_some : (r : Record) → 1 ≤ length (spelling r)
+pub spelling_some : (r : Record) → 1 ≤ length (spelling r)
 spelling_some r =
     let line = head_line (head_of r) in
     let parts = flat_map with_feed (parts_of r) in
     omega (arith, length-append (with_feed line) parts, length-append line (10 ∷ []))
 
-records_fewer : (rs : List Record) → length rs ≤ length (flat_map spelling rs)
+pub records_fewer : (rs : List Record) → length rs ≤ length (flat_map spelling rs)
 records_fewer [] = omega arith
 records_fewer (r ∷ rs) = omega (arith, records_fewer rs, spelling_some r, length-append (spelling r) (flat_map spelling rs))
 

@@ -11,11 +11,12 @@ use Rattle.lsp_judge.specs.Calls.{calls}
 use Rattle.lsp_judge.specs.Event.{Event, sent_in}
 use Rattle.lsp_judge.specs.Headline.{YesMeansKept, KeptMeansYes, Names, HasRest107, NoNamesTheFirst, HasFault, BadLogMeansFault, YesAnswerMeansKept}
 use Rattle.lsp_judge.specs.Given.{as_given}
-use Rattle.lsp_judge.specs.Kept.{KeepsRules, AreFrames, AreKept}
+use Rattle.lsp_judge.specs.Kept.{NothingOffends, KeepsRules, AreFrames, AreKept}
 use Rattle.lsp_judge.specs.Outcome.{HasRest, is_rest, ending, IsFinal, IsVerdict}
-use Rattle.lsp_judge.specs.Placed.{joined}
+use Rattle.lsp_judge.specs.Placed.{IsSession, joined}
+use Rattle.lsp_judge.specs.declared.verdict.Who.{Who}
 use Rattle.lsp_judge.specs.declared.verdict.Who.TheVariants as who
-use Rattle.lsp_judge.specs.Verdict.{Verdict, Summary, yes, no, bad_log, no_next, no_by, first_no, bad_log_of, rest_of}
+use Rattle.lsp_judge.specs.Verdict.{Verdict, Summary, yes, no, bad_log, no_next, no_by, first_no, bad_log_of, rest_of, summary}
 use Rattle.lsp_judge.proofs.Bindings.{snapshots_agree}
 use Rattle.lsp_judge.proofs.CallsMade.{calls_accepted, versions_rise}
 use Rattle.lsp_judge.proofs.Messages.{admitted, answers_match, keeps_lifecycle}
@@ -78,21 +79,22 @@ yes_means_kept limits sizes log s v =
     let kept = are_kept limits sizes v.records v.fault s v.final in
     record { records = v.records; is_log = subst (IsLog limits log v.records) kept.1 v.is_log; kept = kept.0 }
 
-pub kept_means_yes : KeptMeansYes
-kept_means_yes limits log records events is_log session clean editor server = record {
-  records = records;
-  fault = None;
-  is_log = is_log;
-  final = record {
-    events = events;
-    editor = [];
-    server = [];
-    session = session;
-    editor_rest = (editor.0, None, editor.1);
-    server_rest = (server.0, None, server.1);
-    says = yes_where limits.document events (ending None [] []) (record { none = nothing_found limits.document events clean; no_fault = refl; no_rest = refl });
-  };
+-- the verdict on records where nothing offends and both streams are complete frames
+pub final_yes : (limits : Bounds) (records : List Record) (events : List Event) → IsSession limits records events → NothingOffends limits.document events
+    → AreFrames limits (joined Editor records) → AreFrames limits (joined Server records) → IsFinal limits records None (yes (summary limits.document events))
+final_yes limits records events session clean editor server = record {
+  events = events;
+  editor = [];
+  server = [];
+  session = session;
+  editor_rest = (editor.0, None, editor.1);
+  server_rest = (server.0, None, server.1);
+  says = yes_where limits.document events (ending None [] []) (record { none = nothing_found limits.document events clean; no_fault = refl; no_rest = refl });
 }
+
+pub kept_means_yes : KeptMeansYes
+kept_means_yes limits log records events is_log session clean editor server =
+    record { records = records; fault = None; is_log = is_log; final = final_yes limits records events session clean editor server }
 
 -- ---- No
 
@@ -111,6 +113,26 @@ rest_says es (b ∷ bs) server v e = let same : no_next 107 who.Editor es ≡ v 
 rest_says es [] (b ∷ bs) v e = let same : no_next 107 who.Server es ≡ v = cc e in inr (refl, omega arith, sym same)
 rest_says es [] [] v e = let same : None ≡ Some v = e in absurd cc
 
+-- what No says of records
+pub final_no : (limits : Bounds) (records : List Record) (flaw : Option (ℕ × LogCode)) (rule : ℕ) (who : Who) (number event : ℕ) → (final : IsFinal limits records flaw (no rule who number event))
+    → Names limits.document final.events (no rule who number event) ⊎ HasRest107 limits records flaw final.events (no rule who number event)
+final_no limits records flaw rule who number event final =
+    by_why (is_refused limits.document final.events (ending flaw final.editor final.server) (no rule who number event) tt final.says)
+  where
+    by_why : Why limits.document final.events (ending flaw final.editor final.server) (no rule who number event)
+        → Names limits.document final.events (no rule who number event) ⊎ HasRest107 limits records flaw final.events (no rule who number event)
+    by_why (inl first) = inl (names_first limits.document final.events (no rule who number event) first)
+    by_why (inr (none, inl found)) = absurd (log_says flaw (no rule who number event) found)
+    by_why (inr (none, inr (no_fault, rest))) = inr (record {
+      clean = nothing_offends limits.document final.events none;
+      no_fault = no_log_fault flaw no_fault;
+      editor = final.editor;
+      server = final.server;
+      editor_rest = final.editor_rest;
+      server_rest = final.server_rest;
+      named = rest_says final.events final.editor final.server (no rule who number event) rest;
+    })
+
 pub no_names : NoNamesTheFirst
 no_names limits log rule who number event v = record {
   records = v.records;
@@ -118,31 +140,17 @@ no_names limits log rule who number event v = record {
   events = v.final.events;
   is_log = v.is_log;
   session = v.final.session;
-  names = by_why (is_refused limits.document v.final.events (ending v.fault v.final.editor v.final.server) (no rule who number event) tt v.final.says);
+  names = final_no limits v.records v.fault rule who number event v.final;
 }
-  where
-    by_why : Why limits.document v.final.events (ending v.fault v.final.editor v.final.server) (no rule who number event)
-        → Names limits.document v.final.events (no rule who number event) ⊎ HasRest107 limits v.records v.fault v.final.events (no rule who number event)
-    by_why (inl first) = inl (names_first limits.document v.final.events (no rule who number event) first)
-    by_why (inr (none, inl flaw)) = absurd (log_says v.fault (no rule who number event) flaw)
-    by_why (inr (none, inr (no_fault, rest))) = inr (record {
-      clean = nothing_offends limits.document v.final.events none;
-      no_fault = no_log_fault v.fault no_fault;
-      editor = v.final.editor;
-      server = v.final.server;
-      editor_rest = v.final.editor_rest;
-      server_rest = v.final.server_rest;
-      named = rest_says v.final.events v.final.editor v.final.server (no rule who number event) rest;
-    })
 
 -- ---- BadLog
 
-abbrev IsNo : Verdict → Type 0
+abbrev pub IsNo : Verdict → Type 0
 IsNo (yes s) = ⊥
 IsNo (no rule who number event) = Unit {0}
 IsNo (bad_log number code) = ⊥
 
-by_says_no : (before : List Event) (e : Event) (rule : ℕ) → IsNo (no_by before e rule)
+pub by_says_no : (before : List Event) (e : Event) (rule : ℕ) → IsNo (no_by before e rule)
 by_says_no before e rule = tt
 
 rest_says_no : (es : List Event) (editor server : Bool) (v : Verdict) → rest_of es editor server ≡ Some v → IsNo v
@@ -176,7 +184,7 @@ bad_log_has limits log number code v =
 
 -- ---- a Yes that is answered
 
-is_yes_given : (v : Verdict) (s : Summary) → yes s ≡ as_given v → (t : Summary) × (v ≡ yes t)
+pub is_yes_given : (v : Verdict) (s : Summary) → yes s ≡ as_given v → (t : Summary) × (v ≡ yes t)
 is_yes_given (yes t) s e = (t, refl)
 is_yes_given (no rule by number event) s e = absurd cc
 is_yes_given (bad_log number code) s e = absurd cc

@@ -18,6 +18,7 @@ pub mod StreamSteps
 pub mod StreamLaws
 pub mod Shown
 pub mod Given
+pub mod Answered
 pub mod Faults
 pub mod Rulings
 pub mod Standing

@@ -3,20 +3,15 @@ use Rattle.std.specs.Prelude.{◌≡◌, ℕ, ◌+◌, ◌≤◌, List, [], ◌�
 use Rattle.std.specs.Io.KnownBytes.{Consumes}
 use Rattle.lsp_frame.specs.Bounds.{Bounds}
 use Rattle.lsp_frame.specs.Failures.{after_failure}
-use Rattle.lsp_frame.specs.Sink.{Told, Wrote, Stopped}
+use Rattle.lsp_frame.specs.Sink.{Told}
 use Rattle.lsp_log.specs.Log.{Record}
 use Rattle.lsp_log.specs.Reader as reader
 use Rattle.lsp_log.specs.Reader.{kept_by, StandsFor, MayFollow}
-use Rattle.lsp_judge.specs.declared.outcome.Outcome.{Outcome}
-use Rattle.lsp_judge.specs.declared.outcome.Outcome.TheVariants.{Judged}
-use Rattle.lsp_judge.specs.declared.outcome.RunFault.{RunFault}
-use Rattle.lsp_judge.specs.declared.outcome.RunFault.TheVariants as run_faults
 use Rattle.lsp_judge.specs.declared.run.JudgeFault.{JudgeFault}
 use Rattle.lsp_judge.specs.declared.run.JudgeFault.TheVariants as faults
 use Rattle.lsp_judge.specs.declared.verdict.Verdict as code
 use Rattle.lsp_judge.specs.Given.{verdict_view, as_given}
 use Rattle.lsp_judge.specs.Outcome.{Judges}
-use Rattle.lsp_judge.specs.Report.{report}
 use Rattle.lsp_judge.specs.Standing as judge
 use Rattle.lsp_judge.specs.Standing.{Stands}
 use Rattle.lsp_judge.specs.Verdict.{Verdict}
@@ -70,17 +65,3 @@ StepAnswers limits r j before after bytes records (Err fault) = Broke limits bef
 abbrev pub LogAnswers : Bounds → Told → Told → Result code.Verdict JudgeFault → Type 0
 LogAnswers limits before after (Ok v) = Answers limits before after [] (verdict_view v)
 LogAnswers limits before after (Err fault) = Broke limits before after [] fault
-
--- ---- the report
-
--- no verdict was found, or its report was not written: all that was written is a prefix of it
-abbrev pub ChecksNot : Bounds → Told → Told → Told → Told → RunFault → Type 0
-ChecksNot limits before after old new run_faults.Read = Broke limits before after [] faults.Read × (new ≡ old)
-ChecksNot limits before after old new run_faults.Memory = Broke limits before after [] faults.Memory × (new ≡ old)
-ChecksNot limits before after old new run_faults.Write = (v : Verdict) × Answers limits before after [] v × Stopped old new (report v)
-
--- **the report of the verdict on the log is written**, and nothing before the verdict is known
-abbrev pub Checks : Bounds → Told → Told → Told → Told → Result Outcome RunFault → Type 0
-Checks limits before after old new (Ok (Judged v)) = Answers limits before after [] (verdict_view v) × Wrote old new (report (verdict_view v))
-Checks limits before after old new (Ok _) = ⊥
-Checks limits before after old new (Err fault) = ChecksNot limits before after old new fault

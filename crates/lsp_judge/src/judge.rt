@@ -1,9 +1,11 @@
 //! Judges a recorded session record by record.
-ghost use Rattle.std.specs.Prelude.{◌≡◌, ◌++◌, ◌∷◌, [], List, Option, Some, None, IfOk, IfErr, OnOk, OnErr, option_map};
+ghost use Rattle.std.specs.Prelude.{◌≡◌, ◌⊎◌, ◌++◌, ◌∷◌, [], ℕ, List, Option, Some, None, Ok, IfOk, IfErr, OnOk, OnErr, option_map};
 ghost use Rattle.lsp_log.specs.Log as log;
 ghost use Rattle.lsp_log.specs.Records.{record_view};
+ghost use Rattle.lsp_judge.specs.Answered.{NamesFirst, NamesRest, NoneOffends, AreClean, SaysYes};
 ghost use Rattle.lsp_judge.specs.Event.{Event};
 ghost use Rattle.lsp_judge.specs.Given.{verdict_view, as_given};
+ghost use Rattle.lsp_judge.specs.Kept.{AreKept};
 ghost use Rattle.lsp_judge.specs.Outcome.{IsFinal, is_rest};
 ghost use Rattle.lsp_judge.specs.Placed.{IsSession};
 ghost use Rattle.lsp_judge.specs.Rulings.{RestIs, IfRefused};
@@ -14,7 +16,7 @@ use crate::contents::take_bytes;
 use crate::events::Events;
 use crate::ruling::Ruling;
 use crate::summary::summary_of;
-use crate::verdict::{Verdict, Who};
+use crate::verdict::{Summary, Verdict, Who};
 use lsp_frame::{Decoder, Limits};
 use lsp_log::{LogCode, Record};
 use lsp_rpc::{Memory, Side};
@@ -77,8 +79,14 @@ impl<S: TextStore> Judge<S> {
         ensures verdict { IfOk result (λ answer. (records : List log.Record) (events : List Event) → Stands self.old records
             → IsSession self.old.limits (records ++ record_view next ∷ []) events
             → option_map verdict_view answer ≡ option_map as_given (spec.first_no self.old.limits.document events)) }
+        // A No names the first event of the records that offends, and its least rule.
+        ensures no { (records : List log.Record) (rule number event : ℕ) (who : Who) → Stands self.old records
+            → result ≡ Ok (Some (Verdict.No rule who number event))
+            → NamesFirst self.old.limits (records ++ record_view next ∷ []) (spec.no rule who number event) }
+        ensures none { (records : List log.Record) → Stands self.old records → result ≡ Ok None
+            → NoneOffends self.old.limits (records ++ record_view next ∷ []) }
         ensures given { IfOk result (λ answer. option_map verdict_view answer ≡ is_given self.new.given) }
-        ensures kept { (ruling : Ruling) → self.old.given ≡ Some ruling → self.new ≡ self.old }
+        ensures stays { (ruling : Ruling) → self.old.given ≡ Some ruling → self.new ≡ self.old }
         ensures memory { OnErr result (self.new.given ≡ Some Ruling.Memory) }
     {
         if let Some(ruling) = self.given {
@@ -100,8 +108,14 @@ impl<S: TextStore> Judge<S> {
         ensures limits { self.new.limits ≡ self.old.limits }
         ensures verdict { (records : List log.Record) (v : spec.Verdict) → Stands self.old records
             → IsFinal self.old.limits records (Some (number, fault)) v → verdict_view result ≡ as_given v }
+        // A No names the first event of the records that offends; the fault is given where none does.
+        ensures no { (records : List log.Record) (rule count event : ℕ) (who : Who) → Stands self.old records
+            → result ≡ Verdict.No rule who count event
+            → NamesFirst self.old.limits records (spec.no rule who count event) }
+        ensures fault { (records : List log.Record) (at : ℕ) (code : LogCode) → Stands self.old records
+            → result ≡ Verdict.BadLog at code → (at ≡ number) × (code ≡ fault) × NoneOffends self.old.limits records }
         ensures given { Some (verdict_view result) ≡ is_given self.new.given }
-        ensures kept { (ruling : Ruling) → self.old.given ≡ Some ruling → self.new ≡ self.old }
+        ensures stays { (ruling : Ruling) → self.old.given ≡ Some ruling → self.new ≡ self.old }
     {
         match self.given {
             Some(
@@ -131,8 +145,19 @@ impl<S: TextStore> Judge<S> {
         ensures limits { self.new.limits ≡ self.old.limits }
         ensures verdict { IfOk result (λ answer. (records : List log.Record) (v : spec.Verdict) → Stands self.old records
             → IsFinal self.old.limits records None v → verdict_view answer ≡ as_given v) }
+        // Yes means that the records are kept, and a No names the first event that offends, or the
+        // stream that ends inside a frame.
+        ensures yes { (records : List log.Record) (s : Summary) → Stands self.old records
+            → result ≡ Ok (Verdict.Yes s) → AreKept self.old.limits records }
+        ensures no { (records : List log.Record) (rule number event : ℕ) (who : Who) → Stands self.old records
+            → result ≡ Ok (Verdict.No rule who number event)
+            → NamesFirst self.old.limits records (spec.no rule who number event)
+            ⊎ NamesRest self.old.limits records (spec.no rule who number event) }
+        ensures kept { (records : List log.Record) (events : List Event) → Stands self.old records
+            → AreClean self.old.limits records events
+            → IfOk result (λ answer. SaysYes self.old.limits events (verdict_view answer)) }
         ensures given { IfOk result (λ answer. IfRefused (verdict_view answer) (is_given self.new.given ≡ Some (verdict_view answer))) }
-        ensures kept { (ruling : Ruling) → self.old.given ≡ Some ruling → self.new ≡ self.old }
+        ensures stays { (ruling : Ruling) → self.old.given ≡ Some ruling → self.new ≡ self.old }
         ensures memory { OnErr result (self.new.given ≡ Some Ruling.Memory) }
     {
         if let Some(ruling) = self.given {

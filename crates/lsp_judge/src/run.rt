@@ -1,5 +1,6 @@
 //! Judges a log from its bytes.
 ghost use Rattle.std.specs.Prelude.{◌≡◌, List, None, ℕ};
+ghost use Rattle.lsp_frame.specs.Bounds.{IsInRange};
 ghost use Rattle.lsp_log.specs.Log.{Record};
 ghost use Rattle.lsp_judge.specs.Logged.{AreAt, StepAnswers, LogAnswers};
 
@@ -40,7 +41,8 @@ pub fn judge_log<S: TextStore, R: Source>(
     reader: &mut R,
     limits: Limits,
 ) -> Result<Verdict, JudgeFault>
-    ensures { LogAnswers limits
+    ensures range { IsInRange limits }
+    ensures answer { LogAnswers limits
         (record { bytes = R.remaining reader.old; failures = R.failures reader.old })
         (record { bytes = R.remaining reader.new; failures = R.failures reader.new })
         result }

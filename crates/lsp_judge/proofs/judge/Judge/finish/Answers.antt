@@ -3,6 +3,7 @@ use Rattle.lsp_judge.specs.Event.{Event}
 use Rattle.lsp_judge.specs.Given.{summary_view, as_given}
 use Rattle.lsp_judge.specs.Standing.{State, Follows}
 use Rattle.lsp_judge.specs.Verdict.{yes, summary}
+use Rattle.lsp_judge.proofs.Answering.{ok_at, records_kept, records_refused, records_clean}
 use Rattle.lsp_judge.proofs.Finals.{given_final, rest_final, yes_final}
 use Rattle.lsp_judge.proofs.Tails.{if_ok}
 use Rattle.lsp_judge.proofs.judge.Judge.finish.Goals as goal
@@ -22,3 +23,31 @@ returns-in-Ok-clause-verdict g c = λ records v stands final.
     let given = ap (λ (s : State). s.given) (sym c.self.view_is) ∙ c.in_default.is in
     let sums = subst (λ (s : State). (events : List Event) → Follows s.messages s.documents s.counts events → yes (summary_view c.in-Ok.summary) ≡ as_given (yes (summary s.documents.limit events))) c.self.view_is c.in-Ok.ensures in
     yes_final c.args.self.now records _ v given c.in_default-rest.ensures sums stands final
+
+pub returns-in-Some-clause-yes : goal.returns-in-Some-clause-yes
+returns-in-Some-clause-yes g c = λ records s stands e.
+    records_kept _ stands.limits.range records _ (λ v. ok_at c.answer.result _ _ e (returns-in-Some-clause-verdict g c) records v stands)
+
+pub returns-in-Some-clause-no : goal.returns-in-Some-clause-no
+returns-in-Some-clause-no g c = λ records rule number event who stands e.
+    records_refused _ records rule who number event (λ v. ok_at c.answer.result _ _ e (returns-in-Some-clause-verdict g c) records v stands)
+
+pub returns-in-Some-clause-kept : goal.returns-in-Some-clause-kept
+returns-in-Some-clause-kept g c = λ records events stands clean.
+    if_ok c.answer.result _ _ (λ answer says. records_clean _ records events _ clean (λ v. says records v stands)) (returns-in-Some-clause-verdict g c)
+
+pub returns-in-Some-rest-clause-no : goal.returns-in-Some-rest-clause-no
+returns-in-Some-rest-clause-no g c = λ records rule number event who stands e.
+    records_refused _ records rule who number event (λ v. ok_at c.answer-in-Some-rest.result _ _ e (returns-in-Some-rest-clause-verdict g c) records v stands)
+
+pub returns-in-Some-rest-clause-kept : goal.returns-in-Some-rest-clause-kept
+returns-in-Some-rest-clause-kept g c = λ records events stands clean.
+    if_ok c.answer-in-Some-rest.result _ _ (λ answer says. records_clean _ records events _ clean (λ v. says records v stands)) (returns-in-Some-rest-clause-verdict g c)
+
+pub returns-in-Ok-clause-yes : goal.returns-in-Ok-clause-yes
+returns-in-Ok-clause-yes g c = λ records s stands e.
+    records_kept _ stands.limits.range records _ (λ v. returns-in-Ok-clause-verdict g c records v stands)
+
+pub returns-in-Ok-clause-kept : goal.returns-in-Ok-clause-kept
+returns-in-Ok-clause-kept g c = λ records events stands clean.
+    records_clean _ records events _ clean (λ v. returns-in-Ok-clause-verdict g c records v stands)

@@ -1,6 +1,7 @@
-use Rattle.std.proofs.Common.{ap, sym, ◌∙◌, ◌∷◌, []}
+use Rattle.std.proofs.Common.{ap, sym, ◌∙◌, ◌∷◌, ◌++◌, []}
 use Rattle.lsp_log.specs.Records.{record_view}
 use Rattle.lsp_judge.specs.Standing.{State}
+use Rattle.lsp_judge.proofs.Answering.{taken_no, taken_clean}
 use Rattle.lsp_judge.proofs.Records.{given_stays, given_verdict, none_verdict, rule_verdict}
 use Rattle.lsp_judge.proofs.judge.Judge.take.Goals as goal
 
@@ -23,3 +24,15 @@ pub returns-in_ok-answer-in-Err-clause-verdict : goal.returns-in_ok-answer-in-Er
 returns-in_ok-answer-in-Err-clause-verdict g c = λ records events stands session.
     let given = ap (λ (s : State). s.given) (sym c.self.view_is) ∙ c.in_default.is in
     rule_verdict c.args.self.now records (record_view c.args.next ∷ []) c.in-Err.ruling _ events given c.in_ok-answer-in-Err.ensures.ok (c.in-Err.ensures.no records) stands session
+
+pub returns-in-Some-clause-no : goal.returns-in-Some-clause-no
+returns-in-Some-clause-no g c = λ records rule number event who stands e.
+    taken_no _ (records ++ record_view c.args.next ∷ []) _ rule number event who (λ events session. returns-in-Some-clause-verdict g c records events stands session) e
+
+pub returns-in-Ok-clause-none : goal.returns-in-Ok-clause-none
+returns-in-Ok-clause-none g c = λ records stands e.
+    taken_clean _ (records ++ record_view c.args.next ∷ []) (λ events session. returns-in-Ok-clause-verdict g c records events stands session)
+
+pub returns-in_ok-answer-in-Err-clause-no : goal.returns-in_ok-answer-in-Err-clause-no
+returns-in_ok-answer-in-Err-clause-no g c = λ records rule number event who stands e.
+    taken_no _ (records ++ record_view c.args.next ∷ []) _ rule number event who (λ events session. returns-in_ok-answer-in-Err-clause-verdict g c records events stands session) e

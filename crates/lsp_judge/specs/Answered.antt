@@ -1,0 +1,84 @@
+-- What is answered on a log and on records, in plain words. A count past the greatest u64 is given as that.
+use Rattle.std.specs.Prelude.{◌≡◌, ◌⊎◌, ℕ, List, Option, None}
+use Rattle.lsp_frame.specs.Bounds.{Bounds}
+use Rattle.lsp_rpc.specs.declared.plain.Side.TheVariants.{Editor, Server}
+use Rattle.lsp_log.specs.Log.{Record, BeginsLog, IsLog}
+use Rattle.lsp_judge.specs.Event.{Event}
+use Rattle.lsp_judge.specs.Given.{as_given}
+use Rattle.lsp_judge.specs.Headline.{Names, HasRest107}
+use Rattle.lsp_judge.specs.Kept.{NothingOffends, AreFrames}
+use Rattle.lsp_judge.specs.Outcome.{Judges}
+use Rattle.lsp_judge.specs.Placed.{IsSession, joined}
+use Rattle.lsp_judge.specs.Report.{report}
+use Rattle.lsp_judge.specs.RunIo.{OfRead, AppendsFront}
+use Rattle.lsp_judge.specs.Verdict.{Verdict, yes, summary}
+
+-- this is answered as the verdict on the log
+abbrev pub HasVerdict : Bounds → List ℕ → Verdict → Type 0
+HasVerdict limits log given = (v : Verdict) × Judges limits log v × (given ≡ as_given v)
+
+-- ---- No
+
+-- an event of the records offends by the rule given, which is the least that it offends; no earlier event offends
+pub record NamesFirst (limits : Bounds) (records : List Record) (given : Verdict) : Type 0 where
+  pub events : List Event
+  pub session : IsSession limits records events
+  pub verdict : Verdict
+  pub names : Names limits.document events verdict
+  pub is : given ≡ as_given verdict
+
+-- no event of the records offends, and a stream ends inside a frame: 107 is given, the editor's named first
+pub record NamesRest (limits : Bounds) (records : List Record) (given : Verdict) : Type 0 where
+  pub events : List Event
+  pub session : IsSession limits records events
+  pub verdict : Verdict
+  pub names : HasRest107 limits records None events verdict
+  pub is : given ≡ as_given verdict
+
+-- the log begins with records of which an event offends
+pub record OffendsFirst (limits : Bounds) (log : List ℕ) (given : Verdict) : Type 0 where
+  pub records : List Record
+  pub rest : List ℕ
+  pub begins : BeginsLog limits log records rest
+  pub names : NamesFirst limits records given
+
+-- the log has no fault, and a stream of it ends inside a frame
+pub record EndsInsideFrame (limits : Bounds) (log : List ℕ) (given : Verdict) : Type 0 where
+  pub records : List Record
+  pub is_log : IsLog limits log records None
+  pub names : NamesRest limits records given
+
+-- **What No says of a log.**
+abbrev pub IsRefused : Bounds → List ℕ → Verdict → Type 0
+IsRefused limits log given = OffendsFirst limits log given ⊎ EndsInsideFrame limits log given
+
+-- ---- BadLog
+
+-- no event of the records offends
+abbrev pub NoneOffends : Bounds → List Record → Type 0
+NoneOffends limits records = (events : List Event) → IsSession limits records events → NothingOffends limits.document events
+
+-- ---- Yes
+
+-- these are the events of the records, none of them offends, and both streams are complete frames
+pub record AreClean (limits : Bounds) (records : List Record) (events : List Event) : Type 0 where
+  pub session : IsSession limits records events
+  pub clean : NothingOffends limits.document events
+  pub editor : AreFrames limits (joined Editor records)
+  pub server : AreFrames limits (joined Server records)
+
+-- and the log has no fault
+abbrev pub IsClean : Bounds → List ℕ → List Event → Type 0
+IsClean limits log events = (records : List Record) × IsLog limits log records None × AreClean limits records events
+
+-- Yes is given, with the summary of these events
+abbrev pub SaysYes : Bounds → List Event → Verdict → Type 0
+SaysYes limits events given = given ≡ as_given (yes (summary limits.document events))
+
+-- ---- a report
+
+-- a verdict on the log read was found, and a prefix of its report is written
+pub record IsReportCut (limits : Bounds) (before after old new : Option (List ℕ)) : Type 0 where
+  pub given : Verdict
+  pub says : OfRead limits before after (λ log. HasVerdict limits log given)
+  pub writes : AppendsFront old new (report given)
