@@ -35,3 +35,13 @@ pub mod StreamOutputs
 pub mod Logging
 pub mod Answering
 pub mod LogEnds
+pub mod NormalPieces
+pub mod NormalForms
+pub mod NormalContents
+pub mod NormalBringing
+pub mod NormalRecords
+pub mod NormalLogs
+pub mod NormalRows
+pub mod NormalOne
+pub mod NormalAgain
+pub mod NormalVerdict

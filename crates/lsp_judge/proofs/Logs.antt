@@ -35,7 +35,7 @@ spellings limits sizes (r ∷ rs) (u ∷ us) xs ys p q e =
     (sym (append_assoc (spelling r) (flat_map spelling rs) xs) ∙ e ∙ append_assoc (spelling u) (flat_map spelling us) ys) in
     subst (λ (w : Record). Begin (r ∷ rs) (w ∷ us)) heads.0 (begin_next r rs us (spellings limits sizes rs us xs ys p.1 q.1 heads.1))
 
-both_begin : (limits : Bounds) → IsInRange limits → (log : List ℕ) (rs us : List Record) (xs ys : List ℕ) → BeginsLog limits log rs xs → BeginsLog limits log us ys → Begin rs us
+pub both_begin : (limits : Bounds) → IsInRange limits → (log : List ℕ) (rs us : List Record) (xs ys : List ℕ) → BeginsLog limits log rs xs → BeginsLog limits log us ys → Begin rs us
 both_begin limits sizes log rs us xs ys p q =
     spellings limits sizes rs us xs ys p.fits q.fits
     (append_cancel_left first_line _ _

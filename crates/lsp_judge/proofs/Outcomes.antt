@@ -42,12 +42,12 @@ merged_joined : (side : Side) (rs : List Record) → joined side (merged rs) ≡
 merged_joined side [] = refl
 merged_joined side (r ∷ rs) = put_joined side r (merged rs) ∙ behind side r (merged rs) rs (merged_joined side rs)
 
-cut_joined : (side : Side) (rs us : List Record) → merged rs ≡ merged us → joined side rs ≡ joined side us
+pub cut_joined : (side : Side) (rs us : List Record) → merged rs ≡ merged us → joined side rs ≡ joined side us
 cut_joined side rs us e = sym (merged_joined side rs) ∙ ap (joined side) e ∙ merged_joined side us
 
 -- ---- one verdict
 
-one_rest : (limits : Bounds) (bytes more r s : List ℕ) → bytes ≡ more → HasRest limits bytes r → HasRest limits more s → r ≡ s
+pub one_rest : (limits : Bounds) (bytes more r s : List ℕ) → bytes ≡ more → HasRest limits bytes r → HasRest limits more s → r ≡ s
 one_rest limits bytes more r s e p q =
     let p' : HasRest limits more r = subst (λ (w : List ℕ). HasRest limits w r) e p in
     (one_stream limits more p'.0 q.0 r s p'.1 q.1 p'.2 q.2).rest
@@ -70,7 +70,7 @@ says_no limit es end v e = ap (λ o. unwrap_or (option_or o (option_or (bad_log_
 -- ---- more records
 
 -- the events of the first records are the first ones
-placed_front : (limits : Bounds) (editor server : List ℕ) (rs more : List Record) (raws all : List Raw) → PlacedAfter limits editor server rs raws → PlacedAfter limits editor server (rs ++ more) all → (later : List Raw) × (all ≡ raws ++ later)
+pub placed_front : (limits : Bounds) (editor server : List ℕ) (rs more : List Record) (raws all : List Raw) → PlacedAfter limits editor server rs raws → PlacedAfter limits editor server (rs ++ more) all → (later : List Raw) × (all ≡ raws ++ later)
 placed_front limits editor server [] more raws all p q = (all, ap (λ w. w ++ all) (sym p))
 placed_front limits editor server (chunk Editor b ∷ rs) more raws all p q =
     let rest = placed_front limits (editor ++ b) server rs more p.1 q.1 p.4 q.4 in

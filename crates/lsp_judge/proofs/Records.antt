@@ -40,25 +40,25 @@ joined-snoc side (chunk by b ∷ rs) r = by_side (same_side side by) (joined-sno
 joined-snoc side (shown n uri t ∷ rs) r = joined-snoc side rs r
 
 -- a record of a side's bytes comes behind its bytes
-joined_own : (side : Side) (rs : List Record) (b : List ℕ) → joined side (rs ++ chunk side b ∷ []) ≡ joined side rs ++ b
+pub joined_own : (side : Side) (rs : List Record) (b : List ℕ) → joined side (rs ++ chunk side b ∷ []) ≡ joined side rs ++ b
 joined_own Editor rs b = joined-snoc Editor rs (chunk Editor b) ∙ ap (λ w. joined Editor rs ++ w) (append-nil b)
 joined_own Server rs b = joined-snoc Server rs (chunk Server b) ∙ ap (λ w. joined Server rs ++ w) (append-nil b)
 
-joined_server : (rs : List Record) (b : List ℕ) → joined Server (rs ++ chunk Editor b ∷ []) ≡ joined Server rs
+pub joined_server : (rs : List Record) (b : List ℕ) → joined Server (rs ++ chunk Editor b ∷ []) ≡ joined Server rs
 joined_server rs b = joined-snoc Server rs (chunk Editor b) ∙ append-nil (joined Server rs)
 
-joined_editor : (rs : List Record) (b : List ℕ) → joined Editor (rs ++ chunk Server b ∷ []) ≡ joined Editor rs
+pub joined_editor : (rs : List Record) (b : List ℕ) → joined Editor (rs ++ chunk Server b ∷ []) ≡ joined Editor rs
 joined_editor rs b = joined-snoc Editor rs (chunk Server b) ∙ append-nil (joined Editor rs)
 
-joined_shown : (side : Side) (rs : List Record) (n : ℤ) (uri t : List ℕ) → joined side (rs ++ shown n uri t ∷ []) ≡ joined side rs
+pub joined_shown : (side : Side) (rs : List Record) (n : ℤ) (uri t : List ℕ) → joined side (rs ++ shown n uri t ∷ []) ≡ joined side rs
 joined_shown side rs n uri t = joined-snoc side rs (shown n uri t) ∙ append-nil (joined side rs)
 
-drained_along : (d : decoder.State) (bytes more : List ℕ) → bytes ≡ more → IsDrained d bytes → IsDrained d more
+pub drained_along : (d : decoder.State) (bytes more : List ℕ) → bytes ≡ more → IsDrained d bytes → IsDrained d more
 drained_along d bytes more e p = subst (IsDrained d) e p
 
 -- ---- the session, with one more record
 
-placed_one : (limits : Bounds) (side : Side) (rs : List Record) (b : List ℕ) (now : List Raw) → Brings limits side (joined side rs) b now → PlacedAfter limits (joined Editor rs) (joined Server rs) (chunk side b ∷ []) now
+pub placed_one : (limits : Bounds) (side : Side) (rs : List Record) (b : List ℕ) (now : List Raw) → Brings limits side (joined side rs) b now → PlacedAfter limits (joined Editor rs) (joined Server rs) (chunk side b ∷ []) now
 placed_one limits Editor rs b now brings = (now, [], sym (append-nil now), brings, refl)
 placed_one limits Server rs b now brings = (now, [], sym (append-nil now), brings, refl)
 
@@ -171,16 +171,16 @@ open_none s rs events limits o session =
 
 -- ---- a judge that has just begun
 
-no_frame : (limits : Bounds) (content after : List ℕ) → Begins limits [] content after → ⊥
+pub no_frame : (limits : Bounds) (content after : List ℕ) → Begins limits [] content after → ⊥
 no_frame limits content after b =
     let ends = b.2.part.ends in
     absurd (omega (arith, ap length b.1, length-append b.0 after, ap length b.2.whole, length-append b.2.header content, ap length ends.1, length-append ends.0 blank_line))
 
-no_fault : (limits : Bounds) → IsInRange limits → (rule : ℕ) → Breaks limits [] rule → ⊥
+pub no_fault : (limits : Bounds) → IsInRange limits → (rule : ℕ) → Breaks limits [] rule → ⊥
 no_fault limits sizes rule (inl b) = absurd (omega (arith, b.1.long, sizes.header_low))
 no_fault limits sizes rule (inr b) = absurd (omega (arith, ap length b.whole, length-append b.header b.after, ap length b.part.ends.1, length-append b.part.ends.0 blank_line))
 
-new_drained : (limits : Bounds) → IsInRange limits → (d : decoder.State) → d ≡ decoder.empty limits → decoder.StandsFor d [] [] → IsDrained d []
+pub new_drained : (limits : Bounds) → IsInRange limits → (d : decoder.State) → d ≡ decoder.empty limits → decoder.StandsFor d [] [] → IsDrained d []
 new_drained limits sizes d is stands = record {
   contents = [];
   stands = stands;

@@ -159,7 +159,7 @@ charset_aside true said n is = is
 charset_aside false (Ok m) n is = absurd (cc is)
 charset_aside false (Err rule) n is = absurd (cc is)
 
-says_within : (limits : Bounds) (header : List ℕ) (n : ℕ) → Says limits header (Ok n) → n ≤ limits.content
+pub says_within : (limits : Bounds) (header : List ℕ) (n : ℕ) → Says limits header (Ok n) → n ≤ limits.content
 says_within limits header n (inl spelled) = length_within limits (lengths spelled.0) n (charset_aside (fits_charsets spelled.0) (content_length limits (lengths spelled.0)) n spelled.2)
 says_within limits header n (inr none) = absurd (err_not_ok (sym none.1))
 

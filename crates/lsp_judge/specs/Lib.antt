@@ -24,3 +24,6 @@ pub mod Rulings
 pub mod Standing
 pub mod Taking
 pub mod Logged
+pub mod Normal
+pub mod NormalSteps
+pub mod NormalLaws

@@ -14,7 +14,10 @@ mod frames;
 mod judge;
 mod laws;
 mod names;
+mod normal;
+mod normal_laws;
 mod outcome;
+mod pieces;
 mod report;
 mod ruling;
 mod run;
@@ -33,8 +36,15 @@ pub use laws::{
 };
 pub use lsp_frame::{Input, Limits, Output};
 pub use lsp_log::LogCode;
+pub use normal::run_normal;
+pub use normal_laws::{
+    normal_form_keeps_events, normal_form_keeps_verdict, normal_form_stays, one_normal_form,
+};
 pub use outcome::{Mode, Outcome, RunFault, StreamFault};
 pub use report::{report_of, stream_report};
 pub use run::{JudgeFault, judge_log};
 pub use stream_laws::{one_run, some_run};
 pub use verdict::{OpenDocument, Summary, Verdict, Who};
+
+#[cfg(test)]
+mod normal_tests;

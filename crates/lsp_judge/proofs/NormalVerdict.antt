@@ -1,0 +1,182 @@
+-- The normal form has the verdict of the log.
+use Rattle.std.specs.Option.{option_or}
+use Rattle.std.specs.Prelude.{unwrap_or}
+use Rattle.std.specs.List.{AllZip, AllByRecursion}
+use Rattle.std.proofs.Common.{◌≡◌, ℕ, ◌≤◌, List, [], ◌∷◌, ◌++◌, length, true, false, Option, Some, None, inl, inr, refl, sym, ap, subst, ◌∙◌, append-nil}
+use Rattle.std.proofs.lemmas.Bool.{false≢true}
+use Rattle.lsp_frame.specs.Bounds.{Bounds, IsInRange}
+use Rattle.lsp_log.specs.Log.{Record, BeginsLog, IsLog}
+use Rattle.lsp_log.specs.declared.fault.LogCode.{LogCode}
+use Rattle.lsp_judge.specs.Event.{Event, fault}
+use Rattle.lsp_judge.specs.LookBack.{first_from}
+use Rattle.lsp_judge.specs.Normal.{form_of, IsNormal}
+use Rattle.lsp_judge.specs.NormalLaws.{before_fault, is_frame_rule, IsOnEvents, NormalFormKeepsVerdict}
+use Rattle.lsp_judge.specs.Outcome.{is_rest, IsNo, IsVerdict, Judges}
+use Rattle.lsp_judge.specs.Placed.{Raw, content, broken, show, Placed, Reads}
+use Rattle.lsp_judge.specs.Verdict.{Verdict, yes, no, bad_log_of, rest_of, no_at, first_no, no_next, summary, verdict, whose}
+use Rattle.lsp_judge.proofs.Below.{records_come_first}
+use Rattle.lsp_judge.proofs.LookBackLemmas.{first_of-more}
+use Rattle.lsp_judge.proofs.Logs.{both_begin}
+use Rattle.lsp_judge.proofs.NormalAgain.{IsSane, again, placed_sane, log_fits, form_is}
+use Rattle.lsp_judge.proofs.NormalForms.{form_stops}
+use Rattle.lsp_judge.proofs.OneEvent.{some_list, lists_join}
+use Rattle.lsp_judge.proofs.Outcomes.{placed_front}
+
+-- ---- an offence before a fault of the frames
+
+-- the events before a fault have the same first offence
+pub record Kept (limit : ℕ) (before : List Event) (raws : List Raw) (v : Verdict) : Type 0 where
+  pub events : List Event
+  pub reads : AllZip Reads (before_fault raws) events
+  pub first : first_from (no_at limit) before events ≡ Some v
+
+kept_more : (limit : ℕ) (before : List Event) (raw : Raw) (e : Event) (raws : List Raw) (es : List Event) (v : Verdict) → Reads raw e → before_fault (raw ∷ raws) ≡ raw ∷ before_fault raws → (o : Option Verdict) → no_at limit before e ≡ o
+    → option_or o (first_from (no_at limit) (before ++ e ∷ []) es) ≡ Some v → (first_from (no_at limit) (before ++ e ∷ []) es ≡ Some v → Kept limit (before ++ e ∷ []) raws v) → Kept limit before (raw ∷ raws) v
+kept_more limit before raw e raws es v reads is None none first others =
+    let later = others first in
+    record {
+      events = e ∷ later.events;
+      reads = subst (λ (ws : List Raw). AllZip Reads ws (e ∷ later.events)) (sym is) (reads, later.reads);
+      first = ap (λ (x : Option Verdict). option_or x (first_from (no_at limit) (before ++ e ∷ []) later.events)) none ∙ later.first;
+    }
+kept_more limit before raw e raws es v reads is (Some u) some first others =
+    let later = some_list (before_fault raws) in
+    record {
+      events = e ∷ later.0;
+      reads = subst (λ (ws : List Raw). AllZip Reads ws (e ∷ later.0)) (sym is) (reads, later.1);
+      first = ap (λ (x : Option Verdict). option_or x (first_from (no_at limit) (before ++ e ∷ []) later.0)) some ∙ first;
+    }
+
+on_frames : (rule : ℕ) (v w : Verdict) → v ≡ w → is_frame_rule rule ≡ true → IsOnEvents v → (IsOnEvents w → is_frame_rule rule ≡ false) → ⊥
+on_frames rule v w same is on names = false≢true (sym (names (subst IsOnEvents same on)) ∙ is)
+
+kept_from : (limits : Bounds) (limit : ℕ) (before : List Event) (raws : List Raw) (events : List Event) (v : Verdict) → IsOnEvents v → AllByRecursion (IsSane limits) raws → AllZip Reads raws events → first_from (no_at limit) before events ≡ Some v → Kept limit before raws v
+kept_from limits limit before [] [] v on sane reads first = absurd cc
+kept_from limits limit before [] (e ∷ events) v on sane reads first = absurd reads
+kept_from limits limit before (raw ∷ raws) [] v on sane reads first = absurd reads
+kept_from limits limit before (content side bytes ∷ raws) (e ∷ events) v on sane reads first =
+    kept_more limit before (content side bytes) e raws events v reads.0 refl (no_at limit before e) refl first (λ later. kept_from limits limit (before ++ e ∷ []) raws events v on sane.1 reads.1 later)
+kept_from limits limit before (show n uri t ∷ raws) (e ∷ events) v on sane reads first =
+    kept_more limit before (show n uri t) e raws events v reads.0 refl (no_at limit before e) refl first (λ later. kept_from limits limit (before ++ e ∷ []) raws events v on sane.1 reads.1 later)
+kept_from limits limit before (broken side rule ∷ raws) (e ∷ events) v on sane reads first =
+    let here : first_from (no_at limit) before (fault side rule ∷ events) ≡ Some v = subst (λ (x : Event). first_from (no_at limit) before (x ∷ events) ≡ Some v) reads.0 first in
+    absurd (on_frames rule v (no_next rule (whose (fault side rule)) before) (cc here) sane.0 on (λ names. names))
+
+-- ---- an offence
+
+-- the normal form is that of the first records and more
+pub record FormOver (limits : Bounds) (out : List ℕ) (raws : List Raw) : Type 0 where
+  pub later : List Raw
+  pub sane : AllByRecursion (IsSane limits) (raws ++ later)
+  pub written : out ≡ form_of limits.chunk (raws ++ later)
+
+over_more : (limits : Bounds) (rs us others : List Record) (raws all : List Raw) (out : List ℕ) → us ≡ rs ++ others → Placed limits rs raws → Placed limits us all → AllByRecursion (IsSane limits) all → out ≡ form_of limits.chunk all → FormOver limits out raws
+over_more limits rs us others raws all out cut placed whole sane written =
+    let more = placed_front limits [] [] rs others raws all placed (subst (λ (xs : List Record). Placed limits xs all) cut whole) in
+    record { later = more.0; sane = subst (λ (ws : List Raw). AllByRecursion (IsSane limits) ws) more.1 sane; written = written ∙ ap (form_of limits.chunk) more.1 }
+
+form_over : (limits : Bounds) → IsInRange limits → (log rest out : List ℕ) (rs : List Record) (raws : List Raw) (f : Option Verdict) → BeginsLog limits log rs rest → Placed limits rs raws → IsNormal limits log out f → FormOver limits out raws
+form_over limits sizes log rest out rs raws f begins placed (inl (v, is, b)) =
+    elim (both_begin limits sizes log rs b.records rest b.rest begins b.begins) as (λ _. FormOver limits out raws) [
+      | inl cut ↦ over_more limits rs b.records cut.0 raws b.raws out cut.1 placed b.placed (placed_sane limits [] [] b.records b.raws b.begins.fits b.placed) b.written
+      | inr cut ↦
+          let more = placed_front limits [] [] b.records cut.0 b.raws raws b.placed (subst (λ (xs : List Record). Placed limits xs raws) cut.1 placed) in
+          record {
+            later = [];
+            sane = subst (λ (ws : List Raw). AllByRecursion (IsSane limits) ws) (sym (append-nil raws)) (placed_sane limits [] [] rs raws begins.fits placed);
+            written = b.written ∙ sym (form_stops limits.chunk b.raws more.0 v b.breaks) ∙ ap (form_of limits.chunk) (sym more.1 ∙ sym (append-nil raws));
+          }
+    ]
+form_over limits sizes log rest out rs raws f begins placed (inr w) =
+    let cut = records_come_first limits sizes log rest rs w.records w.log_fault begins w.is_log in
+    over_more limits rs w.records cut.0 raws w.raws out cut.1 placed w.placed (placed_sane limits [] [] w.records w.raws (log_fits limits log w.records w.log_fault w.is_log) w.placed) w.written
+
+log_begins : (limits : Bounds) (out : List ℕ) (us : List Record) → IsLog limits out us None → (rest : List ℕ) × BeginsLog limits out us rest
+log_begins limits out us (inl a) = (a.1.rest, a.1.begins)
+log_begins limits out us (inr a) = let wrong = a.1 in absurd (cc wrong)
+
+no_again : (limits : Bounds) → IsInRange limits → (out : List ℕ) (all : List Raw) (events : List Event) (v : Verdict) → IsOnEvents v → AllByRecursion (IsSane limits) all → AllZip Reads all events → first_no limits.document events ≡ Some v → out ≡ form_of limits.chunk all → length out ≤ limits.log → IsNo limits out v
+no_again limits sizes out all events v on sane reads first written within =
+    let log_of = again limits sizes out all sane written within in
+    let kept = kept_from limits limits.document [] all events v on sane reads first in
+    let begins = log_begins limits out log_of.records log_of.is_log in
+    record {
+      records = log_of.records;
+      rest = begins.0;
+      begins = begins.1;
+      offends = record { events = kept.events; session = (before_fault all, log_of.placed, kept.reads); offends = kept.first };
+    }
+
+no_stays : (limits : Bounds) → IsInRange limits → (log out : List ℕ) (f : Option Verdict) (v : Verdict) → IsNo limits log v → IsOnEvents v → IsNormal limits log out f → length out ≤ limits.log → IsNo limits out v
+no_stays limits sizes log out f v n on normal within =
+    let session = n.offends.session in
+    let over = form_over limits sizes log n.rest out n.records session.0 f n.begins session.1 normal in
+    let extra = some_list over.later in
+    no_again limits sizes out (session.0 ++ over.later) (n.offends.events ++ extra.0) v on over.sane (lists_join session.0 over.later n.offends.events extra.0 session.2 extra.1) (first_of-more (no_at limits.document) n.offends.events extra.0 v n.offends.offends) over.written within
+
+-- ---- a yes
+
+or_right : (a b : Option Verdict) → option_or a b ≡ None → b ≡ None
+or_right None b e = e
+or_right (Some x) b e = absurd cc
+
+-- where no event offends, none is a fault of the frames
+clean_from : (limit : ℕ) (before : List Event) (raws : List Raw) (events : List Event) → AllZip Reads raws events → first_from (no_at limit) before events ≡ None → before_fault raws ≡ raws
+clean_from limit before [] events reads none = refl
+clean_from limit before (raw ∷ raws) [] reads none = absurd reads
+clean_from limit before (content side bytes ∷ raws) (e ∷ events) reads none =
+    ap (λ (rs : List Raw). content side bytes ∷ rs) (clean_from limit (before ++ e ∷ []) raws events reads.1 (or_right (no_at limit before e) (first_from (no_at limit) (before ++ e ∷ []) events) none))
+clean_from limit before (show n uri t ∷ raws) (e ∷ events) reads none =
+    ap (λ (rs : List Raw). show n uri t ∷ rs) (clean_from limit (before ++ e ∷ []) raws events reads.1 (or_right (no_at limit before e) (first_from (no_at limit) (before ++ e ∷ []) events) none))
+clean_from limit before (broken side rule ∷ raws) (e ∷ events) reads none =
+    let here : first_from (no_at limit) before (fault side rule ∷ events) ≡ None = subst (λ (x : Event). first_from (no_at limit) before (x ∷ events) ≡ None) reads.0 none in
+    absurd (cc here)
+
+-- the verdict is Yes, where no event offends
+yes_with : (limit : ℕ) (events : List Event) (o : Option Verdict) → o ≡ None → (flaw : Option (ℕ × LogCode)) (editor server : List ℕ) (v : Verdict) → IsOnEvents v
+    → unwrap_or (option_or o (option_or (bad_log_of flaw) (rest_of events (is_rest editor) (is_rest server)))) (yes (summary limit events)) ≡ v → yes (summary limit events) ≡ v
+yes_with limit events (Some u) none flaw editor server v on says = absurd (cc none)
+yes_with limit events None none (Some flaw) editor server v on says = absurd (subst IsOnEvents (sym says) on)
+yes_with limit events None none None (b ∷ editor) server v on says = absurd (false≢true (sym (subst IsOnEvents (sym says) on)))
+yes_with limit events None none None [] (b ∷ server) v on says = absurd (false≢true (sym (subst IsOnEvents (sym says) on)))
+yes_with limit events None none None [] [] v on says = says
+
+yes_again : (limits : Bounds) → IsInRange limits → (out : List ℕ) (raws : List Raw) (events : List Event) (v : Verdict) → AllByRecursion (IsSane limits) raws → AllZip Reads raws events → first_no limits.document events ≡ None → yes (summary limits.document events) ≡ v
+    → out ≡ form_of limits.chunk raws → length out ≤ limits.log → IsVerdict limits out v
+yes_again limits sizes out raws events v sane reads none is written within =
+    let log_of = again limits sizes out raws sane written within in
+    let same : before_fault raws ≡ raws = clean_from limits.document [] raws events reads none in
+    record {
+      records = log_of.records;
+      fault = None;
+      is_log = log_of.is_log;
+      final = record {
+        events = events;
+        editor = [];
+        server = [];
+        session = (raws, subst (λ (ws : List Raw). Placed limits log_of.records ws) same log_of.placed, reads);
+        editor_rest = log_of.editor_rest;
+        server_rest = log_of.server_rest;
+        says = ap (λ (o : Option Verdict). unwrap_or (option_or o None) (yes (summary limits.document events))) none ∙ is;
+      };
+    }
+
+verdict_stays : (limits : Bounds) → IsInRange limits → (log out : List ℕ) (f : Option Verdict) (v : Verdict) → IsVerdict limits log v → IsOnEvents v → IsNormal limits log out f → length out ≤ limits.log → Judges limits out v
+verdict_stays limits sizes log out f v d on normal within = by_offence (first_no limits.document d.final.events) refl
+  where
+    by_offence : (o : Option Verdict) → first_no limits.document d.final.events ≡ o → Judges limits out v
+    by_offence None none =
+        let session = d.final.session in
+        let sane = placed_sane limits [] [] d.records session.0 (log_fits limits log d.records d.fault d.is_log) session.1 in
+        let written = form_is limits sizes log out d.records d.fault session.0 f d.is_log session.1 normal in
+        inr (yes_again limits sizes out session.0 d.final.events v sane session.2 none (yes_with limits.document d.final.events (first_no limits.document d.final.events) none d.fault d.final.editor d.final.server v on d.final.says) written within)
+    by_offence (Some u) some =
+        let session = d.final.session in
+        let sane = placed_sane limits [] [] d.records session.0 (log_fits limits log d.records d.fault d.is_log) session.1 in
+        let written = form_is limits sizes log out d.records d.fault session.0 f d.is_log session.1 normal in
+        let same : u ≡ v = sym (ap (λ (o : Option Verdict). unwrap_or (option_or o (option_or (bad_log_of d.fault) (rest_of d.final.events (is_rest d.final.editor) (is_rest d.final.server)))) (yes (summary limits.document d.final.events))) some) ∙ d.final.says in
+        inl (no_again limits sizes out session.0 d.final.events v on sane session.2 (some ∙ ap (λ (w : Verdict). Some w) same) written within)
+
+pub normal_form_keeps_verdict : NormalFormKeepsVerdict
+normal_form_keeps_verdict limits sizes log out f v (inl n) on normal within = inl (no_stays limits sizes log out f v n on normal within)
+normal_form_keeps_verdict limits sizes log out f v (inr d) on normal within = verdict_stays limits sizes log out f v d on normal within
