@@ -7,7 +7,9 @@ use Rattle.std.proofs.lemmas.List.{length-take}
 use Rattle.std.proofs.lemmas.Option.{same_Some}
 use Rattle.lsp_frame.specs.Bounds.{Bounds, IsInRange}
 use Rattle.lsp_frame.specs.Sink.{Told, Stopped}
+use Rattle.lsp_docs.specs.Snapshots.{unmatched}
 use Rattle.lsp_docs.specs.State.{capped}
+use Rattle.lsp_rpc.specs.declared.plain.Side.TheVariants.{Editor, Server}
 use Rattle.lsp_log.specs.declared.fault.LogCode.{LogCode}
 use Rattle.lsp_log.specs.Log.{Record, spelling, first_line, BeginsLog, IsLog, at_record}
 use Rattle.lsp_judge.specs.declared.outcome.Outcome.{Outcome}
@@ -17,18 +19,21 @@ use Rattle.lsp_judge.specs.declared.ruling.Ruling.{Ruling}
 use Rattle.lsp_judge.specs.declared.verdict.Verdict as code
 use Rattle.lsp_judge.specs.declared.verdict.Verdict.TheVariants as verdicts
 use Rattle.lsp_judge.specs.declared.verdict.Who.{Who}
-use Rattle.lsp_judge.specs.Answered.{HasVerdict, NamesFirst, NamesRest, OffendsFirst, EndsInsideFrame, IsRefused, NoneOffends, AreClean, IsClean, SaysYes}
+use Rattle.lsp_judge.specs.declared.verdict.Who.TheVariants as who
+use Rattle.lsp_judge.specs.Answered.{NamesFirst, NamesRest, OffendsFirst, EndsInsideFrame, IsRefused, NoneOffends, AreClean, IsClean, SaysYes}
+use Rattle.lsp_judge.specs.Calls.{call_at, calls}
 use Rattle.lsp_judge.specs.Event.{Event}
 use Rattle.lsp_judge.specs.Given.{verdict_view, as_given}
 use Rattle.lsp_judge.specs.Headline.{Names, HasRest107, Refuses, HasFault}
 use Rattle.lsp_judge.specs.Kept.{AreKept, IsKept}
 use Rattle.lsp_judge.specs.Logged.{Answers}
-use Rattle.lsp_judge.specs.Outcome.{IsFinal, IsVerdict, Offends, IsNo}
+use Rattle.lsp_judge.specs.Outcome.{ending, IsFinal, IsVerdict, Offends, IsNo, Judges}
 use Rattle.lsp_judge.specs.Placed.{Raw, Reads, IsSession}
 use Rattle.lsp_judge.specs.RunIo.{OfRead, AppendsFront}
 use Rattle.lsp_judge.specs.Rulings.{verdict_in}
 use Rattle.lsp_judge.specs.Standing.{HasOffence, State, Stands}
-use Rattle.lsp_judge.specs.Verdict.{Verdict, Summary, yes, no, bad_log, summary, no_by, first_no}
+use Rattle.lsp_judge.specs.Verdict.{Verdict, Summary, yes, no, bad_log, summary, is_of, is_snapshot, belongs_to, count_of, whose, no_next, first_no}
+use Rattle.lsp_judge.proofs.EventCounts.{events_few, count_few, unmatched_events}
 use Rattle.lsp_judge.proofs.Finals.{capped_is, open_clean}
 use Rattle.lsp_judge.proofs.Logging.{as_some, records_fewer, some_final}
 use Rattle.lsp_judge.proofs.Logs.{one_verdict}
@@ -36,7 +41,7 @@ use Rattle.lsp_judge.proofs.Meanings.{are_kept, bad_log_has, by_says_no, final_n
 use Rattle.lsp_judge.proofs.Meanings as meanings
 use Rattle.lsp_judge.proofs.Records.{is_open, offence_in}
 use Rattle.lsp_judge.proofs.Sessions.{same_session, some_session}
-use Rattle.lsp_judge.proofs.Verdicts.{names_first, nothing_offends}
+use Rattle.lsp_judge.proofs.Verdicts.{names_first, nothing_offends, is_yes, yes_where}
 
 -- ---- the log read
 
@@ -55,9 +60,12 @@ is_met None p = refl
 is_met (Some []) p = refl
 is_met (Some (b ∷ bs)) p = absurd cc
 
+abbrev HasVerdict : Bounds → List ℕ → Verdict → Type 0
+HasVerdict limits log given = (v : Verdict) × Judges limits log v × (given ≡ as_given v)
+
 -- an answer is the verdict on the log read
-pub as_read : (limits : Bounds) (before after : Told) (given : Verdict) → Answers limits before after [] given → OfRead limits before.bytes after.bytes (λ log. HasVerdict limits log given)
-as_read limits before after given a = record {
+told_read : (limits : Bounds) (before after : Told) (given : Verdict) → Answers limits before after [] given → OfRead limits before.bytes after.bytes (λ log. HasVerdict limits log given)
+told_read limits before after given a = record {
   bytes = a.piece;
   ended = at_end after.bytes;
   read = record { gave = a.read.read; no_further = a.read.within; end = end_met after.bytes };
@@ -67,34 +75,10 @@ as_read limits before after given a = record {
 pub read_map : (limits : Bounds) (before after : Option (List ℕ)) (P Q : List ℕ → Type 0) → ((log : List ℕ) → P log → Q log) → OfRead limits before after P → OfRead limits before after Q
 read_map limits before after P Q f p = record { bytes = p.bytes; ended = p.ended; read = p.read; holds = λ log goes. f log (p.holds log goes) }
 
--- and so is the verdict of an outcome
-pub read_verdict : (limits : Bounds) (before after : Told) (given v : code.Verdict) → Answers limits before after [] (verdict_view given)
-    → (let outcome : Result Outcome RunFault = Ok (Judged given) in outcome) ≡ Ok (Judged v) → OfRead limits before.bytes after.bytes (λ log. HasVerdict limits log (verdict_view v))
-read_verdict limits before after given v a e =
-    let same : given ≡ v = cc e in
-    subst (λ (w : code.Verdict). OfRead limits before.bytes after.bytes (λ log. HasVerdict limits log (verdict_view w))) same (as_read limits before after (verdict_view given) a)
-
 pub front_of : (old new : Told) (written due : List ℕ) → Stopped old new written → written ≡ due → AppendsFront old.bytes new.bytes due
 front_of old new written due stopped is = (stopped.front, stopped.back, sym is ∙ stopped.whole, stopped.appends)
 
--- ---- Yes
-
-pub yes_kept : (limits : Bounds) → IsInRange limits → (s : Summary) (log : List ℕ) → HasVerdict limits log (yes s) → IsKept limits log
-yes_kept limits sizes s log h = yes_answer_means_kept limits sizes log h.0 s h.1 h.2
-
-pub clean_yes : (limits : Bounds) → IsInRange limits → (given : Verdict) (log : List ℕ) → HasVerdict limits log given → (events : List Event) → IsClean limits log events → SaysYes limits events given
-clean_yes limits sizes given log h events (records, is_log, c) =
-    h.2 ∙ ap as_given (one_verdict limits sizes log h.0 (yes (summary limits.document events)) h.1 (inr (kept_means_yes limits log records events is_log c.session c.clean c.editor c.server)))
-
--- ---- No
-
-no_given : (v : Verdict) (rule : ℕ) (who : Who) (number event : ℕ) → no rule who number event ≡ as_given v → (n : ℕ) × (k : ℕ) × (v ≡ no rule who n k)
-no_given (yes t) rule who number event e = absurd cc
-no_given (no r w n k) rule who number event e =
-    let rules : rule ≡ r = cc e in
-    let whose : who ≡ w = cc e in
-    (n, k, ap (λ x. no x w n k) (sym rules) ∙ ap (λ x. no rule x n k) (sym whose))
-no_given (bad_log n c) rule who number event e = absurd cc
+-- ---- the counts of a verdict on a log are exact
 
 no_events : (limits : Bounds) (records : List Record) (events : List Event) → records ≡ [] → IsSession limits records events → events ≡ []
 no_events limits records events none session =
@@ -105,6 +89,106 @@ no_events limits records events none session =
     nothing [] [] e p = refl
     nothing [] (x ∷ es) e p = absurd p
     nothing (raw ∷ raws) es e p = absurd cc
+
+events_within : (limits : Bounds) (log : List ℕ) (records : List Record) (flaw : Option (ℕ × LogCode)) (events : List Event) → IsLog limits log records flaw → IsSession limits records events → length events ≤ limits.log
+events_within limits log records flaw events (inl (code, has, is)) session = events_few limits log records has.rest events has.begins session
+events_within limits log records flaw events (inr (none, flawed, missing)) session = omega (arith, ap length (no_events limits records events none session))
+
+no_exact : (events : List Event) (rule : ℕ) (who : Who) → length events + 1 < 2 ^ 64 → as_given (no_next rule who events) ≡ no_next rule who events
+no_exact events rule who small =
+    let number = capped_is (count_of (belongs_to who) events + 1) (omega (arith, small, count_few (belongs_to who) events)) in
+    let event = capped_is (length events + 1) small in
+    ap (λ n. no rule who n (capped (length events + 1))) number ∙ ap (λ n. no rule who (count_of (belongs_to who) events + 1) n) event
+
+names_exact : (limit : ℕ) (events : List Event) (v : Verdict) → length events < 2 ^ 64 → Names limit events v → as_given v ≡ v
+names_exact limit events v small names =
+    let long : length events ≡ length (names.before ++ names.event ∷ names.after) = ap length names.whole in
+    let exact = no_exact names.before names.rule (whose names.event) (omega (arith, small, long, length-append names.before (names.event ∷ names.after))) in
+    subst (λ w. as_given w ≡ w) (sym names.is) exact
+
+rest_exact : (limits : Bounds) (records : List Record) (flaw : Option (ℕ × LogCode)) (events : List Event) (v : Verdict) → length events + 1 < 2 ^ 64 → HasRest107 limits records flaw events v → as_given v ≡ v
+rest_exact limits records flaw events v small r = by_side r.named
+  where
+    by_side : ((0 < length r.editor) × (v ≡ no_next 107 who.Editor events)) ⊎ ((r.editor ≡ []) × (0 < length r.server) × (v ≡ no_next 107 who.Server events)) → as_given v ≡ v
+    by_side (inl (some, is)) = subst (λ w. as_given w ≡ w) (sym is) (no_exact events 107 who.Editor small)
+    by_side (inr (none, some, is)) = subst (λ w. as_given w ≡ w) (sym is) (no_exact events 107 who.Server small)
+
+sum_exact : (s : Summary) → capped s.editor ≡ s.editor → capped s.server ≡ s.server → capped s.snapshots ≡ s.snapshots → capped s.unmatched ≡ s.unmatched → as_given (yes s) ≡ yes s
+sum_exact s e f g h =
+    ap (λ n. yes (record s { editor = n; server = capped s.server; snapshots = capped s.snapshots; unmatched = capped s.unmatched })) e
+    ∙ ap (λ n. yes (record s { server = n; snapshots = capped s.snapshots; unmatched = capped s.unmatched })) f
+    ∙ ap (λ n. yes (record s { snapshots = n; unmatched = capped s.unmatched })) g
+    ∙ ap (λ n. yes (record s { unmatched = n })) h
+
+yes_exact : (limit : ℕ) (events : List Event) → length events < 2 ^ 64 → as_given (yes (summary limit events)) ≡ yes (summary limit events)
+yes_exact limit events small =
+    sum_exact (summary limit events)
+    (capped_is (count_of (is_of Editor) events) (omega (arith, small, count_few (is_of Editor) events)))
+    (capped_is (count_of (is_of Server) events) (omega (arith, small, count_few (is_of Server) events)))
+    (capped_is (count_of is_snapshot events) (omega (arith, small, count_few is_snapshot events)))
+    (capped_is (unmatched limit (calls events)) (omega (arith, small, unmatched_events limit call_at events)))
+
+-- the record with a fault has a number that a u64 holds
+few : (limits : Bounds) → IsInRange limits → (log : List ℕ) (records : List Record) (number : ℕ) (code : LogCode) → IsLog limits log records (Some (number, code)) → number < 2 ^ 64
+few limits sizes log records number code (inl (None, has, is)) = absurd cc
+few limits sizes log records number code (inl (Some c, has, is)) =
+    let same : number ≡ length records + 1 = ap (λ (p : ℕ × LogCode). p.0) (same_Some _ _ is) in
+    let long = ap length has.begins.whole in
+    omega (arith, sizes.log_high, same, long, records_fewer records, length-take limits.log log, length-append (first_line ++ flat_map spelling records) has.rest, length-append first_line (flat_map spelling records))
+few limits sizes log records number code (inr (none, flawed, missing)) =
+    let same : number ≡ 0 = ap (λ (p : ℕ × LogCode). p.0) (same_Some _ _ flawed) in
+    omega (arith, same)
+
+verdict_exact : (limits : Bounds) → IsInRange limits → (log : List ℕ) (v : Verdict) → IsVerdict limits log v → as_given v ≡ v
+verdict_exact limits sizes log (yes s) p =
+    let events : List Event = p.final.events in
+    let small : length events < 2 ^ 64 = omega (arith, sizes.log_high, events_within limits log p.records p.fault events p.is_log p.final.session) in
+    let end = ending p.fault p.final.editor p.final.server in
+    let same : yes (summary limits.document events) ≡ yes s = sym (yes_where limits.document events end (is_yes limits.document events end s p.final.says)) ∙ p.final.says in
+    subst (λ w. as_given w ≡ w) same (yes_exact limits.document events small)
+verdict_exact limits sizes log (no rule who number event) p =
+    let within = events_within limits log p.records p.fault p.final.events p.is_log p.final.session in
+    elim (final_no limits p.records p.fault rule who number event p.final) [
+      | inl names ↦ names_exact limits.document p.final.events (no rule who number event) (omega (arith, sizes.log_high, within)) names
+      | inr rest ↦ rest_exact limits p.records p.fault p.final.events (no rule who number event) (omega (arith, sizes.log_high, within)) rest
+    ]
+verdict_exact limits sizes log (bad_log number code) p =
+    let has = bad_log_has limits log number code p in
+    ap (λ n. bad_log n code) (capped_is number (few limits sizes log has.records number code has.is_log))
+
+no_early_exact : (limits : Bounds) → IsInRange limits → (log : List ℕ) (v : Verdict) → IsNo limits log v → as_given v ≡ v
+no_early_exact limits sizes log v n =
+    let within = events_few limits log n.records n.rest n.offends.events n.begins n.offends.session in
+    names_exact limits.document n.offends.events v (omega (arith, sizes.log_high, within)) (names_first limits.document n.offends.events v n.offends.offends)
+
+exact : (limits : Bounds) → IsInRange limits → (log : List ℕ) (v : Verdict) → Judges limits log v → as_given v ≡ v
+exact limits sizes log v (inl n) = no_early_exact limits sizes log v n
+exact limits sizes log v (inr p) = verdict_exact limits sizes log v p
+
+-- **an answer is the verdict on the log read**
+pub as_read : (limits : Bounds) → IsInRange limits → (before after : Told) (given : Verdict) → Answers limits before after [] given → OfRead limits before.bytes after.bytes (λ log. Judges limits log given)
+as_read limits sizes before after given a = read_map limits before.bytes after.bytes _ _ judges (told_read limits before after given a)
+  where
+    judges : (log : List ℕ) → HasVerdict limits log given → Judges limits log given
+    judges log (v, says, is) = subst (Judges limits log) (sym (is ∙ exact limits sizes log v says)) says
+
+-- and so is the verdict of an outcome
+pub read_verdict : (limits : Bounds) → IsInRange limits → (before after : Told) (given v : code.Verdict) → Answers limits before after [] (verdict_view given)
+    → (let outcome : Result Outcome RunFault = Ok (Judged given) in outcome) ≡ Ok (Judged v) → OfRead limits before.bytes after.bytes (λ log. Judges limits log (verdict_view v))
+read_verdict limits sizes before after given v a e =
+    let same : given ≡ v = cc e in
+    subst (λ (w : code.Verdict). OfRead limits before.bytes after.bytes (λ log. Judges limits log (verdict_view w))) same (as_read limits sizes before after (verdict_view given) a)
+
+-- ---- Yes
+
+pub yes_kept : (limits : Bounds) → IsInRange limits → (s : Summary) (log : List ℕ) → Judges limits log (yes s) → IsKept limits log
+yes_kept limits sizes s log says = yes_answer_means_kept limits sizes log (yes s) s says (sym (exact limits sizes log (yes s) says))
+
+pub clean_yes : (limits : Bounds) → IsInRange limits → (given : Verdict) (log : List ℕ) → Judges limits log given → (events : List Event) → IsClean limits log events → given ≡ yes (summary limits.document events)
+clean_yes limits sizes given log says events (records, is_log, c) =
+    one_verdict limits sizes log given (yes (summary limits.document events)) says (inr (kept_means_yes limits log records events is_log c.session c.clean c.editor c.server))
+
+-- ---- No
 
 not_in_none : (before : List Event) (e : Event) (after : List Event) → before ++ e ∷ after ≡ [] → ⊥
 not_in_none [] e after same = absurd cc
@@ -128,64 +212,49 @@ rest_without limits records flaw events v r = record {
   named = r.named;
 }
 
-verdict_refuses : (limits : Bounds) (log : List ℕ) (v given : Verdict) → Refuses limits log v → given ≡ as_given v → IsRefused limits log given
-verdict_refuses limits log v given r is = by_names r.names
+verdict_refuses : (limits : Bounds) (log : List ℕ) (v : Verdict) → Refuses limits log v → IsRefused limits log v
+verdict_refuses limits log v r = by_names r.names
   where
-    by_names : Names limits.document r.events v ⊎ HasRest107 limits r.records r.fault r.events v → IsRefused limits log given
+    by_names : Names limits.document r.events v ⊎ HasRest107 limits r.records r.fault r.events v → IsRefused limits log v
     by_names (inl names) =
         let front = begins limits log r.records r.fault r.events v r.is_log r.session names in
-        inl (record { records = r.records; rest = front.0; begins = front.1; names = record { events = r.events; session = r.session; verdict = v; names = names; is = is } })
+        inl (record { records = r.records; rest = front.0; events = r.events; begins = front.1; session = r.session; names = names })
     by_names (inr rest) = inr (record {
       records = r.records;
+      events = r.events;
       is_log = subst (IsLog limits log r.records) rest.no_fault r.is_log;
-      names = record { events = r.events; session = r.session; verdict = v; names = rest_without limits r.records r.fault r.events v rest; is = is };
+      session = r.session;
+      names = rest_without limits r.records r.fault r.events v rest;
     })
 
-pub refused : (limits : Bounds) (rule : ℕ) (who : Who) (number event : ℕ) (log : List ℕ) → HasVerdict limits log (no rule who number event) → IsRefused limits log (no rule who number event)
-refused limits rule who number event log (v, inl n, is) = inl (record {
+pub refused : (limits : Bounds) (rule : ℕ) (who : Who) (number event : ℕ) (log : List ℕ) → Judges limits log (no rule who number event) → IsRefused limits log (no rule who number event)
+refused limits rule who number event log (inl n) = inl (record {
   records = n.records;
   rest = n.rest;
+  events = n.offends.events;
   begins = n.begins;
-  names = record { events = n.offends.events; session = n.offends.session; verdict = v; names = names_first limits.document n.offends.events v n.offends.offends; is = is };
+  session = n.offends.session;
+  names = names_first limits.document n.offends.events (no rule who number event) n.offends.offends;
 })
-refused limits rule who number event log (v, inr final, is) =
-    let w = no_given v rule who number event is in
-    verdict_refuses limits log v (no rule who number event)
-    (subst (Refuses limits log) (sym w.2) (no_names limits log rule who w.0 w.1 (subst (IsVerdict limits log) w.2 final))) is
+refused limits rule who number event log (inr p) = verdict_refuses limits log (no rule who number event) (no_names limits log rule who number event p)
 
 -- ---- BadLog
 
-log_given : (v : Verdict) (number : ℕ) (code : LogCode) → bad_log number code ≡ as_given v → (n : ℕ) × (v ≡ bad_log n code) × (number ≡ capped n)
-log_given (yes t) number code e = absurd cc
-log_given (no r w n k) number code e = absurd cc
-log_given (bad_log n c) number code e =
-    let codes : code ≡ c = cc e in
-    let numbers : number ≡ capped n = cc e in
-    (n, ap (bad_log n) (sym codes), numbers)
-
--- the record with a fault has a number that a u64 holds
-few : (limits : Bounds) → IsInRange limits → (log : List ℕ) (records : List Record) (number : ℕ) (code : LogCode) → IsLog limits log records (Some (number, code)) → number < 2 ^ 64
-few limits sizes log records number code (inl (None, has, is)) = absurd cc
-few limits sizes log records number code (inl (Some c, has, is)) =
-    let same : number ≡ length records + 1 = ap (λ (p : ℕ × LogCode). p.0) (same_Some _ _ is) in
-    let long = ap length has.begins.whole in
-    omega (arith, sizes.log_high, same, long, records_fewer records, length-take limits.log log, length-append (first_line ++ flat_map spelling records) has.rest, length-append first_line (flat_map spelling records))
-few limits sizes log records number code (inr (none, flawed, missing)) =
-    let same : number ≡ 0 = ap (λ (p : ℕ × LogCode). p.0) (same_Some _ _ flawed) in
-    omega (arith, same)
-
-pub faulty : (limits : Bounds) → IsInRange limits → (number : ℕ) (code : LogCode) (log : List ℕ) → HasVerdict limits log (bad_log number code) → HasFault limits log number code
-faulty limits sizes number code log (v, inl n, is) =
-    let names = names_first limits.document n.offends.events v n.offends.offends in
-    let w = log_given v number code is in
-    absurd (subst meanings.IsNo w.1 (subst meanings.IsNo (sym names.is) (by_says_no names.before names.event names.rule)))
-faulty limits sizes number code log (v, inr final, is) =
-    let w = log_given v number code is in
-    let has = bad_log_has limits log w.0 code (subst (IsVerdict limits log) w.1 final) in
-    let small = few limits sizes log has.records w.0 code has.is_log in
-    subst (λ k. HasFault limits log k code) (sym (w.2 ∙ capped_is w.0 small)) has
+pub faulty : (limits : Bounds) (number : ℕ) (code : LogCode) (log : List ℕ) → Judges limits log (bad_log number code) → HasFault limits log number code
+faulty limits number code log (inl n) =
+    let names = names_first limits.document n.offends.events (bad_log number code) n.offends.offends in
+    absurd (subst meanings.IsNo (sym names.is) (by_says_no names.before names.event names.rule))
+faulty limits number code log (inr p) = bad_log_has limits log number code p
 
 -- ---- records
+
+no_given : (v : Verdict) (rule : ℕ) (who : Who) (number event : ℕ) → no rule who number event ≡ as_given v → (n : ℕ) × (k : ℕ) × (v ≡ no rule who n k)
+no_given (yes t) rule who number event e = absurd cc
+no_given (no r w n k) rule who number event e =
+    let rules : rule ≡ r = cc e in
+    let whose : who ≡ w = cc e in
+    (n, k, ap (λ x. no x w n k) (sym rules) ∙ ap (λ x. no rule x n k) (sym whose))
+no_given (bad_log n c) rule who number event e = absurd cc
 
 pub ok_at : {X E : Type 0} (r : Result X E) (x : X) (P : X → Type 0) → r ≡ Ok x → IfOk r P → P x
 ok_at r x P e p = subst (λ s. IfOk s P) e p

@@ -33,6 +33,7 @@ pub mod StreamRuns
 pub mod StreamEndings
 pub mod StreamOutputs
 pub mod Logging
+pub mod EventCounts
 pub mod Answering
 pub mod LogEnds
 pub mod NormalPieces

@@ -8,7 +8,7 @@ use Rattle.std.proofs.lemmas.List.{take_all}
 use Rattle.lsp_frame.specs.Bounds.{Bounds, IsInRange}
 use Rattle.lsp_log.specs.declared.fault.LogCode.{LogCode}
 use Rattle.lsp_log.specs.Log.{Record, chunk, shown, Flaw, bad_line, bad_number, cut_short, bad_end, not_utf8, code_of, with_feed, head_line, head_of, parts_of, spelling, first_line, BeginsLog, EndsWith, HasRecords, IsLog}
-use Rattle.lsp_judge.specs.Answered.{HasVerdict}
+use Rattle.lsp_judge.specs.Outcome.{Judges}
 use Rattle.lsp_judge.specs.RunIo.{OfRead}
 use Rattle.lsp_judge.specs.Verdict.{Summary, yes}
 use Rattle.lsp_judge.proofs.Answering.{yes_kept}
@@ -75,7 +75,7 @@ one_more limits sizes log records others p q =
     ))
 
 -- **Yes is answered only at the end of what the reader gives.**
-pub yes_at_end : (limits : Bounds) → IsInRange limits → (before after : Option (List ℕ)) (s : Summary) → OfRead limits before after (λ log. HasVerdict limits log (yes s)) → IsAtEnd after
+pub yes_at_end : (limits : Bounds) → IsInRange limits → (before after : Option (List ℕ)) (s : Summary) → OfRead limits before after (λ log. Judges limits log (yes s)) → IsAtEnd after
 yes_at_end limits sizes before after s r = by_ended r.ended refl
   where
     by_ended : (ended : Bool) → r.ended ≡ ended → IsAtEnd after

@@ -1,23 +1,45 @@
--- What is answered on a log and on records, in plain words. A count past the greatest u64 is given as that.
-use Rattle.std.specs.Prelude.{◌≡◌, ◌⊎◌, ℕ, List, Option, None}
+-- What is answered on a log and on records, in plain words.
+use Rattle.std.specs.Prelude.{◌≡◌, ◌⊎◌, ℕ, List, Option, Some, None}
 use Rattle.lsp_frame.specs.Bounds.{Bounds}
 use Rattle.lsp_rpc.specs.declared.plain.Side.TheVariants.{Editor, Server}
 use Rattle.lsp_log.specs.Log.{Record, BeginsLog, IsLog}
+use Rattle.lsp_judge.specs.declared.ruling.Ruling.{Ruling}
+use Rattle.lsp_judge.specs.declared.verdict.Verdict as code
 use Rattle.lsp_judge.specs.Event.{Event}
-use Rattle.lsp_judge.specs.Given.{as_given}
+use Rattle.lsp_judge.specs.Given.{verdict_view, as_given}
 use Rattle.lsp_judge.specs.Headline.{Names, HasRest107}
 use Rattle.lsp_judge.specs.Kept.{NothingOffends, AreFrames}
 use Rattle.lsp_judge.specs.Outcome.{Judges}
 use Rattle.lsp_judge.specs.Placed.{IsSession, joined}
 use Rattle.lsp_judge.specs.Report.{report}
+use Rattle.lsp_judge.specs.Rulings.{verdict_in}
 use Rattle.lsp_judge.specs.RunIo.{OfRead, AppendsFront}
 use Rattle.lsp_judge.specs.Verdict.{Verdict, yes, summary}
 
--- this is answered as the verdict on the log
-abbrev pub HasVerdict : Bounds → List ℕ → Verdict → Type 0
-HasVerdict limits log given = (v : Verdict) × Judges limits log v × (given ≡ as_given v)
+-- ---- No of a log
 
--- ---- No
+-- the log begins with records of which this event offends by the rule given, the least that it offends, and no earlier one does
+pub record OffendsFirst (limits : Bounds) (log : List ℕ) (v : Verdict) : Type 0 where
+  pub records : List Record
+  pub rest : List ℕ
+  pub events : List Event
+  pub begins : BeginsLog limits log records rest
+  pub session : IsSession limits records events
+  pub names : Names limits.document events v
+
+-- the log has no fault, no event offends, and a stream ends inside a frame: 107 is given, the editor's named first
+pub record EndsInsideFrame (limits : Bounds) (log : List ℕ) (v : Verdict) : Type 0 where
+  pub records : List Record
+  pub events : List Event
+  pub is_log : IsLog limits log records None
+  pub session : IsSession limits records events
+  pub names : HasRest107 limits records None events v
+
+-- **What No says of a log.**
+abbrev pub IsRefused : Bounds → List ℕ → Verdict → Type 0
+IsRefused limits log v = OffendsFirst limits log v ⊎ EndsInsideFrame limits log v
+
+-- ---- No of records, whatever their length: a count past the greatest u64 is given as that
 
 -- an event of the records offends by the rule given, which is the least that it offends; no earlier event offends
 pub record NamesFirst (limits : Bounds) (records : List Record) (given : Verdict) : Type 0 where
@@ -34,25 +56,6 @@ pub record NamesRest (limits : Bounds) (records : List Record) (given : Verdict)
   pub verdict : Verdict
   pub names : HasRest107 limits records None events verdict
   pub is : given ≡ as_given verdict
-
--- the log begins with records of which an event offends
-pub record OffendsFirst (limits : Bounds) (log : List ℕ) (given : Verdict) : Type 0 where
-  pub records : List Record
-  pub rest : List ℕ
-  pub begins : BeginsLog limits log records rest
-  pub names : NamesFirst limits records given
-
--- the log has no fault, and a stream of it ends inside a frame
-pub record EndsInsideFrame (limits : Bounds) (log : List ℕ) (given : Verdict) : Type 0 where
-  pub records : List Record
-  pub is_log : IsLog limits log records None
-  pub names : NamesRest limits records given
-
--- **What No says of a log.**
-abbrev pub IsRefused : Bounds → List ℕ → Verdict → Type 0
-IsRefused limits log given = OffendsFirst limits log given ⊎ EndsInsideFrame limits log given
-
--- ---- BadLog
 
 -- no event of the records offends
 abbrev pub NoneOffends : Bounds → List Record → Type 0
@@ -71,7 +74,7 @@ pub record AreClean (limits : Bounds) (records : List Record) (events : List Eve
 abbrev pub IsClean : Bounds → List ℕ → List Event → Type 0
 IsClean limits log events = (records : List Record) × IsLog limits log records None × AreClean limits records events
 
--- Yes is given, with the summary of these events
+-- Yes is given, with the summary of these events; a count past the greatest u64 is given as that
 abbrev pub SaysYes : Bounds → List Event → Verdict → Type 0
 SaysYes limits events given = given ≡ as_given (yes (summary limits.document events))
 
@@ -80,5 +83,12 @@ SaysYes limits events given = given ≡ as_given (yes (summary limits.document e
 -- a verdict on the log read was found, and a prefix of its report is written
 pub record IsReportCut (limits : Bounds) (before after old new : Option (List ℕ)) : Type 0 where
   pub given : Verdict
-  pub says : OfRead limits before after (λ log. HasVerdict limits log given)
+  pub says : OfRead limits before after (λ log. Judges limits log given)
   pub writes : AppendsFront old new (report given)
+
+-- ---- given for good
+
+-- the verdict that was given for good is answered; where memory was refused there is none
+abbrev pub Repeats : Ruling → Option code.Verdict → Type 0
+Repeats ruling None = ⊥
+Repeats ruling (Some answer) = verdict_in ruling ≡ Some (verdict_view answer)

@@ -2,14 +2,15 @@
 ghost use Rattle.std.specs.Prelude.{◌≡◌, ℕ, ◌+◌, List, Ok, Err, IfOk};
 ghost use Rattle.std.specs.Io.KnownBytes.{Appends, IsAtEnd};
 ghost use Rattle.lsp_log.specs.declared.fault.LogCode.{LogCode};
-ghost use Rattle.lsp_judge.specs.Answered.{HasVerdict, IsRefused, IsClean, SaysYes, IsReportCut};
+ghost use Rattle.lsp_judge.specs.Answered.{IsRefused, IsClean, IsReportCut};
 ghost use Rattle.lsp_judge.specs.Event.{Event};
 ghost use Rattle.lsp_judge.specs.Given.{verdict_view};
 ghost use Rattle.lsp_judge.specs.Headline.{HasFault};
 ghost use Rattle.lsp_judge.specs.Kept.{IsKept};
+ghost use Rattle.lsp_judge.specs.Outcome.{Judges};
 ghost use Rattle.lsp_judge.specs.Report.{report};
 ghost use Rattle.lsp_judge.specs.RunIo.{OfRead, GaveAtMost, source_failures, sink_failures};
-ghost use Rattle.lsp_judge.specs.Verdict.{no};
+ghost use Rattle.lsp_judge.specs.Verdict.{yes, no, summary};
 
 use crate::outcome::{Outcome, RunFault};
 use crate::report::report_of;
@@ -46,7 +47,7 @@ pub fn run_check<R: Source, W: Sink>(
     // report and nothing else is written.
     ensures judged { IfOk result (λ outcome. (v : Verdict) × (outcome ≡ Outcome.Judged v)) }
     ensures verdict { (v : Verdict) → result ≡ Ok (Outcome.Judged v)
-        → OfRead limits (R.remaining reader.old) (R.remaining reader.new) (λ log. HasVerdict limits log (verdict_view v)) }
+        → OfRead limits (R.remaining reader.old) (R.remaining reader.new) (λ log. Judges limits log (verdict_view v)) }
     ensures report { (v : Verdict) → result ≡ Ok (Outcome.Judged v)
         → Appends (W.taken writer.old) (W.taken writer.new) (report (verdict_view v)) }
 
@@ -65,7 +66,7 @@ pub fn run_check<R: Source, W: Sink>(
     // frames.
     ensures kept { (v : Verdict) → result ≡ Ok (Outcome.Judged v)
         → OfRead limits (R.remaining reader.old) (R.remaining reader.new)
-        (λ log. (events : List Event) → IsClean limits log events → SaysYes limits events (verdict_view v)) }
+        (λ log. (events : List Event) → IsClean limits log events → verdict_view v ≡ yes (summary limits.document events)) }
 
     // After a read fault or for want of memory nothing is written, after a write fault a prefix.
     ensures read_fault { result ≡ Err RunFault.Read → W.taken writer.new ≡ W.taken writer.old }

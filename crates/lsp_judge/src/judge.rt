@@ -2,7 +2,7 @@
 ghost use Rattle.std.specs.Prelude.{◌≡◌, ◌⊎◌, ◌++◌, ◌∷◌, [], ℕ, List, Option, Some, None, Ok, IfOk, IfErr, OnOk, OnErr, option_map};
 ghost use Rattle.lsp_log.specs.Log as log;
 ghost use Rattle.lsp_log.specs.Records.{record_view};
-ghost use Rattle.lsp_judge.specs.Answered.{NamesFirst, NamesRest, NoneOffends, AreClean, SaysYes};
+ghost use Rattle.lsp_judge.specs.Answered.{NamesFirst, NamesRest, NoneOffends, AreClean, SaysYes, Repeats};
 ghost use Rattle.lsp_judge.specs.Event.{Event};
 ghost use Rattle.lsp_judge.specs.Given.{verdict_view, as_given};
 ghost use Rattle.lsp_judge.specs.Kept.{AreKept};
@@ -86,6 +86,8 @@ impl<S: TextStore> Judge<S> {
         ensures none { (records : List log.Record) → Stands self.old records → result ≡ Ok None
             → NoneOffends self.old.limits (records ++ record_view next ∷ []) }
         ensures given { IfOk result (λ answer. option_map verdict_view answer ≡ is_given self.new.given) }
+        // What was given for good is given again, and nothing changes.
+        ensures repeats { (ruling : Ruling) → self.old.given ≡ Some ruling → IfOk result (λ answer. Repeats ruling answer) }
         ensures stays { (ruling : Ruling) → self.old.given ≡ Some ruling → self.new ≡ self.old }
         ensures memory { OnErr result (self.new.given ≡ Some Ruling.Memory) }
     {
@@ -157,6 +159,8 @@ impl<S: TextStore> Judge<S> {
             → AreClean self.old.limits records events
             → IfOk result (λ answer. SaysYes self.old.limits events (verdict_view answer)) }
         ensures given { IfOk result (λ answer. IfRefused (verdict_view answer) (is_given self.new.given ≡ Some (verdict_view answer))) }
+        // What was given for good is given again, and nothing changes.
+        ensures repeats { (ruling : Ruling) → self.old.given ≡ Some ruling → IfOk result (λ answer. Repeats ruling (Some answer)) }
         ensures stays { (ruling : Ruling) → self.old.given ≡ Some ruling → self.new ≡ self.old }
         ensures memory { OnErr result (self.new.given ≡ Some Ruling.Memory) }
     {
