@@ -1,6 +1,6 @@
 -- What is answered on a log and on records means what the verdict on it means.
-use Rattle.std.proofs.Common.{◌≡◌, ◌⊎◌, ℕ, ◌+◌, ◌≤◌, ◌<◌, ◌^◌, Bool, true, false, List, [], ◌∷◌, ◌++◌, Option, Some, None, Result, Ok, Err, inl, inr, refl, sym, ap, subst, ◌∙◌, length, take, append_assoc, append-nil, length-append, arith}
-use Rattle.std.specs.Prelude.{IfOk, min, option_map}
+use Rattle.std.proofs.Common.{◌≡◌, ◌⊎◌, ℕ, ◌+◌, ◌≤◌, ◌<◌, ◌^◌, Bool, true, false, List, [], ◌∷◌, ◌++◌, Option, Some, None, Result, Ok, inl, inr, refl, sym, ap, subst, ◌∙◌, length, length-append, arith}
+use Rattle.std.specs.Prelude.{IfOk, option_map}
 use Rattle.std.specs.Io.KnownBytes.{IsAtEnd}
 use Rattle.std.specs.List.{flat_map, AllZip}
 use Rattle.std.proofs.lemmas.List.{length-take}
@@ -11,7 +11,7 @@ use Rattle.lsp_docs.specs.Snapshots.{unmatched}
 use Rattle.lsp_docs.specs.State.{capped}
 use Rattle.lsp_rpc.specs.declared.plain.Side.TheVariants.{Editor, Server}
 use Rattle.lsp_log.specs.declared.fault.LogCode.{LogCode}
-use Rattle.lsp_log.specs.Log.{Record, spelling, first_line, BeginsLog, IsLog, at_record}
+use Rattle.lsp_log.specs.Log.{Record, spelling, first_line, BeginsLog, IsLog}
 use Rattle.lsp_judge.specs.declared.outcome.Outcome.{Outcome}
 use Rattle.lsp_judge.specs.declared.outcome.Outcome.TheVariants.{Judged}
 use Rattle.lsp_judge.specs.declared.outcome.RunFault.{RunFault}
@@ -20,14 +20,14 @@ use Rattle.lsp_judge.specs.declared.verdict.Verdict as code
 use Rattle.lsp_judge.specs.declared.verdict.Verdict.TheVariants as verdicts
 use Rattle.lsp_judge.specs.declared.verdict.Who.{Who}
 use Rattle.lsp_judge.specs.declared.verdict.Who.TheVariants as who
-use Rattle.lsp_judge.specs.Answered.{NamesFirst, NamesRest, OffendsFirst, EndsInsideFrame, IsRefused, NoneOffends, AreClean, IsClean, SaysYes}
+use Rattle.lsp_judge.specs.Answered.{NamesFirst, NamesRest, IsRefused, NoneOffends, AreClean, IsClean, SaysYes}
 use Rattle.lsp_judge.specs.Calls.{call_at, calls}
 use Rattle.lsp_judge.specs.Event.{Event}
 use Rattle.lsp_judge.specs.Given.{verdict_view, as_given}
 use Rattle.lsp_judge.specs.Headline.{Names, HasRest107, Refuses, HasFault}
 use Rattle.lsp_judge.specs.Kept.{AreKept, IsKept}
 use Rattle.lsp_judge.specs.Logged.{Answers}
-use Rattle.lsp_judge.specs.Outcome.{ending, IsFinal, IsVerdict, Offends, IsNo, Judges}
+use Rattle.lsp_judge.specs.Outcome.{ending, IsFinal, IsVerdict, IsNo, Judges}
 use Rattle.lsp_judge.specs.Placed.{Raw, Reads, IsSession}
 use Rattle.lsp_judge.specs.RunIo.{OfRead, AppendsFront}
 use Rattle.lsp_judge.specs.Rulings.{verdict_in}

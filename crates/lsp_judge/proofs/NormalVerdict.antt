@@ -13,7 +13,7 @@ use Rattle.lsp_judge.specs.Normal.{form_of, IsNormal}
 use Rattle.lsp_judge.specs.NormalLaws.{before_fault, is_frame_rule, IsOnEvents, NormalFormKeepsVerdict}
 use Rattle.lsp_judge.specs.Outcome.{is_rest, IsNo, IsVerdict, Judges}
 use Rattle.lsp_judge.specs.Placed.{Raw, content, broken, show, Placed, Reads}
-use Rattle.lsp_judge.specs.Verdict.{Verdict, yes, no, bad_log_of, rest_of, no_at, first_no, no_next, summary, verdict, whose}
+use Rattle.lsp_judge.specs.Verdict.{Verdict, yes, bad_log_of, rest_of, no_at, first_no, no_next, summary, whose}
 use Rattle.lsp_judge.proofs.Below.{records_come_first}
 use Rattle.lsp_judge.proofs.LookBackLemmas.{first_of-more}
 use Rattle.lsp_judge.proofs.Logs.{both_begin}

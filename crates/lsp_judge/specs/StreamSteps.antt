@@ -7,7 +7,7 @@ use Rattle.lsp_frame.specs.Sink.{Told, Wrote, Stopped}
 use Rattle.lsp_frame.specs.Decoder.{State, StandsFor, EndsWith}
 use Rattle.lsp_judge.specs.StreamParts.{IsPart, Refuses}
 use Rattle.lsp_judge.specs.RunIo.{HasRead, GoesOn, source_failures, sink_failures}
-use Rattle.lsp_judge.specs.StreamRun.{HasParts, closing}
+use Rattle.lsp_judge.specs.StreamRun.{HasParts}
 use Rattle.lsp_judge.specs.declared.outcome.Mode.{Mode}
 use Rattle.lsp_judge.specs.declared.outcome.Outcome.{Outcome}
 use Rattle.lsp_judge.specs.declared.outcome.RunFault.{RunFault}
