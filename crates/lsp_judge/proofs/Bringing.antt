@@ -25,14 +25,14 @@ use Rattle.lsp_judge.proofs.Below.{some_stream, frames_first}
 use Rattle.lsp_judge.proofs.LookBackLemmas.{first_of-snoc, first_of-more}
 use Rattle.lsp_judge.proofs.OneEvent.{some_list, lists_join}
 
-zip_contents : (side : Side) (more : List (List ℕ)) (later : List Event) → AllZip (ReadsAs side) more later → AllZip Reads (map (content side) more) later
+pub zip_contents : (side : Side) (more : List (List ℕ)) (later : List Event) → AllZip (ReadsAs side) more later → AllZip Reads (map (content side) more) later
 zip_contents side [] [] p = tt
 zip_contents side [] (e ∷ later) p = absurd p
 zip_contents side (c ∷ more) [] p = absurd p
 zip_contents side (c ∷ more) (e ∷ later) p = (p.0, zip_contents side more later p.1)
 
 -- nothing that the bytes bring offends
-pub taken : (side : Side) (old new : decoder.State) (m : session.State) (documents : docs.State) (c : Counts) (before bytes : List ℕ) (events : List Event) → new.limits ≡ old.limits → (drained : IsDrained old before)
+unfoldable pub taken : (side : Side) (old new : decoder.State) (m : session.State) (documents : docs.State) (c : Counts) (before bytes : List ℕ) (events : List Event) → new.limits ≡ old.limits → (drained : IsDrained old before)
     → HeardAll side new m documents c (before ++ bytes) drained.contents events → Taken side new m documents c before bytes events
 taken side old new m documents c before bytes events same drained h = record {
   now = map (content side) h.heard.more;

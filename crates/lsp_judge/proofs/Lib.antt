@@ -17,6 +17,12 @@ pub mod Edits
 pub mod Hearing
 pub mod Following
 pub mod Takings
+pub mod Showings
+pub mod ShownBytes
+pub mod ShownRecords
+pub mod ShownLogs
+pub mod ShownSteps
+pub mod ShownRuns
 pub mod Bringing
 pub mod Tails
 pub mod Records
@@ -26,6 +32,7 @@ pub mod Templates
 pub mod Rows
 pub mod DocumentRows
 pub mod ReportRows
+pub mod ShownRows
 pub mod StreamPartsLemmas
 pub mod StreamFound
 pub mod StreamsDue

@@ -57,12 +57,12 @@ not_nil : (rs : List Record) (r : Record) → rs ++ r ∷ [] ≡ [] → ⊥
 not_nil [] r e = absurd cc
 not_nil (x ∷ rs) r e = absurd cc
 
-reads_at : (p : Progress) (s : reader.State) (bytes : List ℕ) (rs : List Record) (r : Record) → kept_in p ≡ None → StandsAt p s bytes (rs ++ r ∷ []) → Reads s bytes (rs ++ r ∷ [])
+pub reads_at : (p : Progress) (s : reader.State) (bytes : List ℕ) (rs : List Record) (r : Record) → kept_in p ≡ None → StandsAt p s bytes (rs ++ r ∷ []) → Reads s bytes (rs ++ r ∷ [])
 reads_at progress.FirstLine s bytes rs r free st = absurd (not_nil rs r st.none)
 reads_at progress.Records s bytes rs r free st = st
 reads_at (progress.Over end) s bytes rs r free st = absurd cc
 
-begins_log : (s : reader.State) (bytes : List ℕ) (rs : List Record) (more : List ℕ) → Reads s bytes rs → (rest : List ℕ) × BeginsLog s.limits (bytes ++ more) rs rest
+pub begins_log : (s : reader.State) (bytes : List ℕ) (rs : List Record) (more : List ℕ) → Reads s bytes rs → (rest : List ℕ) × BeginsLog s.limits (bytes ++ more) rs rest
 begins_log s bytes rs more st =
     let tail : List ℕ = take (s.limits.log - length bytes) more in
     let within : length bytes ≤ s.limits.log = omega (arith, st.left) in (
@@ -77,13 +77,13 @@ pub as_some : (o : Option Verdict) (v : Verdict) → Some v ≡ option_map as_gi
 as_some None v e = absurd cc
 as_some (Some w) v e = (w, refl, same_Some _ _ e)
 
-none_given : (o : Option Ruling) (s : judge.State) (rs : List Record) → None ≡ is_given o → StandsBy o s rs → o ≡ None
+pub none_given : (o : Option Ruling) (s : judge.State) (rs : List Record) → None ≡ is_given o → StandsBy o s rs → o ≡ None
 none_given None s rs e st = refl
 none_given (Some (rulings.No rule by number event)) s rs e st = absurd cc
 none_given (Some (rulings.BadLog number code)) s rs e st = absurd st
 none_given (Some rulings.Memory) s rs e st = absurd st
 
-pub taken_answers : (r s : reader.State) (j k : judge.State) (before after : Told) (bytes : List ℕ) (rs : List Record) (next : code.Record) (answer : Option given_verdict.Verdict)
+unfoldable pub taken_answers : (r s : reader.State) (j k : judge.State) (before after : Told) (bytes : List ℕ) (rs : List Record) (next : code.Record) (answer : Option given_verdict.Verdict)
     → s.limits ≡ r.limits → k.limits ≡ j.limits → kept_by s ≡ None → AreAt r j bytes rs → Given s before after (Ok (Some next)) bytes rs
     → ((records : List Record) → Stands j records → Stands k (records ++ record_view next ∷ []))
     → ((records : List Record) (events : List Event) → Stands j records → IsSession j.limits (records ++ record_view next ∷ []) events → option_map verdict_view answer ≡ option_map as_given (first_no j.limits.document events))
@@ -175,7 +175,7 @@ pub record SoFar (limits : Bounds) (before now : Told) (r : reader.State) (j : j
   pub same : r.limits ≡ limits
   pub stands : AreAt r j bytes records
 
-pub nothing_taken : (limits : Bounds) (now : Told) (r : reader.State) (j : judge.State) → r ≡ empty limits → StandsFor r [] [] → j.limits ≡ limits → j.given ≡ None → Stands j [] → SoFar limits now now r j
+unfoldable pub nothing_taken : (limits : Bounds) (now : Told) (r : reader.State) (j : judge.State) → r ≡ empty limits → StandsFor r [] [] → j.limits ≡ limits → j.given ≡ None → Stands j [] → SoFar limits now now r j
 nothing_taken limits now r j new stands alike ungiven judged =
     let same : r.limits ≡ limits = ap (λ (s : reader.State). s.limits) new in
     record {
@@ -187,7 +187,7 @@ nothing_taken limits now r j new stands alike ungiven judged =
       stands = record { limits = alike ∙ sym same; unread = ap kept_by new; read = stands; ungiven = ungiven; judged = judged };
     }
 
-pub took_more : (limits : Bounds) (before mid now : Told) (r s : reader.State) (j k : judge.State) (so_far : SoFar limits before mid r j) → s.limits ≡ r.limits → TookOne s k mid now so_far.bytes so_far.records → SoFar limits before now s k
+unfoldable pub took_more : (limits : Bounds) (before mid now : Told) (r s : reader.State) (j k : judge.State) (so_far : SoFar limits before mid r j) → s.limits ≡ r.limits → TookOne s k mid now so_far.bytes so_far.records → SoFar limits before now s k
 took_more limits before mid now r s j k so_far same took = record {
   bytes = so_far.bytes ++ took.piece;
   records = so_far.records ++ took.next ∷ [];
@@ -197,7 +197,7 @@ took_more limits before mid now r s j k so_far same took = record {
   stands = took.stands;
 }
 
-has_read : (limits : Bounds) (before mid now : Told) (bytes piece : List ℕ) → Consumes before.bytes mid.bytes bytes → HasRead limits mid now bytes piece → HasRead limits before now [] (bytes ++ piece)
+pub has_read : (limits : Bounds) (before mid now : Told) (bytes piece : List ℕ) → Consumes before.bytes mid.bytes bytes → HasRead limits mid now bytes piece → HasRead limits before now [] (bytes ++ piece)
 has_read limits before mid now bytes piece first read = record { read = Consumes-trans _ _ _ bytes piece first read.read; within = read.within }
 
 pub answers_all : (limits : Bounds) (before mid now : Told) (r : reader.State) (j : judge.State) (v : Verdict) (so_far : SoFar limits before mid r j) → Answers r.limits mid now so_far.bytes v → Answers limits before now [] v

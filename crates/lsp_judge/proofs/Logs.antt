@@ -19,7 +19,7 @@ is_true : {b : Bool} → IsTrue b → b ≡ true
 is_true e = e
 
 -- one list of records begins the other
-abbrev Begin : List Record → List Record → Type 0
+abbrev pub Begin : List Record → List Record → Type 0
 Begin rs us = ((more : List Record) × (us ≡ rs ++ more)) ⊎ ((more : List Record) × (rs ≡ us ++ more))
 
 begin_next : (r : Record) (rs us : List Record) → Begin rs us → Begin (r ∷ rs) (r ∷ us)

@@ -23,7 +23,7 @@ use Rattle.lsp_judge.specs.declared.ruling.Ruling.TheVariants.{No, BadLog, Memor
 use Rattle.lsp_judge.specs.declared.verdict.Who.{Who}
 use Rattle.lsp_judge.proofs.Following.{ruled}
 
-zip_push : {A B : Type 0} (P : A → B → Type 0) (xs : List A) (ys : List B) (x : A) (y : B) → AllZip P xs ys → P x y → AllZip P (xs ++ x ∷ []) (ys ++ y ∷ [])
+pub zip_push : {A B : Type 0} (P : A → B → Type 0) (xs : List A) (ys : List B) (x : A) (y : B) → AllZip P xs ys → P x y → AllZip P (xs ++ x ∷ []) (ys ++ y ∷ [])
 zip_push P [] [] x y p q = (q, tt)
 zip_push P [] (b ∷ ys) x y p q = absurd p
 zip_push P (a ∷ xs) [] x y p q = absurd p
@@ -91,7 +91,7 @@ module _ (side : Side) (bytes : List ℕ) (contents : List (List ℕ)) (events :
 -- ---- one content after another
 
 module _ (side : Side) (bytes : List ℕ) (contents : List (List ℕ)) (events : List Event) where
-  pub nothing_heard : (d : decoder.State) (m : session.State) (documents : docs.State) (c : Counts) → decoder.StandsFor d bytes contents → Follows m documents c events → Heard side d m documents c bytes contents events
+  unfoldable pub nothing_heard : (d : decoder.State) (m : session.State) (documents : docs.State) (c : Counts) → decoder.StandsFor d bytes contents → Follows m documents c events → Heard side d m documents c bytes contents events
   nothing_heard d m documents c stands follows = record {
     more = [];
     later = [];
@@ -102,11 +102,11 @@ module _ (side : Side) (bytes : List ℕ) (contents : List (List ℕ)) (events :
 
   module _ (d : decoder.State) (m : session.State) (documents : docs.State) (c : Counts) (h : Heard side d m documents c bytes contents events) where
     -- the decoder has no more
-    pub heard_all : (new : decoder.State) (new_m : session.State) (new_d : docs.State) (new_c : Counts) → HeardNone new new_m new_d new_c bytes (contents ++ h.more) (events ++ h.later) → HeardAll side new new_m new_d new_c bytes contents events
+    unfoldable pub heard_all : (new : decoder.State) (new_m : session.State) (new_d : docs.State) (new_c : Counts) → HeardNone new new_m new_d new_c bytes (contents ++ h.more) (events ++ h.later) → HeardAll side new new_m new_d new_c bytes contents events
     heard_all new new_m new_d new_c none = record { heard = record { more = h.more; later = h.later; read = h.read; stands = none.stands; follows = none.follows }; ends = none.ends }
 
     -- one content more
-    pub one_heard : (new : decoder.State) (new_m : session.State) (new_d : docs.State) (new_c : Counts) (said : Message) → HeardOne side new new_m new_d new_c bytes (contents ++ h.more) (events ++ h.later) said → Heard side new new_m new_d new_c bytes contents events
+    unfoldable pub one_heard : (new : decoder.State) (new_m : session.State) (new_d : docs.State) (new_c : Counts) (said : Message) → HeardOne side new new_m new_d new_c bytes (contents ++ h.more) (events ++ h.later) said → Heard side new new_m new_d new_c bytes contents events
     one_heard new new_m new_d new_c said one = record {
       more = h.more ++ one.content ∷ [];
       later = h.later ++ message one.heard.sent ∷ [];
@@ -115,13 +115,13 @@ module _ (side : Side) (bytes : List ℕ) (contents : List (List ℕ)) (events :
       follows = subst (λ (w : List Event). Follows new_m new_d new_c w) (append_assoc events h.later (message one.heard.sent ∷ [])) one.heard.follows;
     }
 
-    stopped_by : (limits : Bounds) (limit : ℕ) (r : Ruling) → StoppedNext side limits limit bytes (contents ++ h.more) (events ++ h.later) r → Stopped side limits limit bytes contents events r
+    unfoldable pub stopped_by : (limits : Bounds) (limit : ℕ) (r : Ruling) → StoppedNext side limits limit bytes (contents ++ h.more) (events ++ h.later) r → Stopped side limits limit bytes contents events r
     stopped_by limits limit (No rule by number at) o = record { more = h.more; later = h.later; event = o.event; read = h.read; clean = o.clean; next = o.next; named = o.named }
     stopped_by limits limit (BadLog number code) o = o
     stopped_by limits limit Memory o = tt
 
     -- the next offends
-    pub stopped : (limits : Bounds) (limit : ℕ) (r : Ruling) → d.limits ≡ limits → documents.limit ≡ limit → StoppedNext side d.limits documents.limit bytes (contents ++ h.more) (events ++ h.later) r → Stopped side limits limit bytes contents events r
+    unfoldable pub stopped : (limits : Bounds) (limit : ℕ) (r : Ruling) → d.limits ≡ limits → documents.limit ≡ limit → StoppedNext side d.limits documents.limit bytes (contents ++ h.more) (events ++ h.later) r → Stopped side limits limit bytes contents events r
     stopped limits limit r same same_limit o =
         stopped_by limits limit r
         (subst (λ (l : ℕ). StoppedNext side limits l bytes (contents ++ h.more) (events ++ h.later) r) same_limit

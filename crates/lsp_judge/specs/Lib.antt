@@ -23,7 +23,9 @@ pub mod Faults
 pub mod Rulings
 pub mod Standing
 pub mod Taking
+pub mod Showing
 pub mod Logged
 pub mod Normal
 pub mod NormalSteps
 pub mod NormalLaws
+pub mod ShownLog

@@ -9,15 +9,18 @@ ghost use Rattle.lsp_judge.specs.Kept.{AreKept};
 ghost use Rattle.lsp_judge.specs.Outcome.{IsFinal, is_rest};
 ghost use Rattle.lsp_judge.specs.Placed.{IsSession};
 ghost use Rattle.lsp_judge.specs.Rulings.{RestIs, IfRefused};
+ghost use Rattle.lsp_judge.specs.Showing.{ShowsMore, ruling_of, written, done};
 ghost use Rattle.lsp_judge.specs.Standing.{AreCounts, IsOpen, AreLimits, Keeps, Rules, Stands, is_given};
 ghost use Rattle.lsp_judge.specs.Verdict as spec;
 
 use crate::contents::take_bytes;
 use crate::events::Events;
+use crate::outcome::RunFault;
 use crate::ruling::Ruling;
+use crate::showing::{Stop, show_bytes, show_snapshot};
 use crate::summary::summary_of;
 use crate::verdict::{Summary, Verdict, Who};
-use lsp_frame::{Decoder, Limits};
+use lsp_frame::{Decoder, Limits, Sink};
 use lsp_log::{LogCode, Record};
 use lsp_rpc::{Memory, Side};
 use lsp_text::TextStore;
@@ -100,6 +103,38 @@ impl<S: TextStore> Judge<S> {
                 self.given = Some(ruling);
                 Ok(Some(ruling.answer()?))
             }
+        }
+    }
+
+    /// As `take`, of a judge that gave nothing, and writes a line for each event that the record
+    /// brings, up to the first that offends. The text `line` is used to make them.
+    pub(crate) fn show<W: Sink>(
+        &mut self,
+        next: Record,
+        writer: &mut W,
+        line: &mut String,
+    ) -> Result<Option<Verdict>, RunFault>
+        requires { self.old.given ≡ None }
+        ensures limits { self.new.limits ≡ self.old.limits }
+        ensures stands { OnOk result ((records : List log.Record) → Stands self.old records → Stands self.new (records ++ record_view next ∷ [])) }
+        ensures verdict { IfOk result (λ answer. (records : List log.Record) (events : List Event) → Stands self.old records
+            → IsSession self.old.limits (records ++ record_view next ∷ []) events
+            → option_map verdict_view answer ≡ option_map as_given (spec.first_no self.old.limits.document events)) }
+        ensures given { IfOk result (λ answer. option_map verdict_view answer ≡ is_given self.new.given) }
+        ensures shown { (records : List log.Record) (events all : List Event) → Stands self.old records
+            → IsSession self.old.limits records events → IsSession self.old.limits (records ++ record_view next ∷ []) all
+            → ShowsMore self.old.limits.document events all
+            (record { bytes = W.taken writer.old; failures = W.failures writer.old })
+            (record { bytes = W.taken writer.new; failures = W.failures writer.new })
+            (done result) }
+    {
+        match self.hear_and_write(next, writer, line) {
+            Ok(()) => Ok(None),
+            Err(Stop::Ruled(ruling)) => {
+                self.given = Some(ruling);
+                Ok(Some(ruling.answer()?))
+            }
+            Err(Stop::Failed(fault)) => Err(fault),
         }
     }
 
@@ -222,6 +257,59 @@ impl<S: TextStore> Judge<S> {
             Record::Snapshot { version, uri, text } => {
                 self.events.snapshot(uri.as_str(), version, text.as_str())
             }
+        }
+    }
+
+    /// Hears what a record brings, up to the first event that offends, and writes a line for each
+    /// event before that.
+    fn hear_and_write<W: Sink>(
+        &mut self,
+        next: Record,
+        writer: &mut W,
+        line: &mut String,
+    ) -> Result<(), Stop>
+        ensures keeps { Keeps self.old self.new }
+        ensures ok { OnOk result ((records : List log.Record) → AreLimits self.old → IsOpen self.old records
+            → IsOpen self.new (records ++ record_view next ∷ [])) }
+        ensures no { IfErr result (λ stop. (records : List log.Record) → AreLimits self.old → IsOpen self.old records
+            → Rules self.old.limits (records ++ record_view next ∷ []) (ruling_of stop)) }
+        ensures shown { (records : List log.Record) (events all : List Event) → AreLimits self.old → IsOpen self.old records
+            → IsSession self.old.limits records events → IsSession self.old.limits (records ++ record_view next ∷ []) all
+            → ShowsMore self.old.limits.document events all
+            (record { bytes = W.taken writer.old; failures = W.failures writer.old })
+            (record { bytes = W.taken writer.new; failures = W.failures writer.new })
+            (written result) }
+    {
+        match next {
+            Record::Bytes { side, bytes } => match side {
+                Side::Editor => show_bytes(
+                    self.alloc,
+                    side,
+                    bytes.as_slice(),
+                    &mut self.editor,
+                    &mut self.events,
+                    writer,
+                    line,
+                ),
+                Side::Server => show_bytes(
+                    self.alloc,
+                    side,
+                    bytes.as_slice(),
+                    &mut self.server,
+                    &mut self.events,
+                    writer,
+                    line,
+                ),
+            },
+            Record::Snapshot { version, uri, text } => show_snapshot(
+                self.alloc,
+                &mut self.events,
+                uri.as_str(),
+                version,
+                text.as_str(),
+                writer,
+                line,
+            ),
         }
     }
 }

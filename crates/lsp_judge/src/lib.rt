@@ -1,8 +1,9 @@
 //! The judge of a recorded session: its events, which of them offends, and the verdict.
 //!
-//! `run_check` reads a log and writes the report of the verdict on it. `Judge` takes the records of a
-//! log one by one, `report_of` prints a verdict. `run_frames` reads one raw stream, one direction of
-//! a session, and says what its frames are.
+//! `run_check` reads a log and writes the report of the verdict on it, `run_show` writes a line for
+//! each event before that. `Judge` takes the records of a log one by one, `report_of` prints a
+//! verdict. `run_frames` reads one raw stream, one direction of a session, and says what its frames
+//! are.
 #![tactic(auto)]
 
 mod check;
@@ -22,10 +23,13 @@ mod report;
 mod ruling;
 mod run;
 mod show;
+mod show_laws;
+mod showing;
 mod stream_laws;
 mod summary;
 mod texts;
 mod verdict;
+mod view;
 
 pub use check::run_check;
 pub use frames::run_frames;
@@ -43,8 +47,10 @@ pub use normal_laws::{
 pub use outcome::{Mode, Outcome, RunFault, StreamFault};
 pub use report::{report_of, stream_report};
 pub use run::{JudgeFault, judge_log};
+pub use show_laws::one_shown;
 pub use stream_laws::{one_run, some_run};
 pub use verdict::{OpenDocument, Summary, Verdict, Who};
+pub use view::run_show;
 
 #[cfg(test)]
 mod normal_tests;

@@ -1,0 +1,152 @@
+-- A log is shown up to its verdict, and then the report.
+use Rattle.std.proofs.Common.{◌≡◌, ◌+◌, ◌-◌, ◌<◌, ℕ, List, [], ◌∷◌, ◌++◌, Option, Some, None, Ok, Err, refl, sym, ap, subst, ◌∙◌, append_assoc}
+use Rattle.std.proofs.KnownBytes.{Appends-trans}
+use Rattle.lsp_frame.specs.Bounds.{Bounds}
+use Rattle.lsp_frame.specs.Sink.{Told, Wrote, Stopped}
+use Rattle.lsp_log.specs.Reader as reader
+use Rattle.lsp_log.specs.Reader.{empty, StandsFor, MayFollow}
+use Rattle.lsp_judge.specs.declared.outcome.RunFault.{RunFault}
+use Rattle.lsp_judge.specs.declared.ruling.Ruling.{Ruling}
+use Rattle.lsp_judge.specs.declared.ruling.Ruling.TheVariants as rulings
+use Rattle.lsp_judge.specs.Event.{Event}
+use Rattle.lsp_judge.specs.Given.{as_given}
+use Rattle.lsp_judge.specs.Logged.{Answers}
+use Rattle.lsp_judge.specs.Placed.{IsSession}
+use Rattle.lsp_judge.specs.Report.{report}
+use Rattle.lsp_judge.specs.RunIo.{source_failures, sink_failures}
+use Rattle.lsp_judge.specs.Showing.{ShowsMore}
+use Rattle.lsp_judge.specs.Shown.{kept_within, lines_of}
+use Rattle.lsp_judge.specs.ShownLog.{IsShown, ShowedOne, ShowedAll, ShowedPart, WroteShown, IsBegun}
+use Rattle.lsp_judge.specs.Standing as judge
+use Rattle.lsp_judge.specs.Standing.{Stands, StandsBy}
+use Rattle.lsp_judge.specs.Verdict.{Verdict, first_no}
+use Rattle.lsp_judge.proofs.Logging.{SoFar, nothing_taken, took_more, took_smaller, has_read}
+use Rattle.lsp_judge.proofs.Sessions.{some_session, same_session}
+use Rattle.lsp_judge.proofs.Showings.{wrote_none, wrote_more}
+use Rattle.lsp_judge.proofs.ShownLogs.{judges, one_shown}
+
+-- the records that were taken so far, and the lines of their events
+pub record ShownRecords (limits : Bounds) (before now start end : Told) (r : reader.State) (j : judge.State) : Type 0 where
+  pub so_far : SoFar limits before now r j
+  pub events : List Event
+  pub session : IsSession limits so_far.records events
+  pub wrote : Wrote start end (lines_of (kept_within limits.document events))
+
+-- a judge that took no record gave nothing
+new_ungiven : (o : Option Ruling) (j : judge.State) → StandsBy o j [] → o ≡ None
+new_ungiven None j st = refl
+new_ungiven (Some (rulings.No rule by number at)) j st =
+    let none = same_session j.limits [] [] st.1.events [] refl st.1.session ([], refl, tt) in
+    let clash : None ≡ Some st.0 = ap (first_no j.limits.document) (sym none) ∙ st.1.offends in
+    absurd cc
+new_ungiven (Some (rulings.BadLog number code)) j st = absurd st
+new_ungiven (Some rulings.Memory) j st = absurd st
+
+pub nothing_showed : (limits : Bounds) (now start : Told) (r : reader.State) (j : judge.State) → r ≡ empty limits → StandsFor r [] [] → j.limits ≡ limits → Stands j [] → ShownRecords limits now now start start r j
+unfolding nothing_taken
+nothing_showed limits now start r j new stands alike judged = record {
+  so_far = nothing_taken limits now r j new stands alike (new_ungiven j.given j judged.given) judged;
+  events = [];
+  session = ([], refl, tt);
+  wrote = wrote_none start;
+}
+
+pub session_at : (limits : Bounds) (before now start end : Told) (r : reader.State) (j : judge.State) → (p : ShownRecords limits before now start end r j) → IsSession r.limits p.so_far.records p.events
+session_at limits before now start end r j p = subst (λ (b : Bounds). IsSession b p.so_far.records p.events) (sym p.so_far.same) p.session
+
+module _ (limits : Bounds) (before mid now start old new : Told) (r : reader.State) (j : judge.State) (p : ShownRecords limits before mid start old r j) where
+  pub showed_more : (s : reader.State) (k : judge.State) → s.limits ≡ r.limits → ShowedOne s k mid now old new p.so_far.bytes p.so_far.records p.events → ShownRecords limits before now start new s k
+  unfolding took_more
+  showed_more s k same one =
+      let whole = some_session limits (p.so_far.records ++ one.took.next ∷ []) in
+      let alike : s.limits ≡ limits = same ∙ p.so_far.same in
+      let shows = subst (λ (b : Bounds). ShowsMore b.document p.events whole.0 old new (Ok tt)) alike
+      (one.lines whole.0 (subst (λ (b : Bounds). IsSession b (p.so_far.records ++ one.took.next ∷ []) whole.0) (sym alike) whole.1)) in
+      record {
+        so_far = took_more limits before mid now r s j k p.so_far same one.took;
+        events = whole.0;
+        session = whole.1;
+        wrote = subst (λ (w : List ℕ). Wrote start new w) (sym shows.added) (wrote_more start old new (lines_of (kept_within limits.document p.events)) shows.lines p.wrote shows.told);
+      }
+
+  pub showed_smaller : (s : reader.State) (k : judge.State) → s.limits ≡ r.limits → ShowedOne s k mid now old new p.so_far.bytes p.so_far.records p.events → s.limits.log + 1 - s.given < r.limits.log + 1 - r.given
+  showed_smaller s k same one = took_smaller r s j k mid now p.so_far.bytes p.so_far.records p.so_far.stands same one.took
+
+  pub all_showed : (v : Verdict) → ShowedAll r.limits mid now old new p.so_far.bytes p.events v → ShowedAll limits before now start new [] [] v
+  all_showed v a =
+      let told = subst (λ (b : Bounds). ShowedAll b mid now old new p.so_far.bytes p.events v) p.so_far.same a in
+      record {
+        range = told.range;
+        piece = p.so_far.bytes ++ told.piece;
+        read = has_read limits before mid now p.so_far.bytes told.piece p.so_far.read told.read;
+        failures = told.failures ∙ p.so_far.failures;
+        lines = lines_of (kept_within limits.document p.events) ++ told.lines;
+        wrote = wrote_more start old new (lines_of (kept_within limits.document p.events)) told.lines p.wrote told.wrote;
+        due = told.due;
+      }
+
+  pub part_showed : (failed : RunFault) → ShowedPart r.limits mid now old new p.so_far.bytes p.events failed → ShowedPart limits before now start new [] [] failed
+  part_showed failed a =
+      let told = subst (λ (b : Bounds). ShowedPart b mid now old new p.so_far.bytes p.events failed) p.so_far.same a in
+      record {
+        piece = p.so_far.bytes ++ told.piece;
+        read = has_read limits before mid now p.so_far.bytes told.piece p.so_far.read told.read;
+        failures = told.failures ∙ ap (source_failures (Err failed)) p.so_far.failures;
+        lines = lines_of (kept_within limits.document p.events) ++ told.lines;
+        wrote = Appends-trans start.bytes old.bytes new.bytes (lines_of (kept_within limits.document p.events)) told.lines p.wrote.appends told.wrote;
+        sink = told.sink ∙ ap (sink_failures (Err failed)) p.wrote.failures;
+        begins = told.begins;
+      }
+
+-- ---- the report
+
+pub is_judged : (limits : Bounds) (before after old new : Told) (v : Verdict) → ShowedAll limits before after old new [] [] v → Answers limits before after [] v
+is_judged limits before after old new v a = record {
+  piece = a.piece;
+  read = a.read;
+  failures = a.failures;
+  verdict = λ more follows. let due = a.due more follows in (due.0, judges limits (a.piece ++ more) due.0 _ due.1, due.2);
+}
+
+pub wrote_shown : (limits : Bounds) (before after old mid new : Told) (v : Verdict) (bytes : List ℕ) → ShowedAll limits before after old mid [] [] v → bytes ≡ report v → Wrote mid new bytes → WroteShown limits before after old new v
+wrote_shown limits before after old mid new v bytes a is told = record {
+  piece = a.piece;
+  read = a.read;
+  out = a.lines ++ report v;
+  wrote = wrote_more old mid new a.lines (report v) a.wrote (subst (λ (w : List ℕ). Wrote mid new w) is told);
+  due = λ more follows.
+      let due = a.due more follows in
+      (due.0, subst (λ (w : Verdict). IsShown limits (a.piece ++ more) due.0 (a.lines ++ report w)) (sym due.2) due.1, due.2);
+}
+
+pub part_begun : (limits : Bounds) (before after old new : Told) (failed : RunFault) → ShowedPart limits before after old new [] [] failed → IsBegun limits before after old new
+part_begun limits before after old new failed a = record { piece = a.piece; read = a.read; written = a.lines; wrote = a.wrote; begins = a.begins }
+
+-- the report was not written
+pub lines_begun : (limits : Bounds) (before after old new : Told) (v : Verdict) → ShowedAll limits before after old new [] [] v → IsBegun limits before after old new
+lines_begun limits before after old new v a = record {
+  piece = a.piece;
+  read = a.read;
+  written = a.lines;
+  wrote = a.wrote.appends;
+  begins = λ more w out follows p.
+      let due = a.due more follows in
+      (report (as_given due.0), sym (one_shown limits a.range (a.piece ++ more) due.0 w (a.lines ++ report (as_given due.0)) out due.1 p).1);
+}
+
+-- or not all of it
+pub report_begun : (limits : Bounds) (before after old mid new : Told) (v : Verdict) (bytes : List ℕ) → ShowedAll limits before after old mid [] [] v → bytes ≡ report v → Stopped mid new bytes → IsBegun limits before after old new
+report_begun limits before after old mid new v bytes a is told = record {
+  piece = a.piece;
+  read = a.read;
+  written = a.lines ++ told.front;
+  wrote = Appends-trans old.bytes mid.bytes new.bytes a.lines told.front a.wrote.appends told.appends;
+  begins = λ more w out follows p.
+      let due = a.due more follows in (
+        told.back,
+        sym (one_shown limits a.range (a.piece ++ more) due.0 w (a.lines ++ report (as_given due.0)) out due.1 p).1
+            ∙ ap (λ x. a.lines ++ report x) (sym due.2)
+            ∙ ap (λ l. a.lines ++ l) (sym is ∙ told.whole)
+            ∙ sym (append_assoc a.lines told.front told.back),
+      );
+}

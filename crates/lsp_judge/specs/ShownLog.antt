@@ -1,0 +1,102 @@
+-- What is written where a log is shown: a line for each event before the verdict's place, and the report.
+use Rattle.std.specs.Prelude.{◌≡◌, ◌⊎◌, ℕ, List, [], ◌∷◌, ◌++◌, Option, Some, None, Result, Ok, Err}
+use Rattle.std.specs.Io.KnownBytes.{Appends}
+use Rattle.lsp_frame.specs.Bounds.{Bounds, IsInRange}
+use Rattle.lsp_frame.specs.Sink.{Told, Wrote}
+use Rattle.lsp_log.specs.Log.{Record}
+use Rattle.lsp_log.specs.Reader as reader
+use Rattle.lsp_log.specs.Reader.{MayFollow}
+use Rattle.lsp_judge.specs.declared.outcome.Outcome.{Outcome}
+use Rattle.lsp_judge.specs.declared.outcome.Outcome.TheVariants.{Judged}
+use Rattle.lsp_judge.specs.declared.outcome.RunFault.{RunFault}
+use Rattle.lsp_judge.specs.declared.verdict.Verdict as code
+use Rattle.lsp_judge.specs.Event.{Event}
+use Rattle.lsp_judge.specs.Given.{verdict_view, as_given}
+use Rattle.lsp_judge.specs.Logged.{HasRead, TookOne, Answers}
+use Rattle.lsp_judge.specs.Outcome.{IsNo, IsVerdict}
+use Rattle.lsp_judge.specs.Placed.{IsSession}
+use Rattle.lsp_judge.specs.Report.{report}
+use Rattle.lsp_judge.specs.RunIo.{source_failures, sink_failures}
+use Rattle.lsp_judge.specs.Showing.{ShowsMore}
+use Rattle.lsp_judge.specs.Shown.{show_of, lines_of, kept_within}
+use Rattle.lsp_judge.specs.Standing as judge
+use Rattle.lsp_judge.specs.Verdict.{Verdict}
+
+-- ---- a log
+
+-- **what is due for a log**: the lines of the events before the verdict's place, and the report; where an event offends, it doesn't matter how the log goes on
+abbrev pub IsShown : Bounds → List ℕ → Verdict → List ℕ → Type 0
+IsShown limits log v out =
+    ((early : IsNo limits log v) × (out ≡ show_of v early.offends.events))
+    ⊎ ((whole : IsVerdict limits log v) × (out ≡ show_of v whole.final.events))
+
+-- **One verdict is shown of a log, and one output**
+abbrev pub OneShown : Type 0
+OneShown = (limits : Bounds) → IsInRange limits → (log : List ℕ) (v w : Verdict) (out other : List ℕ) → IsShown limits log v out → IsShown limits log w other → (v ≡ w) × (out ≡ other)
+
+-- ---- one step
+
+-- one more record was read, none of its events offends, and their lines were written
+pub record ShowedOne (r : reader.State) (j : judge.State) (before after old new : Told) (bytes : List ℕ) (records : List Record) (events : List Event) : Type 0 where
+  pub took : TookOne r j before after bytes records
+  pub lines : (all : List Event) → IsSession r.limits (records ++ took.next ∷ []) all → ShowsMore r.limits.document events all old new (Ok tt)
+
+-- the verdict was found: behind the lines of these events others were written, and then the report is due, whatever follows where the reader's end was not met
+pub record ShowedAll (limits : Bounds) (before after old new : Told) (bytes : List ℕ) (events : List Event) (v : Verdict) : Type 0 where
+  pub range : IsInRange limits
+  pub piece : List ℕ
+  pub read : HasRead limits before after bytes piece
+  pub failures : after.failures ≡ before.failures
+  pub lines : List ℕ
+  pub wrote : Wrote old new lines
+  pub due : (more : List ℕ) → MayFollow after more
+      → (w : Verdict) × IsShown limits ((bytes ++ piece) ++ more) w ((lines_of (kept_within limits.document events) ++ lines) ++ report (as_given w)) × (v ≡ as_given w)
+
+-- a fault: behind the lines of these events others were written, which are due whatever follows
+pub record ShowedPart (limits : Bounds) (before after old new : Told) (bytes : List ℕ) (events : List Event) (fault : RunFault) : Type 0 where
+  pub piece : List ℕ
+  pub read : HasRead limits before after bytes piece
+  pub failures : after.failures ≡ source_failures (Err fault) before.failures
+  pub lines : List ℕ
+  pub wrote : Appends old.bytes new.bytes lines
+  pub sink : new.failures ≡ sink_failures (Err fault) old.failures
+  pub begins : (more : List ℕ) (w : Verdict) (out : List ℕ) → MayFollow after more → IsShown limits ((bytes ++ piece) ++ more) w out
+      → (left : List ℕ) × (out ≡ (lines_of (kept_within limits.document events) ++ lines) ++ left)
+
+abbrev pub StepShows : Bounds → reader.State → judge.State → Told → Told → Told → Told → List ℕ → List Record → List Event → Result (Option code.Verdict) RunFault → Type 0
+StepShows limits r j before after old new bytes records events (Ok None) = ShowedOne r j before after old new bytes records events
+StepShows limits r j before after old new bytes records events (Ok (Some v)) = ShowedAll limits before after old new bytes events (verdict_view v)
+StepShows limits r j before after old new bytes records events (Err fault) = ShowedPart limits before after old new bytes events fault
+
+-- ---- a run
+
+-- all lines of a log, before the report
+abbrev pub LogShows : Bounds → Told → Told → Told → Told → Result code.Verdict RunFault → Type 0
+LogShows limits before after old new (Ok v) = ShowedAll limits before after old new [] [] (verdict_view v)
+LogShows limits before after old new (Err fault) = ShowedPart limits before after old new [] [] fault
+
+-- what is due for the log was written, whatever follows where the reader's end was not met
+pub record WroteShown (limits : Bounds) (before after old new : Told) (v : Verdict) : Type 0 where
+  pub piece : List ℕ
+  pub read : HasRead limits before after [] piece
+  pub out : List ℕ
+  pub wrote : Wrote old new out
+  pub due : (more : List ℕ) → MayFollow after more → (w : Verdict) × IsShown limits (piece ++ more) w out × (v ≡ as_given w)
+
+-- **the outcome is the verdict on the log**
+abbrev pub IsJudged : Bounds → Told → Told → Outcome → Type 0
+IsJudged limits before after (Judged v) = Answers limits before after [] (verdict_view v)
+IsJudged limits before after _ = ⊥
+
+-- **the log is shown**
+abbrev pub Shows : Bounds → Told → Told → Told → Told → Outcome → Type 0
+Shows limits before after old new (Judged v) = WroteShown limits before after old new (verdict_view v)
+Shows limits before after old new _ = ⊥
+
+-- **what was written begins what is due for the log**, however it goes on where the reader's end was not met
+pub record IsBegun (limits : Bounds) (before after old new : Told) : Type 0 where
+  pub piece : List ℕ
+  pub read : HasRead limits before after [] piece
+  pub written : List ℕ
+  pub wrote : Appends old.bytes new.bytes written
+  pub begins : (more : List ℕ) (w : Verdict) (out : List ℕ) → MayFollow after more → IsShown limits (piece ++ more) w out → (left : List ℕ) × (out ≡ written ++ left)
