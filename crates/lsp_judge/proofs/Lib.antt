@@ -33,6 +33,7 @@ pub mod Rows
 pub mod DocumentRows
 pub mod ReportRows
 pub mod ShownRows
+pub mod TextRows
 pub mod StreamPartsLemmas
 pub mod StreamFound
 pub mod StreamsDue
@@ -53,3 +54,10 @@ pub mod NormalRows
 pub mod NormalOne
 pub mod NormalAgain
 pub mod NormalVerdict
+pub mod UpTo
+pub mod Untils
+pub mod Fronts
+pub mod Besides
+pub mod RecordsUntil
+pub mod TextLogs
+pub mod TextSteps

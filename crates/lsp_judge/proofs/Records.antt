@@ -221,7 +221,7 @@ given_verdict s rs more ruling v events e is p session = offence_first s.limits 
 pub is_open : (s : State) (rs : List Record) → s.given ≡ None → Stands s rs → IsOpen s rs
 is_open s rs e p = subst (λ (o : Option Ruling). StandsBy o s rs) e p.given
 
-kept_limits : (old new : State) → Keeps old new → AreLimits old → AreLimits new
+pub kept_limits : (old new : State) → Keeps old new → AreLimits old → AreLimits new
 kept_limits old new keeps limits = record {
   range = subst IsInRange (sym keeps.limits) limits.range;
   editor = keeps.editor ∙ limits.editor ∙ sym keeps.limits;

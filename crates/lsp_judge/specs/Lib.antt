@@ -29,3 +29,7 @@ pub mod Normal
 pub mod NormalSteps
 pub mod NormalLaws
 pub mod ShownLog
+pub mod TextAfter
+pub mod TextAnswers
+pub mod TextRun
+pub mod Until

@@ -1,5 +1,5 @@
 //! Judges a recorded session record by record.
-ghost use Rattle.std.specs.Prelude.{◌≡◌, ◌⊎◌, ◌++◌, ◌∷◌, [], ℕ, List, Option, Some, None, Ok, IfOk, IfErr, OnOk, OnErr, option_map};
+ghost use Rattle.std.specs.Prelude.{◌≡◌, ◌⊎◌, ◌<◌, ◌++◌, ◌∷◌, [], ℕ, List, Option, Some, None, Ok, IfOk, IfErr, OnOk, OnErr, option_map};
 ghost use Rattle.lsp_log.specs.Log as log;
 ghost use Rattle.lsp_log.specs.Records.{record_view};
 ghost use Rattle.lsp_judge.specs.Answered.{NamesFirst, NamesRest, NoneOffends, AreClean, SaysYes, Repeats};
@@ -11,6 +11,7 @@ ghost use Rattle.lsp_judge.specs.Placed.{IsSession};
 ghost use Rattle.lsp_judge.specs.Rulings.{RestIs, IfRefused};
 ghost use Rattle.lsp_judge.specs.Showing.{ShowsMore, ruling_of, written, done};
 ghost use Rattle.lsp_judge.specs.Standing.{AreCounts, IsOpen, AreLimits, Keeps, Rules, Stands, is_given};
+ghost use Rattle.lsp_judge.specs.Until.{AnswersBy, IsUntil, RulesBefore, editor_bytes};
 ghost use Rattle.lsp_judge.specs.Verdict as spec;
 
 use crate::contents::take_bytes;
@@ -19,6 +20,8 @@ use crate::outcome::RunFault;
 use crate::ruling::Ruling;
 use crate::showing::{Stop, show_bytes, show_snapshot};
 use crate::summary::summary_of;
+use crate::text_answer::TextAnswer;
+use crate::until::take_until;
 use crate::verdict::{Summary, Verdict, Who};
 use lsp_frame::{Decoder, Limits, Sink};
 use lsp_log::{LogCode, Record};
@@ -229,6 +232,54 @@ impl<S: TextStore> Judge<S> {
         None
     }
 
+    /// Takes the next record up to the editor's message of this number, from 1, and answers for the
+    /// text that is held of a URI just after it: once it came, or an event up to it offends. A judge
+    /// that answered is done with.
+    pub(crate) fn text_by(
+        &mut self,
+        next: Record,
+        number: u64,
+        uri: &str,
+    ) -> Result<Option<TextAnswer>, Memory>
+        requires ungiven { self.old.given ≡ None }
+        requires few { self.old.counts.editor < number }
+        ensures limits { self.new.limits ≡ self.old.limits }
+        ensures answer { IfOk result (λ answer. (records : List log.Record) → Stands self.old records
+            → AnswersBy self.new (records ++ record_view next ∷ []) number uri.now answer) }
+    {
+        let reached = match self.hear_until(next, number) {
+            Ok(reached) => reached,
+            Err(ruling) => return Ok(Some(TextAnswer::missing(ruling.answer()?))),
+        };
+        if !reached {
+            return Ok(None);
+        }
+        Ok(Some(TextAnswer::held(self.alloc, &self.events.docs, uri)?))
+    }
+
+    /// Hears what a record brings, up to the editor's message of this number and up to the first
+    /// event that offends. The answer tells whether that message came.
+    fn hear_until(&mut self, next: Record, number: u64) -> Result<bool, Ruling>
+        requires { self.old.counts.editor < number }
+        ensures keeps { Keeps self.old self.new }
+        ensures ok { IfOk result (λ reached. (records : List log.Record) → AreLimits self.old → IsOpen self.old records
+            → IsUntil self.new (records ++ record_view next ∷ []) number reached) }
+        ensures no { IfErr result (λ ruling. (records : List log.Record) → AreLimits self.old → IsOpen self.old records
+            → RulesBefore self.old.limits (records ++ record_view next ∷ []) number ruling) }
+    {
+        let Some(bytes) = editor_bytes(&next) else {
+            self.hear(next)?;
+            return Ok(false);
+        };
+        take_until(
+            self.alloc,
+            number,
+            bytes,
+            &mut self.editor,
+            &mut self.events,
+        )
+    }
+
     /// Hears what a record brings, up to the first event that offends.
     fn hear(&mut self, next: Record) -> Result<(), Ruling>
         ensures keeps { Keeps self.old self.new }
@@ -311,6 +362,19 @@ impl<S: TextStore> Judge<S> {
                 line,
             ),
         }
+    }
+}
+
+/// The bytes of a record of the editor's.
+fn editor_bytes(next: &Record) -> Option<&[u8]>
+    ensures { option_map (λ bytes. bytes.now) result ≡ editor_bytes (record_view next.now) }
+{
+    match next {
+        Record::Bytes {
+            side: Side::Editor,
+            bytes,
+        } => Some(bytes.as_slice()),
+        _ => None,
     }
 }
 

@@ -1,6 +1,7 @@
 //! Laws over the definitions: each is the contract of a function that does nothing.
 ghost use Rattle.lsp_judge.specs.Headline.{BadLogMeansFault, KeptMeansYes, NoNamesTheFirst, YesAnswerMeansKept, YesMeansKept};
 ghost use Rattle.lsp_judge.specs.Laws.{CutsDontMatter, CutsLeaveVerdict, OneSession, OneVerdict, SomeSession};
+ghost use Rattle.lsp_judge.specs.TextAfter.{OneText, TextOfSession};
 
 /// Yes means: the log has no fault, both streams are complete frames, no message breaks the
 /// lifecycle, every response answers one earlier open request and none is answered twice, the
@@ -55,4 +56,15 @@ pub fn cuts_leave_verdict()
 /// A log has one verdict, and a No that is answered before the log's end is it.
 pub fn one_verdict()
     ensures { OneVerdict }
+{}
+
+/// A log has one answer for the text after a message of the editor's, and one that is given before
+/// the log's end is it.
+pub fn one_text()
+    ensures { OneText }
+{}
+
+/// That answer is what its whole session says.
+pub fn text_of_session()
+    ensures { TextOfSession }
 {}

@@ -27,7 +27,10 @@ mod show_laws;
 mod showing;
 mod stream_laws;
 mod summary;
+mod text_answer;
+mod text_run;
 mod texts;
+mod until;
 mod verdict;
 mod view;
 
@@ -36,7 +39,8 @@ pub use frames::run_frames;
 pub use judge::Judge;
 pub use laws::{
     bad_log_means_fault, cuts_dont_matter, cuts_leave_verdict, kept_means_yes, no_names_the_first,
-    one_session, one_verdict, some_session, yes_answer_means_kept, yes_means_kept,
+    one_session, one_text, one_verdict, some_session, text_of_session, yes_answer_means_kept,
+    yes_means_kept,
 };
 pub use lsp_frame::{Input, Limits, Output};
 pub use lsp_log::LogCode;
@@ -49,6 +53,8 @@ pub use report::{report_of, stream_report};
 pub use run::{JudgeFault, judge_log};
 pub use show_laws::one_shown;
 pub use stream_laws::{one_run, some_run};
+pub use text_answer::TextAnswer;
+pub use text_run::{run_text, text_after};
 pub use verdict::{OpenDocument, Summary, Verdict, Who};
 pub use view::run_show;
 

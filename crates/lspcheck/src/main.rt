@@ -1,8 +1,10 @@
 //! `lspcheck` judges what passed between an editor and a language server.
 //!
-//! `lspcheck check` reads the log of a recorded session and reports the verdict on it. `lspcheck
-//! frames` reads one raw stream, one direction of such a session, and writes a line for each of its
-//! frames or their canonical form, or names the first fault.
+//! `lspcheck check` reads the log of a recorded session and reports the verdict on it, and `lspcheck
+//! show` lists its events too. `lspcheck text` writes the text of a document as it was at some
+//! message, `lspcheck normal` the log's normal form. `lspcheck frames` reads one raw stream, one
+//! direction of such a session, and writes a line for each of its frames or their canonical form, or
+//! names the first fault.
 #![tactic(auto)]
 
 mod command;
@@ -14,7 +16,8 @@ use clap::Error;
 use clap::error::ErrorKind;
 use command::{Request, Task, request_of};
 use lsp_judge::{
-    Input, Limits, Mode, Outcome, Output, RunFault, run_check, run_frames, stream_report,
+    Input, Limits, Mode, Outcome, Output, RunFault, report_of, run_check, run_frames, run_normal,
+    run_show, run_text, stream_report,
 };
 use status::status_of;
 use std::alloc::Global;
@@ -29,27 +32,32 @@ const USAGE: u8 = 64;
 /// How many bytes are gathered before they go to standard output, and asked for at once of a log.
 const GATHERED: usize = 65_536;
 
+/// The source of a log, which is read record by record, with many small reads.
+fn log_source<I: Read + Drop>(alloc: Global, input: I) -> Result<Input<BufReader<I>>, RunFault> {
+    match BufReader::with_capacity(alloc, GATHERED, input) {
+        Ok(gathered) => Ok(Input::new(gathered)),
+        Err(_) => Err(RunFault::Memory),
+    }
+}
+
 /// Does the task over one open stream.
 fn run_task<I: Read + Drop, W: Write>(
     alloc: Global,
-    task: Task,
+    task: Task<'_>,
     input: I,
     writer: &mut W,
 ) -> Result<Outcome, RunFault> {
     let mut sink = Output::new(writer);
+    let limits = Limits::profile();
     match task {
-        Task::Check => {
-            // A log is read record by record, with many small reads.
-            let Ok(gathered) = BufReader::with_capacity(alloc, GATHERED, input) else {
-                return Err(RunFault::Memory);
-            };
-            let mut source = Input::new(gathered);
-            run_check(alloc, &mut source, &mut sink, Limits::profile())
+        Task::Check => run_check(alloc, &mut log_source(alloc, input)?, &mut sink, limits),
+        Task::Show => run_show(alloc, &mut log_source(alloc, input)?, &mut sink, limits),
+        Task::Text { number, uri } => {
+            let mut source = log_source(alloc, input)?;
+            run_text(alloc, &mut source, &mut sink, limits, number.get(), uri)
         }
-        Task::Frames(mode) => {
-            let mut source = Input::new(input);
-            run_frames(alloc, &mut source, &mut sink, Limits::profile(), mode)
-        }
+        Task::Normal => run_normal(alloc, &mut log_source(alloc, input)?, &mut sink, limits),
+        Task::Frames(mode) => { run_frames(alloc, &mut Input::new(input), &mut sink, limits, mode) }
     }
 }
 
@@ -57,7 +65,7 @@ fn run_task<I: Read + Drop, W: Write>(
 fn run_on<R: Print + AllocGlobal, I: Read + Drop>(
     rt: &R,
     input: I,
-    task: Task,
+    task: Task<'_>,
 ) -> Result<Outcome, RunFault> {
     let Ok(mut writer) = BufWriter::with_capacity(rt.alloc(), GATHERED, io::writer(rt)) else {
         return Err(RunFault::Memory);
@@ -83,28 +91,54 @@ fn run<R: Files + io::Input + Print + AllocGlobal>(
     }
 }
 
-/// Shows on standard error the report that is not part of what the mode writes.
+/// The report of a fault, where it is not part of what the task writes.
+fn report_apart(
+    alloc: Global,
+    task: Task<'_>,
+    outcome: &Outcome,
+) -> Result<Option<Vec<u8>>, RunFault> {
+    match (outcome, task) {
+        (Outcome::Stream { frame, fault }, Task::Frames(Mode::Canonical)) => {
+            Ok(Some(stream_report(alloc, *frame, *fault)?))
+        }
+        (Outcome::Judged(verdict), Task::Text { .. } | Task::Normal) => {
+            Ok(Some(report_of(alloc, verdict)?))
+        }
+        _ => Ok(None),
+    }
+}
+
+/// Shows on standard error the report that is not part of what the task writes.
 fn show_report<R: Eprint + AllocGlobal>(
     rt: &R,
-    task: Task,
+    task: Task<'_>,
     outcome: Outcome,
 ) -> Result<Outcome, RunFault> {
-    if let Outcome::Stream { frame, fault } = &outcome
-        && matches!(task, Task::Frames(Mode::Canonical))
+    if let Some(report) = report_apart(rt.alloc(), task, &outcome)?
+        && let Ok(text) = str::from_utf8(report.as_slice())
     {
-        let report = stream_report(rt.alloc(), *frame, *fault)?;
-        if let Ok(text) = str::from_utf8(report.as_slice()) {
-            // A failure of standard error changes nothing.
-            let _ = rt.eprint(text);
-        }
+        let _ = rt.eprint(text);
     }
     Ok(outcome)
 }
 
-/// The status of a run, whose fault, if any, is shown on standard error.
+/// What is said on standard error of a run that ended so.
+fn remark_of(ended: &Result<Outcome, RunFault>) -> Option<&'static str> {
+    match ended {
+        Ok(Outcome::NoDocument) => Some("no such document"),
+        Ok(Outcome::TooFew) => Some("fewer editor messages"),
+        Ok(_) => None,
+        Err(RunFault::Read) => Some("lspcheck: read fault"),
+        Err(RunFault::Write) => Some("lspcheck: write fault"),
+        Err(RunFault::Memory) => Some("lspcheck: out of memory"),
+    }
+}
+
+/// The status of a run, of which is said on standard error what is to be said.
 fn status_shown<R: Eprint>(rt: &R, ended: Result<Outcome, RunFault>) -> u8 {
-    if let Err(fault) = &ended {
-        let _ = eprintln!(rt; "lspcheck: {fault}");
+    if let Some(remark) = remark_of(&ended) {
+        // A failure of standard error changes nothing.
+        let _ = rt.eprintln(remark);
     }
     status_of(&ended)
 }

@@ -1,5 +1,6 @@
 //! Worked streams and sessions through the runs, over readers and writers that give and take little.
 mod check;
+mod command;
 mod frames;
 mod logs;
 mod sessions;

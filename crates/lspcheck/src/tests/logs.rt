@@ -176,7 +176,7 @@ impl Log {
 
     /// Adds what a line says. A new log begins by `EMPTY`, by `HEAD` with its first line, by `START`
     /// with that and the handshake. `E` adds a message of the editor, `S` of the server, `T` a
-    /// snapshot, `+` bytes as they are. From `CUT` on, records of bytes have so many bytes at most.
+    /// snapshot, `+` bytes as they are; `:` says how many bytes there are. From `CUT` on, records of bytes have so many bytes at most.
     pub(super) fn add(&mut self, word: &str, rest: &str) -> Result<(), Fail> {
         match word {
             "EMPTY" => self.begin(""),
@@ -188,6 +188,7 @@ impl Log {
                 self.most = rest.parse()?;
                 Ok(())
             }
+            ":" if rest.parse() == Ok(self.bytes.len()) => Ok(()),
             "+" => {
                 let bytes = unescaped(self.alloc, rest)?;
                 Ok(self.bytes.extend_from_slice(bytes.as_slice())?)

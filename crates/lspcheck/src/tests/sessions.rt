@@ -1,5 +1,7 @@
-//! Worked sessions: the lines of a log, then the lines of its report behind `>` and the status behind
-//! `=`. The lines behind a `=` add to the same log, until one begins a new log.
+//! Worked sessions: the lines of a log, then what a run over it has to write (`>` a line, `|` bytes
+//! without an end, `KEEP` the log's own bytes) and to say on standard error (`!` a line), and then the
+//! run and its status: `=` stands for `check`. The lines behind a run add to the same log, until one
+//! begins a new log.
 
 /// A session from the handshake to the exit, and the same in records of one byte; behind `:` stands
 /// how many bytes the log has.
@@ -497,3 +499,99 @@ E CHG 2 / REP 0 0 0 0 "x"
 pub(super) const TOO_EARLY: &str = "HEAD
 E REQ 7
 + XXXXXXXXXXXXXXXXXXXXXXXXXXXXXXXXXXXXXXXXXXXXXXXXXXXXXXXXXXXXXXXX";
+
+/// The events of a session, and a session whose first event offends.
+pub(super) const EVENTS: &str = r#"START
+E OPEN 1 "ab"
+T 1 "ab"
+E SH
+S RES 2
+E EX
+> 1 editor request 1 "initialize"
+> 2 server result 1
+> 3 editor notification "initialized"
+> 4 editor notification "textDocument/didOpen"
+> 5 snapshot 1 2 "file:///a"
+> 6 editor request 2 "shutdown"
+> 7 server result 2
+> 8 editor notification "exit"
+> yes
+> messages 5 2
+> snapshots 1 unmatched 0
+> encoding utf-16 sync incremental
+> document 1 2 "file:///a"
+show 0
+HEAD
+E REQ 7
+> no 401 editor 1 event 1
+> editor message before initialize
+show 1"#;
+
+/// The text of a document after a message of the editor, and what is said where there is none.
+pub(super) const TEXTS: &str = r#"START
+E OPEN 1 "ab"
+T 1 "ab"
+E SH
+S RES 2
+E EX
+| ab
+text 3 file:///a 0
+! no such document
+text 2 file:///a 5
+! fewer editor messages
+text 6 file:///a 5
+HEAD
+E REQ 7
+! no 401 editor 1 event 1
+! editor message before initialize
+text 1 file:///a 1"#;
+
+/// The normal form of a session is the session with whole records, however it was cut; a fault ends
+/// it.
+pub(super) const NORMAL_FORMS: &str = r#"START
+E OPEN 1 "ab"
+T 1 "ab"
+E SH
+S RES 2
+E EX
+: 698
+KEEP
+normal 0
+KEEP
+CUT 1
+START
+E OPEN 1 "ab"
+T 1 "ab"
+E SH
+S RES 2
+E EX
+: 3755
+normal 0
+CUT 1048576
+HEAD
+E REQ 7
+KEEP
+normal 0
+HEAD
++ E 3\nabc\n
+> lsp-session 1
+! no 107 editor 1 event 1
+! stream ends inside a frame
+normal 1
+EMPTY
++ lsp-session 9\n
+> lsp-session 1
+! bad log L1 record 0
+! bad first line
+normal 2"#;
+
+/// A frame of 97 bytes in records of 33 and 64 bytes, and in its normal form where a record has 64
+/// bytes at most.
+pub(super) const SHORT_RECORDS: &str = r#"CUT 64
+HEAD
+E I 1
+KEEP
+HEAD
++ E 33\nContent-Length: 75\r\n\r\n{"jsonrpc":\n
++ E 64\n"2.0","id":1,"method":"initialize","params":{"capabilities":{}}}\n
+normal 0"#;

@@ -1,0 +1,57 @@
+//! What is answered for the text held after a message.
+ghost use Rattle.std.specs.Prelude.{◌≡◌, List, IfOk};
+ghost use Rattle.lsp_docs.specs.Calls.{Call};
+ghost use Rattle.lsp_docs.specs.Documents.{held};
+ghost use Rattle.lsp_docs.specs.State.{Stands};
+ghost use Rattle.lsp_judge.specs.Given.{verdict_view};
+ghost use Rattle.lsp_judge.specs.Shown.{held_answer, missing_answer};
+ghost use Rattle.lsp_judge.specs.TextAnswers.{answer_view};
+
+use crate::verdict::Verdict;
+use lsp_docs::Docs;
+use lsp_rpc::Memory;
+use lsp_text::TextStore;
+use std::alloc::Global;
+
+/// What is answered for the text that the server holds of a URI just after a message of the
+/// editor's.
+#[derive(Drop)]
+pub enum TextAnswer {
+    /// The text.
+    Text(String),
+    /// No document of the URI is open there.
+    NoDocument,
+    /// The editor sent fewer messages, and the session keeps the rules, apart from bytes at its end
+    /// that are no whole frame.
+    TooFew,
+    /// An event offends, at that message or before it, or the log has a fault before it.
+    Refused(Verdict),
+}
+
+impl TextAnswer {
+    /// The text that is held of a URI.
+    pub(crate) fn held<S: TextStore>(
+        alloc: Global,
+        docs: &Docs<S>,
+        uri: &str,
+    ) -> Result<TextAnswer, Memory>
+        ensures { IfOk result (λ answer. (calls : List Call) → Stands docs.now calls
+            → answer_view answer ≡ held_answer (held docs.now.limit uri.now calls)) }
+    {
+        match docs.store_of(uri) {
+            Some(store) => Ok(TextAnswer::Text(store.to_text(alloc)?)),
+            None => Ok(TextAnswer::NoDocument),
+        }
+    }
+
+    /// What the verdict on a session says where the message is missing in it.
+    pub(crate) fn missing(verdict: Verdict) -> TextAnswer
+        ensures { answer_view result ≡ missing_answer (verdict_view verdict) }
+    {
+        match verdict {
+            Verdict::Yes(_) => TextAnswer::TooFew,
+            Verdict::No { rule: 107, .. } => TextAnswer::TooFew,
+            refusal => TextAnswer::Refused(refusal),
+        }
+    }
+}
