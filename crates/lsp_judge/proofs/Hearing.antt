@@ -7,6 +7,7 @@ use Rattle.lsp_rpc.specs.Act.{Act}
 use Rattle.lsp_rpc.specs.Fault as content
 use Rattle.lsp_rpc.specs.Fault.{rule_unless_read}
 use Rattle.lsp_rpc.specs.Message.{Message}
+use Rattle.lsp_rpc.specs.Outline.{outline}
 use Rattle.lsp_rpc.specs.Params.{act_at}
 use Rattle.lsp_rpc.specs.Reading as reading
 use Rattle.lsp_rpc.specs.declared.fault.RpcFault.{RpcFault}
@@ -81,11 +82,12 @@ call_refused side bytes limit events m enc kind faults.Memory is none e k named 
 pub heard : (side : Side) (bytes : List ℕ) (limit : ℕ) (events : List Event) (m : Sent) (enc : Encoding) (kind : SyncKind) (messages : session.State) (documents : docs.State) → IsSent side bytes m → rule_after (sent_in events) m ≡ None
     → enc ≡ unwrap_or (encoding (sent_in events)) Utf16 → kind ≡ unwrap_or (sync_kind (sent_in events)) Nothing
     → option_and_then (call_rule limit (calls events)) (call_of enc kind m.act) ≡ None
-    → session.Stands messages (sent_in events ++ m ∷ []) → docs.Stands documents (calls events ++ cons_option (call_of enc kind m.act) []) → Hears side bytes m.message limit messages documents events
-heard side bytes limit events m enc kind messages documents is none e k accepted sent called = record {
+    → session.Stands messages (sent_in events ++ m ∷ []) → docs.Stands documents (calls events ++ cons_option (call_of enc kind m.act) [])
+    → (said : Message) → outline m.message ≡ outline said → Hears side bytes said limit messages documents events
+heard side bytes limit events m enc kind messages documents is none e k accepted sent called said says = record {
   sent = m;
   reads = is;
-  says = refl;
+  says = says;
   clean = offence_is limit events m None none (rule_is limit events m enc kind e k ∙ accepted);
   holds = record {
     sent = subst (λ (w : List Sent). session.Stands messages w) (sym (sent_in-append events (message m ∷ []))) sent;

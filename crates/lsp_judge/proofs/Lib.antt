@@ -61,3 +61,4 @@ pub mod Besides
 pub mod RecordsUntil
 pub mod TextLogs
 pub mod TextSteps
+pub mod Apart

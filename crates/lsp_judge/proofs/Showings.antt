@@ -1,5 +1,6 @@
 -- The events of a record, heard and shown one after another.
 use Rattle.std.proofs.Common.{◌≡◌, ◌+◌, ℕ, List, [], ◌∷◌, ◌++◌, length, Result, Ok, Err, refl, sym, ap, subst, ◌∙◌, append_assoc, append-nil, length-append}
+use Rattle.std.specs.Prelude.{decimal}
 use Rattle.std.specs.List.{flat_map}
 use Rattle.std.proofs.KnownBytes.{Appends-nil, Appends-trans}
 use Rattle.std.proofs.lemmas.List.Concat.{flat_map-append}
@@ -10,11 +11,13 @@ use Rattle.lsp_frame.specs.Frame.{Frames}
 use Rattle.lsp_frame.specs.Sink.{Told, Wrote}
 use Rattle.lsp_rpc.specs.Message.{Message}
 use Rattle.lsp_rpc.specs.declared.plain.Side.{Side}
+use Rattle.lsp_rpc.proofs.Outlining.{same_words}
 use Rattle.lsp_session.specs.State as session
 use Rattle.lsp_docs.specs.State as docs
 use Rattle.lsp_docs.specs.State.{capped}
 use Rattle.lsp_judge.specs.Event.{Event, message}
 use Rattle.lsp_judge.specs.LookBack.{each_from}
+use Rattle.lsp_judge.specs.Report.{line, side_name}
 use Rattle.lsp_judge.specs.RunIo.{Tells, TellsSome}
 use Rattle.lsp_judge.specs.Showing.{ShownOne, ShownNext, ShownAll, ShownStopped}
 use Rattle.lsp_judge.specs.Shown.{message_line, line_at, lines_from}
@@ -86,12 +89,12 @@ pub shown_one : (side : Side) (d : decoder.State) (m : session.State) (documents
 shown_one side d m documents c bytes contents events said old new r h told =
     let sent = h.heard.sent in
     let number : c.all ≡ capped (length events + 1) = h.heard.follows.counted.all ∙ ap capped (length-append events (message sent ∷ [])) in
-    let line : message_line c.all side said ≡ lines_from events (message sent ∷ []) =
+    let shown : message_line c.all side said ≡ lines_from events (message sent ∷ []) =
     ap (λ n. message_line n side said) number
     ∙ ap (λ s. message_line (capped (length events + 1)) s said) (sym h.heard.reads.by)
-    ∙ ap (message_line (capped (length events + 1)) sent.side) (sym h.heard.says)
+    ∙ ap (λ words. line (decimal (capped (length events + 1)) ∷ side_name sent.side ∷ words ∷ [])) (same_words said sent.message (sym h.heard.says))
     ∙ sym (append-nil (message_line (capped (length events + 1)) sent.side sent.message)) in
-    record { said = said; heard = h; told = told_some old new (lines_from events (message sent ∷ [])) r (subst (λ (w : List ℕ). Tells old new w r) line told) }
+    record { said = said; heard = h; told = told_some old new (lines_from events (message sent ∷ [])) r (subst (λ (w : List ℕ). Tells old new w r) shown told) }
 
 -- ---- one content after another
 

@@ -33,3 +33,4 @@ pub mod TextAfter
 pub mod TextAnswers
 pub mod TextRun
 pub mod Until
+pub mod Apart

@@ -3,6 +3,7 @@ use Rattle.std.specs.Prelude.{◌≡◌, ℕ, List, [], ◌∷◌, ◌++◌, len
 use Rattle.lsp_frame.specs.Bounds.{Bounds, IsInRange}
 use Rattle.lsp_frame.specs.Decoder as decoder
 use Rattle.lsp_rpc.specs.Message.{Message}
+use Rattle.lsp_rpc.specs.Outline.{outline}
 use Rattle.lsp_rpc.specs.declared.plain.Side.{Side}
 use Rattle.lsp_rpc.specs.declared.plain.Side.TheVariants.{Editor, Server}
 use Rattle.lsp_session.specs.Sent.{Sent}
@@ -40,11 +41,11 @@ pub record Holds (messages : session.State) (documents : docs.State) (events : L
   pub sent : session.Stands messages (sent_in events)
   pub called : docs.Stands documents (calls events)
 
--- the content is this message, which doesn't offend, and what is held is what the events come to with it
+-- the content is this message, but for its params and the value of a result; it doesn't offend, and what is held is what the events come to with it
 pub record Hears (side : Side) (content : List ℕ) (said : Message) (limit : ℕ) (messages : session.State) (documents : docs.State) (events : List Event) : Type 0 where
   pub sent : Sent
   pub reads : IsSent side content sent
-  pub says : sent.message ≡ said
+  pub says : outline sent.message ≡ outline said
   pub clean : offence limit events (message sent) ≡ None
   pub holds : Holds messages documents (events ++ message sent ∷ [])
 

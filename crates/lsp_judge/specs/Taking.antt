@@ -5,6 +5,7 @@ use Rattle.lsp_frame.specs.Bounds.{Bounds}
 use Rattle.lsp_frame.specs.Decoder as decoder
 use Rattle.lsp_frame.specs.Frame.{Frames, IsStream}
 use Rattle.lsp_rpc.specs.Message.{Message}
+use Rattle.lsp_rpc.specs.Outline.{outline}
 use Rattle.lsp_rpc.specs.View.{message_view}
 use Rattle.lsp_rpc.specs.declared.message.Message as code
 use Rattle.lsp_rpc.specs.declared.plain.Side.{Side}
@@ -24,11 +25,11 @@ use Rattle.lsp_judge.specs.Verdict.{Verdict, first_no}
 
 -- ---- the next content
 
--- the content is this message of the side, and it was heard behind these events
+-- the content is this message of the side, but for its params and the value of a result, and it was heard behind these events
 pub record HeardAs (side : Side) (content : List ℕ) (said : Message) (messages : session.State) (documents : docs.State) (counts : Counts) (events : List Event) : Type 0 where
   pub sent : Sent
   pub reads : IsSent side content sent
-  pub says : sent.message ≡ said
+  pub says : outline sent.message ≡ outline said
   pub follows : Follows messages documents counts (events ++ message sent ∷ [])
 
 -- behind these contents the decoder gave one more, and behind these events it was heard as this message

@@ -2,10 +2,13 @@
 ghost use Rattle.std.specs.Prelude.{◌≡◌, ◌++◌, ◌∷◌, [], List, None, Option, option_and_then, IfOk, IfErr, OnOk, OnErr, chars, map, unwrap_or};
 ghost use Rattle.std.specs.List.{cons_option};
 ghost use Rattle.lsp_rpc.specs.View.{act_view, changes_view, message_view};
+ghost use Rattle.lsp_rpc.specs.Message.{Message as SpecMessage};
+ghost use Rattle.lsp_rpc.specs.Reading.{IsRefusal, Reads};
 ghost use Rattle.lsp_docs.specs.Calls.{Call, changes};
 ghost use Rattle.lsp_docs.specs.Fault as doc_fault;
 ghost use Rattle.lsp_docs.specs.Rules.{call_rule};
 ghost use Rattle.lsp_docs.specs.State as docs_state;
+ghost use Rattle.lsp_judge.specs.Apart.{IsApart};
 ghost use Rattle.lsp_judge.specs.Calls.{call_of, edit_of};
 ghost use Rattle.lsp_judge.specs.Contents.{ReadsAs};
 ghost use Rattle.lsp_judge.specs.Event.{Event, snapshot as shown};
@@ -21,7 +24,9 @@ use crate::ruling::Ruling;
 use crate::verdict::Who;
 use lsp_docs::{DocFault, Docs};
 use lsp_frame::Limits;
-use lsp_rpc::{Act, Change, Encoding, Message, Side, SyncKind, act_of, read};
+use lsp_rpc::{
+    Act, Change, Encoding, Message, OutlineReader, RpcFault, Side, SyncKind, read, take_act,
+};
 use lsp_session::Session;
 use lsp_text::TextStore;
 use std::alloc::Global;
@@ -32,6 +37,7 @@ pub(crate) struct Events<S: TextStore> {
     pub session: Session,
     pub docs: Docs<S>,
     pub counts: Counts,
+    messages: OutlineReader,
 }
 
 impl<S: TextStore> Events<S> {
@@ -43,10 +49,12 @@ impl<S: TextStore> Events<S> {
             session: Session::new(alloc),
             docs: Docs::new(alloc, limits),
             counts: Counts::new(),
+            messages: OutlineReader::new(alloc),
         }
     }
 
-    /// Hears what a content of a side says: the message that is the next event, or the No at it.
+    /// Hears what a content of a side says: the message that is the next event, but for its params and
+    /// the value of a result, or the No at it.
     pub(crate) fn message(
         &mut self,
         alloc: Global,
@@ -98,13 +106,30 @@ impl<S: TextStore> Events<S> {
         ensures rule { IfErr result (λ fault. (events : List Event) → Holds self.old.session self.old.docs events
             → Refuses side content.now self.old.docs.limit events fault) }
     {
-        let message = read(alloc, content)?;
-        let act = act_of(alloc, &message, side)?;
+        let mut message = read_content(alloc, &self.session, &mut self.messages, content)?;
+        let act = take_act(alloc, &mut message, side)?;
         let encoding = self.session.encoding().unwrap_or(Encoding::Utf16);
         let kind = self.session.sync_kind().unwrap_or(SyncKind::Nothing);
         self.session.admit(side, &message, &act)?;
         apply(&mut self.docs, encoding, kind, &act)?;
         Ok(message)
+    }
+}
+
+/// Reads a content. The value of a result is left out where nothing reads it.
+fn read_content(
+    alloc: Global,
+    session: &Session,
+    messages: &mut OutlineReader,
+    content: &[u8],
+) -> Result<Message, RpcFault>
+    ensures ok { IfOk result (λ message. (whole : SpecMessage) × Reads content.now whole × IsApart session.now (message_view message) whole) }
+    ensures rule { IfErr result (IsRefusal content.now) }
+{
+    if session.awaits_initialize() {
+        read(alloc, content)
+    } else {
+        messages.read_answer(content)
     }
 }
 

@@ -13,7 +13,7 @@ ghost use Rattle.lsp_judge.specs.StreamSteps.{WritesPart, AreParts, Finds, Parts
 use crate::outcome::{Mode, Outcome, RunFault, StreamFault};
 use crate::report::stream_report;
 use lsp_frame::{Decoder, Limits, Sink, Source, WriteFault, put_all, put_number, write_frame};
-use lsp_rpc::{RpcFault, words_of};
+use lsp_rpc::{OutlineReader, RpcFault};
 use std::alloc::{AllocError, Global};
 
 /// How many bytes are asked of the source at once.
@@ -62,7 +62,7 @@ fn write_kind_line<W: Sink>(
 /// Writes the line of the message that the content is (JSON-RPC 2.0, sections 4 and 5), or gives the
 /// rule that it breaks.
 fn write_kind<W: Sink>(
-    alloc: Global,
+    messages: &mut OutlineReader,
     writer: &mut W,
     frame: u64,
     content: &[u8],
@@ -72,19 +72,18 @@ fn write_kind<W: Sink>(
         (record { bytes = W.taken writer.new; failures = W.failures writer.new })
         result }
 {
-    let message = match lsp_rpc::read(alloc, content) {
-        Ok(message) => message,
+    let words = match messages.words(content) {
+        Ok(words) => words,
         Err(RpcFault::Rule(rule)) => return Ok(Some(rule)),
         Err(RpcFault::Memory) => return Err(RunFault::Memory),
     };
-    let words = words_of(alloc, &message)?;
     write_kind_line(writer, frame, content, words.as_bytes())?;
     Ok(None)
 }
 
 /// Writes the part of one frame, or gives the rule by which the mode refuses its content.
 fn write_part<W: Sink>(
-    alloc: Global,
+    messages: &mut OutlineReader,
     writer: &mut W,
     mode: Mode,
     frame: u64,
@@ -99,7 +98,7 @@ fn write_part<W: Sink>(
     match mode {
         Mode::Lengths => write_numbers(writer, frame, content, b"\n")?,
         Mode::Canonical => write_frame(writer, content)?,
-        Mode::Kinds => return write_kind(alloc, writer, frame, content),
+        Mode::Kinds => return write_kind(messages, writer, frame, content),
     }
     Ok(None)
 }
@@ -107,8 +106,8 @@ fn write_part<W: Sink>(
 /// Writes the part of each whole frame that the decoder holds and counts it, until nothing whole is
 /// left or a fault is met, whose rule is given.
 fn write_found<W: Sink>(
-    alloc: Global,
     decoder: &mut Decoder,
+    messages: &mut OutlineReader,
     writer: &mut W,
     mode: Mode,
     given: &mut u64,
@@ -129,7 +128,7 @@ fn write_found<W: Sink>(
             Err(fault) => return Ok(Some(fault.rule)),
             Ok(None) => return Ok(None),
             Ok(Some(content)) => {
-                if let Some(rule) = write_part(alloc, writer, mode, *given + 1, content)? {
+                if let Some(rule) = write_part(messages, writer, mode, *given + 1, content)? {
                     return Ok(Some(rule));
                 }
                 *given += 1;
@@ -171,10 +170,11 @@ fn write_parts<R: Source, W: Sink>(
 {
     let log = limits.log();
     let mut decoder = Decoder::new(alloc, limits);
+    let mut messages = OutlineReader::new(alloc);
     let mut given = 0;
     let mut read = 0;
     loop {
-        if let Some(rule) = write_found(alloc, &mut decoder, writer, mode, &mut given)? {
+        if let Some(rule) = write_found(&mut decoder, &mut messages, writer, mode, &mut given)? {
             return Ok(Outcome::Stream {
                 frame: given + 1,
                 fault: StreamFault::Rule(rule),

@@ -18,10 +18,10 @@ pub const FIRST_LINE: &[u8] = b"lsp-session 1\n";
 fn text_of(bytes: Vec<u8>) -> Result<String, Stop>
     ensures { TextAnswer bytes.items result }
 {
-    match String::from_utf8(bytes) {
-        Ok(text) => Ok(text),
-        Err(_) => Err(Stop::Text),
+    if simdutf8::compat::from_utf8(&bytes).is_err() {
+        return Err(Stop::Text);
     }
+    Ok(unsafe { String::from_utf8_unchecked(bytes) })
 }
 
 /// Goes past the first line.

@@ -1,2 +1,4 @@
 pub mod IdLemmas
 pub mod Readings
+pub mod Skipping
+pub mod Outlining

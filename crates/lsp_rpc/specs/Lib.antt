@@ -9,3 +9,4 @@ pub mod Results
 pub mod View
 pub mod Fault
 pub mod Laws
+pub mod Outline

@@ -175,11 +175,17 @@ abbrev pub act_by : List Row → List ℕ → Option Data → Option Act
 act_by [] method params = Some other
 act_by (row ∷ rows) method params = if bytes_eq method row.method then row.act params else act_by rows method params
 
+-- the methods of a side's requests, and of its notifications
+abbrev pub requests : Side → List Row
+requests Editor = editor_requests
+requests Server = server_requests
+
+abbrev pub notifications : Side → List Row
+notifications Editor = editor_notifications
+notifications Server = server_notifications
+
 -- what a message of the side means; `None` where its params do not have the shape
 abbrev pub act_at : Side → Message → Option Act
-act_at Editor (request id method params) = act_by editor_requests method params
-act_at Editor (notification method params) = act_by editor_notifications method params
-act_at Editor (response id reply) = Some other
-act_at Server (request id method params) = act_by server_requests method params
-act_at Server (notification method params) = act_by server_notifications method params
-act_at Server (response id reply) = Some other
+act_at side (request id method params) = act_by (requests side) method params
+act_at side (notification method params) = act_by (notifications side) method params
+act_at side (response id reply) = Some other

@@ -16,7 +16,11 @@ use Rattle.lsp_rpc.specs.declared.act.Offer as offer
 use Rattle.lsp_rpc.specs.declared.act.Change as change
 use Rattle.lsp_rpc.specs.declared.act.Picked as picked
 use Rattle.std.specs.Prelude.{String}
+use Rattle.std.specs.Cow.{cow_value}
 use Rattle.std.specs.declared.alloc.Global.{Global}
+use Rattle.std.specs.declared.borrow.Cow.{Cow}
+use Rattle.serde_json.specs.Data.{Data}
+use Rattle.serde_json.specs.declared.value.Value.{Value}
 
 abbrev pub parts_view : parts.Parts → Parts
 parts_view p = record {
@@ -27,6 +31,10 @@ parts_view p = record {
   result = option_map view p.result;
   error = option_map view p.error;
 }
+
+-- a value that is lent or owned
+abbrev pub lent_view : Cow Value → Data
+lent_view c = view (cow_value c)
 
 abbrev pub answer_view : answer.Answer → Reply
 answer_view (answers.Result v) = result (view v)

@@ -8,7 +8,7 @@ ghost use Rattle.lsp_rpc.specs.View.{change_view, changes_view};
 
 use crate::act::Change;
 use crate::fault::RpcFault;
-use crate::params::{items_of, required, string_of, uinteger_of};
+use crate::params::{items_of, required, take_text, uinteger_of};
 use crate::plain::{Position, Span};
 use crate::shape::given;
 use serde_json::Value;
@@ -44,25 +44,25 @@ fn range_of(value: &Value) -> Result<Option<Span>, RpcFault>
     }
 }
 
-fn change_of(alloc: Global, value: &Value) -> Result<Change, RpcFault>
-    ensures ok { IfOk result (λ change. spec.change_at (view value.now)
+fn change_of(mut value: Value) -> Result<Change, RpcFault>
+    ensures ok { IfOk result (λ change. spec.change_at (view value)
         ≡ Some (change_view change)) }
-    ensures rule { IfErr result (Names (rule_unless_read 209 (spec.change_at (view value.now)))) }
+    ensures rule { IfErr result (Names (rule_unless_read 209 (spec.change_at (view value)))) }
 {
-    let span = range_of(value)?;
-    let text = string_of(alloc, required(value, "text")?)?;
+    let span = range_of(&value)?;
+    let text = take_text(&mut value, "text")?;
     Ok(Change { span, text })
 }
 
-pub(crate) fn changes_of(alloc: Global, value: &Value) -> Result<Vec<Change>, RpcFault>
-    ensures ok { IfOk result (λ v. spec.array_of spec.change_at (view value.now)
+pub(crate) fn changes_of(alloc: Global, value: Value) -> Result<Vec<Change>, RpcFault>
+    ensures ok { IfOk result (λ v. spec.array_of spec.change_at (view value)
         ≡ Some (changes_view v.items)) }
     ensures rule { IfErr result (Names (rule_unless_read 209
-        (spec.array_of spec.change_at (view value.now)))) }
+        (spec.array_of spec.change_at (view value)))) }
 {
     let mut found = Vec::new(alloc);
     for item in items_of(value)? {
-        found.push(change_of(alloc, item)?)?;
+        found.push(change_of(item)?)?;
     }
     Ok(found)
 }

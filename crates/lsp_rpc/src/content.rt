@@ -14,7 +14,7 @@ ghost use Rattle.lsp_rpc.specs.Fault.{Names, rule_unless_read};
 use crate::fault::RpcFault;
 use crate::message::{Answer, Id, Message};
 use crate::parts::{Parts, parts_of};
-use crate::shape::{integer_of, is_structure, is_text};
+use crate::shape::{id_in, integer_of, is_structure, is_text};
 use serde_json::Value;
 use std::alloc::Global;
 
@@ -23,12 +23,7 @@ fn id_of(value: Value) -> Result<Id, RpcFault>
     ensures ok { IfOk result (λ id. as_id (view value) ≡ Some (id_view id)) }
     ensures rule { IfErr result (Names (rule_unless_read 205 (as_id (view value)))) }
 {
-    match value {
-        Value::String(text) => Ok(Id::Text(text)),
-        value => integer_of(&value)
-            .map(Id::Number)
-            .ok_or(RpcFault::Rule(205)),
-    }
+    id_in(value).ok_or(RpcFault::Rule(205))
 }
 
 /// The method, where there is one. Rule 204: it is no string.
@@ -179,7 +174,7 @@ fn has_version(version: Option<&Value>) -> bool
 }
 
 /// The message that the parts make. The refusal is the least rule that they break.
-fn assemble(parts: Parts) -> Result<Message, RpcFault>
+pub(crate) fn assemble(parts: Parts) -> Result<Message, RpcFault>
     ensures ok { IfOk result (λ message.
         reading.message_in (parts_view parts) ≡ Some (message_view message)) }
     ensures keeps { OnOk result (least_broken (reading.rules_on (parts_view parts)) ≡ None) }

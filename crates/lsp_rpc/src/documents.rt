@@ -8,16 +8,16 @@ ghost use Rattle.lsp_rpc.specs.View.{act_view};
 use crate::act::Act;
 use crate::changes::changes_of;
 use crate::fault::RpcFault;
-use crate::params::{required, string_of};
-use crate::shape::{given, integer_of};
+use crate::params::{copied_text, required, take_given, take_required, take_text, text_of};
+use crate::shape::integer_of;
 use serde_json::Value;
 use std::alloc::Global;
 
-fn uri_of(alloc: Global, document: &Value) -> Result<String, RpcFault>
+fn uri_of(document: &Value) -> Result<String, RpcFault>
     ensures ok { IfOk result (λ s. spec.uri_at (view document.now) ≡ Some (string_bytes s)) }
     ensures rule { IfErr result (Names (rule_unless_read 209 (spec.uri_at (view document.now)))) }
 {
-    string_of(alloc, required(document, "uri")?)
+    copied_text(required(document, "uri")?)
 }
 
 fn version_of(document: &Value) -> Result<i32, RpcFault>
@@ -28,27 +28,25 @@ fn version_of(document: &Value) -> Result<i32, RpcFault>
     integer_of(required(document, "version")?).ok_or(RpcFault::Rule(209))
 }
 
-pub(crate) fn did_open_of(alloc: Global, params: &Value) -> Result<Act, RpcFault>
-    ensures ok { IfOk result (λ act. spec.did_open_at (view params.now) ≡ Some (act_view act)) }
-    ensures rule { IfErr result (Names (rule_unless_read 209
-        (spec.did_open_at (view params.now)))) }
+pub(crate) fn did_open_of(mut params: Value) -> Result<Act, RpcFault>
+    ensures ok { IfOk result (λ act. spec.did_open_at (view params) ≡ Some (act_view act)) }
+    ensures rule { IfErr result (Names (rule_unless_read 209 (spec.did_open_at (view params)))) }
 {
-    let document = required(params, "textDocument")?;
-    let uri = uri_of(alloc, document)?;
-    let version = version_of(document)?;
-    let text = string_of(alloc, required(document, "text")?)?;
+    let mut document = take_required(&mut params, "textDocument")?;
+    let version = version_of(&document)?;
+    let uri = uri_of(&document)?;
+    let text = take_text(&mut document, "text")?;
     Ok(Act::DidOpen { uri, version, text })
 }
 
-pub(crate) fn did_change_of(alloc: Global, params: &Value) -> Result<Act, RpcFault>
-    ensures ok { IfOk result (λ act. spec.did_change_at (view params.now) ≡ Some (act_view act)) }
-    ensures rule { IfErr result (Names (rule_unless_read 209
-        (spec.did_change_at (view params.now)))) }
+pub(crate) fn did_change_of(alloc: Global, mut params: Value) -> Result<Act, RpcFault>
+    ensures ok { IfOk result (λ act. spec.did_change_at (view params) ≡ Some (act_view act)) }
+    ensures rule { IfErr result (Names (rule_unless_read 209 (spec.did_change_at (view params)))) }
 {
-    let document = required(params, "textDocument")?;
-    let uri = uri_of(alloc, document)?;
+    let document = required(&params, "textDocument")?;
     let version = version_of(document)?;
-    let changes = changes_of(alloc, required(params, "contentChanges")?)?;
+    let uri = uri_of(document)?;
+    let changes = changes_of(alloc, take_required(&mut params, "contentChanges")?)?;
     Ok(Act::DidChange {
         uri,
         version,
@@ -56,23 +54,21 @@ pub(crate) fn did_change_of(alloc: Global, params: &Value) -> Result<Act, RpcFau
     })
 }
 
-pub(crate) fn did_close_of(alloc: Global, params: &Value) -> Result<Act, RpcFault>
-    ensures ok { IfOk result (λ act. spec.did_close_at (view params.now) ≡ Some (act_view act)) }
-    ensures rule { IfErr result (Names (rule_unless_read 209
-        (spec.did_close_at (view params.now)))) }
+pub(crate) fn did_close_of(params: Value) -> Result<Act, RpcFault>
+    ensures ok { IfOk result (λ act. spec.did_close_at (view params) ≡ Some (act_view act)) }
+    ensures rule { IfErr result (Names (rule_unless_read 209 (spec.did_close_at (view params)))) }
 {
-    let uri = uri_of(alloc, required(params, "textDocument")?)?;
+    let uri = uri_of(required(&params, "textDocument")?)?;
     Ok(Act::DidClose { uri })
 }
 
-pub(crate) fn did_save_of(alloc: Global, params: &Value) -> Result<Act, RpcFault>
-    ensures ok { IfOk result (λ act. spec.did_save_at (view params.now) ≡ Some (act_view act)) }
-    ensures rule { IfErr result (Names (rule_unless_read 209
-        (spec.did_save_at (view params.now)))) }
+pub(crate) fn did_save_of(mut params: Value) -> Result<Act, RpcFault>
+    ensures ok { IfOk result (λ act. spec.did_save_at (view params) ≡ Some (act_view act)) }
+    ensures rule { IfErr result (Names (rule_unless_read 209 (spec.did_save_at (view params)))) }
 {
-    let uri = uri_of(alloc, required(params, "textDocument")?)?;
-    let text = match given(params, "text") {
-        Some(text) => Some(string_of(alloc, text)?),
+    let uri = uri_of(required(&params, "textDocument")?)?;
+    let text = match take_given(&mut params, "text") {
+        Some(text) => Some(text_of(text)?),
         None => None,
     };
     Ok(Act::DidSave { uri, text })

@@ -1,8 +1,9 @@
 //! Messages of JSON-RPC 2.0, as they stand in the contents of a stream, and what they mean to a
 //! session of the Language Server Protocol.
 //!
-//! `read` gives the message of a content, `act_of` what a message means on its side, `picked_of`
-//! what the result of an `initialize` picks, and `words_of` the words that name a message.
+//! `read` gives the message of a content, `act_of` and `take_act` what a message means on its side,
+//! `picked_of` what the result of an `initialize` picks, and `words_of` the words that name a
+//! message.
 #![tactic(auto)]
 
 mod act;
@@ -16,11 +17,15 @@ mod laws;
 mod memory;
 mod message;
 mod methods;
+mod outline;
+#[cfg(test)]
+mod outline_tests;
 mod params;
 mod parts;
 mod plain;
 mod results;
 mod shape;
+mod skip;
 #[cfg(test)]
 mod tests;
 mod words;
@@ -34,7 +39,8 @@ pub use laws::{
 };
 pub use memory::Memory;
 pub use message::{Answer, Id, Message};
-pub use methods::act_of;
+pub use methods::{act_of, take_act};
+pub use outline::OutlineReader;
 pub use plain::{Encoding, Position, Side, Span, SyncKind};
 pub use results::picked_of;
 pub use words::{push_id, push_quoted, words_of};

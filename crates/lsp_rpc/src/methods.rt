@@ -1,68 +1,74 @@
 // What a message means, by its side, its kind and its method.
-ghost use Rattle.std.specs.Prelude.{◌≡◌, Some, IfOk, IfErr, codes, option_map};
+ghost use Rattle.std.specs.Prelude.{◌≡◌, Some, None, IfOk, IfErr, codes, option_map};
 ghost use Rattle.serde_json.specs.Find.{as_str};
 ghost use Rattle.serde_json.specs.View.{view};
 ghost use Rattle.lsp_rpc.specs.Fault.{Names, rule_unless_read};
 ghost use Rattle.lsp_rpc.specs.Params as spec;
-ghost use Rattle.lsp_rpc.specs.View.{act_view, message_view, texts_view};
+ghost use Rattle.lsp_rpc.specs.Outline.{without_params};
+ghost use Rattle.lsp_rpc.specs.View.{act_view, lent_view, message_view, texts_view};
 
 use crate::act::Act;
 use crate::documents::{did_change_of, did_close_of, did_open_of, did_save_of};
 use crate::fault::RpcFault;
 use crate::initialize::initialize_of;
 use crate::message::Message;
-use crate::params::{id_of, items_of, required, required_params, string_of};
+use crate::params::{id_of, items_of, required_params, take_required, take_text};
 use crate::plain::Side;
 use serde_json::Value;
 use std::alloc::Global;
+use std::borrow::Cow;
 
-fn cancel_of(alloc: Global, params: &Value) -> Result<Act, RpcFault>
-    ensures ok { IfOk result (λ act. spec.cancel_at (view params.now) ≡ Some (act_view act)) }
-    ensures rule { IfErr result (Names (rule_unless_read 209 (spec.cancel_at (view params.now)))) }
+fn cancel_of(mut params: Value) -> Result<Act, RpcFault>
+    ensures ok { IfOk result (λ act. spec.cancel_at (view params) ≡ Some (act_view act)) }
+    ensures rule { IfErr result (Names (rule_unless_read 209 (spec.cancel_at (view params)))) }
 {
-    let id = id_of(alloc, required(params, "id")?)?;
+    let id = id_of(take_required(&mut params, "id")?)?;
     Ok(Act::Cancel { id })
 }
 
-fn progress_of(alloc: Global, params: &Value) -> Result<Act, RpcFault>
-    ensures ok { IfOk result (λ act. spec.progress_at (view params.now) ≡ Some (act_view act)) }
+fn progress_of(mut params: Value) -> Result<Act, RpcFault>
+    ensures ok { IfOk result (λ act. spec.progress_at (view params) ≡ Some (act_view act)) }
     ensures rule { IfErr result (Names (rule_unless_read 209
-        (spec.progress_at (view params.now)))) }
+        (spec.progress_at (view params)))) }
 {
-    let token = id_of(alloc, required(params, "token")?)?;
+    let token = id_of(take_required(&mut params, "token")?)?;
     Ok(Act::Progress { token })
 }
 
-fn methods_of(alloc: Global, value: &Value) -> Result<Vec<String>, RpcFault>
+fn methods_of(alloc: Global, value: Value) -> Result<Vec<String>, RpcFault>
     ensures ok { IfOk result (λ v. spec.array_of (spec.required (codes "method") as_str)
-        (view value.now) ≡ Some (texts_view v.items)) }
+        (view value) ≡ Some (texts_view v.items)) }
     ensures rule { IfErr result (Names (rule_unless_read 209 (spec.array_of
-        (spec.required (codes "method") as_str) (view value.now)))) }
+        (spec.required (codes "method") as_str) (view value)))) }
 {
     let mut found = Vec::new(alloc);
-    for item in items_of(value)? {
-        found.push(string_of(alloc, required(item, "method")?)?)?;
+    for mut item in items_of(value)? {
+        found.push(take_text(&mut item, "method")?)?;
     }
     Ok(found)
 }
 
-fn register_of(alloc: Global, params: &Value) -> Result<Act, RpcFault>
-    ensures ok { IfOk result (λ act. spec.register_at (view params.now) ≡ Some (act_view act)) }
+fn register_of(alloc: Global, mut params: Value) -> Result<Act, RpcFault>
+    ensures ok { IfOk result (λ act. spec.register_at (view params) ≡ Some (act_view act)) }
     ensures rule { IfErr result (Names (rule_unless_read 209
-        (spec.register_at (view params.now)))) }
+        (spec.register_at (view params)))) }
 {
-    let methods = methods_of(alloc, required(params, "registrations")?)?;
+    let methods = methods_of(alloc, take_required(&mut params, "registrations")?)?;
     Ok(Act::Register { methods })
 }
 
 /// What a request of the editor means.
-fn editor_request(alloc: Global, method: &str, params: Option<&Value>) -> Result<Act, RpcFault>
+fn editor_request(
+    alloc: Global,
+    method: &str,
+    params: Option<Cow<'_, Value>>,
+) -> Result<Act, RpcFault>
     ensures ok { IfOk result (λ act.
-        spec.act_by spec.editor_requests method.now (option_map (λ v. view v.now) params.entry)
+        spec.act_by spec.editor_requests method.now (option_map lent_view params.entry)
         ≡ Some (act_view act)) }
     ensures rule { IfErr result (Names (rule_unless_read 209
         (spec.act_by spec.editor_requests method.now
-        (option_map (λ v. view v.now) params.entry)))) }
+        (option_map lent_view params.entry)))) }
 {
     match method {
         "initialize" => initialize_of(alloc, required_params(params)?),
@@ -72,34 +78,42 @@ fn editor_request(alloc: Global, method: &str, params: Option<&Value>) -> Result
 }
 
 /// What a notification of the editor means.
-fn editor_notification(alloc: Global, method: &str, params: Option<&Value>) -> Result<Act, RpcFault>
+fn editor_notification(
+    alloc: Global,
+    method: &str,
+    params: Option<Cow<'_, Value>>,
+) -> Result<Act, RpcFault>
     ensures ok { IfOk result (λ act.
-        spec.act_by spec.editor_notifications method.now (option_map (λ v. view v.now) params.entry)
+        spec.act_by spec.editor_notifications method.now (option_map lent_view params.entry)
         ≡ Some (act_view act)) }
     ensures rule { IfErr result (Names (rule_unless_read 209
         (spec.act_by spec.editor_notifications method.now
-        (option_map (λ v. view v.now) params.entry)))) }
+        (option_map lent_view params.entry)))) }
 {
     match method {
         "initialized" => Ok(Act::Initialized),
         "exit" => Ok(Act::Exit),
-        "textDocument/didOpen" => did_open_of(alloc, required_params(params)?),
+        "textDocument/didOpen" => did_open_of(required_params(params)?),
         "textDocument/didChange" => did_change_of(alloc, required_params(params)?),
-        "textDocument/didClose" => did_close_of(alloc, required_params(params)?),
-        "textDocument/didSave" => did_save_of(alloc, required_params(params)?),
-        "$/cancelRequest" => cancel_of(alloc, required_params(params)?),
+        "textDocument/didClose" => did_close_of(required_params(params)?),
+        "textDocument/didSave" => did_save_of(required_params(params)?),
+        "$/cancelRequest" => cancel_of(required_params(params)?),
         _ => Ok(Act::Other),
     }
 }
 
 /// What a request of the server means.
-fn server_request(alloc: Global, method: &str, params: Option<&Value>) -> Result<Act, RpcFault>
+fn server_request(
+    alloc: Global,
+    method: &str,
+    params: Option<Cow<'_, Value>>,
+) -> Result<Act, RpcFault>
     ensures ok { IfOk result (λ act.
-        spec.act_by spec.server_requests method.now (option_map (λ v. view v.now) params.entry)
+        spec.act_by spec.server_requests method.now (option_map lent_view params.entry)
         ≡ Some (act_view act)) }
     ensures rule { IfErr result (Names (rule_unless_read 209
         (spec.act_by spec.server_requests method.now
-        (option_map (λ v. view v.now) params.entry)))) }
+        (option_map lent_view params.entry)))) }
 {
     match method {
         "window/showMessageRequest" => Ok(Act::Early),
@@ -109,25 +123,77 @@ fn server_request(alloc: Global, method: &str, params: Option<&Value>) -> Result
 }
 
 /// What a notification of the server means.
-fn server_notification(alloc: Global, method: &str, params: Option<&Value>) -> Result<Act, RpcFault>
+fn server_notification(
+    alloc: Global,
+    method: &str,
+    params: Option<Cow<'_, Value>>,
+) -> Result<Act, RpcFault>
     ensures ok { IfOk result (λ act.
-        spec.act_by spec.server_notifications method.now (option_map (λ v. view v.now) params.entry)
+        spec.act_by spec.server_notifications method.now (option_map lent_view params.entry)
         ≡ Some (act_view act)) }
     ensures rule { IfErr result (Names (rule_unless_read 209
         (spec.act_by spec.server_notifications method.now
-        (option_map (λ v. view v.now) params.entry)))) }
+        (option_map lent_view params.entry)))) }
 {
     match method {
-        "$/cancelRequest" => cancel_of(alloc, required_params(params)?),
-        "$/progress" => progress_of(alloc, required_params(params)?),
+        "$/cancelRequest" => cancel_of(required_params(params)?),
+        "$/progress" => progress_of(required_params(params)?),
         "window/showMessage" | "window/logMessage" | "telemetry/event" => Ok(Act::Early),
         _ => Ok(Act::Other),
     }
 }
 
+fn request_act(
+    alloc: Global,
+    side: Side,
+    method: &str,
+    params: Option<Cow<'_, Value>>,
+) -> Result<Act, RpcFault>
+    ensures ok { IfOk result (λ act.
+        spec.act_by (spec.requests side) method.now (option_map lent_view params.entry)
+        ≡ Some (act_view act)) }
+    ensures rule { IfErr result (Names (rule_unless_read 209
+        (spec.act_by (spec.requests side) method.now (option_map lent_view params.entry)))) }
+{
+    match side {
+        Side::Editor => editor_request(alloc, method, params),
+        Side::Server => server_request(alloc, method, params),
+    }
+}
+
+fn notification_act(
+    alloc: Global,
+    side: Side,
+    method: &str,
+    params: Option<Cow<'_, Value>>,
+) -> Result<Act, RpcFault>
+    ensures ok { IfOk result (λ act.
+        spec.act_by (spec.notifications side) method.now (option_map lent_view params.entry)
+        ≡ Some (act_view act)) }
+    ensures rule { IfErr result (Names (rule_unless_read 209
+        (spec.act_by (spec.notifications side) method.now (option_map lent_view params.entry)))) }
+{
+    match side {
+        Side::Editor => editor_notification(alloc, method, params),
+        Side::Server => server_notification(alloc, method, params),
+    }
+}
+
+/// Takes the params out of their message.
+fn take_params(params: &mut Option<Value>) -> Option<Cow<'static, Value>>
+    ensures taken { option_map lent_view result ≡ option_map view params.old }
+    ensures left { params.new ≡ None }
+{
+    match params.take() {
+        Some(params) => Some(Cow::Owned(params)),
+        None => None,
+    }
+}
+
 /// What a message means on its side (LSP 3.17, Lifecycle Messages and Text Document
 /// Synchronization). Rule 209: its method is read on that side and in that kind, and its params do
-/// not have the method's shape. A response is `Act::Other`.
+/// not have the method's shape. A response is `Act::Other`. Params that are read are copied;
+/// [`take_act`] moves them.
 pub fn act_of(alloc: Global, message: &Message, side: Side) -> Result<Act, RpcFault>
     ensures ok { IfOk result (λ act. spec.act_at side (message_view message.now)
         ≡ Some (act_view act)) }
@@ -135,14 +201,36 @@ pub fn act_of(alloc: Global, message: &Message, side: Side) -> Result<Act, RpcFa
         (spec.act_at side (message_view message.now)))) }
 {
     match message {
-        Message::Request { method, params, .. } => match side {
-            Side::Editor => editor_request(alloc, method.as_str(), params.as_ref()),
-            Side::Server => server_request(alloc, method.as_str(), params.as_ref()),
-        },
-        Message::Notification { method, params } => match side {
-            Side::Editor => editor_notification(alloc, method.as_str(), params.as_ref()),
-            Side::Server => server_notification(alloc, method.as_str(), params.as_ref()),
-        },
+        Message::Request { method, params, .. } => {
+            let params = params.as_ref().map(Cow::Borrowed);
+            request_act(alloc, side, method.as_str(), params)
+        }
+        Message::Notification { method, params } => {
+            let params = params.as_ref().map(Cow::Borrowed);
+            notification_act(alloc, side, method.as_str(), params)
+        }
+        Message::Response { .. } => Ok(Act::Other),
+    }
+}
+
+/// What [`act_of`] gives, with the texts moved out of the message. The message is left without its
+/// params, also where there is an error.
+pub fn take_act(alloc: Global, message: &mut Message, side: Side) -> Result<Act, RpcFault>
+    ensures ok { IfOk result (λ act. spec.act_at side (message_view message.old)
+        ≡ Some (act_view act)) }
+    ensures rule { IfErr result (Names (rule_unless_read 209
+        (spec.act_at side (message_view message.old)))) }
+    ensures rest { message_view message.new ≡ without_params (message_view message.old) }
+{
+    match message {
+        Message::Request { method, params, .. } => {
+            let params = take_params(params);
+            request_act(alloc, side, method.as_str(), params)
+        }
+        Message::Notification { method, params } => {
+            let params = take_params(params);
+            notification_act(alloc, side, method.as_str(), params)
+        }
         Message::Response { .. } => Ok(Act::Other),
     }
 }

@@ -1,4 +1,5 @@
-// Looking into the params of a message. Rule 209: they do not have the shape.
+// Taking the params of a message apart: what is read is moved out of them. Rule 209: they do not have
+// the shape.
 ghost use Rattle.std.specs.Prelude.{◌≡◌, Some, None, IfOk, IfErr, OnOk, true, if◌then◌else◌, option_map, string_bytes};
 ghost use Rattle.serde_json.specs.Find.{as_str, as_array};
 ghost use Rattle.serde_json.specs.View.{view, items_view};
@@ -6,21 +7,25 @@ ghost use Rattle.lsp_rpc.specs.Fault.{Names, rule_unless_read};
 ghost use Rattle.lsp_rpc.specs.Ident.{id_view};
 ghost use Rattle.lsp_rpc.specs.Params as spec;
 ghost use Rattle.lsp_rpc.specs.Shape as shape;
-ghost use Rattle.lsp_rpc.specs.View.{texts_view};
+ghost use Rattle.lsp_rpc.specs.View.{lent_view, texts_view};
 
 use crate::fault::RpcFault;
 use crate::message::Id;
-use crate::shape::integer_of;
+use crate::shape::{id_in, integer_of};
 use serde_json::Value;
 use std::alloc::Global;
+use std::borrow::Cow;
+use std::mem;
 
-/// The params, which have to be there.
-pub(crate) fn required_params(params: Option<&Value>) -> Result<&Value, RpcFault>
-    ensures ok { IfOk result (λ v. option_map (λ v. view v.now) params.entry ≡ Some (view v.now)) }
-    ensures rule { IfErr result (Names (rule_unless_read 209
-        (option_map (λ v. view v.now) params.entry))) }
+/// The params, which have to be there. They are copied where they are only lent.
+pub(crate) fn required_params(params: Option<Cow<'_, Value>>) -> Result<Value, RpcFault>
+    ensures ok { IfOk result (λ v. option_map lent_view params.entry ≡ Some (view v)) }
+    ensures rule { IfErr result (Names (rule_unless_read 209 (option_map lent_view params.entry))) }
 {
-    params.ok_or(RpcFault::Rule(209))
+    match params {
+        Some(params) => Ok(params.into_owned()?),
+        None => Err(RpcFault::Rule(209)),
+    }
 }
 
 /// The member, which has to be there.
@@ -30,6 +35,65 @@ pub(crate) fn required<'a>(value: &'a Value, name: &str) -> Result<&'a Value, Rp
         (shape.member name.now (view value.now)))) }
 {
     value.get(name).ok_or(RpcFault::Rule(209))
+}
+
+/// Takes the member of this name out of the value, and leaves null in its place.
+fn take(value: &mut Value, name: &str) -> Option<Value>
+    ensures taken { option_map view result ≡ shape.member name.now (view value.old) }
+{
+    let member = value.get_mut(name)?;
+    Some(mem::replace(member, Value::Null))
+}
+
+/// Takes out the member, which has to be there.
+pub(crate) fn take_required(value: &mut Value, name: &str) -> Result<Value, RpcFault>
+    ensures ok { IfOk result (λ v. shape.member name.now (view value.old) ≡ Some (view v)) }
+    ensures rule { IfErr result (Names (rule_unless_read 209
+        (shape.member name.now (view value.old)))) }
+{
+    take(value, name).ok_or(RpcFault::Rule(209))
+}
+
+/// Takes out the member, which has to be a string.
+pub(crate) fn take_text(value: &mut Value, name: &str) -> Result<String, RpcFault>
+    ensures ok { IfOk result (λ s. spec.required name.now as_str (view value.old)
+        ≡ Some (string_bytes s)) }
+    ensures rule { IfErr result (Names (rule_unless_read 209
+        (spec.required name.now as_str (view value.old)))) }
+{
+    text_of(take_required(value, name)?)
+}
+
+/// Takes out the member, where it is neither missing nor null.
+pub(crate) fn take_given(value: &mut Value, name: &str) -> Option<Value>
+    ensures { option_map view result ≡ spec.given name.now (view value.old) }
+{
+    match take(value, name)? {
+        Value::Null => None,
+        member => Some(member),
+    }
+}
+
+/// The string that the value is, copied.
+pub(crate) fn copied_text(value: &Value) -> Result<String, RpcFault>
+    ensures ok { IfOk result (λ s. as_str (view value.now) ≡ Some (string_bytes s)) }
+    ensures rule { IfErr result (Names (rule_unless_read 209 (as_str (view value.now)))) }
+{
+    match value {
+        Value::String(text) => Ok(text.clone()?),
+        _ => Err(RpcFault::Rule(209)),
+    }
+}
+
+/// The string that the value is.
+pub(crate) fn text_of(value: Value) -> Result<String, RpcFault>
+    ensures ok { IfOk result (λ s. as_str (view value) ≡ Some (string_bytes s)) }
+    ensures rule { IfErr result (Names (rule_unless_read 209 (as_str (view value)))) }
+{
+    match value {
+        Value::String(text) => Ok(text),
+        _ => Err(RpcFault::Rule(209)),
+    }
 }
 
 pub(crate) fn require_object(value: &Value) -> Result<(), RpcFault>
@@ -44,24 +108,11 @@ pub(crate) fn require_object(value: &Value) -> Result<(), RpcFault>
     }
 }
 
-pub(crate) fn string_of(alloc: Global, value: &Value) -> Result<String, RpcFault>
-    ensures ok { IfOk result (λ s. as_str (view value.now) ≡ Some (string_bytes s)) }
-    ensures rule { IfErr result (Names (rule_unless_read 209 (as_str (view value.now)))) }
+pub(crate) fn id_of(value: Value) -> Result<Id, RpcFault>
+    ensures ok { IfOk result (λ id. shape.as_id (view value) ≡ Some (id_view id)) }
+    ensures rule { IfErr result (Names (rule_unless_read 209 (shape.as_id (view value)))) }
 {
-    match value {
-        Value::String(text) => Ok(text.clone()?),
-        _ => Err(RpcFault::Rule(209)),
-    }
-}
-
-pub(crate) fn id_of(alloc: Global, value: &Value) -> Result<Id, RpcFault>
-    ensures ok { IfOk result (λ id. shape.as_id (view value.now) ≡ Some (id_view id)) }
-    ensures rule { IfErr result (Names (rule_unless_read 209 (shape.as_id (view value.now)))) }
-{
-    match value {
-        Value::String(text) => Ok(Id::Text(text.clone()?)),
-        value => integer_of(value).map(Id::Number).ok_or(RpcFault::Rule(209)),
-    }
+    id_in(value).ok_or(RpcFault::Rule(209))
 }
 
 /// An integer from 0 to 2,147,483,647 (LSP 3.17, Base Types).
@@ -75,22 +126,24 @@ pub(crate) fn uinteger_of(value: &Value) -> Result<u32, RpcFault>
     }
 }
 
-pub(crate) fn items_of(value: &Value) -> Result<&Vec<Value>, RpcFault>
-    ensures ok { IfOk result (λ v. as_array (view value.now) ≡ Some (items_view v.now.items)) }
-    ensures rule { IfErr result (Names (rule_unless_read 209 (as_array (view value.now)))) }
+pub(crate) fn items_of(value: Value) -> Result<Vec<Value>, RpcFault>
+    ensures ok { IfOk result (λ v. as_array (view value) ≡ Some (items_view v.items)) }
+    ensures rule { IfErr result (Names (rule_unless_read 209 (as_array (view value)))) }
 {
-    value.as_array().ok_or(RpcFault::Rule(209))
+    match value {
+        Value::Array(items) => Ok(items),
+        _ => Err(RpcFault::Rule(209)),
+    }
 }
 
-pub(crate) fn strings_of(alloc: Global, value: &Value) -> Result<Vec<String>, RpcFault>
-    ensures ok { IfOk result (λ v. spec.array_of as_str (view value.now)
-        ≡ Some (texts_view v.items)) }
+pub(crate) fn strings_of(alloc: Global, value: Value) -> Result<Vec<String>, RpcFault>
+    ensures ok { IfOk result (λ v. spec.array_of as_str (view value) ≡ Some (texts_view v.items)) }
     ensures rule { IfErr result (Names (rule_unless_read 209
-        (spec.array_of as_str (view value.now)))) }
+        (spec.array_of as_str (view value)))) }
 {
     let mut found = Vec::new(alloc);
     for item in items_of(value)? {
-        found.push(string_of(alloc, item)?)?;
+        found.push(text_of(item)?)?;
     }
     Ok(found)
 }

@@ -1,6 +1,7 @@
 // The members of a message, moved out of their object.
 ghost use Rattle.std.specs.Prelude.{◌≡◌, ℕ, List, Some, None, IfOk, OnOk, IfErr, true, false, if◌then◌else◌, option_map};
 ghost use Rattle.std.specs.Str.{bytes_eq};
+ghost use Rattle.serde_json.specs.Data.{null};
 ghost use Rattle.serde_json.specs.Find.{get_member};
 ghost use Rattle.serde_json.specs.View.{view, members_view};
 ghost use Rattle.lsp_rpc.specs.Shape.{is_object};
@@ -22,8 +23,23 @@ pub(crate) struct Parts {
     pub(crate) error: Option<Value>,
 }
 
+impl Parts {
+    pub(crate) fn none() -> Parts
+        ensures { parts_view result ≡ reading.parts_of null }
+    {
+        Parts {
+            version: None,
+            method: None,
+            id: None,
+            params: None,
+            result: None,
+            error: None,
+        }
+    }
+}
+
 /// Takes the member of this name out.
-fn take_member(members: &mut Map<String, Value>, name: &str) -> Option<Value>
+pub(crate) fn take_member(members: &mut Map<String, Value>, name: &str) -> Option<Value>
     ensures taken { option_map view result
         ≡ get_member name.now (members_view members.old.entries) }
     ensures others { (other : List ℕ) → bytes_eq name.now other ≡ false

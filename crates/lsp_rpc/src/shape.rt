@@ -1,10 +1,12 @@
 // What a value looks like.
 ghost use Rattle.std.specs.Prelude.{◌≡◌, option_map};
 ghost use Rattle.serde_json.specs.View.{view};
-ghost use Rattle.lsp_rpc.specs.Shape.{as_integer};
+ghost use Rattle.lsp_rpc.specs.Ident.{id_view};
+ghost use Rattle.lsp_rpc.specs.Shape.{as_id, as_integer};
 ghost use Rattle.lsp_rpc.specs.Params as params;
 ghost use Rattle.lsp_rpc.specs.Shape as shape;
 
+use crate::message::Id;
 use serde_json::Value;
 
 pub(crate) fn is_text(value: &Value, text: &str) -> bool
@@ -24,6 +26,16 @@ pub(crate) fn integer_of(value: &Value) -> Option<i32>
         Some(n as i32)
     } else {
         None
+    }
+}
+
+/// The id that the value is, moved out of it.
+pub(crate) fn id_in(value: Value) -> Option<Id>
+    ensures { option_map id_view result ≡ as_id (view value) }
+{
+    match value {
+        Value::String(text) => Some(Id::Text(text)),
+        value => integer_of(&value).map(Id::Number),
     }
 }
 

@@ -1,4 +1,7 @@
-use crate::{Id, Memory, RpcFault, Side, act_of, copy_id, picked_of, read, same_id, words_of};
+use crate::{
+    Id, Memory, Message, RpcFault, Side, act_of, copy_id, picked_of, read, same_id, take_act,
+    words_of,
+};
 use serde_json::Value;
 use std::alloc::{AllocError, Global};
 use std::test::Fail;
@@ -302,6 +305,59 @@ fn messages_have_their_meanings(rt: HostRuntime) -> Result<(), Fail> {
     for (side, content, meaning) in MEANINGS {
         let found = meaning_of(rt.alloc(), side, content)?;
         assert_eq!(rt; found.as_str(), meaning, "{content}");
+    }
+    Ok(())
+}
+
+fn has_params(message: &Message) -> bool {
+    match message {
+        Message::Request { params, .. } | Message::Notification { params, .. } => params.is_some(),
+        Message::Response { .. } => false,
+    }
+}
+
+/// What a message means, taken out of it, and the words that then name the message.
+fn taken_of(alloc: Global, side: Side, content: &str) -> Result<String, RpcFault> {
+    let mut message = read(alloc, content.as_bytes())?;
+    let act = take_act(alloc, &mut message, side);
+    let words = match words_of(alloc, &message) {
+        Ok(words) => words,
+        Err(Memory) => return Err(RpcFault::Memory),
+    };
+    let left = if has_params(&message) {
+        " with params"
+    } else {
+        ""
+    };
+    match act {
+        Ok(act) => Ok(format!(in alloc; "{act:?} of {words}{left}")?),
+        Err(fault) => Ok(format!(in alloc; "{fault} of {words}{left}")?),
+    }
+}
+
+#[test]
+fn texts_are_moved_out_of_their_message(rt: HostRuntime) -> Result<(), Fail> {
+    let rows = [
+        (
+            "{\"jsonrpc\":\"2.0\",\"id\":7,\"method\":\"initialize\",\"params\":{\"workDoneToken\":\"w\",\"capabilities\":{}}}",
+            "Initialize(Offer { encodings: None, token: Some(Text(\"w\")) }) of request 7 \"initialize\"",
+        ),
+        (
+            "{\"jsonrpc\":\"2.0\",\"method\":\"textDocument/didOpen\",\"params\":{\"textDocument\":{\"uri\":\"file:///a\",\"languageId\":\"x\",\"version\":1,\"text\":\"ab\"}}}",
+            "DidOpen { uri: \"file:///a\", version: 1, text: \"ab\" } of notification \"textDocument/didOpen\"",
+        ),
+        (
+            "{\"jsonrpc\":\"2.0\",\"method\":\"textDocument/didOpen\",\"params\":{\"textDocument\":{\"uri\":\"file:///a\",\"version\":1}}}",
+            "rule 209 of notification \"textDocument/didOpen\"",
+        ),
+        (
+            "{\"jsonrpc\":\"2.0\",\"id\":\"a\",\"result\":{}}",
+            "Other of result \"a\"",
+        ),
+    ];
+    for (content, expected) in rows {
+        let found = taken_of(rt.alloc(), Side::Editor, content)?;
+        assert_eq!(rt; found.as_str(), expected, "{content}");
     }
     Ok(())
 }

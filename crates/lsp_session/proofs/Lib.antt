@@ -7,3 +7,4 @@ pub mod LawLemmas
 pub mod LeastRuleLemmas
 pub mod SessionMessages
 pub mod Sessions
+pub mod Unread

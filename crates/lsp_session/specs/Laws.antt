@@ -1,11 +1,16 @@
 -- Laws of the definitions.
-use Rattle.std.specs.Prelude.{◌≡◌, ◌⊎◌, ℕ, ◌≤◌, List, ◌∷◌, ◌++◌, Bool, true, false, Some, None}
-use Rattle.lsp_session.specs.Handshake.{is_done, is_fresh, is_waiting}
+use Rattle.std.specs.Prelude.{◌≡◌, ◌⊎◌, ℕ, ◌≤◌, List, [], ◌∷◌, ◌++◌, Bool, true, false, Some, None}
+use Rattle.lsp_rpc.specs.Act.{Act}
+use Rattle.lsp_rpc.specs.Message.{Message}
+use Rattle.lsp_rpc.specs.Outline.{without_params, without_result}
+use Rattle.lsp_rpc.specs.declared.plain.Side.{Side}
+use Rattle.lsp_session.specs.Handshake.{open_initializes, is_done, is_fresh, is_waiting}
 use Rattle.lsp_session.specs.Lifecycle.{lifecycle_rule}
 use Rattle.lsp_session.specs.Negotiation.{negotiation_rule}
 use Rattle.lsp_session.specs.Requests.{answers, request_rule}
 use Rattle.lsp_session.specs.Rules.{IsAdmitted, rule_after}
 use Rattle.lsp_session.specs.Sent.{Sent, is_response}
+use Rattle.lsp_session.specs.State.{state_of}
 
 -- one of the three kinds of rules that the message breaks is this one
 abbrev pub IsBroken : List Sent → Sent → ℕ → Type 0
@@ -51,3 +56,19 @@ OneOf a b c =
 -- the handshake is always in exactly one of its three states
 abbrev pub OneHandshake : Type 0
 OneHandshake = (before : List Sent) → OneOf (is_fresh before) (is_waiting before) (is_done before)
+
+abbrev pub sent_by : Side → Act → Message → Sent
+sent_by side act message = record { side = side; message = message; act = act }
+
+-- where no `initialize` is open, messages that differ in the value of a result alone break the same rule, and leave a session with the same
+abbrev pub ResultUnread : Type 0
+ResultUnread = (before : List Sent) (side : Side) (act : Act) (first second : Message) → open_initializes before ≡ []
+    → without_result first ≡ without_result second
+    → (rule_after before (sent_by side act first) ≡ rule_after before (sent_by side act second))
+    × (state_of (before ++ sent_by side act first ∷ []) ≡ state_of (before ++ sent_by side act second ∷ []))
+
+-- messages that mean the same and differ in their params alone break the same rule, and leave a session with the same
+abbrev pub ParamsUnread : Type 0
+ParamsUnread = (before : List Sent) (side : Side) (act : Act) (first second : Message) → without_params first ≡ without_params second
+    → (rule_after before (sent_by side act first) ≡ rule_after before (sent_by side act second))
+    × (state_of (before ++ sent_by side act first ∷ []) ≡ state_of (before ++ sent_by side act second ∷ []))

@@ -5,6 +5,8 @@ ghost use Rattle.lsp_session.specs.Laws.{
   AnswersNoOther,
   LeastRule,
   OneHandshake,
+  ParamsUnread,
+  ResultUnread,
 };
 
 /// Proves that the rule that a message breaks is the least of those that it breaks.
@@ -30,4 +32,16 @@ pub fn answered_once()
 /// Proves that the handshake is always in exactly one of its three states.
 pub fn one_handshake()
     ensures { OneHandshake }
+{}
+
+/// Proves that where no `initialize` is open, the value of a result matters neither for the rule that
+/// its message breaks nor for what a session keeps.
+pub fn result_unread()
+    ensures { ResultUnread }
+{}
+
+/// Proves that the params of a message matter neither for the rule that it breaks nor for what a
+/// session keeps, but for what they mean.
+pub fn params_unread()
+    ensures { ParamsUnread }
 {}

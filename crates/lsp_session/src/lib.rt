@@ -15,7 +15,10 @@ mod session;
 #[cfg(test)]
 mod tests;
 
-pub use laws::{answered_once, answers_a_request, answers_no_other, least_rule, one_handshake};
+pub use laws::{
+    answered_once, answers_a_request, answers_no_other, least_rule, one_handshake, params_unread,
+    result_unread,
+};
 pub use pending::{OpenRequest, Pending};
 pub use phase::Phase;
 pub use refusal::Refusal;

@@ -1,4 +1,4 @@
-ghost use Rattle.std.specs.Prelude.{◌≡◌, Some, true, false, ◌++◌, ◌∷◌, [], List, None, IfErr, IfOk, OnOk, OnErr, option_map};
+ghost use Rattle.std.specs.Prelude.{◌≡◌, Some, true, false, ◌++◌, ◌∷◌, [], List, None, IfErr, IfOk, OnOk, OnErr, not, option_map};
 ghost use Rattle.lsp_rpc.specs.Ident.{id_view};
 ghost use Rattle.lsp_rpc.specs.View.{act_view, message_view};
 ghost use Rattle.lsp_session.specs.ByState as by_state;
@@ -140,6 +140,14 @@ impl Session {
             → result.now ≡ open_requests side before }
     {
         self.asked_by(side)
+    }
+
+    /// Whether an `initialize` waits for its response, so that the value of a result may matter.
+    pub fn awaits_initialize(&self) -> bool
+        ensures { (before : List Sent) → Stands self.now before
+            → result ≡ not (handshake.is_empty (handshake.open_initializes before)) }
+    {
+        self.initialize.is_some()
     }
 
     fn asked_by(&self, side: Side) -> &Pending

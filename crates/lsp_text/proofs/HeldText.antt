@@ -30,14 +30,14 @@ chars_before_le ls i =
     omega (arith, length_le_units (text_of ls), ap length all, length-append (text_of (take i ls)) (text_of (drop i ls)))
 
 -- bytes that begin with those of the first lines
-same_front : (a x y : List ℕ) → a ++ x ≡ a ++ y → x ≡ y
+pub same_front : (a x y : List ℕ) → a ++ x ≡ a ++ y → x ≡ y
 same_front a x y e = sym (drop_at a x (length a) refl) ∙ ap (drop (length a)) e ∙ drop_at a y (length a) refl
 
-pub spell_more : (ls : List Line) (i : ℕ) (l : Line) (text rest held : List ℕ) → i < length ls → l ≡ get_or ls i l → encodes (spelled l) ≡ held → text ≡ encodes (text_of (take i ls)) ++ rest →
-    rest ≡ held ++ drop (length held) rest → text ≡ encodes (text_of (take (i + 1) ls)) ++ drop (length held) rest
-spell_more ls i l text rest held lt is line h begins =
-    h ∙ ap (λ x. encodes (text_of (take i ls)) ++ x) begins ∙ sym (append_assoc (encodes (text_of (take i ls))) held (drop (length held) rest))
-    ∙ ap (λ x. x ++ drop (length held) rest)
+pub spell_more : (ls : List Line) (i : ℕ) (l : Line) (text rest after held : List ℕ) → i < length ls → l ≡ get_or ls i l → encodes (spelled l) ≡ held → text ≡ encodes (text_of (take i ls)) ++ rest →
+    rest ≡ held ++ after → text ≡ encodes (text_of (take (i + 1) ls)) ++ after
+spell_more ls i l text rest after held lt is line h begins =
+    h ∙ ap (λ x. encodes (text_of (take i ls)) ++ x) begins ∙ sym (append_assoc (encodes (text_of (take i ls))) held after)
+    ∙ ap (λ x. x ++ after)
     (ap (λ x. encodes (text_of (take i ls)) ++ x) (sym line) ∙ sym (encodes-append (text_of (take i ls)) (spelled l)) ∙ ap encodes (sym (text_to ls i l lt is)))
 
 -- where the lines spell the text, its rest goes on with the next line

@@ -12,8 +12,9 @@ pub mod Denoting
 pub mod Applied
 pub mod Widths
 pub mod LineEdits
-pub mod Marks
 pub mod Vectors
+pub mod Pieces
+pub mod PieceEdits
 pub mod Spotting
 pub mod Editing
 pub mod HeldText

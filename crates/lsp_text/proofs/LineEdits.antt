@@ -9,7 +9,6 @@ use Rattle.lsp_rpc.specs.declared.plain.Encoding.{Encoding}
 use Rattle.lsp_rpc.specs.declared.plain.Encoding.TheVariants.{Utf8}
 use Rattle.lsp_text.specs.Lines.{Line, open_line, spelled, text_of, is_feed, is_return, starts_with_feed, has_no_line_end, IsEndBefore, AreEnded, lines_of}
 use Rattle.lsp_text.specs.Places.{units}
-use Rattle.lsp_text.specs.Offsets.{IsSkipped}
 use Rattle.lsp_text.specs.Steps.{line_at}
 use Rattle.lsp_text.specs.Rewriting.{rewritten, with_text, line_utf8, line_after, StaysInLine}
 use Rattle.lsp_text.proofs.Cuts.{HasFirst, IsCut-lines_of, lines_of-ended, lines_of-line, lines_of-no_end, text_of-append, whole_parts}
@@ -201,20 +200,20 @@ pub record IsLineEdit (t : List ℕ) (i j k : ℕ) (s : List ℕ) (new : Line) :
   pub to_boundary : IsCharBoundary (encodes (line_at i t).text) k
   pub text : text_of (set (lines_of t) i new) ≡ rewritten t i i (line_after t i j k s)
   pub lines : lines_of (text_of (set (lines_of t) i new)) ≡ set (lines_of t) i new
-  pub kept : (enc : Encoding) (column offset : ℕ) → offset ≤ j → IsSkipped enc (encodes (line_at i t).text) column offset 0 → IsSkipped enc (encodes new.text) column offset 0
 
--- what stands before a replacement stays
-skipped_before : (bs s : List ℕ) (j k : ℕ) → IsUtf8 bs → IsUtf8 s → IsCharBoundary bs j → IsCharBoundary bs k → (enc : Encoding) (column offset : ℕ) → offset ≤ j → IsSkipped enc bs column offset 0 →
-    IsSkipped enc (replace_range bs j k s) column offset 0
-skipped_before bs s j k u us bj bk enc column offset le h =
-    let new = replace_range bs j k s in
-    let len = length-take-le j bs bj.0 in
-    let parts : new ≡ take j bs ++ (s ++ drop k bs) = append_assoc (take j bs) s (drop k bs) in
-    let front : take j new ≡ take j bs = ap (take j) parts ∙ take_at (take j bs) (s ++ drop k bs) j len in
-    let at : IsCharBoundary new j = subst (λ (x : ℕ). IsCharBoundary new x) len (IsCharBoundary-at_seam new (take j bs) (s ++ drop k bs) parts (IsUtf8-append s (drop k bs) us (IsUtf8-drop bs k u bk))) in
-    let inside : IsCharBoundary (take j new) offset = subst (λ (x : List ℕ). IsCharBoundary x offset) (sym front) (boundary_in_front bs j offset u bj h.boundary le) in
-    let same : take offset new ≡ take offset bs = sym (take-take offset j new le) ∙ ap (take offset) front ∙ take-take offset j bs le in
-    record { boundary = boundary_in_all new j offset (utf8_replaced bs s j k u us bj bk) at inside; left_is = ap (λ (x : List ℕ). units enc (chars x) + 0) same ∙ h.left_is }
+-- a line has no more bytes than the text in which it stands
+pub line_units_le : (ls : List Line) (i : ℕ) (new : Line) → i < length ls → units Utf8 (spelled new) ≤ units Utf8 (text_of (set ls i new))
+line_units_le ls i new lt =
+    let rest = drop (i + 1) ls in
+    let here : ls ≡ take i ls ++ get_or ls i new ∷ rest = sym (take-append-drop i ls) ∙ ap (λ (x : List Line). take i ls ++ x) (drop_more ls i new lt) in
+    let put : set ls i new ≡ take i ls ++ new ∷ rest = ap (λ (x : List Line). set x i new) here ∙ set_at (take i ls) (get_or ls i new) rest new i (length-take-le i ls (let le : i ≤ length ls = omega arith in le)) in
+    omega (
+      arith,
+      ap (λ (x : List Line). units Utf8 (text_of x)) put,
+      ap (units Utf8) (text_of-append (take i ls) (new ∷ rest)),
+      units-append Utf8 (text_of (take i ls)) (text_of (new ∷ rest)),
+      units-append Utf8 (spelled new) (text_of rest),
+    )
 
 pub is_line_edit : (t : List ℕ) (i j k : ℕ) (s : List ℕ) (new : Line) → IsUtf8 s → StaysInLine t i j k s → new ≡ with_text (line_at i t) (chars (replace_range (encodes (line_at i t).text) j k s)) →
     IsLineEdit t i j k s new
@@ -267,9 +266,6 @@ is_line_edit t i j k s new us stays made =
       to_boundary = bk;
       text = ap text_of put ∙ text_of-append (take i ls) (new ∷ rest) ∙ ap (λ (x : List ℕ). text_of (take i ls) ++ (x ++ text_of rest)) (sym after);
       lines = ap (λ (x : List Line). lines_of (text_of x)) put ∙ lines_with (take i ls) rest l new are same whole some ∙ sym put;
-      kept =
-          λ enc column offset le h.
-          subst (λ (x : List ℕ). IsSkipped enc x column offset 0) (sym (ap encodes text ∙ encodes-chars replaced ur)) (skipped_before body s j k ub us bj bk enc column offset le h);
     }
 
 -- where a kept line may be cut, and its text as bytes

@@ -79,7 +79,7 @@ counted_first t x span s0 s1 e =
     record { by = line_bytes t i; least = omega arith; most = omega arith; is = e }
 
 -- then the second one
-pub counted_second : (t x : List ℕ) (span : Span) (s0 s1 s2 : ℕ) → s1 ≡ raised s0 (line_bytes t (line_number t span.first)) → s2 ≡ raised s1 (line_bytes t (line_number t span.second)) →
+pub counted_second : (t x : List ℕ) (span : Span) (s0 s1 s2 : ℕ) → s1 ≡ raised s0 (line_bytes t (line_number t span.first)) → RisesWithin s1 s2 0 (line_bytes t (line_number t span.second)) →
     RisesWithin s0 s2 0 (4 * touched t span x)
 counted_second t x span s0 s1 s2 e1 e2 =
     let i = line_number t span.first in
@@ -87,14 +87,14 @@ counted_second t x span s0 s1 s2 e1 e2 =
     let first = about_first t i j (line_number_lt t span.first) in
     let second = about_second t i j (line_number_lt t span.second) in
     record {
-      by = line_bytes t i + line_bytes t j;
+      by = line_bytes t i + e2.by;
       least = omega arith;
-      most = omega arith;
-      is = e2 ∙ ap (λ n. raised n (line_bytes t j)) e1 ∙ raised-raised s0 (line_bytes t i) (line_bytes t j);
+      most = omega (arith, e2.most);
+      is = e2.is ∙ ap (λ n. raised n e2.by) e1 ∙ raised-raised s0 (line_bytes t i) e2.by;
     }
 
 -- then the insertion, which stays in its line
-pub counted_in_line : (t bs : List ℕ) (span : Span) (s0 s1 s2 s3 : ℕ) → IsUtf8 bs → s1 ≡ raised s0 (line_bytes t (line_number t span.first)) → s2 ≡ raised s1 (line_bytes t (line_number t span.second)) → s3 ≡ raised s2 (length bs) →
+pub counted_in_line : (t bs : List ℕ) (span : Span) (s0 s1 s2 s3 : ℕ) → IsUtf8 bs → s1 ≡ raised s0 (line_bytes t (line_number t span.first)) → RisesWithin s1 s2 0 (line_bytes t (line_number t span.second)) → s3 ≡ raised s2 (length bs) →
     RisesWithin s0 s3 (length bs) (4 * touched t span (chars bs))
 counted_in_line t bs span s0 s1 s2 s3 u e1 e2 e3 =
     let i = line_number t span.first in
@@ -103,17 +103,17 @@ counted_in_line t bs span s0 s1 s2 s3 u e1 e2 e3 =
     let second = about_second t i j (line_number_lt t span.second) in
     let inserted = units-utf8_text bs u in
     record {
-      by = line_bytes t i + line_bytes t j + length bs;
+      by = line_bytes t i + e2.by + length bs;
       least = omega arith;
-      most = omega arith;
+      most = omega (arith, e2.most);
       is =
-          e3 ∙ ap (λ k. raised k (length bs)) (e2 ∙ ap (λ n. raised n (line_bytes t j)) e1 ∙ raised-raised s0 (line_bytes t i) (line_bytes t j))
-          ∙ raised-raised s0 (line_bytes t i + line_bytes t j) (length bs);
+          e3 ∙ ap (λ k. raised k (length bs)) (e2.is ∙ ap (λ n. raised n e2.by) e1 ∙ raised-raised s0 (line_bytes t i) e2.by)
+          ∙ raised-raised s0 (line_bytes t i + e2.by) (length bs);
     }
 
 -- then the line before the first
 pub counted_before : (t x : List ℕ) (span : Span) (i s0 s1 s2 s3 : ℕ) → i ≡ line_number t span.first → i ≤ line_number t span.second → s1 ≡ raised s0 (line_bytes t (line_number t span.first)) →
-    s2 ≡ raised s1 (line_bytes t (line_number t span.second)) → s3 ≡ raised s2 (units Utf8 (line_before t i)) → RisesWithin s0 s3 0 (4 * touched t span x)
+    RisesWithin s1 s2 0 (line_bytes t (line_number t span.second)) → s3 ≡ raised s2 (units Utf8 (line_before t i)) → RisesWithin s0 s3 0 (4 * touched t span x)
 counted_before t x span i s0 s1 s2 s3 is le e1 e2 e3 =
     let j = line_number t span.second in
     let n = line_number t span.first in
@@ -122,15 +122,15 @@ counted_before t x span i s0 s1 s2 s3 is le e1 e2 e3 =
     let second = about_second t n j (line_number_lt t span.second) in
     let before : p ≤ bytes_about t n j = omega (arith, about_before t i j le, ap (λ k. bytes_about t k j) is) in
     record {
-      by = line_bytes t n + line_bytes t j + p;
+      by = line_bytes t n + e2.by + p;
       least = omega arith;
-      most = omega arith;
-      is = e3 ∙ ap (λ k. raised k p) (e2 ∙ ap (λ k. raised k (line_bytes t j)) e1 ∙ raised-raised s0 (line_bytes t n) (line_bytes t j)) ∙ raised-raised s0 (line_bytes t n + line_bytes t j) p;
+      most = omega (arith, e2.most);
+      is = e3 ∙ ap (λ k. raised k p) (e2.is ∙ ap (λ k. raised k e2.by) e1 ∙ raised-raised s0 (line_bytes t n) e2.by) ∙ raised-raised s0 (line_bytes t n + e2.by) p;
     }
 
 -- then the insertion
 pub counted_all : (t bs : List ℕ) (span : Span) (i s0 s1 s2 s3 s4 : ℕ) → IsUtf8 bs → i ≡ line_number t span.first → i ≤ line_number t span.second →
-    s1 ≡ raised s0 (line_bytes t (line_number t span.first)) → s2 ≡ raised s1 (line_bytes t (line_number t span.second)) → s3 ≡ raised s2 (units Utf8 (line_before t i)) → s4 ≡ raised s3 (length bs) →
+    s1 ≡ raised s0 (line_bytes t (line_number t span.first)) → RisesWithin s1 s2 0 (line_bytes t (line_number t span.second)) → s3 ≡ raised s2 (units Utf8 (line_before t i)) → s4 ≡ raised s3 (length bs) →
     RisesWithin s0 s4 (length bs) (4 * touched t span (chars bs))
 counted_all t bs span i s0 s1 s2 s3 s4 u is le e1 e2 e3 e4 =
     let j = line_number t span.second in
@@ -141,11 +141,11 @@ counted_all t bs span i s0 s1 s2 s3 s4 u is le e1 e2 e3 e4 =
     let before : p ≤ bytes_about t n j = omega (arith, about_before t i j le, ap (λ k. bytes_about t k j) is) in
     let inserted = units-utf8_text bs u in
     record {
-      by = line_bytes t n + line_bytes t j + p + length bs;
+      by = line_bytes t n + e2.by + p + length bs;
       least = omega arith;
-      most = omega arith;
+      most = omega (arith, e2.most);
       is =
           e4 ∙ ap (λ k. raised k (length bs))
-          (e3 ∙ ap (λ k. raised k p) (e2 ∙ ap (λ k. raised k (line_bytes t j)) e1 ∙ raised-raised s0 (line_bytes t n) (line_bytes t j)) ∙ raised-raised s0 (line_bytes t n + line_bytes t j) p)
-          ∙ raised-raised s0 (line_bytes t n + line_bytes t j + p) (length bs);
+          (e3 ∙ ap (λ k. raised k p) (e2.is ∙ ap (λ k. raised k e2.by) e1 ∙ raised-raised s0 (line_bytes t n) e2.by) ∙ raised-raised s0 (line_bytes t n + e2.by) p)
+          ∙ raised-raised s0 (line_bytes t n + e2.by + p) (length bs);
     }

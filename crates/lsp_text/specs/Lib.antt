@@ -6,6 +6,8 @@ pub mod FirstLine
 pub mod LineEnd
 pub mod Offsets
 pub mod CountedLine
+pub mod Pieces
+pub mod PiecedLine
 pub mod HeldLines
 pub mod Rewriting
 pub mod Steps

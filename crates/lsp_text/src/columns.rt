@@ -1,6 +1,6 @@
 //! Columns of a line, which count units of an encoding, as offsets in its bytes.
 
-ghost use Rattle.std.specs.Prelude.{◌≡◌, None, MatchOption, IfSome};
+ghost use Rattle.std.specs.Prelude.{◌≡◌, None, MatchOption};
 ghost use Rattle.std.specs.Str.{chars};
 ghost use Rattle.lsp_text.specs.Places.{units, units_of_char, place_in_line};
 ghost use Rattle.lsp_text.specs.Offsets.{IsOffset, IsSkipped};
@@ -11,27 +11,25 @@ use lsp_rpc::Encoding;
 /// The bytes of which the units are counted at once.
 const CHUNK: usize = 512;
 
-/// The bytes of a line that a column leaves behind it, and the column in what is left.
+// The bytes of a line that a column leaves behind it, and the column in what is left.
 #[derive(Clone, Copy)]
-pub(crate) struct Skipped {
-    pub(crate) bytes: usize,
-    pub(crate) left: u32,
+struct Skipped {
+    bytes: usize,
+    left: u32,
 }
 
 /// The bytes of a line before a column, or `None` where the column lies inside a character. The line's
 /// units and its characters are counted already: they tell where a column past the line and one among
-/// characters of one byte each lie. Else it is looked for from a known place on, if there is one.
+/// characters of one byte each lie.
 pub(crate) fn offset_in_counted(
     line: &str,
     width: u64,
     count: u64,
-    known: Option<Skipped>,
     encoding: Encoding,
     column: u32,
 ) -> Option<usize>
     requires width { width ≡ units encoding (chars line.now) }
     requires count { count ≡ units Encoding.Utf32 (chars line.now) }
-    requires known { IfSome known (λ skipped. IsSkipped encoding line.now column skipped.bytes skipped.left) }
     ensures { MatchOption result (place_in_line encoding (chars line.now) column ≡ None) (IsOffset encoding line.now column) }
 {
     if width <= column as u64 {
@@ -40,20 +38,7 @@ pub(crate) fn offset_in_counted(
     if count == line.len() as u64 {
         return Some(column as usize);
     }
-    match known {
-        None => offset_in_line(line, encoding, column),
-        Some(skipped) => offset_past(line, skipped, encoding, column),
-    }
-}
-
-// The bytes of a line before a column, from a known place on.
-fn offset_past(line: &str, skipped: Skipped, encoding: Encoding, column: u32) -> Option<usize>
-    requires { IsSkipped encoding line.now column skipped.bytes skipped.left }
-    ensures { MatchOption result (place_in_line encoding (chars line.now) column ≡ None) (IsOffset encoding line.now column) }
-{
-    let (_, rest) = line.split_at(skipped.bytes);
-    let offset = offset_in_line(rest, encoding, skipped.left)?;
-    Some(skipped.bytes + offset)
+    offset_in_line(line, encoding, column)
 }
 
 /// The bytes of a line before a column, or `None` where the column lies inside a character.

@@ -1,6 +1,6 @@
 //! Edits of kept lines, which see held bytes by `Lines::read` alone.
 
-ghost use Rattle.std.specs.Prelude.{◌≡◌, ◌<◌, ◌≤◌, ◌+◌, ◌*◌, ◌^◌, ◌↔◌, ◌++◌, Ok, None, length, take, drop, MatchOption, IfOk, OnOk, OnErr, IfErr, IsTrue};
+ghost use Rattle.std.specs.Prelude.{◌≡◌, ◌<◌, ◌≤◌, ◌+◌, ◌*◌, ◌^◌, ◌↔◌, ◌++◌, Ok, None, length, take, drop, MatchOption, IfOk, OnOk, OnErr, IfErr, IsTrue, true};
 ghost use Rattle.std.specs.Str.{chars};
 ghost use Rattle.std.specs.String.{string_bytes};
 ghost use Rattle.lsp_text.specs.Lines.{lines_of};
@@ -8,6 +8,7 @@ ghost use Rattle.lsp_text.specs.Places.{units, place_of};
 ghost use Rattle.lsp_text.specs.Edits.{replaced, IsFaultOf};
 ghost use Rattle.lsp_text.specs.Steps.{raised, RisesWithin, line_bytes, line_number, touched};
 ghost use Rattle.lsp_text.specs.Spots.{IsIn, IsSpot, place_from, line_before, middle_text, LeavesLine};
+ghost use lib.Utf8.{encodes, scalars};
 
 use crate::fault::{INSIDE_CHARACTER, OVER_LIMIT, REVERSED, TextFault};
 use crate::lined::lines::{Lines, Steps};
@@ -36,7 +37,7 @@ pub(crate) fn edit(
     let Some(first) = find(lines, encoding, span.first, steps) else {
         return Err(TextFault::Rule(INSIDE_CHARACTER));
     };
-    let Some(second) = find(lines, encoding, span.second, steps) else {
+    let Some(second) = find_second(lines, encoding, span, &first, steps) else {
         return Err(TextFault::Rule(INSIDE_CHARACTER));
     };
     if second.is_before(&first) {
@@ -46,10 +47,9 @@ pub(crate) fn edit(
     let Some(bytes) = sum_within(outside, text.len(), limit) else {
         return Err(TextFault::Rule(OVER_LIMIT));
     };
-    let (line, last) = (first.line, second.line);
-    if stays_in_line(lines, &first, &second, text) {
-        let (from, to, column) = (first.before.len(), second.before.len(), first.column);
-        lines.mark(line, from, encoding, column);
+    let (line, last) = (first.number, second.number);
+    if stays_in_line(&first, &second, text) {
+        let (from, to) = (first.offset, second.offset);
         lines.replace_in(line, from, to, text, bytes)?;
         steps.add(text.len());
         return Ok(());
@@ -70,21 +70,41 @@ fn find<'a>(
     ensures found { MatchOption result (place_of encoding lines.now position ≡ None) (IsSpot encoding lines.now position) }
     ensures counted { steps.new ≡ raised steps.old (line_bytes lines.now (line_number lines.now position)) }
 {
-    let line = lines.number_of(position);
-    let text = lines.read(line, steps);
-    Spot::in_line(lines, line, text, encoding, position)
+    let number = lines.number_of(position);
+    let line = lines.read(number, steps);
+    Spot::in_line(lines, number, line, encoding, position)
+}
+
+/// Where the second position of a span falls, which is looked for where it isn't the first.
+fn find_second<'a>(
+    lines: &'a Lines,
+    encoding: Encoding,
+    span: Span,
+    first: &Spot<'a>,
+    steps: &mut Steps,
+) -> Option<Spot<'a>>
+    requires first { IsSpot encoding lines.now span.first first.now }
+    requires counting { steps.old < 2 ^ 64 }
+    ensures found { MatchOption result (place_of encoding lines.now span.second ≡ None) (IsSpot encoding lines.now span.second) }
+    ensures counted { RisesWithin steps.old steps.new 0 (line_bytes lines.now (line_number lines.now span.second)) }
+{
+    if span.second == span.first {
+        return Some(*first);
+    }
+    find(lines, encoding, span.second, steps)
 }
 
 /// The bytes before the first spot and from the second on.
 fn bytes_outside(lines: &Lines, first: &Spot<'_>, second: &Spot<'_>) -> u64
     requires first { IsIn lines.now first.now }
     requires second { IsIn lines.now second.now }
-    requires lines { first.now.line ≤ second.now.line }
+    requires lines { first.now.number ≤ second.now.number }
     requires order { place_from lines.now first.now ≤ place_from lines.now second.now }
     ensures { result ≡ units Encoding.Utf8 (take (place_from lines.now first.now) lines.now) + units Encoding.Utf8 (drop (place_from lines.now second.now) lines.now) }
 {
-    let cut = lines.bytes_in(first.line, second.line);
-    lines.byte_len() - cut + first.before.len() as u64 + second.after.len() as u64
+    let cut = lines.bytes_in(first.number, second.number);
+    let after = second.line.len() - second.offset;
+    lines.byte_len() - cut + first.offset as u64 + after as u64
 }
 
 /// The bytes of a text and of an insertion, where they are within the limit.
@@ -98,17 +118,14 @@ fn sum_within(bytes: u64, inserted: usize, limit: u64) -> Option<u64>
 }
 
 /// Whether an edit neither takes away nor brings a line end, and leaves something before that of its line.
-fn stays_in_line(lines: &Lines, first: &Spot<'_>, second: &Spot<'_>, text: &str) -> bool
-    requires second { IsIn lines.now second.now }
-    ensures { IsTrue result → LeavesLine lines.now first.now second.now text.now }
+fn stays_in_line(first: &Spot<'_>, second: &Spot<'_>, text: &str) -> bool
+    ensures { IsTrue result → LeavesLine first.now second.now text.now }
 {
-    if first.line != second.line || memchr2(b'\r', b'\n', text.as_bytes()).is_some() {
+    if first.number != second.number || memchr2(b'\r', b'\n', text.as_bytes()).is_some() {
         return false;
     }
-    let after = lines
-        .body_len(second.line)
-        .saturating_sub(second.before.len());
-    first.before.len().max(text.len()).max(after) > 0
+    let after = second.line.body_len().saturating_sub(second.offset);
+    first.offset.max(text.len()).max(after) > 0
 }
 
 /// The text of the lines from before the first spot's to the second's, with the insertion.
@@ -124,41 +141,35 @@ fn middle_of(
     requires counting { steps.old < 2 ^ 64 }
     requires fits { units Encoding.Utf8 (middle_text lines.now first.now second.now (chars text.now)) < 2 ^ 64 }
     ensures value { IfOk result (λ middle. chars (string_bytes middle) ≡ middle_text lines.now first.now second.now (chars text.now)) }
-    ensures counted { steps.new ≡ raised steps.old (units Encoding.Utf8 (line_before lines.now first.now.line)) }
+    ensures counted { steps.new ≡ raised steps.old (units Encoding.Utf8 (line_before lines.now first.now.number)) }
 {
-    let before = read_before(lines, first.line, steps);
-    join(lines.alloc(), before, first.before, text, second.after)
+    let rest = second.line.len() - second.offset;
+    let room = first.offset.saturating_add(text.len()).saturating_add(rest);
+    let mut middle = copy_before(lines, first.number, room, steps)?;
+    first.line.push_before(first.offset, &mut middle)?;
+    middle.push_str(text)?;
+    second.line.push_after(second.offset, &mut middle)?;
+    Ok(middle)
 }
 
-/// Lends the line before one, if there is such.
-fn read_before<'a>(lines: &'a Lines, line: usize, steps: &mut Steps) -> &'a str
-    requires line { line < length (lines_of lines.now) }
-    requires counting { steps.old < 2 ^ 64 }
-    ensures value { chars result.now ≡ line_before lines.now line }
-    ensures counted { steps.new ≡ raised steps.old (length result.now) }
-{
-    if line == 0 {
-        return "";
-    }
-    lines.read(line - 1, steps)
-}
-
-/// Four texts, one after another.
-fn join(
-    alloc: Global,
-    first: &str,
-    second: &str,
-    third: &str,
-    fourth: &str,
+/// The line before one, if there is such, with room for so many bytes behind it.
+fn copy_before(
+    lines: &Lines,
+    number: usize,
+    room: usize,
+    steps: &mut Steps,
 ) -> Result<String, AllocError>
-    requires { length first.now + length second.now + length third.now + length fourth.now < 2 ^ 64 }
-    ensures { IfOk result (λ joined. string_bytes joined ≡ ((first.now ++ second.now) ++ third.now) ++ fourth.now) }
+    requires line { number < length (lines_of lines.now) }
+    requires counting { steps.old < 2 ^ 64 }
+    ensures value { IfOk result (λ text. string_bytes text ≡ encodes (line_before lines.now number)) }
+    ensures scalar { scalars (line_before lines.now number) ≡ true }
+    ensures counted { steps.new ≡ raised steps.old (units Encoding.Utf8 (line_before lines.now number)) }
 {
-    let bytes = first.len() + second.len() + third.len() + fourth.len();
-    let mut joined = String::with_capacity(alloc, bytes)?;
-    joined.push_str(first)?;
-    joined.push_str(second)?;
-    joined.push_str(third)?;
-    joined.push_str(fourth)?;
-    Ok(joined)
+    if number == 0 {
+        return String::with_capacity(lines.alloc(), room);
+    }
+    let line = lines.read(number - 1, steps);
+    let mut text = String::with_capacity(lines.alloc(), line.len().saturating_add(room))?;
+    line.push_to(&mut text)?;
+    Ok(text)
 }

@@ -3,6 +3,7 @@
 mod counted;
 mod held;
 pub(crate) mod lines;
+pub(crate) mod pieced;
 
 ghost use Rattle.std.specs.Prelude.{◌≡◌, ◌+◌, ◌*◌, ◌↔◌, length, IfOk, OnOk, OnErr, IfErr, IsTrue, Ok};
 ghost use Rattle.std.specs.Str.{chars};
@@ -10,7 +11,6 @@ ghost use Rattle.std.specs.String.{string_bytes};
 ghost use Rattle.lsp_text.specs.Edits.{replaced, limited, IsFaultOf};
 ghost use Rattle.lsp_text.specs.Steps.{RisesWithin, touched};
 
-use crate::counts::measure;
 use crate::edit::edit;
 use crate::fault::{INSIDE_CHARACTER, OVER_LIMIT, TextFault};
 use crate::spot::Spot;
@@ -60,12 +60,12 @@ impl TextStore for Lined {
     }
 
     fn resolve(&self, encoding: Encoding, position: Position) -> Result<Place, TextFault> {
-        let line = self.lines.number_of(position);
-        let text = self.lines.peek(line);
-        match Spot::in_line(&self.lines, line, text, encoding, position) {
+        let number = self.lines.number_of(position);
+        let line = self.lines.peek(number);
+        match Spot::in_line(&self.lines, number, line, encoding, position) {
             None => Err(TextFault::Rule(INSIDE_CHARACTER)),
             Some(spot) => Ok(Place {
-                chars: self.lines.chars_before(line) + measure(spot.before).chars,
+                chars: self.lines.chars_before(number) + line.chars_before(spot.offset),
             }),
         }
     }

@@ -432,3 +432,55 @@ fn both_agree_after_scattered_edits_by_utf16(rt: HostRuntime) -> Result<(), Fail
 fn both_agree_after_scattered_edits_by_characters(rt: HostRuntime) -> Result<(), Fail> {
     agree_on_scattered_edits(&rt, rt.alloc(), Encoding::Utf32, 9)
 }
+
+const WIDE: &str = "漢字かな\u{1F600}var x=1;é𠮷野한국어f(a,b);ж ";
+
+/// Makes scattered edits in one long line in both stores; at times it is broken, and joined again.
+fn agree_in_a_long_line(
+    rt: &impl Abort,
+    alloc: Global,
+    encoding: Encoding,
+    mut seed: u64,
+) -> Result<(), Fail> {
+    let mut long = String::new(alloc);
+    for _ in 0..80 {
+        long.push_str(WIDE)?;
+    }
+    let mut text = String::new(alloc);
+    for _ in 0..8 {
+        text.push_str(long.as_str())?;
+    }
+    let mut plain = Plain::from_text(alloc, text.as_str())?;
+    let mut lined = Lined::from_text(alloc, text.as_str())?;
+    for turn in 0u32..400 {
+        let column = scattered(&mut seed) % 30000;
+        let units = scattered(&mut seed) % if turn % 16 == 0 { 9000 } else { 6 };
+        let first = at(0, column);
+        let second = at(0, column.saturating_add(units));
+        let inserted = if turn % 8 == 0 {
+            long.as_str()
+        } else {
+            PIECES[(scattered(&mut seed) % 8) as usize]
+        };
+        let held = Span { first, second };
+        edits_both(rt, &mut plain, &mut lined, encoding, held, inserted, 80000);
+        let joint = Span {
+            first: at(0, 100000),
+            second: at(1, 0),
+        };
+        edits_both(rt, &mut plain, &mut lined, encoding, joint, "", 80000);
+        if turn % 16 == 0 {
+            assert!(rt; hold_the_same(alloc, &plain, &lined)?);
+        }
+    }
+    let copy = lined.copy(alloc)?;
+    assert!(rt; hold_the_same(alloc, &plain, &copy)?);
+    Ok(())
+}
+
+#[test]
+fn both_agree_in_a_long_line(rt: HostRuntime) -> Result<(), Fail> {
+    agree_in_a_long_line(&rt, rt.alloc(), Encoding::Utf8, 10)?;
+    agree_in_a_long_line(&rt, rt.alloc(), Encoding::Utf16, 11)?;
+    agree_in_a_long_line(&rt, rt.alloc(), Encoding::Utf32, 12)
+}

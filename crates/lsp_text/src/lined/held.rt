@@ -9,16 +9,16 @@ ghost use Rattle.lsp_text.specs.Places.{units};
 ghost use Rattle.lsp_text.specs.Rewriting.{but_last, with_text};
 ghost use lib.Utf8.{encodes};
 
-use super::counted::CountedLine;
+use super::pieced::PiecedLine;
 use crate::cut::FirstLine;
 use lsp_rpc::Encoding;
 use std::alloc::{AllocError, Global};
 use std::marker::Model;
 
-/// A counted line behind a pointer, so that the entries of a long text are moved at a small cost.
+/// A line behind a pointer, so that the entries of a long text are moved at a small cost.
 #[derive(Drop)]
 pub(super) struct HeldLine {
-    line: Box<CountedLine>,
+    line: Box<PiecedLine>,
 }
 
 impl Model for HeldLine {
@@ -36,7 +36,7 @@ impl HeldLine {
         requires end { units Encoding.Utf8 (chars end.now) ≡ length (chars end.now) }
         ensures { IfOk result (λ line. line ≡ record { text = chars text.now; end = chars end.now }) }
     {
-        let line = CountedLine::new(alloc, text, end)?;
+        let line = PiecedLine::new(alloc, text, end)?;
         Ok(HeldLine {
             line: Box::new(alloc, line)?,
         })
@@ -52,23 +52,30 @@ impl HeldLine {
         })
     }
 
-    /// Its text, end and counts.
-    pub(super) fn counted(&self) -> &CountedLine
+    /// The line.
+    pub(super) fn get(&self) -> &PiecedLine
         ensures { result.now ≡ self.now }
     {
         &self.line
     }
 
     /// Puts a text in the place of the bytes from `from` up to `to`, which lie before the line's end.
-    pub(super) fn replace(&mut self, from: usize, to: usize, text: &str) -> Result<(), AllocError>
+    pub(super) fn replace(
+        &mut self,
+        alloc: Global,
+        from: usize,
+        to: usize,
+        text: &str,
+    ) -> Result<(), AllocError>
         requires order { from ≤ to }
         requires before_end { to ≤ units Encoding.Utf8 self.old.text }
         requires from_boundary { IsCharBoundary (encodes self.old.text) from }
         requires to_boundary { IsCharBoundary (encodes self.old.text) to }
+        requires fits { units Encoding.Utf8 (spelled (with_text self.old (chars (replace_range (encodes self.old.text) from to text.now)))) < 2 ^ 64 }
         ensures ok { OnOk result (self.new ≡ with_text self.old (chars (replace_range (encodes self.old.text) from to text.now))) }
         ensures err { OnErr result (self.new ≡ self.old) }
     {
-        self.line.replace(from, to, text)
+        self.line.replace(alloc, from, to, text)
     }
 }
 
@@ -119,7 +126,7 @@ pub(super) fn bytes_of(lines: &[HeldLine]) -> u64
 {
     let mut bytes = 0;
     for line in lines {
-        bytes += line.counted().len() as u64;
+        bytes += line.get().len() as u64;
     }
     bytes
 }
@@ -131,7 +138,7 @@ pub(super) fn chars_of(lines: &[HeldLine]) -> u64
 {
     let mut chars = 0;
     for line in lines {
-        chars += line.counted().count();
+        chars += line.get().count();
     }
     chars
 }
@@ -142,11 +149,10 @@ pub(super) fn spell(lines: &[HeldLine], text: &str) -> bool
 {
     let mut rest = text.as_bytes();
     for line in lines {
-        let held = line.counted().as_str().as_bytes();
-        if !rest.starts_with(held) {
+        let Some(after) = line.get().strip(rest) else {
             return false;
-        }
-        rest = &rest[held.len()..];
+        };
+        rest = after;
     }
     rest.is_empty()
 }
@@ -157,7 +163,7 @@ pub(super) fn joined(alloc: Global, lines: &[HeldLine], bytes: usize) -> Result<
 {
     let mut text = String::with_capacity(alloc, bytes)?;
     for line in lines {
-        text.push_str(line.counted().as_str())?;
+        line.get().push_to(&mut text)?;
     }
     Ok(text)
 }

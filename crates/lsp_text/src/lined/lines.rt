@@ -1,36 +1,24 @@
 //! The lines of a text, and the count of the bytes lent from them.
 
-ghost use Rattle.std.specs.Prelude.{◌≡◌, ◌+◌, ◌<◌, ◌≤◌, ◌^◌, length, Some, IfSome, IfOk, OnOk, OnErr, IsTrue, ◌↔◌, take, slice_range};
+ghost use Rattle.std.specs.Prelude.{◌≡◌, ◌+◌, ◌<◌, ◌≤◌, ◌^◌, length, IfOk, OnOk, OnErr, IsTrue, ◌↔◌, take, slice_range};
 ghost use Rattle.std.specs.Str.{chars};
 ghost use Rattle.std.specs.String.{string_bytes};
-ghost use Rattle.lsp_text.specs.Lines.{lines_of, text_of, spelled};
+ghost use Rattle.lsp_text.specs.Lines.{lines_of, text_of};
 ghost use Rattle.lsp_text.specs.Places.{units};
-ghost use Rattle.lsp_text.specs.Steps.{raised, line_at, line_number};
-ghost use Rattle.lsp_text.specs.Offsets.{IsSkipped};
+ghost use Rattle.lsp_text.specs.Steps.{raised, line_at, line_bytes, line_number};
 ghost use Rattle.lsp_text.specs.Rewriting.{rewritten, line_after, StandsApart, StaysInLine};
-ghost use lib.Utf8.{encodes};
 
 use super::held::{HeldLine, bytes_of, chars_of, copies, cut, cut_before, joined, put, spell};
-use crate::columns::Skipped;
+use super::pieced::PiecedLine;
 use lsp_rpc::{Encoding, Position};
 use std::alloc::{AllocError, Global};
 use std::marker::Model;
 
-// A place in a line, by its column and the bytes before it.
-#[derive(Clone, Copy)]
-struct Mark {
-    line: usize,
-    encoding: Encoding,
-    column: u32,
-    offset: usize,
-}
-
-/// The lines of a text, its bytes, and the place of the last edit inside a line.
+/// The lines of a text, and its bytes.
 pub(crate) struct Lines {
     alloc: Global,
     items: Vec<HeldLine>,
     bytes: u64,
-    mark: Option<Mark>,
 }
 
 impl Model for Lines {
@@ -52,7 +40,6 @@ impl Drop for Lines {
             alloc: _,
             items: _,
             bytes: _,
-            mark: _,
         } = self;
     }
 }
@@ -66,7 +53,6 @@ impl Lines {
             alloc,
             items: cut(alloc, text)?,
             bytes: text.len() as u64,
-            mark: None,
         })
     }
 
@@ -78,7 +64,6 @@ impl Lines {
             alloc,
             items: copies(alloc, &self.items)?,
             bytes: self.bytes,
-            mark: None,
         })
     }
 
@@ -101,22 +86,6 @@ impl Lines {
         (position.line as usize).min(self.items.len() - 1)
     }
 
-    /// The bytes of a line before its end.
-    pub(crate) fn body_len(&self, i: usize) -> usize
-        requires { i < length (lines_of self.now) }
-        ensures { result ≡ units Encoding.Utf8 (line_at i self.now).text }
-    {
-        self.items[i].counted().body_len()
-    }
-
-    /// The units of a line before its end.
-    pub(crate) fn width(&self, i: usize, encoding: Encoding) -> u64
-        requires { i < length (lines_of self.now) }
-        ensures { result ≡ units encoding (line_at i self.now).text }
-    {
-        self.items[i].counted().width(encoding)
-    }
-
     /// The bytes of the lines from `first` to `last`.
     pub(crate) fn bytes_in(&self, first: usize, last: usize) -> u64
         requires order { first ≤ last }
@@ -127,22 +96,22 @@ impl Lines {
     }
 
     /// Lends a line and its end, and counts their bytes.
-    pub(crate) fn read(&self, i: usize, steps: &mut Steps) -> &str
+    pub(crate) fn read(&self, i: usize, steps: &mut Steps) -> &PiecedLine
         requires { i < length (lines_of self.now) }
-        ensures value { chars result.now ≡ spelled (line_at i self.now) }
-        ensures counted { steps.new ≡ raised steps.old (length result.now) }
+        ensures value { result.now ≡ line_at i self.now }
+        ensures counted { steps.new ≡ raised steps.old (line_bytes self.now i) }
     {
-        let text = self.items[i].counted().as_str();
-        steps.add(text.len());
-        text
+        let line = self.items[i].get();
+        steps.add(line.len());
+        line
     }
 
     /// Lends a line and its end, uncounted.
-    pub(super) fn peek(&self, i: usize) -> &str
+    pub(super) fn peek(&self, i: usize) -> &PiecedLine
         requires { i < length (lines_of self.now) }
-        ensures { chars result.now ≡ spelled (line_at i self.now) }
+        ensures { result.now ≡ line_at i self.now }
     {
-        self.items[i].counted().as_str()
+        self.items[i].get()
     }
 
     /// The characters of the lines before one.
@@ -185,41 +154,8 @@ impl Lines {
     {
         let fresh = cut_before(self.alloc, text, last + 1 < self.items.len())?;
         put(&mut self.items, first, last + 1, fresh)?;
-        self.mark = None;
         self.bytes = bytes;
         Ok(())
-    }
-
-    /// A place known to lie before a column of a line, or at it.
-    pub(crate) fn known_before(&self, i: usize, encoding: Encoding, column: u32) -> Option<Skipped>
-        requires { i < length (lines_of self.now) }
-        ensures { IfSome result (λ skipped. IsSkipped encoding (encodes (line_at i self.now).text) column skipped.bytes skipped.left) }
-    {
-        let mark = self.mark?;
-        if mark.line != i || mark.encoding != encoding || column < mark.column {
-            return None;
-        }
-        Some(Skipped {
-            bytes: mark.offset,
-            left: column - mark.column,
-        })
-    }
-
-    /// Keeps the place of a column in a line, if there is a column.
-    pub(crate) fn mark(&mut self, i: usize, offset: usize, encoding: Encoding, column: Option<u32>)
-        requires line { i < length (lines_of self.old) }
-        requires column { IfSome column (λ n. IsSkipped encoding (encodes (line_at i self.old).text) n offset 0) }
-        ensures { self.new ≡ self.old }
-    {
-        let Some(column) = column else {
-            return;
-        };
-        self.mark = Some(Mark {
-            line: i,
-            encoding,
-            column,
-            offset,
-        });
     }
 
     /// Puts a text in the place of some bytes of a line; the whole has `bytes` bytes then.
@@ -236,8 +172,7 @@ impl Lines {
         ensures ok { OnOk result (self.new ≡ rewritten self.old i i (line_after self.old i from to text.now)) }
         ensures err { OnErr result (self.new ≡ self.old) }
     {
-        self.items[i].replace(from, to, text)?;
-        self.mark = mark_before(self.mark, i, from);
+        self.items[i].replace(self.alloc, from, to, text)?;
         self.bytes = bytes;
         Ok(())
     }
@@ -248,17 +183,6 @@ impl Lines {
     {
         self.bytes
     }
-}
-
-// A mark that an edit from some byte of a line on leaves right.
-fn mark_before(mark: Option<Mark>, i: usize, from: usize) -> Option<Mark>
-    ensures { IfSome result (λ kept. (mark ≡ Some kept) × (kept.line ≡ i) × (kept.offset ≤ from)) }
-{
-    let kept = mark?;
-    if kept.line != i || from < kept.offset {
-        return None;
-    }
-    Some(kept)
 }
 
 /// The bytes lent to edits, and those that they inserted.

@@ -2,8 +2,8 @@ use Rattle.std.proofs.Common.{◌-◌, ◌+◌}
 use Rattle.lsp_judge.proofs.StreamRuns.{SoFar}
 use Rattle.lsp_judge.proofs.frames.write_parts.Given as goal
 
-abbrev pub invariant-loop-decoder : goal.invariant-loop-decoder
-invariant-loop-decoder g l =
+abbrev pub invariant-loop-messages : goal.invariant-loop-messages
+invariant-loop-messages g l =
     SoFar l.fn.limits l.fn.mode
     (record { bytes = g.R.Source.remaining l.fn.reader; failures = g.R.Source.failures l.fn.reader })
     (record { bytes = g.R.Source.remaining l.reader; failures = g.R.Source.failures l.reader })
@@ -11,5 +11,5 @@ invariant-loop-decoder g l =
     (record { bytes = g.W.Sink.taken l.writer; failures = g.W.Sink.failures l.writer })
     l.decoder l.given l.read
 
-abbrev pub decreases-loop-decoder : goal.decreases-loop-decoder
-decreases-loop-decoder g l = l.log + 1 - l.read
+abbrev pub decreases-loop-messages : goal.decreases-loop-messages
+decreases-loop-messages g l = l.log + 1 - l.read

@@ -14,9 +14,9 @@ bytes_more ls i l lt is =
 pub overflow_add-bytes : goal.overflow_add-bytes
 overflow_add-bytes c =
     let e = bytes_more c.args.lines.now c.loop-line.line-index c.line-item.result (omega arith) c.line-item.is in
-    record { fits = omega (arith, ap (λ (l : Line). units Utf8 (spelled l)) c.counted.ensures) }
+    record { fits = omega (arith, ap (λ (l : Line). units Utf8 (spelled l)) c.get.ensures) }
 
 pub loop-line-preserved : goal.loop-line-preserved
 loop-line-preserved c =
     let e = bytes_more c.args.lines.now c.loop-line.line-index c.line-item.result (omega arith) c.line-item.is in
-    omega (arith, ap (λ (l : Line). units Utf8 (spelled l)) c.counted.ensures)
+    omega (arith, ap (λ (l : Line). units Utf8 (spelled l)) c.get.ensures)

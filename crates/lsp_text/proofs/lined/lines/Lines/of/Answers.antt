@@ -14,7 +14,6 @@ invariant_of-result c =
       lines = ap lines_of text ∙ sym c.in_ok-cut.ensures;
       bytes_are = sym (ap (units Utf8) text ∙ units-utf8_text c.args.text.now c.utf8.text);
       fits = omega arith;
-      marked = tt;
     }
 
 pub returns : goal.returns

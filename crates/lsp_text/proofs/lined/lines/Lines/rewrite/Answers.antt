@@ -21,7 +21,7 @@ kept c =
 
 pub invariant_of-self-2 : goal.invariant_of-self-2
 invariant_of-self-2 c =
-    let k = kept (goal.at.invariant_of-self-2 c).In_ok-put in record { lines = k.lines; bytes_are = c.requires.bytes ∙ ap (units Utf8) (sym k.text); fits = omega arith; marked = tt }
+    let k = kept (goal.at.invariant_of-self-2 c).In_ok-put in record { lines = k.lines; bytes_are = c.requires.bytes ∙ ap (units Utf8) (sym k.text); fits = omega arith }
 
 pub returns-clause-ok : goal.returns-clause-ok
 returns-clause-ok c = (kept (goal.at.returns-clause-ok c).In_ok-put).text

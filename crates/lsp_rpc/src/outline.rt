@@ -1,0 +1,248 @@
+//! Reading a content without building what its params and its result hold.
+ghost use Rattle.std.specs.Prelude.{◌≡◌, ◌<◌, List, length, Some, true, false, IfSome, IfOk, IfErr, string_bytes};
+ghost use Rattle.json.specs.Json.{value, members};
+ghost use Rattle.serde_json.specs.Data.{Data, Members, object, no_members};
+ghost use Rattle.serde_json.specs.Read.{of_json, of_members, converted, number_of, number_from, read as read_text};
+ghost use Rattle.serde_json.specs.View.{view, number_view};
+ghost use Rattle.lsp_rpc.specs.Message.{Message as SpecMessage};
+ghost use Rattle.lsp_rpc.specs.Outline.{outline, without_result, part_named, with_part, AreKept};
+ghost use Rattle.lsp_rpc.specs.Reading as reading;
+ghost use Rattle.lsp_rpc.specs.View.{message_view};
+ghost use Rattle.lsp_rpc.specs.Words.{words_of as spec_words_of};
+
+use crate::content::{assemble, read};
+use crate::fault::RpcFault;
+use crate::message::Message;
+use crate::parts::Parts;
+use crate::skip::{has_minus, skip};
+use crate::words::words_of;
+use fast_float::Numeral;
+use json::{Reader, Scratch, Token};
+use serde_json::{Number, Value};
+use std::alloc::Global;
+
+/// How deep values may nest inside the object that a message is.
+const DEPTH: usize = 126;
+
+/// Contents with fewer bytes are read as fast whole.
+const SHORT: usize = 1024;
+
+/// Which part of a message a member is.
+#[derive(Clone, Copy, Debug, PartialEq, Eq)]
+pub(crate) enum Part {
+    Version,
+    Method,
+    Id,
+    Params,
+    Result,
+    Error,
+    Other,
+}
+
+/// Which messages are read apart from what they hold.
+#[derive(Clone, Copy, Debug, PartialEq, Eq)]
+enum Wanted {
+    All,
+    /// Those without a method.
+    Answers,
+}
+
+fn part_named(name: &str) -> Part
+    ensures { result ≡ part_named name.now }
+{
+    match name {
+        "jsonrpc" => Part::Version,
+        "method" => Part::Method,
+        "id" => Part::Id,
+        "params" => Part::Params,
+        "result" => Part::Result,
+        "error" => Part::Error,
+        _ => Part::Other,
+    }
+}
+
+/// The integer that a numeral without a sign writes.
+#[inline(always)]
+fn integer_of(numeral: &Numeral<'_>) -> Option<Number>
+    ensures { IfSome result (λ n. number_from false numeral.now ≡ Some (number_view n)) }
+{
+    let n = numeral.to_u64()?;
+    Number::from_u128(n as u128)
+}
+
+/// The number that the digits write, where it is an integer that is not negative.
+fn natural(digits: &str) -> Option<Number>
+    ensures { IfSome result (λ n. number_of digits.now ≡ Some (number_view n)) }
+{
+    let digits = digits.as_bytes();
+    if has_minus(digits) {
+        return None;
+    }
+    integer_of(&Numeral::scan(digits))
+}
+
+/// The next value, where it is neither an array nor an object.
+fn plain(alloc: Global, reader: &mut Reader<'_>) -> Option<Value>
+    ensures ok { IfSome result (λ v.
+        converted of_json (value DEPTH reader.old) ≡ Some (view v, reader.new)) }
+    ensures shorter { IfSome result (λ v. length reader.new < length reader.old) }
+{
+    match reader.next()? {
+        Token::String(text) => Some(Value::String(String::from_str(alloc, text).ok()?)),
+        Token::Number(digits) => Some(Value::Number(natural(digits)?)),
+        Token::Null => Some(Value::Null),
+        _ => None,
+    }
+}
+
+/// Takes the member of this name into the parts.
+fn take_part(
+    alloc: Global,
+    reader: &mut Reader<'_>,
+    wanted: Wanted,
+    name: &str,
+    parts: &mut Parts,
+) -> Option<()>
+    ensures ok { IfSome result (λ _. (d : Data)
+        × (converted of_json (value DEPTH reader.old) ≡ Some (d, reader.new))
+        × ((p : reading.Parts) → AreKept p parts.old
+        → AreKept (with_part (part_named name.now) d p) parts.new)) }
+    ensures shorter { IfSome result (λ _. length reader.new < length reader.old) }
+{
+    match part_named(name) {
+        Part::Version => parts.version = Some(plain(alloc, reader)?),
+        Part::Method => {
+            if wanted == Wanted::Answers {
+                return None;
+            }
+            parts.method = Some(plain(alloc, reader)?);
+        }
+        Part::Id => parts.id = Some(plain(alloc, reader)?),
+        Part::Error => parts.error = Some(plain(alloc, reader)?),
+        Part::Params => {
+            if !skip(reader, DEPTH)?.fits_params() {
+                return None;
+            }
+        }
+        Part::Result => {
+            let _kind = skip(reader, DEPTH)?;
+            parts.result = Some(Value::Null);
+        }
+        Part::Other => {
+            let _kind = skip(reader, DEPTH)?;
+        }
+    }
+    Some(())
+}
+
+/// The parts of the object that the reader is in.
+fn parts_of_object(alloc: Global, reader: &mut Reader<'_>, wanted: Wanted) -> Option<Parts>
+    ensures { IfSome result (λ parts. (ms : Members)
+        × (converted (λ js. of_members js no_members) (members (value DEPTH) (length reader.old) reader.old)
+        ≡ Some (ms, reader.new)) × AreKept (reading.parts_of (object ms)) parts) }
+{
+    let mut parts = Parts::none();
+    'members: loop {
+        match reader.next_key() {
+            Ok(Some(name)) => take_part(alloc, reader, wanted, name, &mut parts)?,
+            Ok(None) => return Some(parts),
+            Err(_) => return None,
+        }
+    }
+}
+
+/// The parts of the object that the text is.
+fn parts_of_text(alloc: Global, text: &str, scratch: &mut Scratch, wanted: Wanted) -> Option<Parts>
+    ensures { IfSome result (λ parts. (ms : Members) × (read_text text.now ≡ Some (object ms))
+        × AreKept (reading.parts_of (object ms)) parts) }
+{
+    let mut reader = Reader::new(text, scratch).ok()?;
+    let Some(Token::BeginObject) = reader.next() else {
+        return None;
+    };
+    let parts = parts_of_object(alloc, &mut reader, wanted)?;
+    if reader.next().is_some() {
+        return None;
+    }
+    Some(parts)
+}
+
+/// The message of a content apart from its params and its result, where it has the form that most
+/// have: no error, and no params that are refused.
+fn outline_of(
+    alloc: Global,
+    content: &[u8],
+    scratch: &mut Scratch,
+    wanted: Wanted,
+) -> Option<Message>
+    ensures { IfSome result (λ message. (whole : SpecMessage) × reading.Reads content.now whole
+        × (outline (message_view message) ≡ outline whole)) }
+{
+    let text = simdutf8::basic::from_utf8(content).ok()?;
+    let parts = parts_of_text(alloc, text, scratch, wanted)?;
+    match assemble(parts) {
+        Ok(message) => Some(message),
+        Err(_) => None,
+    }
+}
+
+/// Reads contents one after another, apart from what their params and results hold. It keeps the
+/// room that a read needs.
+#[derive(Drop)]
+pub struct OutlineReader {
+    alloc: Global,
+    scratch: Scratch,
+}
+
+impl OutlineReader {
+    /// A reader that has no room yet.
+    pub fn new(alloc: Global) -> OutlineReader {
+        OutlineReader {
+            alloc,
+            scratch: Scratch::new(alloc),
+        }
+    }
+
+    /// Reads a content as [`read`] does (JSON-RPC 2.0, sections 4 and 5), but for the values of its
+    /// params and of its result, which may be left out. The refusal is the least rule that it breaks.
+    pub fn read(&mut self, content: &[u8]) -> Result<Message, RpcFault>
+        ensures ok { IfOk result (λ message. (whole : SpecMessage) × reading.Reads content.now whole
+            × (outline (message_view message) ≡ outline whole)) }
+        ensures rule { IfErr result (reading.IsRefusal content.now) }
+    {
+        match outline_of(self.alloc, content, &mut self.scratch, Wanted::All) {
+            Some(message) => Ok(message),
+            None => read(self.alloc, content),
+        }
+    }
+
+    /// Reads a content as [`read`] does, but for the value of its result, which may be left out. The
+    /// refusal is the least rule that it breaks.
+    pub fn read_answer(&mut self, content: &[u8]) -> Result<Message, RpcFault>
+        ensures ok { IfOk result (λ message. (whole : SpecMessage) × reading.Reads content.now whole
+            × (without_result (message_view message) ≡ without_result whole)) }
+        ensures rule { IfErr result (reading.IsRefusal content.now) }
+    {
+        if content.len() < SHORT {
+            return read(self.alloc, content);
+        }
+        match outline_of(self.alloc, content, &mut self.scratch, Wanted::Answers) {
+            Some(Message::Response { id, answer }) => Ok(Message::Response { id, answer }),
+            _ => read(self.alloc, content),
+        }
+    }
+
+    /// The words that name the message of a content, as [`words_of`] gives them. The refusal is the
+    /// least rule that it breaks.
+    pub fn words(&mut self, content: &[u8]) -> Result<String, RpcFault>
+        ensures ok { IfOk result (λ words. (message : SpecMessage) × reading.Reads content.now message
+            × (string_bytes words ≡ spec_words_of message)) }
+        ensures rule { IfErr result (reading.IsRefusal content.now) }
+    {
+        let message = self.read(content)?;
+        match words_of(self.alloc, &message) {
+            Ok(words) => Ok(words),
+            Err(_) => Err(RpcFault::Memory),
+        }
+    }
+}

@@ -1,0 +1,7 @@
+use Rattle.std.proofs.Common.{◌≡◌, ◌++◌, take}
+use lib.Utf8.{encodes}
+use Rattle.lsp_text.specs.Pieces.{bodies}
+use Rattle.lsp_text.proofs.lined.pieced.strip_bodies.Given as goal
+
+abbrev pub invariant-loop-piece : goal.invariant-loop-piece
+invariant-loop-piece l = l.bytes ≡ encodes (bodies (take l.piece-index l.pieces)) ++ l.rest
