@@ -1,10 +1,10 @@
 -- An edit between two places, as a rewrite of the lines that it touches.
-use Rattle.std.proofs.Common.{◌≡◌, ◌⊎◌, Bool, true, false, IfOk, OnErr, ◌<◌, ◌≤◌, ◌+◌, ◌-◌, ℕ, List, [], ◌∷◌, ◌++◌, length, take, drop, zero, suc, Some, Result, Ok, Err, refl, sym, ap, subst, inl, inr, ⊎_elim, ◌∙◌, arith, length-append, length-drop, take-add}
+use Rattle.std.proofs.Common.{◌≡◌, ◌⊎◌, Bool, true, false, OnErr, ◌<◌, ◌≤◌, ◌+◌, ◌-◌, ℕ, List, [], ◌∷◌, ◌++◌, length, take, drop, zero, suc, Some, Result, Ok, Err, refl, sym, ap, subst, inl, inr, ⊎_elim, ◌∙◌, arith, length-append, length-drop, take-add}
 use Rattle.std.proofs.lemmas.List.{take_at, drop_at, drop-drop, take-append-drop, take-append-le}
 use Rattle.std.proofs.lemmas.Bool.{false≢true, cond-true, cond-false, lt-ltb, le-ltb, cases_lt}
-use Rattle.std.proofs.lemmas.Str.{len_utf8_bounds, chars-append, encodes-chars, encodes-append, scalars-chars, IsUtf8-append, IsCharBoundary-at_seam}
+use Rattle.std.proofs.lemmas.Str.{len_utf8_bounds, chars-append, scalars-chars, IsUtf8-append, IsCharBoundary-at_seam}
 use Rattle.std.specs.Str.{chars, IsUtf8, IsCharBoundary}
-use lib.Utf8.{encodes, scalars}
+use lib.Utf8.{scalars}
 use Rattle.lsp_rpc.specs.declared.plain.Encoding.{Encoding}
 use Rattle.lsp_rpc.specs.declared.plain.Encoding.TheVariants.{Utf8}
 use Rattle.lsp_rpc.specs.declared.plain.Span.{Span}
@@ -69,21 +69,6 @@ are_outside t first second bytes cut f s lines order all gone =
     let after = units_after t second s in
     let most = units_outside t (place_from t first) (place_from t second) order in
     record { within = omega arith; sum = omega arith; most = omega arith }
-
--- the bytes of the text that takes the lines' place
-pub units_middle : (t : List ℕ) (first second : Spot) (x : List ℕ) → IsIn t first → IsIn t second →
-    units Utf8 (middle_text t first second x) ≡ units Utf8 (line_before t first.number) + first.offset + units Utf8 x + length (rest_of t second)
-units_middle t first second x f s =
-    let before = line_before t first.number in
-    omega (
-      arith,
-      units-append Utf8 ((before ++ chars (front_of t first)) ++ x) (chars (rest_of t second)),
-      units-append Utf8 (before ++ chars (front_of t first)) x,
-      units-append Utf8 before (chars (front_of t first)),
-      units-utf8_text (front_of t first) f.before_utf8,
-      units-utf8_text (rest_of t second) s.after_utf8,
-      f.len,
-    )
 
 -- the characters of four texts, joined
 pub chars_joined : (a b x d : List ℕ) → IsUtf8 a → IsUtf8 b → IsUtf8 x → chars (((a ++ b) ++ x) ++ d) ≡ ((chars a ++ chars b) ++ chars x) ++ chars d
@@ -328,10 +313,6 @@ spots_ordered t f s b hf hs off h =
       spot_le t f s hf hs lines
           (λ e. ⊎_elim (λ lt. absurd (false≢true (sym off ∙ h (inr (sym e, lt))))) (λ ge. ge) (cases_lt (s.offset) (f.offset))),
     )
-
-pub if_ok_map : {A E : Type 0} (P Q : A → Type 0) (r : Result A E) → ((x : A) → P x → Q x) → IfOk r P → IfOk r Q
-if_ok_map P Q (Ok x) f h = f x h
-if_ok_map P Q (Err e) f h = tt
 
 pub on_err : {A E : Type 0} {P : Type 0} (r : Result A E) → P → OnErr r P
 on_err (Ok x) h = tt

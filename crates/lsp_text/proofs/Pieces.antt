@@ -1,14 +1,14 @@
 -- Pieces of a line: their characters, columns and bytes.
 use Rattle.std.proofs.Math.Seq.{take-append-add, drop-append-add}
-use Rattle.std.proofs.Common.{◌≡◌, ◌⊎◌, ◌<◌, ◌≤◌, ◌+◌, ◌-◌, ℕ, true, List, [], ◌∷◌, ◌++◌, length, take, drop, get_or, set, Option, Some, None, MatchOption, Result, Ok, Err, OnOk, Bor, refl, sym, ap, subst, ◌∙◌, inl, inr, ⊎_elim, arith, append_assoc, length-append, length-drop}
-use Rattle.std.proofs.lemmas.List.{append-nil, take-append-drop, at_drop_more, take_more, drop_more, take_at, drop_at, take-append-le, drop-append-le, drop-drop, length-take-le, set_at, take_all, drop_all, get_or_default, get_or_past}
+use Rattle.std.proofs.Common.{◌≡◌, ◌⊎◌, ◌<◌, ◌≤◌, ◌+◌, ◌-◌, ℕ, true, List, [], ◌∷◌, ◌++◌, length, take, drop, get_or, Option, Some, None, MatchOption, Result, Ok, Err, OnOk, Bor, refl, sym, ap, subst, ◌∙◌, inl, inr, ⊎_elim, arith, append_assoc, length-append}
+use Rattle.std.proofs.lemmas.List.{append-nil, take-append-drop, at_drop_more, take_more, take_at, take-append-le, drop-append-le, take_all, get_or_default, get_or_past}
 use Rattle.std.proofs.lemmas.Bool.{cond-true, cond-false, lt-ltb, le-ltb, cases_lt}
 use Rattle.std.specs.Bool.{if◌then◌else◌}
 use Rattle.std.specs.Result.{is_ok}
-use Rattle.std.specs.List.{flat_map, replace_range}
+use Rattle.std.specs.List.{replace_range}
 use Rattle.std.specs.Option.{option_map}
 use Rattle.std.specs.Str.{chars, IsUtf8, IsCharBoundary}
-use Rattle.std.proofs.lemmas.Str.{chars-append, chars-encodes, encodes-append, encodes-chars, scalars-chars, IsUtf8-append, IsUtf8-take, IsUtf8-drop, IsCharBoundary-from_drop, IsCharBoundary-at_seam, len_utf8_bounds}
+use Rattle.std.proofs.lemmas.Str.{chars-append, chars-encodes, encodes-append, encodes-chars, IsUtf8-append, IsUtf8-drop, IsCharBoundary-from_drop, IsCharBoundary-at_seam}
 use lib.Utf8.{encodes, scalars}
 use Rattle.lsp_rpc.specs.declared.plain.Encoding.{Encoding}
 use Rattle.lsp_rpc.specs.declared.plain.Encoding.TheVariants.{Utf8}

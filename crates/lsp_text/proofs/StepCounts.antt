@@ -20,10 +20,6 @@ min-twice most count a b = omega arith
 pub raised-raised : (count a b : ℕ) → raised (raised count a) b ≡ raised count (a + b)
 raised-raised count a b = min-twice (2 ^ 64 - 1) count a b
 
--- the bytes of a line that was lent
-pub lent_bytes : (t bs : List ℕ) (i : ℕ) → IsUtf8 bs → chars bs ≡ spelled (line_at i t) → length bs ≡ line_bytes t i
-lent_bytes t bs i u is = sym (units-utf8_text bs u) ∙ ap (units Utf8) is
-
 -- the bytes of some lines
 lines_bytes : List Line → ℕ → ℕ → ℕ
 lines_bytes ls a b = units Utf8 (text_of (take (b - a) (drop a ls)))

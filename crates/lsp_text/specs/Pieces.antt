@@ -1,5 +1,5 @@
 -- Pieces of a line.
-use Rattle.std.specs.Prelude.{◌≡◌, ◌<◌, ◌≤◌, ◌+◌, ◌^◌, ℕ, List, [], Option, Box, ◌++◌, length, take, slice_index_or, slice_set, ◌-◌}
+use Rattle.std.specs.Prelude.{◌≡◌, ◌<◌, ◌≤◌, ◌+◌, ℕ, List, [], Option, Box, ◌++◌, length, take, slice_index_or, slice_set, ◌-◌}
 use Rattle.std.specs.List.{flat_map, replace_range}
 use Rattle.std.specs.Str.{chars}
 use lib.Utf8.{encodes}

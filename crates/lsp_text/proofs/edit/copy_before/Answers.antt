@@ -1,11 +1,11 @@
-use Rattle.std.proofs.Common.{◌≡◌, ◌++◌, true, List, ℕ, arith, ap, sym, subst, ◌∙◌}
+use Rattle.std.proofs.Common.{◌≡◌, ◌++◌, true, List, ℕ, arith, ap, sym, ◌∙◌}
 use lib.Utf8.{encodes, scalars}
 use Rattle.lsp_rpc.specs.declared.plain.Encoding.TheVariants.{Utf8}
-use Rattle.lsp_text.specs.Lines.{Line, spelled}
+use Rattle.lsp_text.specs.Lines.{spelled}
 use Rattle.lsp_text.specs.Places.{units}
 use Rattle.lsp_text.specs.Steps.{raised}
 use Rattle.lsp_text.specs.Spots.{line_before}
-use Rattle.lsp_text.proofs.Spotting.{line_before-none, line_before-some}
+use Rattle.lsp_text.proofs.Spotting.{line_before-some}
 use Rattle.lsp_text.proofs.edit.copy_before.Goals as goal
 use Rattle.lsp_text.proofs.edit.copy_before.Goals.{After-read-line}
 

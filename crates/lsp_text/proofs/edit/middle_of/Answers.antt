@@ -1,4 +1,4 @@
-use Rattle.std.proofs.Common.{◌≡◌, ◌++◌, List, ℕ, take, drop, refl, arith, ap, sym, ◌∙◌}
+use Rattle.std.proofs.Common.{◌≡◌, ◌++◌, List, ℕ, take, drop, refl, arith, ap, ◌∙◌}
 use Rattle.std.specs.Str.{chars}
 use Rattle.std.specs.String.{string_bytes}
 use Rattle.std.proofs.lemmas.Str.{chars-encodes}
@@ -7,7 +7,6 @@ use Rattle.lsp_rpc.specs.declared.plain.Encoding.TheVariants.{Utf8}
 use Rattle.lsp_text.specs.Lines.{Line, spelled}
 use Rattle.lsp_text.specs.Places.{units}
 use Rattle.lsp_text.specs.Spots.{front_of, rest_of, line_before}
-use Rattle.lsp_text.proofs.Counting.{units-utf8}
 use Rattle.lsp_text.proofs.Editing.{chars_joined, offset_le, offset_before_end}
 use Rattle.lsp_text.proofs.edit.middle_of.Goals as goal
 

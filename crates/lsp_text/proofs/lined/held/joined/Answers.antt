@@ -2,8 +2,8 @@ use Rattle.std.proofs.Common.{◌++◌, take, ap, sym, ◌∙◌, arith}
 use Rattle.std.specs.Str.{chars}
 use Rattle.std.specs.String.{string_bytes}
 use Rattle.std.proofs.lemmas.Str.{IsUtf8-string_bytes, chars-append, chars-nil, chars-encodes}
-use lib.Utf8.{encodes, scalars}
-use Rattle.lsp_text.specs.Lines.{Line, text_of, spelled}
+use lib.Utf8.{encodes}
+use Rattle.lsp_text.specs.Lines.{text_of, spelled}
 use Rattle.lsp_text.proofs.HeldText.{text_to}
 use Rattle.lsp_text.proofs.lined.held.joined.Goals as goal
 

@@ -1,9 +1,8 @@
-use Rattle.std.proofs.Common.{◌≡◌, ◌++◌, ◌+◌, length, take, drop, arith, ap, sym, subst, ◌∙◌}
+use Rattle.std.proofs.Common.{◌≡◌, ◌+◌, length, drop, arith, ap, sym, ◌∙◌}
 use Rattle.std.proofs.lemmas.Bool.{false≢true, eqb-true, eq-eqb}
 use Rattle.std.proofs.lemmas.List.{nil_from_length}
 use lib.Utf8.{encodes}
 use Rattle.lsp_text.specs.Lines.{Line, spelled, text_of}
-use Rattle.lsp_text.specs.Pieces.{BeginsOtherwise}
 use Rattle.lsp_text.proofs.HeldText.{spell_more, spell_next, spell_end}
 use Rattle.lsp_text.proofs.lined.held.spell.Goals as goal
 

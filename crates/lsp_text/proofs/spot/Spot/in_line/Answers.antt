@@ -1,4 +1,4 @@
-use Rattle.std.proofs.Common.{◌≡◌, ◌+◌, ℕ, length, take, arith, ap, sym, ◌∙◌}
+use Rattle.std.proofs.Common.{◌+◌, ℕ, length, take, arith, ap, sym, ◌∙◌}
 use Rattle.std.specs.Option.{option_map}
 use Rattle.lsp_text.specs.Lines.{Line, lines_of, text_of}
 use Rattle.lsp_text.specs.Places.{place_in_line}

@@ -1,6 +1,5 @@
 use Rattle.std.proofs.Common.{sym, subst, ap, take, List, ℕ, ◌∙◌}
 use Rattle.std.specs.Str.{chars, IsCharBoundary}
-use Rattle.std.specs.String.{string_bytes}
 use Rattle.lsp_text.specs.Lines.{Line}
 use Rattle.lsp_text.proofs.lined.counted.CountedLine.body.Goals as goal
 

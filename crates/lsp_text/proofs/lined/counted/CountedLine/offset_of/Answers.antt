@@ -1,4 +1,4 @@
-use Rattle.std.proofs.Common.{◌≡◌, sym, subst, ap, List, ℕ, ◌∙◌, Option, None, MatchOption}
+use Rattle.std.proofs.Common.{◌≡◌, sym, subst, ap, List, ℕ, ◌∙◌, None, MatchOption}
 use Rattle.std.specs.Str.{chars}
 use Rattle.std.proofs.lemmas.Str.{encodes-chars}
 use lib.Utf8.{encodes}

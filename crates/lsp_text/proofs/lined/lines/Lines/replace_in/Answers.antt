@@ -1,9 +1,9 @@
-use Rattle.std.proofs.Common.{◌≡◌, List, [], length, set, get_or, refl, arith, ap, sym, subst, ◌∙◌}
+use Rattle.std.proofs.Common.{◌≡◌, List, length, set, refl, arith, ap, sym, subst, ◌∙◌}
 use Rattle.std.specs.List.{replace_range}
 use Rattle.std.specs.Str.{chars, IsCharBoundary}
 use lib.Utf8.{encodes}
 use Rattle.lsp_rpc.specs.declared.plain.Encoding.TheVariants.{Utf8}
-use Rattle.lsp_text.specs.Lines.{Line, open_line, spelled, lines_of, text_of}
+use Rattle.lsp_text.specs.Lines.{Line, spelled, lines_of, text_of}
 use Rattle.lsp_text.specs.Places.{units}
 use Rattle.lsp_text.specs.Steps.{line_at}
 use Rattle.lsp_text.specs.Rewriting.{with_text}

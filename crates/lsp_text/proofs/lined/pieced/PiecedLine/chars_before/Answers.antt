@@ -1,14 +1,14 @@
-use Rattle.std.proofs.Common.{◌≡◌, ◌+◌, ◌++◌, List, ℕ, length, take, arith, ap, sym, subst, ◌∙◌, length-append}
-use Rattle.std.specs.Str.{chars, IsCharBoundary}
-use Rattle.std.proofs.lemmas.Str.{encodes-chars, chars-append}
+use Rattle.std.proofs.Common.{◌≡◌, ◌+◌, ◌++◌, List, ℕ, length, take, arith, ap, sym, ◌∙◌, length-append}
+use Rattle.std.specs.Str.{chars}
+use Rattle.std.proofs.lemmas.Str.{chars-append}
 use lib.Utf8.{encodes, scalars}
 use Rattle.lsp_rpc.specs.declared.plain.Encoding.TheVariants.{Utf8}
 use Rattle.lsp_text.specs.Lines.{Line, spelled}
 use Rattle.lsp_text.specs.Places.{units}
-use Rattle.lsp_text.specs.Pieces.{pieces_in, bytes_in, bodies}
+use Rattle.lsp_text.specs.Pieces.{pieces_in, bodies}
 use Rattle.lsp_text.proofs.Counting.{units-append, scalars-parts}
 use Rattle.lsp_text.proofs.HeldText.{length_le_units}
-use Rattle.lsp_text.proofs.Pieces.{IsHere, is_here, IsByteOf, is_byte_of, length_to_le, line_pieces, front_chars_le, IsInPiece}
+use Rattle.lsp_text.proofs.Pieces.{length_to_le, line_pieces, front_chars_le, IsInPiece}
 use Rattle.lsp_text.proofs.lined.pieced.PiecedLine.chars_before.Goals as goal
 use Rattle.lsp_text.proofs.lined.pieced.PiecedLine.chars_before.Goals.{After-body, After-measure}
 

@@ -1,7 +1,6 @@
-use Rattle.std.proofs.Common.{◌+◌, ◌++◌, List, length, arith, ap, length-append}
-use Rattle.lsp_rpc.specs.declared.plain.Encoding.TheVariants.{Utf8}
+use Rattle.std.proofs.Common.{◌++◌, List, length, arith, ap, length-append}
 use Rattle.lsp_text.specs.Lines.{Line, spelled}
-use Rattle.lsp_text.specs.Pieces.{pieces_in, bytes_in, bodies}
+use Rattle.lsp_text.specs.Pieces.{pieces_in, bodies}
 use Rattle.lsp_text.proofs.HeldText.{length_le_units}
 use Rattle.lsp_text.proofs.lined.pieced.PiecedLine.count.Goals as goal
 

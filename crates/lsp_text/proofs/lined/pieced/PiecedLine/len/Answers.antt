@@ -2,7 +2,7 @@ use Rattle.std.proofs.Common.{◌++◌, arith, ap}
 use Rattle.lsp_rpc.specs.declared.plain.Encoding.TheVariants.{Utf8}
 use Rattle.lsp_text.specs.Lines.{Line, spelled}
 use Rattle.lsp_text.specs.Places.{units}
-use Rattle.lsp_text.specs.Pieces.{pieces_in, bytes_in, bodies}
+use Rattle.lsp_text.specs.Pieces.{pieces_in, bodies}
 use Rattle.lsp_text.proofs.Counting.{units-append}
 use Rattle.lsp_text.proofs.lined.pieced.PiecedLine.len.Goals as goal
 

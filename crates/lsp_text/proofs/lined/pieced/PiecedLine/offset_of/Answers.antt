@@ -1,10 +1,10 @@
-use Rattle.std.proofs.Common.{◌+◌, ◌≡◌, ◌++◌, None, List, ℕ, take, arith, ap, subst, ◌∙◌, sym}
+use Rattle.std.proofs.Common.{◌+◌, ◌++◌, take, arith, ap, subst, ◌∙◌, sym}
 use lib.Utf8.{encodes}
 use Rattle.lsp_rpc.specs.declared.plain.Encoding.TheVariants.{Utf8}
 use Rattle.lsp_text.specs.Lines.{Line}
 use Rattle.lsp_text.specs.Places.{units, place_in_line}
 use Rattle.lsp_text.specs.Offsets.{IsOffset}
-use Rattle.lsp_text.specs.Pieces.{pieces_in, bytes_in, bodies}
+use Rattle.lsp_text.specs.Pieces.{pieces_in, bodies}
 use Rattle.lsp_text.proofs.Pieces.{IsHere, is_here, none_in_part, offset_in_part}
 use Rattle.lsp_text.proofs.Counting.{units-append, units-utf8}
 use Rattle.lsp_text.proofs.lined.pieced.PiecedLine.offset_of.Goals as goal

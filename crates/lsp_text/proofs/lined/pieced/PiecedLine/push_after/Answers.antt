@@ -5,7 +5,7 @@ use Rattle.std.proofs.lemmas.List.{get_or_default, take_all}
 use Rattle.std.proofs.lemmas.Str.{encodes-chars}
 use lib.Utf8.{encodes}
 use Rattle.lsp_text.specs.Lines.{Line, spelled}
-use Rattle.lsp_text.specs.Pieces.{pieces_in, bytes_in, bodies, piece_at}
+use Rattle.lsp_text.specs.Pieces.{pieces_in, bodies, piece_at}
 use Rattle.lsp_text.proofs.Pieces.{line_pieces, IsInPiece, on_pushed}
 use Rattle.lsp_text.proofs.PieceEdits.{rest_inside, rest_last, IsRestLast}
 use Rattle.lsp_text.proofs.lined.pieced.PiecedLine.push_after.Goals as goal

@@ -2,7 +2,7 @@ use Rattle.std.proofs.Common.{◌≡◌, ◌++◌, List, ℕ, take, ap, sym, ◌
 use Rattle.std.specs.String.{string_bytes}
 use lib.Utf8.{encodes}
 use Rattle.lsp_text.specs.Lines.{Line, spelled}
-use Rattle.lsp_text.specs.Pieces.{pieces_in, bytes_in, bodies}
+use Rattle.lsp_text.specs.Pieces.{pieces_in, bodies}
 use Rattle.lsp_text.proofs.Pieces.{line_pieces, IsInPiece, on_pushed}
 use Rattle.lsp_text.proofs.lined.pieced.PiecedLine.push_before.Goals as goal
 use Rattle.lsp_text.proofs.lined.pieced.PiecedLine.push_before.Goals.{After-body}

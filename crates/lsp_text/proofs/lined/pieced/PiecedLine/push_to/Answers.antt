@@ -3,7 +3,7 @@ use Rattle.std.specs.String.{string_bytes}
 use Rattle.std.proofs.lemmas.Str.{encodes-chars}
 use lib.Utf8.{encodes}
 use Rattle.lsp_text.specs.Lines.{Line, spelled}
-use Rattle.lsp_text.specs.Pieces.{pieces_in, bytes_in, bodies}
+use Rattle.lsp_text.specs.Pieces.{pieces_in, bodies}
 use Rattle.lsp_text.proofs.Pieces.{line_bytes_are, on_pushed}
 use Rattle.lsp_text.proofs.lined.pieced.PiecedLine.push_to.Goals as goal
 

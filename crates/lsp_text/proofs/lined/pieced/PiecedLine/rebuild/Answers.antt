@@ -1,12 +1,11 @@
-use Rattle.std.proofs.Common.{◌≡◌, ◌++◌, ◌-◌, true, List, ℕ, length, take, drop, refl, arith, ap, sym, subst, ◌∙◌, length-append, length-drop}
+use Rattle.std.proofs.Common.{◌≡◌, ◌++◌, ◌-◌, true, List, ℕ, length, take, drop, arith, ap, sym, subst, ◌∙◌}
 use Rattle.std.specs.List.{replace_range}
-use Rattle.std.specs.Str.{chars, IsCharBoundary}
-use Rattle.std.specs.String.{string_bytes}
+use Rattle.std.specs.Str.{chars}
 use lib.Utf8.{encodes, scalars}
 use Rattle.lsp_rpc.specs.declared.plain.Encoding.TheVariants.{Utf8}
 use Rattle.lsp_text.specs.Lines.{Line, spelled}
 use Rattle.lsp_text.specs.Places.{units}
-use Rattle.lsp_text.proofs.Counting.{units-append, units-utf8}
+use Rattle.lsp_text.proofs.Counting.{units-append}
 use Rattle.lsp_text.proofs.PieceEdits.{is_remade, IsRemade, same_line}
 use Rattle.lsp_text.proofs.lined.pieced.PiecedLine.rebuild.Goals as goal
 use Rattle.lsp_text.proofs.lined.pieced.PiecedLine.rebuild.Goals.{After-as_str-whole}

@@ -1,17 +1,13 @@
-use Rattle.std.proofs.Common.{◌≡◌, ◌≤◌, ◌<◌, ◌+◌, ◌-◌, ◌^◌, ◌++◌, true, List, [], ℕ, length, get_or, set, arith, ap, sym, subst, ◌∙◌}
-use Rattle.std.proofs.lemmas.List.{get_or_default, get_or_past}
-use Rattle.std.specs.List.{replace_range}
-use Rattle.std.specs.Str.{chars, IsCharBoundary}
+use Rattle.std.proofs.Common.{◌≡◌, ◌≤◌, ◌<◌, ◌+◌, ◌-◌, ◌^◌, ◌++◌, true, List, [], ℕ, length, get_or, arith, ap, sym, subst, ◌∙◌}
+use Rattle.std.proofs.lemmas.List.{get_or_past}
+use Rattle.std.specs.Str.{IsCharBoundary}
 use lib.Utf8.{encodes, scalars}
 use Rattle.lsp_rpc.specs.declared.plain.Encoding.TheVariants.{Utf8}
 use Rattle.lsp_text.specs.Lines.{Line, spelled, open_line}
 use Rattle.lsp_text.specs.Places.{units}
-use Rattle.lsp_text.specs.Rewriting.{with_text}
 use Rattle.lsp_text.specs.Pieces.{pieces_in, bytes_in, bodies, piece_at}
 use Rattle.lsp_text.specs.declared.lined.pieced.Front.{Front}
 use Rattle.lsp_text.proofs.PieceEdits.{IsPieceEdit, is_piece_edit, last_view, piece_in, front_edit, front_fits, line_units, either, on_ok_map, units_piece_le}
-use Rattle.lsp_text.proofs.Counting.{units-append}
-use Rattle.std.proofs.lemmas.Str.{IsUtf8-append}
 use Rattle.lsp_text.proofs.lined.pieced.PiecedLine.replace.Goals as goal
 use Rattle.lsp_text.proofs.lined.pieced.PiecedLine.replace.Goals.{Then-found-front, After-deref_mut}
 

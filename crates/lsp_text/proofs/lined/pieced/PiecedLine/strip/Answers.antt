@@ -1,8 +1,8 @@
-use Rattle.std.proofs.Common.{◌≡◌, ◌++◌, List, ℕ, Option, None, MatchOption, Bor, subst, ap, sym, ◌∙◌}
+use Rattle.std.proofs.Common.{◌≡◌, ◌++◌, List, ℕ, MatchOption, Bor, subst, ap, sym, ◌∙◌}
 use Rattle.std.proofs.lemmas.Str.{encodes-chars}
 use lib.Utf8.{encodes}
 use Rattle.lsp_text.specs.Lines.{Line, spelled}
-use Rattle.lsp_text.specs.Pieces.{pieces_in, bytes_in, bodies, BeginsOtherwise}
+use Rattle.lsp_text.specs.Pieces.{pieces_in, bodies, BeginsOtherwise}
 use Rattle.lsp_text.proofs.Pieces.{line_bytes_are, strip_both, strip_first}
 use Rattle.lsp_text.proofs.lined.pieced.PiecedLine.strip.Goals as goal
 
