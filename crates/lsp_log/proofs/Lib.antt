@@ -10,6 +10,8 @@ pub mod Breaking
 pub mod Reading
 pub mod Ended
 pub mod OneLog
+pub mod SomeHead
+pub mod SomeLog
 pub mod Callers
 mod Rows
 pub mod FirstLines

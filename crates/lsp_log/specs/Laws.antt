@@ -9,6 +9,10 @@ use Rattle.lsp_log.specs.Log.{Record, Fits, spelling, first_line, BeginsLog, IsL
 abbrev pub OneLog : Type 0
 OneLog = (limits : Bounds) → IsInRange limits → (bytes : List ℕ) (rs us : List Record) (f g : Option (ℕ × LogCode)) → IsLog limits bytes rs f → IsLog limits bytes us g → (rs ≡ us) × (f ≡ g)
 
+-- **All bytes are a log.**
+abbrev pub SomeLog : Type 0
+SomeLog = (limits : Bounds) (bytes : List ℕ) → (records : List Record) × (fault : Option (ℕ × LogCode)) × IsLog limits bytes records fault
+
 -- **Records that a log begins with are the first of its records.**
 abbrev pub RecordsComeFirst : Type 0
 RecordsComeFirst = (limits : Bounds) → IsInRange limits → (bytes rest : List ℕ) (rs us : List Record) (f : Option (ℕ × LogCode)) → BeginsLog limits bytes rs rest → IsLog limits bytes us f → (others : List Record) × (us ≡ rs ++ others)

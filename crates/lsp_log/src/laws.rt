@@ -1,5 +1,10 @@
 //! Laws of logs, each the contract of a function that does nothing.
-ghost use Rattle.lsp_log.specs.Laws.{OneLog, RecordsComeFirst, WrittenIsRead};
+ghost use Rattle.lsp_log.specs.Laws.{SomeLog, OneLog, RecordsComeFirst, WrittenIsRead};
+
+/// All bytes are the log of some records, with some fault or none.
+pub fn some_log()
+    ensures { SomeLog }
+{}
 
 /// Bytes are the log of one list of records, with one fault or none.
 pub fn one_log()
