@@ -2,3 +2,4 @@ pub mod IdLemmas
 pub mod Readings
 pub mod Skipping
 pub mod Outlining
+pub mod Editing

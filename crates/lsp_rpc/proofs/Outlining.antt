@@ -14,7 +14,7 @@ use Rattle.lsp_rpc.specs.Words.{words_of}
 
 -- ---- one member more
 
-differ : (q k : List ℕ) → bytes_eq q k ≡ false → q ≡ k → ⊥
+pub differ : (q k : List ℕ) → bytes_eq q k ≡ false → q ≡ k → ⊥
 differ q k h e = true≢false (sym ((bytes_eq-Decides q k).1 e) ∙ h)
 
 turned : (q k : List ℕ) → bytes_eq k q ≡ false → q ≡ k → ⊥

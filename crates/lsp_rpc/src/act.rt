@@ -1,4 +1,4 @@
-use crate::message::Id;
+use crate::message::{Id, Message};
 use crate::plain::{Span, SyncKind};
 
 /// What the editor offers in its `initialize` (LSP 3.17, Initialize Request). `None` stands for a
@@ -76,4 +76,11 @@ pub enum Act {
     },
     /// Any other message. Its params are not read.
     Other,
+}
+
+/// A message with what it means to the session of its side. Its params are left out.
+#[derive(Debug, Drop)]
+pub struct Spoken {
+    pub message: Message,
+    pub act: Act,
 }

@@ -3,17 +3,22 @@
 //!
 //! `read` gives the message of a content, `act_of` and `take_act` what a message means on its side,
 //! `picked_of` what the result of an `initialize` picks, and `words_of` the words that name a
-//! message.
+//! message. An `OutlineReader` reads contents without building what is not asked for.
 #![tactic(auto)]
 
 mod act;
 mod changes;
 mod content;
+mod did_change;
+#[cfg(test)]
+mod did_change_tests;
 mod documents;
+mod edits;
 mod fault;
 mod ids;
 mod initialize;
 mod laws;
+mod members;
 mod memory;
 mod message;
 mod methods;
@@ -30,7 +35,7 @@ mod skip;
 mod tests;
 mod words;
 
-pub use act::{Act, Change, Offer, Picked};
+pub use act::{Act, Change, Offer, Picked, Spoken};
 pub use content::read;
 pub use fault::RpcFault;
 pub use ids::{copy_id, same_id};

@@ -5,12 +5,16 @@ ghost use Rattle.serde_json.specs.Data.{Data, Members, object, no_members};
 ghost use Rattle.serde_json.specs.Read.{of_json, of_members, converted, number_of, number_from, read as read_text};
 ghost use Rattle.serde_json.specs.View.{view, number_view};
 ghost use Rattle.lsp_rpc.specs.Message.{Message as SpecMessage};
-ghost use Rattle.lsp_rpc.specs.Outline.{outline, without_result, part_named, with_part, AreKept};
+ghost use Rattle.lsp_rpc.specs.Outline.{outline, without_params, without_result, part_named, with_part, AreKept};
+ghost use Rattle.lsp_rpc.specs.Params.{act_at};
+ghost use Rattle.lsp_rpc.specs.declared.plain.Side.TheVariants.{Editor};
 ghost use Rattle.lsp_rpc.specs.Reading as reading;
-ghost use Rattle.lsp_rpc.specs.View.{message_view};
+ghost use Rattle.lsp_rpc.specs.View.{act_view, message_view};
 ghost use Rattle.lsp_rpc.specs.Words.{words_of as spec_words_of};
 
+use crate::act::Spoken;
 use crate::content::{assemble, read};
+use crate::did_change::spoken_change;
 use crate::fault::RpcFault;
 use crate::message::Message;
 use crate::parts::Parts;
@@ -230,6 +234,18 @@ impl OutlineReader {
             Some(Message::Response { id, answer }) => Ok(Message::Response { id, answer }),
             _ => read(self.alloc, content),
         }
+    }
+
+    /// Reads a `textDocument/didChange` of the editor (LSP 3.17, Text Document Synchronization) with
+    /// what it means. `None` where the content is another message or none, where its members have an
+    /// uncommon form, and where memory was refused: [`read`] and [`take_act`](crate::take_act) tell
+    /// what it is.
+    pub fn read_change(&mut self, content: &[u8]) -> Option<Spoken>
+        ensures { IfSome result (λ spoken. (whole : SpecMessage) × reading.Reads content.now whole
+            × (message_view spoken.message ≡ without_params whole)
+            × (act_at Editor whole ≡ Some (act_view spoken.act))) }
+    {
+        spoken_change(self.alloc, content, &mut self.scratch)
     }
 
     /// The words that name the message of a content, as [`words_of`] gives them. The refusal is the
