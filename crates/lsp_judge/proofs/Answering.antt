@@ -11,7 +11,7 @@ use Rattle.lsp_docs.specs.Snapshots.{unmatched}
 use Rattle.lsp_docs.specs.State.{capped}
 use Rattle.lsp_rpc.specs.declared.plain.Side.TheVariants.{Editor, Server}
 use Rattle.lsp_log.specs.declared.fault.LogCode.{LogCode}
-use Rattle.lsp_log.specs.Log.{Record, spelling, first_line, BeginsLog, IsLog}
+use Rattle.lsp_log.specs.Log.{Record, spelling, first_line, IsLog}
 use Rattle.lsp_judge.specs.declared.outcome.Outcome.{Outcome}
 use Rattle.lsp_judge.specs.declared.outcome.Outcome.TheVariants.{Judged}
 use Rattle.lsp_judge.specs.declared.outcome.RunFault.{RunFault}
@@ -20,14 +20,14 @@ use Rattle.lsp_judge.specs.declared.verdict.Verdict as code
 use Rattle.lsp_judge.specs.declared.verdict.Verdict.TheVariants as verdicts
 use Rattle.lsp_judge.specs.declared.verdict.Who.{Who}
 use Rattle.lsp_judge.specs.declared.verdict.Who.TheVariants as who
-use Rattle.lsp_judge.specs.Answered.{NamesFirst, NamesRest, IsRefused, NoneOffends, AreClean, IsClean, SaysYes}
+use Rattle.lsp_judge.specs.Answered.{NamesFirst, NamesRest, NoneOffends, AreClean, IsClean, SaysYes}
 use Rattle.lsp_judge.specs.Calls.{call_at, calls}
 use Rattle.lsp_judge.specs.Event.{Event}
 use Rattle.lsp_judge.specs.Given.{verdict_view, as_given}
-use Rattle.lsp_judge.specs.Headline.{Names, HasRest107, Refuses, HasFault}
-use Rattle.lsp_judge.specs.Kept.{AreKept, IsKept}
+use Rattle.lsp_judge.specs.Headline.{Names, HasRest107}
+use Rattle.lsp_judge.specs.Kept.{AreKept}
 use Rattle.lsp_judge.specs.Logged.{Answers}
-use Rattle.lsp_judge.specs.Outcome.{ending, IsFinal, IsVerdict, IsNo, Judges}
+use Rattle.lsp_judge.specs.Outcome.{ending, IsFinal, IsVerdict}
 use Rattle.lsp_judge.specs.Placed.{Raw, Reads, IsSession}
 use Rattle.lsp_judge.specs.RunIo.{OfRead, AppendsFront}
 use Rattle.lsp_judge.specs.Rulings.{verdict_in}
@@ -35,10 +35,9 @@ use Rattle.lsp_judge.specs.Standing.{HasOffence, State, Stands}
 use Rattle.lsp_judge.specs.Verdict.{Verdict, Summary, yes, no, bad_log, summary, is_of, is_snapshot, belongs_to, count_of, whose, no_next, first_no}
 use Rattle.lsp_judge.proofs.EventCounts.{events_few, count_few, unmatched_events}
 use Rattle.lsp_judge.proofs.Finals.{capped_is, open_clean}
-use Rattle.lsp_judge.proofs.Logging.{as_some, records_fewer, some_final}
-use Rattle.lsp_judge.proofs.Logs.{one_verdict}
-use Rattle.lsp_judge.proofs.Meanings.{are_kept, bad_log_has, by_says_no, final_no, final_yes, is_yes_given, kept_means_yes, no_names, yes_answer_means_kept}
-use Rattle.lsp_judge.proofs.Meanings as meanings
+use Rattle.lsp_judge.proofs.Logging.{as_some, records_fewer}
+use Rattle.lsp_judge.proofs.Logs.{some_final, one_verdict}
+use Rattle.lsp_judge.proofs.Meanings.{are_kept, bad_log_has, final_no, final_yes, is_yes_given, kept_means_yes}
 use Rattle.lsp_judge.proofs.Records.{is_open, offence_in}
 use Rattle.lsp_judge.proofs.Sessions.{same_session, some_session}
 use Rattle.lsp_judge.proofs.Verdicts.{names_first, nothing_offends, is_yes, yes_where}
@@ -61,7 +60,7 @@ is_met (Some []) p = refl
 is_met (Some (b ∷ bs)) p = absurd cc
 
 abbrev HasVerdict : Bounds → List ℕ → Verdict → Type 0
-HasVerdict limits log given = (v : Verdict) × Judges limits log v × (given ≡ as_given v)
+HasVerdict limits log given = (v : Verdict) × IsVerdict limits log v × (given ≡ as_given v)
 
 -- an answer is the verdict on the log read
 told_read : (limits : Bounds) (before after : Told) (given : Verdict) → Answers limits before after [] given → OfRead limits before.bytes after.bytes (λ log. HasVerdict limits log given)
@@ -139,112 +138,42 @@ few limits sizes log records number code (inr (none, flawed, missing)) =
     let same : number ≡ 0 = ap (λ (p : ℕ × LogCode). p.0) (same_Some _ _ flawed) in
     omega (arith, same)
 
-verdict_exact : (limits : Bounds) → IsInRange limits → (log : List ℕ) (v : Verdict) → IsVerdict limits log v → as_given v ≡ v
-verdict_exact limits sizes log (yes s) p =
+exact : (limits : Bounds) → IsInRange limits → (log : List ℕ) (v : Verdict) → IsVerdict limits log v → as_given v ≡ v
+exact limits sizes log (yes s) p =
     let events : List Event = p.final.events in
     let small : length events < 2 ^ 64 = omega (arith, sizes.log_high, events_within limits log p.records p.fault events p.is_log p.final.session) in
     let end = ending p.fault p.final.editor p.final.server in
     let same : yes (summary limits.document events) ≡ yes s = sym (yes_where limits.document events end (is_yes limits.document events end s p.final.says)) ∙ p.final.says in
     subst (λ w. as_given w ≡ w) same (yes_exact limits.document events small)
-verdict_exact limits sizes log (no rule who number event) p =
+exact limits sizes log (no rule who number event) p =
     let within = events_within limits log p.records p.fault p.final.events p.is_log p.final.session in
     elim (final_no limits p.records p.fault rule who number event p.final) [
       | inl names ↦ names_exact limits.document p.final.events (no rule who number event) (omega (arith, sizes.log_high, within)) names
       | inr rest ↦ rest_exact limits p.records p.fault p.final.events (no rule who number event) (omega (arith, sizes.log_high, within)) rest
     ]
-verdict_exact limits sizes log (bad_log number code) p =
+exact limits sizes log (bad_log number code) p =
     let has = bad_log_has limits log number code p in
     ap (λ n. bad_log n code) (capped_is number (few limits sizes log has.records number code has.is_log))
 
-no_early_exact : (limits : Bounds) → IsInRange limits → (log : List ℕ) (v : Verdict) → IsNo limits log v → as_given v ≡ v
-no_early_exact limits sizes log v n =
-    let within = events_few limits log n.records n.rest n.offends.events n.begins n.offends.session in
-    names_exact limits.document n.offends.events v (omega (arith, sizes.log_high, within)) (names_first limits.document n.offends.events v n.offends.offends)
-
-exact : (limits : Bounds) → IsInRange limits → (log : List ℕ) (v : Verdict) → Judges limits log v → as_given v ≡ v
-exact limits sizes log v (inl n) = no_early_exact limits sizes log v n
-exact limits sizes log v (inr p) = verdict_exact limits sizes log v p
-
 -- **an answer is the verdict on the log read**
-pub as_read : (limits : Bounds) → IsInRange limits → (before after : Told) (given : Verdict) → Answers limits before after [] given → OfRead limits before.bytes after.bytes (λ log. Judges limits log given)
-as_read limits sizes before after given a = read_map limits before.bytes after.bytes _ _ judges (told_read limits before after given a)
+pub as_read : (limits : Bounds) → IsInRange limits → (before after : Told) (given : Verdict) → Answers limits before after [] given → OfRead limits before.bytes after.bytes (λ log. IsVerdict limits log given)
+as_read limits sizes before after given a = read_map limits before.bytes after.bytes _ _ as_it_is (told_read limits before after given a)
   where
-    judges : (log : List ℕ) → HasVerdict limits log given → Judges limits log given
-    judges log (v, says, is) = subst (Judges limits log) (sym (is ∙ exact limits sizes log v says)) says
+    as_it_is : (log : List ℕ) → HasVerdict limits log given → IsVerdict limits log given
+    as_it_is log (v, says, is) = subst (IsVerdict limits log) (sym (is ∙ exact limits sizes log v says)) says
 
 -- and so is the verdict of an outcome
 pub read_verdict : (limits : Bounds) → IsInRange limits → (before after : Told) (given v : code.Verdict) → Answers limits before after [] (verdict_view given)
-    → (let outcome : Result Outcome RunFault = Ok (Judged given) in outcome) ≡ Ok (Judged v) → OfRead limits before.bytes after.bytes (λ log. Judges limits log (verdict_view v))
+    → (let outcome : Result Outcome RunFault = Ok (Judged given) in outcome) ≡ Ok (Judged v) → OfRead limits before.bytes after.bytes (λ log. IsVerdict limits log (verdict_view v))
 read_verdict limits sizes before after given v a e =
     let same : given ≡ v = cc e in
-    subst (λ (w : code.Verdict). OfRead limits before.bytes after.bytes (λ log. Judges limits log (verdict_view w))) same (as_read limits sizes before after (verdict_view given) a)
+    subst (λ (w : code.Verdict). OfRead limits before.bytes after.bytes (λ log. IsVerdict limits log (verdict_view w))) same (as_read limits sizes before after (verdict_view given) a)
 
 -- ---- Yes
 
-pub yes_kept : (limits : Bounds) → IsInRange limits → (s : Summary) (log : List ℕ) → Judges limits log (yes s) → IsKept limits log
-yes_kept limits sizes s log says = yes_answer_means_kept limits sizes log (yes s) s says (sym (exact limits sizes log (yes s) says))
-
-pub clean_yes : (limits : Bounds) → IsInRange limits → (given : Verdict) (log : List ℕ) → Judges limits log given → (events : List Event) → IsClean limits log events → given ≡ yes (summary limits.document events)
+pub clean_yes : (limits : Bounds) → IsInRange limits → (given : Verdict) (log : List ℕ) → IsVerdict limits log given → (events : List Event) → IsClean limits log events → given ≡ yes (summary limits.document events)
 clean_yes limits sizes given log says events (records, is_log, c) =
-    one_verdict limits sizes log given (yes (summary limits.document events)) says (inr (kept_means_yes limits log records events is_log c.session c.clean c.editor c.server))
-
--- ---- No
-
-not_in_none : (before : List Event) (e : Event) (after : List Event) → before ++ e ∷ after ≡ [] → ⊥
-not_in_none [] e after same = absurd cc
-not_in_none (x ∷ before) e after same = absurd cc
-
--- records of which an event is named begin their log
-begins : (limits : Bounds) (log : List ℕ) (records : List Record) (flaw : Option (ℕ × LogCode)) (events : List Event) (v : Verdict) → IsLog limits log records flaw → IsSession limits records events → Names limits.document events v
-    → (rest : List ℕ) × BeginsLog limits log records rest
-begins limits log records flaw events v (inl (code, has, is)) session names = (has.rest, has.begins)
-begins limits log records flaw events v (inr (none, flawed, missing)) session names =
-    absurd (not_in_none names.before names.event names.after (sym names.whole ∙ no_events limits records events none session))
-
-rest_without : (limits : Bounds) (records : List Record) (flaw : Option (ℕ × LogCode)) (events : List Event) (v : Verdict) → HasRest107 limits records flaw events v → HasRest107 limits records None events v
-rest_without limits records flaw events v r = record {
-  clean = r.clean;
-  no_fault = refl;
-  editor = r.editor;
-  server = r.server;
-  editor_rest = r.editor_rest;
-  server_rest = r.server_rest;
-  named = r.named;
-}
-
-verdict_refuses : (limits : Bounds) (log : List ℕ) (v : Verdict) → Refuses limits log v → IsRefused limits log v
-verdict_refuses limits log v r = by_names r.names
-  where
-    by_names : Names limits.document r.events v ⊎ HasRest107 limits r.records r.fault r.events v → IsRefused limits log v
-    by_names (inl names) =
-        let front = begins limits log r.records r.fault r.events v r.is_log r.session names in
-        inl (record { records = r.records; rest = front.0; events = r.events; begins = front.1; session = r.session; names = names })
-    by_names (inr rest) = inr (record {
-      records = r.records;
-      events = r.events;
-      is_log = subst (IsLog limits log r.records) rest.no_fault r.is_log;
-      session = r.session;
-      names = rest_without limits r.records r.fault r.events v rest;
-    })
-
-pub refused : (limits : Bounds) (rule : ℕ) (who : Who) (number event : ℕ) (log : List ℕ) → Judges limits log (no rule who number event) → IsRefused limits log (no rule who number event)
-refused limits rule who number event log (inl n) = inl (record {
-  records = n.records;
-  rest = n.rest;
-  events = n.offends.events;
-  begins = n.begins;
-  session = n.offends.session;
-  names = names_first limits.document n.offends.events (no rule who number event) n.offends.offends;
-})
-refused limits rule who number event log (inr p) = verdict_refuses limits log (no rule who number event) (no_names limits log rule who number event p)
-
--- ---- BadLog
-
-pub faulty : (limits : Bounds) (number : ℕ) (code : LogCode) (log : List ℕ) → Judges limits log (bad_log number code) → HasFault limits log number code
-faulty limits number code log (inl n) =
-    let names = names_first limits.document n.offends.events (bad_log number code) n.offends.offends in
-    absurd (subst meanings.IsNo (sym names.is) (by_says_no names.before names.event names.rule))
-faulty limits number code log (inr p) = bad_log_has limits log number code p
+    one_verdict limits sizes log given (yes (summary limits.document events)) says (kept_means_yes limits log records events is_log c.session c.clean c.editor c.server)
 
 -- ---- records
 

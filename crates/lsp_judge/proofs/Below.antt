@@ -6,6 +6,7 @@ pub use Rattle.lsp_session.proofs.LawLemmas.{answers_a_request, answers_no_other
 pub use Rattle.lsp_docs.proofs.Agreeing.{agrees-behind, agrees-before}
 pub use Rattle.lsp_log.proofs.LogLemmas.{range_writable, spelling_one}
 pub use Rattle.lsp_log.proofs.OneLog.{one_log, records_come_first}
+pub use Rattle.lsp_log.proofs.SomeLog.{some_log}
 pub use Rattle.lsp_docs.proofs.Accepted.{accepted-split}
 pub use Rattle.lsp_docs.proofs.HeldSteps.{held-snoc, next_held}
 pub use Rattle.lsp_log.proofs.Reading.{take_more}

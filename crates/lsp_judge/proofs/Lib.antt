@@ -62,3 +62,10 @@ pub mod RecordsUntil
 pub mod TextLogs
 pub mod TextSteps
 pub mod Apart
+pub mod InterleavingParts
+pub mod InterleavingActs
+pub mod InterleavingHandshake
+pub mod InterleavingStages
+pub mod InterleavingCalls
+pub mod Interleavings
+pub mod InterleavingRows

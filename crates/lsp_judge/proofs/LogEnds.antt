@@ -7,11 +7,11 @@ use Rattle.std.proofs.lemmas.Grind.{flat_map-append}
 use Rattle.std.proofs.lemmas.List.{take_all}
 use Rattle.lsp_frame.specs.Bounds.{Bounds, IsInRange}
 use Rattle.lsp_log.specs.Log.{Record, chunk, shown, Flaw, bad_line, bad_number, cut_short, bad_end, not_utf8, code_of, with_feed, head_line, head_of, parts_of, spelling, first_line, BeginsLog, EndsWith, IsLog}
-use Rattle.lsp_judge.specs.Outcome.{Judges}
+use Rattle.lsp_judge.specs.Outcome.{IsVerdict}
 use Rattle.lsp_judge.specs.RunIo.{OfRead}
 use Rattle.lsp_judge.specs.Verdict.{Summary, yes}
-use Rattle.lsp_judge.proofs.Answering.{yes_kept}
 use Rattle.lsp_judge.proofs.Below.{records_come_first}
+use Rattle.lsp_judge.proofs.Meanings.{yes_means_kept}
 
 no_code : (flaw : Option Flaw) (cut : Bool) → code_of flaw cut ≡ None → (flaw ≡ None) × (cut ≡ false)
 no_code None false e = (refl, refl)
@@ -74,12 +74,12 @@ one_more limits sizes log records others p q =
     ))
 
 -- **Yes is answered only at the end of what the reader gives.**
-pub yes_at_end : (limits : Bounds) → IsInRange limits → (before after : Option (List ℕ)) (s : Summary) → OfRead limits before after (λ log. Judges limits log (yes s)) → IsAtEnd after
+pub yes_at_end : (limits : Bounds) → IsInRange limits → (before after : Option (List ℕ)) (s : Summary) → OfRead limits before after (λ log. IsVerdict limits log (yes s)) → IsAtEnd after
 yes_at_end limits sizes before after s r = by_ended r.ended refl
   where
     by_ended : (ended : Bool) → r.ended ≡ ended → IsAtEnd after
     by_ended true e = r.read.end e
     by_ended false e =
-        let here = yes_kept limits sizes s r.bytes (r.holds r.bytes ([], sym (append-nil r.bytes), λ met. refl)) in
-        let more = yes_kept limits sizes s (r.bytes ++ 0 ∷ []) (r.holds (r.bytes ++ 0 ∷ []) (0 ∷ [], refl, λ met. absurd cc)) in
+        let here = yes_means_kept limits sizes r.bytes s (r.holds r.bytes ([], sym (append-nil r.bytes), λ met. refl)) in
+        let more = yes_means_kept limits sizes (r.bytes ++ 0 ∷ []) s (r.holds (r.bytes ++ 0 ∷ []) (0 ∷ [], refl, λ met. absurd cc)) in
         absurd (one_more limits sizes r.bytes here.records more.records here.is_log more.is_log)

@@ -1,5 +1,5 @@
 -- A log is judged record by record.
-use Rattle.std.proofs.Common.{◌≡◌, ℕ, ◌+◌, ◌-◌, ◌≤◌, ◌<◌, List, [], ◌∷◌, ◌++◌, Option, Some, None, Ok, Err, inl, inr, refl, sym, ap, subst, ◌∙◌, append_assoc, append-nil, length, take, length-append, arith}
+use Rattle.std.proofs.Common.{◌≡◌, ℕ, ◌+◌, ◌-◌, ◌≤◌, ◌<◌, List, [], ◌∷◌, ◌++◌, Option, Some, None, Ok, Err, refl, sym, ap, subst, ◌∙◌, append_assoc, append-nil, length, take, length-append, arith}
 use Rattle.std.specs.Prelude.{option_map}
 use Rattle.std.specs.Io.KnownBytes.{Consumes}
 use Rattle.std.specs.List.{flat_map}
@@ -7,10 +7,9 @@ use Rattle.std.proofs.KnownBytes.{Consumes-nil, Consumes-trans}
 use Rattle.std.proofs.lemmas.Option.{same_Some}
 use Rattle.lsp_frame.specs.Bounds.{Bounds}
 use Rattle.lsp_frame.specs.Sink.{Told}
-use Rattle.lsp_rpc.specs.declared.plain.Side.TheVariants.{Editor, Server}
 use Rattle.lsp_log.specs.Log.{Record, spelling, with_feed, head_line, head_of, parts_of, first_line, BeginsLog, IsLog}
 use Rattle.lsp_log.specs.Reader as reader
-use Rattle.lsp_log.specs.Reader.{empty, kept_by, kept_in, StandsFor, StandsAt, Reads, Given, MayFollow}
+use Rattle.lsp_log.specs.Reader.{empty, kept_by, kept_in, StandsFor, StandsAt, Reads, Given}
 use Rattle.lsp_log.specs.Records.{record_view}
 use Rattle.lsp_log.specs.declared.record.Record as code
 use Rattle.lsp_log.specs.declared.fault.LogCode.{LogCode}
@@ -24,32 +23,14 @@ use Rattle.lsp_judge.specs.declared.verdict.Verdict as given_verdict
 use Rattle.lsp_judge.specs.Event.{Event}
 use Rattle.lsp_judge.specs.Given.{verdict_view, as_given}
 use Rattle.lsp_judge.specs.Logged.{AreAt, HasRead, TookOne, Answers, failures_of, Broke, StepAnswers}
-use Rattle.lsp_judge.specs.Outcome.{IsFinal, Offends, ending}
-use Rattle.lsp_judge.specs.Placed.{IsSession, joined}
+use Rattle.lsp_judge.specs.Outcome.{IsFinal, Offends}
+use Rattle.lsp_judge.specs.Placed.{IsSession}
 use Rattle.lsp_judge.specs.Standing as judge
 use Rattle.lsp_judge.specs.Standing.{Stands, StandsBy, is_given}
-use Rattle.lsp_judge.specs.Verdict.{Verdict, verdict, first_no}
-use Rattle.lsp_judge.proofs.Below.{some_stream, take_more}
+use Rattle.lsp_judge.specs.Verdict.{Verdict, first_no}
+use Rattle.lsp_judge.proofs.Below.{take_more}
+use Rattle.lsp_judge.proofs.Logs.{some_final, offence_decides}
 use Rattle.lsp_judge.proofs.Sessions.{some_session}
-
--- ---- records have a verdict
-
-pub some_final : (limits : Bounds) (rs : List Record) (flaw : Option (ℕ × LogCode)) → (v : Verdict) × IsFinal limits rs flaw v
-some_final limits rs flaw =
-    let session = some_session limits rs in
-    let editor = some_stream limits (joined Editor rs) in
-    let server = some_stream limits (joined Server rs) in (
-      verdict limits.document session.0 (ending flaw editor.1 server.1),
-      record {
-        events = session.0;
-        editor = editor.1;
-        server = server.1;
-        session = session.1;
-        editor_rest = (editor.0, editor.2, editor.3);
-        server_rest = (server.0, server.2, server.3);
-        says = refl;
-      },
-    )
 
 -- ---- a record was read
 
@@ -116,12 +97,9 @@ taken_answers r s j k before after bytes rs next (Some v) same alike free at got
       verdict = λ more follows.
           let begins = begins_log s (bytes ++ got.piece) all more read in (
             named.0,
-            inl (record {
-              records = all;
-              rest = begins.0;
-              begins = subst (λ (b : Bounds). BeginsLog b ((bytes ++ got.piece) ++ more) all begins.0) same begins.1;
-              offends = subst (λ (b : Bounds). Offends b all named.0) limits offends;
-            }),
+            offence_decides r.limits at.read.0 ((bytes ++ got.piece) ++ more) begins.0 all named.0
+                (subst (λ (b : Bounds). BeginsLog b ((bytes ++ got.piece) ++ more) all begins.0) same begins.1)
+                (subst (λ (b : Bounds). Offends b all named.0) limits offends),
             named.2,
           );
     }
@@ -143,7 +121,7 @@ end_answers r s j before after bytes rs answer same at got says =
           let whole : (bytes ++ got.piece) ++ more ≡ bytes ++ got.piece = ap (λ (w : List ℕ). (bytes ++ got.piece) ++ w) (follows got.tells.0) ∙ append-nil (bytes ++ got.piece) in
           let is_log : IsLog r.limits (bytes ++ got.piece) rs None = subst (λ (b : Bounds). IsLog b (bytes ++ got.piece) rs None) same got.tells.1 in (
             final.0,
-            inr (record { records = rs; fault = None; is_log = subst (λ (w : List ℕ). IsLog r.limits w rs None) (sym whole) is_log; final = final.1 }),
+            record { records = rs; fault = None; is_log = subst (λ (w : List ℕ). IsLog r.limits w rs None) (sym whole) is_log; final = final.1 },
             named,
           );
     }
@@ -161,7 +139,7 @@ fault_answers r s j before after bytes rs number code answer same at got says =
       failures = got.tells.1;
       verdict = λ more follows.
           let is_log : IsLog r.limits ((bytes ++ got.piece) ++ more) rs (Some (number, code)) = subst (λ (b : Bounds). IsLog b ((bytes ++ got.piece) ++ more) rs (Some (number, code))) same (got.tells.0 more follows) in
-          (final.0, inr (record { records = rs; fault = Some (number, code); is_log = is_log; final = final.1 }), named);
+          (final.0, record { records = rs; fault = Some (number, code); is_log = is_log; final = final.1 }, named);
     }
 
 -- ---- all steps

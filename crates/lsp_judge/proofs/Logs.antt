@@ -1,19 +1,20 @@
--- A log has one verdict.
+-- A log has a verdict, and one only.
 use Rattle.std.proofs.Common.{◌≡◌, ◌⊎◌, ℕ, List, [], ◌∷◌, ◌++◌, Bool, true, Option, inl, inr, refl, sym, ap, subst, ◌∙◌, append_assoc}
 use Rattle.std.specs.Prelude.{IsTrue}
 use Rattle.std.specs.List.{flat_map, AllByRecursion}
 use Rattle.std.proofs.lemmas.List.{append_cancel_left}
-use Rattle.std.proofs.lemmas.Option.{same_Some}
 use Rattle.lsp_frame.specs.Bounds.{Bounds, IsInRange}
+use Rattle.lsp_rpc.specs.declared.plain.Side.TheVariants.{Editor, Server}
 use Rattle.lsp_log.specs.declared.fault.LogCode.{LogCode}
 use Rattle.lsp_log.specs.Log.{Record, Fits, head_of, spelling, first_line, BeginsLog}
-use Rattle.lsp_judge.specs.Laws.{OneVerdict, merged}
-use Rattle.lsp_judge.specs.Placed.{IsSession}
-use Rattle.lsp_judge.specs.Outcome.{IsFinal, IsVerdict, Offends, IsNo}
-use Rattle.lsp_judge.specs.Verdict.{Verdict, no_at, first_no}
-use Rattle.lsp_judge.proofs.Below.{range_writable, spelling_one, one_log, records_come_first}
-use Rattle.lsp_judge.proofs.LookBackLemmas.{first_of-more}
+use Rattle.lsp_judge.specs.Event.{Event}
+use Rattle.lsp_judge.specs.Laws.{OneVerdict, SomeVerdict, merged}
+use Rattle.lsp_judge.specs.Placed.{IsSession, joined}
+use Rattle.lsp_judge.specs.Outcome.{IsFinal, IsVerdict, Offends, ending}
+use Rattle.lsp_judge.specs.Verdict.{Verdict, verdict}
+use Rattle.lsp_judge.proofs.Below.{range_writable, spelling_one, one_log, some_log, some_stream, records_come_first}
 use Rattle.lsp_judge.proofs.Outcomes.{cuts_leave_verdict, offends_final, session_front}
+use Rattle.lsp_judge.proofs.Sessions.{same_session, some_session}
 
 is_true : {b : Bool} → IsTrue b → b ≡ true
 is_true e = e
@@ -41,33 +42,56 @@ both_begin limits sizes log rs us xs ys p q =
     (append_cancel_left first_line _ _
     (sym (append_assoc first_line (flat_map spelling rs) xs) ∙ sym p.whole ∙ q.whole ∙ append_assoc first_line (flat_map spelling us) ys))
 
--- the first offence of the first records is that of more
-offends_more : (limits : Bounds) (rs us more : List Record) (v w : Verdict) → us ≡ rs ++ more → Offends limits rs v → Offends limits us w → v ≡ w
-offends_more limits rs us more v w whole p q =
-    let cut = session_front limits rs more p.events q.events p.session (subst (λ (x : List Record). IsSession limits x q.events) whole q.session) in
-    same_Some _ _ (sym (first_of-more (no_at limits.document) p.events cut.0 v p.offends) ∙ sym (ap (first_no limits.document) cut.1) ∙ q.offends)
-
 pub final_more : (limits : Bounds) (rs us more : List Record) (flaw : Option (ℕ × LogCode)) (v w : Verdict) → us ≡ rs ++ more → Offends limits rs v → IsFinal limits us flaw w → v ≡ w
 final_more limits rs us more flaw v w whole p q = offends_final limits rs more flaw v w p (subst (λ (x : List Record). IsFinal limits x flaw w) whole q)
 
-no_and_verdict : (limits : Bounds) → IsInRange limits → (log : List ℕ) (v w : Verdict) → IsNo limits log v → IsVerdict limits log w → v ≡ w
-no_and_verdict limits sizes log v w p q =
-    let cut = records_come_first limits sizes log p.rest p.records q.records q.fault p.begins q.is_log in
-    final_more limits p.records q.records cut.0 q.fault v w cut.1 p.offends q.final
+-- ---- each log has a verdict
 
-two_verdicts : (limits : Bounds) → IsInRange limits → (log : List ℕ) (v w : Verdict) → IsVerdict limits log v → IsVerdict limits log w → v ≡ w
-two_verdicts limits sizes log v w p q =
+pub some_final : (limits : Bounds) (rs : List Record) (flaw : Option (ℕ × LogCode)) → (v : Verdict) × IsFinal limits rs flaw v
+some_final limits rs flaw =
+    let session = some_session limits rs in
+    let editor = some_stream limits (joined Editor rs) in
+    let server = some_stream limits (joined Server rs) in (
+      verdict limits.document session.0 (ending flaw editor.1 server.1),
+      record {
+        events = session.0;
+        editor = editor.1;
+        server = server.1;
+        session = session.1;
+        editor_rest = (editor.0, editor.2, editor.3);
+        server_rest = (server.0, server.2, server.3);
+        says = refl;
+      },
+    )
+
+pub some_verdict : SomeVerdict
+some_verdict limits log =
+    let whole = some_log limits log in
+    let final = some_final limits whole.0 whole.1 in
+    (final.0, record { records = whole.0; fault = whole.1; is_log = whole.2; final = final.1 })
+
+-- its events begin with those of records that it begins with
+pub events_first : (limits : Bounds) → IsInRange limits → (log rest : List ℕ) (rs : List Record) (es : List Event) (v : Verdict) → BeginsLog limits log rs rest → IsSession limits rs es → (whole : IsVerdict limits log v)
+    → (later : List Event) × (whole.final.events ≡ es ++ later)
+events_first limits sizes log rest rs es v begins session whole =
+    let cut = records_come_first limits sizes log rest rs whole.records whole.fault begins whole.is_log in
+    session_front limits rs cut.0 es whole.final.events session (subst (λ (us : List Record). IsSession limits us whole.final.events) cut.1 whole.final.session)
+
+-- where an event of these offends, the No at the first is the verdict
+pub offence_decides : (limits : Bounds) → IsInRange limits → (log rest : List ℕ) (rs : List Record) (v : Verdict) → BeginsLog limits log rs rest → Offends limits rs v → IsVerdict limits log v
+offence_decides limits sizes log rest rs v begins offends =
+    let whole = some_verdict limits log in
+    let cut = records_come_first limits sizes log rest rs whole.1.records whole.1.fault begins whole.1.is_log in
+    subst (IsVerdict limits log) (sym (final_more limits rs whole.1.records cut.0 whole.1.fault v whole.0 cut.1 offends whole.1.final)) whole.1
+
+-- ---- and one only
+
+pub same_events : (limits : Bounds) → IsInRange limits → (log : List ℕ) (v w : Verdict) → (p : IsVerdict limits log v) → (q : IsVerdict limits log w) → p.final.events ≡ q.final.events
+same_events limits sizes log v w p q =
     let same = one_log limits sizes log p.records q.records p.fault q.fault p.is_log q.is_log in
-    cuts_leave_verdict limits p.records q.records q.fault v w (ap merged same.0) (subst (λ (f : Option (ℕ × LogCode)). IsFinal limits p.records f v) same.1 p.final) q.final
-
-two_noes : (limits : Bounds) → IsInRange limits → (log : List ℕ) (v w : Verdict) → IsNo limits log v → IsNo limits log w → v ≡ w
-two_noes limits sizes log v w p q = elim (both_begin limits sizes log p.records q.records p.rest q.rest p.begins q.begins) [
-  | inl cut ↦ offends_more limits p.records q.records cut.0 v w cut.1 p.offends q.offends
-  | inr cut ↦ sym (offends_more limits q.records p.records cut.0 w v cut.1 q.offends p.offends)
-]
+    same_session limits p.records q.records p.final.events q.final.events (ap merged same.0) p.final.session q.final.session
 
 pub one_verdict : OneVerdict
-one_verdict limits sizes log v w (inl p) (inl q) = two_noes limits sizes log v w p q
-one_verdict limits sizes log v w (inl p) (inr q) = no_and_verdict limits sizes log v w p q
-one_verdict limits sizes log v w (inr p) (inl q) = sym (no_and_verdict limits sizes log w v q p)
-one_verdict limits sizes log v w (inr p) (inr q) = two_verdicts limits sizes log v w p q
+one_verdict limits sizes log v w p q =
+    let same = one_log limits sizes log p.records q.records p.fault q.fault p.is_log q.is_log in
+    cuts_leave_verdict limits p.records q.records q.fault v w (ap merged same.0) (subst (λ (f : Option (ℕ × LogCode)). IsFinal limits p.records f v) same.1 p.final) q.final

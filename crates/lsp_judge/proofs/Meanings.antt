@@ -9,10 +9,10 @@ use Rattle.lsp_log.specs.declared.fault.LogCode.{LogCode}
 use Rattle.lsp_log.specs.Log.{Record, IsLog}
 use Rattle.lsp_judge.specs.Calls.{calls}
 use Rattle.lsp_judge.specs.Event.{Event, sent_in}
-use Rattle.lsp_judge.specs.Headline.{YesMeansKept, KeptMeansYes, Names, HasRest107, NoNamesTheFirst, HasFault, BadLogMeansFault, YesAnswerMeansKept}
+use Rattle.lsp_judge.specs.Headline.{YesMeansKept, KeptMeansYes, Names, HasRest107, NoNamesTheFirst, HasFault, BadLogMeansFault}
 use Rattle.lsp_judge.specs.Given.{as_given}
 use Rattle.lsp_judge.specs.Kept.{NothingOffends, KeepsRules, AreFrames, AreKept}
-use Rattle.lsp_judge.specs.Outcome.{HasRest, is_rest, ending, IsFinal, IsVerdict}
+use Rattle.lsp_judge.specs.Outcome.{HasRest, is_rest, ending, IsFinal}
 use Rattle.lsp_judge.specs.Placed.{IsSession, joined}
 use Rattle.lsp_judge.specs.declared.verdict.Who.{Who}
 use Rattle.lsp_judge.specs.declared.verdict.Who.TheVariants as who
@@ -182,17 +182,9 @@ bad_log_has limits log number code v =
     }
     by_why (inr (none, inr (no_log, rest))) = absurd (rest_says_no v.final.events (is_rest v.final.editor) (is_rest v.final.server) (bad_log number code) rest)
 
--- ---- a Yes that is answered
+-- ---- a Yes that is given
 
 pub is_yes_given : (v : Verdict) (s : Summary) → yes s ≡ as_given v → (t : Summary) × (v ≡ yes t)
 is_yes_given (yes t) s e = (t, refl)
 is_yes_given (no rule by number event) s e = absurd cc
 is_yes_given (bad_log number code) s e = absurd cc
-
-pub yes_answer_means_kept : YesAnswerMeansKept
-yes_answer_means_kept limits sizes log v s (inl refused) e =
-    let n = names_first limits.document refused.offends.events v refused.offends.offends in
-    absurd (subst IsNo ((is_yes_given v s e).1) (subst IsNo (sym n.is) (by_says_no n.before n.event n.rule)))
-yes_answer_means_kept limits sizes log v s (inr p) e =
-    let t = is_yes_given v s e in
-    yes_means_kept limits sizes log t.0 (subst (IsVerdict limits log) t.1 p)

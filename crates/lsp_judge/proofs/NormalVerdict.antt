@@ -2,25 +2,21 @@
 use Rattle.std.specs.Option.{option_or}
 use Rattle.std.specs.Prelude.{unwrap_or}
 use Rattle.std.specs.List.{AllZip, AllByRecursion}
-use Rattle.std.proofs.Common.{◌≡◌, ℕ, ◌≤◌, List, [], ◌∷◌, ◌++◌, length, true, false, Option, Some, None, inl, inr, refl, sym, ap, subst, ◌∙◌, append-nil}
+use Rattle.std.proofs.Common.{◌≡◌, ℕ, ◌≤◌, List, [], ◌∷◌, ◌++◌, length, true, false, Option, Some, None, inl, inr, refl, sym, ap, subst, ◌∙◌}
 use Rattle.std.proofs.lemmas.Bool.{false≢true}
 use Rattle.lsp_frame.specs.Bounds.{Bounds, IsInRange}
 use Rattle.lsp_log.specs.Log.{Record, BeginsLog, IsLog}
 use Rattle.lsp_log.specs.declared.fault.LogCode.{LogCode}
 use Rattle.lsp_judge.specs.Event.{Event, fault}
 use Rattle.lsp_judge.specs.LookBack.{first_from}
-use Rattle.lsp_judge.specs.Normal.{form_of, IsNormal}
+use Rattle.lsp_judge.specs.Normal.{form_of}
 use Rattle.lsp_judge.specs.NormalLaws.{before_fault, is_frame_rule, IsOnEvents, NormalFormKeepsVerdict}
-use Rattle.lsp_judge.specs.Outcome.{is_rest, IsNo, IsVerdict, Judges}
+use Rattle.lsp_judge.specs.Outcome.{is_rest, IsVerdict}
 use Rattle.lsp_judge.specs.Placed.{Raw, content, broken, show, Placed, Reads}
 use Rattle.lsp_judge.specs.Verdict.{Verdict, yes, bad_log_of, rest_of, no_at, first_no, no_next, summary, whose}
-use Rattle.lsp_judge.proofs.Below.{records_come_first}
-use Rattle.lsp_judge.proofs.LookBackLemmas.{first_of-more}
-use Rattle.lsp_judge.proofs.Logs.{both_begin}
+use Rattle.lsp_judge.proofs.Logs.{offence_decides}
 use Rattle.lsp_judge.proofs.NormalAgain.{IsSane, again, placed_sane, log_fits, form_is}
-use Rattle.lsp_judge.proofs.NormalForms.{form_stops}
-use Rattle.lsp_judge.proofs.OneEvent.{some_list, lists_join}
-use Rattle.lsp_judge.proofs.Outcomes.{placed_front}
+use Rattle.lsp_judge.proofs.OneEvent.{some_list}
 
 -- ---- an offence before a fault of the frames
 
@@ -64,55 +60,17 @@ kept_from limits limit before (broken side rule ∷ raws) (e ∷ events) v on sa
 
 -- ---- an offence
 
--- the normal form is that of the first records and more
-pub record FormOver (limits : Bounds) (out : List ℕ) (raws : List Raw) : Type 0 where
-  pub later : List Raw
-  pub sane : AllByRecursion (IsSane limits) (raws ++ later)
-  pub written : out ≡ form_of limits.chunk (raws ++ later)
-
-over_more : (limits : Bounds) (rs us others : List Record) (raws all : List Raw) (out : List ℕ) → us ≡ rs ++ others → Placed limits rs raws → Placed limits us all → AllByRecursion (IsSane limits) all → out ≡ form_of limits.chunk all → FormOver limits out raws
-over_more limits rs us others raws all out cut placed whole sane written =
-    let more = placed_front limits [] [] rs others raws all placed (subst (λ (xs : List Record). Placed limits xs all) cut whole) in
-    record { later = more.0; sane = subst (λ (ws : List Raw). AllByRecursion (IsSane limits) ws) more.1 sane; written = written ∙ ap (form_of limits.chunk) more.1 }
-
-form_over : (limits : Bounds) → IsInRange limits → (log rest out : List ℕ) (rs : List Record) (raws : List Raw) (f : Option Verdict) → BeginsLog limits log rs rest → Placed limits rs raws → IsNormal limits log out f → FormOver limits out raws
-form_over limits sizes log rest out rs raws f begins placed (inl (v, is, b)) =
-    elim (both_begin limits sizes log rs b.records rest b.rest begins b.begins) as (λ _. FormOver limits out raws) [
-      | inl cut ↦ over_more limits rs b.records cut.0 raws b.raws out cut.1 placed b.placed (placed_sane limits [] [] b.records b.raws b.begins.fits b.placed) b.written
-      | inr cut ↦
-          let more = placed_front limits [] [] b.records cut.0 b.raws raws b.placed (subst (λ (xs : List Record). Placed limits xs raws) cut.1 placed) in
-          record {
-            later = [];
-            sane = subst (λ (ws : List Raw). AllByRecursion (IsSane limits) ws) (sym (append-nil raws)) (placed_sane limits [] [] rs raws begins.fits placed);
-            written = b.written ∙ sym (form_stops limits.chunk b.raws more.0 v b.breaks) ∙ ap (form_of limits.chunk) (sym more.1 ∙ sym (append-nil raws));
-          }
-    ]
-form_over limits sizes log rest out rs raws f begins placed (inr w) =
-    let cut = records_come_first limits sizes log rest rs w.records w.log_fault begins w.is_log in
-    over_more limits rs w.records cut.0 raws w.raws out cut.1 placed w.placed (placed_sane limits [] [] w.records w.raws (log_fits limits log w.records w.log_fault w.is_log) w.placed) w.written
-
 log_begins : (limits : Bounds) (out : List ℕ) (us : List Record) → IsLog limits out us None → (rest : List ℕ) × BeginsLog limits out us rest
 log_begins limits out us (inl a) = (a.1.rest, a.1.begins)
 log_begins limits out us (inr a) = let wrong = a.1 in absurd (cc wrong)
 
-no_again : (limits : Bounds) → IsInRange limits → (out : List ℕ) (all : List Raw) (events : List Event) (v : Verdict) → IsOnEvents v → AllByRecursion (IsSane limits) all → AllZip Reads all events → first_no limits.document events ≡ Some v → out ≡ form_of limits.chunk all → length out ≤ limits.log → IsNo limits out v
+no_again : (limits : Bounds) → IsInRange limits → (out : List ℕ) (all : List Raw) (events : List Event) (v : Verdict) → IsOnEvents v → AllByRecursion (IsSane limits) all → AllZip Reads all events → first_no limits.document events ≡ Some v
+    → out ≡ form_of limits.chunk all → length out ≤ limits.log → IsVerdict limits out v
 no_again limits sizes out all events v on sane reads first written within =
     let log_of = again limits sizes out all sane written within in
     let kept = kept_from limits limits.document [] all events v on sane reads first in
     let begins = log_begins limits out log_of.records log_of.is_log in
-    record {
-      records = log_of.records;
-      rest = begins.0;
-      begins = begins.1;
-      offends = record { events = kept.events; session = (before_fault all, log_of.placed, kept.reads); offends = kept.first };
-    }
-
-no_stays : (limits : Bounds) → IsInRange limits → (log out : List ℕ) (f : Option Verdict) (v : Verdict) → IsNo limits log v → IsOnEvents v → IsNormal limits log out f → length out ≤ limits.log → IsNo limits out v
-no_stays limits sizes log out f v n on normal within =
-    let session = n.offends.session in
-    let over = form_over limits sizes log n.rest out n.records session.0 f n.begins session.1 normal in
-    let extra = some_list over.later in
-    no_again limits sizes out (session.0 ++ over.later) (n.offends.events ++ extra.0) v on over.sane (lists_join session.0 over.later n.offends.events extra.0 session.2 extra.1) (first_of-more (no_at limits.document) n.offends.events extra.0 v n.offends.offends) over.written within
+    offence_decides limits sizes out begins.0 log_of.records v begins.1 (record { events = kept.events; session = (before_fault all, log_of.placed, kept.reads); offends = kept.first })
 
 -- ---- a yes
 
@@ -161,22 +119,18 @@ yes_again limits sizes out raws events v sane reads none is written within =
       };
     }
 
-verdict_stays : (limits : Bounds) → IsInRange limits → (log out : List ℕ) (f : Option Verdict) (v : Verdict) → IsVerdict limits log v → IsOnEvents v → IsNormal limits log out f → length out ≤ limits.log → Judges limits out v
-verdict_stays limits sizes log out f v d on normal within = by_offence (first_no limits.document d.final.events) refl
+pub normal_form_keeps_verdict : NormalFormKeepsVerdict
+normal_form_keeps_verdict limits sizes log out f v d on normal within = by_offence (first_no limits.document d.final.events) refl
   where
-    by_offence : (o : Option Verdict) → first_no limits.document d.final.events ≡ o → Judges limits out v
+    by_offence : (o : Option Verdict) → first_no limits.document d.final.events ≡ o → IsVerdict limits out v
     by_offence None none =
         let session = d.final.session in
         let sane = placed_sane limits [] [] d.records session.0 (log_fits limits log d.records d.fault d.is_log) session.1 in
         let written = form_is limits sizes log out d.records d.fault session.0 f d.is_log session.1 normal in
-        inr (yes_again limits sizes out session.0 d.final.events v sane session.2 none (yes_with limits.document d.final.events (first_no limits.document d.final.events) none d.fault d.final.editor d.final.server v on d.final.says) written within)
+        yes_again limits sizes out session.0 d.final.events v sane session.2 none (yes_with limits.document d.final.events (first_no limits.document d.final.events) none d.fault d.final.editor d.final.server v on d.final.says) written within
     by_offence (Some u) some =
         let session = d.final.session in
         let sane = placed_sane limits [] [] d.records session.0 (log_fits limits log d.records d.fault d.is_log) session.1 in
         let written = form_is limits sizes log out d.records d.fault session.0 f d.is_log session.1 normal in
         let same : u ≡ v = sym (ap (λ (o : Option Verdict). unwrap_or (option_or o (option_or (bad_log_of d.fault) (rest_of d.final.events (is_rest d.final.editor) (is_rest d.final.server)))) (yes (summary limits.document d.final.events))) some) ∙ d.final.says in
-        inl (no_again limits sizes out session.0 d.final.events v on sane session.2 (some ∙ ap (λ (w : Verdict). Some w) same) written within)
-
-pub normal_form_keeps_verdict : NormalFormKeepsVerdict
-normal_form_keeps_verdict limits sizes log out f v (inl n) on normal within = inl (no_stays limits sizes log out f v n on normal within)
-normal_form_keeps_verdict limits sizes log out f v (inr d) on normal within = verdict_stays limits sizes log out f v d on normal within
+        no_again limits sizes out session.0 d.final.events v on sane session.2 (some ∙ ap (λ (w : Verdict). Some w) same) written within

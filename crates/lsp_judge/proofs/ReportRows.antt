@@ -14,8 +14,8 @@ use Rattle.lsp_log.specs.declared.fault.LogCode.TheVariants.{L3}
 use Rattle.lsp_judge.specs.Verdict.{no, bad_log}
 use Rattle.lsp_judge.specs.declared.verdict.Who.TheVariants as who
 use Rattle.lsp_judge.specs.Report.{report}
-use Rattle.lsp_judge.specs.Shown.{show_of, text_after, text_is, no_document, too_few, refused}
-use Rattle.lsp_judge.proofs.Templates.{limit, clean, judged, START, REQ, CANCEL}
+use Rattle.lsp_judge.specs.Shown.{show_of, text_is, no_document, too_few, refused}
+use Rattle.lsp_judge.proofs.Templates.{limit, clean, judged, START, REQ, CANCEL, text_after}
 use Rattle.lsp_judge.proofs.Rows.{whole}
 
 whole_report : report (judged whole)

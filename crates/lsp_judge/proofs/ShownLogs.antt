@@ -1,5 +1,5 @@
 -- What is due for a log is determined, and begins with what its records say.
-use Rattle.std.proofs.Common.{◌≡◌, ◌+◌, ◌-◌, ℕ, Bool, true, false, List, [], ◌∷◌, ◌++◌, length, take, Option, Some, None, inl, inr, refl, sym, ap, subst, ◌∙◌, append_assoc, append-nil, arith}
+use Rattle.std.proofs.Common.{◌≡◌, ◌+◌, ◌-◌, ℕ, Bool, true, false, List, [], ◌∷◌, ◌++◌, length, take, Option, Some, None, refl, sym, ap, ◌∙◌, append_assoc, append-nil, arith}
 use Rattle.std.specs.Prelude.{unwrap_or}
 use Rattle.std.specs.Option.{option_or}
 use Rattle.lsp_frame.specs.Bounds.{Bounds, IsInRange}
@@ -7,17 +7,14 @@ use Rattle.lsp_log.specs.Log.{Record, BeginsLog}
 use Rattle.lsp_log.specs.declared.fault.LogCode.{LogCode}
 use Rattle.lsp_judge.specs.Event.{Event}
 use Rattle.lsp_judge.specs.Given.{as_given}
-use Rattle.lsp_judge.specs.Outcome.{Judges}
+use Rattle.lsp_judge.specs.Outcome.{IsVerdict, Offends}
 use Rattle.lsp_judge.specs.Placed.{IsSession}
 use Rattle.lsp_judge.specs.Report.{report}
-use Rattle.lsp_judge.specs.Shown.{kept, kept_by, kept_within, lines_from, lines_of}
+use Rattle.lsp_judge.specs.Shown.{kept, kept_by, kept_within, lines_from, lines_of, show_of}
 use Rattle.lsp_judge.specs.ShownLog.{IsShown, OneShown}
 use Rattle.lsp_judge.specs.Verdict.{Verdict, yes, Ending, first_no, no_at, bad_log_of, rest_of, summary, verdict}
-use Rattle.lsp_judge.proofs.Below.{one_log, records_come_first}
 use Rattle.lsp_judge.proofs.Finding.{found}
-use Rattle.lsp_judge.proofs.Logs.{Begin, both_begin, one_verdict}
-use Rattle.lsp_judge.proofs.Outcomes.{session_front}
-use Rattle.lsp_judge.proofs.Sessions.{same_session}
+use Rattle.lsp_judge.proofs.Logs.{some_verdict, events_first, offence_decides, same_events, one_verdict}
 use Rattle.lsp_judge.proofs.ShownBytes.{take_front, kept_clean, kept_no, kept_more}
 use Rattle.lsp_judge.proofs.Showings.{lines-append}
 
@@ -46,7 +43,7 @@ lines_front limit events later =
     (lines_from (kept_within limit events) more.0, ap lines_of more.1 ∙ lines-append [] (kept_within limit events) more.0)
 
 -- they are those before the verdict's place
-pub kept_early : (limit : ℕ) (events : List Event) (v : Verdict) → first_no limit events ≡ Some v → kept v events ≡ kept_within limit events
+kept_early : (limit : ℕ) (events : List Event) (v : Verdict) → first_no limit events ≡ Some v → kept v events ≡ kept_within limit events
 kept_early limit events v is = sym (ap (λ o. kept_by o events) is)
 
 take_whole : (events : List Event) → take (length events) events ≡ events
@@ -73,88 +70,40 @@ kept_final limit events end v says = by_first (first_no limit events) refl
     by_first None is = ap (λ w. kept w events) (by_none None is) ∙ kept_all limit events end.log_fault end.editor_rest end.server_rest ∙ sym (kept_clean limit events is)
     by_first (Some w) is = ap (λ x. kept x events) (by_none (Some w) is) ∙ kept_early limit events w is
 
--- ---- the events of a log
+-- ---- what is due for a log
 
--- of the events that decide it
-abbrev events_of : (limits : Bounds) (log : List ℕ) (v : Verdict) (out : List ℕ) → IsShown limits log v out → List Event
-events_of limits log v out (inl (early, is)) = early.offends.events
-events_of limits log v out (inr (whole, is)) = whole.final.events
-
-due_is : (limits : Bounds) (log : List ℕ) (v : Verdict) (out : List ℕ) → (p : IsShown limits log v out) → out ≡ lines_of (kept_within limits.document (events_of limits log v out p)) ++ report (as_given v)
-due_is limits log v out (inl (early, is)) = is ∙ ap (λ k. lines_of k ++ report (as_given v)) (kept_early limits.document early.offends.events v early.offends.offends)
-due_is limits log v out (inr (whole, is)) = is ∙ ap (λ k. lines_of k ++ report (as_given v)) (kept_final limits.document whole.final.events _ v whole.final.says)
-
--- the events of more records begin with those of the first
-behind : (limits : Bounds) (rs us more : List Record) (es fs : List Event) → us ≡ rs ++ more → IsSession limits rs es → IsSession limits us fs → (later : List Event) × (fs ≡ es ++ later)
-behind limits rs us more es fs cut p q = session_front limits rs more es fs p (subst (λ (w : List Record). IsSession limits w fs) cut q)
-
-decided : (limits : Bounds) (rs us more : List Record) (es fs : List Event) (v : Verdict) → us ≡ rs ++ more → IsSession limits rs es → IsSession limits us fs → first_no limits.document es ≡ Some v
-    → kept_within limits.document fs ≡ kept_within limits.document es
-decided limits rs us more es fs v cut p q is =
-    let rest = behind limits rs us more es fs cut p q in
-    ap (kept_within limits.document) rest.1 ∙ kept_same limits.document es rest.0 v is
-
-same_kept : (limits : Bounds) → IsInRange limits → (log : List ℕ) (v w : Verdict) (out other : List ℕ) → (p : IsShown limits log v out) → (q : IsShown limits log w other)
-    → kept_within limits.document (events_of limits log v out p) ≡ kept_within limits.document (events_of limits log w other q)
-same_kept limits sizes log v w out other (inl (p, is)) (inl (q, at)) = by_begin (both_begin limits sizes log p.records q.records p.rest q.rest p.begins q.begins)
-  where
-    by_begin : Begin p.records q.records → kept_within limits.document p.offends.events ≡ kept_within limits.document q.offends.events
-    by_begin (inl (more, cut)) = sym (decided limits p.records q.records more p.offends.events q.offends.events v cut p.offends.session q.offends.session p.offends.offends)
-    by_begin (inr (more, cut)) = decided limits q.records p.records more q.offends.events p.offends.events w cut q.offends.session p.offends.session q.offends.offends
-same_kept limits sizes log v w out other (inl (p, is)) (inr (q, at)) =
-    let cut = records_come_first limits sizes log p.rest p.records q.records q.fault p.begins q.is_log in
-    sym (decided limits p.records q.records cut.0 p.offends.events q.final.events v cut.1 p.offends.session q.final.session p.offends.offends)
-same_kept limits sizes log v w out other (inr (p, is)) (inl (q, at)) =
-    let cut = records_come_first limits sizes log q.rest q.records p.records p.fault q.begins p.is_log in
-    decided limits q.records p.records cut.0 q.offends.events p.final.events w cut.1 q.offends.session p.final.session q.offends.offends
-same_kept limits sizes log v w out other (inr (p, is)) (inr (q, at)) =
-    let same = one_log limits sizes log p.records q.records p.fault q.fault p.is_log q.is_log in
-    ap (kept_within limits.document) (same_session limits q.records q.records p.final.events q.final.events refl (subst (λ (w : List Record). IsSession limits w p.final.events) same.0 p.final.session) q.final.session)
-
-pub judges : (limits : Bounds) (log : List ℕ) (v : Verdict) (out : List ℕ) → IsShown limits log v out → Judges limits log v
-judges limits log v out (inl (early, is)) = inl early
-judges limits log v out (inr (whole, is)) = inr whole
+due_is : (limits : Bounds) (log : List ℕ) (v : Verdict) → (p : IsVerdict limits log v) → show_of v p.final.events ≡ lines_of (kept_within limits.document p.final.events) ++ report (as_given v)
+due_is limits log v p = ap (λ k. lines_of k ++ report (as_given v)) (kept_final limits.document p.final.events _ v p.final.says)
 
 pub one_shown : OneShown
-one_shown limits sizes log v w out other p q =
-    let same : v ≡ w = one_verdict limits sizes log v w (judges limits log v out p) (judges limits log w other q) in (
-      same,
-      due_is limits log v out p
-          ∙ ap (λ k. lines_of k ++ report (as_given v)) (same_kept limits sizes log v w out other p q)
-          ∙ ap (λ x. lines_of (kept_within limits.document (events_of limits log w other q)) ++ report (as_given x)) same
-          ∙ sym (due_is limits log w other q),
-    )
+one_shown limits sizes log v w out other (p, is) (q, at) =
+    let same : v ≡ w = one_verdict limits sizes log v w p q in
+    (same, is ∙ ap (show_of v) (same_events limits sizes log v w p q) ∙ ap (λ x. show_of x q.final.events) same ∙ sym at)
 
--- ---- records with which a log begins
+module _ (limits : Bounds) (sizes : IsInRange limits) (log rest : List ℕ) (rs : List Record) (begins : BeginsLog limits log rs rest) where
+  -- the lines of records with which a log begins begin what is due
+  pub begins_due : (events : List Event) → IsSession limits rs events → (w : Verdict) × (left : List ℕ) × IsShown limits log w (lines_of (kept_within limits.document events) ++ left)
+  begins_due events session =
+      let whole = some_verdict limits log in
+      let later = events_first limits sizes log rest rs events whole.0 begins session whole.1 in
+      let tail = lines_front limits.document events later.0 in
+      let told = report (as_given whole.0) in (
+        whole.0,
+        tail.0 ++ told,
+        (
+          whole.1,
+          sym (append_assoc (lines_of (kept_within limits.document events)) tail.0 told)
+              ∙ ap (λ l. l ++ told) (sym tail.1)
+              ∙ ap (λ es. lines_of (kept_within limits.document es) ++ told) (sym later.1)
+              ∙ sym (due_is limits log whole.0 whole.1),
+        ),
+      )
 
-lines_begin : (limits : Bounds) (rs us more : List Record) (es fs : List Event) → us ≡ rs ++ more → IsSession limits rs es → IsSession limits us fs
-    → (tail : List ℕ) × (lines_of (kept_within limits.document fs) ≡ lines_of (kept_within limits.document es) ++ tail)
-lines_begin limits rs us more es fs cut p q =
-    let rest = behind limits rs us more es fs cut p q in
-    let tail = lines_front limits.document es rest.0 in
-    (tail.0, ap (λ w. lines_of (kept_within limits.document w)) rest.1 ∙ tail.1)
-
--- their lines begin what is due
-pub begins_due : (limits : Bounds) → IsInRange limits → (log : List ℕ) (rs : List Record) (rest : List ℕ) (events : List Event) (w : Verdict) (out : List ℕ) → BeginsLog limits log rs rest → IsSession limits rs events → IsShown limits log w out
-    → (left : List ℕ) × (out ≡ lines_of (kept_within limits.document events) ++ left)
-begins_due limits sizes log rs rest events w out begins session p = by_lines (lines p)
-  where
-    lines : (p : IsShown limits log w out) → (tail : List ℕ) × (lines_of (kept_within limits.document (events_of limits log w out p)) ≡ lines_of (kept_within limits.document events) ++ tail)
-    lines (inl (early, is)) = by_begin (both_begin limits sizes log rs early.records rest early.rest begins early.begins)
-      where
-        by_begin : Begin rs early.records → (tail : List ℕ) × (lines_of (kept_within limits.document early.offends.events) ≡ lines_of (kept_within limits.document events) ++ tail)
-        by_begin (inl (more, cut)) = lines_begin limits rs early.records more events early.offends.events cut session early.offends.session
-        by_begin (inr (more, cut)) = (
-          [],
-          ap lines_of (sym (decided limits early.records rs more early.offends.events events w cut early.offends.session session early.offends.offends))
-              ∙ sym (append-nil (lines_of (kept_within limits.document events))),
-        )
-    lines (inr (whole, is)) =
-        let cut = records_come_first limits sizes log rest rs whole.records whole.fault begins whole.is_log in
-        lines_begin limits rs whole.records cut.0 events whole.final.events cut.1 session whole.final.session
-
-    by_lines : (tail : List ℕ) × (lines_of (kept_within limits.document (events_of limits log w out p)) ≡ lines_of (kept_within limits.document events) ++ tail) → (left : List ℕ) × (out ≡ lines_of (kept_within limits.document events) ++ left)
-    by_lines (tail, e) = (
-      tail ++ report (as_given w),
-      due_is limits log w out p ∙ ap (λ l. l ++ report (as_given w)) e ∙ append_assoc (lines_of (kept_within limits.document events)) tail (report (as_given w)),
-    )
+  -- where an event of them offends, their lines and the report are all that is due
+  pub offence_due : (v : Verdict) → (p : Offends limits rs v) → IsShown limits log v (lines_of (kept_within limits.document p.events) ++ report (as_given v))
+  offence_due v p =
+      let whole = offence_decides limits sizes log rest rs v begins p in
+      let later = events_first limits sizes log rest rs p.events v begins p.session whole in (
+        whole,
+        ap (λ k. lines_of k ++ report (as_given v)) (sym (kept_same limits.document p.events later.0 v p.offends) ∙ ap (kept_within limits.document) (sym later.1)) ∙ sym (due_is limits log v whole),
+      )

@@ -4,7 +4,7 @@ use Rattle.std.proofs.KnownBytes.{Appends-trans}
 use Rattle.lsp_frame.specs.Bounds.{Bounds}
 use Rattle.lsp_frame.specs.Sink.{Told, Wrote, Stopped}
 use Rattle.lsp_log.specs.Reader as reader
-use Rattle.lsp_log.specs.Reader.{empty, StandsFor, MayFollow}
+use Rattle.lsp_log.specs.Reader.{empty, StandsFor}
 use Rattle.lsp_judge.specs.declared.outcome.RunFault.{RunFault}
 use Rattle.lsp_judge.specs.declared.ruling.Ruling.{Ruling}
 use Rattle.lsp_judge.specs.declared.ruling.Ruling.TheVariants as rulings
@@ -23,7 +23,6 @@ use Rattle.lsp_judge.specs.Verdict.{Verdict, first_no}
 use Rattle.lsp_judge.proofs.Logging.{SoFar, nothing_taken, took_more, took_smaller, has_read}
 use Rattle.lsp_judge.proofs.Sessions.{some_session, same_session}
 use Rattle.lsp_judge.proofs.Showings.{wrote_none, wrote_more}
-use Rattle.lsp_judge.proofs.ShownLogs.{judges, one_shown}
 
 -- the records that were taken so far, and the lines of their events
 pub record ShownRecords (limits : Bounds) (before now start end : Told) (r : reader.State) (j : judge.State) : Type 0 where
@@ -76,7 +75,6 @@ module _ (limits : Bounds) (before mid now start old new : Told) (r : reader.Sta
   all_showed v a =
       let told = subst (λ (b : Bounds). ShowedAll b mid now old new p.so_far.bytes p.events v) p.so_far.same a in
       record {
-        range = told.range;
         piece = p.so_far.bytes ++ told.piece;
         read = has_read limits before mid now p.so_far.bytes told.piece p.so_far.read told.read;
         failures = told.failures ∙ p.so_far.failures;
@@ -105,7 +103,7 @@ is_judged limits before after old new v a = record {
   piece = a.piece;
   read = a.read;
   failures = a.failures;
-  verdict = λ more follows. let due = a.due more follows in (due.0, judges limits (a.piece ++ more) due.0 _ due.1, due.2);
+  verdict = λ more follows. let due = a.due more follows in (due.0, due.1.0, due.2);
 }
 
 pub wrote_shown : (limits : Bounds) (before after old mid new : Told) (v : Verdict) (bytes : List ℕ) → ShowedAll limits before after old mid [] [] v → bytes ≡ report v → Wrote mid new bytes → WroteShown limits before after old new v
@@ -129,9 +127,7 @@ lines_begun limits before after old new v a = record {
   read = a.read;
   written = a.lines;
   wrote = a.wrote.appends;
-  begins = λ more w out follows p.
-      let due = a.due more follows in
-      (report (as_given due.0), sym (one_shown limits a.range (a.piece ++ more) due.0 w (a.lines ++ report (as_given due.0)) out due.1 p).1);
+  begins = λ more follows. let due = a.due more follows in (due.0, report (as_given due.0), due.1);
 }
 
 -- or not all of it
@@ -141,12 +137,12 @@ report_begun limits before after old mid new v bytes a is told = record {
   read = a.read;
   written = a.lines ++ told.front;
   wrote = Appends-trans old.bytes mid.bytes new.bytes a.lines told.front a.wrote.appends told.appends;
-  begins = λ more w out follows p.
+  begins = λ more follows.
       let due = a.due more follows in (
+        due.0,
         told.back,
-        sym (one_shown limits a.range (a.piece ++ more) due.0 w (a.lines ++ report (as_given due.0)) out due.1 p).1
-            ∙ ap (λ x. a.lines ++ report x) (sym due.2)
-            ∙ ap (λ l. a.lines ++ l) (sym is ∙ told.whole)
-            ∙ sym (append_assoc a.lines told.front told.back),
+        subst (IsShown limits (a.piece ++ more) due.0)
+            (ap (λ x. a.lines ++ report x) (sym due.2) ∙ ap (λ l. a.lines ++ l) (sym is ∙ told.whole) ∙ sym (append_assoc a.lines told.front told.back))
+            due.1,
       );
 }

@@ -1,5 +1,5 @@
 -- A log is shown record by record.
-use Rattle.std.proofs.Common.{◌≡◌, ◌+◌, ◌≤◌, ℕ, List, [], ◌∷◌, ◌++◌, length, Option, Some, None, Result, Ok, Err, OnOk, IfOk, inl, inr, refl, sym, ap, subst, ◌∙◌, append_assoc, append-nil}
+use Rattle.std.proofs.Common.{◌≡◌, ◌+◌, ◌≤◌, ℕ, List, [], ◌∷◌, ◌++◌, length, Option, Some, None, Result, Ok, Err, OnOk, IfOk, refl, sym, ap, subst, ◌∙◌, append_assoc, append-nil}
 use Rattle.std.specs.Prelude.{option_map}
 use Rattle.std.specs.Io.KnownBytes.{Consumes, Appends}
 use Rattle.std.proofs.KnownBytes.{Appends-nil}
@@ -7,7 +7,7 @@ use Rattle.lsp_frame.specs.Bounds.{Bounds}
 use Rattle.lsp_frame.specs.Sink.{Told}
 use Rattle.lsp_log.specs.Log.{Record, BeginsLog, IsLog}
 use Rattle.lsp_log.specs.Reader as reader
-use Rattle.lsp_log.specs.Reader.{kept_by, kept_in, StandsAt, Given, MayFollow}
+use Rattle.lsp_log.specs.Reader.{kept_by, kept_in, StandsAt, Given}
 use Rattle.lsp_log.specs.Records.{record_view}
 use Rattle.lsp_log.specs.declared.record.Record as code
 use Rattle.lsp_log.specs.declared.fault.LogCode.{LogCode}
@@ -20,7 +20,7 @@ use Rattle.lsp_judge.specs.declared.verdict.Verdict as given_verdict
 use Rattle.lsp_judge.specs.Event.{Event}
 use Rattle.lsp_judge.specs.Given.{verdict_view, as_given}
 use Rattle.lsp_judge.specs.Logged.{AreAt}
-use Rattle.lsp_judge.specs.Outcome.{IsFinal, Offends, IsNo}
+use Rattle.lsp_judge.specs.Outcome.{IsFinal, Offends}
 use Rattle.lsp_judge.specs.Placed.{IsSession}
 use Rattle.lsp_judge.specs.Report.{report}
 use Rattle.lsp_judge.specs.RunIo.{TellsSome, sink_failures, source_failures}
@@ -30,9 +30,10 @@ use Rattle.lsp_judge.specs.ShownLog.{IsShown, ShowedOne, ShowedAll, ShowedPart, 
 use Rattle.lsp_judge.specs.Standing as judge
 use Rattle.lsp_judge.specs.Standing.{Stands, is_given}
 use Rattle.lsp_judge.specs.Verdict.{Verdict, first_no}
-use Rattle.lsp_judge.proofs.Logging.{some_final, reads_at, begins_log, as_some, taken_answers}
+use Rattle.lsp_judge.proofs.Logging.{reads_at, begins_log, as_some, taken_answers}
+use Rattle.lsp_judge.proofs.Logs.{some_final, some_verdict}
 use Rattle.lsp_judge.proofs.Sessions.{some_session, same_session}
-use Rattle.lsp_judge.proofs.ShownLogs.{kept_early, kept_final, begins_due}
+use Rattle.lsp_judge.proofs.ShownLogs.{kept_final, begins_due, offence_due}
 use Rattle.lsp_judge.proofs.Showings.{wrote_none}
 
 -- what was written, what was not, and how the failures count
@@ -85,10 +86,9 @@ module _ (r s : reader.State) (j : judge.State) (before after old new : Told) (b
         session = subst (λ (b : Bounds). IsSession b all whole.0) limits whole.1;
         offends = ap (λ (b : Bounds). first_no b.document whole.0) (sym limits) ∙ named.1;
       } in
-      let lines = shown rs events whole.0 at.judged own whole.1 in
+      let lines = subst (λ (b : Bounds). ShowsMore b.document events whole.0 old new (Ok tt)) limits (shown rs events whole.0 at.judged own whole.1) in
       let read = reads_at s.progress s (bytes ++ got.piece) rs (record_view next) free got.stands.1 in
       record {
-        range = at.read.0;
         piece = got.piece;
         read = record { read = got.read; within = subst (λ (b : Bounds). length (bytes ++ got.piece) ≤ b.log + 1) same got.within };
         failures = got.tells;
@@ -96,16 +96,8 @@ module _ (r s : reader.State) (j : judge.State) (before after old new : Told) (b
         wrote = lines.told;
         due = λ more follows.
             let begins = begins_log s (bytes ++ got.piece) all more read in
-            let early : IsNo r.limits ((bytes ++ got.piece) ++ more) named.0 = record { records = all; rest = begins.0; begins = subst (λ (b : Bounds). BeginsLog b ((bytes ++ got.piece) ++ more) all begins.0) same begins.1; offends = offends } in (
-              named.0,
-              inl (
-                early,
-                ap (λ (b : Bounds). (lines_of (kept_within b.document events) ++ lines.lines) ++ report (as_given named.0)) (sym limits)
-                    ∙ ap (λ w. w ++ report (as_given named.0)) (sym lines.added)
-                    ∙ ap (λ k. lines_of k ++ report (as_given named.0)) (sym (kept_early j.limits.document whole.0 named.0 named.1)),
-              ),
-              named.2,
-            );
+            let due = offence_due r.limits at.read.0 ((bytes ++ got.piece) ++ more) begins.0 all (subst (λ (b : Bounds). BeginsLog b ((bytes ++ got.piece) ++ more) all begins.0) same begins.1) named.0 offends in
+            (named.0, subst (λ (l : List ℕ). IsShown r.limits ((bytes ++ got.piece) ++ more) named.0 (l ++ report (as_given named.0))) lines.added due, named.2);
       }
 
   -- a line of it was not written
@@ -125,14 +117,16 @@ module _ (r s : reader.State) (j : judge.State) (before after old new : Told) (b
         lines = wrote.0;
         wrote = wrote.3;
         sink = wrote.4;
-        begins = λ more w out follows p.
+        begins = λ more follows.
             let begins = begins_log s (bytes ++ got.piece) all more read in
-            let due = begins_due r.limits at.read.0 ((bytes ++ got.piece) ++ more) all begins.0 whole.0 w out (subst (λ (b : Bounds). BeginsLog b ((bytes ++ got.piece) ++ more) all begins.0) same begins.1)
-            (subst (λ (b : Bounds). IsSession b all whole.0) at.limits whole.1) p in (
-              wrote.1 ++ due.0,
-              due.1
-                  ∙ ap (λ l. l ++ due.0) (lines.added ∙ ap (λ l. lines_of (kept_within r.limits.document events) ++ l) wrote.2 ∙ sym (append_assoc (lines_of (kept_within r.limits.document events)) wrote.0 wrote.1))
-                  ∙ append_assoc (lines_of (kept_within r.limits.document events) ++ wrote.0) wrote.1 due.0,
+            let due = begins_due r.limits at.read.0 ((bytes ++ got.piece) ++ more) begins.0 all (subst (λ (b : Bounds). BeginsLog b ((bytes ++ got.piece) ++ more) all begins.0) same begins.1)
+            whole.0 (subst (λ (b : Bounds). IsSession b all whole.0) at.limits whole.1) in (
+              due.0,
+              wrote.1 ++ due.1,
+              subst (IsShown r.limits ((bytes ++ got.piece) ++ more) due.0)
+                  (ap (λ l. l ++ due.1) (lines.added ∙ ap (λ l. lines_of (kept_within r.limits.document events) ++ l) wrote.2 ∙ sym (append_assoc (lines_of (kept_within r.limits.document events)) wrote.0 wrote.1))
+                  ∙ append_assoc (lines_of (kept_within r.limits.document events) ++ wrote.0) wrote.1 due.1)
+                  due.2,
             );
       }
 
@@ -165,7 +159,6 @@ module _ (r s : reader.State) (j : judge.State) (before after now : Told) (bytes
       let final = some_final r.limits rs None in
       let named = says rs final.0 at.judged (subst (λ (b : Bounds). IsFinal b rs None final.0) (sym at.limits) final.1) in
       record {
-        range = at.read.0;
         piece = got.piece;
         read = record { read = got.read; within = subst (λ (b : Bounds). length (bytes ++ got.piece) ≤ b.log + 1) same got.within };
         failures = got.tells.2;
@@ -175,7 +168,7 @@ module _ (r s : reader.State) (j : judge.State) (before after now : Told) (bytes
             let whole : (bytes ++ got.piece) ++ more ≡ bytes ++ got.piece = ap (λ (w : List ℕ). (bytes ++ got.piece) ++ w) (follows got.tells.0) ∙ append-nil (bytes ++ got.piece) in
             let is_log : IsLog r.limits (bytes ++ got.piece) rs None = subst (λ (b : Bounds). IsLog b (bytes ++ got.piece) rs None) same got.tells.1 in (
               final.0,
-              inr (record { records = rs; fault = None; is_log = subst (λ (w : List ℕ). IsLog r.limits w rs None) (sym whole) is_log; final = final.1 }, final_lines r.limits rs None final.0 events session final.1),
+              (record { records = rs; fault = None; is_log = subst (λ (w : List ℕ). IsLog r.limits w rs None) (sym whole) is_log; final = final.1 }, final_lines r.limits rs None final.0 events session final.1),
               named,
             );
       }
@@ -187,7 +180,6 @@ module _ (r s : reader.State) (j : judge.State) (before after now : Told) (bytes
       let final = some_final r.limits rs (Some (number, code)) in
       let named = says rs final.0 at.judged (subst (λ (b : Bounds). IsFinal b rs (Some (number, code)) final.0) (sym at.limits) final.1) in
       record {
-        range = at.read.0;
         piece = got.piece;
         read = record { read = got.read; within = subst (λ (b : Bounds). length (bytes ++ got.piece) ≤ b.log + 1) same got.within };
         failures = got.tells.1;
@@ -195,21 +187,26 @@ module _ (r s : reader.State) (j : judge.State) (before after now : Told) (bytes
         wrote = wrote_none now;
         due = λ more follows.
             let is_log : IsLog r.limits ((bytes ++ got.piece) ++ more) rs (Some (number, code)) = subst (λ (b : Bounds). IsLog b ((bytes ++ got.piece) ++ more) rs (Some (number, code))) same (got.tells.0 more follows) in
-            (final.0, inr (record { records = rs; fault = Some (number, code); is_log = is_log; final = final.1 }, final_lines r.limits rs (Some (number, code)) final.0 events session final.1), named);
+            (final.0, (record { records = rs; fault = Some (number, code); is_log = is_log; final = final.1 }, final_lines r.limits rs (Some (number, code)) final.0 events session final.1), named);
       }
 
 module _ (r : reader.State) (j : judge.State) (before after now : Told) (bytes : List ℕ) (rs : List Record) (events : List Event) (at : AreAt r j bytes rs) (session : IsSession r.limits rs events) where
   -- the lines of the records taken begin what is due
-  begun_at : (p : Progress) → kept_in p ≡ None → StandsAt p r bytes rs → (piece more : List ℕ) (w : Verdict) (out : List ℕ) → IsShown r.limits ((bytes ++ piece) ++ more) w out
-      → (left : List ℕ) × (out ≡ (lines_of (kept_within r.limits.document events) ++ []) ++ left)
-  begun_at progress.FirstLine free st piece more w out p =
+  begun_at : (p : Progress) → kept_in p ≡ None → StandsAt p r bytes rs → (piece more : List ℕ)
+      → (w : Verdict) × (left : List ℕ) × IsShown r.limits ((bytes ++ piece) ++ more) w ((lines_of (kept_within r.limits.document events) ++ []) ++ left)
+  begun_at progress.FirstLine free st piece more =
       let none : events ≡ [] = same_session r.limits [] [] events [] refl (subst (λ (w : List Record). IsSession r.limits w events) st.none session) ([], refl, tt) in
-      (out, ap (λ es. (lines_of (kept_within r.limits.document es) ++ []) ++ out) (sym none))
-  begun_at progress.Records free st piece more w out p =
+      let whole = some_verdict r.limits ((bytes ++ piece) ++ more) in
+      (whole.0, show_of whole.0 whole.1.final.events, (whole.1, ap (λ es. (lines_of (kept_within r.limits.document es) ++ []) ++ show_of whole.0 whole.1.final.events) none))
+  begun_at progress.Records free st piece more =
       let begins = begins_log r bytes rs (piece ++ more) st in
-      let due = begins_due r.limits at.read.0 (bytes ++ (piece ++ more)) rs begins.0 events w out begins.1 session (subst (λ (l : List ℕ). IsShown r.limits l w out) (append_assoc bytes piece more) p) in
-      (due.0, due.1 ∙ ap (λ l. l ++ due.0) (sym (append-nil (lines_of (kept_within r.limits.document events)))))
-  begun_at (progress.Over end) free st piece more w out p = absurd cc
+      let due = begins_due r.limits at.read.0 (bytes ++ (piece ++ more)) begins.0 rs begins.1 events session in (
+        due.0,
+        due.1,
+        subst (λ (l : List ℕ). IsShown r.limits l due.0 ((lines_of (kept_within r.limits.document events) ++ []) ++ due.1)) (sym (append_assoc bytes piece more))
+            (subst (λ (l : List ℕ). IsShown r.limits (bytes ++ (piece ++ more)) due.0 (l ++ due.1)) (sym (append-nil (lines_of (kept_within r.limits.document events)))) due.2),
+      )
+  begun_at (progress.Over end) free st piece more = absurd cc
 
   -- nothing more was written
   pub fault_showed : (frames : Bounds) → frames ≡ r.limits → (failed : RunFault) (piece : List ℕ) → Consumes before.bytes after.bytes piece → length (bytes ++ piece) ≤ frames.log + 1 → after.failures ≡ source_failures (Err failed) before.failures
@@ -221,5 +218,5 @@ module _ (r : reader.State) (j : judge.State) (before after now : Told) (bytes :
     lines = [];
     wrote = Appends-nil now.bytes;
     sink = sink;
-    begins = λ more w out follows p. begun_at r.progress at.unread at.read.1 piece more w out p;
+    begins = λ more follows. begun_at r.progress at.unread at.read.1 piece more;
   }

@@ -15,6 +15,7 @@ use Rattle.lsp_rpc.specs.declared.plain.Encoding.{Encoding}
 use Rattle.lsp_rpc.specs.declared.plain.Encoding.TheVariants.{Utf16}
 use Rattle.lsp_rpc.specs.declared.plain.SyncKind.{SyncKind}
 use Rattle.lsp_rpc.specs.declared.plain.SyncKind.TheVariants.{Incremental}
+use Rattle.lsp_judge.specs.Shown.{TextAnswer, text_answer, up_to_editor}
 use Rattle.lsp_judge.specs.Verdict.{Ending, Verdict, verdict, yes}
 
 abbrev with_act : Side → Message → Option Act → Event
@@ -165,3 +166,8 @@ kept_of _ = None
 abbrev pub kept : ℕ → ℕ → ℕ → ℕ → List (ℤ × ℕ) → Option Kept
 kept editor server snapshots unmatched documents =
     Some (record { editor = editor; server = server; snapshots = snapshots; unmatched = unmatched; encoding = Some Utf16; sync = Some Incremental; documents = documents; requests = [] })
+
+-- ---- the text after a message
+
+abbrev pub text_after : ℕ → ℕ → List ℕ → List Event → Ending → TextAnswer
+text_after limit n uri events end = text_answer limit uri (verdict limit events end) (up_to_editor n [] events)

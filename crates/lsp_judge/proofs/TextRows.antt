@@ -10,10 +10,10 @@ use Rattle.json.specs.Word.{word, after_number}
 use Rattle.serde_json.specs.Read.{number_of}
 use Rattle.lsp_log.specs.declared.fault.LogCode.TheVariants.{L4}
 use Rattle.lsp_judge.specs.Event.{Event}
-use Rattle.lsp_judge.specs.Shown.{text_after, text_is, too_few, refused}
+use Rattle.lsp_judge.specs.Shown.{text_is, too_few, refused}
 use Rattle.lsp_judge.specs.Verdict.{Ending, no, bad_log}
 use Rattle.lsp_judge.specs.declared.verdict.Who.TheVariants as who
-use Rattle.lsp_judge.proofs.Templates.{limit, clean, START, OPEN}
+use Rattle.lsp_judge.proofs.Templates.{limit, clean, text_after, START, OPEN}
 
 -- a document is opened twice, by the editor's messages 3 and 4
 abbrev twice : List Event

@@ -10,7 +10,7 @@ use Rattle.lsp_docs.specs.State as docs
 use Rattle.lsp_docs.specs.State.{capped}
 use Rattle.lsp_log.specs.Log.{Record, BeginsLog, IsLog}
 use Rattle.lsp_log.specs.Reader as reader
-use Rattle.lsp_log.specs.Reader.{kept_by, Given, MayFollow}
+use Rattle.lsp_log.specs.Reader.{kept_by, Given}
 use Rattle.lsp_log.specs.Records.{record_view}
 use Rattle.lsp_log.specs.declared.record.Record as record_code
 use Rattle.lsp_log.specs.declared.fault.LogCode.{LogCode}
@@ -36,11 +36,11 @@ use Rattle.lsp_judge.specs.TextAnswers.{answer_view, as_answered}
 use Rattle.lsp_judge.specs.TextRun.{TellsText, TellsStep, TellsNone, reader_failures}
 use Rattle.lsp_judge.specs.Until.{IsReached, IsUntil, RulesBefore, AnswersIn, AnswersBy}
 use Rattle.lsp_judge.specs.Verdict.{Verdict, yes, no, bad_log, is_of, count_of}
-use Rattle.lsp_judge.proofs.Bringing.{no_found}
-use Rattle.lsp_judge.proofs.Logging.{some_final, reads_at, begins_log, SoFar, has_read, broke_all}
+use Rattle.lsp_judge.proofs.Logging.{reads_at, begins_log, SoFar, has_read, broke_all}
+use Rattle.lsp_judge.proofs.Logs.{some_final}
 use Rattle.lsp_judge.proofs.Records.{is_open, kept_limits}
 use Rattle.lsp_judge.proofs.Sessions.{one_session}
-use Rattle.lsp_judge.proofs.TextLogs.{no_reach, no_reach_final}
+use Rattle.lsp_judge.proofs.TextLogs.{text_reached, text_refused, text_missing}
 use Rattle.lsp_judge.proofs.Untils.{count_is}
 
 -- ---- the counts of an answer
@@ -85,26 +85,9 @@ answers_none old new rs n uri ungiven keeps limits until =
 decided : (limits : Bounds) → IsInRange limits → (log : List ℕ) (rs : List Record) (rest : List ℕ) (n : ℕ) (uri : List ℕ) (a : TextAnswer) → BeginsLog limits log rs rest → AnswersIn limits rs n uri a
     → (b : TextAnswer) × AnswersText limits log n uri b × (a ≡ as_answered b)
 decided limits sizes log rs rest n uri a begins (inl (upto, reaches, is)) =
-    let o : Option Version = held limits.document uri (calls upto) in (
-      held_answer o,
-      inl (record { upto = upto; reaches = record { records = rs; rest = rest; begins = begins; reaches = reaches }; says = refl }),
-      is ∙ held_given o,
-    )
-decided limits sizes log rs rest n uri a begins (inr (v, p, is)) = (
-  missing_answer v,
-  inr (record {
-    verdict = v;
-    judges = inl (record {
-      records = rs;
-      rest = rest;
-      begins = begins;
-      offends = record { events = p.before ++ p.event ∷ p.after; session = p.session; offends = no_found limits.document [] p.before p.after p.event v p.clean p.offends };
-    });
-    unreached = no_reach limits sizes log rs rest n v begins p;
-    says = refl;
-  }),
-  is ∙ missing_given v,
-)
+    let o : Option Version = held limits.document uri (calls upto) in
+    (held_answer o, text_reached limits sizes log rest rs n uri begins upto reaches, is ∙ held_given o)
+decided limits sizes log rs rest n uri a begins (inr (v, p, is)) = (missing_answer v, text_refused limits sizes log rest rs n uri begins v p, is ∙ missing_given v)
 
 pub text_taken : (r s : reader.State) (k : judge.State) (before after : Told) (bytes : List ℕ) (rs : List Record) (next : record_code.Record) (n : ℕ) (uri : List ℕ) (answer : Option code.TextAnswer)
     → s.limits ≡ r.limits → k.limits ≡ r.limits → kept_by s ≡ None → Given s before after (Ok (Some next)) bytes rs → AnswersBy k (rs ++ record_view next ∷ []) n uri answer → TellsStep r.limits s k before after bytes rs n uri (Ok answer)
@@ -140,20 +123,16 @@ few_events j rs n ungiven stands few small =
     (o.events, o.is_session, omega (arith, few, count_is j.counts o.events n o.follows.counted few small))
 
 -- an answer that the verdict on the whole log decides
-ended : (limits : Bounds) → IsInRange limits → (j : judge.State) (log : List ℕ) (rs : List Record) (flaw : Option (ℕ × LogCode)) (n : ℕ) (uri : List ℕ) (given : Verdict) (a : TextAnswer) → j.limits ≡ limits → j.given ≡ None → Stands j rs
+ended : (limits : Bounds) (j : judge.State) (log : List ℕ) (rs : List Record) (flaw : Option (ℕ × LogCode)) (n : ℕ) (uri : List ℕ) (given : Verdict) (a : TextAnswer) → j.limits ≡ limits → j.given ≡ None → Stands j rs
     → j.counts.editor < n → n < 2 ^ 64 → IsLog limits log rs flaw → ((records : List Record) (v : Verdict) → Stands j records → IsFinal j.limits records flaw v → given ≡ as_given v) → a ≡ missing_answer given
     → (b : TextAnswer) × AnswersText limits log n uri b × (a ≡ as_answered b)
-ended limits sizes j log rs flaw n uri given a same ungiven stands few small is_log says is =
+ended limits j log rs flaw n uri given a same ungiven stands few small is_log says is =
     let final = some_final limits rs flaw in
     let named = says rs final.0 stands (subst (λ (b : Bounds). IsFinal b rs flaw final.0) (sym same) final.1) in
-    let events = few_events j rs n ungiven stands few small in (
+    let events = few_events j rs n ungiven stands few small in
+    let alike : events.0 ≡ final.1.events = one_session limits rs events.0 final.1.events (subst (λ (b : Bounds). IsSession b rs events.0) same events.1) final.1.session in (
       missing_answer final.0,
-      inr (record {
-        verdict = final.0;
-        judges = inr (record { records = rs; fault = flaw; is_log = is_log; final = final.1 });
-        unreached = no_reach_final limits sizes log rs flaw n events.0 is_log (subst (λ (b : Bounds). IsSession b rs events.0) same events.1) events.2;
-        says = refl;
-      }),
+      text_missing limits log n uri final.0 (record { records = rs; fault = flaw; is_log = is_log; final = final.1 }) (subst (λ (es : List Event). count_of (is_of Editor) es < n) alike events.2),
       is ∙ ap missing_answer named ∙ missing_given final.0,
     )
 
@@ -167,7 +146,7 @@ text_ended r s j before after bytes rs n uri given a same at few small got says 
   answer = λ more follows.
       let whole : (bytes ++ got.piece) ++ more ≡ bytes ++ got.piece = ap (λ (w : List ℕ). (bytes ++ got.piece) ++ w) (follows got.tells.0) ∙ append-nil (bytes ++ got.piece) in
       let is_log : IsLog r.limits (bytes ++ got.piece) rs None = subst (λ (b : Bounds). IsLog b (bytes ++ got.piece) rs None) same got.tells.1 in
-      ended r.limits (subst IsInRange same got.stands.0) j ((bytes ++ got.piece) ++ more) rs None n uri given a at.limits at.ungiven at.judged few small (subst (λ (w : List ℕ). IsLog r.limits w rs None) (sym whole) is_log) says is;
+      ended r.limits j ((bytes ++ got.piece) ++ more) rs None n uri given a at.limits at.ungiven at.judged few small (subst (λ (w : List ℕ). IsLog r.limits w rs None) (sym whole) is_log) says is;
 }
 
 pub text_faulted : (r s : reader.State) (j : judge.State) (before after : Told) (bytes : List ℕ) (rs : List Record) (number : ℕ) (flaw : LogCode) (n : ℕ) (uri : List ℕ) (given : Verdict) (a : TextAnswer)
@@ -178,18 +157,11 @@ text_faulted r s j before after bytes rs number flaw n uri given a same at few s
   read = record { read = got.read; within = subst (λ (b : Bounds). length (bytes ++ got.piece) ≤ b.log + 1) same got.within };
   failures = got.tells.1;
   answer = λ more follows.
-      ended r.limits (subst IsInRange same got.stands.0) j ((bytes ++ got.piece) ++ more) rs (Some (number, flaw)) n uri given a at.limits at.ungiven at.judged few small
+      ended r.limits j ((bytes ++ got.piece) ++ more) rs (Some (number, flaw)) n uri given a at.limits at.ungiven at.judged few small
       (subst (λ (b : Bounds). IsLog b ((bytes ++ got.piece) ++ more) rs (Some (number, flaw))) same (got.tells.0 more follows)) says is;
 }
 
 -- ---- all steps
-
--- a judge that took no record has heard no message
-pub none_heard : (j : judge.State) → j.given ≡ None → Stands j [] → j.counts.editor ≡ 0
-none_heard j ungiven stands =
-    let o = is_open j [] ungiven stands in
-    let none : o.events ≡ [] = one_session j.limits [] o.events [] o.is_session ([], refl, tt) in
-    o.follows.counted.editor ∙ ap (λ es. capped (count_of (is_of Editor) es)) none
 
 pub text_all : (limits : Bounds) (before mid now : Told) (r : reader.State) (j : judge.State) (n : ℕ) (uri : List ℕ) (a : TextAnswer) (so_far : SoFar limits before mid r j) → TellsText r.limits mid now so_far.bytes n uri a → TellsText limits before now [] n uri a
 text_all limits before mid now r j n uri a so_far tells =

@@ -84,10 +84,10 @@ count_at n events upto at =
     ∙ ap (λ k. k + count_of (is_of Editor) at.after) (count_one at.front at.here at.own ∙ at.count)
 
 -- fewer messages don't reach it
-pub unreached : (n : ℕ) (events upto : List Event) → count_of (is_of Editor) events < n → up_to_editor n [] events ≡ Some upto → ⊥
+unreached : (n : ℕ) (events upto : List Event) → count_of (is_of Editor) events < n → up_to_editor n [] events ≡ Some upto → ⊥
 unreached n events upto few e = absurd (omega (arith, few, count_at n events upto (is_reached n events upto e)))
 
-none_yet : (n : ℕ) (events : List Event) → count_of (is_of Editor) events < n → up_to_editor n [] events ≡ None
+pub none_yet : (n : ℕ) (events : List Event) → count_of (is_of Editor) events < n → up_to_editor n [] events ≡ None
 none_yet n events few = by_answer (up_to_editor n [] events) refl
   where
     by_answer : (o : Option (List Event)) → up_to_editor n [] events ≡ o → o ≡ None

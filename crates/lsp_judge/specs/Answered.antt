@@ -1,43 +1,20 @@
--- What is answered on a log and on records, in plain words.
-use Rattle.std.specs.Prelude.{◌≡◌, ◌⊎◌, ℕ, List, Option, Some, None}
+-- What is answered on records and on a log, in plain words.
+use Rattle.std.specs.Prelude.{◌≡◌, ℕ, List, Option, Some, None}
 use Rattle.lsp_frame.specs.Bounds.{Bounds}
 use Rattle.lsp_rpc.specs.declared.plain.Side.TheVariants.{Editor, Server}
-use Rattle.lsp_log.specs.Log.{Record, BeginsLog, IsLog}
+use Rattle.lsp_log.specs.Log.{Record, IsLog}
 use Rattle.lsp_judge.specs.declared.ruling.Ruling.{Ruling}
 use Rattle.lsp_judge.specs.declared.verdict.Verdict as code
 use Rattle.lsp_judge.specs.Event.{Event}
 use Rattle.lsp_judge.specs.Given.{verdict_view, as_given}
 use Rattle.lsp_judge.specs.Headline.{Names, HasRest107}
 use Rattle.lsp_judge.specs.Kept.{NothingOffends, AreFrames}
-use Rattle.lsp_judge.specs.Outcome.{Judges}
+use Rattle.lsp_judge.specs.Outcome.{IsVerdict}
 use Rattle.lsp_judge.specs.Placed.{IsSession, joined}
 use Rattle.lsp_judge.specs.Report.{report}
 use Rattle.lsp_judge.specs.Rulings.{verdict_in}
 use Rattle.lsp_judge.specs.RunIo.{OfRead, AppendsFront}
 use Rattle.lsp_judge.specs.Verdict.{Verdict, yes, summary}
-
--- ---- No of a log
-
--- the log begins with records of which this event offends by the rule given, the least that it offends, and no earlier one does
-pub record OffendsFirst (limits : Bounds) (log : List ℕ) (v : Verdict) : Type 0 where
-  pub records : List Record
-  pub rest : List ℕ
-  pub events : List Event
-  pub begins : BeginsLog limits log records rest
-  pub session : IsSession limits records events
-  pub names : Names limits.document events v
-
--- the log has no fault, no event offends, and a stream ends inside a frame: 107 is given, the editor's named first
-pub record EndsInsideFrame (limits : Bounds) (log : List ℕ) (v : Verdict) : Type 0 where
-  pub records : List Record
-  pub events : List Event
-  pub is_log : IsLog limits log records None
-  pub session : IsSession limits records events
-  pub names : HasRest107 limits records None events v
-
--- **What No says of a log.**
-abbrev pub IsRefused : Bounds → List ℕ → Verdict → Type 0
-IsRefused limits log v = OffendsFirst limits log v ⊎ EndsInsideFrame limits log v
 
 -- ---- No of records, whatever their length: a count past the greatest u64 is given as that
 
@@ -80,10 +57,10 @@ SaysYes limits events given = given ≡ as_given (yes (summary limits.document e
 
 -- ---- a report
 
--- a verdict on the log read was found, and a prefix of its report is written
+-- the verdict on the log read was found, and a prefix of its report is written
 pub record IsReportCut (limits : Bounds) (before after old new : Option (List ℕ)) : Type 0 where
   pub given : Verdict
-  pub says : OfRead limits before after (λ log. Judges limits log given)
+  pub says : OfRead limits before after (λ log. IsVerdict limits log given)
   pub writes : AppendsFront old new (report given)
 
 -- ---- given for good

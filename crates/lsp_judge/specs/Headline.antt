@@ -8,8 +8,7 @@ use Rattle.lsp_judge.specs.declared.verdict.Who.{Who}
 use Rattle.lsp_judge.specs.declared.verdict.Who.TheVariants as who
 use Rattle.lsp_judge.specs.Event.{Event}
 use Rattle.lsp_judge.specs.Kept.{NothingOffends, AreFrames, IsKept}
-use Rattle.lsp_judge.specs.Given.{as_given}
-use Rattle.lsp_judge.specs.Outcome.{HasRest, IsVerdict, Judges}
+use Rattle.lsp_judge.specs.Outcome.{HasRest, IsVerdict}
 use Rattle.lsp_judge.specs.Placed.{IsSession, joined}
 use Rattle.lsp_judge.specs.Verdict.{Verdict, Summary, yes, no, bad_log, summary, no_by, no_next, offence}
 
@@ -72,9 +71,3 @@ pub record HasFault (limits : Bounds) (log : List ℕ) (number : ℕ) (code : Lo
 -- **BadLog is said only where the log has that fault**, and nothing offends.
 abbrev pub BadLogMeansFault : Type 0
 BadLogMeansFault = (limits : Bounds) (log : List ℕ) (number : ℕ) (code : LogCode) → IsVerdict limits log (bad_log number code) → HasFault limits log number code
-
--- ---- what is answered on a log
-
--- **A Yes that is answered means kept**, whatever its counts.
-abbrev pub YesAnswerMeansKept : Type 0
-YesAnswerMeansKept = (limits : Bounds) → IsInRange limits → (log : List ℕ) (v : Verdict) (s : Summary) → Judges limits log v → yes s ≡ as_given v → IsKept limits log

@@ -5,7 +5,7 @@ use Rattle.lsp_session.specs.Sent.{same_side}
 use Rattle.lsp_log.specs.Log.{Record, chunk}
 use Rattle.lsp_log.specs.declared.fault.LogCode.{LogCode}
 use Rattle.lsp_judge.specs.Event.{Event}
-use Rattle.lsp_judge.specs.Outcome.{IsFinal, Judges}
+use Rattle.lsp_judge.specs.Outcome.{IsFinal, IsVerdict}
 use Rattle.lsp_judge.specs.Placed.{IsSession}
 use Rattle.lsp_judge.specs.Verdict.{Verdict}
 
@@ -39,6 +39,10 @@ CutsLeaveVerdict = (limits : Bounds) (records others : List Record) (fault : Opt
 
 -- ---- logs
 
--- **A log has one verdict**, and what is answered before its end is it.
+-- **All bytes have a verdict.**
+abbrev pub SomeVerdict : Type 0
+SomeVerdict = (limits : Bounds) (log : List ℕ) → (v : Verdict) × IsVerdict limits log v
+
+-- **And they have one only.**
 abbrev pub OneVerdict : Type 0
-OneVerdict = (limits : Bounds) → IsInRange limits → (log : List ℕ) (v w : Verdict) → Judges limits log v → Judges limits log w → v ≡ w
+OneVerdict = (limits : Bounds) → IsInRange limits → (log : List ℕ) (v w : Verdict) → IsVerdict limits log v → IsVerdict limits log w → v ≡ w

@@ -34,3 +34,4 @@ pub mod TextAnswers
 pub mod TextRun
 pub mod Until
 pub mod Apart
+pub mod Interleaving

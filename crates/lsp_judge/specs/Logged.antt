@@ -11,7 +11,7 @@ use Rattle.lsp_judge.specs.declared.run.JudgeFault.{JudgeFault}
 use Rattle.lsp_judge.specs.declared.run.JudgeFault.TheVariants as faults
 use Rattle.lsp_judge.specs.declared.verdict.Verdict as code
 use Rattle.lsp_judge.specs.Given.{verdict_view, as_given}
-use Rattle.lsp_judge.specs.Outcome.{Judges}
+use Rattle.lsp_judge.specs.Outcome.{IsVerdict}
 use Rattle.lsp_judge.specs.Standing as judge
 use Rattle.lsp_judge.specs.Standing.{Stands}
 use Rattle.lsp_judge.specs.Verdict.{Verdict}
@@ -42,7 +42,7 @@ pub record Answers (limits : Bounds) (before after : Told) (bytes : List ℕ) (v
   pub piece : List ℕ
   pub read : HasRead limits before after bytes piece
   pub failures : after.failures ≡ before.failures
-  pub verdict : (more : List ℕ) → MayFollow after more → (w : Verdict) × Judges limits ((bytes ++ piece) ++ more) w × (v ≡ as_given w)
+  pub verdict : (more : List ℕ) → MayFollow after more → (w : Verdict) × IsVerdict limits ((bytes ++ piece) ++ more) w × (v ≡ as_given w)
 
 -- the failures of a reader where a log got no verdict
 abbrev pub failures_of : JudgeFault → ℕ → ℕ

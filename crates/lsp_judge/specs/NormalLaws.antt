@@ -5,7 +5,7 @@ use Rattle.lsp_log.specs.Log.{Record, IsLog}
 use Rattle.lsp_log.specs.declared.fault.LogCode.{LogCode}
 use Rattle.lsp_judge.specs.Normal.{IsNormal}
 use Rattle.lsp_judge.specs.Placed.{Raw, content, broken, show, Placed}
-use Rattle.lsp_judge.specs.Outcome.{Judges}
+use Rattle.lsp_judge.specs.Outcome.{IsVerdict}
 use Rattle.lsp_judge.specs.Verdict.{Verdict, yes, no, bad_log}
 
 -- **A log has one normal form**, which ends with one fault or none.
@@ -41,4 +41,4 @@ IsOnEvents (bad_log number code) = ⊥
 
 -- **It has the verdict of the log**, where that is on messages and snapshots.
 abbrev pub NormalFormKeepsVerdict : Type 0
-NormalFormKeepsVerdict = (limits : Bounds) → IsInRange limits → (log out : List ℕ) (fault : Option Verdict) (v : Verdict) → Judges limits log v → IsOnEvents v → IsNormal limits log out fault → length out ≤ limits.log → Judges limits out v
+NormalFormKeepsVerdict = (limits : Bounds) → IsInRange limits → (log out : List ℕ) (fault : Option Verdict) (v : Verdict) → IsVerdict limits log v → IsOnEvents v → IsNormal limits log out fault → length out ≤ limits.log → IsVerdict limits out v

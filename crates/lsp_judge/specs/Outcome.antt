@@ -1,10 +1,10 @@
 -- The verdict on the bytes of a log.
-use Rattle.std.specs.Prelude.{◌≡◌, ◌⊎◌, ℕ, List, [], ◌∷◌, Bool, true, false, Option, Some}
+use Rattle.std.specs.Prelude.{◌≡◌, ℕ, List, [], ◌∷◌, Bool, true, false, Option, Some}
 use Rattle.lsp_frame.specs.Bounds.{Bounds}
 use Rattle.lsp_frame.specs.Frame.{IsStream}
 use Rattle.lsp_rpc.specs.declared.plain.Side.TheVariants.{Editor, Server}
 use Rattle.lsp_log.specs.declared.fault.LogCode.{LogCode}
-use Rattle.lsp_log.specs.Log.{Record, IsLog, BeginsLog}
+use Rattle.lsp_log.specs.Log.{Record, IsLog}
 use Rattle.lsp_judge.specs.Placed.{IsSession, joined}
 use Rattle.lsp_judge.specs.Event.{Event}
 use Rattle.lsp_judge.specs.Verdict.{Verdict, Ending, verdict, first_no}
@@ -42,14 +42,3 @@ pub record Offends (limits : Bounds) (records : List Record) (v : Verdict) : Typ
   pub events : List Event
   pub session : IsSession limits records events
   pub offends : first_no limits.document events ≡ Some v
-
--- the log begins with records of which an event offends, so that it doesn't matter how it goes on
-pub record IsNo (limits : Bounds) (log : List ℕ) (v : Verdict) : Type 0 where
-  pub records : List Record
-  pub rest : List ℕ
-  pub begins : BeginsLog limits log records rest
-  pub offends : Offends limits records v
-
--- what a judge may answer on a log: a No that nothing behind it changes, or the verdict on all of it
-abbrev pub Judges : Bounds → List ℕ → Verdict → Type 0
-Judges limits log v = IsNo limits log v ⊎ IsVerdict limits log v

@@ -14,7 +14,7 @@ use Rattle.lsp_judge.specs.LookBack.{each_from}
 use Rattle.lsp_judge.specs.Event.{Event, message, fault, snapshot}
 use Rattle.lsp_judge.specs.Calls.{calls}
 use Rattle.lsp_judge.specs.Given.{as_given}
-use Rattle.lsp_judge.specs.Verdict.{Verdict, yes, no, Ending, verdict, first_no, is_of, count_of}
+use Rattle.lsp_judge.specs.Verdict.{Verdict, yes, no, first_no, is_of, count_of}
 use Rattle.lsp_judge.specs.Report.{line, side_name, report}
 
 -- ---- events
@@ -88,10 +88,7 @@ missing_answer (yes s) = too_few
 missing_answer (no rule who count event) = if rule == 107 then too_few else refused (no rule who count event)
 missing_answer v = refused v
 
+-- the text that is held for a URI just after the editor's n-th message, where these are the events up to it
 abbrev pub text_answer : ℕ → List ℕ → Verdict → Option (List Event) → TextAnswer
 text_answer limit uri v (Some events) = if is_some (first_no limit events) then missing_answer v else held_answer (held limit uri (calls events))
 text_answer limit uri v None = missing_answer v
-
--- the text that is held for a URI just after the editor's n-th message
-abbrev pub text_after : ℕ → ℕ → List ℕ → List Event → Ending → TextAnswer
-text_after limit n uri events end = text_answer limit uri (verdict limit events end) (up_to_editor n [] events)

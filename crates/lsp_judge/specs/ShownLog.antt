@@ -1,5 +1,5 @@
 -- What is written where a log is shown: a line for each event before the verdict's place, and the report.
-use Rattle.std.specs.Prelude.{◌≡◌, ◌⊎◌, ℕ, List, [], ◌∷◌, ◌++◌, Option, Some, None, Result, Ok, Err}
+use Rattle.std.specs.Prelude.{◌≡◌, ℕ, List, [], ◌∷◌, ◌++◌, Option, Some, None, Result, Ok, Err}
 use Rattle.std.specs.Io.KnownBytes.{Appends}
 use Rattle.lsp_frame.specs.Bounds.{Bounds, IsInRange}
 use Rattle.lsp_frame.specs.Sink.{Told, Wrote}
@@ -13,7 +13,7 @@ use Rattle.lsp_judge.specs.declared.verdict.Verdict as code
 use Rattle.lsp_judge.specs.Event.{Event}
 use Rattle.lsp_judge.specs.Given.{verdict_view, as_given}
 use Rattle.lsp_judge.specs.Logged.{HasRead, TookOne, Answers}
-use Rattle.lsp_judge.specs.Outcome.{IsNo, IsVerdict}
+use Rattle.lsp_judge.specs.Outcome.{IsVerdict}
 use Rattle.lsp_judge.specs.Placed.{IsSession}
 use Rattle.lsp_judge.specs.Report.{report}
 use Rattle.lsp_judge.specs.RunIo.{source_failures, sink_failures}
@@ -24,11 +24,9 @@ use Rattle.lsp_judge.specs.Verdict.{Verdict}
 
 -- ---- a log
 
--- **what is due for a log**: the lines of the events before the verdict's place, and the report; where an event offends, it doesn't matter how the log goes on
+-- **what is due for a log**: the lines of the events before the verdict's place, and the report
 abbrev pub IsShown : Bounds → List ℕ → Verdict → List ℕ → Type 0
-IsShown limits log v out =
-    ((early : IsNo limits log v) × (out ≡ show_of v early.offends.events))
-    ⊎ ((whole : IsVerdict limits log v) × (out ≡ show_of v whole.final.events))
+IsShown limits log v out = (whole : IsVerdict limits log v) × (out ≡ show_of v whole.final.events)
 
 -- **One verdict is shown of a log, and one output**
 abbrev pub OneShown : Type 0
@@ -43,7 +41,6 @@ pub record ShowedOne (r : reader.State) (j : judge.State) (before after old new 
 
 -- the verdict was found: behind the lines of these events others were written, and then the report is due, whatever follows where the reader's end was not met
 pub record ShowedAll (limits : Bounds) (before after old new : Told) (bytes : List ℕ) (events : List Event) (v : Verdict) : Type 0 where
-  pub range : IsInRange limits
   pub piece : List ℕ
   pub read : HasRead limits before after bytes piece
   pub failures : after.failures ≡ before.failures
@@ -60,8 +57,8 @@ pub record ShowedPart (limits : Bounds) (before after old new : Told) (bytes : L
   pub lines : List ℕ
   pub wrote : Appends old.bytes new.bytes lines
   pub sink : new.failures ≡ sink_failures (Err fault) old.failures
-  pub begins : (more : List ℕ) (w : Verdict) (out : List ℕ) → MayFollow after more → IsShown limits ((bytes ++ piece) ++ more) w out
-      → (left : List ℕ) × (out ≡ (lines_of (kept_within limits.document events) ++ lines) ++ left)
+  pub begins : (more : List ℕ) → MayFollow after more
+      → (w : Verdict) × (left : List ℕ) × IsShown limits ((bytes ++ piece) ++ more) w ((lines_of (kept_within limits.document events) ++ lines) ++ left)
 
 abbrev pub StepShows : Bounds → reader.State → judge.State → Told → Told → Told → Told → List ℕ → List Record → List Event → Result (Option code.Verdict) RunFault → Type 0
 StepShows limits r j before after old new bytes records events (Ok None) = ShowedOne r j before after old new bytes records events
@@ -99,4 +96,4 @@ pub record IsBegun (limits : Bounds) (before after old new : Told) : Type 0 wher
   pub read : HasRead limits before after [] piece
   pub written : List ℕ
   pub wrote : Appends old.bytes new.bytes written
-  pub begins : (more : List ℕ) (w : Verdict) (out : List ℕ) → MayFollow after more → IsShown limits (piece ++ more) w out → (left : List ℕ) × (out ≡ written ++ left)
+  pub begins : (more : List ℕ) → MayFollow after more → (w : Verdict) × (left : List ℕ) × IsShown limits (piece ++ more) w (written ++ left)

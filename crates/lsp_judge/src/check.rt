@@ -2,12 +2,12 @@
 ghost use Rattle.std.specs.Prelude.{◌≡◌, ℕ, ◌+◌, List, Ok, Err, IfOk};
 ghost use Rattle.std.specs.Io.KnownBytes.{Appends, IsAtEnd};
 ghost use Rattle.lsp_log.specs.declared.fault.LogCode.{LogCode};
-ghost use Rattle.lsp_judge.specs.Answered.{IsRefused, IsClean, IsReportCut};
+ghost use Rattle.lsp_judge.specs.Answered.{IsClean, IsReportCut};
 ghost use Rattle.lsp_judge.specs.Event.{Event};
 ghost use Rattle.lsp_judge.specs.Given.{verdict_view};
-ghost use Rattle.lsp_judge.specs.Headline.{HasFault};
+ghost use Rattle.lsp_judge.specs.Headline.{HasFault, Refuses};
 ghost use Rattle.lsp_judge.specs.Kept.{IsKept};
-ghost use Rattle.lsp_judge.specs.Outcome.{Judges};
+ghost use Rattle.lsp_judge.specs.Outcome.{IsVerdict};
 ghost use Rattle.lsp_judge.specs.Report.{report};
 ghost use Rattle.lsp_judge.specs.RunIo.{OfRead, GaveAtMost, source_failures, sink_failures};
 ghost use Rattle.lsp_judge.specs.Verdict.{yes, no, summary};
@@ -47,7 +47,7 @@ pub fn run_check<R: Source, W: Sink>(
     // report and nothing else is written.
     ensures judged { IfOk result (λ outcome. (v : Verdict) × (outcome ≡ Outcome.Judged v)) }
     ensures verdict { (v : Verdict) → result ≡ Ok (Outcome.Judged v)
-        → OfRead limits (R.remaining reader.old) (R.remaining reader.new) (λ log. Judges limits log (verdict_view v)) }
+        → OfRead limits (R.remaining reader.old) (R.remaining reader.new) (λ log. IsVerdict limits log (verdict_view v)) }
     ensures report { (v : Verdict) → result ≡ Ok (Outcome.Judged v)
         → Appends (W.taken writer.old) (W.taken writer.new) (report (verdict_view v)) }
 
@@ -58,7 +58,7 @@ pub fn run_check<R: Source, W: Sink>(
     // A No names the first event that offends, and its least rule; or the stream that ends inside a
     // frame.
     ensures no { (rule number event : ℕ) (who : Who) → result ≡ Ok (Outcome.Judged (Verdict.No rule who number event))
-        → OfRead limits (R.remaining reader.old) (R.remaining reader.new) (λ log. IsRefused limits log (no rule who number event)) }
+        → OfRead limits (R.remaining reader.old) (R.remaining reader.new) (λ log. Refuses limits log (no rule who number event)) }
     // A bad log has that fault, and no event before it offends.
     ensures bad_log { (number : ℕ) (code : LogCode) → result ≡ Ok (Outcome.Judged (Verdict.BadLog number code))
         → OfRead limits (R.remaining reader.old) (R.remaining reader.new) (λ log. HasFault limits log number code) }

@@ -1,5 +1,5 @@
 //! The events of a session, judged one after another.
-ghost use Rattle.std.specs.Prelude.{◌≡◌, ◌++◌, ◌∷◌, [], List, None, Option, option_and_then, IfOk, IfErr, OnOk, OnErr, chars, map, unwrap_or};
+ghost use Rattle.std.specs.Prelude.{◌≡◌, ◌++◌, ◌∷◌, [], ℕ, List, None, Option, option_and_then, IfSome, IfOk, IfErr, OnOk, OnErr, chars, map, unwrap_or};
 ghost use Rattle.std.specs.List.{cons_option};
 ghost use Rattle.lsp_rpc.specs.View.{act_view, changes_view, message_view};
 ghost use Rattle.lsp_rpc.specs.Message.{Message as SpecMessage};
@@ -8,7 +8,8 @@ ghost use Rattle.lsp_docs.specs.Calls.{Call, changes};
 ghost use Rattle.lsp_docs.specs.Fault as doc_fault;
 ghost use Rattle.lsp_docs.specs.Rules.{call_rule};
 ghost use Rattle.lsp_docs.specs.State as docs_state;
-ghost use Rattle.lsp_judge.specs.Apart.{IsApart};
+ghost use Rattle.lsp_session.specs.State.{State as SpecSession};
+ghost use Rattle.lsp_judge.specs.Apart.{IsApart, Says};
 ghost use Rattle.lsp_judge.specs.Calls.{call_of, edit_of};
 ghost use Rattle.lsp_judge.specs.Contents.{ReadsAs};
 ghost use Rattle.lsp_judge.specs.Event.{Event, snapshot as shown};
@@ -25,7 +26,7 @@ use crate::verdict::Who;
 use lsp_docs::{DocFault, Docs};
 use lsp_frame::Limits;
 use lsp_rpc::{
-    Act, Change, Encoding, Message, OutlineReader, RpcFault, Side, SyncKind, read, take_act,
+    Act, Change, Encoding, Message, OutlineReader, RpcFault, Side, Spoken, SyncKind, read, take_act,
 };
 use lsp_session::Session;
 use lsp_text::TextStore;
@@ -106,13 +107,12 @@ impl<S: TextStore> Events<S> {
         ensures rule { IfErr result (λ fault. (events : List Event) → Holds self.old.session self.old.docs events
             → Refuses side content.now self.old.docs.limit events fault) }
     {
-        let mut message = read_content(alloc, &self.session, &mut self.messages, content)?;
-        let act = take_act(alloc, &mut message, side)?;
+        let spoken = spoken_in(alloc, &self.session, &mut self.messages, side, content)?;
         let encoding = self.session.encoding().unwrap_or(Encoding::Utf16);
         let kind = self.session.sync_kind().unwrap_or(SyncKind::Nothing);
-        self.session.admit(side, &message, &act)?;
-        apply(&mut self.docs, encoding, kind, &act)?;
-        Ok(message)
+        self.session.admit(side, &spoken.message, &spoken.act)?;
+        apply(&mut self.docs, encoding, kind, &spoken.act)?;
+        Ok(spoken.message)
     }
 }
 
@@ -130,6 +130,49 @@ fn read_content(
         read(alloc, content)
     } else {
         messages.read_answer(content)
+    }
+}
+
+/// Reads a content with what it means on its side.
+fn read_spoken(
+    alloc: Global,
+    session: &Session,
+    messages: &mut OutlineReader,
+    side: Side,
+    content: &[u8],
+) -> Result<Spoken, Fault>
+    ensures ok { IfOk result (λ spoken. Says session.now side content.now (message_view spoken.message) (act_view spoken.act)) }
+    ensures rule { IfErr result (λ fault. (limit : ℕ) (events : List Event) → Refuses side content.now limit events fault) }
+{
+    let mut message = read_content(alloc, session, messages, content)?;
+    let act = take_act(alloc, &mut message, side)?;
+    Ok(Spoken { message, act })
+}
+
+/// A change of a document, where the content is one of the common form.
+fn change_in(messages: &mut OutlineReader, side: Side, content: &[u8]) -> Option<Spoken>
+    ensures { (session : SpecSession) → IfSome result (λ spoken. Says session side content.now (message_view spoken.message) (act_view spoken.act)) }
+{
+    match side {
+        Side::Editor => messages.read_change(content),
+        Side::Server => None,
+    }
+}
+
+/// Reads a content with what it means on its side, the most common ones without a tree of values.
+fn spoken_in(
+    alloc: Global,
+    session: &Session,
+    messages: &mut OutlineReader,
+    side: Side,
+    content: &[u8],
+) -> Result<Spoken, Fault>
+    ensures ok { IfOk result (λ spoken. Says session.now side content.now (message_view spoken.message) (act_view spoken.act)) }
+    ensures rule { IfErr result (λ fault. (limit : ℕ) (events : List Event) → Refuses side content.now limit events fault) }
+{
+    match change_in(messages, side, content) {
+        Some(spoken) => Ok(spoken),
+        None => read_spoken(alloc, session, messages, side, content),
     }
 }
 

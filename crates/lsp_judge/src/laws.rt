@@ -1,7 +1,7 @@
 //! Laws over the definitions: each is the contract of a function that does nothing.
-ghost use Rattle.lsp_judge.specs.Headline.{BadLogMeansFault, KeptMeansYes, NoNamesTheFirst, YesAnswerMeansKept, YesMeansKept};
-ghost use Rattle.lsp_judge.specs.Laws.{CutsDontMatter, CutsLeaveVerdict, OneSession, OneVerdict, SomeSession};
-ghost use Rattle.lsp_judge.specs.TextAfter.{OneText, TextOfSession};
+ghost use Rattle.lsp_judge.specs.Headline.{BadLogMeansFault, KeptMeansYes, NoNamesTheFirst, YesMeansKept};
+ghost use Rattle.lsp_judge.specs.Laws.{CutsDontMatter, CutsLeaveVerdict, OneSession, OneVerdict, SomeSession, SomeVerdict};
+ghost use Rattle.lsp_judge.specs.TextAfter.{OneText};
 
 /// Yes means: the log has no fault, both streams are complete frames, no message breaks the
 /// lifecycle, every response answers one earlier open request and none is answered twice, the
@@ -15,11 +15,6 @@ pub fn yes_means_kept()
 /// complete frames.
 pub fn kept_means_yes()
     ensures { KeptMeansYes }
-{}
-
-/// And so does a Yes that is answered on a log.
-pub fn yes_answer_means_kept()
-    ensures { YesAnswerMeansKept }
 {}
 
 /// No names an event that offends, with its least rule, and no earlier event offends; or the
@@ -53,18 +48,17 @@ pub fn cuts_leave_verdict()
     ensures { CutsLeaveVerdict }
 {}
 
-/// A log has one verdict, and a No that is answered before the log's end is it.
+/// All bytes have a verdict: each list of bytes is a log, of which each stream has a reading.
+pub fn some_verdict()
+    ensures { SomeVerdict }
+{}
+
+/// And one only, so that the verdict is a function of the bytes and the limits.
 pub fn one_verdict()
     ensures { OneVerdict }
 {}
 
-/// A log has one answer for the text after a message of the editor's, and one that is given before
-/// the log's end is it.
+/// A log has one answer for the text after a message of the editor's.
 pub fn one_text()
     ensures { OneText }
-{}
-
-/// That answer is what its whole session says.
-pub fn text_of_session()
-    ensures { TextOfSession }
 {}

@@ -12,6 +12,7 @@ mod counts;
 mod events;
 mod fault;
 mod frames;
+mod interleaving_laws;
 mod judge;
 mod laws;
 mod names;
@@ -36,11 +37,13 @@ mod view;
 
 pub use check::run_check;
 pub use frames::run_frames;
+pub use interleaving_laws::{
+    both_yes_agree, handshake_in_turn, only_order_offends, sessions_are_read,
+};
 pub use judge::Judge;
 pub use laws::{
     bad_log_means_fault, cuts_dont_matter, cuts_leave_verdict, kept_means_yes, no_names_the_first,
-    one_session, one_text, one_verdict, some_session, text_of_session, yes_answer_means_kept,
-    yes_means_kept,
+    one_session, one_text, one_verdict, some_session, some_verdict, yes_means_kept,
 };
 pub use lsp_frame::{Input, Limits, Output};
 pub use lsp_log::LogCode;

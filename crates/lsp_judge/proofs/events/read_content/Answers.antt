@@ -1,4 +1,3 @@
-use Rattle.std.proofs.Common.{◌∙◌}
 use Rattle.std.proofs.lemmas.Result.{IfOk-weaker}
 use Rattle.lsp_rpc.specs.View.{message_view}
 use Rattle.lsp_judge.proofs.Apart.{apart, whole_read}
