@@ -1,5 +1,5 @@
 //! Frames from bytes that come in pieces (LSP 3.17, "Base Protocol").
-ghost use Rattle.std.specs.Prelude.{◌≡◌, ◌≤◌, ◌+◌, ℕ, List, [], ◌++◌, length, drop, vec_len, Some, None, Err, Result, IsSome, IsOk, OnOk, OnErr};
+ghost use Rattle.std.specs.Prelude.{◌≡◌, ◌≤◌, ◌+◌, ℕ, List, [], ◌++◌, length, drop, vec_len, vec_capacity, Some, None, Err, Result, IsSome, IsOk, OnOk, OnErr};
 ghost use Rattle.std.specs.Borrow.{sem};
 ghost use Rattle.lsp_frame.specs.Frame.{Frames, IsStream};
 ghost use Rattle.lsp_frame.specs.Decoder.{empty, pushed, held_of, finish_of, StandsFor};
@@ -65,6 +65,22 @@ impl Model for Decoder {
         × FaultStands a.limits (drop a.start a.buffer.items) a.fault };
 }
 
+/// Drops the bytes before a place. Only those behind it are moved, where they fit in front of it.
+fn drop_front(buffer: &mut Vec<u8>, start: usize)
+    requires { start ≤ vec_len buffer.old }
+    ensures items { buffer.new.items ≡ drop start buffer.old.items }
+    ensures capacity { vec_capacity buffer.new ≡ vec_capacity buffer.old }
+{
+    let rest = buffer.len() - start;
+    if rest <= start {
+        let (front, back) = buffer.split_at_mut(start);
+        front[..rest].copy_from_slice(back);
+    } else {
+        buffer.rotate_left(start);
+    }
+    buffer.truncate(rest);
+}
+
 /// Drops the bytes before a place, and appends the piece. An `Err` changes nothing.
 fn push_after(buffer: &mut Vec<u8>, start: usize, piece: &[u8]) -> Result<(), AllocError>
     requires { start ≤ vec_len buffer.old }
@@ -75,10 +91,7 @@ fn push_after(buffer: &mut Vec<u8>, start: usize, piece: &[u8]) -> Result<(), Al
     if buffer.capacity() - rest < piece.len() {
         buffer.reserve(piece.len())?;
     }
-    if start > 0 {
-        buffer.rotate_left(start);
-        buffer.truncate(rest);
-    }
+    drop_front(buffer, start);
     buffer.extend_from_slice(piece)
 }
 

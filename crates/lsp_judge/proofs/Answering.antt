@@ -1,17 +1,10 @@
 -- What is answered on a log and on records means what the verdict on it means.
-use Rattle.std.proofs.Common.{◌≡◌, ◌⊎◌, ℕ, ◌+◌, ◌≤◌, ◌<◌, ◌^◌, Bool, true, false, List, [], ◌∷◌, ◌++◌, Option, Some, None, Result, Ok, inl, inr, refl, sym, ap, subst, ◌∙◌, length, length-append, arith}
+use Rattle.std.proofs.Common.{◌≡◌, ◌⊎◌, ℕ, ◌+◌, Bool, true, false, List, [], ◌∷◌, Option, Some, None, Result, Ok, inl, inr, refl, sym, ap, subst, ◌∙◌}
 use Rattle.std.specs.Prelude.{IfOk, option_map}
 use Rattle.std.specs.Io.KnownBytes.{IsAtEnd}
-use Rattle.std.specs.List.{flat_map, AllZip}
-use Rattle.std.proofs.lemmas.List.{length-take}
-use Rattle.std.proofs.lemmas.Option.{same_Some}
 use Rattle.lsp_frame.specs.Bounds.{Bounds, IsInRange}
 use Rattle.lsp_frame.specs.Sink.{Told, Stopped}
-use Rattle.lsp_docs.specs.Snapshots.{unmatched}
-use Rattle.lsp_docs.specs.State.{capped}
-use Rattle.lsp_rpc.specs.declared.plain.Side.TheVariants.{Editor, Server}
-use Rattle.lsp_log.specs.declared.fault.LogCode.{LogCode}
-use Rattle.lsp_log.specs.Log.{Record, spelling, first_line, IsLog}
+use Rattle.lsp_log.specs.Log.{Record}
 use Rattle.lsp_judge.specs.declared.outcome.Outcome.{Outcome}
 use Rattle.lsp_judge.specs.declared.outcome.Outcome.TheVariants.{Judged}
 use Rattle.lsp_judge.specs.declared.outcome.RunFault.{RunFault}
@@ -19,28 +12,24 @@ use Rattle.lsp_judge.specs.declared.ruling.Ruling.{Ruling}
 use Rattle.lsp_judge.specs.declared.verdict.Verdict as code
 use Rattle.lsp_judge.specs.declared.verdict.Verdict.TheVariants as verdicts
 use Rattle.lsp_judge.specs.declared.verdict.Who.{Who}
-use Rattle.lsp_judge.specs.declared.verdict.Who.TheVariants as who
 use Rattle.lsp_judge.specs.Answered.{NamesFirst, NamesRest, NoneOffends, AreClean, IsClean, SaysYes}
-use Rattle.lsp_judge.specs.Calls.{call_at, calls}
 use Rattle.lsp_judge.specs.Event.{Event}
 use Rattle.lsp_judge.specs.Given.{verdict_view, as_given}
-use Rattle.lsp_judge.specs.Headline.{Names, HasRest107}
 use Rattle.lsp_judge.specs.Kept.{AreKept}
-use Rattle.lsp_judge.specs.Logged.{Answers}
-use Rattle.lsp_judge.specs.Outcome.{ending, IsFinal, IsVerdict}
-use Rattle.lsp_judge.specs.Placed.{Raw, Reads, IsSession}
-use Rattle.lsp_judge.specs.RunIo.{OfRead, AppendsFront}
+use Rattle.lsp_judge.specs.Logged.{OfMore, Answers}
+use Rattle.lsp_judge.specs.Outcome.{IsFinal, IsVerdict}
+use Rattle.lsp_judge.specs.Placed.{IsSession}
+use Rattle.lsp_judge.specs.RunIo.{OfRead, GaveAtMost, AppendsFront}
 use Rattle.lsp_judge.specs.Rulings.{verdict_in}
 use Rattle.lsp_judge.specs.Standing.{HasOffence, State, Stands}
-use Rattle.lsp_judge.specs.Verdict.{Verdict, Summary, yes, no, bad_log, summary, is_of, is_snapshot, belongs_to, count_of, whose, no_next, first_no}
-use Rattle.lsp_judge.proofs.EventCounts.{events_few, count_few, unmatched_events}
-use Rattle.lsp_judge.proofs.Finals.{capped_is, open_clean}
-use Rattle.lsp_judge.proofs.Logging.{as_some, records_fewer}
+use Rattle.lsp_judge.specs.Verdict.{Verdict, Summary, yes, no, bad_log, summary, whose, first_no}
+use Rattle.lsp_judge.proofs.Finals.{open_clean}
+use Rattle.lsp_judge.proofs.Logging.{as_some}
 use Rattle.lsp_judge.proofs.Logs.{some_final, one_verdict}
-use Rattle.lsp_judge.proofs.Meanings.{are_kept, bad_log_has, final_no, final_yes, is_yes_given, kept_means_yes}
+use Rattle.lsp_judge.proofs.Meanings.{are_kept, final_no, final_yes, is_yes_given, kept_means_yes}
 use Rattle.lsp_judge.proofs.Records.{is_open, offence_in}
 use Rattle.lsp_judge.proofs.Sessions.{same_session, some_session}
-use Rattle.lsp_judge.proofs.Verdicts.{names_first, nothing_offends, is_yes, yes_where}
+use Rattle.lsp_judge.proofs.Verdicts.{names_first, nothing_offends}
 
 -- ---- the log read
 
@@ -59,16 +48,13 @@ is_met None p = refl
 is_met (Some []) p = refl
 is_met (Some (b ∷ bs)) p = absurd cc
 
-abbrev HasVerdict : Bounds → List ℕ → Verdict → Type 0
-HasVerdict limits log given = (v : Verdict) × IsVerdict limits log v × (given ≡ as_given v)
-
--- an answer is the verdict on the log read
-told_read : (limits : Bounds) (before after : Told) (given : Verdict) → Answers limits before after [] given → OfRead limits before.bytes after.bytes (λ log. HasVerdict limits log given)
-told_read limits before after given a = record {
-  bytes = a.piece;
+-- **what holds of the stream holds of the log read**
+pub as_read : (limits : Bounds) (before after : Told) (P : List ℕ → Type 0) → OfMore limits before after [] P → OfRead limits before.bytes after.bytes P
+as_read limits before after P m = record {
+  bytes = m.piece;
   ended = at_end after.bytes;
-  read = record { gave = a.read.read; no_further = a.read.within; end = end_met after.bytes };
-  holds = λ log goes. subst (λ (w : List ℕ). HasVerdict limits w given) (sym goes.1) (a.verdict goes.0 (λ end. goes.2 (is_met after.bytes end)));
+  read = record { gave = m.read; no_further = m.within; end = end_met after.bytes };
+  holds = λ log goes. subst P (sym goes.1) (m.holds goes.0 (λ end. goes.2 (is_met after.bytes end)));
 }
 
 pub read_map : (limits : Bounds) (before after : Option (List ℕ)) (P Q : List ℕ → Type 0) → ((log : List ℕ) → P log → Q log) → OfRead limits before after P → OfRead limits before after Q
@@ -77,97 +63,20 @@ read_map limits before after P Q f p = record { bytes = p.bytes; ended = p.ended
 pub front_of : (old new : Told) (written due : List ℕ) → Stopped old new written → written ≡ due → AppendsFront old.bytes new.bytes due
 front_of old new written due stopped is = (stopped.front, stopped.back, sym is ∙ stopped.whole, stopped.appends)
 
--- ---- the counts of a verdict on a log are exact
-
-no_events : (limits : Bounds) (records : List Record) (events : List Event) → records ≡ [] → IsSession limits records events → events ≡ []
-no_events limits records events none session =
-    let s : IsSession limits [] events = subst (λ (rs : List Record). IsSession limits rs events) none session in
-    nothing s.0 events s.1 s.2
-  where
-    nothing : (raws : List Raw) (es : List Event) → raws ≡ [] → AllZip Reads raws es → es ≡ []
-    nothing [] [] e p = refl
-    nothing [] (x ∷ es) e p = absurd p
-    nothing (raw ∷ raws) es e p = absurd cc
-
-events_within : (limits : Bounds) (log : List ℕ) (records : List Record) (flaw : Option (ℕ × LogCode)) (events : List Event) → IsLog limits log records flaw → IsSession limits records events → length events ≤ limits.log
-events_within limits log records flaw events (inl (code, has, is)) session = events_few limits log records has.rest events has.begins session
-events_within limits log records flaw events (inr (none, flawed, missing)) session = omega (arith, ap length (no_events limits records events none session))
-
-no_exact : (events : List Event) (rule : ℕ) (who : Who) → length events + 1 < 2 ^ 64 → as_given (no_next rule who events) ≡ no_next rule who events
-no_exact events rule who small =
-    let number = capped_is (count_of (belongs_to who) events + 1) (omega (arith, small, count_few (belongs_to who) events)) in
-    let event = capped_is (length events + 1) small in
-    ap (λ n. no rule who n (capped (length events + 1))) number ∙ ap (λ n. no rule who (count_of (belongs_to who) events + 1) n) event
-
-names_exact : (limit : ℕ) (events : List Event) (v : Verdict) → length events < 2 ^ 64 → Names limit events v → as_given v ≡ v
-names_exact limit events v small names =
-    let long : length events ≡ length (names.before ++ names.event ∷ names.after) = ap length names.whole in
-    let exact = no_exact names.before names.rule (whose names.event) (omega (arith, small, long, length-append names.before (names.event ∷ names.after))) in
-    subst (λ w. as_given w ≡ w) (sym names.is) exact
-
-rest_exact : (limits : Bounds) (records : List Record) (flaw : Option (ℕ × LogCode)) (events : List Event) (v : Verdict) → length events + 1 < 2 ^ 64 → HasRest107 limits records flaw events v → as_given v ≡ v
-rest_exact limits records flaw events v small r = by_side r.named
-  where
-    by_side : ((0 < length r.editor) × (v ≡ no_next 107 who.Editor events)) ⊎ ((r.editor ≡ []) × (0 < length r.server) × (v ≡ no_next 107 who.Server events)) → as_given v ≡ v
-    by_side (inl (some, is)) = subst (λ w. as_given w ≡ w) (sym is) (no_exact events 107 who.Editor small)
-    by_side (inr (none, some, is)) = subst (λ w. as_given w ≡ w) (sym is) (no_exact events 107 who.Server small)
-
-sum_exact : (s : Summary) → capped s.editor ≡ s.editor → capped s.server ≡ s.server → capped s.snapshots ≡ s.snapshots → capped s.unmatched ≡ s.unmatched → as_given (yes s) ≡ yes s
-sum_exact s e f g h =
-    ap (λ n. yes (record s { editor = n; server = capped s.server; snapshots = capped s.snapshots; unmatched = capped s.unmatched })) e
-    ∙ ap (λ n. yes (record s { server = n; snapshots = capped s.snapshots; unmatched = capped s.unmatched })) f
-    ∙ ap (λ n. yes (record s { snapshots = n; unmatched = capped s.unmatched })) g
-    ∙ ap (λ n. yes (record s { unmatched = n })) h
-
-yes_exact : (limit : ℕ) (events : List Event) → length events < 2 ^ 64 → as_given (yes (summary limit events)) ≡ yes (summary limit events)
-yes_exact limit events small =
-    sum_exact (summary limit events)
-    (capped_is (count_of (is_of Editor) events) (omega (arith, small, count_few (is_of Editor) events)))
-    (capped_is (count_of (is_of Server) events) (omega (arith, small, count_few (is_of Server) events)))
-    (capped_is (count_of is_snapshot events) (omega (arith, small, count_few is_snapshot events)))
-    (capped_is (unmatched limit (calls events)) (omega (arith, small, unmatched_events limit call_at events)))
-
--- the record with a fault has a number that a u64 holds
-few : (limits : Bounds) → IsInRange limits → (log : List ℕ) (records : List Record) (number : ℕ) (code : LogCode) → IsLog limits log records (Some (number, code)) → number < 2 ^ 64
-few limits sizes log records number code (inl (None, has, is)) = absurd cc
-few limits sizes log records number code (inl (Some c, has, is)) =
-    let same : number ≡ length records + 1 = ap (λ (p : ℕ × LogCode). p.0) (same_Some _ _ is) in
-    let long = ap length has.begins.whole in
-    omega (arith, sizes.log_high, same, long, records_fewer records, length-take limits.log log, length-append (first_line ++ flat_map spelling records) has.rest, length-append first_line (flat_map spelling records))
-few limits sizes log records number code (inr (none, flawed, missing)) =
-    let same : number ≡ 0 = ap (λ (p : ℕ × LogCode). p.0) (same_Some _ _ flawed) in
-    omega (arith, same)
-
-exact : (limits : Bounds) → IsInRange limits → (log : List ℕ) (v : Verdict) → IsVerdict limits log v → as_given v ≡ v
-exact limits sizes log (yes s) p =
-    let events : List Event = p.final.events in
-    let small : length events < 2 ^ 64 = omega (arith, sizes.log_high, events_within limits log p.records p.fault events p.is_log p.final.session) in
-    let end = ending p.fault p.final.editor p.final.server in
-    let same : yes (summary limits.document events) ≡ yes s = sym (yes_where limits.document events end (is_yes limits.document events end s p.final.says)) ∙ p.final.says in
-    subst (λ w. as_given w ≡ w) same (yes_exact limits.document events small)
-exact limits sizes log (no rule who number event) p =
-    let within = events_within limits log p.records p.fault p.final.events p.is_log p.final.session in
-    elim (final_no limits p.records p.fault rule who number event p.final) [
-      | inl names ↦ names_exact limits.document p.final.events (no rule who number event) (omega (arith, sizes.log_high, within)) names
-      | inr rest ↦ rest_exact limits p.records p.fault p.final.events (no rule who number event) (omega (arith, sizes.log_high, within)) rest
-    ]
-exact limits sizes log (bad_log number code) p =
-    let has = bad_log_has limits log number code p in
-    ap (λ n. bad_log n code) (capped_is number (few limits sizes log has.records number code has.is_log))
-
--- **an answer is the verdict on the log read**
-pub as_read : (limits : Bounds) → IsInRange limits → (before after : Told) (given : Verdict) → Answers limits before after [] given → OfRead limits before.bytes after.bytes (λ log. IsVerdict limits log given)
-as_read limits sizes before after given a = read_map limits before.bytes after.bytes _ _ as_it_is (told_read limits before after given a)
-  where
-    as_it_is : (log : List ℕ) → HasVerdict limits log given → IsVerdict limits log given
-    as_it_is log (v, says, is) = subst (IsVerdict limits log) (sym (is ∙ exact limits sizes log v says)) says
-
--- and so is the verdict of an outcome
-pub read_verdict : (limits : Bounds) → IsInRange limits → (before after : Told) (given v : code.Verdict) → Answers limits before after [] (verdict_view given)
-    → (let outcome : Result Outcome RunFault = Ok (Judged given) in outcome) ≡ Ok (Judged v) → OfRead limits before.bytes after.bytes (λ log. IsVerdict limits log (verdict_view v))
-read_verdict limits sizes before after given v a e =
+-- the verdict of an outcome
+pub judged_as : (given v : code.Verdict) (P : code.Verdict → Type 0) → (let outcome : Result Outcome RunFault = Ok (Judged given) in outcome) ≡ Ok (Judged v) → P given → P v
+judged_as given v P e p =
     let same : given ≡ v = cc e in
-    subst (λ (w : code.Verdict). OfRead limits before.bytes after.bytes (λ log. IsVerdict limits log (verdict_view w))) same (as_read limits sizes before after (verdict_view given) a)
+    subst P same p
+
+pub read_verdict : (limits : Bounds) (before after : Told) (given v : code.Verdict) → Answers limits before after [] (verdict_view given)
+    → (let outcome : Result Outcome RunFault = Ok (Judged given) in outcome) ≡ Ok (Judged v) → OfRead limits before.bytes after.bytes (λ log. IsVerdict limits log (verdict_view v))
+read_verdict limits before after given v a e =
+    judged_as given v (λ w. OfRead limits before.bytes after.bytes (λ log. IsVerdict limits log (verdict_view w))) e (as_read limits before after _ a.says)
+
+-- no more was read than the limit lets
+pub read_within : (limits : Bounds) (before after : Told) (P : List ℕ → Type 0) → OfMore limits before after [] P → GaveAtMost (limits.log + 1) before.bytes after.bytes
+read_within limits before after P m = (m.piece, m.read, m.within)
 
 -- ---- Yes
 

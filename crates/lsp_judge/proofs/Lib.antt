@@ -40,8 +40,9 @@ pub mod StreamsDue
 pub mod StreamRuns
 pub mod StreamEndings
 pub mod StreamOutputs
-pub mod Logging
 pub mod EventCounts
+pub mod ExactCounts
+pub mod Logging
 pub mod Answering
 pub mod LogEnds
 pub mod NormalPieces

@@ -1,18 +1,19 @@
 -- A log is judged record by record.
-use Rattle.std.proofs.Common.{◌≡◌, ℕ, ◌+◌, ◌-◌, ◌≤◌, ◌<◌, List, [], ◌∷◌, ◌++◌, Option, Some, None, Ok, Err, refl, sym, ap, subst, ◌∙◌, append_assoc, append-nil, length, take, length-append, arith}
+use Rattle.std.proofs.Common.{◌≡◌, ℕ, ◌+◌, ◌-◌, ◌≤◌, ◌<◌, List, [], ◌∷◌, ◌++◌, Option, Some, None, Result, Ok, Err, refl, sym, ap, subst, ◌∙◌, append_assoc, append-nil, length, take, length-append, arith}
 use Rattle.std.specs.Prelude.{option_map}
 use Rattle.std.specs.Io.KnownBytes.{Consumes}
 use Rattle.std.specs.List.{flat_map}
 use Rattle.std.proofs.KnownBytes.{Consumes-nil, Consumes-trans}
 use Rattle.std.proofs.lemmas.Option.{same_Some}
-use Rattle.lsp_frame.specs.Bounds.{Bounds}
+use Rattle.lsp_frame.specs.Bounds.{Bounds, IsInRange}
 use Rattle.lsp_frame.specs.Sink.{Told}
-use Rattle.lsp_log.specs.Log.{Record, spelling, with_feed, head_line, head_of, parts_of, first_line, BeginsLog, IsLog}
+use Rattle.lsp_log.specs.Log.{Record, spelling, first_line, BeginsLog, IsLog}
 use Rattle.lsp_log.specs.Reader as reader
-use Rattle.lsp_log.specs.Reader.{empty, kept_by, kept_in, StandsFor, StandsAt, Reads, Given}
+use Rattle.lsp_log.specs.Reader.{empty, kept_by, kept_in, StandsFor, StandsAt, Reads, MayFollow, Given}
 use Rattle.lsp_log.specs.Records.{record_view}
 use Rattle.lsp_log.specs.declared.record.Record as code
 use Rattle.lsp_log.specs.declared.fault.LogCode.{LogCode}
+use Rattle.lsp_log.specs.declared.fault.LogFault.{LogFault}
 use Rattle.lsp_log.specs.declared.fault.LogFault.TheVariants as log_faults
 use Rattle.lsp_log.specs.declared.reader.Progress.{Progress}
 use Rattle.lsp_log.specs.declared.reader.Progress.TheVariants as progress
@@ -22,13 +23,14 @@ use Rattle.lsp_judge.specs.declared.run.JudgeFault.{JudgeFault}
 use Rattle.lsp_judge.specs.declared.verdict.Verdict as given_verdict
 use Rattle.lsp_judge.specs.Event.{Event}
 use Rattle.lsp_judge.specs.Given.{verdict_view, as_given}
-use Rattle.lsp_judge.specs.Logged.{AreAt, HasRead, TookOne, Answers, failures_of, Broke, StepAnswers}
-use Rattle.lsp_judge.specs.Outcome.{IsFinal, Offends}
+use Rattle.lsp_judge.specs.Logged.{AreAt, OfMore, TookOne, Answers, failures_of, Broke, StepAnswers}
+use Rattle.lsp_judge.specs.Outcome.{IsFinal, IsVerdict, Offends}
 use Rattle.lsp_judge.specs.Placed.{IsSession}
 use Rattle.lsp_judge.specs.Standing as judge
 use Rattle.lsp_judge.specs.Standing.{Stands, StandsBy, is_given}
 use Rattle.lsp_judge.specs.Verdict.{Verdict, first_no}
 use Rattle.lsp_judge.proofs.Below.{take_more}
+use Rattle.lsp_judge.proofs.ExactCounts.{exact, records_fewer}
 use Rattle.lsp_judge.proofs.Logs.{some_final, offence_decides}
 use Rattle.lsp_judge.proofs.Sessions.{some_session}
 
@@ -54,9 +56,23 @@ begins_log s bytes rs more st =
       },
     )
 
+-- what the reader gave in the call, and what holds of the stream
+pub more_given : (r s : reader.State) (before after : Told) (bytes : List ℕ) (rs : List Record) (result : Result (Option code.Record) LogFault) (P : List ℕ → Type 0) → s.limits ≡ r.limits → (got : Given s before after result bytes rs)
+    → ((more : List ℕ) → MayFollow after more → P ((bytes ++ got.piece) ++ more)) → OfMore r.limits before after bytes P
+more_given r s before after bytes rs result P same got holds = record {
+  piece = got.piece;
+  read = got.read;
+  within = subst (λ (b : Bounds). length (bytes ++ got.piece) ≤ b.log + 1) same got.within;
+  holds = holds;
+}
+
 pub as_some : (o : Option Verdict) (v : Verdict) → Some v ≡ option_map as_given o → (w : Verdict) × (o ≡ Some w) × (v ≡ as_given w)
 as_some None v e = absurd cc
 as_some (Some w) v e = (w, refl, same_Some _ _ e)
+
+-- an answer is the verdict on the log
+pub as_exact : (limits : Bounds) → IsInRange limits → (log : List ℕ) (given v : Verdict) → given ≡ as_given v → IsVerdict limits log v → IsVerdict limits log given
+as_exact limits sizes log given v is says = subst (IsVerdict limits log) (sym (is ∙ exact limits sizes log v says)) says
 
 pub none_given : (o : Option Ruling) (s : judge.State) (rs : List Record) → None ≡ is_given o → StandsBy o s rs → o ≡ None
 none_given None s rs e st = refl
@@ -91,17 +107,13 @@ taken_answers r s j k before after bytes rs next (Some v) same alike free at got
     let offends : Offends j.limits all named.0 = record { events = session.0; session = session.1; offends = named.1 } in
     let read = reads_at s.progress s (bytes ++ got.piece) rs (record_view next) free got.stands.1 in
     record {
-      piece = got.piece;
-      read = record { read = got.read; within = subst (λ (b : Bounds). length (bytes ++ got.piece) ≤ b.log + 1) same got.within };
+      says = more_given r s before after bytes rs (Ok (Some next)) (λ (log : List ℕ). IsVerdict r.limits log (verdict_view v)) same got (λ more follows.
+          let begins = begins_log s (bytes ++ got.piece) all more read in
+          let whole = offence_decides r.limits at.read.0 ((bytes ++ got.piece) ++ more) begins.0 all named.0
+          (subst (λ (b : Bounds). BeginsLog b ((bytes ++ got.piece) ++ more) all begins.0) same begins.1)
+          (subst (λ (b : Bounds). Offends b all named.0) limits offends) in
+          as_exact r.limits at.read.0 ((bytes ++ got.piece) ++ more) (verdict_view v) named.0 named.2 whole);
       failures = got.tells;
-      verdict = λ more follows.
-          let begins = begins_log s (bytes ++ got.piece) all more read in (
-            named.0,
-            offence_decides r.limits at.read.0 ((bytes ++ got.piece) ++ more) begins.0 all named.0
-                (subst (λ (b : Bounds). BeginsLog b ((bytes ++ got.piece) ++ more) all begins.0) same begins.1)
-                (subst (λ (b : Bounds). Offends b all named.0) limits offends),
-            named.2,
-          );
     }
 
 -- ---- the log ends
@@ -114,16 +126,12 @@ end_answers r s j before after bytes rs answer same at got says =
     let final = some_final r.limits rs None in
     let named = says rs final.0 at.judged (subst (λ (b : Bounds). IsFinal b rs None final.0) (sym at.limits) final.1) in
     record {
-      piece = got.piece;
-      read = record { read = got.read; within = subst (λ (b : Bounds). length (bytes ++ got.piece) ≤ b.log + 1) same got.within };
-      failures = got.tells.2;
-      verdict = λ more follows.
+      says = more_given r s before after bytes rs (Ok None) (λ (log : List ℕ). IsVerdict r.limits log (verdict_view answer)) same got (λ more follows.
           let whole : (bytes ++ got.piece) ++ more ≡ bytes ++ got.piece = ap (λ (w : List ℕ). (bytes ++ got.piece) ++ w) (follows got.tells.0) ∙ append-nil (bytes ++ got.piece) in
-          let is_log : IsLog r.limits (bytes ++ got.piece) rs None = subst (λ (b : Bounds). IsLog b (bytes ++ got.piece) rs None) same got.tells.1 in (
-            final.0,
-            record { records = rs; fault = None; is_log = subst (λ (w : List ℕ). IsLog r.limits w rs None) (sym whole) is_log; final = final.1 },
-            named,
-          );
+          let is_log : IsLog r.limits (bytes ++ got.piece) rs None = subst (λ (b : Bounds). IsLog b (bytes ++ got.piece) rs None) same got.tells.1 in
+          as_exact r.limits at.read.0 ((bytes ++ got.piece) ++ more) (verdict_view answer) final.0 named
+          (record { records = rs; fault = None; is_log = subst (λ (w : List ℕ). IsLog r.limits w rs None) (sym whole) is_log; final = final.1 }));
+      failures = got.tells.2;
     }
 
 pub fault_answers : (r s : reader.State) (j : judge.State) (before after : Told) (bytes : List ℕ) (rs : List Record) (number : ℕ) (code : LogCode) (answer : given_verdict.Verdict)
@@ -134,12 +142,11 @@ fault_answers r s j before after bytes rs number code answer same at got says =
     let final = some_final r.limits rs (Some (number, code)) in
     let named = says rs final.0 at.judged (subst (λ (b : Bounds). IsFinal b rs (Some (number, code)) final.0) (sym at.limits) final.1) in
     record {
-      piece = got.piece;
-      read = record { read = got.read; within = subst (λ (b : Bounds). length (bytes ++ got.piece) ≤ b.log + 1) same got.within };
-      failures = got.tells.1;
-      verdict = λ more follows.
+      says = more_given r s before after bytes rs (Err (log_faults.Bad number code)) (λ (log : List ℕ). IsVerdict r.limits log (verdict_view answer)) same got (λ more follows.
           let is_log : IsLog r.limits ((bytes ++ got.piece) ++ more) rs (Some (number, code)) = subst (λ (b : Bounds). IsLog b ((bytes ++ got.piece) ++ more) rs (Some (number, code))) same (got.tells.0 more follows) in
-          (final.0, record { records = rs; fault = Some (number, code); is_log = is_log; final = final.1 }, named);
+          as_exact r.limits at.read.0 ((bytes ++ got.piece) ++ more) (verdict_view answer) final.0 named
+          (record { records = rs; fault = Some (number, code); is_log = is_log; final = final.1 }));
+      failures = got.tells.1;
     }
 
 -- ---- all steps
@@ -175,39 +182,25 @@ took_more limits before mid now r s j k so_far same took = record {
   stands = took.stands;
 }
 
-pub has_read : (limits : Bounds) (before mid now : Told) (bytes piece : List ℕ) → Consumes before.bytes mid.bytes bytes → HasRead limits mid now bytes piece → HasRead limits before now [] (bytes ++ piece)
-has_read limits before mid now bytes piece first read = record { read = Consumes-trans _ _ _ bytes piece first read.read; within = read.within }
+pub more_all : (limits : Bounds) (before mid now : Told) (bytes : List ℕ) (P : List ℕ → Type 0) → Consumes before.bytes mid.bytes bytes → OfMore limits mid now bytes P → OfMore limits before now [] P
+more_all limits before mid now bytes P first m = record { piece = bytes ++ m.piece; read = Consumes-trans _ _ _ bytes m.piece first m.read; within = m.within; holds = m.holds }
 
 pub answers_all : (limits : Bounds) (before mid now : Told) (r : reader.State) (j : judge.State) (v : Verdict) (so_far : SoFar limits before mid r j) → Answers r.limits mid now so_far.bytes v → Answers limits before now [] v
 answers_all limits before mid now r j v so_far answers =
     let told = subst (λ (b : Bounds). Answers b mid now so_far.bytes v) so_far.same answers in
-    record {
-      piece = so_far.bytes ++ told.piece;
-      read = has_read limits before mid now so_far.bytes told.piece so_far.read told.read;
-      failures = told.failures ∙ so_far.failures;
-      verdict = told.verdict;
-    }
+    record { says = more_all limits before mid now so_far.bytes _ so_far.read told.says; failures = told.failures ∙ so_far.failures }
 
 pub broke_all : (limits : Bounds) (before mid now : Told) (r : reader.State) (j : judge.State) (fault : JudgeFault) (so_far : SoFar limits before mid r j) → Broke r.limits mid now so_far.bytes fault → Broke limits before now [] fault
 broke_all limits before mid now r j fault so_far broke =
     let told = subst (λ (b : Bounds). Broke b mid now so_far.bytes fault) so_far.same broke in
     record {
       piece = so_far.bytes ++ told.piece;
-      read = has_read limits before mid now so_far.bytes told.piece so_far.read told.read;
+      read = Consumes-trans _ _ _ so_far.bytes told.piece so_far.read told.read;
+      within = told.within;
       failures = told.failures ∙ ap (failures_of fault) so_far.failures;
     }
 
 -- ---- the steps come to an end
-
-pub spelling_some : (r : Record) → 1 ≤ length (spelling r)
-spelling_some r =
-    let line = head_line (head_of r) in
-    let parts = flat_map with_feed (parts_of r) in
-    omega (arith, length-append (with_feed line) parts, length-append line (10 ∷ []))
-
-pub records_fewer : (rs : List Record) → length rs ≤ length (flat_map spelling rs)
-records_fewer [] = omega arith
-records_fewer (r ∷ rs) = omega (arith, records_fewer rs, spelling_some r, length-append (spelling r) (flat_map spelling rs))
 
 given_at : (p : Progress) (s : reader.State) (bytes : List ℕ) (rs : List Record) → kept_in p ≡ None → StandsAt p s bytes rs → s.given ≡ length rs
 given_at progress.FirstLine s bytes rs free st = st.given ∙ sym (ap length st.none)

@@ -19,8 +19,8 @@ use Rattle.lsp_judge.specs.Event.{Event, message}
 use Rattle.lsp_judge.specs.LookBack.{each_from}
 use Rattle.lsp_judge.specs.Report.{line, side_name}
 use Rattle.lsp_judge.specs.RunIo.{Tells, TellsSome}
-use Rattle.lsp_judge.specs.Showing.{ShownOne, ShownNext, ShownAll, ShownStopped}
-use Rattle.lsp_judge.specs.Shown.{message_line, line_at, lines_from}
+use Rattle.lsp_judge.specs.Showing.{ShownOne, ShownNext, ShownAll, ShownStopped, given_line_at, given_lines_from}
+use Rattle.lsp_judge.specs.Shown.{message_line}
 use Rattle.lsp_judge.specs.Standing.{Follows}
 use Rattle.lsp_judge.specs.Taking.{HeardOne, HeardNone, Heard}
 use Rattle.lsp_judge.specs.Verdict.{first_no}
@@ -79,8 +79,8 @@ tells_before old new due more faults.Read t = t
 pub wrote_refused : (old new : Told) (due : List ℕ) → Wrote old new due → TellsSome old new due (Err faults.Memory)
 wrote_refused old new due w = record { front = due; back = []; whole = sym (append-nil due); wrote = w }
 
-pub lines-append : (before xs ys : List Event) → lines_from before (xs ++ ys) ≡ lines_from before xs ++ lines_from (before ++ xs) ys
-lines-append before xs ys = ap (flat_map (λ shown. shown)) (each_from-append line_at before xs ys) ∙ flat_map-append (λ shown. shown) (each_from line_at before xs) (each_from line_at (before ++ xs) ys)
+pub lines-append : (before xs ys : List Event) → given_lines_from before (xs ++ ys) ≡ given_lines_from before xs ++ given_lines_from (before ++ xs) ys
+lines-append before xs ys = ap (flat_map (λ shown. shown)) (each_from-append given_line_at before xs ys) ∙ flat_map-append (λ shown. shown) (each_from given_line_at before xs) (each_from given_line_at (before ++ xs) ys)
 
 -- ---- the next content
 
@@ -89,19 +89,19 @@ pub shown_one : (side : Side) (d : decoder.State) (m : session.State) (documents
 shown_one side d m documents c bytes contents events said old new r h told =
     let sent = h.heard.sent in
     let number : c.all ≡ capped (length events + 1) = h.heard.follows.counted.all ∙ ap capped (length-append events (message sent ∷ [])) in
-    let shown : message_line c.all side said ≡ lines_from events (message sent ∷ []) =
+    let shown : message_line c.all side said ≡ given_lines_from events (message sent ∷ []) =
     ap (λ n. message_line n side said) number
     ∙ ap (λ s. message_line (capped (length events + 1)) s said) (sym h.heard.reads.by)
     ∙ ap (λ words. line (decimal (capped (length events + 1)) ∷ side_name sent.side ∷ words ∷ [])) (same_words said sent.message (sym h.heard.says))
     ∙ sym (append-nil (message_line (capped (length events + 1)) sent.side sent.message)) in
-    record { said = said; heard = h; told = told_some old new (lines_from events (message sent ∷ [])) r (subst (λ (w : List ℕ). Tells old new w r) shown told) }
+    record { said = said; heard = h; told = told_some old new (given_lines_from events (message sent ∷ [])) r (subst (λ (w : List ℕ). Tells old new w r) shown told) }
 
 -- ---- one content after another
 
 -- so many contents were heard and shown
 pub record ShownSoFar (side : Side) (d : decoder.State) (m : session.State) (documents : docs.State) (c : Counts) (bytes : List ℕ) (contents : List (List ℕ)) (events : List Event) (old now : Told) : Type 0 where
   pub heard : Heard side d m documents c bytes contents events
-  pub wrote : Wrote old now (lines_from events heard.later)
+  pub wrote : Wrote old now (given_lines_from events heard.later)
 
 module _ (side : Side) (bytes : List ℕ) (contents : List (List ℕ)) (events : List Event) (start : Told) where
   pub nothing_shown : (d : decoder.State) (m : session.State) (documents : docs.State) (c : Counts) → decoder.StandsFor d bytes contents → Follows m documents c events → ShownSoFar side d m documents c bytes contents events start start
@@ -109,10 +109,10 @@ module _ (side : Side) (bytes : List ℕ) (contents : List (List ℕ)) (events :
   nothing_shown d m documents c stands follows = record { heard = nothing_heard side bytes contents events d m documents c stands follows; wrote = wrote_none start }
 
   module _ (d : decoder.State) (m : session.State) (documents : docs.State) (c : Counts) (old : Told) (s : ShownSoFar side d m documents c bytes contents events start old) where
-    one_told : (new : Told) (e : Event) (r : Result (Unit {0}) RunFault) → TellsSome old new (lines_from (events ++ s.heard.later) (e ∷ [])) r → TellsSome start new (lines_from events (s.heard.later ++ e ∷ [])) r
+    one_told : (new : Told) (e : Event) (r : Result (Unit {0}) RunFault) → TellsSome old new (given_lines_from (events ++ s.heard.later) (e ∷ [])) r → TellsSome start new (given_lines_from events (s.heard.later ++ e ∷ [])) r
     one_told new e r told =
         subst (λ (w : List ℕ). TellsSome start new w r) (sym (lines-append events s.heard.later (e ∷ [])))
-        (tells_more start old new (lines_from events s.heard.later) (lines_from (events ++ s.heard.later) (e ∷ [])) r s.wrote told)
+        (tells_more start old new (given_lines_from events s.heard.later) (given_lines_from (events ++ s.heard.later) (e ∷ [])) r s.wrote told)
 
     pub shown_more : (new_d : decoder.State) (new_m : session.State) (new_docs : docs.State) (new_c : Counts) (new : Told)
         → ShownOne side new_d new_m new_docs new_c bytes (contents ++ s.heard.more) (events ++ s.heard.later) old new (Ok tt) → ShownSoFar side new_d new_m new_docs new_c bytes contents events start new
@@ -127,7 +127,7 @@ module _ (side : Side) (bytes : List ℕ) (contents : List (List ℕ)) (events :
     unfolding heard_all
     shown_all new_d new_m new_docs new_c new none = record {
       heard = heard_all side bytes contents events d m documents c s.heard new_d new_m new_docs new_c none.0;
-      wrote = subst (λ (w : Told). Wrote start w (lines_from events s.heard.later)) (sym none.1) s.wrote;
+      wrote = subst (λ (w : Told). Wrote start w (given_lines_from events s.heard.later)) (sym none.1) s.wrote;
     }
 
     pub shown_stopped : (limits : Bounds) (limit : ℕ) (new_d : decoder.State) (new_m : session.State) (new_docs : docs.State) (new_c : Counts) (stop : Stop) (new : Told)
@@ -137,7 +137,7 @@ module _ (side : Side) (bytes : List ℕ) (contents : List (List ℕ)) (events :
     unfolding one_heard stopped stopped_by
     shown_stopped limits limit new_d new_m new_docs new_c (Ruled (No rule by number at)) new same same_limit new_same new_limit told = record {
       offended = stopped side bytes contents events d m documents c s.heard limits limit (No rule by number at) same same_limit told.0;
-      wrote = subst (λ (w : Told). Wrote start w (lines_from events s.heard.later)) (sym told.1) s.wrote;
+      wrote = subst (λ (w : Told). Wrote start w (given_lines_from events s.heard.later)) (sym told.1) s.wrote;
     }
     shown_stopped limits limit new_d new_m new_docs new_c (Ruled (BadLog number code)) new same same_limit new_same new_limit told = told.0
     shown_stopped limits limit new_d new_m new_docs new_c (Ruled Memory) new same same_limit new_same new_limit told = record {
@@ -147,7 +147,7 @@ module _ (side : Side) (bytes : List ℕ) (contents : List (List ℕ)) (events :
       read = s.heard.read;
       frames = subst (λ (w : Bounds). Frames w bytes (contents ++ s.heard.more) s.heard.stands.rest) same s.heard.stands.frames;
       clean = ap (λ l. first_no l (events ++ s.heard.later)) (sym same_limit) ∙ s.heard.follows.clean;
-      told = wrote_refused start new (lines_from events s.heard.later) (subst (λ (w : Told). Wrote start w (lines_from events s.heard.later)) (sym told.1) s.wrote);
+      told = wrote_refused start new (given_lines_from events s.heard.later) (subst (λ (w : Told). Wrote start w (given_lines_from events s.heard.later)) (sym told.1) s.wrote);
     }
     shown_stopped limits limit new_d new_m new_docs new_c (Failed fault) new same same_limit new_same new_limit one =
         let h = one_heard side bytes contents events d m documents c s.heard new_d new_m new_docs new_c one.said one.heard in

@@ -16,8 +16,8 @@ use Rattle.lsp_judge.specs.Event.{Event}
 use Rattle.lsp_judge.specs.LookBack.{first_from}
 use Rattle.lsp_judge.specs.Placed.{Raw, content, broken, new_fault, Brings, Reads}
 use Rattle.lsp_judge.specs.RunIo.{TellsSome}
-use Rattle.lsp_judge.specs.Showing.{ShownAll, ShownUpTo, ShownSome, ShownStopped, ShowsMore, ShowsBrought, written_by, written, ruling_of}
-use Rattle.lsp_judge.specs.Shown.{kept, kept_by, kept_within, lines_from, lines_of}
+use Rattle.lsp_judge.specs.Showing.{ShownAll, ShownUpTo, ShownSome, ShownStopped, ShowsMore, ShowsBrought, written_by, written, ruling_of, given_lines_from, given_lines}
+use Rattle.lsp_judge.specs.Shown.{kept, kept_by, kept_within}
 use Rattle.lsp_judge.specs.Standing.{IsDrained}
 use Rattle.lsp_judge.specs.Taking.{IsNext, Refused}
 use Rattle.lsp_judge.specs.Verdict.{Verdict, offence, no_by, no_at, first_no}
@@ -83,26 +83,26 @@ clean_front limit events later clean = (or_none_parts (first_no limit events) _ 
 
 -- of all that stand before the first that offends
 pub shows_whole : (limit : ℕ) (events later all : List Event) (old new : Told) (r : Result (Unit {0}) RunFault) → first_no limit (events ++ later) ≡ None → kept_within limit all ≡ events ++ later
-    → TellsSome old new (lines_from events later) r → ShowsMore limit events all old new r
+    → TellsSome old new (given_lines_from events later) r → ShowsMore limit events all old new r
 shows_whole limit events later all old new r clean is told = record {
-  lines = lines_from events later;
-  added = ap lines_of is ∙ lines-append [] events later ∙ ap (λ w. lines_of w ++ lines_from events later) (sym (kept_clean limit events (clean_front limit events later clean)));
+  lines = given_lines_from events later;
+  added = ap given_lines is ∙ lines-append [] events later ∙ ap (λ w. given_lines w ++ given_lines_from events later) (sym (kept_clean limit events (clean_front limit events later clean)));
   told = told;
 }
 
 -- of some of them
-pub shows_part : (limit : ℕ) (events later extra : List Event) (old new : Told) (failed : RunFault) → first_no limit (events ++ later) ≡ None → TellsSome old new (lines_from events later) (Err failed)
+pub shows_part : (limit : ℕ) (events later extra : List Event) (old new : Told) (failed : RunFault) → first_no limit (events ++ later) ≡ None → TellsSome old new (given_lines_from events later) (Err failed)
     → ShowsMore limit events (events ++ (later ++ extra)) old new (Err failed)
 shows_part limit events later extra old new failed clean told =
     let more = kept_more limit (events ++ later) extra clean in
     record {
-      lines = lines_from events later ++ lines_from (events ++ later) more.0;
-      added = ap (λ w. lines_of (kept_within limit w)) (sym (append_assoc events later extra))
-          ∙ ap lines_of (more.1 ∙ append_assoc events later more.0)
+      lines = given_lines_from events later ++ given_lines_from (events ++ later) more.0;
+      added = ap (λ w. given_lines (kept_within limit w)) (sym (append_assoc events later extra))
+          ∙ ap given_lines (more.1 ∙ append_assoc events later more.0)
           ∙ lines-append [] events (later ++ more.0)
-          ∙ ap (λ w. lines_of w ++ lines_from events (later ++ more.0)) (sym (kept_clean limit events (clean_front limit events later clean)))
-          ∙ ap (λ w. lines_of (kept_within limit events) ++ w) (lines-append events later more.0);
-      told = tells_before old new (lines_from events later) (lines_from (events ++ later) more.0) failed told;
+          ∙ ap (λ w. given_lines w ++ given_lines_from events (later ++ more.0)) (sym (kept_clean limit events (clean_front limit events later clean)))
+          ∙ ap (λ w. given_lines (kept_within limit events) ++ w) (lines-append events later more.0);
+      told = tells_before old new (given_lines_from events later) (given_lines_from (events ++ later) more.0) failed told;
     }
 
 -- ---- what bytes bring

@@ -12,8 +12,8 @@ use Rattle.lsp_judge.specs.Event.{Event, snapshot}
 use Rattle.lsp_judge.specs.Placed.{Brings, IsSession, joined}
 use Rattle.lsp_judge.specs.Rulings.{IsNoAt, verdict_in}
 use Rattle.lsp_judge.specs.RunIo.{Tells}
-use Rattle.lsp_judge.specs.Showing.{ShowsMore, ShowsBrought, written_by}
-use Rattle.lsp_judge.specs.Shown.{snapshot_line, lines_from}
+use Rattle.lsp_judge.specs.Showing.{ShowsMore, ShowsBrought, written_by, given_lines_from}
+use Rattle.lsp_judge.specs.Shown.{snapshot_line}
 use Rattle.lsp_judge.specs.Standing.{Follows, State, IsOpen}
 use Rattle.lsp_judge.specs.Verdict.{Verdict, first_no}
 use Rattle.lsp_judge.specs.declared.counts.Counts.{Counts}
@@ -45,7 +45,7 @@ snapshot_shown limit m documents c events uri version text old new r same follow
     number : c.all ≡ capped (length events + 1)
     number = follows.counted.all ∙ ap capped (length-append events (snapshot uri version text ∷ []))
 
-    line : snapshot_line c.all uri version text ≡ lines_from events (snapshot uri version text ∷ [])
+    line : snapshot_line c.all uri version text ≡ given_lines_from events (snapshot uri version text ∷ [])
     line = ap (λ n. snapshot_line n uri version text) number ∙ sym (append-nil (snapshot_line (capped (length events + 1)) uri version text))
 
     clean : first_no limit (events ++ snapshot uri version text ∷ []) ≡ None
@@ -57,7 +57,7 @@ snapshot_shown limit m documents c events uri version text old new r same follow
         (subst (λ (w : List ℕ). Wrote old new w) line told)
     by_result (Err failed) told =
         shows_part limit events (snapshot uri version text ∷ []) [] old new failed clean
-        (told_some old new (lines_from events (snapshot uri version text ∷ [])) (Err failed) (subst (λ (w : List ℕ). Tells old new w (Err failed)) line told))
+        (told_some old new (given_lines_from events (snapshot uri version text ∷ [])) (Err failed) (subst (λ (w : List ℕ). Tells old new w (Err failed)) line told))
 
 -- the same, of a version under another name
 pub snapshot_shown_as : (limit : ℕ) (m : session.State) (documents : docs.State) (c : Counts) (events : List Event) (uri : List ℕ) (given version : ℤ) (text : List ℕ) (old new : Told) (r : Result (Unit {0}) RunFault) → given ≡ version → documents.limit ≡ limit

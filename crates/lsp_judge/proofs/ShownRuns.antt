@@ -1,26 +1,31 @@
 -- A log is shown up to its verdict, and then the report.
-use Rattle.std.proofs.Common.{◌≡◌, ◌+◌, ◌-◌, ◌<◌, ℕ, List, [], ◌∷◌, ◌++◌, Option, Some, None, Ok, Err, refl, sym, ap, subst, ◌∙◌, append_assoc}
+use Rattle.std.proofs.Common.{◌≡◌, ◌+◌, ◌-◌, ◌<◌, ℕ, List, [], ◌∷◌, ◌++◌, Option, Some, None, Result, Ok, Err, refl, sym, ap, subst, ◌∙◌, append_assoc}
+use Rattle.std.specs.Io.KnownBytes.{Appends}
 use Rattle.std.proofs.KnownBytes.{Appends-trans}
 use Rattle.lsp_frame.specs.Bounds.{Bounds}
 use Rattle.lsp_frame.specs.Sink.{Told, Wrote, Stopped}
 use Rattle.lsp_log.specs.Reader as reader
 use Rattle.lsp_log.specs.Reader.{empty, StandsFor}
+use Rattle.lsp_judge.specs.declared.outcome.Outcome.{Outcome}
+use Rattle.lsp_judge.specs.declared.outcome.Outcome.TheVariants.{Judged}
 use Rattle.lsp_judge.specs.declared.outcome.RunFault.{RunFault}
 use Rattle.lsp_judge.specs.declared.ruling.Ruling.{Ruling}
 use Rattle.lsp_judge.specs.declared.ruling.Ruling.TheVariants as rulings
+use Rattle.lsp_judge.specs.declared.verdict.Verdict as code
 use Rattle.lsp_judge.specs.Event.{Event}
-use Rattle.lsp_judge.specs.Given.{as_given}
-use Rattle.lsp_judge.specs.Logged.{Answers}
+use Rattle.lsp_judge.specs.Given.{verdict_view}
+use Rattle.lsp_judge.specs.Outcome.{IsVerdict}
 use Rattle.lsp_judge.specs.Placed.{IsSession}
 use Rattle.lsp_judge.specs.Report.{report}
-use Rattle.lsp_judge.specs.RunIo.{source_failures, sink_failures}
-use Rattle.lsp_judge.specs.Showing.{ShowsMore}
-use Rattle.lsp_judge.specs.Shown.{kept_within, lines_of}
-use Rattle.lsp_judge.specs.ShownLog.{IsShown, ShowedOne, ShowedAll, ShowedPart, WroteShown, IsBegun}
+use Rattle.lsp_judge.specs.RunIo.{OfRead, source_failures, sink_failures}
+use Rattle.lsp_judge.specs.Showing.{ShowsMore, given_lines}
+use Rattle.lsp_judge.specs.Shown.{kept_within}
+use Rattle.lsp_judge.specs.ShownLog.{IsShown, BeginsShown, ShowedOne, ShowedAll, ShowedPart}
 use Rattle.lsp_judge.specs.Standing as judge
 use Rattle.lsp_judge.specs.Standing.{Stands, StandsBy}
 use Rattle.lsp_judge.specs.Verdict.{Verdict, first_no}
-use Rattle.lsp_judge.proofs.Logging.{SoFar, nothing_taken, took_more, took_smaller, has_read}
+use Rattle.lsp_judge.proofs.Answering.{as_read, read_map, judged_as}
+use Rattle.lsp_judge.proofs.Logging.{SoFar, nothing_taken, took_more, took_smaller, more_all}
 use Rattle.lsp_judge.proofs.Sessions.{some_session, same_session}
 use Rattle.lsp_judge.proofs.Showings.{wrote_none, wrote_more}
 
@@ -29,7 +34,7 @@ pub record ShownRecords (limits : Bounds) (before now start end : Told) (r : rea
   pub so_far : SoFar limits before now r j
   pub events : List Event
   pub session : IsSession limits so_far.records events
-  pub wrote : Wrote start end (lines_of (kept_within limits.document events))
+  pub wrote : Wrote start end (given_lines (kept_within limits.document events))
 
 -- a judge that took no record gave nothing
 new_ungiven : (o : Option Ruling) (j : judge.State) → StandsBy o j [] → o ≡ None
@@ -65,7 +70,7 @@ module _ (limits : Bounds) (before mid now start old new : Told) (r : reader.Sta
         so_far = took_more limits before mid now r s j k p.so_far same one.took;
         events = whole.0;
         session = whole.1;
-        wrote = subst (λ (w : List ℕ). Wrote start new w) (sym shows.added) (wrote_more start old new (lines_of (kept_within limits.document p.events)) shows.lines p.wrote shows.told);
+        wrote = subst (λ (w : List ℕ). Wrote start new w) (sym shows.added) (wrote_more start old new (given_lines (kept_within limits.document p.events)) shows.lines p.wrote shows.told);
       }
 
   pub showed_smaller : (s : reader.State) (k : judge.State) → s.limits ≡ r.limits → ShowedOne s k mid now old new p.so_far.bytes p.so_far.records p.events → s.limits.log + 1 - s.given < r.limits.log + 1 - r.given
@@ -75,74 +80,60 @@ module _ (limits : Bounds) (before mid now start old new : Told) (r : reader.Sta
   all_showed v a =
       let told = subst (λ (b : Bounds). ShowedAll b mid now old new p.so_far.bytes p.events v) p.so_far.same a in
       record {
-        piece = p.so_far.bytes ++ told.piece;
-        read = has_read limits before mid now p.so_far.bytes told.piece p.so_far.read told.read;
+        lines = given_lines (kept_within limits.document p.events) ++ told.lines;
+        wrote = wrote_more start old new (given_lines (kept_within limits.document p.events)) told.lines p.wrote told.wrote;
+        due = more_all limits before mid now p.so_far.bytes _ p.so_far.read told.due;
         failures = told.failures ∙ p.so_far.failures;
-        lines = lines_of (kept_within limits.document p.events) ++ told.lines;
-        wrote = wrote_more start old new (lines_of (kept_within limits.document p.events)) told.lines p.wrote told.wrote;
-        due = told.due;
       }
 
   pub part_showed : (failed : RunFault) → ShowedPart r.limits mid now old new p.so_far.bytes p.events failed → ShowedPart limits before now start new [] [] failed
   part_showed failed a =
       let told = subst (λ (b : Bounds). ShowedPart b mid now old new p.so_far.bytes p.events failed) p.so_far.same a in
       record {
-        piece = p.so_far.bytes ++ told.piece;
-        read = has_read limits before mid now p.so_far.bytes told.piece p.so_far.read told.read;
+        lines = given_lines (kept_within limits.document p.events) ++ told.lines;
+        wrote = Appends-trans start.bytes old.bytes new.bytes (given_lines (kept_within limits.document p.events)) told.lines p.wrote.appends told.wrote;
+        due = more_all limits before mid now p.so_far.bytes _ p.so_far.read told.due;
         failures = told.failures ∙ ap (source_failures (Err failed)) p.so_far.failures;
-        lines = lines_of (kept_within limits.document p.events) ++ told.lines;
-        wrote = Appends-trans start.bytes old.bytes new.bytes (lines_of (kept_within limits.document p.events)) told.lines p.wrote.appends told.wrote;
         sink = told.sink ∙ ap (sink_failures (Err failed)) p.wrote.failures;
-        begins = told.begins;
       }
 
--- ---- the report
+-- ---- the run
 
-pub is_judged : (limits : Bounds) (before after old new : Told) (v : Verdict) → ShowedAll limits before after old new [] [] v → Answers limits before after [] v
-is_judged limits before after old new v a = record {
-  piece = a.piece;
-  read = a.read;
-  failures = a.failures;
-  verdict = λ more follows. let due = a.due more follows in (due.0, due.1.0, due.2);
-}
+-- these bytes are written, of which this holds on the log read
+abbrev pub WroteOf : Bounds → Told → Told → Told → Told → (List ℕ → List ℕ → Type 0) → Type 0
+WroteOf limits before after old new Holds = (out : List ℕ) × Appends old.bytes new.bytes out × OfRead limits before.bytes after.bytes (λ log. Holds log out)
 
-pub wrote_shown : (limits : Bounds) (before after old mid new : Told) (v : Verdict) (bytes : List ℕ) → ShowedAll limits before after old mid [] [] v → bytes ≡ report v → Wrote mid new bytes → WroteShown limits before after old new v
-wrote_shown limits before after old mid new v bytes a is told = record {
-  piece = a.piece;
-  read = a.read;
-  out = a.lines ++ report v;
-  wrote = wrote_more old mid new a.lines (report v) a.wrote (subst (λ (w : List ℕ). Wrote mid new w) is told);
-  due = λ more follows.
-      let due = a.due more follows in
-      (due.0, subst (λ (w : Verdict). IsShown limits (a.piece ++ more) due.0 (a.lines ++ report w)) (sym due.2) due.1, due.2);
-}
+pub verdict_read : (limits : Bounds) (before after old new : Told) (given v : code.Verdict) → ShowedAll limits before after old new [] [] (verdict_view given)
+    → (let outcome : Result Outcome RunFault = Ok (Judged given) in outcome) ≡ Ok (Judged v) → OfRead limits before.bytes after.bytes (λ log. IsVerdict limits log (verdict_view v))
+verdict_read limits before after old new given v a e =
+    let shown = as_read limits before after _ a.due in
+    let says = read_map limits before.bytes after.bytes (λ log. IsShown limits log (verdict_view given) (a.lines ++ report (verdict_view given))) (λ log. IsVerdict limits log (verdict_view given)) (λ log due. due.0) shown in
+    judged_as given v (λ w. OfRead limits before.bytes after.bytes (λ log. IsVerdict limits log (verdict_view w))) e says
 
-pub part_begun : (limits : Bounds) (before after old new : Told) (failed : RunFault) → ShowedPart limits before after old new [] [] failed → IsBegun limits before after old new
-part_begun limits before after old new failed a = record { piece = a.piece; read = a.read; written = a.lines; wrote = a.wrote; begins = a.begins }
+pub shown_read : (limits : Bounds) (before after old mid new : Told) (given v : code.Verdict) (bytes : List ℕ) → ShowedAll limits before after old mid [] [] (verdict_view given) → bytes ≡ report (verdict_view given) → Wrote mid new bytes
+    → (let outcome : Result Outcome RunFault = Ok (Judged given) in outcome) ≡ Ok (Judged v) → WroteOf limits before after old new (λ log out. IsShown limits log (verdict_view v) out)
+shown_read limits before after old mid new given v bytes a is told e =
+    let wrote = subst (λ (w : List ℕ). Appends mid.bytes new.bytes w) is told.appends in
+    let shown : WroteOf limits before after old new (λ log out. IsShown limits log (verdict_view given) out) = (
+      a.lines ++ report (verdict_view given),
+      Appends-trans old.bytes mid.bytes new.bytes a.lines (report (verdict_view given)) a.wrote.appends wrote,
+      as_read limits before after _ a.due,
+    ) in
+    judged_as given v (λ w. WroteOf limits before after old new (λ log out. IsShown limits log (verdict_view w) out)) e shown
+
+-- the log got no verdict
+pub part_begun : (limits : Bounds) (before after old new : Told) (failed : RunFault) → ShowedPart limits before after old new [] [] failed → WroteOf limits before after old new (BeginsShown limits)
+part_begun limits before after old new failed a = (a.lines, a.wrote, as_read limits before after _ a.due)
 
 -- the report was not written
-pub lines_begun : (limits : Bounds) (before after old new : Told) (v : Verdict) → ShowedAll limits before after old new [] [] v → IsBegun limits before after old new
-lines_begun limits before after old new v a = record {
-  piece = a.piece;
-  read = a.read;
-  written = a.lines;
-  wrote = a.wrote.appends;
-  begins = λ more follows. let due = a.due more follows in (due.0, report (as_given due.0), due.1);
-}
+pub lines_begun : (limits : Bounds) (before after old new : Told) (v : Verdict) → ShowedAll limits before after old new [] [] v → WroteOf limits before after old new (BeginsShown limits)
+lines_begun limits before after old new v a = (a.lines, a.wrote.appends, read_map limits before.bytes after.bytes (λ log. IsShown limits log v (a.lines ++ report v)) (λ log. BeginsShown limits log a.lines) (λ log due. (v, report v, due)) (as_read limits before after _ a.due))
 
 -- or not all of it
-pub report_begun : (limits : Bounds) (before after old mid new : Told) (v : Verdict) (bytes : List ℕ) → ShowedAll limits before after old mid [] [] v → bytes ≡ report v → Stopped mid new bytes → IsBegun limits before after old new
-report_begun limits before after old mid new v bytes a is told = record {
-  piece = a.piece;
-  read = a.read;
-  written = a.lines ++ told.front;
-  wrote = Appends-trans old.bytes mid.bytes new.bytes a.lines told.front a.wrote.appends told.appends;
-  begins = λ more follows.
-      let due = a.due more follows in (
-        due.0,
-        told.back,
-        subst (IsShown limits (a.piece ++ more) due.0)
-            (ap (λ x. a.lines ++ report x) (sym due.2) ∙ ap (λ l. a.lines ++ l) (sym is ∙ told.whole) ∙ sym (append_assoc a.lines told.front told.back))
-            due.1,
-      );
-}
+pub report_begun : (limits : Bounds) (before after old mid new : Told) (v : Verdict) (bytes : List ℕ) → ShowedAll limits before after old mid [] [] v → bytes ≡ report v → Stopped mid new bytes → WroteOf limits before after old new (BeginsShown limits)
+report_begun limits before after old mid new v bytes a is told =
+    let whole : a.lines ++ report v ≡ (a.lines ++ told.front) ++ told.back = ap (λ l. a.lines ++ l) (sym is ∙ told.whole) ∙ sym (append_assoc a.lines told.front told.back) in (
+      a.lines ++ told.front,
+      Appends-trans old.bytes mid.bytes new.bytes a.lines told.front a.wrote.appends told.appends,
+      read_map limits before.bytes after.bytes (λ log. IsShown limits log v (a.lines ++ report v)) (λ log. BeginsShown limits log (a.lines ++ told.front)) (λ log due. (v, told.back, subst (IsShown limits log v) whole due)) (as_read limits before after _ a.due),
+    )

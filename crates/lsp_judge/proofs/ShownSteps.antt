@@ -24,16 +24,16 @@ use Rattle.lsp_judge.specs.Outcome.{IsFinal, Offends}
 use Rattle.lsp_judge.specs.Placed.{IsSession}
 use Rattle.lsp_judge.specs.Report.{report}
 use Rattle.lsp_judge.specs.RunIo.{TellsSome, sink_failures, source_failures}
-use Rattle.lsp_judge.specs.Showing.{ShowsMore, done}
-use Rattle.lsp_judge.specs.Shown.{kept_within, lines_of, show_of}
-use Rattle.lsp_judge.specs.ShownLog.{IsShown, ShowedOne, ShowedAll, ShowedPart, StepShows}
+use Rattle.lsp_judge.specs.Showing.{ShowsMore, done, given_lines}
+use Rattle.lsp_judge.specs.Shown.{kept_within, show_of}
+use Rattle.lsp_judge.specs.ShownLog.{IsShown, BeginsShown, ShowedOne, ShowedAll, ShowedPart, StepShows}
 use Rattle.lsp_judge.specs.Standing as judge
 use Rattle.lsp_judge.specs.Standing.{Stands, is_given}
 use Rattle.lsp_judge.specs.Verdict.{Verdict, first_no}
-use Rattle.lsp_judge.proofs.Logging.{reads_at, begins_log, as_some, taken_answers}
+use Rattle.lsp_judge.proofs.Logging.{reads_at, begins_log, more_given, as_some, taken_answers}
 use Rattle.lsp_judge.proofs.Logs.{some_final, some_verdict}
 use Rattle.lsp_judge.proofs.Sessions.{some_session, same_session}
-use Rattle.lsp_judge.proofs.ShownLogs.{kept_final, begins_due, offence_due}
+use Rattle.lsp_judge.proofs.ShownLogs.{begins_due, offence_due, final_due}
 use Rattle.lsp_judge.proofs.Showings.{wrote_none}
 
 -- what was written, what was not, and how the failures count
@@ -88,16 +88,16 @@ module _ (r s : reader.State) (j : judge.State) (before after old new : Told) (b
       } in
       let lines = subst (λ (b : Bounds). ShowsMore b.document events whole.0 old new (Ok tt)) limits (shown rs events whole.0 at.judged own whole.1) in
       let read = reads_at s.progress s (bytes ++ got.piece) rs (record_view next) free got.stands.1 in
+      let front : List ℕ = given_lines (kept_within r.limits.document events) in
       record {
-        piece = got.piece;
-        read = record { read = got.read; within = subst (λ (b : Bounds). length (bytes ++ got.piece) ≤ b.log + 1) same got.within };
-        failures = got.tells;
         lines = lines.lines;
         wrote = lines.told;
-        due = λ more follows.
+        due = more_given r s before after bytes rs (Ok (Some next)) (λ (log : List ℕ). IsShown r.limits log (verdict_view answer) ((front ++ lines.lines) ++ report (verdict_view answer))) same got (λ more follows.
             let begins = begins_log s (bytes ++ got.piece) all more read in
-            let due = offence_due r.limits at.read.0 ((bytes ++ got.piece) ++ more) begins.0 all (subst (λ (b : Bounds). BeginsLog b ((bytes ++ got.piece) ++ more) all begins.0) same begins.1) named.0 offends in
-            (named.0, subst (λ (l : List ℕ). IsShown r.limits ((bytes ++ got.piece) ++ more) named.0 (l ++ report (as_given named.0))) lines.added due, named.2);
+            let due = offence_due r.limits at.read.0 ((bytes ++ got.piece) ++ more) all begins.0 (verdict_view answer) named.0 named.2
+            (subst (λ (b : Bounds). BeginsLog b ((bytes ++ got.piece) ++ more) all begins.0) same begins.1) offends in
+            subst (λ (l : List ℕ). IsShown r.limits ((bytes ++ got.piece) ++ more) (verdict_view answer) (l ++ report (verdict_view answer))) lines.added due);
+        failures = got.tells;
       }
 
   -- a line of it was not written
@@ -110,24 +110,23 @@ module _ (r s : reader.State) (j : judge.State) (before after old new : Told) (b
       let lines = subst (λ (b : Bounds). ShowsMore b.document events whole.0 old new (Err failed)) at.limits (shown rs events whole.0 at.judged own whole.1) in
       let wrote = wrote_part old new lines.lines failed lines.told in
       let read = reads_at s.progress s (bytes ++ got.piece) rs (record_view next) free got.stands.1 in
+      let front : List ℕ = given_lines (kept_within r.limits.document events) in
       record {
-        piece = got.piece;
-        read = record { read = got.read; within = subst (λ (b : Bounds). length (bytes ++ got.piece) ≤ b.log + 1) same got.within };
-        failures = got.tells ∙ sym (source_kept failed before.failures old new lines.lines lines.told);
         lines = wrote.0;
         wrote = wrote.3;
-        sink = wrote.4;
-        begins = λ more follows.
+        due = more_given r s before after bytes rs (Ok (Some next)) (λ (log : List ℕ). BeginsShown r.limits log (front ++ wrote.0)) same got (λ more follows.
             let begins = begins_log s (bytes ++ got.piece) all more read in
-            let due = begins_due r.limits at.read.0 ((bytes ++ got.piece) ++ more) begins.0 all (subst (λ (b : Bounds). BeginsLog b ((bytes ++ got.piece) ++ more) all begins.0) same begins.1)
-            whole.0 (subst (λ (b : Bounds). IsSession b all whole.0) at.limits whole.1) in (
+            let due = begins_due r.limits at.read.0 ((bytes ++ got.piece) ++ more) all begins.0 whole.0
+            (subst (λ (b : Bounds). BeginsLog b ((bytes ++ got.piece) ++ more) all begins.0) same begins.1)
+            (subst (λ (b : Bounds). IsSession b all whole.0) at.limits whole.1) in (
               due.0,
               wrote.1 ++ due.1,
               subst (IsShown r.limits ((bytes ++ got.piece) ++ more) due.0)
-                  (ap (λ l. l ++ due.1) (lines.added ∙ ap (λ l. lines_of (kept_within r.limits.document events) ++ l) wrote.2 ∙ sym (append_assoc (lines_of (kept_within r.limits.document events)) wrote.0 wrote.1))
-                  ∙ append_assoc (lines_of (kept_within r.limits.document events) ++ wrote.0) wrote.1 due.1)
+                  (ap (λ l. l ++ due.1) (lines.added ∙ ap (λ l. front ++ l) wrote.2 ∙ sym (append_assoc front wrote.0 wrote.1)) ∙ append_assoc (front ++ wrote.0) wrote.1 due.1)
                   due.2,
-            );
+            ));
+        failures = got.tells ∙ sym (source_kept failed before.failures old new lines.lines lines.told);
+        sink = wrote.4;
       }
 
   -- whichever it is
@@ -143,13 +142,6 @@ module _ (r s : reader.State) (j : judge.State) (before after old new : Told) (b
 
 -- ---- the log ends
 
-final_lines : (limits : Bounds) (rs : List Record) (flaw : Option (ℕ × LogCode)) (v : Verdict) (events : List Event) → IsSession limits rs events → (final : IsFinal limits rs flaw v)
-    → (lines_of (kept_within limits.document events) ++ []) ++ report (as_given v) ≡ show_of v final.events
-final_lines limits rs flaw v events session final =
-    ap (λ l. l ++ report (as_given v)) (append-nil (lines_of (kept_within limits.document events)))
-    ∙ ap (λ w. lines_of (kept_within limits.document w) ++ report (as_given v)) (same_session limits rs rs events final.events refl session final.session)
-    ∙ ap (λ k. lines_of k ++ report (as_given v)) (sym (kept_final limits.document final.events _ v final.says))
-
 module _ (r s : reader.State) (j : judge.State) (before after now : Told) (bytes : List ℕ) (rs : List Record) (events : List Event)
     (same : s.limits ≡ r.limits) (at : AreAt r j bytes rs) (session : IsSession r.limits rs events) where
   pub end_showed : (answer : given_verdict.Verdict) → Given s before after (Ok None) bytes rs
@@ -159,18 +151,14 @@ module _ (r s : reader.State) (j : judge.State) (before after now : Told) (bytes
       let final = some_final r.limits rs None in
       let named = says rs final.0 at.judged (subst (λ (b : Bounds). IsFinal b rs None final.0) (sym at.limits) final.1) in
       record {
-        piece = got.piece;
-        read = record { read = got.read; within = subst (λ (b : Bounds). length (bytes ++ got.piece) ≤ b.log + 1) same got.within };
-        failures = got.tells.2;
         lines = [];
         wrote = wrote_none now;
-        due = λ more follows.
+        due = more_given r s before after bytes rs (Ok None) (λ (log : List ℕ). IsShown r.limits log (verdict_view answer) ((given_lines (kept_within r.limits.document events) ++ []) ++ report (verdict_view answer))) same got (λ more follows.
             let whole : (bytes ++ got.piece) ++ more ≡ bytes ++ got.piece = ap (λ (w : List ℕ). (bytes ++ got.piece) ++ w) (follows got.tells.0) ∙ append-nil (bytes ++ got.piece) in
-            let is_log : IsLog r.limits (bytes ++ got.piece) rs None = subst (λ (b : Bounds). IsLog b (bytes ++ got.piece) rs None) same got.tells.1 in (
-              final.0,
-              (record { records = rs; fault = None; is_log = subst (λ (w : List ℕ). IsLog r.limits w rs None) (sym whole) is_log; final = final.1 }, final_lines r.limits rs None final.0 events session final.1),
-              named,
-            );
+            let is_log : IsLog r.limits (bytes ++ got.piece) rs None = subst (λ (b : Bounds). IsLog b (bytes ++ got.piece) rs None) same got.tells.1 in
+            final_due r.limits at.read.0 ((bytes ++ got.piece) ++ more) (verdict_view answer) final.0 events named
+            (record { records = rs; fault = None; is_log = subst (λ (w : List ℕ). IsLog r.limits w rs None) (sym whole) is_log; final = final.1 }) session);
+        failures = got.tells.2;
       }
 
   pub bad_showed : (number : ℕ) (code : LogCode) (answer : given_verdict.Verdict) → Given s before after (Err (log_faults.Bad number code)) bytes rs
@@ -180,31 +168,30 @@ module _ (r s : reader.State) (j : judge.State) (before after now : Told) (bytes
       let final = some_final r.limits rs (Some (number, code)) in
       let named = says rs final.0 at.judged (subst (λ (b : Bounds). IsFinal b rs (Some (number, code)) final.0) (sym at.limits) final.1) in
       record {
-        piece = got.piece;
-        read = record { read = got.read; within = subst (λ (b : Bounds). length (bytes ++ got.piece) ≤ b.log + 1) same got.within };
-        failures = got.tells.1;
         lines = [];
         wrote = wrote_none now;
-        due = λ more follows.
+        due = more_given r s before after bytes rs (Err (log_faults.Bad number code)) (λ (log : List ℕ). IsShown r.limits log (verdict_view answer) ((given_lines (kept_within r.limits.document events) ++ []) ++ report (verdict_view answer))) same got (λ more follows.
             let is_log : IsLog r.limits ((bytes ++ got.piece) ++ more) rs (Some (number, code)) = subst (λ (b : Bounds). IsLog b ((bytes ++ got.piece) ++ more) rs (Some (number, code))) same (got.tells.0 more follows) in
-            (final.0, (record { records = rs; fault = Some (number, code); is_log = is_log; final = final.1 }, final_lines r.limits rs (Some (number, code)) final.0 events session final.1), named);
+            final_due r.limits at.read.0 ((bytes ++ got.piece) ++ more) (verdict_view answer) final.0 events named
+            (record { records = rs; fault = Some (number, code); is_log = is_log; final = final.1 }) session);
+        failures = got.tells.1;
       }
 
 module _ (r : reader.State) (j : judge.State) (before after now : Told) (bytes : List ℕ) (rs : List Record) (events : List Event) (at : AreAt r j bytes rs) (session : IsSession r.limits rs events) where
   -- the lines of the records taken begin what is due
   begun_at : (p : Progress) → kept_in p ≡ None → StandsAt p r bytes rs → (piece more : List ℕ)
-      → (w : Verdict) × (left : List ℕ) × IsShown r.limits ((bytes ++ piece) ++ more) w ((lines_of (kept_within r.limits.document events) ++ []) ++ left)
+      → BeginsShown r.limits ((bytes ++ piece) ++ more) (given_lines (kept_within r.limits.document events) ++ [])
   begun_at progress.FirstLine free st piece more =
       let none : events ≡ [] = same_session r.limits [] [] events [] refl (subst (λ (w : List Record). IsSession r.limits w events) st.none session) ([], refl, tt) in
       let whole = some_verdict r.limits ((bytes ++ piece) ++ more) in
-      (whole.0, show_of whole.0 whole.1.final.events, (whole.1, ap (λ es. (lines_of (kept_within r.limits.document es) ++ []) ++ show_of whole.0 whole.1.final.events) none))
+      (whole.0, show_of whole.0 whole.1.final.events, (whole.1, ap (λ es. (given_lines (kept_within r.limits.document es) ++ []) ++ show_of whole.0 whole.1.final.events) none))
   begun_at progress.Records free st piece more =
       let begins = begins_log r bytes rs (piece ++ more) st in
-      let due = begins_due r.limits at.read.0 (bytes ++ (piece ++ more)) begins.0 rs begins.1 events session in (
+      let due = begins_due r.limits at.read.0 (bytes ++ (piece ++ more)) rs begins.0 events begins.1 session in (
         due.0,
         due.1,
-        subst (λ (l : List ℕ). IsShown r.limits l due.0 ((lines_of (kept_within r.limits.document events) ++ []) ++ due.1)) (sym (append_assoc bytes piece more))
-            (subst (λ (l : List ℕ). IsShown r.limits (bytes ++ (piece ++ more)) due.0 (l ++ due.1)) (sym (append-nil (lines_of (kept_within r.limits.document events)))) due.2),
+        subst (λ (l : List ℕ). IsShown r.limits l due.0 ((given_lines (kept_within r.limits.document events) ++ []) ++ due.1)) (sym (append_assoc bytes piece more))
+            (subst (λ (l : List ℕ). IsShown r.limits (bytes ++ (piece ++ more)) due.0 (l ++ due.1)) (sym (append-nil (given_lines (kept_within r.limits.document events)))) due.2),
       )
   begun_at (progress.Over end) free st piece more = absurd cc
 
@@ -212,11 +199,14 @@ module _ (r : reader.State) (j : judge.State) (before after now : Told) (bytes :
   pub fault_showed : (frames : Bounds) → frames ≡ r.limits → (failed : RunFault) (piece : List ℕ) → Consumes before.bytes after.bytes piece → length (bytes ++ piece) ≤ frames.log + 1 → after.failures ≡ source_failures (Err failed) before.failures
       → now.failures ≡ sink_failures (Err failed) now.failures → ShowedPart r.limits before after now now bytes events failed
   fault_showed frames same failed piece gave within failures sink = record {
-    piece = piece;
-    read = record { read = gave; within = subst (λ (b : Bounds). length (bytes ++ piece) ≤ b.log + 1) same within };
-    failures = failures;
     lines = [];
     wrote = Appends-nil now.bytes;
+    due = record {
+      piece = piece;
+      read = gave;
+      within = subst (λ (b : Bounds). length (bytes ++ piece) ≤ b.log + 1) same within;
+      holds = λ more follows. begun_at r.progress at.unread at.read.1 piece more;
+    };
+    failures = failures;
     sink = sink;
-    begins = λ more follows. begun_at r.progress at.unread at.read.1 piece more;
   }

@@ -41,12 +41,12 @@ module _ (limits : Bounds) (sizes : IsInRange limits) (log rest : List ℕ) (rs 
       let later = events_first limits sizes log rest rs p.events whole.0 begins p.session whole.1 in
       (whole.0, whole.1, of_held limits.document uri whole.0 upto _ (ap (up_to_editor n []) later.1 ∙ reached_more n p.events later.0 upto p.up_to) p.clean)
 
-  pub text_refused : (v : Verdict) → OffendsBefore limits rs n v → AnswersText limits log n uri (missing_answer v)
+  pub text_refused : (v : Verdict) → OffendsBefore limits rs n v → IsVerdict limits log v × AnswersText limits log n uri (missing_answer v)
   text_refused v p =
       let offends : Offends limits rs v = record { events = p.before ++ p.event ∷ p.after; session = p.session; offends = no_found limits.document [] p.before p.after p.event v p.clean p.offends } in
       let whole = offence_decides limits sizes log rest rs v begins offends in
       let later = events_first limits sizes log rest rs offends.events v begins p.session whole in
-      (v, whole, of_offence limits.document n uri v p.before p.event (p.after ++ later.0) whole.final.events p.few p.clean p.offends (later.1 ∙ append_assoc p.before (p.event ∷ p.after) later.0))
+      (whole, (v, whole, of_offence limits.document n uri v p.before p.event (p.after ++ later.0) whole.final.events p.few p.clean p.offends (later.1 ∙ append_assoc p.before (p.event ∷ p.after) later.0)))
 
 -- ---- logs
 

@@ -10,7 +10,7 @@ use Rattle.lsp_log.specs.Reader.{kept_by, StandsFor, MayFollow}
 use Rattle.lsp_judge.specs.declared.run.JudgeFault.{JudgeFault}
 use Rattle.lsp_judge.specs.declared.run.JudgeFault.TheVariants as faults
 use Rattle.lsp_judge.specs.declared.verdict.Verdict as code
-use Rattle.lsp_judge.specs.Given.{verdict_view, as_given}
+use Rattle.lsp_judge.specs.Given.{verdict_view}
 use Rattle.lsp_judge.specs.Outcome.{IsVerdict}
 use Rattle.lsp_judge.specs.Standing as judge
 use Rattle.lsp_judge.specs.Standing.{Stands}
@@ -24,10 +24,12 @@ pub record AreAt (r : reader.State) (j : judge.State) (bytes : List ℕ) (record
   pub ungiven : j.given ≡ None
   pub judged : Stands j records
 
--- behind these bytes more were read, at most one past the limit
-pub record HasRead (limits : Bounds) (before after : Told) (bytes piece : List ℕ) : Type 0 where
+-- behind these bytes more were read, at most one past the limit, and this holds of the stream, however it goes on where the reader's end was not met
+pub record OfMore (limits : Bounds) (before after : Told) (bytes : List ℕ) (Holds : List ℕ → Type 0) : Type 0 where
+  pub piece : List ℕ
   pub read : Consumes before.bytes after.bytes piece
   pub within : length (bytes ++ piece) ≤ limits.log + 1
+  pub holds : (more : List ℕ) → MayFollow after more → Holds ((bytes ++ piece) ++ more)
 
 -- one more record was read, and none of its events offends
 pub record TookOne (r : reader.State) (j : judge.State) (before after : Told) (bytes : List ℕ) (records : List Record) : Type 0 where
@@ -37,12 +39,10 @@ pub record TookOne (r : reader.State) (j : judge.State) (before after : Told) (b
   pub failures : after.failures ≡ before.failures
   pub stands : AreAt r j (bytes ++ piece) (records ++ next ∷ [])
 
--- **the verdict on the log**, whatever follows where the reader's end was not met
+-- **the verdict on the log**
 pub record Answers (limits : Bounds) (before after : Told) (bytes : List ℕ) (v : Verdict) : Type 0 where
-  pub piece : List ℕ
-  pub read : HasRead limits before after bytes piece
+  pub says : OfMore limits before after bytes (λ log. IsVerdict limits log v)
   pub failures : after.failures ≡ before.failures
-  pub verdict : (more : List ℕ) → MayFollow after more → (w : Verdict) × IsVerdict limits ((bytes ++ piece) ++ more) w × (v ≡ as_given w)
 
 -- the failures of a reader where a log got no verdict
 abbrev pub failures_of : JudgeFault → ℕ → ℕ
@@ -52,7 +52,8 @@ failures_of faults.Memory n = n
 -- the log got no verdict
 pub record Broke (limits : Bounds) (before after : Told) (bytes : List ℕ) (fault : JudgeFault) : Type 0 where
   pub piece : List ℕ
-  pub read : HasRead limits before after bytes piece
+  pub read : Consumes before.bytes after.bytes piece
+  pub within : length (bytes ++ piece) ≤ limits.log + 1
   pub failures : after.failures ≡ failures_of fault before.failures
 
 -- what one more step answers

@@ -9,11 +9,9 @@ use Rattle.lsp_rpc.specs.declared.plain.Side.{Side}
 use Rattle.lsp_rpc.specs.declared.plain.Side.TheVariants.{Editor}
 use Rattle.lsp_docs.specs.Texts.{byte_len}
 use Rattle.lsp_docs.specs.Documents.{Version, held}
-use Rattle.lsp_docs.specs.State.{capped}
-use Rattle.lsp_judge.specs.LookBack.{each_from}
+use Rattle.lsp_judge.specs.LookBack.{each_of}
 use Rattle.lsp_judge.specs.Event.{Event, message, fault, snapshot}
 use Rattle.lsp_judge.specs.Calls.{calls}
-use Rattle.lsp_judge.specs.Given.{as_given}
 use Rattle.lsp_judge.specs.Verdict.{Verdict, yes, no, first_no, is_of, count_of}
 use Rattle.lsp_judge.specs.Report.{line, side_name, report}
 
@@ -32,16 +30,12 @@ event_line number (message m) = Some (message_line number m.side m.message)
 event_line number (fault side rule) = None
 event_line number (snapshot uri version text) = Some (snapshot_line number uri version text)
 
--- the line of an event behind these; a number past 64 bits is given as the greatest
+-- the line of an event behind these
 abbrev pub line_at : List Event → Event → Option (List ℕ)
-line_at before event = event_line (capped (length before + 1)) event
-
--- the lines of events that come behind others
-abbrev pub lines_from : List Event → List Event → List ℕ
-lines_from before events = flat_map (λ shown. shown) (each_from line_at before events)
+line_at before event = event_line (length before + 1) event
 
 abbrev pub lines_of : List Event → List ℕ
-lines_of events = lines_from [] events
+lines_of events = flat_map (λ shown. shown) (each_of line_at events)
 
 -- how many events stand before the verdict's place
 abbrev pub kept_count : Verdict → List Event → ℕ
@@ -54,7 +48,7 @@ kept v events = take (kept_count v events) events
 
 -- one line for each event before the verdict's place, and the report
 abbrev pub show_of : Verdict → List Event → List ℕ
-show_of v events = lines_of (kept v events) ++ report (as_given v)
+show_of v events = lines_of (kept v events) ++ report v
 
 abbrev pub kept_by : Option Verdict → List Event → List Event
 kept_by None events = events

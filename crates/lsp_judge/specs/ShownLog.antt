@@ -5,20 +5,17 @@ use Rattle.lsp_frame.specs.Bounds.{Bounds, IsInRange}
 use Rattle.lsp_frame.specs.Sink.{Told, Wrote}
 use Rattle.lsp_log.specs.Log.{Record}
 use Rattle.lsp_log.specs.Reader as reader
-use Rattle.lsp_log.specs.Reader.{MayFollow}
-use Rattle.lsp_judge.specs.declared.outcome.Outcome.{Outcome}
-use Rattle.lsp_judge.specs.declared.outcome.Outcome.TheVariants.{Judged}
 use Rattle.lsp_judge.specs.declared.outcome.RunFault.{RunFault}
 use Rattle.lsp_judge.specs.declared.verdict.Verdict as code
 use Rattle.lsp_judge.specs.Event.{Event}
-use Rattle.lsp_judge.specs.Given.{verdict_view, as_given}
-use Rattle.lsp_judge.specs.Logged.{HasRead, TookOne, Answers}
+use Rattle.lsp_judge.specs.Given.{verdict_view}
+use Rattle.lsp_judge.specs.Logged.{OfMore, TookOne}
 use Rattle.lsp_judge.specs.Outcome.{IsVerdict}
 use Rattle.lsp_judge.specs.Placed.{IsSession}
 use Rattle.lsp_judge.specs.Report.{report}
 use Rattle.lsp_judge.specs.RunIo.{source_failures, sink_failures}
-use Rattle.lsp_judge.specs.Showing.{ShowsMore}
-use Rattle.lsp_judge.specs.Shown.{show_of, lines_of, kept_within}
+use Rattle.lsp_judge.specs.Showing.{ShowsMore, given_lines}
+use Rattle.lsp_judge.specs.Shown.{show_of, kept_within}
 use Rattle.lsp_judge.specs.Standing as judge
 use Rattle.lsp_judge.specs.Verdict.{Verdict}
 
@@ -27,6 +24,10 @@ use Rattle.lsp_judge.specs.Verdict.{Verdict}
 -- **what is due for a log**: the lines of the events before the verdict's place, and the report
 abbrev pub IsShown : Bounds → List ℕ → Verdict → List ℕ → Type 0
 IsShown limits log v out = (whole : IsVerdict limits log v) × (out ≡ show_of v whole.final.events)
+
+-- these bytes begin what is due for a log
+abbrev pub BeginsShown : Bounds → List ℕ → List ℕ → Type 0
+BeginsShown limits log front = (v : Verdict) × (left : List ℕ) × IsShown limits log v (front ++ left)
 
 -- **One verdict is shown of a log, and one output**
 abbrev pub OneShown : Type 0
@@ -39,26 +40,20 @@ pub record ShowedOne (r : reader.State) (j : judge.State) (before after old new 
   pub took : TookOne r j before after bytes records
   pub lines : (all : List Event) → IsSession r.limits (records ++ took.next ∷ []) all → ShowsMore r.limits.document events all old new (Ok tt)
 
--- the verdict was found: behind the lines of these events others were written, and then the report is due, whatever follows where the reader's end was not met
+-- the verdict was found: behind the lines of these events others were written, and then the report is due
 pub record ShowedAll (limits : Bounds) (before after old new : Told) (bytes : List ℕ) (events : List Event) (v : Verdict) : Type 0 where
-  pub piece : List ℕ
-  pub read : HasRead limits before after bytes piece
-  pub failures : after.failures ≡ before.failures
   pub lines : List ℕ
   pub wrote : Wrote old new lines
-  pub due : (more : List ℕ) → MayFollow after more
-      → (w : Verdict) × IsShown limits ((bytes ++ piece) ++ more) w ((lines_of (kept_within limits.document events) ++ lines) ++ report (as_given w)) × (v ≡ as_given w)
+  pub due : OfMore limits before after bytes (λ log. IsShown limits log v ((given_lines (kept_within limits.document events) ++ lines) ++ report v))
+  pub failures : after.failures ≡ before.failures
 
--- a fault: behind the lines of these events others were written, which are due whatever follows
+-- a fault: behind the lines of these events others were written, which are due
 pub record ShowedPart (limits : Bounds) (before after old new : Told) (bytes : List ℕ) (events : List Event) (fault : RunFault) : Type 0 where
-  pub piece : List ℕ
-  pub read : HasRead limits before after bytes piece
-  pub failures : after.failures ≡ source_failures (Err fault) before.failures
   pub lines : List ℕ
   pub wrote : Appends old.bytes new.bytes lines
+  pub due : OfMore limits before after bytes (λ log. BeginsShown limits log (given_lines (kept_within limits.document events) ++ lines))
+  pub failures : after.failures ≡ source_failures (Err fault) before.failures
   pub sink : new.failures ≡ sink_failures (Err fault) old.failures
-  pub begins : (more : List ℕ) → MayFollow after more
-      → (w : Verdict) × (left : List ℕ) × IsShown limits ((bytes ++ piece) ++ more) w ((lines_of (kept_within limits.document events) ++ lines) ++ left)
 
 abbrev pub StepShows : Bounds → reader.State → judge.State → Told → Told → Told → Told → List ℕ → List Record → List Event → Result (Option code.Verdict) RunFault → Type 0
 StepShows limits r j before after old new bytes records events (Ok None) = ShowedOne r j before after old new bytes records events
@@ -71,29 +66,3 @@ StepShows limits r j before after old new bytes records events (Err fault) = Sho
 abbrev pub LogShows : Bounds → Told → Told → Told → Told → Result code.Verdict RunFault → Type 0
 LogShows limits before after old new (Ok v) = ShowedAll limits before after old new [] [] (verdict_view v)
 LogShows limits before after old new (Err fault) = ShowedPart limits before after old new [] [] fault
-
--- what is due for the log was written, whatever follows where the reader's end was not met
-pub record WroteShown (limits : Bounds) (before after old new : Told) (v : Verdict) : Type 0 where
-  pub piece : List ℕ
-  pub read : HasRead limits before after [] piece
-  pub out : List ℕ
-  pub wrote : Wrote old new out
-  pub due : (more : List ℕ) → MayFollow after more → (w : Verdict) × IsShown limits (piece ++ more) w out × (v ≡ as_given w)
-
--- **the outcome is the verdict on the log**
-abbrev pub IsJudged : Bounds → Told → Told → Outcome → Type 0
-IsJudged limits before after (Judged v) = Answers limits before after [] (verdict_view v)
-IsJudged limits before after _ = ⊥
-
--- **the log is shown**
-abbrev pub Shows : Bounds → Told → Told → Told → Told → Outcome → Type 0
-Shows limits before after old new (Judged v) = WroteShown limits before after old new (verdict_view v)
-Shows limits before after old new _ = ⊥
-
--- **what was written begins what is due for the log**, however it goes on where the reader's end was not met
-pub record IsBegun (limits : Bounds) (before after old new : Told) : Type 0 where
-  pub piece : List ℕ
-  pub read : HasRead limits before after [] piece
-  pub written : List ℕ
-  pub wrote : Appends old.bytes new.bytes written
-  pub begins : (more : List ℕ) → MayFollow after more → (w : Verdict) × (left : List ℕ) × IsShown limits (piece ++ more) w (written ++ left)

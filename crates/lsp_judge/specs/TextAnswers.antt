@@ -2,7 +2,7 @@
 use Rattle.std.specs.Prelude.{chars, string_bytes}
 use Rattle.lsp_judge.specs.declared.text_answer.TextAnswer as code
 use Rattle.lsp_judge.specs.declared.text_answer.TextAnswer.TheVariants as answers
-use Rattle.lsp_judge.specs.Given.{verdict_view, as_given}
+use Rattle.lsp_judge.specs.Given.{verdict_view}
 use Rattle.lsp_judge.specs.Shown.{TextAnswer, text_is, no_document, too_few, refused}
 
 abbrev pub answer_view : code.TextAnswer → TextAnswer
@@ -10,10 +10,3 @@ answer_view (answers.Text text) = text_is (chars (string_bytes text))
 answer_view answers.NoDocument = no_document
 answer_view answers.TooFew = too_few
 answer_view (answers.Refused v) = refused (verdict_view v)
-
--- an answer with its counts as the code gives them
-abbrev pub as_answered : TextAnswer → TextAnswer
-as_answered (text_is text) = text_is text
-as_answered no_document = no_document
-as_answered too_few = too_few
-as_answered (refused v) = refused (as_given v)

@@ -53,7 +53,6 @@ pub use normal_laws::{
 };
 pub use outcome::{Mode, Outcome, RunFault, StreamFault};
 pub use report::{report_of, stream_report};
-pub use run::{JudgeFault, judge_log};
 pub use show_laws::one_shown;
 pub use stream_laws::{one_run, some_run};
 pub use text_answer::TextAnswer;

@@ -11,16 +11,11 @@ use lsp_log::LogReader;
 use lsp_rpc::Memory;
 use lsp_text::TextStore;
 use std::alloc::Global;
-use thiserror::Error;
 
-/// Why a log got no verdict.
-#[derive(Clone, Copy, Debug, PartialEq, Eq, Error)]
-pub enum JudgeFault {
-    /// The reader failed.
-    #[error("read fault")]
+/// Why a log got no verdict: the reader failed, or memory was refused.
+#[derive(Clone, Copy, Debug, PartialEq, Eq)]
+pub(crate) enum JudgeFault {
     Read,
-    /// Memory was refused.
-    #[error("out of memory")]
     Memory,
 }
 
@@ -36,7 +31,7 @@ impl From<Memory> for JudgeFault {
 }
 
 /// Reads a log up to the first event that offends, or to its end, and gives the verdict on it.
-pub fn judge_log<S: TextStore, R: Source>(
+pub(crate) fn judge_log<S: TextStore, R: Source>(
     alloc: Global,
     reader: &mut R,
     limits: Limits,

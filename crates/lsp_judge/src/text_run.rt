@@ -1,15 +1,21 @@
 //! The text that is held after a message of the editor's.
-ghost use Rattle.std.specs.Prelude.{◌≡◌, ◌<◌, [], List, ℕ, None, IfOk, IfErr};
+ghost use Rattle.std.specs.Prelude.{◌≡◌, ◌⊎◌, ◌<◌, ◌+◌, ℕ, List, None, Ok, Err, IfOk};
+ghost use Rattle.std.specs.Io.KnownBytes.{Appends};
+ghost use lib.Utf8.{encodes};
 ghost use Rattle.lsp_log.specs.Log.{Record};
+ghost use Rattle.lsp_judge.specs.Given.{verdict_view};
 ghost use Rattle.lsp_judge.specs.Logged.{AreAt};
-ghost use Rattle.lsp_judge.specs.RunIo.{source_failures, sink_failures};
+ghost use Rattle.lsp_judge.specs.RunIo.{OfRead, GaveAtMost, AppendsFront, source_failures, sink_failures};
+ghost use Rattle.lsp_judge.specs.Shown.{text_is, no_document, too_few, refused};
+ghost use Rattle.lsp_judge.specs.TextAfter.{AnswersText};
 ghost use Rattle.lsp_judge.specs.TextAnswers.{answer_view};
-ghost use Rattle.lsp_judge.specs.TextRun.{TellsStep, TellsText, TellsNone, WritesText, WritesNoText, reader_failures};
+ghost use Rattle.lsp_judge.specs.TextRun.{TellsStep, reader_failures};
 
 use crate::judge::Judge;
-use crate::outcome::{Outcome, RunFault};
+use crate::outcome::{Outcome, RunFault, StreamFault};
 use crate::run::JudgeFault;
 use crate::text_answer::TextAnswer;
+use crate::verdict::Verdict;
 use lsp_frame::{Limits, Sink, Source, put_all};
 use lsp_log::LogReader;
 use lsp_text::{Lined, TextStore};
@@ -30,16 +36,13 @@ pub fn text_after<R: Source>(
     uri: &str,
 ) -> Result<TextAnswer, RunFault>
     requires { 0 < number }
-    // The answer is that of the log, however it goes on where its end was not met.
-    ensures answer { IfOk result (λ answer. TellsText limits
-        (record { bytes = R.remaining reader.old; failures = R.failures reader.old })
-        (record { bytes = R.remaining reader.new; failures = R.failures reader.new })
-        [] number uri.now (answer_view answer)) }
-    // A log without an answer is read no further either.
-    ensures fault { IfErr result (TellsNone limits
-        (record { bytes = R.remaining reader.old; failures = R.failures reader.old })
-        (record { bytes = R.remaining reader.new; failures = R.failures reader.new })) }
-    ensures read_fault { R.failures reader.new ≡ reader_failures result (R.failures reader.old) }
+    // The answer is that of the log read, however it goes on where its end was not met.
+    ensures answer { IfOk result (λ answer. OfRead limits (R.remaining reader.old) (R.remaining reader.new)
+        (λ log. AnswersText limits log number uri.now (answer_view answer))) }
+    ensures no_write_fault { result ≡ Err RunFault.Write → ⊥ }
+    ensures source_failures { R.failures reader.new ≡ reader_failures result (R.failures reader.old) }
+    // At most one byte past the limit is read.
+    ensures limit { GaveAtMost (limits.log + 1) (R.remaining reader.old) (R.remaining reader.new) }
 {
     let mut log = LogReader::new(alloc, limits);
     let mut judge: Judge<Lined> = Judge::new(alloc, limits);
@@ -91,22 +94,29 @@ pub fn run_text<R: Source, W: Sink>(
     uri: &str,
 ) -> Result<Outcome, RunFault>
     requires { 0 < number }
-    // The text on the log is written, and nothing else.
-    ensures outcome { IfOk result (WritesText limits
-        (record { bytes = R.remaining reader.old; failures = R.failures reader.old })
-        (record { bytes = R.remaining reader.new; failures = R.failures reader.new })
-        (record { bytes = W.taken writer.old; failures = W.failures writer.old })
-        (record { bytes = W.taken writer.new; failures = W.failures writer.new })
-        number uri.now) }
-    // After a write fault it is a prefix of the text, and after another fault nothing.
-    ensures fault { IfErr result (WritesNoText limits
-        (record { bytes = R.remaining reader.old; failures = R.failures reader.old })
-        (record { bytes = R.remaining reader.new; failures = R.failures reader.new })
-        (record { bytes = W.taken writer.old; failures = W.failures writer.old })
-        (record { bytes = W.taken writer.new; failures = W.failures writer.new })
-        number uri.now) }
-    ensures read_fault { R.failures reader.new ≡ source_failures result (R.failures reader.old) }
-    ensures write_fault { W.failures writer.new ≡ sink_failures result (W.failures writer.old) }
+    // The text of the log read is written, however that goes on where its end was not met.
+    ensures text { result ≡ Ok Outcome.Done → (text : List ℕ) × Appends (W.taken writer.old) (W.taken writer.new) (encodes text)
+        × OfRead limits (R.remaining reader.old) (R.remaining reader.new) (λ log. AnswersText limits log number uri.now (text_is text)) }
+    // Nothing else is written, and another outcome tells why the log has no text.
+    ensures silent { IfOk result (λ outcome. (outcome ≡ Outcome.Done) ⊎ (W.taken writer.new ≡ W.taken writer.old)) }
+    ensures no_document { result ≡ Ok Outcome.NoDocument
+        → OfRead limits (R.remaining reader.old) (R.remaining reader.new) (λ log. AnswersText limits log number uri.now no_document) }
+    ensures too_few { result ≡ Ok Outcome.TooFew
+        → OfRead limits (R.remaining reader.old) (R.remaining reader.new) (λ log. AnswersText limits log number uri.now too_few) }
+    ensures refused { (v : Verdict) → result ≡ Ok (Outcome.Judged v)
+        → OfRead limits (R.remaining reader.old) (R.remaining reader.new) (λ log. AnswersText limits log number uri.now (refused (verdict_view v))) }
+    ensures no_stream { (frame : ℕ) (fault : StreamFault) → result ≡ Ok (Outcome.Stream frame fault) → ⊥ }
+
+    // After a read fault or for want of memory nothing is written, after a write fault a prefix of the
+    // text.
+    ensures read_fault { result ≡ Err RunFault.Read → W.taken writer.new ≡ W.taken writer.old }
+    ensures memory { result ≡ Err RunFault.Memory → W.taken writer.new ≡ W.taken writer.old }
+    ensures write_fault { result ≡ Err RunFault.Write → (text : List ℕ) × AppendsFront (W.taken writer.old) (W.taken writer.new) (encodes text)
+        × OfRead limits (R.remaining reader.old) (R.remaining reader.new) (λ log. AnswersText limits log number uri.now (text_is text)) }
+    ensures source_failures { R.failures reader.new ≡ source_failures result (R.failures reader.old) }
+    ensures sink_failures { W.failures writer.new ≡ sink_failures result (W.failures writer.old) }
+    // At most one byte past the limit is read.
+    ensures limit { GaveAtMost (limits.log + 1) (R.remaining reader.old) (R.remaining reader.new) }
 {
     match text_after(alloc, reader, limits, number, uri)? {
         TextAnswer::Text(text) => {

@@ -1,11 +1,14 @@
 //! Shows a log: a line for each event, and the report.
-ghost use Rattle.std.specs.Prelude.{◌≡◌, List, None, ℕ, IfOk, OnErr};
+ghost use Rattle.std.specs.Prelude.{◌≡◌, ℕ, ◌+◌, List, None, Ok, IfOk, OnErr};
+ghost use Rattle.std.specs.Io.KnownBytes.{Appends};
 ghost use Rattle.lsp_log.specs.Log.{Record};
 ghost use Rattle.lsp_judge.specs.Event.{Event};
+ghost use Rattle.lsp_judge.specs.Given.{verdict_view};
 ghost use Rattle.lsp_judge.specs.Logged.{AreAt};
+ghost use Rattle.lsp_judge.specs.Outcome.{IsVerdict};
 ghost use Rattle.lsp_judge.specs.Placed.{IsSession};
-ghost use Rattle.lsp_judge.specs.RunIo.{source_failures, sink_failures};
-ghost use Rattle.lsp_judge.specs.ShownLog.{StepShows, LogShows, IsJudged, Shows, IsBegun};
+ghost use Rattle.lsp_judge.specs.RunIo.{OfRead, GaveAtMost, source_failures, sink_failures};
+ghost use Rattle.lsp_judge.specs.ShownLog.{StepShows, LogShows, IsShown, BeginsShown};
 
 use crate::judge::Judge;
 use crate::outcome::{Outcome, RunFault};
@@ -31,24 +34,22 @@ pub fn run_show<R: Source, W: Sink>(
     writer: &mut W,
     limits: Limits,
 ) -> Result<Outcome, RunFault>
-    // The outcome is the verdict on the log, whatever follows where the reader's end was not met.
-    ensures judged { IfOk result (IsJudged limits
-        (record { bytes = R.remaining reader.old; failures = R.failures reader.old })
-        (record { bytes = R.remaining reader.new; failures = R.failures reader.new })) }
-    // What was written is what is due for that log.
-    ensures shown { IfOk result (Shows limits
-        (record { bytes = R.remaining reader.old; failures = R.failures reader.old })
-        (record { bytes = R.remaining reader.new; failures = R.failures reader.new })
-        (record { bytes = W.taken writer.old; failures = W.failures writer.old })
-        (record { bytes = W.taken writer.new; failures = W.failures writer.new })) }
-    // After a fault it is a prefix of that.
-    ensures fault { OnErr result (IsBegun limits
-        (record { bytes = R.remaining reader.old; failures = R.failures reader.old })
-        (record { bytes = R.remaining reader.new; failures = R.failures reader.new })
-        (record { bytes = W.taken writer.old; failures = W.failures writer.old })
-        (record { bytes = W.taken writer.new; failures = W.failures writer.new })) }
-    ensures read_fault { R.failures reader.new ≡ source_failures result (R.failures reader.old) }
-    ensures write_fault { W.failures writer.new ≡ sink_failures result (W.failures writer.old) }
+    // The answer is the verdict on the log read, however that goes on where its end was not met.
+    ensures judged { IfOk result (λ outcome. (v : Verdict) × (outcome ≡ Outcome.Judged v)) }
+    ensures verdict { (v : Verdict) → result ≡ Ok (Outcome.Judged v)
+        → OfRead limits (R.remaining reader.old) (R.remaining reader.new) (λ log. IsVerdict limits log (verdict_view v)) }
+    // What is due for that log is written, and nothing else.
+    ensures shown { (v : Verdict) → result ≡ Ok (Outcome.Judged v)
+        → (out : List ℕ) × Appends (W.taken writer.old) (W.taken writer.new) out
+        × OfRead limits (R.remaining reader.old) (R.remaining reader.new) (λ log. IsShown limits log (verdict_view v) out) }
+
+    // What is written before a fault begins what is due for the log.
+    ensures fault { OnErr result ((out : List ℕ) × Appends (W.taken writer.old) (W.taken writer.new) out
+        × OfRead limits (R.remaining reader.old) (R.remaining reader.new) (λ log. BeginsShown limits log out)) }
+    ensures source_failures { R.failures reader.new ≡ source_failures result (R.failures reader.old) }
+    ensures sink_failures { W.failures writer.new ≡ sink_failures result (W.failures writer.old) }
+    // At most one byte past the limit is read.
+    ensures limit { GaveAtMost (limits.log + 1) (R.remaining reader.old) (R.remaining reader.new) }
 {
     let verdict = show_log::<Lined, R, W>(alloc, reader, writer, limits)?;
     let report = report_of(alloc, &verdict)?;

@@ -8,7 +8,7 @@ ghost use Rattle.lsp_rpc.specs.View.{change_view, changes_view};
 
 use crate::act::Change;
 use crate::fault::RpcFault;
-use crate::params::{items_of, required, take_text, uinteger_of};
+use crate::params::{into_text, items_of, required, uinteger_of};
 use crate::plain::{Position, Span};
 use crate::shape::given;
 use serde_json::Value;
@@ -44,13 +44,13 @@ fn range_of(value: &Value) -> Result<Option<Span>, RpcFault>
     }
 }
 
-fn change_of(mut value: Value) -> Result<Change, RpcFault>
+fn change_of(value: Value) -> Result<Change, RpcFault>
     ensures ok { IfOk result (λ change. spec.change_at (view value)
         ≡ Some (change_view change)) }
     ensures rule { IfErr result (Names (rule_unless_read 209 (spec.change_at (view value)))) }
 {
     let span = range_of(&value)?;
-    let text = take_text(&mut value, "text")?;
+    let text = into_text(value, "text")?;
     Ok(Change { span, text })
 }
 

@@ -166,11 +166,31 @@ fn response_of(
     Ok(Message::Response { id, answer })
 }
 
-fn has_version(version: Option<&Value>) -> bool
-    ensures { result
-        ≡ shape.holds_of (shape.is_text (codes "2.0")) (option_map (λ v. view v.now) version.entry) }
+fn has_version(version: Option<Value>) -> bool
+    ensures { result ≡ shape.holds_of (shape.is_text (codes "2.0")) (option_map view version) }
 {
-    version.is_some_and(|version| is_text(version, "2.0"))
+    version.is_some_and(|version| is_text(&version, "2.0"))
+}
+
+/// The method, where there is one. Rule 203: the version is not 2.0. Rule 204: the method is no
+/// string.
+fn versioned_method(
+    version: Option<Value>,
+    method: Option<Value>,
+) -> Result<Option<String>, RpcFault>
+    ensures ok { IfOk result (λ name.
+        option_map view method ≡ option_map (λ s. string (string_bytes s)) name) }
+    ensures good { OnOk result
+        (shape.holds_of (shape.is_text (codes "2.0")) (option_map view version) ≡ true) }
+    ensures rule { IfErr result (Names (least_broken
+        ((203, not (shape.holds_of (shape.is_text (codes "2.0")) (option_map view version)))
+        ∷ (204, not (holds_unless_absent shape.is_string (option_map view method))) ∷ []))) }
+{
+    if has_version(version) {
+        method_of(method)
+    } else {
+        Err(RpcFault::Rule(203))
+    }
 }
 
 /// The message that the parts make. The refusal is the least rule that they break.
@@ -180,10 +200,7 @@ pub(crate) fn assemble(parts: Parts) -> Result<Message, RpcFault>
     ensures keeps { OnOk result (least_broken (reading.rules_on (parts_view parts)) ≡ None) }
     ensures rule { IfErr result (Names (least_broken (reading.rules_on (parts_view parts)))) }
 {
-    if !has_version(parts.version.as_ref()) {
-        return Err(RpcFault::Rule(203));
-    }
-    match method_of(parts.method)? {
+    match versioned_method(parts.version, parts.method)? {
         Some(method) => call_of(method, parts.id, parts.params),
         None => response_of(parts.id, parts.result, parts.error),
     }

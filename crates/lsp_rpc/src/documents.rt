@@ -8,7 +8,7 @@ ghost use Rattle.lsp_rpc.specs.View.{act_view};
 use crate::act::Act;
 use crate::changes::changes_of;
 use crate::fault::RpcFault;
-use crate::params::{copied_text, required, take_given, take_required, take_text, text_of};
+use crate::params::{copied_text, into_given, into_required, into_text, required, text_of};
 use crate::shape::integer_of;
 use serde_json::Value;
 use std::alloc::Global;
@@ -28,25 +28,25 @@ fn version_of(document: &Value) -> Result<i32, RpcFault>
     integer_of(required(document, "version")?).ok_or(RpcFault::Rule(209))
 }
 
-pub(crate) fn did_open_of(mut params: Value) -> Result<Act, RpcFault>
+pub(crate) fn did_open_of(params: Value) -> Result<Act, RpcFault>
     ensures ok { IfOk result (λ act. spec.did_open_at (view params) ≡ Some (act_view act)) }
     ensures rule { IfErr result (Names (rule_unless_read 209 (spec.did_open_at (view params)))) }
 {
-    let mut document = take_required(&mut params, "textDocument")?;
+    let document = into_required(params, "textDocument")?;
     let version = version_of(&document)?;
     let uri = uri_of(&document)?;
-    let text = take_text(&mut document, "text")?;
+    let text = into_text(document, "text")?;
     Ok(Act::DidOpen { uri, version, text })
 }
 
-pub(crate) fn did_change_of(alloc: Global, mut params: Value) -> Result<Act, RpcFault>
+pub(crate) fn did_change_of(alloc: Global, params: Value) -> Result<Act, RpcFault>
     ensures ok { IfOk result (λ act. spec.did_change_at (view params) ≡ Some (act_view act)) }
     ensures rule { IfErr result (Names (rule_unless_read 209 (spec.did_change_at (view params)))) }
 {
     let document = required(&params, "textDocument")?;
     let version = version_of(document)?;
     let uri = uri_of(document)?;
-    let changes = changes_of(alloc, take_required(&mut params, "contentChanges")?)?;
+    let changes = changes_of(alloc, into_required(params, "contentChanges")?)?;
     Ok(Act::DidChange {
         uri,
         version,
@@ -62,12 +62,12 @@ pub(crate) fn did_close_of(params: Value) -> Result<Act, RpcFault>
     Ok(Act::DidClose { uri })
 }
 
-pub(crate) fn did_save_of(mut params: Value) -> Result<Act, RpcFault>
+pub(crate) fn did_save_of(params: Value) -> Result<Act, RpcFault>
     ensures ok { IfOk result (λ act. spec.did_save_at (view params) ≡ Some (act_view act)) }
     ensures rule { IfErr result (Names (rule_unless_read 209 (spec.did_save_at (view params)))) }
 {
     let uri = uri_of(required(&params, "textDocument")?)?;
-    let text = match take_given(&mut params, "text") {
+    let text = match into_given(params, "text") {
         Some(text) => Some(text_of(text)?),
         None => None,
     };

@@ -10,35 +10,32 @@ ghost use Rattle.lsp_rpc.specs.View.{act_view, offer_view, texts_view};
 use crate::act::{Act, Offer};
 use crate::fault::RpcFault;
 use crate::message::Id;
-use crate::params::{id_of, require_object, strings_of, take_given, take_required};
+use crate::params::{id_of, into_given, into_required, require_object, strings_of};
 use crate::shape::given;
 use serde_json::Value;
 use std::alloc::Global;
 
-fn general_encodings(alloc: Global, mut general: Value) -> Result<Option<Vec<String>>, RpcFault>
+fn general_encodings(alloc: Global, general: Value) -> Result<Option<Vec<String>>, RpcFault>
     ensures ok { IfOk result (λ o. spec.general_encodings (view general)
         ≡ Some (option_map (λ v. texts_view v.items) o)) }
     ensures rule { IfErr result (Names (rule_unless_read 209
         (spec.general_encodings (view general)))) }
 {
     require_object(&general)?;
-    match take_given(&mut general, "positionEncodings") {
+    match into_given(general, "positionEncodings") {
         Some(encodings) => Ok(Some(strings_of(alloc, encodings)?)),
         None => Ok(None),
     }
 }
 
-fn offered_encodings(
-    alloc: Global,
-    mut capabilities: Value,
-) -> Result<Option<Vec<String>>, RpcFault>
+fn offered_encodings(alloc: Global, capabilities: Value) -> Result<Option<Vec<String>>, RpcFault>
     ensures ok { IfOk result (λ o. spec.offered_encodings (view capabilities)
         ≡ Some (option_map (λ v. texts_view v.items) o)) }
     ensures rule { IfErr result (Names (rule_unless_read 209
         (spec.offered_encodings (view capabilities)))) }
 {
     require_object(&capabilities)?;
-    match take_given(&mut capabilities, "general") {
+    match into_given(capabilities, "general") {
         Some(general) => general_encodings(alloc, general),
         None => Ok(None),
     }
@@ -56,12 +53,12 @@ fn token_of(params: &Value) -> Result<Option<Id>, RpcFault>
     }
 }
 
-fn offer_of(alloc: Global, mut params: Value) -> Result<Offer, RpcFault>
+fn offer_of(alloc: Global, params: Value) -> Result<Offer, RpcFault>
     ensures ok { IfOk result (λ offer. spec.offer_at (view params) ≡ Some (offer_view offer)) }
     ensures rule { IfErr result (Names (rule_unless_read 209 (spec.offer_at (view params)))) }
 {
     let token = token_of(&params)?;
-    let encodings = offered_encodings(alloc, take_required(&mut params, "capabilities")?)?;
+    let encodings = offered_encodings(alloc, into_required(params, "capabilities")?)?;
     Ok(Offer { encodings, token })
 }
 

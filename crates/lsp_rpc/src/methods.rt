@@ -12,26 +12,26 @@ use crate::documents::{did_change_of, did_close_of, did_open_of, did_save_of};
 use crate::fault::RpcFault;
 use crate::initialize::initialize_of;
 use crate::message::Message;
-use crate::params::{id_of, items_of, required_params, take_required, take_text};
+use crate::params::{id_of, into_required, into_text, items_of, required_params};
 use crate::plain::Side;
 use serde_json::Value;
 use std::alloc::Global;
 use std::borrow::Cow;
 
-fn cancel_of(mut params: Value) -> Result<Act, RpcFault>
+fn cancel_of(params: Value) -> Result<Act, RpcFault>
     ensures ok { IfOk result (λ act. spec.cancel_at (view params) ≡ Some (act_view act)) }
     ensures rule { IfErr result (Names (rule_unless_read 209 (spec.cancel_at (view params)))) }
 {
-    let id = id_of(take_required(&mut params, "id")?)?;
+    let id = id_of(into_required(params, "id")?)?;
     Ok(Act::Cancel { id })
 }
 
-fn progress_of(mut params: Value) -> Result<Act, RpcFault>
+fn progress_of(params: Value) -> Result<Act, RpcFault>
     ensures ok { IfOk result (λ act. spec.progress_at (view params) ≡ Some (act_view act)) }
     ensures rule { IfErr result (Names (rule_unless_read 209
         (spec.progress_at (view params)))) }
 {
-    let token = id_of(take_required(&mut params, "token")?)?;
+    let token = id_of(into_required(params, "token")?)?;
     Ok(Act::Progress { token })
 }
 
@@ -42,18 +42,18 @@ fn methods_of(alloc: Global, value: Value) -> Result<Vec<String>, RpcFault>
         (spec.required (codes "method") as_str) (view value)))) }
 {
     let mut found = Vec::new(alloc);
-    for mut item in items_of(value)? {
-        found.push(take_text(&mut item, "method")?)?;
+    for item in items_of(value)? {
+        found.push(into_text(item, "method")?)?;
     }
     Ok(found)
 }
 
-fn register_of(alloc: Global, mut params: Value) -> Result<Act, RpcFault>
+fn register_of(alloc: Global, params: Value) -> Result<Act, RpcFault>
     ensures ok { IfOk result (λ act. spec.register_at (view params) ≡ Some (act_view act)) }
     ensures rule { IfErr result (Names (rule_unless_read 209
         (spec.register_at (view params)))) }
 {
-    let methods = methods_of(alloc, take_required(&mut params, "registrations")?)?;
+    let methods = methods_of(alloc, into_required(params, "registrations")?)?;
     Ok(Act::Register { methods })
 }
 

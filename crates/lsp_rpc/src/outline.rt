@@ -32,7 +32,7 @@ const DEPTH: usize = 126;
 const SHORT: usize = 1024;
 
 /// Which part of a message a member is.
-#[derive(Clone, Copy, Debug, PartialEq, Eq)]
+#[derive(Clone, Copy)]
 pub(crate) enum Part {
     Version,
     Method,
@@ -44,7 +44,7 @@ pub(crate) enum Part {
 }
 
 /// Which messages are read apart from what they hold.
-#[derive(Clone, Copy, Debug, PartialEq, Eq)]
+#[derive(Clone, Copy, PartialEq, Eq)]
 enum Wanted {
     All,
     /// Those without a method.

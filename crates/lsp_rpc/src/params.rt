@@ -37,38 +37,38 @@ pub(crate) fn required<'a>(value: &'a Value, name: &str) -> Result<&'a Value, Rp
     value.get(name).ok_or(RpcFault::Rule(209))
 }
 
-/// Takes the member of this name out of the value, and leaves null in its place.
-fn take(value: &mut Value, name: &str) -> Option<Value>
-    ensures taken { option_map view result ≡ shape.member name.now (view value.old) }
+/// The member of this name, moved out of the value.
+fn into_member(mut value: Value, name: &str) -> Option<Value>
+    ensures { option_map view result ≡ shape.member name.now (view value) }
 {
     let member = value.get_mut(name)?;
     Some(mem::replace(member, Value::Null))
 }
 
-/// Takes out the member, which has to be there.
-pub(crate) fn take_required(value: &mut Value, name: &str) -> Result<Value, RpcFault>
-    ensures ok { IfOk result (λ v. shape.member name.now (view value.old) ≡ Some (view v)) }
+/// The member, which has to be there, moved out of the value.
+pub(crate) fn into_required(value: Value, name: &str) -> Result<Value, RpcFault>
+    ensures ok { IfOk result (λ v. shape.member name.now (view value) ≡ Some (view v)) }
     ensures rule { IfErr result (Names (rule_unless_read 209
-        (shape.member name.now (view value.old)))) }
+        (shape.member name.now (view value)))) }
 {
-    take(value, name).ok_or(RpcFault::Rule(209))
+    into_member(value, name).ok_or(RpcFault::Rule(209))
 }
 
-/// Takes out the member, which has to be a string.
-pub(crate) fn take_text(value: &mut Value, name: &str) -> Result<String, RpcFault>
-    ensures ok { IfOk result (λ s. spec.required name.now as_str (view value.old)
+/// The member, which has to be a string, moved out of the value.
+pub(crate) fn into_text(value: Value, name: &str) -> Result<String, RpcFault>
+    ensures ok { IfOk result (λ s. spec.required name.now as_str (view value)
         ≡ Some (string_bytes s)) }
     ensures rule { IfErr result (Names (rule_unless_read 209
-        (spec.required name.now as_str (view value.old)))) }
+        (spec.required name.now as_str (view value)))) }
 {
-    text_of(take_required(value, name)?)
+    text_of(into_required(value, name)?)
 }
 
-/// Takes out the member, where it is neither missing nor null.
-pub(crate) fn take_given(value: &mut Value, name: &str) -> Option<Value>
-    ensures { option_map view result ≡ spec.given name.now (view value.old) }
+/// The member, where it is neither missing nor null, moved out of the value.
+pub(crate) fn into_given(value: Value, name: &str) -> Option<Value>
+    ensures { option_map view result ≡ spec.given name.now (view value) }
 {
-    match take(value, name)? {
+    match into_member(value, name)? {
         Value::Null => None,
         member => Some(member),
     }

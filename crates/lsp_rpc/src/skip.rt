@@ -10,7 +10,7 @@ use fast_float::Numeral;
 use json::{Reader, Token};
 
 /// What kind of value stands somewhere, as far as a message's params and result are judged.
-#[derive(Clone, Copy, Debug, PartialEq, Eq)]
+#[derive(Clone, Copy)]
 pub(crate) enum Kind {
     Null,
     /// A boolean, a number or a string.

@@ -9,7 +9,7 @@ use Rattle.lsp_text.specs.Lines.{Line, spelled, text_of}
 use Rattle.lsp_text.specs.Places.{units}
 use Rattle.lsp_text.proofs.Cuts.{text_of-append}
 
-text_from : (ls : List Line) (i : ℕ) (l : Line) → i < length ls → l ≡ get_or ls i l → text_of (drop i ls) ≡ spelled l ++ text_of (drop (i + 1) ls)
+pub text_from : (ls : List Line) (i : ℕ) (l : Line) → i < length ls → l ≡ get_or ls i l → text_of (drop i ls) ≡ spelled l ++ text_of (drop (i + 1) ls)
 text_from ls i l lt is = at_drop_more text_of ls i l lt ∙ ap (λ (x : Line). spelled x ++ text_of (drop (i + 1) ls)) (sym is)
 
 pub chars_more : (ls : List Line) (i : ℕ) (l : Line) → i < length ls → l ≡ get_or ls i l → length (text_of (drop i ls)) ≡ length (spelled l) + length (text_of (drop (i + 1) ls))

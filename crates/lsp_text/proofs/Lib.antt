@@ -18,3 +18,5 @@ pub mod PieceEdits
 pub mod Spotting
 pub mod Editing
 pub mod HeldText
+pub mod Agreeing
+pub mod Stripping

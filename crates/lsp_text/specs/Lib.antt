@@ -10,6 +10,7 @@ pub mod Pieces
 pub mod PiecedLine
 pub mod HeldLines
 pub mod Rewriting
+pub mod Agreeing
 pub mod Steps
 pub mod Spots
 pub mod Counted

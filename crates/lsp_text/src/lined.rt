@@ -104,7 +104,7 @@ impl TextStore for Lined {
         if limit < text.len() as u64 {
             return Err(TextFault::Rule(OVER_LIMIT));
         }
-        self.lines = Lines::of(self.lines.alloc(), text)?;
+        self.lines.renew(text)?;
         Ok(())
     }
 

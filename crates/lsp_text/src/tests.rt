@@ -110,6 +110,45 @@ fn edits_line_ends_in_both(rt: HostRuntime) -> Result<(), Fail> {
     edits_line_ends::<Lined>(&rt, rt.alloc())
 }
 
+/// Texts that agree in front and behind, with line ends where they part.
+const TEXTS: [&str; 14] = [
+    "",
+    "a\r",
+    "a\r\n",
+    "a\r\nb",
+    "a\rb",
+    "a\nb",
+    "a\n\nb",
+    "a\r\n\nb",
+    "a\nb\n",
+    "a\nb\nc",
+    "a\r\nb\r\nc",
+    "é\na\nb\n",
+    "a\n\u{1F600}\na\nb\n",
+    "\n\n",
+];
+
+/// Puts each of the texts in the place of each.
+fn replaces_all<S: TextStore>(rt: &impl Abort, alloc: Global) -> Result<(), Fail> {
+    for text in TEXTS {
+        for next in TEXTS {
+            let mut store = S::from_text(alloc, text)?;
+            let fresh = S::from_text(alloc, next)?;
+            assert_eq!(rt; store.replace_all(next, 100), Ok(()));
+            assert!(rt; store.equals(next));
+            assert_eq!(rt; store.line_count(), fresh.line_count());
+            assert_eq!(rt; store.byte_len(), fresh.byte_len());
+        }
+    }
+    Ok(())
+}
+
+#[test]
+fn replaces_all_in_both(rt: HostRuntime) -> Result<(), Fail> {
+    replaces_all::<Plain>(&rt, rt.alloc())?;
+    replaces_all::<Lined>(&rt, rt.alloc())
+}
+
 /// Refusals in their order, each of which leaves the text.
 fn refuses_in_order<S: TextStore>(rt: &impl Abort, alloc: Global) -> Result<(), Fail> {
     let mut store = S::from_text(alloc, "abcd")?;

@@ -2,6 +2,7 @@
 mod check;
 mod command;
 mod frames;
+mod hostile;
 mod logs;
 mod sessions;
 
@@ -57,6 +58,39 @@ impl Read for Broken<'_> {
             return Err(io::Error::from(io::ErrorKind::Other));
         }
         self.rest.read(buf)
+    }
+}
+
+/// A reader without an end: its first bytes, and then others over and over.
+#[derive(Drop)]
+struct Endless<'a> {
+    rest: &'a [u8],
+    again: &'a [u8],
+    given: u64,
+}
+
+impl<'a> Endless<'a> {
+    fn new(first: &'a [u8], again: &'a [u8]) -> Endless<'a> {
+        Endless {
+            rest: first,
+            again,
+            given: 0,
+        }
+    }
+}
+
+impl Read for Endless<'_> {
+    ghost use Rattle.std.specs.Prelude.{None};
+
+    ghost remaining = { λ _. None };
+
+    fn read(&mut self, buf: &mut [u8]) -> io::Result<usize> {
+        if self.rest.is_empty() {
+            self.rest = self.again;
+        }
+        let count = self.rest.read(buf)?;
+        self.given = self.given.wrapping_add(count as u64);
+        Ok(count)
     }
 }
 

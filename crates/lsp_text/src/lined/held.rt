@@ -7,6 +7,7 @@ ghost use Rattle.std.specs.String.{string_bytes};
 ghost use Rattle.lsp_text.specs.Lines.{lines_of, text_of, spelled};
 ghost use Rattle.lsp_text.specs.Places.{units};
 ghost use Rattle.lsp_text.specs.Rewriting.{but_last, with_text};
+ghost use Rattle.lsp_text.specs.Agreeing.{AgreeInFront, AgreeBehind};
 ghost use lib.Utf8.{encodes};
 
 use super::pieced::PiecedLine;
@@ -147,7 +148,7 @@ pub(super) fn chars_of(lines: &[HeldLine]) -> u64
 pub(super) fn spell(lines: &[HeldLine], text: &str) -> bool
     ensures { IsTrue result ↔ (text_of lines.now ≡ chars text.now) }
 {
-    let mut rest = text.as_bytes();
+    let mut rest = text;
     for line in lines {
         let Some(after) = line.get().strip(rest) else {
             return false;
@@ -155,6 +156,63 @@ pub(super) fn spell(lines: &[HeldLine], text: &str) -> bool
         rest = after;
     }
     rest.is_empty()
+}
+
+/// How far lines and a text agree.
+#[derive(Clone, Copy)]
+pub(super) struct Agreed<'a> {
+    // The line behind those that agree in front, or the first of those that agree behind.
+    pub(super) line: usize,
+    // What is left of the text beside these lines.
+    pub(super) rest: &'a str,
+    // The same where one line less agrees.
+    pub(super) wider: &'a str,
+}
+
+/// The lines before `most` that a text begins with.
+pub(super) fn agree_in_front<'a>(lines: &[HeldLine], most: usize, text: &'a str) -> Agreed<'a>
+    requires { most ≤ length lines.now }
+    ensures { AgreeInFront lines.now most text.now result }
+{
+    let mut agreed = Agreed {
+        line: 0,
+        rest: text,
+        wider: text,
+    };
+    while agreed.line < most {
+        let Some(after) = lines[agreed.line].get().strip(agreed.rest) else {
+            break;
+        };
+        agreed = Agreed {
+            line: agreed.line + 1,
+            rest: after,
+            wider: agreed.rest,
+        };
+    }
+    agreed
+}
+
+/// The lines from `least` on that a text ends with.
+pub(super) fn agree_behind<'a>(lines: &[HeldLine], least: usize, text: &'a str) -> Agreed<'a>
+    requires { least ≤ length lines.now }
+    ensures { AgreeBehind lines.now least text.now result }
+{
+    let mut agreed = Agreed {
+        line: lines.len(),
+        rest: text,
+        wider: text,
+    };
+    while agreed.line > least {
+        let Some(before) = lines[agreed.line - 1].get().strip_end(agreed.rest) else {
+            break;
+        };
+        agreed = Agreed {
+            line: agreed.line - 1,
+            rest: before,
+            wider: agreed.rest,
+        };
+    }
+    agreed
 }
 
 /// The text of lines, which has so many bytes.

@@ -7,8 +7,12 @@ ghost use Rattle.lsp_text.specs.Lines.{lines_of, text_of};
 ghost use Rattle.lsp_text.specs.Places.{units};
 ghost use Rattle.lsp_text.specs.Steps.{raised, line_at, line_bytes, line_number};
 ghost use Rattle.lsp_text.specs.Rewriting.{rewritten, line_after, StandsApart, StaysInLine};
+ghost use Rattle.lsp_text.specs.Agreeing.{IsRewriteTo};
 
-use super::held::{HeldLine, bytes_of, chars_of, copies, cut, cut_before, joined, put, spell};
+use super::held::{
+    HeldLine, agree_behind, agree_in_front, bytes_of, chars_of, copies, cut, cut_before, joined,
+    put, spell,
+};
 use super::pieced::PiecedLine;
 use lsp_rpc::{Encoding, Position};
 use std::alloc::{AllocError, Global};
@@ -158,6 +162,32 @@ impl Lines {
         Ok(())
     }
 
+    /// Makes these the lines of a text, and keeps those in front and behind that it has too.
+    pub(super) fn renew(&mut self, text: &str) -> Result<(), AllocError>
+        ensures ok { OnOk result (self.new ≡ chars text.now) }
+        ensures err { OnErr result (self.new ≡ self.old) }
+    {
+        let rewrite = self.rewrite_to(text);
+        self.rewrite(rewrite.first, rewrite.last, rewrite.text, text.len() as u64)
+    }
+
+    // The rewrite that leaves a text. Of the lines in front and behind that are the text's too, those next to the
+    // others are rewritten with them, so that no line end is joined or split.
+    fn rewrite_to<'a>(&self, text: &'a str) -> Rewrite<'a>
+        ensures { IsRewriteTo self.now (chars text.now) result }
+    {
+        let most = self.items.len() - 1;
+        let front = agree_in_front(&self.items, most, text);
+        let back = agree_behind(&self.items, front.line, front.rest);
+        let kept = front.rest.len() - back.wider.len();
+        let (middle, _) = front.wider.split_at(front.wider.len() - kept);
+        Rewrite {
+            first: front.line.saturating_sub(1),
+            last: most.min(back.line),
+            text: middle,
+        }
+    }
+
     /// Puts a text in the place of some bytes of a line; the whole has `bytes` bytes then.
     pub(crate) fn replace_in(
         &mut self,
@@ -183,6 +213,14 @@ impl Lines {
     {
         self.bytes
     }
+}
+
+/// Lines from one to another, and the text that is to take their place.
+#[derive(Clone, Copy)]
+struct Rewrite<'a> {
+    first: usize,
+    last: usize,
+    text: &'a str,
 }
 
 /// The bytes lent to edits, and those that they inserted.

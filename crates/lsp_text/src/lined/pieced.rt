@@ -1,6 +1,6 @@
 //! Lines that are kept in pieces, so that an edit moves a part of a long line at most.
 
-ghost use Rattle.std.specs.Prelude.{◌≡◌, ◌-◌, [], ◌+◌, ◌<◌, ◌≤◌, ◌^◌, ◌++◌, true, length, take, drop, slice_index_or, None, MatchOption, IfOk, OnOk, OnErr};
+ghost use Rattle.std.specs.Prelude.{◌≡◌, ◌-◌, [], ◌+◌, ◌<◌, ◌≤◌, ◌^◌, ◌++◌, true, length, take, drop, slice_index_or, None, MatchOption, IfSome, IfOk, OnOk, OnErr};
 ghost use Rattle.std.specs.List.{replace_range};
 ghost use Rattle.std.specs.Str.{chars, IsCharBoundary};
 ghost use Rattle.std.specs.String.{string_bytes};
@@ -173,12 +173,21 @@ impl PiecedLine {
         out.push_str(after)
     }
 
-    /// What comes after the line and its end in some bytes that begin with them.
-    pub(super) fn strip<'a>(&self, bytes: &'a [u8]) -> Option<&'a [u8]>
-        ensures { MatchOption result (BeginsOtherwise (encodes (spelled self.now)) bytes.now) (λ rest. bytes.now ≡ encodes (spelled self.now) ++ rest.now) }
+    /// What comes after the line and its end in a text that begins with them.
+    pub(super) fn strip<'a>(&self, text: &'a str) -> Option<&'a str>
+        ensures { MatchOption result (BeginsOtherwise (encodes (spelled self.now)) text.now) (λ rest. text.now ≡ encodes (spelled self.now) ++ rest.now) }
     {
-        let rest = strip_bodies(pieces(&self.front), bytes)?;
-        strip_text(self.last.as_str(), rest)
+        let rest = strip_bodies(pieces(&self.front), text)?;
+        rest.strip_prefix(self.last.as_str())
+    }
+
+    /// What comes before the line and its end in a text that ends with them.
+    pub(super) fn strip_end<'a>(&self, text: &'a str) -> Option<&'a str>
+        ensures scalar { scalars (spelled self.now) ≡ true }
+        ensures parts { IfSome result (λ before. text.now ≡ before.now ++ encodes (spelled self.now)) }
+    {
+        let before = text.strip_suffix(self.last.as_str())?;
+        strip_bodies_end(pieces(&self.front), before)
     }
 
     /// Puts a text in the place of the bytes from `from` up to `to`, which lie before the line's end.
@@ -362,26 +371,28 @@ fn push_bodies(pieces: &[CountedLine], out: &mut String) -> Result<(), AllocErro
     Ok(())
 }
 
-// What comes after pieces in some bytes that begin with them.
-fn strip_bodies<'a>(pieces: &[CountedLine], bytes: &'a [u8]) -> Option<&'a [u8]>
-    ensures { MatchOption result (BeginsOtherwise (encodes (bodies pieces.now)) bytes.now) (λ rest. bytes.now ≡ encodes (bodies pieces.now) ++ rest.now) }
+// What comes after pieces in a text that begins with them.
+fn strip_bodies<'a>(pieces: &[CountedLine], text: &'a str) -> Option<&'a str>
+    ensures { MatchOption result (BeginsOtherwise (encodes (bodies pieces.now)) text.now) (λ rest. text.now ≡ encodes (bodies pieces.now) ++ rest.now) }
 {
-    let mut rest = bytes;
+    let mut rest = text;
     for piece in pieces {
-        rest = strip_text(piece.body(), rest)?;
+        rest = rest.strip_prefix(piece.body())?;
     }
     Some(rest)
 }
 
-// What comes after a text in some bytes that begin with it.
-fn strip_text<'a>(text: &str, bytes: &'a [u8]) -> Option<&'a [u8]>
-    ensures { MatchOption result (BeginsOtherwise text.now bytes.now) (λ rest. bytes.now ≡ text.now ++ rest.now) }
+// What comes before pieces in a text that ends with them.
+fn strip_bodies_end<'a>(pieces: &[CountedLine], text: &'a str) -> Option<&'a str>
+    ensures { IfSome result (λ before. text.now ≡ before.now ++ encodes (bodies pieces.now)) }
 {
-    let front = text.as_bytes();
-    if !bytes.starts_with(front) {
-        return None;
+    let mut rest = text;
+    let mut index = pieces.len();
+    while index > 0 {
+        index -= 1;
+        rest = rest.strip_suffix(pieces[index].body())?;
     }
-    Some(&bytes[front.len()..])
+    Some(rest)
 }
 
 // The same pieces again.

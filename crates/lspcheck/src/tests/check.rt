@@ -6,7 +6,7 @@ use std::process::Abort;
 use std::test::*;
 
 /// Runs the task over a log that comes in pieces.
-fn run_in_pieces(
+pub(super) fn run_in_pieces(
     alloc: Global,
     task: Task<'_>,
     limits: Limits,
@@ -91,6 +91,7 @@ fn run_of<'a>(word: &str, rest: &'a str) -> Result<Option<(Task<'a>, u8)>, Fail>
         "=" => Task::Check,
         "show" => Task::Show,
         "normal" => Task::Normal,
+        "frames" => Task::Frames(Mode::Lengths),
         "text" => {
             let (number, rest) = split_word(rest);
             let (uri, status) = split_word(rest);
@@ -124,7 +125,12 @@ fn check_log(
 }
 
 /// Makes the runs that these lines ask for.
-fn check_sessions(rt: &impl Abort, alloc: Global, lines: &str, limits: Limits) -> Result<(), Fail> {
+pub(super) fn check_sessions(
+    rt: &impl Abort,
+    alloc: Global,
+    lines: &str,
+    limits: Limits,
+) -> Result<(), Fail> {
     let mut log = Log::new(alloc);
     let mut wanted = Wanted::new(alloc);
     for line in lines.lines() {

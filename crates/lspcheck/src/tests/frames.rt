@@ -6,24 +6,8 @@ use std::process::Abort;
 use std::test::*;
 
 /// One canonical frame of 75 bytes of content, over and over.
-static FRAME: [u8; 97] =
-    *b"Content-Length: 75\r\n\r\n{\"jsonrpc\":\"2.0\",\"id\":1,\"method\":\"initialize\",\"params\":{\"capabilities\":{}}}";
-
-/// A reader without an end.
-#[derive(Drop)]
-struct Endless {
-    given: u64,
-}
-
-impl Read for Endless {
-    fn read(&mut self, buf: &mut [u8]) -> io::Result<usize> {
-        for byte in buf.iter_mut() {
-            *byte = FRAME[(self.given % 97) as usize];
-            self.given = self.given.wrapping_add(1);
-        }
-        Ok(buf.len())
-    }
-}
+const FRAME: &[u8] =
+    b"Content-Length: 75\r\n\r\n{\"jsonrpc\":\"2.0\",\"id\":1,\"method\":\"initialize\",\"params\":{\"capabilities\":{}}}";
 
 /// How a run over a stream ended: without a fault, or with that of the frame of this number.
 type Ended = Result<Option<(u64, StreamFault)>, RunFault>;
@@ -320,7 +304,7 @@ fn an_endless_reader_is_read_one_byte_past_the_limit(rt: HostRuntime) -> Result<
     }
     lines.push_str("fault L6 frame 43\nlog too long\n")?;
     let mut written = Vec::new(rt.alloc());
-    let mut endless = Endless { given: 0 };
+    let mut endless = Endless::new(b"", FRAME);
     let ended = {
         let mut source = Input::new(&mut endless);
         let mut sink = Output::new(&mut written);

@@ -24,7 +24,8 @@ LOG {"jsonrpc":"2.0","method":"window/logMessage","params":{"type":3,"message":"
 PROG {"jsonrpc":"2.0","method":"$/progress","params":{"token":@,"value":{}}}
 REG {"jsonrpc":"2.0","id":1,"method":"client/registerCapability","params":{"registrations":[{"id":"r","method":@}]}}
 SH {"jsonrpc":"2.0","id":2,"method":"shutdown","params":null}
-EX {"jsonrpc":"2.0","method":"exit"}"#;
+EX {"jsonrpc":"2.0","method":"exit"}
+EXTRA {"jsonrpc":"2.0","method":"exit","extra":@}"#;
 
 /// The handshake that most sessions begin with: three records.
 const START: [(&str, &str); 3] = [
@@ -81,6 +82,14 @@ fn content_of(alloc: Global, words: &str) -> Result<String, Fail> {
     Ok(content)
 }
 
+/// The canonical frame of the content that these words name.
+pub(super) fn frame_of(alloc: Global, words: &str) -> Result<String, Fail> {
+    let content = content_of(alloc, words)?;
+    let content = content.as_str();
+    let length = content.len();
+    Ok(format!(in alloc; "Content-Length: {length}\r\n\r\n{content}")?)
+}
+
 /// Writes what follows a backslash.
 fn push_escaped(bytes: &mut Vec<u8>, text: &str) -> Result<(), Fail> {
     for (name, byte) in [("r", b'\r'), ("n", b'\n'), ("xff", 0xff)] {
@@ -135,10 +144,7 @@ impl Log {
 
     /// The canonical frame of the content that these words name, cut into records.
     fn frame(&mut self, side: &str, words: &str) -> Result<(), Fail> {
-        let content = content_of(self.alloc, words)?;
-        let content = content.as_str();
-        let length = content.len();
-        let frame = format!(in self.alloc; "Content-Length: {length}\r\n\r\n{content}")?;
+        let frame = frame_of(self.alloc, words)?;
         for piece in frame.as_bytes().chunks(self.most.max(1)) {
             let length = piece.len();
             let head = format!(in self.alloc; "{side} {length}\n")?;

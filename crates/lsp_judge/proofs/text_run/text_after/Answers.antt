@@ -1,33 +1,44 @@
 use Rattle.std.proofs.lemmas.Result.{err_from_is_err_and}
+use Rattle.lsp_judge.proofs.Answering.{as_read, read_within}
 use Rattle.lsp_judge.proofs.Logging.{took_more, took_smaller, broke_all}
-use Rattle.lsp_judge.proofs.TextSteps.{text_all, none_all, broke_failures}
+use Rattle.lsp_judge.proofs.TextSteps.{text_all, broke_failures, not_write}
 use Rattle.lsp_judge.proofs.text_run.text_after.Goals as goal
 
-pub returns-in_err-answer-clause-fault : goal.returns-in_err-answer-clause-fault
-returns-in_err-answer-clause-fault g c =
-    let so_far = c.loop-judge.invariant.so_far in
-    let told = c.in_err-answer.ensures.answer so_far.bytes so_far.records so_far.stands in
+pub returns-in_err-answer-clause-no_write_fault : goal.returns-in_err-answer-clause-no_write_fault
+returns-in_err-answer-clause-no_write_fault g c =
     let p = err_from_is_err_and c.from_residual.result c.from_residual.ensures.1 in
-    rw (p.1, p.2) (none_all _ _ _ _ _ _ _ so_far told)
+    rw (p.1, p.2) (not_write _)
 
-pub returns-in_err-answer-clause-read_fault : goal.returns-in_err-answer-clause-read_fault
-returns-in_err-answer-clause-read_fault g c =
+pub returns-in_err-answer-clause-source_failures : goal.returns-in_err-answer-clause-source_failures
+returns-in_err-answer-clause-source_failures g c =
     let so_far = c.loop-judge.invariant.so_far in
     let told = c.in_err-answer.ensures.answer so_far.bytes so_far.records so_far.stands in
     let p = err_from_is_err_and c.from_residual.result c.from_residual.ensures.1 in
     rw (p.1, p.2) (broke_failures _ _ _ _ (broke_all _ _ _ _ _ _ _ so_far told))
 
+pub returns-in_err-answer-clause-limit : goal.returns-in_err-answer-clause-limit
+returns-in_err-answer-clause-limit g c =
+    let so_far = c.loop-judge.invariant.so_far in
+    let told = broke_all _ _ _ _ _ _ _ so_far (c.in_err-answer.ensures.answer so_far.bytes so_far.records so_far.stands) in
+    (told.piece, told.read, told.within)
+
 pub returns-in-Some-clause-answer : goal.returns-in-Some-clause-answer
 returns-in-Some-clause-answer g c =
     let so_far = c.loop-judge.invariant.so_far in
     let told = rw c.in-Some.is at (c.in_ok-answer.ensures.answer so_far.bytes so_far.records so_far.stands) in
-    text_all _ _ _ _ _ _ c.args.number c.args.uri.now _ so_far told
+    as_read _ _ _ _ (text_all _ _ _ _ _ _ c.args.number c.args.uri.now _ so_far told).says
 
-pub returns-in-Some-clause-read_fault : goal.returns-in-Some-clause-read_fault
-returns-in-Some-clause-read_fault g c =
+pub returns-in-Some-clause-source_failures : goal.returns-in-Some-clause-source_failures
+returns-in-Some-clause-source_failures g c =
     let so_far = c.loop-judge.invariant.so_far in
     let told = rw c.in-Some.is at (c.in_ok-answer.ensures.answer so_far.bytes so_far.records so_far.stands) in
     (text_all _ _ _ _ _ _ c.args.number c.args.uri.now _ so_far told).failures
+
+pub returns-in-Some-clause-limit : goal.returns-in-Some-clause-limit
+returns-in-Some-clause-limit g c =
+    let so_far = c.loop-judge.invariant.so_far in
+    let told = rw c.in-Some.is at (c.in_ok-answer.ensures.answer so_far.bytes so_far.records so_far.stands) in
+    read_within _ _ _ _ (text_all _ _ _ _ _ _ c.args.number c.args.uri.now _ so_far told).says
 
 pub loop-judge-smaller : goal.loop-judge-smaller
 loop-judge-smaller g c =
