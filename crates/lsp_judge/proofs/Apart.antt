@@ -8,8 +8,8 @@ use Rattle.lsp_rpc.specs.Message.{Message, request, notification, response, resu
 use Rattle.lsp_rpc.specs.Outline.{outline, without_params, without_result}
 use Rattle.lsp_rpc.specs.Params.{act_at}
 use Rattle.lsp_rpc.specs.declared.fault.RpcFault.{RpcFault}
-use Rattle.lsp_rpc.specs.declared.plain.Side.{Side}
-use Rattle.lsp_rpc.specs.declared.plain.Side.TheVariants.{Editor, Server}
+use Rattle.lsp_types.specs.declared.side.Side.{Side}
+use Rattle.lsp_types.specs.declared.side.Side.TheVariants.{Editor, Server}
 use Rattle.lsp_session.specs.Handshake.{is_empty, open_initializes}
 use Rattle.lsp_session.specs.Laws.{sent_by}
 use Rattle.lsp_session.specs.OpenInitialize.{Initialize}

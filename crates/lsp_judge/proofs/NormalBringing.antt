@@ -7,7 +7,7 @@ use Rattle.lsp_frame.specs.Decoder.{State}
 use Rattle.lsp_frame.specs.Frame.{Frames, IsStream}
 use Rattle.lsp_frame.specs.Sink.{Told, Wrote}
 use Rattle.lsp_frame.proofs.Writing.{wrote_nothing}
-use Rattle.lsp_rpc.specs.declared.plain.Side.{Side}
+use Rattle.lsp_types.specs.declared.side.Side.{Side}
 use Rattle.lsp_judge.specs.declared.counts.Counts.{Counts}
 use Rattle.lsp_judge.specs.declared.outcome.Outcome.{Outcome}
 use Rattle.lsp_judge.specs.declared.outcome.RunFault.{RunFault}

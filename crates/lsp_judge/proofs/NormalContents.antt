@@ -8,7 +8,7 @@ use Rattle.lsp_frame.specs.Decoder.{State, StandsFor, Next}
 use Rattle.lsp_frame.specs.Frame.{Frames}
 use Rattle.lsp_frame.specs.Sink.{Told, Wrote, canonical}
 use Rattle.lsp_frame.proofs.Writing.{wrote_then, stopped_then}
-use Rattle.lsp_rpc.specs.declared.plain.Side.{Side}
+use Rattle.lsp_types.specs.declared.side.Side.{Side}
 use Rattle.lsp_judge.specs.declared.counts.Counts.{Counts}
 use Rattle.lsp_judge.specs.declared.outcome.Outcome.{Outcome}
 use Rattle.lsp_judge.specs.declared.outcome.RunFault.{RunFault}

@@ -5,8 +5,8 @@ use Rattle.std.proofs.Common.{◌≡◌, ℕ, suc, ◌+◌, min, arith, List, []
 use Rattle.std.proofs.lemmas.Grind.{flat_map-append}
 use Rattle.std.specs.Option.{option_or}
 use Rattle.lsp_frame.specs.Sink.{canonical}
-use Rattle.lsp_rpc.specs.declared.plain.Side.{Side}
-use Rattle.lsp_rpc.specs.declared.plain.Side.TheVariants.{Editor, Server}
+use Rattle.lsp_types.specs.declared.side.Side.{Side}
+use Rattle.lsp_types.specs.declared.side.Side.TheVariants.{Editor, Server}
 use Rattle.lsp_log.specs.Log.{Record, shown, first_line, spelling}
 use Rattle.lsp_judge.specs.LookBack.{first_from}
 use Rattle.lsp_judge.specs.Placed.{Raw, content, broken, show}

@@ -6,8 +6,8 @@ use Rattle.lsp_frame.specs.Bounds.{Bounds, IsInRange}
 use Rattle.lsp_frame.specs.Decoder as decoder
 use Rattle.lsp_frame.specs.Sink.{Told, Wrote, Stopped}
 use Rattle.lsp_frame.proofs.Writing.{wrote_then}
-use Rattle.lsp_rpc.specs.declared.plain.Side.{Side}
-use Rattle.lsp_rpc.specs.declared.plain.Side.TheVariants.{Editor, Server}
+use Rattle.lsp_types.specs.declared.side.Side.{Side}
+use Rattle.lsp_types.specs.declared.side.Side.TheVariants.{Editor, Server}
 use Rattle.lsp_log.specs.Log.{Record, chunk, shown, first_line, spelling}
 use Rattle.lsp_judge.specs.declared.normal.Streams.{Streams}
 use Rattle.lsp_judge.specs.declared.outcome.Outcome.{Outcome}

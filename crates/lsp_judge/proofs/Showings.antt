@@ -10,7 +10,7 @@ use Rattle.lsp_frame.specs.Failures.{after_failure}
 use Rattle.lsp_frame.specs.Frame.{Frames}
 use Rattle.lsp_frame.specs.Sink.{Told, Wrote}
 use Rattle.lsp_rpc.specs.Message.{Message}
-use Rattle.lsp_rpc.specs.declared.plain.Side.{Side}
+use Rattle.lsp_types.specs.declared.side.Side.{Side}
 use Rattle.lsp_rpc.proofs.Outlining.{same_words}
 use Rattle.lsp_session.specs.State as session
 use Rattle.lsp_docs.specs.State as docs

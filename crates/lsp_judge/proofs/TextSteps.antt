@@ -2,7 +2,7 @@
 use Rattle.std.proofs.Common.{◌≡◌, ◌<◌, ◌+◌, ◌^◌, ℕ, false, List, [], ◌∷◌, ◌++◌, Option, Some, None, Result, Ok, Err, inl, inr, sym, ap, subst, ◌∙◌, append-nil, arith}
 use Rattle.lsp_frame.specs.Bounds.{Bounds, IsInRange}
 use Rattle.lsp_frame.specs.Sink.{Told}
-use Rattle.lsp_rpc.specs.declared.plain.Side.TheVariants.{Editor}
+use Rattle.lsp_types.specs.declared.side.Side.TheVariants.{Editor}
 use Rattle.lsp_docs.specs.Calls.{Call}
 use Rattle.lsp_docs.specs.Documents.{held}
 use Rattle.lsp_docs.specs.State as docs

@@ -4,7 +4,7 @@ ghost use Rattle.lsp_log.specs.Log.{IsLog};
 
 use super::*;
 use lsp_frame::{Input, Limits, Output, Source};
-use lsp_rpc::Side;
+use lsp_types::Side;
 use std::alloc::Global;
 use std::io;
 use std::io::Read;

@@ -7,7 +7,7 @@ ghost use Rattle.serde_json.specs.View.{view, number_view};
 ghost use Rattle.lsp_rpc.specs.Message.{Message as SpecMessage};
 ghost use Rattle.lsp_rpc.specs.Outline.{outline, without_params, without_result, part_named, with_part, AreKept};
 ghost use Rattle.lsp_rpc.specs.Params.{act_at};
-ghost use Rattle.lsp_rpc.specs.declared.plain.Side.TheVariants.{Editor};
+ghost use Rattle.lsp_types.specs.declared.side.Side.TheVariants.{Editor};
 ghost use Rattle.lsp_rpc.specs.Reading as reading;
 ghost use Rattle.lsp_rpc.specs.View.{act_view, message_view};
 ghost use Rattle.lsp_rpc.specs.Words.{words_of as spec_words_of};
