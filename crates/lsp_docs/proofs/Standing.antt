@@ -90,6 +90,24 @@ pub documents-held : (limit : ℕ) (calls : List Call) (i : ℕ) (h : Held) → 
 documents-held limit calls i h accepted e =
     held-documents limit h.uri calls ∙ held_at (documents limit calls) i h (documents-distinct limit calls accepted) e
 
+-- the URI of the first document stands at no later place
+not_again : (k : Held) (hs : List Held) (j : ℕ) (g h : Held) → IsDistinct (k ∷ hs) → Some k ≡ Some g → slice_get hs j ≡ Some h → g.uri ≡ h.uri → ⊥
+not_again k hs j g h d e f same =
+    let first : k.uri ≡ h.uri = ap (λ x. x.uri) (same_Some k g e) ∙ same in
+    none-some h.version (sym (subst (λ x. held_in x hs ≡ None) first d.0) ∙ held_at hs j h d.1 f)
+
+-- a URI stands at one place
+once_at : (hs : List Held) (i j : ℕ) (g h : Held) → IsDistinct hs → slice_get hs i ≡ Some g → slice_get hs j ≡ Some h → g.uri ≡ h.uri → i ≡ j
+once_at [] i j g h d e f same = absurd (none-some g e)
+once_at (k ∷ hs) zero zero g h d e f same = refl
+once_at (k ∷ hs) zero (suc j) g h d e f same = absurd (not_again k hs j g h d e f same)
+once_at (k ∷ hs) (suc i) zero g h d e f same = absurd (not_again k hs i h g d f e (sym same))
+once_at (k ∷ hs) (suc i) (suc j) g h d e f same = ap suc (once_at hs i j g h d.1 e f same)
+
+pub documents-once : (limit : ℕ) (calls : List Call) (i j : ℕ) (g h : Held) → AreAccepted limit calls → slice_get (documents limit calls) i ≡ Some g
+    → slice_get (documents limit calls) j ≡ Some h → g.uri ≡ h.uri → i ≡ j
+documents-once limit calls i j g h accepted e f same = once_at (documents limit calls) i j g h (documents-distinct limit calls accepted) e f same
+
 -- ---- snapshots
 
 module _ (limit : ℕ) (w : Waits) (calls : List Call) (c : Call) (h : AreWaits limit w calls) (e : call_rule limit calls c ≡ None) where

@@ -35,9 +35,6 @@ pub none_row : (b : Bool) (n : ℕ) (rest : Option ℕ) → (if b then Some n el
 none_row true n rest h = absurd (none-some n (sym h))
 none_row false n rest h = (refl, h)
 
-pub none_last : (x : Option ℕ) → (if true then x else None) ≡ None → x ≡ None
-none_last x h = h
-
 pub not_false : (b : Bool) → not b ≡ false → b ≡ true
 not_false true h = refl
 not_false false h = absurd (true≢false h)

@@ -24,13 +24,6 @@ is_done-state_of before = some (first_settled before)
     some None = refl
     some (Some s) = refl
 
-pub agreement-state_of : (before : List Sent) → by_state.agreement (state_of before) ≡ agreed before
-agreement-state_of before = inner (first_settled before)
-  where
-    inner : (settled : Option Settled) → option_and_then (λ a. a) (agreed_in settled) ≡ option_and_then (λ s. agreed_at s.value) settled
-    inner None = refl
-    inner (Some s) = refl
-
 request_rule-state_of : (before : List Sent) (m : Sent) → by_state.request_rule (state_of before) m.side m.message ≡ request_rule before m
 request_rule-state_of before m = rw (open_of-state_of m.side before, open_of-state_of (other_side m.side) before) refl
 
