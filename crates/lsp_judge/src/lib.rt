@@ -59,6 +59,3 @@ pub use text_answer::TextAnswer;
 pub use text_run::{run_text, text_after};
 pub use verdict::{OpenDocument, Summary, Verdict, Who};
 pub use view::run_show;
-
-#[cfg(test)]
-mod normal_tests;

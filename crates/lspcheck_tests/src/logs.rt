@@ -182,7 +182,8 @@ impl Log {
 
     /// Adds what a line says. A new log begins by `EMPTY`, by `HEAD` with its first line, by `START`
     /// with that and the handshake. `E` adds a message of the editor, `S` of the server, `T` a
-    /// snapshot, `+` bytes as they are; `:` says how many bytes there are. From `CUT` on, records of bytes have so many bytes at most.
+    /// snapshot, `+` bytes as they are; `:` says how many bytes there are. From `CUT` on, records of bytes
+    /// have so many bytes at most.
     pub(super) fn add(&mut self, word: &str, rest: &str) -> Result<(), Fail> {
         match word {
             "EMPTY" => self.begin(""),

@@ -1,4 +1,5 @@
-use crate::{Input, Limits, Outcome, Output, RunFault, report_of, run_normal};
+//! Normal forms of small logs, at small limits.
+use lsp_judge::{Input, Limits, Outcome, Output, RunFault, report_of, run_normal};
 use std::alloc::Global;
 use std::test::*;
 

@@ -3,8 +3,8 @@
 //! `is PHASE ENCODING KIND OPEN CANCELLED OPEN` says how far the session has come, what is agreed, how
 //! many requests of the editor are open and cancelled, and how many of the server are open. A line
 //! `session` begins a new session.
-use crate::{Pending, Refusal, Session};
 use lsp_rpc::{Id, RpcFault, Side, act_of, read};
+use lsp_session::{Pending, Refusal, Session};
 use std::test::Fail;
 
 /// The contents, each behind its name.

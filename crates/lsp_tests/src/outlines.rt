@@ -1,4 +1,5 @@
-use crate::{Id, Message, OutlineReader};
+//! Contents read by their outline.
+use lsp_rpc::{Id, Message, OutlineReader};
 use std::alloc::{AllocError, Global};
 use std::test::Fail;
 
