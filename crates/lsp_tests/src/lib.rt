@@ -18,4 +18,6 @@ mod outlines;
 #[cfg(test)]
 mod sessions;
 #[cfg(test)]
+mod stores;
+#[cfg(test)]
 mod texts;
