@@ -1,8 +1,8 @@
 //! Two stores of one text, which agree after any edits.
 
 use crate::texts::{EDITS, ENCODINGS, at, span};
-use lsp_rpc::{Encoding, Span};
 use lsp_text::{Lined, Place, Plain, TextFault, TextStore};
+use lsp_types::{Encoding, Span};
 use std::alloc::Global;
 use std::process::Abort;
 use std::test::Fail;

@@ -1,6 +1,6 @@
 //! Tables of positions, edits and counts, over both stores.
 
-use lsp_rpc::{Change, Encoding, Position, Span};
+use lsp_types::{Change, Encoding, Position, Span};
 use lsp_text::{Counts, Lined, Place, Plain, TextFault, TextStore, change, change_all, measure};
 use std::alloc::Global;
 use std::process::Abort;
