@@ -2,7 +2,7 @@
 ghost use Rattle.std.specs.Prelude.{◌<◌};
 
 use lsp_frame::{
-    Decoder, Failed, FrameFault, Input, Limits, Output, Source, WriteFault, write_frame,
+    Decoder, Failed, FrameFault, Input, Limits, Output, Sink, Source, WriteFault, write_frame,
 };
 use std::alloc::Global;
 use std::io;

@@ -76,7 +76,11 @@ fn content_of(alloc: Global, words: &str) -> Result<String, Fail> {
             content.push(',')?;
         }
         let (name, words) = split_word(other);
-        fill(&mut content, template(name).ok_or("no such template")?, words)?;
+        fill(
+            &mut content,
+            template(name).ok_or("no such template")?,
+            words,
+        )?;
     }
     content.push_str(back)?;
     Ok(content)

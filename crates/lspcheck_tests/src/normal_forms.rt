@@ -1,11 +1,5 @@
-<<<<<<<< HEAD:crates/lspcheck_tests/src/normal_forms.rt
 //! Normal forms of small logs, at small limits.
 use lsp_judge::{Input, Limits, Outcome, Output, RunFault, report_of, run_normal};
-========
-use crate::run_normal;
-use lsp_frame::{Input, Limits, Output};
-use lsp_verdict::{Outcome, RunFault, report_of};
->>>>>>>> wip:crates/lsp_streams/src/normal_tests.rt
 use std::alloc::Global;
 use std::test::*;
 
