@@ -13,6 +13,3 @@ pub use normal_laws::{
     normal_form_keeps_events, normal_form_keeps_verdict, normal_form_stays, one_normal_form,
 };
 pub use stream_laws::{one_run, some_run};
-
-#[cfg(test)]
-mod normal_tests;

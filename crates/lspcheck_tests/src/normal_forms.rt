@@ -1,6 +1,5 @@
-use crate::run_normal;
-use lsp_frame::{Input, Limits, Output};
-use lsp_verdict::{Outcome, RunFault, report_of};
+//! Normal forms of small logs, at small limits.
+use lsp_judge::{Input, Limits, Outcome, Output, RunFault, report_of, run_normal};
 use std::alloc::Global;
 use std::test::*;
 

@@ -35,15 +35,15 @@ const START: [(&str, &str); 3] = [
 ];
 
 /// The content of this name.
-fn template(name: &str) -> Result<&'static str, Fail> {
+fn template(name: &str) -> Option<&'static str> {
     for line in TEMPLATES.lines() {
-        if let Some((found, content)) = line.split_once(' ')
-            && found == name
-        {
-            return Ok(content);
+        if let Some((found, content)) = line.split_once(' ') {
+            if found == name {
+                return Some(content);
+            }
         }
     }
-    Err("no such template")?
+    None
 }
 
 /// The first word, and the others.
@@ -67,7 +67,7 @@ fn fill(content: &mut String, template: &str, words: &str) -> Result<(), Fail> {
 fn content_of(alloc: Global, words: &str) -> Result<String, Fail> {
     let (first, others) = words.split_once(" / ").unwrap_or((words, ""));
     let (name, words) = split_word(first);
-    let whole = template(name)?;
+    let whole = template(name).ok_or("no such template")?;
     let (front, back) = whole.split_once('*').unwrap_or((whole, ""));
     let mut content = String::new(alloc);
     fill(&mut content, front, words)?;
@@ -76,7 +76,11 @@ fn content_of(alloc: Global, words: &str) -> Result<String, Fail> {
             content.push(',')?;
         }
         let (name, words) = split_word(other);
-        fill(&mut content, template(name)?, words)?;
+        fill(
+            &mut content,
+            template(name).ok_or("no such template")?,
+            words,
+        )?;
     }
     content.push_str(back)?;
     Ok(content)
@@ -182,7 +186,8 @@ impl Log {
 
     /// Adds what a line says. A new log begins by `EMPTY`, by `HEAD` with its first line, by `START`
     /// with that and the handshake. `E` adds a message of the editor, `S` of the server, `T` a
-    /// snapshot, `+` bytes as they are; `:` says how many bytes there are. From `CUT` on, records of bytes have so many bytes at most.
+    /// snapshot, `+` bytes as they are; `:` says how many bytes there are. From `CUT` on, records of bytes
+    /// have so many bytes at most.
     pub(super) fn add(&mut self, word: &str, rest: &str) -> Result<(), Fail> {
         match word {
             "EMPTY" => self.begin(""),

@@ -1,14 +1,9 @@
-ghost use Rattle.std.specs.Prelude.{◌≡◌, ℕ, List, Some, None, IfOk, length};
-ghost use Rattle.lsp_log.specs.Log as log;
-ghost use Rattle.lsp_log.specs.Log.{IsLog};
-
-use super::*;
-use lsp_frame::{Input, Limits, Output, Source};
-use lsp_types::Side;
+//! Logs: how many records they have, the faults that end them, and what is written anew.
+use lsp_frame::{Input, Limits, Output};
+use lsp_log::{LogCode, LogFault, LogReader, write_head, write_record};
 use std::alloc::Global;
 use std::io;
 use std::io::Read;
-use std::process::Abort;
 use std::test::*;
 
 /// A reader that gives a few bytes a call, and whose calls fail once its bytes are given.
@@ -33,29 +28,20 @@ impl Read for Pieces<'_> {
     }
 }
 
-/// The number of records of a log. Its contract is proved from that of `next` alone.
-fn count_records<R: Source>(alloc: Global, limits: Limits, reader: &mut R) -> Result<u64, LogFault>
-    ensures whole { (all : List ℕ) → (R.told reader.old).bytes ≡ Some all
-        → IfOk result (λ n. (records : List log.Record) × IsLog limits all records None × (n ≡ length records)) }
-    ensures bad { (all : List ℕ) (number : ℕ) (code : LogCode) → (R.told reader.old).bytes ≡ Some all
-        → result ≡ Err (LogFault.Bad number code) → (records : List log.Record) × IsLog limits all records (Some (number, code)) }
-{
-    let mut log = LogReader::new(alloc, limits);
-    let mut count = 0;
-    while let Some(_record) = log.next(reader)? {
-        count += 1;
-    }
-    Ok(count)
-}
-
-/// Counts the records of a log by a reader that gives `most` bytes a call.
+/// The number of records of a log, by a reader that gives `most` bytes a call.
 fn count(alloc: Global, limits: Limits, bytes: &[u8], most: usize) -> Result<u64, LogFault> {
-    let reader = Pieces {
+    let mut input = Input::new(Pieces {
         rest: bytes,
         most,
         fails: false,
-    };
-    count_records(alloc, limits, &mut Input::new(reader))
+    });
+    let mut reader = LogReader::new(alloc, limits);
+    for records in 0..=bytes.len() as u64 {
+        if reader.next(&mut input)?.is_none() {
+            return Ok(records);
+        }
+    }
+    Ok(u64::MAX)
 }
 
 fn bad(number: u64, code: LogCode) -> Result<u64, LogFault> {
@@ -173,7 +159,10 @@ fn records_are_written_as_they_were_read(rt: HostRuntime) {
     let mut reader = LogReader::new(rt.alloc(), Limits::profile());
     let mut output = Output::new(&mut written);
     write_head(&mut output).expect(&rt, "written");
-    while let Some(record) = reader.next(&mut input).expect(&rt, "no fault") {
+    for _ in 0..log.len() {
+        let Some(record) = reader.next(&mut input).expect(&rt, "no fault") else {
+            break;
+        };
         assert!(rt; record.fits(&Limits::profile()));
         write_record(&mut output, &record).expect(&rt, "written");
     }

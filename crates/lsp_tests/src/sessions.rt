@@ -4,8 +4,8 @@
 //! many requests of the editor are open and cancelled, and how many of the server are open. A line
 //! `lacks RULE` says what the session would lack if it ended there, 0 for nothing. A line `session`
 //! begins a new session.
-use crate::{Pending, Refusal, Session};
 use lsp_rpc::{Id, RpcFault, Side, act_of, read};
+use lsp_session::{Pending, Refusal, Session};
 use std::test::Fail;
 
 /// The contents, each behind its name.

@@ -1,10 +1,10 @@
 //! Sessions on documents, over both stores. The texts and answers come from worked examples of the protocol.
 
-use crate::{DocFault, Docs, Match};
 use Answer::{Done, Equal, Rule, Waits};
 use Encoding::{Utf8, Utf16, Utf32};
 use Step::{Close, Open, Raise, Save, Show};
 use SyncKind::{Full, Incremental, Nothing};
+use lsp_docs::{DocFault, Docs, Match};
 use lsp_frame::Limits;
 use lsp_text::{Lined, Plain, TextStore};
 use lsp_types::{Change, Encoding, Position, Span, SyncKind};

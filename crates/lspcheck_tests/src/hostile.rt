@@ -1,7 +1,9 @@
 //! Logs and streams that are cut short, without an end, nested deep, or spoilt in one byte.
-use super::check::{check_sessions, run_in_pieces};
-use super::logs::{Log, frame_of, split_word};
-use super::*;
+use crate::logs::{Log, frame_of, split_word};
+use crate::readers::{Endless, Pieces};
+use crate::runs::{Task, Work, check_sessions, word_of};
+use lsp_judge::{Input, Limits, Output, run_check};
+use std::alloc::Global;
 use std::process::Abort;
 use std::test::*;
 
@@ -51,8 +53,13 @@ fn log_of(alloc: Global, lines: &str, most: &str) -> Result<Log, Fail> {
 /// The first line of the report on a log, by a reader that gives so many bytes a call.
 fn verdict_on(alloc: Global, log: &[u8], most: usize) -> Result<String, Fail> {
     let mut written = Vec::new(alloc);
-    let pieces = Pieces::new(log, most);
-    let _outcome = run_in_pieces(alloc, Task::Check, Limits::profile(), pieces, &mut written)?;
+    let work = Work {
+        alloc,
+        limits: Limits::profile(),
+        log: Pieces::new(log, most),
+        written: &mut written,
+    };
+    let _outcome = work.run(Task::Check)?;
     let report = str::from_utf8(written.as_slice())?;
     let line = report.lines().next().ok_or("no report")?;
     Ok(String::from_str(alloc, line)?)
@@ -155,14 +162,18 @@ const FRAMES: [(u64, usize, usize, &str); 5] = [
     (5, 410, 465, "1 75\n2 52\n3 136\n4 58\n"),
 ];
 
-/// The lines that are written for a stream, and the status of the run.
-fn lines_of(alloc: Global, stream: &[u8]) -> Result<(String, u8), Fail> {
+/// The lines that are written for a stream, and the word for how the run ends.
+fn lines_of(alloc: Global, stream: &[u8]) -> Result<(String, &'static str), Fail> {
     let mut written = Vec::new(alloc);
-    let task = Task::Frames(Mode::Lengths);
-    let pieces = Pieces::new(stream, 7);
-    let ended = run_in_pieces(alloc, task, Limits::profile(), pieces, &mut written);
+    let work = Work {
+        alloc,
+        limits: Limits::profile(),
+        log: Pieces::new(stream, 7),
+        written: &mut written,
+    };
+    let ended = work.run(Task::Frames);
     let lines = String::from_str(alloc, str::from_utf8(written.as_slice())?)?;
-    Ok((lines, status_of(&ended)))
+    Ok((lines, word_of(&ended)))
 }
 
 #[test]
@@ -178,14 +189,14 @@ fn a_stream_cut_at_every_length(rt: HostRuntime) -> Result<(), Fail> {
         )?;
         for length in start..end {
             let cut = stream.as_bytes().get(..length).ok_or("past the end")?;
-            let (found, status) = lines_of(rt.alloc(), cut)?;
+            let (found, end) = lines_of(rt.alloc(), cut)?;
             let behind = found.as_str().strip_prefix(lines).ok_or("other lines")?;
             let wanted = if length == start {
-                ("", 0)
+                ("", "done")
             } else {
-                (report.as_str(), 2)
+                (report.as_str(), "fault")
             };
-            assert_eq!(rt; (behind, status), wanted, "{length} bytes");
+            assert_eq!(rt; (behind, end), wanted, "{length} bytes");
         }
     }
     Ok(())
@@ -196,16 +207,16 @@ const OVER_SIXTEEN_BYTES: &str = r#"HEAD
 + E 1\n{\n
 > bad log L6 record 1
 > log too long
-= 2
+= bad-log
 HEAD
 + X\n
 > bad log L2 record 1
 > bad record line
-= 2
+= bad-log
 + X
 > bad log L2 record 1
 > bad record line
-= 2"#;
+= bad-log"#;
 
 /// At the limits and over them, where a header part has 64 bytes at most, a content 8, a record of
 /// bytes 4, and the text of a snapshot none.
@@ -213,33 +224,33 @@ const SMALL_LIMITS: &str = r#"HEAD
 + E 5\n
 > bad log L3 record 1
 > size out of range
-= 2
+= bad-log
 HEAD
 + T 1 1 1\n
 > bad log L3 record 1
 > size out of range
-= 2
+= bad-log
 HEAD
 + T 1 1 0\na\n\n
 > yes
 > messages 0 0
 > snapshots 1 unmatched 1
 > encoding - sync -
-= 0
+= yes
 EMPTY
 + Content-Length: 9\r\n\r\n
 > fault 105 frame 1
 > content too long
-frames 2
+frames fault
 EMPTY
 + Content-Length: 1\r\nX: aaaaaaaaaaaaaaaaaaaaaaaaaaaaaaaaaaaaaa\r\n\r\n{
 > 1 1
-frames 0
+frames done
 EMPTY
 + Content-Length: 1\r\nX: aaaaaaaaaaaaaaaaaaaaaaaaaaaaaaaaaaaaaaa\r\n\r\n{
 > fault 101 frame 1
 > header part too long
-frames 2"#;
+frames fault"#;
 
 #[test]
 fn logs_over_a_limit_of_sixteen_bytes(rt: HostRuntime) -> Result<(), Fail> {
@@ -263,7 +274,7 @@ fn a_log_without_end_is_read_one_byte_past_the_limit(rt: HostRuntime) -> Result<
         let mut sink = Output::new(&mut written);
         run_check(rt.alloc(), &mut source, &mut sink, limits)
     };
-    assert_eq!(rt; status_of(&ended), 2);
+    assert_eq!(rt; word_of(&ended), "bad-log");
     assert_eq!(rt;
         written.as_slice(),
         b"bad log L6 record 372\nlog too long\n".as_slice()
@@ -276,9 +287,12 @@ fn a_log_without_end_is_read_one_byte_past_the_limit(rt: HostRuntime) -> Result<
 const NESTED: [(usize, &str); 2] = [
     (
         126,
-        "> yes\n> messages 1 0\n> snapshots 0 unmatched 0\n> encoding - sync -\n= 0",
+        "> yes\n> messages 1 0\n> snapshots 0 unmatched 0\n> encoding - sync -\n= yes",
     ),
-    (127, "> no 201 editor 1 event 1\n> content is not JSON\n= 1"),
+    (
+        127,
+        "> no 201 editor 1 event 1\n> content is not JSON\n= no",
+    ),
 ];
 
 #[test]

@@ -1,4 +1,5 @@
-use crate::{Memory, Message, OutlineReader, Side, act_of, read};
+//! Edits of the editor's as they are mostly sent, read from their tokens, and others, which are read whole.
+use lsp_rpc::{Memory, Message, OutlineReader, Side, act_of, read};
 use std::alloc::{AllocError, Global};
 use std::test::Fail;
 

@@ -1,4 +1,5 @@
-use crate::{
+//! Messages: the rules that contents break, what messages mean, and the words that name them.
+use lsp_rpc::{
     Id, Memory, Message, RpcFault, Side, act_of, copy_id, picked_of, read, same_id, take_act,
     words_of,
 };

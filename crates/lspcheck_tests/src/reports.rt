@@ -1,5 +1,8 @@
-use super::*;
-use lsp_rpc::{Encoding, Id, SyncKind};
+//! The reports of verdicts, line by line.
+use lsp_judge::{LogCode, OpenDocument, Summary, Verdict, Who, report_of};
+use lsp_rpc::{Encoding, Id, Side, SyncKind};
+use lsp_session::OpenRequest;
+use std::alloc::Global;
 use std::test::Fail;
 
 /// The start of a session of so many messages of the editor and one of the server, in which

@@ -1,4 +1,5 @@
-use crate::{Answer, Id, Memory, Message, OutlineReader, RpcFault, words_of};
+//! Contents read by their outline.
+use lsp_rpc::{Answer, Id, Memory, Message, OutlineReader, RpcFault, words_of};
 use serde_json::Value;
 use std::alloc::{AllocError, Global};
 use std::test::Fail;

@@ -1,6 +1,9 @@
+//! Streams of frames: their contents, and the faults that end them.
 ghost use Rattle.std.specs.Prelude.{◌<◌};
 
-use super::*;
+use lsp_frame::{
+    Decoder, Failed, FrameFault, Input, Limits, Output, Sink, Source, WriteFault, write_frame,
+};
 use std::alloc::Global;
 use std::io;
 use std::io::{Read, Write};
