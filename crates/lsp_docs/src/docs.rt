@@ -25,8 +25,8 @@ use crate::opened::OpenDocuments;
 use crate::snapshot::{Match, any_differs, is_due};
 use crate::waiting::Waiting;
 use lsp_frame::Limits;
-use lsp_rpc::{Change, Encoding, SyncKind};
 use lsp_text::{TextStore, change_all};
+use lsp_types::{Change, Encoding, SyncKind};
 use std::alloc::Global;
 use std::marker::Model;
 

@@ -12,8 +12,8 @@ use crate::document::Document;
 use crate::fault::DocFault;
 use indexmap::IndexMap;
 use lsp_order::Order;
-use lsp_rpc::{Change, Encoding};
 use lsp_text::TextStore;
+use lsp_types::{Change, Encoding};
 use std::alloc::{AllocError, Global};
 use std::marker::Model;
 

@@ -2,8 +2,8 @@
 use Rattle.std.proofs.Common.{◌≡◌, ℕ, List, ◌∷◌, [], Bool, true, false, not, ◌&&◌, ◌||◌, Option, Some, None, is_some, option_and_then, refl}
 use Rattle.lsp_rpc.specs.Act.{Act}
 use Rattle.lsp_rpc.specs.Message.{Message}
-use Rattle.lsp_rpc.specs.declared.plain.Side.{Side}
-use Rattle.lsp_rpc.specs.declared.plain.Side.TheVariants.{Editor, Server}
+use Rattle.lsp_types.specs.declared.side.Side.{Side}
+use Rattle.lsp_types.specs.declared.side.Side.TheVariants.{Editor, Server}
 use Rattle.lsp_session.specs.ByState as by_state
 use Rattle.lsp_session.specs.Handshake.{Settled, first_settled, is_done, is_empty, open_initializes, was_sent}
 use Rattle.lsp_session.specs.Lifecycle.{is_early, lifecycle_rule, reports_on}
