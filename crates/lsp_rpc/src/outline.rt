@@ -1,5 +1,5 @@
 //! Reading a content without building what its params and its result hold.
-ghost use Rattle.std.specs.Prelude.{◌≡◌, ◌<◌, List, length, Some, true, false, IfSome, IfOk, IfErr, string_bytes};
+ghost use Rattle.std.specs.Prelude.{◌≡◌, ◌<◌, length, Some, false, IfSome, IfOk, IfErr, string_bytes};
 ghost use Rattle.json.specs.Json.{value, members};
 ghost use Rattle.serde_json.specs.Data.{Data, Members, object, no_members};
 ghost use Rattle.serde_json.specs.Read.{of_json, of_members, converted, number_of, number_from, read as read_text};

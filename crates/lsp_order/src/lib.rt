@@ -1,0 +1,8 @@
+//! Keys in the order in which they entered, with entering and leaving at the same cost whatever their number.
+#![tactic(auto)]
+
+mod order;
+#[cfg(test)]
+mod tests;
+
+pub use order::Order;
