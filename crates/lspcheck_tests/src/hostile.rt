@@ -57,9 +57,8 @@ fn verdict_on(alloc: Global, log: &[u8], most: usize) -> Result<String, Fail> {
         alloc,
         limits: Limits::profile(),
         log: Pieces::new(log, most),
-        written: &mut written,
     };
-    let _outcome = work.run(Task::Check)?;
+    let _outcome = work.run(Task::Check, &mut written)?;
     let report = str::from_utf8(written.as_slice())?;
     let line = report.lines().next().ok_or("no report")?;
     Ok(String::from_str(alloc, line)?)
@@ -169,9 +168,8 @@ fn lines_of(alloc: Global, stream: &[u8]) -> Result<(String, &'static str), Fail
         alloc,
         limits: Limits::profile(),
         log: Pieces::new(stream, 7),
-        written: &mut written,
     };
-    let ended = work.run(Task::Frames);
+    let ended = work.run(Task::Frames, &mut written);
     let lines = String::from_str(alloc, str::from_utf8(written.as_slice())?)?;
     Ok((lines, word_of(&ended)))
 }

@@ -25,71 +25,53 @@ pub(super) enum Task<'a> {
     Frames,
 }
 
-/// A log or a stream that comes in pieces, its limits, and where a run over it writes.
+/// A log or a stream that comes in pieces, and its limits.
 #[derive(Drop)]
-pub(super) struct Work<'a, 'b> {
+pub(super) struct Work<'a> {
     pub(super) alloc: Global,
     pub(super) limits: Limits,
     pub(super) log: Pieces<'a>,
-    pub(super) written: &'b mut Vec<u8>,
 }
 
-impl Work<'_, '_> {
-    fn check(self) -> Ended {
-        let mut sink = Output::new(self.written);
-        run_check(
-            self.alloc,
-            &mut Input::new(self.log),
-            &mut sink,
-            self.limits,
-        )
-    }
-
-    fn show(self) -> Ended {
-        let mut sink = Output::new(self.written);
-        run_show(
-            self.alloc,
-            &mut Input::new(self.log),
-            &mut sink,
-            self.limits,
-        )
-    }
-
-    fn text(self, number: u64, uri: &str) -> Ended {
+impl Work<'_> {
+    fn check(self, written: &mut Vec<u8>) -> Ended {
         let mut source = Input::new(self.log);
-        let mut sink = Output::new(self.written);
+        let mut sink = Output::new(written);
+        run_check(self.alloc, &mut source, &mut sink, self.limits)
+    }
+
+    fn show(self, written: &mut Vec<u8>) -> Ended {
+        let mut source = Input::new(self.log);
+        let mut sink = Output::new(written);
+        run_show(self.alloc, &mut source, &mut sink, self.limits)
+    }
+
+    fn text(self, written: &mut Vec<u8>, number: u64, uri: &str) -> Ended {
+        let mut source = Input::new(self.log);
+        let mut sink = Output::new(written);
         run_text(self.alloc, &mut source, &mut sink, self.limits, number, uri)
     }
 
-    fn normal(self) -> Ended {
-        let mut sink = Output::new(self.written);
-        run_normal(
-            self.alloc,
-            &mut Input::new(self.log),
-            &mut sink,
-            self.limits,
-        )
-    }
-
-    fn frames(self) -> Ended {
+    fn normal(self, written: &mut Vec<u8>) -> Ended {
         let mut source = Input::new(self.log);
-        let mut sink = Output::new(self.written);
-        run_frames(
-            self.alloc,
-            &mut source,
-            &mut sink,
-            self.limits,
-            Mode::Lengths,
-        )
+        let mut sink = Output::new(written);
+        run_normal(self.alloc, &mut source, &mut sink, self.limits)
     }
 
-    pub(super) fn run(self, task: Task<'_>) -> Ended {
+    fn frames(self, written: &mut Vec<u8>) -> Ended {
+        let mut source = Input::new(self.log);
+        let mut sink = Output::new(written);
+        let mode = Mode::Lengths;
+        run_frames(self.alloc, &mut source, &mut sink, self.limits, mode)
+    }
+
+    pub(super) fn run(self, task: Task<'_>, written: &mut Vec<u8>) -> Ended {
         match task {
-            Task::Check => self.check(),
-            Task::Show => self.show(),
-            Task::Text { number, uri } => self.text(number.get(), uri),
-            Task::Normal => self.normal(),
-            Task::Frames => self.frames(),
+            Task::Check => self.check(written),
+            Task::Show => self.show(written),
+            Task::Text { number, uri } => self.text(written, number.get(), uri),
+            Task::Normal => self.normal(written),
+            Task::Frames => self.frames(written),
         }
     }
 }
@@ -134,13 +116,8 @@ fn told_by(
     log: Pieces<'_>,
 ) -> Result<Vec<u8>, Fail> {
     let mut told = Vec::new(alloc);
-    let work = Work {
-        alloc,
-        limits,
-        log,
-        written: &mut told,
-    };
-    let ended = work.run(task);
+    let work = Work { alloc, limits, log };
+    let ended = work.run(task, &mut told);
     push_report(&mut told, alloc, task, &ended)?;
     told.extend_from_slice(word_of(&ended).as_bytes())?;
     Ok(told)

@@ -1,5 +1,5 @@
 //! Keys that enter and leave, beside a plain list.
-use crate::Order;
+use lsp_order::Order;
 use std::test::Fail;
 
 /// Whether the order holds these keys.
