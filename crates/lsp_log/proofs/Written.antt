@@ -3,7 +3,7 @@ use Rattle.std.proofs.Common.{◌≡◌, List, ℕ, ℤ, [], ◌∷◌, ◌++◌
 use Rattle.std.proofs.lemmas.List.{length-append}
 use Rattle.std.specs.Prelude.{codes, decimal}
 use Rattle.std.specs.Fmt.{signed_decimal}
-use Rattle.lsp_rpc.specs.declared.plain.Side.{Side}
+use Rattle.lsp_types.specs.declared.side.Side.{Side}
 use Rattle.lsp_frame.specs.Sink.{Wrote, Stopped, Writes}
 use Rattle.lsp_frame.specs.Told.{Told}
 use Rattle.lsp_frame.proofs.Writing.{wrote_then, stopped_then, stopped_before, four}

@@ -9,7 +9,7 @@ use crate::found::FIRST_LINE;
 use crate::record::Record;
 use itoa::Buffer;
 use lsp_frame::{Sink, WriteFault, put_all};
-use lsp_rpc::Side;
+use lsp_types::Side;
 
 /// Writes the first line of a log. After a fault a prefix of it is written.
 pub fn write_head<W: Sink>(writer: &mut W) -> Result<(), WriteFault>
