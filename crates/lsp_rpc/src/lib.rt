@@ -21,6 +21,7 @@ mod laws;
 mod members;
 mod message;
 mod methods;
+mod numbers;
 mod outline;
 #[cfg(test)]
 mod outline_tests;
