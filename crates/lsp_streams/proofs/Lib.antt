@@ -10,8 +10,8 @@ pub mod NormalContents
 pub mod NormalBringing
 pub mod NormalRecords
 pub mod NormalCounts
+pub mod NormalOne
 pub mod NormalLogs
 pub mod NormalRows
-pub mod NormalOne
 pub mod NormalAgain
 pub mod NormalVerdict

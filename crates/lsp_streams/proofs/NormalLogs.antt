@@ -33,9 +33,9 @@ use Rattle.lsp_verdict.specs.RunIo.{source_failures, sink_failures}
 use Rattle.lsp_verdict.specs.Verdict.{Verdict, bad_log}
 use Rattle.std.specs.Option.{option_or}
 use Rattle.lsp_verdict.proofs.Below.{records_come_first, some_stream}
-use Rattle.lsp_verdict.proofs.Logs.{both_begin}
 use Rattle.lsp_streams.proofs.NormalCounts.{broken_exact, end_exact, carries_exact}
-use Rattle.lsp_streams.proofs.NormalForms.{form_begins, form_stops}
+use Rattle.lsp_streams.proofs.NormalForms.{form_begins}
+use Rattle.lsp_streams.proofs.NormalOne.{broken_normal}
 use Rattle.lsp_verdict.proofs.Outcomes.{placed_front}
 
 -- ---- what is due begins with what is due for the first records
@@ -47,23 +47,13 @@ due_more limits rs us others raws all out cut placed whole written =
     (begins.0, written ∙ ap (form_of limits.chunk) later.1 ∙ begins.1)
 
 due_begins : (limits : Bounds) → IsInRange limits → (log rest out : List ℕ) (rs : List Record) (raws : List Raw) (fault : Option Verdict) → BeginsLog limits log rs rest → Placed limits rs raws → IsNormal limits log out fault → (left : List ℕ) × (out ≡ form_of limits.chunk raws ++ left)
-due_begins limits sizes log rest out rs raws fault begins placed (inl (v, is, b)) =
-    elim (both_begin limits sizes log rs b.records rest b.rest begins b.begins) as (λ _. (left : List ℕ) × (out ≡ form_of limits.chunk raws ++ left)) [
-      | inl cut ↦ due_more limits rs b.records cut.0 raws b.raws out cut.1 placed b.placed b.written
-      | inr cut ↦
-          let later = placed_front limits [] [] b.records cut.0 b.raws raws b.placed (subst (λ (xs : List Record). Placed limits xs raws) cut.1 placed) in (
-            [],
-            b.written ∙ sym (form_stops limits.chunk b.raws later.0 v b.breaks) ∙ ap (form_of limits.chunk) (sym later.1) ∙ sym (append-nil (form_of limits.chunk raws)),
-          )
-    ]
-due_begins limits sizes log rest out rs raws fault begins placed (inr w) =
+due_begins limits sizes log rest out rs raws fault begins placed w =
     let cut = records_come_first limits sizes log rest rs w.records w.log_fault begins w.is_log in
     due_more limits rs w.records cut.0 raws w.raws out cut.1 placed w.placed w.written
 
 -- the first line stands in front of each
 due_first : (limits : Bounds) (log out : List ℕ) (fault : Option Verdict) → IsNormal limits log out fault → (left : List ℕ) × (out ≡ first_line ++ left)
-due_first limits log out fault (inl (v, is, b)) = (_, b.written)
-due_first limits log out fault (inr w) = (_, w.written)
+due_first limits log out fault w = (_, w.written)
 
 none_due : (limits : Bounds) (log out : List ℕ) (rs : List Record) (raws : List Raw) (fault : Option Verdict) → rs ≡ [] → Placed limits rs raws → IsNormal limits log out fault → (left : List ℕ) × (out ≡ form_of limits.chunk raws ++ left)
 none_due limits log out rs raws fault none placed normal =
@@ -145,19 +135,7 @@ record_fault limits s start after sink new rs r outcome t f =
           holds = λ log goes.
               let b = some_begins limits t.bytes goes.0 rs r t.begins in (
                 Some f.verdict,
-                inl (
-                  f.verdict,
-                  refl,
-                  record {
-                    records = rs ++ r ∷ [];
-                    rest = b.0;
-                    raws = f.raws;
-                    begins = subst (λ (w : List ℕ). BeginsLog limits w (rs ++ r ∷ []) b.0) (sym goes.1) b.1;
-                    placed = f.placed;
-                    breaks = f.breaks;
-                    written = refl;
-                  },
-                ),
+                broken_normal limits t.sizes log b.0 (rs ++ r ∷ []) f.raws f.verdict (subst (λ (w : List ℕ). BeginsLog limits w (rs ++ r ∷ []) b.0) (sym goes.1) b.1) f.placed f.breaks,
                 carries_exact outcome (Some f.verdict) (ap Some exact) f.carries,
               );
         },
@@ -227,7 +205,7 @@ end_answers limits r s t start before after sink now outcome so_far same got end
           holds = λ log goes.
               let whole : log ≡ bytes = goes.1 ∙ ap (λ (w : List ℕ). bytes ++ w) (goes.2 refl) ∙ append-nil bytes in (
                 fault_of f.raws (ending None ends.editor ends.server),
-                inr (record {
+                record {
                   records = so_far.records;
                   log_fault = None;
                   raws = f.raws;
@@ -239,7 +217,7 @@ end_answers limits r s t start before after sink now outcome so_far same got end
                   server_rest = ends.server_rest;
                   ends = refl;
                   written = refl;
-                }),
+                },
                 carries_exact outcome (fault_of f.raws (ending None ends.editor ends.server)) exact ends.carries,
               );
         },
@@ -288,7 +266,7 @@ bad_answers limits r s t start before after sink now number code so_far same got
               let follows : MayFollow after goes.0 = λ end. goes.2 (is_ended after.bytes end) in
               let is_log : IsLog limits (bytes ++ goes.0) so_far.records (Some (number, code)) = subst (λ (b : Bounds). IsLog b (bytes ++ goes.0) so_far.records (Some (number, code))) alike (got.tells.0 goes.0 follows) in (
                 fault_of f.raws (ending (Some (number, code)) editor.1 server.1),
-                inr (record {
+                record {
                   records = so_far.records;
                   log_fault = Some (number, code);
                   raws = f.raws;
@@ -300,7 +278,7 @@ bad_answers limits r s t start before after sink now number code so_far same got
                   server_rest = (server.0, server.2, server.3);
                   ends = refl;
                   written = refl;
-                }),
+                },
                 bad_ends f.raws number code editor.1 server.1 f.sound,
               );
         },

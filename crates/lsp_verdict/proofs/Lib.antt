@@ -10,7 +10,6 @@ pub mod Finding
 pub mod Verdicts
 pub mod Messages
 pub mod CallsMade
-pub mod Bindings
 pub mod Meanings
 pub mod Logs
 pub mod Listing
@@ -35,3 +34,4 @@ pub mod InterleavingRows
 pub mod Drained
 pub mod OneRecord
 pub mod RunReading
+pub mod JoinedStreams
