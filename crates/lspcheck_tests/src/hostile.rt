@@ -1,7 +1,7 @@
 //! Logs and streams that are cut short, without an end, nested deep, or spoilt in one byte.
 use crate::logs::{Log, frame_of, split_word};
 use crate::readers::{Endless, Pieces};
-use crate::runs::{Task, Work, check_sessions, word_of};
+use crate::runs::{Task, check_sessions, run, word_of};
 use lsp_judge::{Input, Limits, Output, run_check};
 use std::alloc::Global;
 use std::process::Abort;
@@ -53,12 +53,8 @@ fn log_of(alloc: Global, lines: &str, most: &str) -> Result<Log, Fail> {
 /// The first line of the report on a log, by a reader that gives so many bytes a call.
 fn verdict_on(alloc: Global, log: &[u8], most: usize) -> Result<String, Fail> {
     let mut written = Vec::new(alloc);
-    let work = Work {
-        alloc,
-        limits: Limits::profile(),
-        log: Pieces::new(log, most),
-    };
-    let _outcome = work.run(Task::Check, &mut written)?;
+    let pieces = Pieces::new(log, most);
+    let _outcome = run(alloc, Limits::profile(), Task::Check, pieces, &mut written)?;
     let report = str::from_utf8(written.as_slice())?;
     let line = report.lines().next().ok_or("no report")?;
     Ok(String::from_str(alloc, line)?)
@@ -164,12 +160,8 @@ const FRAMES: [(u64, usize, usize, &str); 5] = [
 /// The lines that are written for a stream, and the word for how the run ends.
 fn lines_of(alloc: Global, stream: &[u8]) -> Result<(String, &'static str), Fail> {
     let mut written = Vec::new(alloc);
-    let work = Work {
-        alloc,
-        limits: Limits::profile(),
-        log: Pieces::new(stream, 7),
-    };
-    let ended = work.run(Task::Frames, &mut written);
+    let pieces = Pieces::new(stream, 7);
+    let ended = run(alloc, Limits::profile(), Task::Frames, pieces, &mut written);
     let lines = String::from_str(alloc, str::from_utf8(written.as_slice())?)?;
     Ok((lines, word_of(&ended)))
 }

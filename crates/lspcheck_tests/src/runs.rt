@@ -25,54 +25,53 @@ pub(super) enum Task<'a> {
     Frames,
 }
 
-/// A log or a stream that comes in pieces, and its limits.
-#[derive(Drop)]
-pub(super) struct Work<'a> {
-    pub(super) alloc: Global,
-    pub(super) limits: Limits,
-    pub(super) log: Pieces<'a>,
+/// A log or a stream that comes in pieces.
+type Source<'a> = Input<Pieces<'a>>;
+
+fn check(alloc: Global, limits: Limits, log: &mut Source<'_>, written: &mut Vec<u8>) -> Ended {
+    run_check(alloc, log, &mut Output::new(written), limits)
 }
 
-impl Work<'_> {
-    fn check(self, written: &mut Vec<u8>) -> Ended {
-        let mut source = Input::new(self.log);
-        let mut sink = Output::new(written);
-        run_check(self.alloc, &mut source, &mut sink, self.limits)
-    }
+fn show(alloc: Global, limits: Limits, log: &mut Source<'_>, written: &mut Vec<u8>) -> Ended {
+    run_show(alloc, log, &mut Output::new(written), limits)
+}
 
-    fn show(self, written: &mut Vec<u8>) -> Ended {
-        let mut source = Input::new(self.log);
-        let mut sink = Output::new(written);
-        run_show(self.alloc, &mut source, &mut sink, self.limits)
-    }
+fn text(
+    alloc: Global,
+    limits: Limits,
+    log: &mut Source<'_>,
+    written: &mut Vec<u8>,
+    number: NonZeroU64,
+    uri: &str,
+) -> Ended {
+    let mut sink = Output::new(written);
+    run_text(alloc, log, &mut sink, limits, number.get(), uri)
+}
 
-    fn text(self, written: &mut Vec<u8>, number: u64, uri: &str) -> Ended {
-        let mut source = Input::new(self.log);
-        let mut sink = Output::new(written);
-        run_text(self.alloc, &mut source, &mut sink, self.limits, number, uri)
-    }
+fn normal(alloc: Global, limits: Limits, log: &mut Source<'_>, written: &mut Vec<u8>) -> Ended {
+    run_normal(alloc, log, &mut Output::new(written), limits)
+}
 
-    fn normal(self, written: &mut Vec<u8>) -> Ended {
-        let mut source = Input::new(self.log);
-        let mut sink = Output::new(written);
-        run_normal(self.alloc, &mut source, &mut sink, self.limits)
-    }
+fn frames(alloc: Global, limits: Limits, stream: &mut Source<'_>, written: &mut Vec<u8>) -> Ended {
+    let mut sink = Output::new(written);
+    run_frames(alloc, stream, &mut sink, limits, Mode::Lengths)
+}
 
-    fn frames(self, written: &mut Vec<u8>) -> Ended {
-        let mut source = Input::new(self.log);
-        let mut sink = Output::new(written);
-        let mode = Mode::Lengths;
-        run_frames(self.alloc, &mut source, &mut sink, self.limits, mode)
-    }
-
-    pub(super) fn run(self, task: Task<'_>, written: &mut Vec<u8>) -> Ended {
-        match task {
-            Task::Check => self.check(written),
-            Task::Show => self.show(written),
-            Task::Text { number, uri } => self.text(written, number.get(), uri),
-            Task::Normal => self.normal(written),
-            Task::Frames => self.frames(written),
-        }
+/// Does the task over a log or a stream that comes in pieces.
+pub(super) fn run(
+    alloc: Global,
+    limits: Limits,
+    task: Task<'_>,
+    log: Pieces<'_>,
+    written: &mut Vec<u8>,
+) -> Ended {
+    let mut source = Input::new(log);
+    match task {
+        Task::Check => check(alloc, limits, &mut source, written),
+        Task::Show => show(alloc, limits, &mut source, written),
+        Task::Text { number, uri } => text(alloc, limits, &mut source, written, number, uri),
+        Task::Normal => normal(alloc, limits, &mut source, written),
+        Task::Frames => frames(alloc, limits, &mut source, written),
     }
 }
 
@@ -116,8 +115,7 @@ fn told_by(
     log: Pieces<'_>,
 ) -> Result<Vec<u8>, Fail> {
     let mut told = Vec::new(alloc);
-    let work = Work { alloc, limits, log };
-    let ended = work.run(task, &mut told);
+    let ended = run(alloc, limits, task, log, &mut told);
     push_report(&mut told, alloc, task, &ended)?;
     told.extend_from_slice(word_of(&ended).as_bytes())?;
     Ok(told)
