@@ -1,0 +1,81 @@
+//! Where a run writes: standard output.
+use lsp_frame::{Failed, Sink};
+use std::alloc::{AllocError, Global};
+use std::io;
+use std::io::{BufWriter, Write};
+
+/// How many bytes are gathered before they are written.
+const GATHERED: usize = 65_536;
+
+/// A sink over a writer of std, which gathers bytes and writes them together. It keeps the error by
+/// which it last failed.
+#[derive(Drop)]
+pub struct Outlet<W: Write + Drop> {
+    writer: BufWriter<W>,
+    failures: u64,
+    cause: Option<io::Error>,
+}
+
+impl<W: Write + Drop> Outlet<W> {
+    ghost use Rattle.std.specs.Prelude.{◌≡◌, [], IfOk, OnOk};
+    ghost use Rattle.std.specs.Io.KnownBytes.{Appends, Keeps};
+    ghost use Rattle.lsp_frame.specs.Failures.{CountsFailure, after_failure};
+    ghost use Rattle.lsp_command.specs.Ports.{unwritten};
+
+    /// A sink that has not failed, and holds no bytes back.
+    pub fn new(alloc: Global, writer: W) -> Result<Outlet<W>, AllocError>
+        ensures taken { IfOk result (λ outlet. Appends (W.contents writer) (⟦<Outlet<W> as Sink>⟧.taken outlet) []) }
+        ensures empty { IfOk result (λ outlet. unwritten outlet ≡ []) }
+        ensures failures { IfOk result (λ outlet. ⟦<Outlet<W> as Sink>⟧.failures outlet ≡ 0) }
+    {
+        Ok(Outlet {
+            writer: BufWriter::with_capacity(alloc, GATHERED, writer).map_err(|_| AllocError)?,
+            failures: 0,
+            cause: None,
+        })
+    }
+
+    /// Writes what was gathered.
+    ///
+    /// # Errors
+    /// `Failed` where a write failed; what was not written may be lost.
+    pub fn flush(&mut self) -> Result<(), Failed>
+        ensures whole { OnOk result (unwritten self.new ≡ []) }
+        ensures bytes { Keeps (⟦<Outlet<W> as Sink>⟧.taken self.old) (⟦<Outlet<W> as Sink>⟧.taken self.new) }
+        ensures failures { CountsFailure (⟦<Outlet<W> as Sink>⟧.failures self.old) (⟦<Outlet<W> as Sink>⟧.failures self.new) result }
+    {
+        match self.writer.flush() {
+            Ok(()) => Ok(()),
+            Err(error) => Err(self.failed(error)),
+        }
+    }
+
+    /// Why the last call failed that did.
+    pub fn cause(&self) -> Option<io::Error> {
+        self.cause
+    }
+
+    /// Counts a failure, and keeps its cause.
+    fn failed(&mut self, error: io::Error) -> Failed
+        ensures writer { self.new.writer ≡ self.old.writer }
+        ensures failures { self.new.failures ≡ after_failure self.old.failures }
+    {
+        self.cause = Some(error);
+        self.failures = self.failures.saturating_add(1);
+        Failed
+    }
+}
+
+impl<W: Write + Drop> Sink for Outlet<W> {
+    ghost taken = { λ s. ⟦<BufWriter<W> as Write>⟧.contents s.writer };
+
+    ghost failures = { λ s. s.failures };
+
+    fn put(&mut self, bytes: &[u8]) -> Result<usize, Failed> {
+        match self.writer.write(bytes) {
+            Ok(count) if count > 0 || bytes.is_empty() => Ok(count),
+            Ok(_) => Err(self.failed(io::Error::from(io::ErrorKind::WriteZero))),
+            Err(error) => Err(self.failed(error)),
+        }
+    }
+}
