@@ -1,13 +1,13 @@
 -- What is said on standard error of how a run ended.
 use Rattle.std.specs.Prelude.{ℕ, List, Option, Some, None, Result, Ok, Err, codes}
-use Rattle.lsp_judge.specs.Given.{verdict_view}
-use Rattle.lsp_judge.specs.Report.{report}
-use Rattle.lsp_judge.specs.StreamReport.{stream_report}
-use Rattle.lsp_judge.specs.declared.outcome.Mode.TheVariants.{Canonical}
-use Rattle.lsp_judge.specs.declared.outcome.Outcome.{Outcome}
-use Rattle.lsp_judge.specs.declared.outcome.Outcome.TheVariants.{Done, Judged, Stream, NoDocument, TooFew}
-use Rattle.lsp_judge.specs.declared.outcome.RunFault.{RunFault}
-use Rattle.lsp_judge.specs.declared.outcome.RunFault.TheVariants.{Read, Write, Memory}
+use Rattle.lsp_verdict.specs.Given.{verdict_view}
+use Rattle.lsp_verdict.specs.Report.{report}
+use Rattle.lsp_verdict.specs.StreamReport.{stream_report}
+use Rattle.lsp_verdict.specs.declared.outcome.Mode.TheVariants.{Canonical}
+use Rattle.lsp_verdict.specs.declared.outcome.Outcome.{Outcome}
+use Rattle.lsp_verdict.specs.declared.outcome.Outcome.TheVariants.{Done, Judged, Stream, NoDocument, TooFew}
+use Rattle.lsp_verdict.specs.declared.outcome.RunFault.{RunFault}
+use Rattle.lsp_verdict.specs.declared.outcome.RunFault.TheVariants.{Read, Write, Memory}
 use Rattle.lsp_command.specs.declared.task.Task.{Task}
 use Rattle.lsp_command.specs.declared.task.Task.TheVariants.{Text, Normal, Frames}
 

@@ -5,8 +5,8 @@ use Rattle.std.specs.Str.Parse.{digits_value, without_leading_plus}
 use Rattle.std.specs.Int.NonZero.{non_zero_u64_get}
 use Rattle.clap.specs.Matches.{first_value, one_text}
 use Rattle.clap.specs.declared.parser.matches.Found.{Found}
-use Rattle.lsp_judge.specs.declared.outcome.Mode.{Mode}
-use Rattle.lsp_judge.specs.declared.outcome.Mode.TheVariants.{Lengths, Canonical, Kinds}
+use Rattle.lsp_verdict.specs.declared.outcome.Mode.{Mode}
+use Rattle.lsp_verdict.specs.declared.outcome.Mode.TheVariants.{Lengths, Canonical, Kinds}
 use Rattle.lsp_command.specs.declared.task.Request.{Request}
 use Rattle.lsp_command.specs.declared.task.Task.{Task}
 use Rattle.lsp_command.specs.declared.task.Task.TheVariants as tasks

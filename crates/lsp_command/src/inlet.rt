@@ -14,6 +14,7 @@ const GATHERED: usize = 65_536;
 pub struct Inlet<R> {
     reader: BufReader<R>,
     beginning: Beginning,
+    given: u64,
     failures: u64,
     cause: Option<io::Error>,
 }
@@ -26,13 +27,14 @@ impl<R: Read + Drop> Inlet<R> {
 
     /// A source that has not failed and gave nothing yet.
     pub fn new(alloc: Global, reader: R) -> Result<Inlet<R>, AllocError>
-        ensures remaining { IfOk result (λ inlet. Consumes (R.remaining reader) (⟦<Inlet<R> as Source>⟧.remaining inlet) []) }
+        ensures remaining { IfOk result (λ inlet. Consumes (R.remaining reader) (⟦<Inlet<R> as Source>⟧.told inlet).bytes []) }
         ensures first { IfOk result (λ inlet. first_bytes inlet ≡ []) }
-        ensures failures { IfOk result (λ inlet. ⟦<Inlet<R> as Source>⟧.failures inlet ≡ 0) }
+        ensures failures { IfOk result (λ inlet. (⟦<Inlet<R> as Source>⟧.told inlet).failures ≡ 0) }
     {
         Ok(Inlet {
             reader: BufReader::with_capacity(alloc, GATHERED, reader).map_err(|_| AllocError)?,
             beginning: Beginning::new(),
+            given: 0,
             failures: 0,
             cause: None,
         })
@@ -52,14 +54,17 @@ impl<R: Read + Drop> Inlet<R> {
 }
 
 impl<R: Read> Source for Inlet<R> {
-    ghost remaining = { λ s. ⟦<BufReader<R> as Read>⟧.remaining s.reader };
-
-    ghost failures = { λ s. s.failures };
+    ghost told = { λ s. record {
+      bytes = ⟦<BufReader<R> as Read>⟧.remaining s.reader;
+      count = s.given;
+      failures = s.failures;
+    } };
 
     fn pull(&mut self, buffer: &mut [u8]) -> Result<usize, Failed> {
         match self.reader.read(buffer) {
             Ok(count) => {
                 self.beginning.keep(&buffer[..count]);
+                self.given = self.given.saturating_add(count as u64);
                 Ok(count)
             }
             Err(error) => {

@@ -1,6 +1,6 @@
 //! What is said on standard error of how a run ended.
 ghost use Rattle.std.specs.Prelude.{◌≡◌, IfOk, IfErr, option_map};
-ghost use Rattle.lsp_judge.specs.declared.outcome.RunFault.TheVariants as faults;
+ghost use Rattle.lsp_verdict.specs.declared.outcome.RunFault.TheVariants as faults;
 ghost use Rattle.lsp_command.specs.Remarks.{remark_of, report_apart};
 
 use crate::task::Task;

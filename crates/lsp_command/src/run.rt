@@ -1,6 +1,6 @@
 //! Does what the words ask for.
 ghost use Rattle.std.specs.Prelude.{◌≡◌, [], OnOk};
-ghost use Rattle.lsp_judge.specs.RunIo.{source_failures, sink_failures};
+ghost use Rattle.lsp_verdict.specs.RunIo.{source_failures, sink_failures};
 ghost use Rattle.lsp_command.specs.Ports.{unwritten};
 ghost use Rattle.lsp_command.specs.Tasks.{Answers, RanThrough};
 
@@ -26,8 +26,8 @@ pub fn run_task<R: Source, W: Sink>(
       taken_before = W.taken sink.old;
       taken_after = W.taken sink.new;
     }) result }
-    ensures source_failures { R.failures source.new ≡ source_failures result (R.failures source.old) }
-    ensures sink_failures { W.failures sink.new ≡ sink_failures result (W.failures sink.old) }
+    ensures source_failures { (R.told source.new).failures ≡ source_failures result (R.told source.old).failures }
+    ensures sink_failures { (W.told sink.new).failures ≡ sink_failures result (W.told sink.old).failures }
 {
     match task {
         Task::Check => run_check(alloc, source, sink, limits),
