@@ -44,7 +44,7 @@ fn number(digits: &[u8]) -> u64
 }
 
 /// The length of the content that one value gives, or its fault.
-fn length_of(limits: &Limits, value: &[u8]) -> Result<u64, u16>
+pub fn length_of(limits: &Limits, value: &[u8]) -> Result<u64, u16>
     ensures { result ≡ length_of limits.now value.now }
 {
     if !is_number(value) {

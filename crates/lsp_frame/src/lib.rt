@@ -19,7 +19,7 @@ mod rule;
 mod start;
 mod write;
 
-pub use decoder::{Decoder, FrameFault};
+pub use decoder::{Decoder, FrameFault, PullFault};
 pub use io::{Failed, Input, Output, Sink, Source};
 pub use laws::{
     canonical_is_frame, canonical_is_read, contents_stay, fault_stays, frames_come_first,
