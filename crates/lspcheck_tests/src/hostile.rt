@@ -1,7 +1,8 @@
 //! Logs and streams that are cut short, without an end, nested deep, or spoilt in one byte.
 use crate::logs::{Log, frame_of, split_word};
 use crate::readers::{Endless, Pieces};
-use crate::runs::{Task, check_sessions, run, word_of};
+use crate::runs::{Work, check_sessions, word_of};
+use lsp_command::Task;
 use lsp_judge::{Input, Limits, Output, run_check};
 use std::alloc::Global;
 use std::process::Abort;
@@ -160,8 +161,12 @@ const FRAMES: [(u64, usize, usize, &str); 5] = [
 /// The lines that are written for a stream, and the word for how the run ends.
 fn lines_of(alloc: Global, stream: &[u8]) -> Result<(String, &'static str), Fail> {
     let mut written = Vec::new(alloc);
-    let pieces = Pieces::new(stream, 7);
-    let ended = run(alloc, Limits::profile(), Task::Frames, pieces, &mut written);
+    let work = Work {
+        alloc,
+        limits: Limits::profile(),
+        log: Pieces::new(stream, 7),
+    };
+    let ended = work.run(Task::Frames(Mode::Lengths), &mut written);
     let lines = String::from_str(alloc, str::from_utf8(written.as_slice())?)?;
     Ok((lines, word_of(&ended)))
 }

@@ -3,10 +3,8 @@
 use crate::logs::{Log, split_word};
 use crate::readers::{Broken, Pieces};
 use crate::sessions;
-use lsp_judge::{
-    Input, Limits, Mode, Outcome, Output, RunFault, Verdict, report_of, run_check, run_frames,
-    run_normal, run_show, run_text,
-};
+use lsp_command::{Task, report_apart, run_task};
+use lsp_judge::{Input, Limits, Mode, Outcome, Output, RunFault, Verdict};
 use std::alloc::Global;
 use std::num::NonZeroU64;
 use std::process::Abort;
@@ -15,63 +13,20 @@ use std::test::*;
 /// How a run ended.
 pub(super) type Ended = Result<Outcome, RunFault>;
 
-/// What to do with a log or a stream.
-#[derive(Clone, Copy, Debug)]
-pub(super) enum Task<'a> {
-    Check,
-    Show,
-    Text { number: NonZeroU64, uri: &'a str },
-    Normal,
-    Frames,
+/// A log or a stream that comes in pieces, and its limits.
+#[derive(Drop)]
+pub(super) struct Work<'a> {
+    pub(super) alloc: Global,
+    pub(super) limits: Limits,
+    pub(super) log: Pieces<'a>,
 }
 
-/// A log or a stream that comes in pieces.
-type Source<'a> = Input<Pieces<'a>>;
-
-fn check(alloc: Global, limits: Limits, log: &mut Source<'_>, written: &mut Vec<u8>) -> Ended {
-    run_check(alloc, log, &mut Output::new(written), limits)
-}
-
-fn show(alloc: Global, limits: Limits, log: &mut Source<'_>, written: &mut Vec<u8>) -> Ended {
-    run_show(alloc, log, &mut Output::new(written), limits)
-}
-
-fn text(
-    alloc: Global,
-    limits: Limits,
-    log: &mut Source<'_>,
-    written: &mut Vec<u8>,
-    number: NonZeroU64,
-    uri: &str,
-) -> Ended {
-    let mut sink = Output::new(written);
-    run_text(alloc, log, &mut sink, limits, number.get(), uri)
-}
-
-fn normal(alloc: Global, limits: Limits, log: &mut Source<'_>, written: &mut Vec<u8>) -> Ended {
-    run_normal(alloc, log, &mut Output::new(written), limits)
-}
-
-fn frames(alloc: Global, limits: Limits, stream: &mut Source<'_>, written: &mut Vec<u8>) -> Ended {
-    let mut sink = Output::new(written);
-    run_frames(alloc, stream, &mut sink, limits, Mode::Lengths)
-}
-
-/// Does the task over a log or a stream that comes in pieces.
-pub(super) fn run(
-    alloc: Global,
-    limits: Limits,
-    task: Task<'_>,
-    log: Pieces<'_>,
-    written: &mut Vec<u8>,
-) -> Ended {
-    let mut source = Input::new(log);
-    match task {
-        Task::Check => check(alloc, limits, &mut source, written),
-        Task::Show => show(alloc, limits, &mut source, written),
-        Task::Text { number, uri } => text(alloc, limits, &mut source, written, number, uri),
-        Task::Normal => normal(alloc, limits, &mut source, written),
-        Task::Frames => frames(alloc, limits, &mut source, written),
+impl Work<'_> {
+    /// The run that the program makes for the task.
+    pub(super) fn run(self, task: Task<'_>, written: &mut Vec<u8>) -> Ended {
+        let mut source = Input::new(self.log);
+        let mut sink = Output::new(written);
+        run_task(self.alloc, task, &mut source, &mut sink, self.limits)
     }
 }
 
@@ -98,8 +53,11 @@ fn push_report(
     task: Task<'_>,
     ended: &Ended,
 ) -> Result<(), Fail> {
-    if let (Task::Text { .. } | Task::Normal, Ok(Outcome::Judged(verdict))) = (task, ended) {
-        for line in report_of(alloc, verdict)?.split_inclusive(|byte| *byte == b'\n') {
+    let Ok(outcome) = ended else {
+        return Ok(());
+    };
+    if let Some(report) = report_apart(alloc, task, outcome)? {
+        for line in report.split_inclusive(|byte| *byte == b'\n') {
             told.extend_from_slice(b"! ")?;
             told.extend_from_slice(line)?;
         }
@@ -147,7 +105,7 @@ fn run_of<'a>(word: &str, rest: &'a str) -> Result<Option<(Task<'a>, &'a str)>, 
         "=" => Task::Check,
         "show" => Task::Show,
         "normal" => Task::Normal,
-        "frames" => Task::Frames,
+        "frames" => Task::Frames(Mode::Lengths),
         "text" => {
             let (number, rest) = split_word(rest);
             let (uri, end) = split_word(rest);

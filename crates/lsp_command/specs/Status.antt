@@ -1,5 +1,7 @@
 -- The exit statuses.
 use Rattle.std.specs.Prelude.{ℕ, Result, Ok, Err}
+use Rattle.clap.specs.declared.error.kind.ErrorKind.{ErrorKind}
+use Rattle.clap.specs.declared.error.kind.ErrorKind.TheVariants as kinds
 use Rattle.lsp_verdict.specs.declared.outcome.Outcome.{Outcome}
 use Rattle.lsp_verdict.specs.declared.outcome.Outcome.TheVariants.{Done, Judged, Stream, NoDocument, TooFew}
 use Rattle.lsp_verdict.specs.declared.outcome.RunFault.{RunFault}
@@ -18,3 +20,10 @@ status_of (Ok TooFew) = 5
 status_of (Err Read) = 3
 status_of (Err Write) = 3
 status_of (Err Memory) = 4
+
+-- where the words ask for no run: 0 for help and the version, 4 out of memory, 64 where they don't parse
+abbrev pub status_of_words : ErrorKind → ℕ
+status_of_words kinds.DisplayHelp = 0
+status_of_words kinds.DisplayVersion = 0
+status_of_words kinds.OutOfMemory = 4
+status_of_words _ = 64

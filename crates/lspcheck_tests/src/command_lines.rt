@@ -1,5 +1,5 @@
 //! Command lines, and what they ask for.
-use crate::command::{Request, request_of};
+use lsp_command::{Request, request_of};
 use std::alloc::Global;
 use std::test::*;
 
@@ -7,7 +7,7 @@ use std::test::*;
 /// is nothing to run.
 const LINES: &str = r#"check = Check None
 check a.log = Check Some("a.log")
-check - = Check Some("-")
+check - = Check None
 check a b = 64
 show a.log = Show Some("a.log")
 text 1 file:///a = Text { number: 1, uri: "file:///a" } None

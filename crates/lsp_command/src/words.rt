@@ -1,35 +1,37 @@
-//! The command line.
+//! The words of the command line.
+ghost use Rattle.std.specs.Prelude.{◌≡◌, ℕ, List, IfOk, IfSome, Some, codes, option_map};
+ghost use Rattle.clap.specs.Matches.{first_value, found_of};
+ghost use Rattle.clap.specs.declared.parser.matches.Found.{Found};
+ghost use Rattle.lsp_command.specs.Words.{Asks, AsksText, file_of, mode_of};
+
+use crate::task::{Request, Task};
 use clap::error::ErrorKind;
 use clap::{Arg, ArgMatches, Command, Error, value_parser};
 use lsp_judge::Mode;
 use std::alloc::{AllocError, Global};
 use std::num::NonZeroU64;
 
-/// What to do with what is read.
-#[derive(Clone, Copy, Debug)]
-pub enum Task<'a> {
-    /// To judge a recorded session.
-    Check,
-    /// To list the events of a recorded session, and to judge it.
-    Show,
-    /// To write the text of the document with this URI, as it is after the editor's message of this
-    /// number.
-    Text { number: NonZeroU64, uri: &'a str },
-    /// To write the normal form of a log.
-    Normal,
-    /// To read one raw stream of frames.
-    Frames(Mode),
-}
-
-/// What the words of a command line ask for.
-#[derive(Drop)]
-pub struct Request<'a> {
-    pub task: Task<'a>,
-    /// The file to read, or standard input.
-    pub file: Option<&'a str>,
-}
-
 static MODES: [&str; 3] = ["lengths", "canonical", "kinds"];
+
+/// The version of the program, and the kit that proved it, as `rt version` names it.
+const VERSION: &str = "1.0.0 (rattle-kit-13b logic dac8208d650f15bf)";
+
+/// What the help of the program ends with.
+const MORE: &str = "\
+Examples:
+  lspcheck check session.log                 the verdict on a recorded session
+  lspcheck show session.log | tail           the events before it
+  lspcheck text 12 file:///a.c session.log   what the server should hold then
+  lspcheck frames --as kinds server.bin      what one raw stream is made of
+
+Exit status:
+  0 yes or done        3 read or write fault
+  1 no                 4 out of memory
+  2 bad log or stream  5 no such document, or fewer editor messages
+                       64 words that do not parse
+
+The rules, the lines of a report and how to record a session stand in the pages
+docs/RULES.md, docs/REPORT.md and docs/LOG_FORMAT.md of the repository.";
 
 /// The greatest number of a message that can be asked for: no log has more messages than bytes.
 const MOST_MESSAGES: i64 = 1_099_511_627_776;
@@ -38,7 +40,7 @@ const MOST_MESSAGES: i64 = 1_099_511_627_776;
 fn log_file<'a>(alloc: Global) -> Arg<'a> {
     Arg::new(alloc, "file")
         .value_name("FILE")
-        .help("The log, standard input if left out")
+        .help("The log; '-', or none, is standard input")
 }
 
 fn check<'a>(alloc: Global) -> Result<Command<'a>, AllocError> {
@@ -85,7 +87,7 @@ fn frames<'a>(alloc: Global) -> Result<Command<'a>, AllocError> {
         .help("What to write for each frame");
     let file = Arg::new(alloc, "file")
         .value_name("FILE")
-        .help("The stream, standard input if left out");
+        .help("The stream; '-', or none, is standard input");
     Command::new(alloc, "frames")
         .about("Reads one raw stream of frames")
         .arg(mode)?
@@ -95,6 +97,8 @@ fn frames<'a>(alloc: Global) -> Result<Command<'a>, AllocError> {
 fn command_line<'a>(alloc: Global) -> Result<Command<'a>, AllocError> {
     Command::new(alloc, "lspcheck")
         .about("Judges recorded sessions between an editor and a language server")
+        .version(VERSION)
+        .after_help(MORE)
         .subcommand_required(true)
         .arg_required_else_help(true)
         .subcommand(check(alloc)?)?
@@ -105,7 +109,9 @@ fn command_line<'a>(alloc: Global) -> Result<Command<'a>, AllocError> {
 }
 
 /// The mode of this name; the parser of the option lets no other name pass.
-fn mode_of(name: Option<&str>) -> Mode {
+fn mode_of(name: Option<&str>) -> Mode
+    ensures { result ≡ mode_of (option_map (λ s. s.now) name.entry) }
+{
     match name {
         Some("canonical") => Mode::Canonical,
         Some("kinds") => Mode::Kinds,
@@ -114,7 +120,14 @@ fn mode_of(name: Option<&str>) -> Mode {
 }
 
 /// The task of the command of this name, with its arguments.
-fn task_of<'a>(name: &str, arguments: &ArgMatches<'a>) -> Option<Task<'a>> {
+fn task_of<'a>(name: &str, arguments: &ArgMatches<'a>) -> Option<Task<'a>>
+    ensures check { name.now ≡ codes "check" → result ≡ Some Task.Check }
+    ensures show { name.now ≡ codes "show" → result ≡ Some Task.Show }
+    ensures text { name.now ≡ codes "text" → IfSome result (AsksText (found_of arguments.now)) }
+    ensures normal { name.now ≡ codes "normal" → result ≡ Some Task.Normal }
+    ensures frames { name.now ≡ codes "frames"
+        → result ≡ Some (Task.Frames (mode_of (first_value (found_of arguments.now) (codes "as")))) }
+{
     match name {
         "check" => Some(Task::Check),
         "show" => Some(Task::Show),
@@ -128,14 +141,30 @@ fn task_of<'a>(name: &str, arguments: &ArgMatches<'a>) -> Option<Task<'a>> {
     }
 }
 
+/// The file of this name, where it names one: `-` is standard input.
+fn file_of<'a>(name: Option<&'a str>) -> Option<&'a str>
+    ensures { option_map (λ s. s.now) result ≡ file_of (option_map (λ s. s.now) name.entry) }
+{
+    match name {
+        Some("-") => None,
+        _ => name,
+    }
+}
+
 /// Reads the words of a command line, the program's name first.
-pub fn request_of<'a>(alloc: Global, words: &'a [String]) -> Result<Request<'a>, Error> {
+///
+/// # Errors
+/// `OutOfMemory` where memory was refused; `DisplayHelp` and `DisplayVersion` where the words ask for
+/// these; anything else where they don't parse.
+pub fn request_of<'a>(alloc: Global, words: &'a [String]) -> Result<Request<'a>, Error>
+    ensures { IfOk result (λ request. (name : List ℕ) × (found : Found) × Asks name found request) }
+{
     let mut command = command_line(alloc)?;
     let matches = command.try_get_matches_from_mut(words)?;
     if let Some((name, arguments)) = matches.subcommand()
         && let Some(task) = task_of(name, arguments)
     {
-        let file = arguments.get_str("file");
+        let file = file_of(arguments.get_str("file"));
         return Ok(Request { task, file });
     }
     Err(command.error(ErrorKind::MissingSubcommand, "a command is required")?)
