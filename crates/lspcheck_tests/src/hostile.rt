@@ -3,7 +3,7 @@ use crate::logs::{Log, frame_of, split_word};
 use crate::readers::{Endless, Pieces};
 use crate::runs::{Work, check_sessions, word_of};
 use lsp_command::Task;
-use lsp_judge::{Input, Limits, Output, run_check};
+use lsp_judge::{Input, Limits, Mode, Output, run_check};
 use std::alloc::Global;
 use std::process::Abort;
 use std::test::*;
@@ -54,8 +54,12 @@ fn log_of(alloc: Global, lines: &str, most: &str) -> Result<Log, Fail> {
 /// The first line of the report on a log, by a reader that gives so many bytes a call.
 fn verdict_on(alloc: Global, log: &[u8], most: usize) -> Result<String, Fail> {
     let mut written = Vec::new(alloc);
-    let pieces = Pieces::new(log, most);
-    let _outcome = run(alloc, Limits::profile(), Task::Check, pieces, &mut written)?;
+    let work = Work {
+        alloc,
+        limits: Limits::profile(),
+        log: Pieces::new(log, most),
+    };
+    let _outcome = work.run(Task::Check, &mut written)?;
     let report = str::from_utf8(written.as_slice())?;
     let line = report.lines().next().ok_or("no report")?;
     Ok(String::from_str(alloc, line)?)

@@ -73,7 +73,8 @@ fn told_by(
     log: Pieces<'_>,
 ) -> Result<Vec<u8>, Fail> {
     let mut told = Vec::new(alloc);
-    let ended = run(alloc, limits, task, log, &mut told);
+    let work = Work { alloc, limits, log };
+    let ended = work.run(task, &mut told);
     push_report(&mut told, alloc, task, &ended)?;
     told.extend_from_slice(word_of(&ended).as_bytes())?;
     Ok(told)
