@@ -89,7 +89,7 @@ fn find_second<'a>(
     ensures counted { RisesWithin steps.old steps.new 0 (line_bytes lines.now (line_number lines.now span.second)) }
 {
     if span.second == span.first {
-        return Some(*first);
+        return Some(first.again());
     }
     find(lines, encoding, span.second, steps)
 }
