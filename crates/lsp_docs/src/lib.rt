@@ -20,6 +20,3 @@ pub use laws::{
     documents_are_held, held_is_shown, setters_compare, snapshots_agree, versions_rise,
 };
 pub use snapshot::Match;
-
-#[cfg(test)]
-mod tests;

@@ -28,6 +28,3 @@ pub use laws::{
 pub use limits::Limits;
 pub use memory::Memory;
 pub use write::{WriteFault, put_all, put_number, write_frame};
-
-#[cfg(test)]
-mod tests;

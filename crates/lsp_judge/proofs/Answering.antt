@@ -5,31 +5,31 @@ use Rattle.std.specs.Io.KnownBytes.{IsAtEnd}
 use Rattle.lsp_frame.specs.Bounds.{Bounds, IsInRange}
 use Rattle.lsp_frame.specs.Sink.{Told, Stopped}
 use Rattle.lsp_log.specs.Log.{Record}
-use Rattle.lsp_judge.specs.declared.outcome.Outcome.{Outcome}
-use Rattle.lsp_judge.specs.declared.outcome.Outcome.TheVariants.{Judged}
-use Rattle.lsp_judge.specs.declared.outcome.RunFault.{RunFault}
+use Rattle.lsp_verdict.specs.declared.outcome.Outcome.{Outcome}
+use Rattle.lsp_verdict.specs.declared.outcome.Outcome.TheVariants.{Judged}
+use Rattle.lsp_verdict.specs.declared.outcome.RunFault.{RunFault}
 use Rattle.lsp_judge.specs.declared.ruling.Ruling.{Ruling}
-use Rattle.lsp_judge.specs.declared.verdict.Verdict as code
-use Rattle.lsp_judge.specs.declared.verdict.Verdict.TheVariants as verdicts
-use Rattle.lsp_judge.specs.declared.verdict.Who.{Who}
+use Rattle.lsp_verdict.specs.declared.verdict.Verdict as code
+use Rattle.lsp_verdict.specs.declared.verdict.Verdict.TheVariants as verdicts
+use Rattle.lsp_verdict.specs.declared.verdict.Who.{Who}
 use Rattle.lsp_judge.specs.Answered.{NamesFirst, NamesRest, NoneOffends, AreClean, IsClean, SaysYes}
-use Rattle.lsp_judge.specs.Event.{Event}
-use Rattle.lsp_judge.specs.Given.{verdict_view, as_given}
-use Rattle.lsp_judge.specs.Kept.{AreKept}
+use Rattle.lsp_verdict.specs.Event.{Event}
+use Rattle.lsp_verdict.specs.Given.{verdict_view, as_given}
+use Rattle.lsp_verdict.specs.Kept.{AreKept}
 use Rattle.lsp_judge.specs.Logged.{OfMore, Answers}
-use Rattle.lsp_judge.specs.Outcome.{IsFinal, IsVerdict}
-use Rattle.lsp_judge.specs.Placed.{IsSession}
-use Rattle.lsp_judge.specs.RunIo.{OfRead, GaveAtMost, AppendsFront}
+use Rattle.lsp_verdict.specs.Outcome.{IsFinal, IsVerdict}
+use Rattle.lsp_verdict.specs.Placed.{IsSession}
+use Rattle.lsp_verdict.specs.RunIo.{OfRead, GaveAtMost, AppendsFront}
 use Rattle.lsp_judge.specs.Rulings.{verdict_in}
 use Rattle.lsp_judge.specs.Standing.{HasOffence, State, Stands}
-use Rattle.lsp_judge.specs.Verdict.{Verdict, Summary, yes, no, bad_log, summary, whose, first_no}
+use Rattle.lsp_verdict.specs.Verdict.{Verdict, Summary, yes, no, bad_log, summary, whose, first_no}
 use Rattle.lsp_judge.proofs.Finals.{open_clean}
 use Rattle.lsp_judge.proofs.Logging.{as_some}
-use Rattle.lsp_judge.proofs.Logs.{some_final, one_verdict}
-use Rattle.lsp_judge.proofs.Meanings.{are_kept, final_no, final_yes, is_yes_given, kept_means_yes}
+use Rattle.lsp_verdict.proofs.Logs.{some_final, one_verdict}
+use Rattle.lsp_verdict.proofs.Meanings.{are_kept, final_no, final_yes, is_yes_given, kept_means_yes}
 use Rattle.lsp_judge.proofs.Records.{is_open, offence_in}
-use Rattle.lsp_judge.proofs.Sessions.{same_session, some_session}
-use Rattle.lsp_judge.proofs.Verdicts.{names_first, nothing_offends}
+use Rattle.lsp_verdict.proofs.Sessions.{same_session, some_session}
+use Rattle.lsp_verdict.proofs.Verdicts.{names_first, nothing_offends}
 
 -- ---- the log read
 

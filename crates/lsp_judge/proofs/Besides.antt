@@ -3,17 +3,17 @@ use Rattle.std.proofs.Common.{◌≡◌, ℕ, Bool, false, List, [], ◌∷◌, 
 use Rattle.std.specs.Prelude.{map, filter, chars, if◌then◌else◌}
 use Rattle.std.specs.List.{AllZip}
 use Rattle.lsp_frame.specs.Bounds.{Bounds}
-use Rattle.lsp_rpc.specs.declared.plain.Side.TheVariants.{Editor, Server}
+use Rattle.lsp_types.specs.declared.side.Side.TheVariants.{Editor, Server}
 use Rattle.lsp_session.specs.Sent.{same_side}
 use Rattle.lsp_log.specs.Log.{Record, chunk, shown}
-use Rattle.lsp_judge.specs.Event.{Event, message, fault, snapshot}
-use Rattle.lsp_judge.specs.Placed.{Raw, content, broken, show, new_fault, Reads, IsSession, joined}
-use Rattle.lsp_judge.specs.Verdict.{is_of, count_of}
-use Rattle.lsp_judge.proofs.OneEvent.{some_list}
-use Rattle.lsp_judge.proofs.Records.{session_bytes, session_shown}
-use Rattle.lsp_judge.proofs.Sessions.{one_session}
-use Rattle.lsp_judge.proofs.Streams.{some_brings}
-use Rattle.lsp_judge.proofs.UpTo.{count-append}
+use Rattle.lsp_verdict.specs.Event.{Event, message, fault, snapshot}
+use Rattle.lsp_verdict.specs.Placed.{Raw, content, broken, show, new_fault, Reads, IsSession, joined}
+use Rattle.lsp_verdict.specs.Verdict.{is_of, count_of}
+use Rattle.lsp_verdict.proofs.OneEvent.{some_list}
+use Rattle.lsp_verdict.proofs.Sessions.{one_session}
+use Rattle.lsp_verdict.proofs.Streams.{some_brings}
+use Rattle.lsp_verdict.proofs.UpTo.{count-append}
+use Rattle.lsp_verdict.proofs.OneRecord.{session_bytes, session_shown}
 
 by_editor : Raw → Bool
 by_editor (content side bytes) = same_side Editor side

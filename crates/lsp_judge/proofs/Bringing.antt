@@ -7,23 +7,24 @@ use Rattle.std.proofs.lemmas.List.{map-append}
 use Rattle.lsp_frame.specs.Bounds.{Bounds}
 use Rattle.lsp_frame.specs.Decoder as decoder
 use Rattle.lsp_frame.specs.Frame.{Frames, IsStream}
-use Rattle.lsp_rpc.specs.declared.plain.Side.{Side}
+use Rattle.lsp_types.specs.declared.side.Side.{Side}
 use Rattle.lsp_session.specs.State as session
 use Rattle.lsp_docs.specs.State as docs
-use Rattle.lsp_judge.specs.Contents.{ReadsAs}
-use Rattle.lsp_judge.specs.Event.{Event, fault}
-use Rattle.lsp_judge.specs.Given.{as_given}
-use Rattle.lsp_judge.specs.Placed.{Raw, content, broken, new_fault, Reads}
+use Rattle.lsp_verdict.specs.Contents.{ReadsAs}
+use Rattle.lsp_verdict.specs.Event.{Event, fault}
+use Rattle.lsp_verdict.specs.Given.{as_given}
+use Rattle.lsp_verdict.specs.Placed.{Raw, content, broken, new_fault, Reads}
 use Rattle.lsp_judge.specs.Rulings.{verdict_in}
-use Rattle.lsp_judge.specs.Standing.{IsDrained}
+use Rattle.lsp_verdict.specs.Drained.{IsDrained}
 use Rattle.lsp_judge.specs.Taking.{HeardAll, IsNext, Stopped, Taken, Broken, Refused}
-use Rattle.lsp_judge.specs.Verdict.{Verdict, no_at, first_no}
-use Rattle.lsp_judge.specs.declared.counts.Counts.{Counts}
+use Rattle.lsp_verdict.specs.Verdict.{Verdict, no_at, first_no}
+use Rattle.lsp_verdict.specs.declared.counts.Counts.{Counts}
 use Rattle.lsp_judge.specs.declared.ruling.Ruling.{Ruling}
 use Rattle.lsp_judge.specs.declared.ruling.Ruling.TheVariants.{No, BadLog, Memory}
-use Rattle.lsp_judge.proofs.Below.{some_stream, frames_first}
-use Rattle.lsp_judge.proofs.LookBackLemmas.{first_of-snoc, first_of-more}
-use Rattle.lsp_judge.proofs.OneEvent.{some_list, lists_join}
+use Rattle.lsp_verdict.proofs.Below.{some_stream, frames_first}
+use Rattle.lsp_verdict.proofs.LookBackLemmas.{first_of-snoc, first_of-more}
+use Rattle.lsp_verdict.proofs.OneEvent.{some_list, lists_join}
+use Rattle.lsp_verdict.proofs.Verdicts.{no_found}
 
 pub zip_contents : (side : Side) (more : List (List ℕ)) (later : List Event) → AllZip (ReadsAs side) more later → AllZip Reads (map (content side) more) later
 zip_contents side [] [] p = tt
@@ -52,13 +53,6 @@ taken side old new m documents c before bytes events same drained h = record {
   drained = record { contents = drained.contents ++ h.heard.more; stands = h.heard.stands; ends = h.ends };
   follows = h.heard.follows;
 }
-
--- the verdict at the event that comes next
-pub no_found : (limit : ℕ) (events later extra : List Event) (event : Event) (v : Verdict) → first_no limit (events ++ later) ≡ None → no_at limit (events ++ later) event ≡ Some v → first_no limit (events ++ (later ++ event ∷ extra)) ≡ Some v
-no_found limit events later extra event v clean is =
-    ap (first_no limit) (sym (append_assoc events later (event ∷ extra)) ∙ sym (append_assoc (events ++ later) (event ∷ []) extra))
-    ∙ first_of-more (no_at limit) ((events ++ later) ++ event ∷ []) extra v
-    (first_of-snoc (no_at limit) (events ++ later) event ∙ ap (λ o. option_or o (no_at limit (events ++ later) event)) clean ∙ is)
 
 -- a content offends, whatever the bytes bring behind it
 by_content : (side : Side) (limits : Bounds) (limit : ℕ) (before bytes : List ℕ) (events : List Event) (contents : List (List ℕ)) (left : List ℕ) (more : List (List ℕ)) (later : List Event) (event : Event) (bytes_of : List ℕ) (rest : List ℕ) (v : Verdict) (r : Ruling)

@@ -5,23 +5,26 @@ use Rattle.std.specs.Option.{option_or}
 use Rattle.lsp_frame.specs.Bounds.{Bounds}
 use Rattle.lsp_frame.specs.Decoder as decoder
 use Rattle.lsp_frame.specs.Frame.{IsStream}
-use Rattle.lsp_rpc.specs.declared.plain.Side.TheVariants.{Editor, Server}
+use Rattle.lsp_types.specs.declared.side.Side.TheVariants.{Editor, Server}
 use Rattle.lsp_docs.specs.State.{capped}
 use Rattle.lsp_log.specs.declared.fault.LogCode.{LogCode}
 use Rattle.lsp_log.specs.Log.{Record}
-use Rattle.lsp_judge.specs.Event.{Event}
-use Rattle.lsp_judge.specs.Given.{as_given}
-use Rattle.lsp_judge.specs.Outcome.{HasRest, is_rest, ending, IsFinal}
-use Rattle.lsp_judge.specs.Placed.{joined}
+use Rattle.lsp_verdict.specs.Event.{Event}
+use Rattle.lsp_verdict.specs.Given.{as_given}
+use Rattle.lsp_verdict.specs.Outcome.{HasRest, is_rest, ending, IsFinal}
+use Rattle.lsp_verdict.specs.Placed.{joined}
 use Rattle.lsp_judge.specs.Rulings.{verdict_in, RestIs}
-use Rattle.lsp_judge.specs.Standing.{AreCounts, Follows, State, AreLimits, IsDrained, IsOpen, HasOffence, Stands}
-use Rattle.lsp_judge.specs.Verdict.{Verdict, yes, bad_log, first_no, no_next, rest_of, summary, verdict}
+use Rattle.lsp_judge.specs.Standing.{Follows, State, AreLimits, IsOpen, HasOffence, Stands}
+use Rattle.lsp_verdict.specs.Counting.{AreCounts}
+use Rattle.lsp_verdict.specs.Drained.{IsDrained}
+use Rattle.lsp_verdict.specs.Verdict.{Verdict, yes, bad_log, first_no, no_next, rest_of, summary, verdict}
 use Rattle.lsp_judge.specs.declared.ruling.Ruling.{Ruling}
-use Rattle.lsp_judge.specs.declared.verdict.Who.TheVariants as who
-use Rattle.lsp_judge.proofs.Below.{one_stream}
-use Rattle.lsp_judge.proofs.Logs.{final_more}
+use Rattle.lsp_verdict.specs.declared.verdict.Who.TheVariants as who
+use Rattle.lsp_verdict.proofs.Below.{one_stream}
+use Rattle.lsp_verdict.proofs.Logs.{final_more}
 use Rattle.lsp_judge.proofs.Records.{is_open, offence_in}
-use Rattle.lsp_judge.proofs.Sessions.{same_session}
+use Rattle.lsp_verdict.proofs.Sessions.{same_session}
+use Rattle.lsp_verdict.proofs.ExactCounts.{capped_is}
 
 -- an offence is the verdict
 pub offence_final : (limits : Bounds) (rs : List Record) (given v : Verdict) (flaw : Option (ℕ × LogCode)) → HasOffence limits rs given → IsFinal limits rs flaw v → given ≡ as_given v
@@ -81,9 +84,6 @@ yes_final s rs given v none told sums stands final =
     final_is s rs None v stands.limits o final ∙ by_rest s.limits.document o.events s.editor.rest s.server.rest (open_clean s rs stands.limits o)
     ∙ ap (λ r. unwrap_or r (yes (summary s.limits.document o.events))) rest in
     sums o.events o.follows ∙ ap (λ l. as_given (yes (summary l o.events))) stands.limits.documents ∙ ap as_given (sym decides)
-
-pub capped_is : (n : ℕ) → n < 2 ^ 64 → capped n ≡ n
-capped_is n small = omega (arith, small)
 
 pub log_final : (s : State) (rs : List Record) (number : ℕ) (code : LogCode) (v : Verdict) → s.given ≡ None → number < 2 ^ 64 → Stands s rs → IsFinal s.limits rs (Some (number, code)) v → bad_log number code ≡ as_given v
 log_final s rs number code v none small stands final =

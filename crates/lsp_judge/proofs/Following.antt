@@ -3,7 +3,7 @@ use Rattle.std.proofs.Common.{◌≡◌, ℕ, List, [], ◌∷◌, ◌++◌, Opt
 use Rattle.std.specs.Prelude.{ℤ, option_map}
 use Rattle.std.specs.Option.{option_or}
 use Rattle.std.proofs.lemmas.Option.{same_Some}
-use Rattle.lsp_rpc.specs.declared.plain.Side.{Side}
+use Rattle.lsp_types.specs.declared.side.Side.{Side}
 use Rattle.lsp_session.specs.Sent.{Sent}
 use Rattle.lsp_session.specs.State as session
 use Rattle.lsp_docs.specs.Calls.{Call, shows}
@@ -11,20 +11,21 @@ use Rattle.lsp_docs.specs.Fault as docs_fault
 use Rattle.lsp_docs.specs.State as docs
 use Rattle.lsp_docs.specs.declared.fault.DocFault.{DocFault}
 use Rattle.lsp_docs.specs.declared.fault.DocFault.TheVariants as faults
-use Rattle.lsp_judge.specs.Calls.{call_at, calls}
-use Rattle.lsp_judge.specs.Contents.{ReadsAs}
-use Rattle.lsp_judge.specs.Event.{Event, message, fault, snapshot, sent_in}
+use Rattle.lsp_verdict.specs.Calls.{call_at, calls}
+use Rattle.lsp_verdict.specs.Contents.{ReadsAs}
+use Rattle.lsp_verdict.specs.Event.{Event, message, fault, snapshot, sent_in}
 use Rattle.lsp_judge.specs.Faults.{of_call, Names}
-use Rattle.lsp_judge.specs.Given.{as_given}
+use Rattle.lsp_verdict.specs.Given.{as_given}
 use Rattle.lsp_judge.specs.Rulings.{verdict_in, IsNoAt, IsNoAtSome}
-use Rattle.lsp_judge.specs.Standing.{AreCounts, Holds, Follows}
-use Rattle.lsp_judge.specs.Verdict.{offence, first_no, no_at, no_by, no_next, whose, who_of}
-use Rattle.lsp_judge.specs.declared.counts.Counts.{Counts}
+use Rattle.lsp_judge.specs.Standing.{Holds, Follows}
+use Rattle.lsp_verdict.specs.Counting.{AreCounts}
+use Rattle.lsp_verdict.specs.Verdict.{offence, first_no, no_at, no_by, no_next, whose, who_of}
+use Rattle.lsp_verdict.specs.declared.counts.Counts.{Counts}
 use Rattle.lsp_judge.specs.declared.ruling.Ruling.{Ruling}
 use Rattle.lsp_judge.specs.declared.ruling.Ruling.TheVariants.{No, BadLog, Memory}
-use Rattle.lsp_judge.specs.declared.verdict.Who.{Who}
-use Rattle.lsp_judge.proofs.LookBackLemmas.{first_of-snoc, each_of-snoc}
-use Rattle.lsp_judge.proofs.Messages.{sent_in-append}
+use Rattle.lsp_verdict.specs.declared.verdict.Who.{Who}
+use Rattle.lsp_verdict.proofs.LookBackLemmas.{first_of-snoc, each_of-snoc}
+use Rattle.lsp_verdict.proofs.Messages.{sent_in-append}
 
 -- an event that a content is read as is its side's
 pub whose_content : (side : Side) (bytes : List ℕ) (e : Event) → ReadsAs side bytes e → whose e ≡ who_of side

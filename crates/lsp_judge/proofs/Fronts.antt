@@ -6,22 +6,22 @@ use Rattle.std.proofs.lemmas.List.{map-append}
 use Rattle.lsp_frame.specs.Bounds.{Bounds}
 use Rattle.lsp_frame.specs.Decoder as decoder
 use Rattle.lsp_frame.specs.Frame.{Frames, IsStream}
-use Rattle.lsp_rpc.specs.declared.plain.Side.{Side}
-use Rattle.lsp_rpc.specs.declared.plain.Side.TheVariants.{Editor}
+use Rattle.lsp_types.specs.declared.side.Side.{Side}
+use Rattle.lsp_types.specs.declared.side.Side.TheVariants.{Editor}
 use Rattle.lsp_session.specs.State as session
 use Rattle.lsp_docs.specs.State as docs
-use Rattle.lsp_judge.specs.declared.counts.Counts.{Counts}
+use Rattle.lsp_verdict.specs.declared.counts.Counts.{Counts}
 use Rattle.lsp_judge.specs.declared.ruling.Ruling.{Ruling}
 use Rattle.lsp_judge.specs.declared.ruling.Ruling.TheVariants.{No, BadLog, Memory}
-use Rattle.lsp_judge.specs.Contents.{ReadsAs}
-use Rattle.lsp_judge.specs.Event.{Event, fault}
-use Rattle.lsp_judge.specs.Placed.{Raw, content, broken, new_fault, Brings, Reads}
-use Rattle.lsp_judge.specs.Standing.{IsDrained}
+use Rattle.lsp_verdict.specs.Contents.{ReadsAs}
+use Rattle.lsp_verdict.specs.Event.{Event, fault}
+use Rattle.lsp_verdict.specs.Placed.{Raw, content, broken, new_fault, Brings, Reads}
+use Rattle.lsp_verdict.specs.Drained.{IsDrained}
 use Rattle.lsp_judge.specs.Taking.{IsNext}
 use Rattle.lsp_judge.specs.Until.{HeardTo, HeardUntil, StoppedBefore, TakenTo, TakenUntil, RefusedBefore}
-use Rattle.lsp_judge.proofs.Below.{some_stream, frames_first}
+use Rattle.lsp_verdict.proofs.Below.{some_stream, frames_first}
 use Rattle.lsp_judge.proofs.Bringing.{zip_contents, taken}
-use Rattle.lsp_judge.proofs.OneEvent.{some_list, lists_join}
+use Rattle.lsp_verdict.proofs.OneEvent.{some_list, lists_join}
 use Rattle.lsp_judge.proofs.Takings.{zip_push}
 
 -- the bytes bring these events and then others

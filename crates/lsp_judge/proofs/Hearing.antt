@@ -12,11 +12,11 @@ use Rattle.lsp_rpc.specs.Params.{act_at}
 use Rattle.lsp_rpc.specs.Reading as reading
 use Rattle.lsp_rpc.specs.declared.fault.RpcFault.{RpcFault}
 use Rattle.lsp_rpc.specs.declared.fault.RpcFault.TheVariants as contents
-use Rattle.lsp_rpc.specs.declared.plain.Encoding.{Encoding}
-use Rattle.lsp_rpc.specs.declared.plain.Encoding.TheVariants.{Utf16}
-use Rattle.lsp_rpc.specs.declared.plain.Side.{Side}
-use Rattle.lsp_rpc.specs.declared.plain.SyncKind.{SyncKind}
-use Rattle.lsp_rpc.specs.declared.plain.SyncKind.TheVariants.{Nothing}
+use Rattle.lsp_types.specs.declared.position.Encoding.{Encoding}
+use Rattle.lsp_types.specs.declared.position.Encoding.TheVariants.{Utf16}
+use Rattle.lsp_types.specs.declared.side.Side.{Side}
+use Rattle.lsp_types.specs.declared.change.SyncKind.{SyncKind}
+use Rattle.lsp_types.specs.declared.change.SyncKind.TheVariants.{Nothing}
 use Rattle.lsp_session.specs.Negotiation.{encoding, sync_kind}
 use Rattle.lsp_session.specs.Refusal as refusal
 use Rattle.lsp_session.specs.Rules.{rule_after}
@@ -30,14 +30,14 @@ use Rattle.lsp_docs.specs.Rules.{call_rule}
 use Rattle.lsp_docs.specs.State as docs
 use Rattle.lsp_docs.specs.declared.fault.DocFault.{DocFault}
 use Rattle.lsp_docs.specs.declared.fault.DocFault.TheVariants as faults
-use Rattle.lsp_judge.specs.Calls.{call_of, call_at, calls}
-use Rattle.lsp_judge.specs.Contents.{IsSent}
-use Rattle.lsp_judge.specs.Event.{Event, message, fault, sent_in}
+use Rattle.lsp_verdict.specs.Calls.{call_of, call_at, calls}
+use Rattle.lsp_verdict.specs.Contents.{IsSent}
+use Rattle.lsp_verdict.specs.Event.{Event, message, fault, sent_in}
 use Rattle.lsp_judge.specs.Faults.{of_content, of_message, of_call}
 use Rattle.lsp_judge.specs.Standing.{Hears, Refuses}
-use Rattle.lsp_judge.specs.Verdict.{offence, document_rule}
-use Rattle.lsp_judge.proofs.LookBackLemmas.{each_of-snoc}
-use Rattle.lsp_judge.proofs.Messages.{sent_in-append}
+use Rattle.lsp_verdict.specs.Verdict.{offence, document_rule}
+use Rattle.lsp_verdict.proofs.LookBackLemmas.{each_of-snoc}
+use Rattle.lsp_verdict.proofs.Messages.{sent_in-append}
 
 -- a content that is no message
 pub content_refused : (side : Side) (bytes : List ℕ) (limit : ℕ) (events : List Event) (f : RpcFault) → reading.IsRefusal bytes f → Refuses side bytes limit events (of_content f)

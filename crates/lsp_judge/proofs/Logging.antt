@@ -20,19 +20,19 @@ use Rattle.lsp_log.specs.declared.reader.Progress.TheVariants as progress
 use Rattle.lsp_judge.specs.declared.ruling.Ruling.{Ruling}
 use Rattle.lsp_judge.specs.declared.ruling.Ruling.TheVariants as rulings
 use Rattle.lsp_judge.specs.declared.run.JudgeFault.{JudgeFault}
-use Rattle.lsp_judge.specs.declared.verdict.Verdict as given_verdict
-use Rattle.lsp_judge.specs.Event.{Event}
-use Rattle.lsp_judge.specs.Given.{verdict_view, as_given}
+use Rattle.lsp_verdict.specs.declared.verdict.Verdict as given_verdict
+use Rattle.lsp_verdict.specs.Event.{Event}
+use Rattle.lsp_verdict.specs.Given.{verdict_view, as_given}
 use Rattle.lsp_judge.specs.Logged.{AreAt, OfMore, TookOne, Answers, failures_of, Broke, StepAnswers}
-use Rattle.lsp_judge.specs.Outcome.{IsFinal, IsVerdict, Offends}
-use Rattle.lsp_judge.specs.Placed.{IsSession}
+use Rattle.lsp_verdict.specs.Outcome.{IsFinal, IsVerdict, Offends}
+use Rattle.lsp_verdict.specs.Placed.{IsSession}
 use Rattle.lsp_judge.specs.Standing as judge
 use Rattle.lsp_judge.specs.Standing.{Stands, StandsBy, is_given}
-use Rattle.lsp_judge.specs.Verdict.{Verdict, first_no}
-use Rattle.lsp_judge.proofs.Below.{take_more}
-use Rattle.lsp_judge.proofs.ExactCounts.{exact, records_fewer}
-use Rattle.lsp_judge.proofs.Logs.{some_final, offence_decides}
-use Rattle.lsp_judge.proofs.Sessions.{some_session}
+use Rattle.lsp_verdict.specs.Verdict.{Verdict, first_no}
+use Rattle.lsp_verdict.proofs.Below.{take_more}
+use Rattle.lsp_verdict.proofs.ExactCounts.{exact, records_fewer}
+use Rattle.lsp_verdict.proofs.Logs.{some_final, offence_decides}
+use Rattle.lsp_verdict.proofs.Sessions.{some_session}
 
 -- ---- a record was read
 

@@ -7,69 +7,28 @@ use Rattle.lsp_frame.specs.Bounds.{Bounds, IsInRange}
 use Rattle.lsp_frame.specs.Decoder as decoder
 use Rattle.lsp_frame.specs.Frame.{Begins, Breaks}
 use Rattle.lsp_frame.specs.Header.{blank_line}
-use Rattle.lsp_rpc.specs.declared.plain.Side.{Side}
-use Rattle.lsp_rpc.specs.declared.plain.Side.TheVariants.{Editor, Server}
+use Rattle.lsp_types.specs.declared.side.Side.{Side}
+use Rattle.lsp_types.specs.declared.side.Side.TheVariants.{Editor, Server}
 use Rattle.lsp_session.specs.Sent.{same_side}
 use Rattle.lsp_log.specs.Log.{Record, chunk, shown}
-use Rattle.lsp_judge.specs.Event.{Event, snapshot}
-use Rattle.lsp_judge.specs.Given.{as_given}
-use Rattle.lsp_judge.specs.Placed.{Raw, show, Brings, PlacedAfter, IsSession, Reads, joined}
+use Rattle.lsp_verdict.specs.Event.{Event, snapshot}
+use Rattle.lsp_verdict.specs.Given.{as_given}
+use Rattle.lsp_verdict.specs.Placed.{Raw, show, Brings, PlacedAfter, IsSession, Reads, joined}
 use Rattle.lsp_judge.specs.Rulings.{IsNoAt, verdict_in}
-use Rattle.lsp_judge.specs.Standing.{Follows, IsDrained, State, IsOpen, HasOffence, Rules, AreLimits, Keeps, StandsBy, Stands}
+use Rattle.lsp_judge.specs.Standing.{Follows, State, IsOpen, HasOffence, Rules, AreLimits, Keeps, StandsBy, Stands}
+use Rattle.lsp_verdict.specs.Drained.{IsDrained}
 use Rattle.lsp_judge.specs.Taking.{Taken, Refused}
-use Rattle.lsp_judge.specs.Verdict.{Verdict, no, no_at, first_no}
+use Rattle.lsp_verdict.specs.Verdict.{Verdict, no, no_at, first_no}
 use Rattle.lsp_judge.specs.declared.ruling.Ruling.{Ruling}
 use Rattle.lsp_judge.specs.declared.ruling.Ruling.TheVariants.{No, BadLog, Memory}
-use Rattle.lsp_judge.proofs.Bringing.{no_found}
-use Rattle.lsp_judge.proofs.LookBackLemmas.{first_of-more}
-use Rattle.lsp_judge.proofs.OneEvent.{lists_join}
-use Rattle.lsp_judge.proofs.Outcomes.{session_front}
-use Rattle.lsp_judge.proofs.PlacedLemmas.{placed-snoc}
-use Rattle.lsp_judge.proofs.Sessions.{some_session, same_session}
-
--- ---- the bytes of a side, with one more record
-
-joined-snoc : (side : Side) (rs : List Record) (r : Record) → joined side (rs ++ r ∷ []) ≡ joined side rs ++ joined side (r ∷ [])
-joined-snoc side [] r = refl
-joined-snoc side (chunk by b ∷ rs) r = by_side (same_side side by) (joined-snoc side rs r)
-  where
-    by_side : (own : Bool) → joined side (rs ++ r ∷ []) ≡ joined side rs ++ joined side (r ∷ [])
-        → (if own then b ++ joined side (rs ++ r ∷ []) else joined side (rs ++ r ∷ [])) ≡ (if own then b ++ joined side rs else joined side rs) ++ joined side (r ∷ [])
-    by_side true e = ap (λ w. b ++ w) e ∙ sym (append_assoc b (joined side rs) (joined side (r ∷ [])))
-    by_side false e = e
-joined-snoc side (shown n uri t ∷ rs) r = joined-snoc side rs r
-
--- a record of a side's bytes comes behind its bytes
-pub joined_own : (side : Side) (rs : List Record) (b : List ℕ) → joined side (rs ++ chunk side b ∷ []) ≡ joined side rs ++ b
-joined_own Editor rs b = joined-snoc Editor rs (chunk Editor b) ∙ ap (λ w. joined Editor rs ++ w) (append-nil b)
-joined_own Server rs b = joined-snoc Server rs (chunk Server b) ∙ ap (λ w. joined Server rs ++ w) (append-nil b)
-
-pub joined_server : (rs : List Record) (b : List ℕ) → joined Server (rs ++ chunk Editor b ∷ []) ≡ joined Server rs
-joined_server rs b = joined-snoc Server rs (chunk Editor b) ∙ append-nil (joined Server rs)
-
-pub joined_editor : (rs : List Record) (b : List ℕ) → joined Editor (rs ++ chunk Server b ∷ []) ≡ joined Editor rs
-joined_editor rs b = joined-snoc Editor rs (chunk Server b) ∙ append-nil (joined Editor rs)
-
-pub joined_shown : (side : Side) (rs : List Record) (n : ℤ) (uri t : List ℕ) → joined side (rs ++ shown n uri t ∷ []) ≡ joined side rs
-joined_shown side rs n uri t = joined-snoc side rs (shown n uri t) ∙ append-nil (joined side rs)
-
-pub drained_along : (d : decoder.State) (bytes more : List ℕ) → bytes ≡ more → IsDrained d bytes → IsDrained d more
-drained_along d bytes more e p = subst (IsDrained d) e p
-
--- ---- the session, with one more record
-
-pub placed_one : (limits : Bounds) (side : Side) (rs : List Record) (b : List ℕ) (now : List Raw) → Brings limits side (joined side rs) b now → PlacedAfter limits (joined Editor rs) (joined Server rs) (chunk side b ∷ []) now
-placed_one limits Editor rs b now brings = (now, [], sym (append-nil now), brings, refl)
-placed_one limits Server rs b now brings = (now, [], sym (append-nil now), brings, refl)
-
-pub session_bytes : (limits : Bounds) (side : Side) (rs : List Record) (b : List ℕ) (events later : List Event) (now : List Raw) → IsSession limits rs events → Brings limits side (joined side rs) b now → AllZip Reads now later
-    → IsSession limits (rs ++ chunk side b ∷ []) (events ++ later)
-session_bytes limits side rs b events later now session brings reads =
-    (session.0 ++ now, placed-snoc limits [] [] rs (chunk side b) session.0 now session.1 (placed_one limits side rs b now brings), lists_join session.0 now events later session.2 reads)
-
-pub session_shown : (limits : Bounds) (rs : List Record) (n : ℤ) (uri t : List ℕ) (events : List Event) → IsSession limits rs events → IsSession limits (rs ++ shown n uri t ∷ []) (events ++ snapshot uri n (chars t) ∷ [])
-session_shown limits rs n uri t events session =
-    (session.0 ++ show n uri t ∷ [], placed-snoc limits [] [] rs (shown n uri t) session.0 (show n uri t ∷ []) session.1 ([], refl, refl), lists_join session.0 (show n uri t ∷ []) events (snapshot uri n (chars t) ∷ []) session.2 (refl, tt))
+use Rattle.lsp_verdict.proofs.LookBackLemmas.{first_of-more}
+use Rattle.lsp_verdict.proofs.OneEvent.{lists_join}
+use Rattle.lsp_verdict.proofs.Outcomes.{session_front}
+use Rattle.lsp_verdict.proofs.PlacedLemmas.{placed-snoc}
+use Rattle.lsp_verdict.proofs.Sessions.{some_session, same_session}
+use Rattle.lsp_verdict.proofs.Verdicts.{no_found}
+use Rattle.lsp_verdict.proofs.OneRecord.{joined_own, joined_server, joined_editor, joined_shown, session_bytes, session_shown}
+use Rattle.lsp_verdict.proofs.Drained.{drained_along, new_drained}
 
 -- ---- steps of a judge
 
@@ -170,22 +129,6 @@ open_none s rs events limits o session =
     ap (option_map as_given) (sym (ap (first_no s.limits.document) same ∙ ap (λ l. first_no l o.events) (sym limits.documents) ∙ o.follows.clean))
 
 -- ---- a judge that has just begun
-
-pub no_frame : (limits : Bounds) (content after : List ℕ) → Begins limits [] content after → ⊥
-no_frame limits content after b =
-    let ends = b.2.part.ends in
-    absurd (omega (arith, ap length b.1, length-append b.0 after, ap length b.2.whole, length-append b.2.header content, ap length ends.1, length-append ends.0 blank_line))
-
-pub no_fault : (limits : Bounds) → IsInRange limits → (rule : ℕ) → Breaks limits [] rule → ⊥
-no_fault limits sizes rule (inl b) = absurd (omega (arith, b.1.long, sizes.header_low))
-no_fault limits sizes rule (inr b) = absurd (omega (arith, ap length b.whole, length-append b.header b.after, ap length b.part.ends.1, length-append b.part.ends.0 blank_line))
-
-pub new_drained : (limits : Bounds) → IsInRange limits → (d : decoder.State) → d ≡ decoder.empty limits → decoder.StandsFor d [] [] → IsDrained d []
-new_drained limits sizes d is stands = record {
-  contents = [];
-  stands = stands;
-  ends = subst (λ (e : decoder.State). decoder.EndsWith e [] [] None) (sym is) (refl, record { frames = refl; no_more = no_frame limits; fault = no_fault limits sizes });
-}
 
 pub new_stands : (s : State) → IsInRange s.limits → s.editor ≡ decoder.empty s.limits → decoder.StandsFor s.editor [] [] → s.server ≡ decoder.empty s.limits → decoder.StandsFor s.server [] [] → s.documents.limit ≡ s.limits.document
     → Follows s.messages s.documents s.counts [] → s.given ≡ None → Stands s []

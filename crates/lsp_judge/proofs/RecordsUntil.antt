@@ -2,22 +2,23 @@
 use Rattle.std.proofs.Common.{◌≡◌, ◌<◌, ◌^◌, ℕ, Bool, true, false, List, [], ◌∷◌, ◌++◌, Option, Some, None, sym, ap, subst, ◌∙◌, append_assoc, arith}
 use Rattle.std.proofs.lemmas.Option.{same_Some}
 use Rattle.lsp_frame.specs.Bounds.{Bounds}
-use Rattle.lsp_rpc.specs.declared.plain.Side.TheVariants.{Editor, Server}
+use Rattle.lsp_types.specs.declared.side.Side.TheVariants.{Editor, Server}
 use Rattle.lsp_docs.specs.State.{capped}
 use Rattle.lsp_log.specs.Log.{Record, chunk, shown}
 use Rattle.lsp_judge.specs.declared.ruling.Ruling.{Ruling}
 use Rattle.lsp_judge.specs.declared.ruling.Ruling.TheVariants.{No, BadLog, Memory}
-use Rattle.lsp_judge.specs.Event.{Event}
-use Rattle.lsp_judge.specs.Placed.{Brings, IsSession, joined}
-use Rattle.lsp_judge.specs.Shown.{up_to_editor}
+use Rattle.lsp_verdict.specs.Event.{Event}
+use Rattle.lsp_verdict.specs.Placed.{Brings, IsSession, joined}
+use Rattle.lsp_verdict.specs.Shown.{up_to_editor}
 use Rattle.lsp_judge.specs.Standing.{State, AreLimits, IsOpen, Rules}
 use Rattle.lsp_judge.specs.Until.{TakenUntil, RefusedBefore, IsUntil, RulesBefore, editor_bytes}
-use Rattle.lsp_judge.specs.Verdict.{first_no, no_at, is_of, count_of}
+use Rattle.lsp_verdict.specs.Verdict.{first_no, no_at, is_of, count_of}
 use Rattle.lsp_judge.proofs.Besides.{IsBeside, besides, count_beside}
-use Rattle.lsp_judge.proofs.Finding.{found}
-use Rattle.lsp_judge.proofs.Records.{session_bytes, editor_taken}
+use Rattle.lsp_verdict.proofs.Finding.{found}
+use Rattle.lsp_judge.proofs.Records.{editor_taken}
 use Rattle.lsp_judge.proofs.Untils.{count_is}
-use Rattle.lsp_judge.proofs.UpTo.{count-append, reached_more}
+use Rattle.lsp_verdict.proofs.UpTo.{count-append, reached_more}
+use Rattle.lsp_verdict.proofs.OneRecord.{session_bytes}
 
 -- ---- the editor's bytes
 

@@ -10,27 +10,27 @@ use Rattle.lsp_frame.specs.Failures.{after_failure}
 use Rattle.lsp_frame.specs.Frame.{Frames}
 use Rattle.lsp_frame.specs.Sink.{Told, Wrote}
 use Rattle.lsp_rpc.specs.Message.{Message}
-use Rattle.lsp_rpc.specs.declared.plain.Side.{Side}
+use Rattle.lsp_types.specs.declared.side.Side.{Side}
 use Rattle.lsp_rpc.proofs.Outlining.{same_words}
 use Rattle.lsp_session.specs.State as session
 use Rattle.lsp_docs.specs.State as docs
 use Rattle.lsp_docs.specs.State.{capped}
-use Rattle.lsp_judge.specs.Event.{Event, message}
-use Rattle.lsp_judge.specs.LookBack.{each_from}
-use Rattle.lsp_judge.specs.Report.{line, side_name}
-use Rattle.lsp_judge.specs.RunIo.{Tells, TellsSome}
+use Rattle.lsp_verdict.specs.Event.{Event, message}
+use Rattle.lsp_verdict.specs.LookBack.{each_from}
+use Rattle.lsp_verdict.specs.Report.{line, side_name}
+use Rattle.lsp_verdict.specs.RunIo.{Tells, TellsSome}
 use Rattle.lsp_judge.specs.Showing.{ShownOne, ShownNext, ShownAll, ShownStopped, given_line_at, given_lines_from}
-use Rattle.lsp_judge.specs.Shown.{message_line}
+use Rattle.lsp_verdict.specs.Shown.{message_line}
 use Rattle.lsp_judge.specs.Standing.{Follows}
 use Rattle.lsp_judge.specs.Taking.{HeardOne, HeardNone, Heard}
-use Rattle.lsp_judge.specs.Verdict.{first_no}
-use Rattle.lsp_judge.specs.declared.counts.Counts.{Counts}
-use Rattle.lsp_judge.specs.declared.outcome.RunFault.{RunFault}
-use Rattle.lsp_judge.specs.declared.outcome.RunFault.TheVariants as faults
+use Rattle.lsp_verdict.specs.Verdict.{first_no}
+use Rattle.lsp_verdict.specs.declared.counts.Counts.{Counts}
+use Rattle.lsp_verdict.specs.declared.outcome.RunFault.{RunFault}
+use Rattle.lsp_verdict.specs.declared.outcome.RunFault.TheVariants as faults
 use Rattle.lsp_judge.specs.declared.ruling.Ruling.TheVariants.{No, BadLog, Memory}
 use Rattle.lsp_judge.specs.declared.showing.Stop.{Stop}
 use Rattle.lsp_judge.specs.declared.showing.Stop.TheVariants.{Ruled, Failed}
-use Rattle.lsp_judge.proofs.LookBackLemmas.{each_from-append}
+use Rattle.lsp_verdict.proofs.LookBackLemmas.{each_from-append}
 use Rattle.lsp_judge.proofs.Takings.{nothing_heard, heard_all, one_heard, stopped, stopped_by}
 
 -- ---- what is written

@@ -8,34 +8,35 @@ use Rattle.lsp_frame.specs.Bounds.{Bounds}
 use Rattle.lsp_frame.specs.Decoder as decoder
 use Rattle.lsp_frame.specs.Frame.{Frames, IsStream}
 use Rattle.lsp_frame.specs.Sink.{Told}
-use Rattle.lsp_rpc.specs.declared.plain.Side.{Side}
+use Rattle.lsp_types.specs.declared.side.Side.{Side}
 use Rattle.lsp_session.specs.State as session
 use Rattle.lsp_docs.specs.State as docs
-use Rattle.lsp_judge.specs.Contents.{ReadsAs}
-use Rattle.lsp_judge.specs.Event.{Event}
-use Rattle.lsp_judge.specs.LookBack.{first_from}
-use Rattle.lsp_judge.specs.Placed.{Raw, content, broken, new_fault, Brings, Reads}
-use Rattle.lsp_judge.specs.RunIo.{TellsSome}
+use Rattle.lsp_verdict.specs.Contents.{ReadsAs}
+use Rattle.lsp_verdict.specs.Event.{Event}
+use Rattle.lsp_verdict.specs.LookBack.{first_from}
+use Rattle.lsp_verdict.specs.Placed.{Raw, content, broken, new_fault, Brings, Reads}
+use Rattle.lsp_verdict.specs.RunIo.{TellsSome}
 use Rattle.lsp_judge.specs.Showing.{ShownAll, ShownUpTo, ShownSome, ShownStopped, ShowsMore, ShowsBrought, written_by, written, ruling_of, given_lines_from, given_lines}
-use Rattle.lsp_judge.specs.Shown.{kept, kept_by, kept_within}
-use Rattle.lsp_judge.specs.Standing.{IsDrained}
+use Rattle.lsp_verdict.specs.Shown.{kept, kept_by, kept_within}
+use Rattle.lsp_verdict.specs.Drained.{IsDrained}
 use Rattle.lsp_judge.specs.Taking.{IsNext, Refused}
-use Rattle.lsp_judge.specs.Verdict.{Verdict, offence, no_by, no_at, first_no}
-use Rattle.lsp_judge.specs.declared.counts.Counts.{Counts}
-use Rattle.lsp_judge.specs.declared.outcome.RunFault.{RunFault}
-use Rattle.lsp_judge.specs.declared.outcome.RunFault.TheVariants as faults
+use Rattle.lsp_verdict.specs.Verdict.{Verdict, offence, no_by, no_at, first_no}
+use Rattle.lsp_verdict.specs.declared.counts.Counts.{Counts}
+use Rattle.lsp_verdict.specs.declared.outcome.RunFault.{RunFault}
+use Rattle.lsp_verdict.specs.declared.outcome.RunFault.TheVariants as faults
 use Rattle.lsp_judge.specs.declared.ruling.Ruling.TheVariants.{No, BadLog, Memory}
 use Rattle.lsp_judge.specs.declared.showing.Stop.{Stop}
-use Rattle.lsp_judge.specs.declared.verdict.Who.{Who}
+use Rattle.lsp_verdict.specs.declared.verdict.Who.{Who}
 use Rattle.lsp_judge.specs.declared.showing.Stop.TheVariants.{Ruled, Failed}
-use Rattle.lsp_judge.proofs.Below.{some_stream, frames_first}
-use Rattle.lsp_judge.proofs.Bringing.{zip_contents, taken, refused, no_found}
-use Rattle.lsp_judge.proofs.Finding.{found, map_some}
-use Rattle.lsp_judge.proofs.LookBackLemmas.{first_of-append, or_none_parts}
-use Rattle.lsp_judge.proofs.OneEvent.{some_list, lists_join}
+use Rattle.lsp_verdict.proofs.Below.{some_stream, frames_first}
+use Rattle.lsp_judge.proofs.Bringing.{zip_contents, taken, refused}
+use Rattle.lsp_verdict.proofs.Finding.{found, map_some}
+use Rattle.lsp_verdict.proofs.LookBackLemmas.{first_of-append, or_none_parts}
+use Rattle.lsp_verdict.proofs.OneEvent.{some_list, lists_join}
 use Rattle.lsp_judge.proofs.Showings.{lines-append, tells_before, wrote_none, wrote_refused}
-use Rattle.lsp_judge.proofs.Streams.{some_brings}
+use Rattle.lsp_verdict.proofs.Streams.{some_brings}
 use Rattle.lsp_judge.proofs.Takings.{zip_push}
+use Rattle.lsp_verdict.proofs.Verdicts.{no_found}
 
 -- ---- the events before the first that offends
 

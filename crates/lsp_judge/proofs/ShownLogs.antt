@@ -7,21 +7,20 @@ use Rattle.std.proofs.lemmas.List.{length-take}
 use Rattle.lsp_frame.specs.Bounds.{Bounds, IsInRange}
 use Rattle.lsp_log.specs.Log.{Record, BeginsLog}
 use Rattle.lsp_log.specs.declared.fault.LogCode.{LogCode}
-use Rattle.lsp_judge.specs.Event.{Event}
-use Rattle.lsp_judge.specs.Given.{as_given}
-use Rattle.lsp_judge.specs.LookBack.{each_from}
-use Rattle.lsp_judge.specs.Outcome.{IsVerdict, Offends}
-use Rattle.lsp_judge.specs.Placed.{IsSession}
-use Rattle.lsp_judge.specs.Report.{report}
+use Rattle.lsp_verdict.specs.Event.{Event}
+use Rattle.lsp_verdict.specs.Given.{as_given}
+use Rattle.lsp_verdict.specs.LookBack.{each_from}
+use Rattle.lsp_verdict.specs.Outcome.{IsVerdict, Offends}
+use Rattle.lsp_verdict.specs.Placed.{IsSession}
+use Rattle.lsp_verdict.specs.Report.{report}
 use Rattle.lsp_judge.specs.Showing.{given_line_at, given_lines_from, given_lines}
-use Rattle.lsp_judge.specs.Shown.{event_line, line_at, lines_of, kept_count, kept, kept_by, kept_within, show_of}
+use Rattle.lsp_verdict.specs.Shown.{event_line, line_at, lines_of, kept_count, kept, kept_by, kept_within, show_of}
 use Rattle.lsp_judge.specs.ShownLog.{IsShown, BeginsShown, OneShown}
-use Rattle.lsp_judge.specs.Verdict.{Verdict, yes, Ending, first_no, no_at, bad_log_of, rest_of, summary, verdict}
-use Rattle.lsp_judge.proofs.ExactCounts.{events_within, exact}
-use Rattle.lsp_judge.proofs.Finals.{capped_is}
-use Rattle.lsp_judge.proofs.Finding.{found}
-use Rattle.lsp_judge.proofs.Logs.{some_verdict, events_first, offence_decides, same_events, one_verdict}
-use Rattle.lsp_judge.proofs.Sessions.{same_session}
+use Rattle.lsp_verdict.specs.Verdict.{Verdict, yes, Ending, first_no, no_at, bad_log_of, rest_of, summary, verdict}
+use Rattle.lsp_verdict.proofs.ExactCounts.{events_within, exact, capped_is}
+use Rattle.lsp_verdict.proofs.Finding.{found}
+use Rattle.lsp_verdict.proofs.Logs.{some_verdict, events_first, offence_decides, same_events, one_verdict}
+use Rattle.lsp_verdict.proofs.Sessions.{same_session}
 use Rattle.lsp_judge.proofs.ShownBytes.{take_front, kept_clean, kept_no, kept_more}
 use Rattle.lsp_judge.proofs.Showings.{lines-append}
 

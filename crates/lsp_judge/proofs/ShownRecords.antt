@@ -3,29 +3,29 @@ use Rattle.std.proofs.Common.{◌≡◌, ◌+◌, ℕ, ℤ, List, [], ◌∷◌,
 use Rattle.std.specs.Prelude.{chars}
 use Rattle.lsp_frame.specs.Bounds.{Bounds}
 use Rattle.lsp_frame.specs.Sink.{Told, Wrote}
-use Rattle.lsp_rpc.specs.declared.plain.Side.{Side}
+use Rattle.lsp_types.specs.declared.side.Side.{Side}
 use Rattle.lsp_session.specs.State as session
 use Rattle.lsp_docs.specs.State as docs
 use Rattle.lsp_docs.specs.State.{capped}
 use Rattle.lsp_log.specs.Log.{Record, chunk, shown}
-use Rattle.lsp_judge.specs.Event.{Event, snapshot}
-use Rattle.lsp_judge.specs.Placed.{Brings, IsSession, joined}
+use Rattle.lsp_verdict.specs.Event.{Event, snapshot}
+use Rattle.lsp_verdict.specs.Placed.{Brings, IsSession, joined}
 use Rattle.lsp_judge.specs.Rulings.{IsNoAt, verdict_in}
-use Rattle.lsp_judge.specs.RunIo.{Tells}
+use Rattle.lsp_verdict.specs.RunIo.{Tells}
 use Rattle.lsp_judge.specs.Showing.{ShowsMore, ShowsBrought, written_by, given_lines_from}
-use Rattle.lsp_judge.specs.Shown.{snapshot_line}
+use Rattle.lsp_verdict.specs.Shown.{snapshot_line}
 use Rattle.lsp_judge.specs.Standing.{Follows, State, IsOpen}
-use Rattle.lsp_judge.specs.Verdict.{Verdict, first_no}
-use Rattle.lsp_judge.specs.declared.counts.Counts.{Counts}
-use Rattle.lsp_judge.specs.declared.outcome.RunFault.{RunFault}
-use Rattle.lsp_judge.specs.declared.outcome.RunFault.TheVariants as faults
+use Rattle.lsp_verdict.specs.Verdict.{Verdict, first_no}
+use Rattle.lsp_verdict.specs.declared.counts.Counts.{Counts}
+use Rattle.lsp_verdict.specs.declared.outcome.RunFault.{RunFault}
+use Rattle.lsp_verdict.specs.declared.outcome.RunFault.TheVariants as faults
 use Rattle.lsp_judge.specs.declared.ruling.Ruling.{Ruling}
 use Rattle.lsp_judge.specs.declared.ruling.Ruling.TheVariants.{No, BadLog, Memory}
 use Rattle.lsp_judge.specs.declared.showing.Stop.TheVariants.{Ruled}
-use Rattle.lsp_judge.proofs.Records.{session_bytes, session_shown}
-use Rattle.lsp_judge.proofs.Sessions.{same_session}
+use Rattle.lsp_verdict.proofs.Sessions.{same_session}
 use Rattle.lsp_judge.proofs.ShownBytes.{kept_clean, kept_no, shows_whole, shows_part}
 use Rattle.lsp_judge.proofs.Showings.{told_some, wrote_none, wrote_refused}
+use Rattle.lsp_verdict.proofs.OneRecord.{session_bytes, session_shown}
 
 -- ---- a snapshot
 

@@ -6,27 +6,27 @@ use Rattle.lsp_frame.specs.Bounds.{Bounds}
 use Rattle.lsp_frame.specs.Sink.{Told, Wrote, Stopped}
 use Rattle.lsp_log.specs.Reader as reader
 use Rattle.lsp_log.specs.Reader.{empty, StandsFor}
-use Rattle.lsp_judge.specs.declared.outcome.Outcome.{Outcome}
-use Rattle.lsp_judge.specs.declared.outcome.Outcome.TheVariants.{Judged}
-use Rattle.lsp_judge.specs.declared.outcome.RunFault.{RunFault}
+use Rattle.lsp_verdict.specs.declared.outcome.Outcome.{Outcome}
+use Rattle.lsp_verdict.specs.declared.outcome.Outcome.TheVariants.{Judged}
+use Rattle.lsp_verdict.specs.declared.outcome.RunFault.{RunFault}
 use Rattle.lsp_judge.specs.declared.ruling.Ruling.{Ruling}
 use Rattle.lsp_judge.specs.declared.ruling.Ruling.TheVariants as rulings
-use Rattle.lsp_judge.specs.declared.verdict.Verdict as code
-use Rattle.lsp_judge.specs.Event.{Event}
-use Rattle.lsp_judge.specs.Given.{verdict_view}
-use Rattle.lsp_judge.specs.Outcome.{IsVerdict}
-use Rattle.lsp_judge.specs.Placed.{IsSession}
-use Rattle.lsp_judge.specs.Report.{report}
-use Rattle.lsp_judge.specs.RunIo.{OfRead, source_failures, sink_failures}
+use Rattle.lsp_verdict.specs.declared.verdict.Verdict as code
+use Rattle.lsp_verdict.specs.Event.{Event}
+use Rattle.lsp_verdict.specs.Given.{verdict_view}
+use Rattle.lsp_verdict.specs.Outcome.{IsVerdict}
+use Rattle.lsp_verdict.specs.Placed.{IsSession}
+use Rattle.lsp_verdict.specs.Report.{report}
+use Rattle.lsp_verdict.specs.RunIo.{OfRead, source_failures, sink_failures}
 use Rattle.lsp_judge.specs.Showing.{ShowsMore, given_lines}
-use Rattle.lsp_judge.specs.Shown.{kept_within}
+use Rattle.lsp_verdict.specs.Shown.{kept_within}
 use Rattle.lsp_judge.specs.ShownLog.{IsShown, BeginsShown, ShowedOne, ShowedAll, ShowedPart}
 use Rattle.lsp_judge.specs.Standing as judge
 use Rattle.lsp_judge.specs.Standing.{Stands, StandsBy}
-use Rattle.lsp_judge.specs.Verdict.{Verdict, first_no}
+use Rattle.lsp_verdict.specs.Verdict.{Verdict, first_no}
 use Rattle.lsp_judge.proofs.Answering.{as_read, read_map, judged_as}
 use Rattle.lsp_judge.proofs.Logging.{SoFar, nothing_taken, took_more, took_smaller, more_all}
-use Rattle.lsp_judge.proofs.Sessions.{some_session, same_session}
+use Rattle.lsp_verdict.proofs.Sessions.{some_session, same_session}
 use Rattle.lsp_judge.proofs.Showings.{wrote_none, wrote_more}
 
 -- the records that were taken so far, and the lines of their events

@@ -14,25 +14,25 @@ use Rattle.lsp_log.specs.declared.fault.LogCode.{LogCode}
 use Rattle.lsp_log.specs.declared.fault.LogFault.TheVariants as log_faults
 use Rattle.lsp_log.specs.declared.reader.Progress.{Progress}
 use Rattle.lsp_log.specs.declared.reader.Progress.TheVariants as progress
-use Rattle.lsp_judge.specs.declared.outcome.RunFault.{RunFault}
-use Rattle.lsp_judge.specs.declared.outcome.RunFault.TheVariants as faults
-use Rattle.lsp_judge.specs.declared.verdict.Verdict as given_verdict
-use Rattle.lsp_judge.specs.Event.{Event}
-use Rattle.lsp_judge.specs.Given.{verdict_view, as_given}
+use Rattle.lsp_verdict.specs.declared.outcome.RunFault.{RunFault}
+use Rattle.lsp_verdict.specs.declared.outcome.RunFault.TheVariants as faults
+use Rattle.lsp_verdict.specs.declared.verdict.Verdict as given_verdict
+use Rattle.lsp_verdict.specs.Event.{Event}
+use Rattle.lsp_verdict.specs.Given.{verdict_view, as_given}
 use Rattle.lsp_judge.specs.Logged.{AreAt}
-use Rattle.lsp_judge.specs.Outcome.{IsFinal, Offends}
-use Rattle.lsp_judge.specs.Placed.{IsSession}
-use Rattle.lsp_judge.specs.Report.{report}
-use Rattle.lsp_judge.specs.RunIo.{TellsSome, sink_failures, source_failures}
+use Rattle.lsp_verdict.specs.Outcome.{IsFinal, Offends}
+use Rattle.lsp_verdict.specs.Placed.{IsSession}
+use Rattle.lsp_verdict.specs.Report.{report}
+use Rattle.lsp_verdict.specs.RunIo.{TellsSome, sink_failures, source_failures}
 use Rattle.lsp_judge.specs.Showing.{ShowsMore, done, given_lines}
-use Rattle.lsp_judge.specs.Shown.{kept_within, show_of}
+use Rattle.lsp_verdict.specs.Shown.{kept_within, show_of}
 use Rattle.lsp_judge.specs.ShownLog.{IsShown, BeginsShown, ShowedOne, ShowedAll, ShowedPart, StepShows}
 use Rattle.lsp_judge.specs.Standing as judge
 use Rattle.lsp_judge.specs.Standing.{Stands, is_given}
-use Rattle.lsp_judge.specs.Verdict.{Verdict, first_no}
+use Rattle.lsp_verdict.specs.Verdict.{Verdict, first_no}
 use Rattle.lsp_judge.proofs.Logging.{reads_at, begins_log, more_given, as_some, taken_answers}
-use Rattle.lsp_judge.proofs.Logs.{some_final, some_verdict}
-use Rattle.lsp_judge.proofs.Sessions.{some_session, same_session}
+use Rattle.lsp_verdict.proofs.Logs.{some_final, some_verdict}
+use Rattle.lsp_verdict.proofs.Sessions.{some_session, same_session}
 use Rattle.lsp_judge.proofs.ShownLogs.{begins_due, offence_due, final_due}
 use Rattle.lsp_judge.proofs.Showings.{wrote_none}
 

@@ -11,13 +11,6 @@ pub if_err : {X E : Type 0} (r : Result X E) (P Q : E → Type 0) → ((e : E) �
 if_err (Ok x) P Q f p = p
 if_err (Err e) P Q f p = f e p
 
-pub pushed_limits : (s : State) (piece : List ℕ) → (pushed s piece).limits ≡ s.limits
-pushed_limits s piece = by_fault s.fault
-  where
-    by_fault : (o : Option ℕ) → (pushed_at o s piece).limits ≡ s.limits
-    by_fault None = refl
-    by_fault (Some rule) = refl
-
 pub if_ok : {X E : Type 0} (r : Result X E) (P Q : X → Type 0) → ((x : X) → P x → Q x) → IfOk r P → IfOk r Q
 if_ok (Ok x) P Q f p = f x p
 if_ok (Err e) P Q f p = p

@@ -7,20 +7,21 @@ use Rattle.lsp_frame.specs.Decoder as decoder
 use Rattle.lsp_frame.specs.Frame.{Frames, IsStream}
 use Rattle.lsp_frame.specs.Header.{blank_line}
 use Rattle.lsp_rpc.specs.Message.{Message}
-use Rattle.lsp_rpc.specs.declared.plain.Side.{Side}
+use Rattle.lsp_types.specs.declared.side.Side.{Side}
 use Rattle.lsp_session.specs.State as session
 use Rattle.lsp_docs.specs.State as docs
-use Rattle.lsp_judge.specs.Contents.{ReadsAs}
-use Rattle.lsp_judge.specs.Event.{Event, message, fault}
-use Rattle.lsp_judge.specs.Given.{as_given}
+use Rattle.lsp_verdict.specs.Contents.{ReadsAs}
+use Rattle.lsp_verdict.specs.Event.{Event, message, fault}
+use Rattle.lsp_verdict.specs.Given.{as_given}
 use Rattle.lsp_judge.specs.Rulings.{verdict_in, IsNoAt, IsNoAtSome}
-use Rattle.lsp_judge.specs.Standing.{AreCounts, Follows}
+use Rattle.lsp_judge.specs.Standing.{Follows}
+use Rattle.lsp_verdict.specs.Counting.{AreCounts}
 use Rattle.lsp_judge.specs.Taking.{HeardAs, HeardOne, HeardNone, IsNext, StoppedNext, Heard, HeardAll, Stopped}
-use Rattle.lsp_judge.specs.Verdict.{first_no, no_next, who_of}
-use Rattle.lsp_judge.specs.declared.counts.Counts.{Counts}
+use Rattle.lsp_verdict.specs.Verdict.{first_no, no_next, who_of}
+use Rattle.lsp_verdict.specs.declared.counts.Counts.{Counts}
 use Rattle.lsp_judge.specs.declared.ruling.Ruling.{Ruling}
 use Rattle.lsp_judge.specs.declared.ruling.Ruling.TheVariants.{No, BadLog, Memory}
-use Rattle.lsp_judge.specs.declared.verdict.Who.{Who}
+use Rattle.lsp_verdict.specs.declared.verdict.Who.{Who}
 use Rattle.lsp_judge.proofs.Following.{ruled}
 
 pub zip_push : {A B : Type 0} (P : A → B → Type 0) (xs : List A) (ys : List B) (x : A) (y : B) → AllZip P xs ys → P x y → AllZip P (xs ++ x ∷ []) (ys ++ y ∷ [])

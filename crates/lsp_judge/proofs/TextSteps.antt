@@ -2,7 +2,7 @@
 use Rattle.std.proofs.Common.{◌≡◌, ◌<◌, ◌+◌, ◌^◌, ℕ, false, List, [], ◌∷◌, ◌++◌, Option, Some, None, Result, Ok, Err, inl, inr, sym, ap, subst, ◌∙◌, append-nil, arith}
 use Rattle.lsp_frame.specs.Bounds.{Bounds, IsInRange}
 use Rattle.lsp_frame.specs.Sink.{Told}
-use Rattle.lsp_rpc.specs.declared.plain.Side.TheVariants.{Editor}
+use Rattle.lsp_types.specs.declared.side.Side.TheVariants.{Editor}
 use Rattle.lsp_docs.specs.Calls.{Call}
 use Rattle.lsp_docs.specs.Documents.{held}
 use Rattle.lsp_docs.specs.State as docs
@@ -13,40 +13,40 @@ use Rattle.lsp_log.specs.Records.{record_view}
 use Rattle.lsp_log.specs.declared.record.Record as record_code
 use Rattle.lsp_log.specs.declared.fault.LogCode.{LogCode}
 use Rattle.lsp_log.specs.declared.fault.LogFault.TheVariants as log_faults
-use Rattle.lsp_judge.specs.declared.outcome.Outcome.{Outcome}
-use Rattle.lsp_judge.specs.declared.outcome.Outcome.TheVariants.{Judged}
-use Rattle.lsp_judge.specs.declared.outcome.RunFault.{RunFault}
-use Rattle.lsp_judge.specs.declared.outcome.RunFault.TheVariants as run_faults
+use Rattle.lsp_verdict.specs.declared.outcome.Outcome.{Outcome}
+use Rattle.lsp_verdict.specs.declared.outcome.Outcome.TheVariants.{Judged}
+use Rattle.lsp_verdict.specs.declared.outcome.RunFault.{RunFault}
+use Rattle.lsp_verdict.specs.declared.outcome.RunFault.TheVariants as run_faults
 use Rattle.lsp_judge.specs.declared.ruling.Ruling.{Ruling}
 use Rattle.lsp_judge.specs.declared.ruling.Ruling.TheVariants.{No, BadLog, Memory}
 use Rattle.lsp_judge.specs.declared.run.JudgeFault.{JudgeFault}
 use Rattle.lsp_judge.specs.declared.run.JudgeFault.TheVariants as faults
 use Rattle.lsp_judge.specs.declared.text_answer.TextAnswer as code
-use Rattle.lsp_judge.specs.declared.verdict.Verdict as verdict
-use Rattle.lsp_judge.specs.Calls.{calls}
-use Rattle.lsp_judge.specs.Event.{Event}
+use Rattle.lsp_verdict.specs.declared.verdict.Verdict as verdict
+use Rattle.lsp_verdict.specs.Calls.{calls}
+use Rattle.lsp_verdict.specs.Event.{Event}
 use Rattle.lsp_judge.specs.Faults.{of_run}
-use Rattle.lsp_judge.specs.Given.{verdict_view, as_given}
+use Rattle.lsp_verdict.specs.Given.{verdict_view, as_given}
 use Rattle.lsp_judge.specs.Logged.{AreAt, Broke}
-use Rattle.lsp_judge.specs.Outcome.{IsFinal, IsVerdict}
-use Rattle.lsp_judge.specs.Placed.{IsSession}
-use Rattle.lsp_judge.specs.RunIo.{OfRead}
+use Rattle.lsp_verdict.specs.Outcome.{IsFinal, IsVerdict}
+use Rattle.lsp_verdict.specs.Placed.{IsSession}
+use Rattle.lsp_verdict.specs.RunIo.{OfRead}
 use Rattle.lsp_judge.specs.Rulings.{verdict_in}
-use Rattle.lsp_judge.specs.Shown.{TextAnswer, refused, held_answer, missing_answer}
+use Rattle.lsp_verdict.specs.Shown.{TextAnswer, refused, held_answer, missing_answer}
 use Rattle.lsp_judge.specs.Standing as judge
 use Rattle.lsp_judge.specs.Standing.{AreLimits, Keeps, StandsBy, Stands}
-use Rattle.lsp_judge.specs.TextAfter.{AnswersText}
+use Rattle.lsp_verdict.specs.TextAfter.{AnswersText}
 use Rattle.lsp_judge.specs.TextAnswers.{answer_view}
 use Rattle.lsp_judge.specs.TextRun.{TellsText, TellsStep, reader_failures}
 use Rattle.lsp_judge.specs.Until.{IsReached, IsUntil, RulesBefore, AnswersIn, AnswersBy}
-use Rattle.lsp_judge.specs.Verdict.{Verdict, no, is_of, count_of}
+use Rattle.lsp_verdict.specs.Verdict.{Verdict, no, is_of, count_of}
 use Rattle.lsp_judge.proofs.Answering.{judged_as}
-use Rattle.lsp_judge.proofs.ExactCounts.{exact}
+use Rattle.lsp_verdict.proofs.ExactCounts.{exact}
 use Rattle.lsp_judge.proofs.Logging.{reads_at, begins_log, more_given, SoFar, more_all}
-use Rattle.lsp_judge.proofs.Logs.{some_final}
+use Rattle.lsp_verdict.proofs.Logs.{some_final}
 use Rattle.lsp_judge.proofs.Records.{is_open, kept_limits}
-use Rattle.lsp_judge.proofs.Sessions.{one_session}
-use Rattle.lsp_judge.proofs.TextLogs.{text_reached, text_refused, text_missing}
+use Rattle.lsp_verdict.proofs.Sessions.{one_session}
+use Rattle.lsp_verdict.proofs.TextLogs.{text_reached, text_refused, text_missing}
 use Rattle.lsp_judge.proofs.Untils.{count_is}
 
 -- ---- the answer of a judge

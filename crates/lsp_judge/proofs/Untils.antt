@@ -4,23 +4,24 @@ use Rattle.std.proofs.lemmas.Bool.{cases_lt}
 use Rattle.lsp_frame.specs.Bounds.{Bounds}
 use Rattle.lsp_frame.specs.Decoder as decoder
 use Rattle.lsp_rpc.specs.Message.{Message}
-use Rattle.lsp_rpc.specs.declared.plain.Side.TheVariants.{Editor}
+use Rattle.lsp_types.specs.declared.side.Side.TheVariants.{Editor}
 use Rattle.lsp_session.specs.Sent.{same_side}
 use Rattle.lsp_session.specs.State as session
 use Rattle.lsp_docs.specs.State as docs
 use Rattle.lsp_docs.specs.State.{capped}
-use Rattle.lsp_judge.specs.declared.counts.Counts.{Counts}
+use Rattle.lsp_verdict.specs.declared.counts.Counts.{Counts}
 use Rattle.lsp_judge.specs.declared.ruling.Ruling.{Ruling}
 use Rattle.lsp_judge.specs.declared.ruling.Ruling.TheVariants.{No, BadLog, Memory}
-use Rattle.lsp_judge.specs.Contents.{ReadsAs}
-use Rattle.lsp_judge.specs.Event.{Event, message}
-use Rattle.lsp_judge.specs.Shown.{up_to_editor}
-use Rattle.lsp_judge.specs.Standing.{AreCounts, Follows}
+use Rattle.lsp_verdict.specs.Contents.{ReadsAs}
+use Rattle.lsp_verdict.specs.Event.{Event, message}
+use Rattle.lsp_verdict.specs.Shown.{up_to_editor}
+use Rattle.lsp_judge.specs.Standing.{Follows}
+use Rattle.lsp_verdict.specs.Counting.{AreCounts}
 use Rattle.lsp_judge.specs.Taking.{HeardAs, HeardOne, HeardNone, StoppedNext, Heard}
 use Rattle.lsp_judge.specs.Until.{HeardTo, HeardUntil, StoppedBefore}
-use Rattle.lsp_judge.specs.Verdict.{is_of, count_of}
+use Rattle.lsp_verdict.specs.Verdict.{is_of, count_of}
 use Rattle.lsp_judge.proofs.Takings.{zip_push, nothing_heard, heard_all, one_heard}
-use Rattle.lsp_judge.proofs.UpTo.{count_one, reached_now}
+use Rattle.lsp_verdict.proofs.UpTo.{count_one, reached_now}
 
 -- contents were heard, and the editor's n-th message has still to come
 pub record HeardSoFar (d : decoder.State) (m : session.State) (documents : docs.State) (c : Counts) (bytes : List ℕ) (contents : List (List ℕ)) (events : List Event) (n : ℕ) : Type 0 where

@@ -1,20 +1,20 @@
 -- What is answered on records and on a log, in plain words.
 use Rattle.std.specs.Prelude.{◌≡◌, ℕ, List, Option, Some, None}
 use Rattle.lsp_frame.specs.Bounds.{Bounds}
-use Rattle.lsp_rpc.specs.declared.plain.Side.TheVariants.{Editor, Server}
+use Rattle.lsp_types.specs.declared.side.Side.TheVariants.{Editor, Server}
 use Rattle.lsp_log.specs.Log.{Record, IsLog}
 use Rattle.lsp_judge.specs.declared.ruling.Ruling.{Ruling}
-use Rattle.lsp_judge.specs.declared.verdict.Verdict as code
-use Rattle.lsp_judge.specs.Event.{Event}
-use Rattle.lsp_judge.specs.Given.{verdict_view, as_given}
-use Rattle.lsp_judge.specs.Headline.{Names, HasRest107}
-use Rattle.lsp_judge.specs.Kept.{NothingOffends, AreFrames}
-use Rattle.lsp_judge.specs.Outcome.{IsVerdict}
-use Rattle.lsp_judge.specs.Placed.{IsSession, joined}
-use Rattle.lsp_judge.specs.Report.{report}
+use Rattle.lsp_verdict.specs.declared.verdict.Verdict as code
+use Rattle.lsp_verdict.specs.Event.{Event}
+use Rattle.lsp_verdict.specs.Given.{verdict_view, as_given}
+use Rattle.lsp_verdict.specs.Headline.{Names, HasRest107}
+use Rattle.lsp_verdict.specs.Kept.{NothingOffends, AreFrames}
+use Rattle.lsp_verdict.specs.Outcome.{IsVerdict}
+use Rattle.lsp_verdict.specs.Placed.{IsSession, joined}
+use Rattle.lsp_verdict.specs.Report.{report}
 use Rattle.lsp_judge.specs.Rulings.{verdict_in}
-use Rattle.lsp_judge.specs.RunIo.{OfRead, AppendsFront}
-use Rattle.lsp_judge.specs.Verdict.{Verdict, yes, summary}
+use Rattle.lsp_verdict.specs.RunIo.{OfRead, AppendsFront}
+use Rattle.lsp_verdict.specs.Verdict.{Verdict, yes, summary}
 
 -- ---- No of records, whatever their length: a count past the greatest u64 is given as that
 

@@ -6,8 +6,8 @@ use Rattle.lsp_session.specs.declared.refusal.Refusal.{Refusal}
 use Rattle.lsp_session.specs.declared.refusal.Refusal.TheVariants as message
 use Rattle.lsp_docs.specs.declared.fault.DocFault.{DocFault}
 use Rattle.lsp_docs.specs.declared.fault.DocFault.TheVariants as call
-use Rattle.lsp_judge.specs.declared.outcome.RunFault.{RunFault}
-use Rattle.lsp_judge.specs.declared.outcome.RunFault.TheVariants as run_faults
+use Rattle.lsp_verdict.specs.declared.outcome.RunFault.{RunFault}
+use Rattle.lsp_verdict.specs.declared.outcome.RunFault.TheVariants as run_faults
 use Rattle.lsp_judge.specs.declared.run.JudgeFault.{JudgeFault}
 use Rattle.lsp_judge.specs.declared.run.JudgeFault.TheVariants as log_faults
 use Rattle.lsp_judge.specs.declared.fault.Fault.{Fault}

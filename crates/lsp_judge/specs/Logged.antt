@@ -9,12 +9,12 @@ use Rattle.lsp_log.specs.Reader as reader
 use Rattle.lsp_log.specs.Reader.{kept_by, StandsFor, MayFollow}
 use Rattle.lsp_judge.specs.declared.run.JudgeFault.{JudgeFault}
 use Rattle.lsp_judge.specs.declared.run.JudgeFault.TheVariants as faults
-use Rattle.lsp_judge.specs.declared.verdict.Verdict as code
-use Rattle.lsp_judge.specs.Given.{verdict_view}
-use Rattle.lsp_judge.specs.Outcome.{IsVerdict}
+use Rattle.lsp_verdict.specs.declared.verdict.Verdict as code
+use Rattle.lsp_verdict.specs.Given.{verdict_view}
+use Rattle.lsp_verdict.specs.Outcome.{IsVerdict}
 use Rattle.lsp_judge.specs.Standing as judge
 use Rattle.lsp_judge.specs.Standing.{Stands}
-use Rattle.lsp_judge.specs.Verdict.{Verdict}
+use Rattle.lsp_verdict.specs.Verdict.{Verdict}
 
 -- the reader of a log and the judge stand for the same records, and neither gave an end
 pub record AreAt (r : reader.State) (j : judge.State) (bytes : List ℕ) (records : List Record) : Type 0 where

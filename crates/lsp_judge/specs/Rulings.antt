@@ -1,11 +1,11 @@
 -- What a judge gives for good, in the words of verdicts.
 use Rattle.std.specs.Prelude.{◌≡◌, ℕ, List, Option, Some, None, Result, Ok, Err}
-use Rattle.lsp_rpc.specs.declared.memory.Memory as memory
+use Rattle.lsp_types.specs.declared.memory.Memory as memory
 use Rattle.lsp_judge.specs.declared.ruling.Ruling.{Ruling}
 use Rattle.lsp_judge.specs.declared.ruling.Ruling.TheVariants.{No, BadLog, Memory}
-use Rattle.lsp_judge.specs.Event.{Event}
-use Rattle.lsp_judge.specs.Given.{as_given}
-use Rattle.lsp_judge.specs.Verdict.{Verdict, yes, no, bad_log, no_at}
+use Rattle.lsp_verdict.specs.Event.{Event}
+use Rattle.lsp_verdict.specs.Given.{as_given}
+use Rattle.lsp_verdict.specs.Verdict.{Verdict, yes, no, bad_log, no_at}
 
 -- the verdict that it is, if any
 abbrev pub verdict_in : Ruling → Option Verdict

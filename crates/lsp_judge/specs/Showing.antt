@@ -6,25 +6,25 @@ use Rattle.lsp_frame.specs.Decoder as decoder
 use Rattle.lsp_frame.specs.Frame.{Frames}
 use Rattle.lsp_frame.specs.Sink.{Told, Wrote}
 use Rattle.lsp_rpc.specs.Message.{Message}
-use Rattle.lsp_rpc.specs.declared.plain.Side.{Side}
+use Rattle.lsp_types.specs.declared.side.Side.{Side}
 use Rattle.lsp_session.specs.State as session
 use Rattle.lsp_docs.specs.State as docs
 use Rattle.lsp_docs.specs.State.{capped}
-use Rattle.lsp_judge.specs.declared.counts.Counts.{Counts}
-use Rattle.lsp_judge.specs.declared.outcome.RunFault.{RunFault}
-use Rattle.lsp_judge.specs.declared.outcome.RunFault.TheVariants as faults
+use Rattle.lsp_verdict.specs.declared.counts.Counts.{Counts}
+use Rattle.lsp_verdict.specs.declared.outcome.RunFault.{RunFault}
+use Rattle.lsp_verdict.specs.declared.outcome.RunFault.TheVariants as faults
 use Rattle.lsp_judge.specs.declared.ruling.Ruling.{Ruling}
 use Rattle.lsp_judge.specs.declared.ruling.Ruling.TheVariants.{No, BadLog, Memory}
 use Rattle.lsp_judge.specs.declared.showing.Stop.{Stop}
 use Rattle.lsp_judge.specs.declared.showing.Stop.TheVariants.{Ruled, Failed}
-use Rattle.lsp_judge.specs.Contents.{ReadsAs}
-use Rattle.lsp_judge.specs.Event.{Event, message}
-use Rattle.lsp_judge.specs.LookBack.{each_from}
-use Rattle.lsp_judge.specs.Placed.{Raw, Brings, Reads}
-use Rattle.lsp_judge.specs.RunIo.{TellsSome}
-use Rattle.lsp_judge.specs.Shown.{event_line, kept_within}
+use Rattle.lsp_verdict.specs.Contents.{ReadsAs}
+use Rattle.lsp_verdict.specs.Event.{Event, message}
+use Rattle.lsp_verdict.specs.LookBack.{each_from}
+use Rattle.lsp_verdict.specs.Placed.{Raw, Brings, Reads}
+use Rattle.lsp_verdict.specs.RunIo.{TellsSome}
+use Rattle.lsp_verdict.specs.Shown.{event_line, kept_within}
 use Rattle.lsp_judge.specs.Taking.{HeardOne, HeardNone, StoppedNext, HeardAll, Offended}
-use Rattle.lsp_judge.specs.Verdict.{first_no}
+use Rattle.lsp_verdict.specs.Verdict.{first_no}
 
 -- the ruling that stops, or the want of memory that stands for any other reason
 abbrev pub ruling_of : Stop → Ruling

@@ -5,19 +5,19 @@ use Rattle.lsp_frame.specs.Bounds.{Bounds, IsInRange}
 use Rattle.lsp_frame.specs.Sink.{Told, Wrote}
 use Rattle.lsp_log.specs.Log.{Record}
 use Rattle.lsp_log.specs.Reader as reader
-use Rattle.lsp_judge.specs.declared.outcome.RunFault.{RunFault}
-use Rattle.lsp_judge.specs.declared.verdict.Verdict as code
-use Rattle.lsp_judge.specs.Event.{Event}
-use Rattle.lsp_judge.specs.Given.{verdict_view}
+use Rattle.lsp_verdict.specs.declared.outcome.RunFault.{RunFault}
+use Rattle.lsp_verdict.specs.declared.verdict.Verdict as code
+use Rattle.lsp_verdict.specs.Event.{Event}
+use Rattle.lsp_verdict.specs.Given.{verdict_view}
 use Rattle.lsp_judge.specs.Logged.{OfMore, TookOne}
-use Rattle.lsp_judge.specs.Outcome.{IsVerdict}
-use Rattle.lsp_judge.specs.Placed.{IsSession}
-use Rattle.lsp_judge.specs.Report.{report}
-use Rattle.lsp_judge.specs.RunIo.{source_failures, sink_failures}
+use Rattle.lsp_verdict.specs.Outcome.{IsVerdict}
+use Rattle.lsp_verdict.specs.Placed.{IsSession}
+use Rattle.lsp_verdict.specs.Report.{report}
+use Rattle.lsp_verdict.specs.RunIo.{source_failures, sink_failures}
 use Rattle.lsp_judge.specs.Showing.{ShowsMore, given_lines}
-use Rattle.lsp_judge.specs.Shown.{show_of, kept_within}
+use Rattle.lsp_verdict.specs.Shown.{show_of, kept_within}
 use Rattle.lsp_judge.specs.Standing as judge
-use Rattle.lsp_judge.specs.Verdict.{Verdict}
+use Rattle.lsp_verdict.specs.Verdict.{Verdict}
 
 -- ---- a log
 

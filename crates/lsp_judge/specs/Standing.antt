@@ -4,37 +4,30 @@ use Rattle.lsp_frame.specs.Bounds.{Bounds, IsInRange}
 use Rattle.lsp_frame.specs.Decoder as decoder
 use Rattle.lsp_rpc.specs.Message.{Message}
 use Rattle.lsp_rpc.specs.Outline.{outline}
-use Rattle.lsp_rpc.specs.declared.plain.Side.{Side}
-use Rattle.lsp_rpc.specs.declared.plain.Side.TheVariants.{Editor, Server}
+use Rattle.lsp_types.specs.declared.side.Side.{Side}
+use Rattle.lsp_types.specs.declared.side.Side.TheVariants.{Editor, Server}
 use Rattle.lsp_session.specs.Sent.{Sent}
 use Rattle.lsp_session.specs.State as session
 use Rattle.lsp_docs.specs.State as docs
-use Rattle.lsp_docs.specs.State.{capped}
 use Rattle.lsp_log.specs.Log.{Record}
-use Rattle.lsp_judge.specs.declared.counts.Counts.{Counts}
-use Rattle.lsp_judge.specs.declared.verdict.Who.TheVariants as who
+use Rattle.lsp_verdict.specs.declared.counts.Counts.{Counts}
 use Rattle.lsp_judge.specs.declared.ruling.Ruling.{Ruling}
 use Rattle.lsp_judge.specs.declared.ruling.Ruling.TheVariants.{No, BadLog, Memory}
 use Rattle.lsp_judge.specs.declared.fault.Fault.{Fault}
 use Rattle.lsp_judge.specs.declared.fault.Fault.TheVariants as fault
 use Rattle.lsp_judge.specs.declared.fault.Fault.TheVariants.{Rule}
-use Rattle.lsp_judge.specs.Calls.{calls}
-use Rattle.lsp_judge.specs.Contents.{IsSent, ReadsAs}
-use Rattle.lsp_judge.specs.Event.{Event, message, sent_in}
-use Rattle.lsp_judge.specs.Given.{as_given}
-use Rattle.lsp_judge.specs.Outcome.{Offends}
-use Rattle.lsp_judge.specs.Placed.{IsSession, joined}
+use Rattle.lsp_verdict.specs.Calls.{calls}
+use Rattle.lsp_verdict.specs.Counting.{AreCounts}
+use Rattle.lsp_verdict.specs.Drained.{IsDrained}
+use Rattle.lsp_verdict.specs.Contents.{IsSent, ReadsAs}
+use Rattle.lsp_verdict.specs.Event.{Event, message, sent_in}
+use Rattle.lsp_verdict.specs.Given.{as_given}
+use Rattle.lsp_verdict.specs.Outcome.{Offends}
+use Rattle.lsp_verdict.specs.Placed.{IsSession, joined}
 use Rattle.lsp_judge.specs.Rulings.{verdict_in}
-use Rattle.lsp_judge.specs.Verdict.{Verdict, no, offence, first_no, belongs_to, count_of}
+use Rattle.lsp_verdict.specs.Verdict.{Verdict, no, offence, first_no}
 
 -- ---- events
-
--- the counts are those of these events
-pub record AreCounts (c : Counts) (events : List Event) : Type 0 where
-  pub editor : c.editor ≡ capped (count_of (belongs_to who.Editor) events)
-  pub server : c.server ≡ capped (count_of (belongs_to who.Server) events)
-  pub snapshots : c.snapshots ≡ capped (count_of (belongs_to who.Snapshot) events)
-  pub all : c.all ≡ capped (length events)
 
 -- the messages and the calls that the layers below stand for are those of the events
 pub record Holds (messages : session.State) (documents : docs.State) (events : List Event) : Type 0 where
@@ -61,12 +54,6 @@ pub record Follows (messages : session.State) (documents : docs.State) (counts :
   pub counted : AreCounts counts events
 
 -- ---- records
-
--- the decoder was given these bytes, has given all contents of them, and they have no fault
-pub record IsDrained (d : decoder.State) (bytes : List ℕ) : Type 0 where
-  pub contents : List (List ℕ)
-  pub stands : decoder.StandsFor d bytes contents
-  pub ends : decoder.EndsWith d bytes contents None
 
 -- what a judge holds
 pub record State : Type 0 where

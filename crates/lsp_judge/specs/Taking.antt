@@ -8,20 +8,21 @@ use Rattle.lsp_rpc.specs.Message.{Message}
 use Rattle.lsp_rpc.specs.Outline.{outline}
 use Rattle.lsp_rpc.specs.View.{message_view}
 use Rattle.lsp_rpc.specs.declared.message.Message as code
-use Rattle.lsp_rpc.specs.declared.plain.Side.{Side}
+use Rattle.lsp_types.specs.declared.side.Side.{Side}
 use Rattle.lsp_session.specs.Sent.{Sent}
 use Rattle.lsp_session.specs.State as session
 use Rattle.lsp_docs.specs.State as docs
-use Rattle.lsp_judge.specs.declared.counts.Counts.{Counts}
+use Rattle.lsp_verdict.specs.declared.counts.Counts.{Counts}
 use Rattle.lsp_judge.specs.declared.ruling.Ruling.{Ruling}
 use Rattle.lsp_judge.specs.declared.ruling.Ruling.TheVariants.{No, BadLog, Memory}
-use Rattle.lsp_judge.specs.Contents.{IsSent, ReadsAs}
-use Rattle.lsp_judge.specs.Event.{Event, message, fault}
-use Rattle.lsp_judge.specs.Given.{as_given}
-use Rattle.lsp_judge.specs.Placed.{Raw, Brings, Reads}
+use Rattle.lsp_verdict.specs.Contents.{IsSent, ReadsAs}
+use Rattle.lsp_verdict.specs.Event.{Event, message, fault}
+use Rattle.lsp_verdict.specs.Given.{as_given}
+use Rattle.lsp_verdict.specs.Placed.{Raw, Brings, Reads}
 use Rattle.lsp_judge.specs.Rulings.{IsNoAt, verdict_in}
-use Rattle.lsp_judge.specs.Standing.{Follows, IsDrained}
-use Rattle.lsp_judge.specs.Verdict.{Verdict, first_no}
+use Rattle.lsp_judge.specs.Standing.{Follows}
+use Rattle.lsp_verdict.specs.Drained.{IsDrained}
+use Rattle.lsp_verdict.specs.Verdict.{Verdict, first_no}
 
 -- ---- the next content
 

@@ -5,14 +5,14 @@ use Rattle.lsp_frame.specs.Failures.{after_failure}
 use Rattle.lsp_frame.specs.Sink.{Told}
 use Rattle.lsp_log.specs.Log.{Record}
 use Rattle.lsp_log.specs.Reader as reader
-use Rattle.lsp_judge.specs.declared.outcome.RunFault.{RunFault}
-use Rattle.lsp_judge.specs.declared.outcome.RunFault.TheVariants as run_faults
+use Rattle.lsp_verdict.specs.declared.outcome.RunFault.{RunFault}
+use Rattle.lsp_verdict.specs.declared.outcome.RunFault.TheVariants as run_faults
 use Rattle.lsp_judge.specs.declared.text_answer.TextAnswer as code
 use Rattle.lsp_judge.specs.declared.run.JudgeFault.{JudgeFault}
 use Rattle.lsp_judge.specs.Logged.{OfMore, TookOne, Broke}
 use Rattle.lsp_judge.specs.Standing as judge
-use Rattle.lsp_judge.specs.Shown.{TextAnswer}
-use Rattle.lsp_judge.specs.TextAfter.{AnswersText}
+use Rattle.lsp_verdict.specs.Shown.{TextAnswer}
+use Rattle.lsp_verdict.specs.TextAfter.{AnswersText}
 use Rattle.lsp_judge.specs.TextAnswers.{answer_view}
 
 -- **the answer on the log**

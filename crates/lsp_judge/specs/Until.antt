@@ -3,26 +3,26 @@ use Rattle.std.specs.Prelude.{◌≡◌, ◌⊎◌, ◌<◌, ℕ, List, [], ◌�
 use Rattle.std.specs.List.{AllZip}
 use Rattle.lsp_frame.specs.Bounds.{Bounds}
 use Rattle.lsp_frame.specs.Decoder as decoder
-use Rattle.lsp_rpc.specs.declared.plain.Side.TheVariants.{Editor, Server}
+use Rattle.lsp_types.specs.declared.side.Side.TheVariants.{Editor, Server}
 use Rattle.lsp_session.specs.State as session
 use Rattle.lsp_docs.specs.Documents.{held}
 use Rattle.lsp_docs.specs.State as docs
 use Rattle.lsp_log.specs.Log.{Record, chunk, shown}
-use Rattle.lsp_judge.specs.declared.counts.Counts.{Counts}
+use Rattle.lsp_verdict.specs.declared.counts.Counts.{Counts}
 use Rattle.lsp_judge.specs.declared.ruling.Ruling.{Ruling}
 use Rattle.lsp_judge.specs.declared.ruling.Ruling.TheVariants.{No, BadLog, Memory}
 use Rattle.lsp_judge.specs.declared.text_answer.TextAnswer as code
-use Rattle.lsp_judge.specs.Calls.{calls}
-use Rattle.lsp_judge.specs.Contents.{ReadsAs}
-use Rattle.lsp_judge.specs.Event.{Event}
-use Rattle.lsp_judge.specs.Given.{as_given}
-use Rattle.lsp_judge.specs.Placed.{Raw, Brings, Reads}
-use Rattle.lsp_judge.specs.Shown.{TextAnswer, up_to_editor, held_answer, missing_answer}
+use Rattle.lsp_verdict.specs.Calls.{calls}
+use Rattle.lsp_verdict.specs.Contents.{ReadsAs}
+use Rattle.lsp_verdict.specs.Event.{Event}
+use Rattle.lsp_verdict.specs.Given.{as_given}
+use Rattle.lsp_verdict.specs.Placed.{Raw, Brings, Reads}
+use Rattle.lsp_verdict.specs.Shown.{TextAnswer, up_to_editor, held_answer, missing_answer}
 use Rattle.lsp_judge.specs.Standing.{Follows, State, IsOpen, Stands}
 use Rattle.lsp_judge.specs.Taking.{HeardAll, Offended, Taken}
-use Rattle.lsp_judge.specs.TextAfter.{Reaches, OffendsBefore}
+use Rattle.lsp_verdict.specs.TextAfter.{Reaches, OffendsBefore}
 use Rattle.lsp_judge.specs.TextAnswers.{answer_view}
-use Rattle.lsp_judge.specs.Verdict.{Verdict, no, first_no, no_at, is_of, count_of}
+use Rattle.lsp_verdict.specs.Verdict.{Verdict, no, first_no, no_at, is_of, count_of}
 
 -- ---- contents
 

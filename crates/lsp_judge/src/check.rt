@@ -3,21 +3,19 @@ ghost use Rattle.std.specs.Prelude.{◌≡◌, ℕ, ◌+◌, List, Ok, Err, IfOk
 ghost use Rattle.std.specs.Io.KnownBytes.{Appends, IsAtEnd};
 ghost use Rattle.lsp_log.specs.declared.fault.LogCode.{LogCode};
 ghost use Rattle.lsp_judge.specs.Answered.{IsClean, IsReportCut};
-ghost use Rattle.lsp_judge.specs.Event.{Event};
-ghost use Rattle.lsp_judge.specs.Given.{verdict_view};
-ghost use Rattle.lsp_judge.specs.Headline.{HasFault, Refuses};
-ghost use Rattle.lsp_judge.specs.Kept.{IsKept};
-ghost use Rattle.lsp_judge.specs.Outcome.{IsVerdict};
-ghost use Rattle.lsp_judge.specs.Report.{report};
-ghost use Rattle.lsp_judge.specs.RunIo.{OfRead, GaveAtMost, source_failures, sink_failures};
-ghost use Rattle.lsp_judge.specs.Verdict.{yes, no, summary};
+ghost use Rattle.lsp_verdict.specs.Event.{Event};
+ghost use Rattle.lsp_verdict.specs.Given.{verdict_view};
+ghost use Rattle.lsp_verdict.specs.Headline.{HasFault, Refuses};
+ghost use Rattle.lsp_verdict.specs.Kept.{IsKept};
+ghost use Rattle.lsp_verdict.specs.Outcome.{IsVerdict};
+ghost use Rattle.lsp_verdict.specs.Report.{report};
+ghost use Rattle.lsp_verdict.specs.RunIo.{OfRead, GaveAtMost, source_failures, sink_failures};
+ghost use Rattle.lsp_verdict.specs.Verdict.{yes, no, summary};
 
-use crate::outcome::{Outcome, RunFault};
-use crate::report::report_of;
 use crate::run::{JudgeFault, judge_log};
-use crate::verdict::{Summary, Verdict, Who};
 use lsp_frame::{Limits, Sink, Source, put_all};
 use lsp_text::Lined;
+use lsp_verdict::{Outcome, RunFault, Summary, Verdict, Who, report_of};
 use std::alloc::Global;
 
 impl From<JudgeFault> for RunFault {

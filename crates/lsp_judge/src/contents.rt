@@ -1,15 +1,17 @@
 //! The contents that a record's bytes make whole.
 ghost use Rattle.std.specs.Prelude.{◌≡◌, ◌<◌, ℕ, List, length, OnOk, IfOk, IfErr, IfSome};
 ghost use Rattle.lsp_frame.specs.Decoder.{StandsFor};
-ghost use Rattle.lsp_judge.specs.Event.{Event};
-ghost use Rattle.lsp_judge.specs.Standing.{Follows, IsDrained};
+ghost use Rattle.lsp_verdict.specs.Event.{Event};
+ghost use Rattle.lsp_judge.specs.Standing.{Follows};
+ghost use Rattle.lsp_verdict.specs.Drained.{IsDrained};
 ghost use Rattle.lsp_judge.specs.Taking.{HeardAll, HeardNext, Stopped, StoppedNext, Taken, Refused};
 
-use crate::events::{Events, who_of};
+use crate::events::Events;
 use crate::ruling::Ruling;
 use lsp_frame::Decoder;
 use lsp_rpc::{Message, Side};
 use lsp_text::TextStore;
+use lsp_verdict::who_of;
 use std::alloc::Global;
 
 /// Takes bytes of a side, and hears the contents that they make whole.
@@ -74,7 +76,7 @@ pub(crate) fn hear_next<S: TextStore>(
         → StoppedNext side decoder.old.limits events.old.docs.limit bytes contents so_far ruling) }
 {
     match decoder.next() {
-        Err(fault) => Err(events.counts.no(fault.rule, who_of(side))),
+        Err(fault) => Err(Ruling::no_next(&events.counts, fault.rule, who_of(side))),
         Ok(None) => Ok(None),
         Ok(Some(content)) => {
             let message = events.message(alloc, side, content)?;

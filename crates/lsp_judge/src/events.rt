@@ -10,19 +10,16 @@ ghost use Rattle.lsp_docs.specs.Rules.{call_rule};
 ghost use Rattle.lsp_docs.specs.State as docs_state;
 ghost use Rattle.lsp_session.specs.State.{State as SpecSession};
 ghost use Rattle.lsp_judge.specs.Apart.{IsApart, Says};
-ghost use Rattle.lsp_judge.specs.Calls.{call_of, edit_of};
-ghost use Rattle.lsp_judge.specs.Contents.{ReadsAs};
-ghost use Rattle.lsp_judge.specs.Event.{Event, snapshot as shown};
+ghost use Rattle.lsp_verdict.specs.Calls.{call_of, edit_of};
+ghost use Rattle.lsp_verdict.specs.Contents.{ReadsAs};
+ghost use Rattle.lsp_verdict.specs.Event.{Event, snapshot as shown};
 ghost use Rattle.lsp_judge.specs.Faults.{Names};
 ghost use Rattle.lsp_judge.specs.Rulings.{IsNoAt, IsNoAtSome};
 ghost use Rattle.lsp_judge.specs.Standing.{Follows, Holds, Hears, Refuses};
 ghost use Rattle.lsp_judge.specs.Taking.{HeardAs};
-ghost use Rattle.lsp_judge.specs.Verdict as spec;
 
-use crate::counts::Counts;
 use crate::fault::Fault;
 use crate::ruling::Ruling;
-use crate::verdict::Who;
 use lsp_docs::{DocFault, Docs};
 use lsp_frame::Limits;
 use lsp_rpc::{
@@ -30,6 +27,7 @@ use lsp_rpc::{
 };
 use lsp_session::Session;
 use lsp_text::TextStore;
+use lsp_verdict::{Counts, Who, who_of};
 use std::alloc::Global;
 
 /// What the events so far have come to, none of which offends.
@@ -73,7 +71,7 @@ impl<S: TextStore> Events<S> {
                 self.counts.add(who_of(side));
                 Ok(message)
             }
-            Err(Fault::Rule(rule)) => Err(self.counts.no(rule, who_of(side))),
+            Err(Fault::Rule(rule)) => Err(Ruling::no_next(&self.counts, rule, who_of(side))),
             Err(Fault::Memory) => Err(Ruling::Memory),
         }
     }
@@ -92,7 +90,7 @@ impl<S: TextStore> Events<S> {
                 Ok(())
             }
             Err(fault) => match Fault::from(fault) {
-                Fault::Rule(rule) => Err(self.counts.no(rule, Who::Snapshot)),
+                Fault::Rule(rule) => Err(Ruling::no_next(&self.counts, rule, Who::Snapshot)),
                 Fault::Memory => Err(Ruling::Memory),
             },
         }
@@ -173,16 +171,6 @@ fn spoken_in(
     match change_in(messages, side, content) {
         Some(spoken) => Ok(spoken),
         None => read_spoken(alloc, session, messages, side, content),
-    }
-}
-
-/// Whose a message of this side is.
-pub(crate) fn who_of(side: Side) -> Who
-    ensures { result ≡ spec.who_of side }
-{
-    match side {
-        Side::Editor => Who::Editor,
-        Side::Server => Who::Server,
     }
 }
 

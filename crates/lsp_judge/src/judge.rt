@@ -3,30 +3,30 @@ ghost use Rattle.std.specs.Prelude.{◌≡◌, ◌⊎◌, ◌<◌, ◌++◌, ◌
 ghost use Rattle.lsp_log.specs.Log as log;
 ghost use Rattle.lsp_log.specs.Records.{record_view};
 ghost use Rattle.lsp_judge.specs.Answered.{NamesFirst, NamesRest, NoneOffends, AreClean, SaysYes, Repeats};
-ghost use Rattle.lsp_judge.specs.Event.{Event};
-ghost use Rattle.lsp_judge.specs.Given.{verdict_view, as_given};
-ghost use Rattle.lsp_judge.specs.Kept.{AreKept};
-ghost use Rattle.lsp_judge.specs.Outcome.{IsFinal, is_rest};
-ghost use Rattle.lsp_judge.specs.Placed.{IsSession};
+ghost use Rattle.lsp_verdict.specs.Event.{Event};
+ghost use Rattle.lsp_verdict.specs.Given.{verdict_view, as_given};
+ghost use Rattle.lsp_verdict.specs.Kept.{AreKept};
+ghost use Rattle.lsp_verdict.specs.Outcome.{IsFinal, is_rest};
+ghost use Rattle.lsp_verdict.specs.Placed.{IsSession};
 ghost use Rattle.lsp_judge.specs.Rulings.{RestIs, IfRefused};
 ghost use Rattle.lsp_judge.specs.Showing.{ShowsMore, ruling_of, written, done};
-ghost use Rattle.lsp_judge.specs.Standing.{AreCounts, IsOpen, AreLimits, Keeps, Rules, Stands, is_given};
+ghost use Rattle.lsp_judge.specs.Standing.{IsOpen, AreLimits, Keeps, Rules, Stands, is_given};
+ghost use Rattle.lsp_verdict.specs.Counting.{AreCounts};
 ghost use Rattle.lsp_judge.specs.Until.{AnswersBy, IsUntil, RulesBefore, editor_bytes};
-ghost use Rattle.lsp_judge.specs.Verdict as spec;
+ghost use Rattle.lsp_verdict.specs.Verdict as spec;
 
 use crate::contents::take_bytes;
 use crate::events::Events;
-use crate::outcome::RunFault;
 use crate::ruling::Ruling;
 use crate::showing::{Stop, show_bytes, show_snapshot};
 use crate::summary::summary_of;
 use crate::text_answer::TextAnswer;
 use crate::until::take_until;
-use crate::verdict::{Summary, Verdict, Who};
 use lsp_frame::{Decoder, Limits, Sink};
 use lsp_log::{LogCode, Record};
 use lsp_rpc::{Memory, Side};
 use lsp_text::TextStore;
+use lsp_verdict::{RunFault, Summary, Verdict, Who};
 use std::alloc::Global;
 use std::marker::Model;
 
@@ -224,10 +224,10 @@ impl<S: TextStore> Judge<S> {
             → RestIs result (spec.rest_of events (is_rest self.now.editor.rest) (is_rest self.now.server.rest)) }
     {
         if ends_inside_frame(&self.editor) {
-            return Some(self.events.counts.no(107, Who::Editor));
+            return Some(Ruling::no_next(&self.events.counts, 107, Who::Editor));
         }
         if ends_inside_frame(&self.server) {
-            return Some(self.events.counts.no(107, Who::Server));
+            return Some(Ruling::no_next(&self.events.counts, 107, Who::Server));
         }
         None
     }

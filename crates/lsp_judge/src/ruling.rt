@@ -1,12 +1,15 @@
 //! What a judge gives for good.
-ghost use Rattle.std.specs.Prelude.{◌≡◌, IfOk, OnErr, Some, None};
-ghost use Rattle.lsp_judge.specs.Given.{verdict_view};
+ghost use Rattle.std.specs.Prelude.{◌≡◌, List, IfOk, OnErr, Some, None};
+ghost use Rattle.lsp_verdict.specs.Counting.{AreCounts};
+ghost use Rattle.lsp_verdict.specs.Event.{Event};
+ghost use Rattle.lsp_verdict.specs.Given.{verdict_view, as_given};
+ghost use Rattle.lsp_verdict.specs.Verdict.{no_next};
 ghost use Rattle.lsp_judge.specs.Rulings.{verdict_in};
 
-use crate::verdict::{Verdict, Who};
 use lsp_frame::Memory as Refused;
 use lsp_log::LogCode;
 use lsp_rpc::Memory;
+use lsp_verdict::{Counts, Verdict, Who};
 
 /// What a judge gives from some record on: a verdict that no later record changes, or that memory
 /// was refused.
@@ -26,6 +29,20 @@ pub(crate) enum Ruling {
 }
 
 impl Ruling {
+    /// No, at the event that comes next.
+    pub(crate) fn no_next(counts: &Counts, rule: u16, who: Who) -> Ruling
+        ensures { (events : List Event) → AreCounts counts.now events
+            → verdict_in result ≡ Some (as_given (no_next rule who events)) }
+    {
+        let (number, event) = counts.next(who);
+        Ruling::No {
+            rule,
+            who,
+            number,
+            event,
+        }
+    }
+
     pub(crate) fn answer(self) -> Result<Verdict, Memory>
         ensures ok { IfOk result (λ answer. verdict_in self ≡ Some (verdict_view answer)) }
         ensures err { OnErr result (self ≡ Ruling.Memory) }

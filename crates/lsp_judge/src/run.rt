@@ -5,11 +5,11 @@ ghost use Rattle.lsp_log.specs.Log.{Record};
 ghost use Rattle.lsp_judge.specs.Logged.{AreAt, StepAnswers, LogAnswers};
 
 use crate::judge::Judge;
-use crate::verdict::Verdict;
 use lsp_frame::{Limits, Source};
 use lsp_log::LogReader;
 use lsp_rpc::Memory;
 use lsp_text::TextStore;
+use lsp_verdict::Verdict;
 use std::alloc::Global;
 
 /// Why a log got no verdict: the reader failed, or memory was refused.

@@ -2,13 +2,12 @@
 ghost use Rattle.std.specs.Prelude.{◌≡◌, ◌++◌, OnOk, string_bytes, chars};
 ghost use Rattle.lsp_docs.specs.Texts.{byte_len};
 ghost use Rattle.lsp_rpc.specs.View.{message_view};
-ghost use Rattle.lsp_judge.specs.RunIo.{Tells};
-ghost use Rattle.lsp_judge.specs.Shown.{message_line, snapshot_line};
+ghost use Rattle.lsp_verdict.specs.RunIo.{Tells};
+ghost use Rattle.lsp_verdict.specs.Shown.{message_line, snapshot_line};
 
-use crate::names::side_name;
-use crate::outcome::RunFault;
 use lsp_frame::{Sink, put_all};
 use lsp_rpc::{Memory, Message, Side, push_quoted, words_of};
+use lsp_verdict::{RunFault, side_name};
 use std::alloc::Global;
 use std::fmt::Write;
 

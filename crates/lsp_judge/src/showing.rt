@@ -1,23 +1,24 @@
 //! Hears the events of a record, and writes a line for each.
 ghost use Rattle.std.specs.Prelude.{◌≡◌, ◌<◌, ◌++◌, ◌∷◌, [], ℕ, List, true, length, chars, OnOk, IfOk, IfErr};
 ghost use Rattle.lsp_frame.specs.Decoder.{StandsFor};
-ghost use Rattle.lsp_judge.specs.Event.{Event, snapshot};
+ghost use Rattle.lsp_verdict.specs.Event.{Event, snapshot};
 ghost use Rattle.lsp_rpc.specs.View.{message_view};
 ghost use Rattle.lsp_judge.specs.Rulings.{IsNoAt};
-ghost use Rattle.lsp_judge.specs.RunIo.{Tells};
-ghost use Rattle.lsp_judge.specs.Shown.{message_line};
+ghost use Rattle.lsp_verdict.specs.RunIo.{Tells};
+ghost use Rattle.lsp_verdict.specs.Shown.{message_line};
 ghost use Rattle.lsp_judge.specs.Showing.{ShownNext, ShownAll, ShownStopped, ShowsMore, ShowsBrought, ruling_of, written};
-ghost use Rattle.lsp_judge.specs.Standing.{Follows, IsDrained};
+ghost use Rattle.lsp_judge.specs.Standing.{Follows};
+ghost use Rattle.lsp_verdict.specs.Drained.{IsDrained};
 ghost use Rattle.lsp_judge.specs.Taking.{Taken, Refused};
 
 use crate::contents::hear_next;
 use crate::events::Events;
-use crate::outcome::RunFault;
 use crate::ruling::Ruling;
 use crate::show::{write_message_line, write_snapshot_line};
 use lsp_frame::{Decoder, Memory, Sink};
 use lsp_rpc::{Message, Side};
 use lsp_text::TextStore;
+use lsp_verdict::RunFault;
 use std::alloc::Global;
 
 /// Why the events of a record were not all shown.
@@ -53,7 +54,7 @@ impl From<RunFault> for Stop {
 
 impl From<Memory> for Stop {
     ghost use Rattle.std.specs.Prelude.{◌≡◌};
-    ghost use Rattle.lsp_judge.specs.declared.outcome.RunFault.TheVariants as faults;
+    ghost use Rattle.lsp_verdict.specs.declared.outcome.RunFault.TheVariants as faults;
     ghost use Rattle.lsp_judge.specs.declared.showing.Stop.TheVariants.{Failed};
 
     ghost from_gives = { λ _ stop. stop ≡ Failed faults.Memory };

@@ -6,18 +6,18 @@ ghost use Rattle.lsp_docs.specs.Documents.{Version, held, documents};
 ghost use Rattle.lsp_docs.specs.Texts.{byte_len};
 ghost use Rattle.lsp_docs.specs.State as docs_state;
 ghost use Rattle.lsp_session.specs.State as session_state;
-ghost use Rattle.lsp_judge.specs.Event.{Event, sent_in};
-ghost use Rattle.lsp_judge.specs.Given.{document_view, requests_view, summary_view, as_given};
+ghost use Rattle.lsp_verdict.specs.Event.{Event, sent_in};
+ghost use Rattle.lsp_verdict.specs.Given.{document_view, requests_view, summary_view, as_given};
 ghost use Rattle.lsp_judge.specs.Standing.{Follows};
-ghost use Rattle.lsp_judge.specs.Verdict as spec;
-ghost use Rattle.lsp_judge.specs.Verdict.{document_of, yes};
+ghost use Rattle.lsp_verdict.specs.Verdict as spec;
+ghost use Rattle.lsp_verdict.specs.Verdict.{document_of, yes};
 
 use crate::events::Events;
-use crate::verdict::{OpenDocument, Summary};
 use lsp_docs::Docs;
 use lsp_rpc::{Memory, Side, copy_id};
 use lsp_session::{OpenRequest, Pending, Session};
 use lsp_text::TextStore;
+use lsp_verdict::{OpenDocument, Summary};
 use std::alloc::Global;
 
 /// What the events have come to.

@@ -3,14 +3,14 @@ ghost use Rattle.std.specs.Prelude.{◌≡◌, List, IfOk};
 ghost use Rattle.lsp_docs.specs.Calls.{Call};
 ghost use Rattle.lsp_docs.specs.Documents.{held};
 ghost use Rattle.lsp_docs.specs.State.{Stands};
-ghost use Rattle.lsp_judge.specs.Given.{verdict_view};
-ghost use Rattle.lsp_judge.specs.Shown.{held_answer, missing_answer};
+ghost use Rattle.lsp_verdict.specs.Given.{verdict_view};
+ghost use Rattle.lsp_verdict.specs.Shown.{held_answer, missing_answer};
 ghost use Rattle.lsp_judge.specs.TextAnswers.{answer_view};
 
-use crate::verdict::Verdict;
 use lsp_docs::Docs;
 use lsp_rpc::Memory;
 use lsp_text::TextStore;
+use lsp_verdict::Verdict;
 use std::alloc::Global;
 
 /// What is answered for the text that the server holds of a URI just after a message of the

@@ -3,22 +3,21 @@ ghost use Rattle.std.specs.Prelude.{◌≡◌, ◌⊎◌, ◌<◌, ◌+◌, ℕ,
 ghost use Rattle.std.specs.Io.KnownBytes.{Appends};
 ghost use lib.Utf8.{encodes};
 ghost use Rattle.lsp_log.specs.Log.{Record};
-ghost use Rattle.lsp_judge.specs.Given.{verdict_view};
+ghost use Rattle.lsp_verdict.specs.Given.{verdict_view};
 ghost use Rattle.lsp_judge.specs.Logged.{AreAt};
-ghost use Rattle.lsp_judge.specs.RunIo.{OfRead, GaveAtMost, AppendsFront, source_failures, sink_failures};
-ghost use Rattle.lsp_judge.specs.Shown.{text_is, no_document, too_few, refused};
-ghost use Rattle.lsp_judge.specs.TextAfter.{AnswersText};
+ghost use Rattle.lsp_verdict.specs.RunIo.{OfRead, GaveAtMost, AppendsFront, source_failures, sink_failures};
+ghost use Rattle.lsp_verdict.specs.Shown.{text_is, no_document, too_few, refused};
+ghost use Rattle.lsp_verdict.specs.TextAfter.{AnswersText};
 ghost use Rattle.lsp_judge.specs.TextAnswers.{answer_view};
 ghost use Rattle.lsp_judge.specs.TextRun.{TellsStep, reader_failures};
 
 use crate::judge::Judge;
-use crate::outcome::{Outcome, RunFault, StreamFault};
 use crate::run::JudgeFault;
 use crate::text_answer::TextAnswer;
-use crate::verdict::Verdict;
 use lsp_frame::{Limits, Sink, Source, put_all};
 use lsp_log::LogReader;
 use lsp_text::{Lined, TextStore};
+use lsp_verdict::{Outcome, RunFault, StreamFault, Verdict};
 use std::alloc::Global;
 
 /// Reads a log up to the editor's message of this number, from 1, and answers with the text that the

@@ -1,8 +1,9 @@
 //! The contents of the editor's, heard up to a message.
 ghost use Rattle.std.specs.Prelude.{◌≡◌, ◌<◌, ℕ, List, IfOk, IfErr};
 ghost use Rattle.lsp_frame.specs.Decoder.{StandsFor};
-ghost use Rattle.lsp_judge.specs.Event.{Event};
-ghost use Rattle.lsp_judge.specs.Standing.{Follows, IsDrained};
+ghost use Rattle.lsp_verdict.specs.Event.{Event};
+ghost use Rattle.lsp_judge.specs.Standing.{Follows};
+ghost use Rattle.lsp_verdict.specs.Drained.{IsDrained};
 ghost use Rattle.lsp_judge.specs.Until.{HeardUntil, StoppedBefore, TakenUntil, RefusedBefore};
 
 use crate::contents::hear_next;

@@ -2,21 +2,19 @@
 ghost use Rattle.std.specs.Prelude.{◌≡◌, ℕ, ◌+◌, List, None, Ok, IfOk, OnErr};
 ghost use Rattle.std.specs.Io.KnownBytes.{Appends};
 ghost use Rattle.lsp_log.specs.Log.{Record};
-ghost use Rattle.lsp_judge.specs.Event.{Event};
-ghost use Rattle.lsp_judge.specs.Given.{verdict_view};
+ghost use Rattle.lsp_verdict.specs.Event.{Event};
+ghost use Rattle.lsp_verdict.specs.Given.{verdict_view};
 ghost use Rattle.lsp_judge.specs.Logged.{AreAt};
-ghost use Rattle.lsp_judge.specs.Outcome.{IsVerdict};
-ghost use Rattle.lsp_judge.specs.Placed.{IsSession};
-ghost use Rattle.lsp_judge.specs.RunIo.{OfRead, GaveAtMost, source_failures, sink_failures};
+ghost use Rattle.lsp_verdict.specs.Outcome.{IsVerdict};
+ghost use Rattle.lsp_verdict.specs.Placed.{IsSession};
+ghost use Rattle.lsp_verdict.specs.RunIo.{OfRead, GaveAtMost, source_failures, sink_failures};
 ghost use Rattle.lsp_judge.specs.ShownLog.{StepShows, LogShows, IsShown, BeginsShown};
 
 use crate::judge::Judge;
-use crate::outcome::{Outcome, RunFault};
-use crate::report::report_of;
-use crate::verdict::Verdict;
 use lsp_frame::{Limits, Sink, Source, put_all};
 use lsp_log::LogReader;
 use lsp_text::{Lined, TextStore};
+use lsp_verdict::{Outcome, RunFault, Verdict, report_of};
 use std::alloc::Global;
 
 /// Reads a log up to the first event that offends, or to its end, and writes a line for each event

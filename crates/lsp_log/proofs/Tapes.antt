@@ -1,10 +1,11 @@
 -- What a tape holds after it was read into and given from.
-use Rattle.std.proofs.Common.{◌≡◌, Bool, true, false, ℕ, zero, suc, ◌+◌, ◌-◌, ◌<◌, ◌≤◌, List, [], ◌∷◌, ◌++◌, length, take, drop, Option, Some, None, refl, sym, ap, subst, ◌∙◌, append_assoc, append-nil, arith}
-use Rattle.std.specs.Io.KnownBytes.{Consumes, Keeps}
+use Rattle.std.proofs.Common.{◌≡◌, Bool, true, false, ℕ, zero, suc, ◌+◌, ◌-◌, ◌<◌, ◌≤◌, List, [], ◌∷◌, ◌++◌, length, take, drop, refl, sym, ap, subst, ◌∙◌, append_assoc, append-nil, arith}
 use Rattle.std.proofs.lemmas.List.{length-append, length-take, length-drop, take-append-le, take_at}
+use Rattle.std.proofs.lemmas.List.Edits.{take-paste}
+use Rattle.std.specs.List.{copy_within}
 use borrow.Rule.Slice.PartMut.{put_mid}
-use Rattle.lsp_frame.specs.Failures.{after_failure}
-use Rattle.lsp_frame.specs.Sink.{Told}
+use Rattle.lsp_frame.specs.Told.{Told, after_failure}
+use Rattle.lsp_frame.proofs.Telling.{gave_nothing, gave_then}
 use Rattle.memchr.specs.Find.{Passes, Nowhere, NoneBefore, is_byte}
 use Rattle.lsp_log.specs.Log.{HasLine, holds_feed}
 use Rattle.lsp_log.proofs.Bytes.{first_cut, nowhere_none}
@@ -16,21 +17,6 @@ use Rattle.std.proofs.lemmas.Map.Views.{exact_unsigned_eq}
 use Rattle.lsp_log.specs.Log.{with_feed}
 use Rattle.lsp_log.specs.Tape.{Held, Pulled, IsOver, ReadFailed, Refused, Filled, Taken, Wants, Misses}
 
-pub consumes_then : (a b c : Option (List ℕ)) (x y : List ℕ) → Consumes a b x → Consumes b c y → Consumes a c (x ++ y)
-consumes_then None b c x y p q = tt
-consumes_then (Some us) None c x y p q = absurd p
-consumes_then (Some us) (Some vs) None x y p q = absurd q
-consumes_then (Some us) (Some vs) (Some ws) x y p q = p ∙ ap (λ (w : List ℕ). x ++ w) q ∙ sym (append_assoc x y ws)
-
-pub consumes_nothing : (a : Option (List ℕ)) → Consumes a a []
-consumes_nothing None = tt
-consumes_nothing (Some x) = refl
-
-pub keeps_consumes : (a b : Option (List ℕ)) → Keeps a b → Consumes a b []
-keeps_consumes None b k = tt
-keeps_consumes (Some x) None k = k
-keeps_consumes (Some x) (Some y) k = sym k
-
 take_nothing : (n : ℕ) → take {A = ℕ} n [] ≡ []
 take_nothing zero = refl
 take_nothing (suc n) = refl
@@ -41,33 +27,33 @@ drop_take (suc count) zero xs = ap (λ n. take n (drop (suc count) xs)) (let e :
 drop_take (suc count) (suc len) [] = take_nothing (suc len - suc count)
 drop_take (suc count) (suc len) (x ∷ xs) = ap (λ n. take n (drop count xs)) (let e : suc len - suc count ≡ len - count = omega arith in e) ∙ drop_take count len xs
 
-pub skipped : (near turned : List ℕ) (len count left : ℕ) → count ≤ length (take len near) → len ≤ 64 → length near ≡ 64 → turned ≡ drop count near ++ take count near
-    → (record { rest = take (len - count) turned; left = left }) ≡ (let h : Held = record { rest = drop count (take len near); left = left } in h)
-skipped near turned len count left fits small full is =
-    ap (λ (w : List ℕ). let h : Held = record { rest = w; left = left } in h)
-    (ap (take (len - count)) is
-    ∙ take-append-le (len - count) (drop count near) (take count near) (omega (arith, length-drop count near, length-take len near, fits, small, full))
-    ∙ drop_take count len near)
+-- the bytes between two places, as a slice gives them
+pub between : (near : List ℕ) (start end : ℕ) → take (end - start) (drop start near) ≡ drop start (take end near)
+between near start end = drop_take start end near
+
+-- ... and moved to the front
+pub at_front : (near : List ℕ) (start end : ℕ) → start ≤ end → end ≤ length near → take (end - start) (copy_within near start end 0) ≡ drop start (take end near)
+at_front near start end from fits =
+    subst (λ (n : ℕ). take n (copy_within near start end 0) ≡ take (end - start) (drop start near)) (let e : 0 + (end - start) ≡ end - start = omega arith in e)
+    (take-paste near 0 (drop start near) (end - start) (omega arith) (omega (arith, length-drop start near, from, fits)))
+    ∙ between near start end
 
 -- ---- pulls
 
 pub pulled_then : (a b c : ℕ) (before now after : Told) (x y : List ℕ) → Pulled a b before now x → Pulled b c now after y → Pulled a c before after (x ++ y)
 pulled_then a b c before now after x y p q = record {
-  read = consumes_then before.bytes now.bytes after.bytes x y p.read q.read;
+  read = gave_then before now after x y p.read q.read;
   left = omega (arith, p.left, q.left, length-append x y);
   failures = q.failures ∙ p.failures;
 }
 
 pub pulled_nothing : (a : ℕ) (now : Told) → Pulled a a now now []
-pulled_nothing a now = record { read = consumes_nothing now.bytes; left = omega arith; failures = refl }
-
-pub failed_now : (before after : Told) → Keeps before.bytes after.bytes → after.failures ≡ after_failure before.failures → (left : ℕ) → ReadFailed left before after
-failed_now before after keeps failed left = record { piece = []; read = keeps_consumes before.bytes after.bytes keeps; within = omega arith; failures = failed }
+pulled_nothing a now = record { read = gave_nothing now; left = omega arith; failures = refl }
 
 pub failed_then : (a b : ℕ) (before now after : Told) (x : List ℕ) → Pulled a b before now x → ReadFailed b now after → ReadFailed a before after
 failed_then a b before now after x p f = record {
   piece = x ++ f.piece;
-  read = consumes_then before.bytes now.bytes after.bytes x f.piece p.read f.read;
+  read = gave_then before now after x f.piece p.read f.read;
   within = omega (arith, length-append x f.piece, p.left, f.within);
   failures = f.failures ∙ ap after_failure p.failures;
 }
@@ -75,7 +61,7 @@ failed_then a b before now after x p f = record {
 pub refused_then : (a b : ℕ) (before now after : Told) (x : List ℕ) → Pulled a b before now x → Refused b now after → Refused a before after
 refused_then a b before now after x p r = record {
   piece = x ++ r.piece;
-  read = consumes_then before.bytes now.bytes after.bytes x r.piece p.read r.read;
+  read = gave_then before now after x r.piece p.read r.read;
   within = omega (arith, length-append x r.piece, p.left, r.within);
   failures = r.failures ∙ p.failures;
 }
@@ -92,9 +78,6 @@ filled_then a b c before now after x y p q = record {
   pulled = pulled_then a.left b.left c.left before now after x y p.pulled q.pulled;
   rest = q.rest ∙ ap (λ (w : List ℕ). w ++ y) p.rest ∙ append_assoc a.rest x y;
 }
-
-pub filled_nothing : (a : Held) (now : Told) → Filled a a now now []
-filled_nothing a now = record { pulled = pulled_nothing a.left now; rest = sym (append-nil a.rest) }
 
 take_past : (xs ys : List ℕ) (n : ℕ) → take (length xs + n) (xs ++ ys) ≡ xs ++ take n ys
 take_past [] ys n = ap (λ k. take k ys) (omega arith)
@@ -239,16 +222,15 @@ took_all old new before after d buffer tail held len count full within near all 
       ap length written ∙ omega (arith, length-append (take held old.rest) buffer, length-take held old.rest, is, within, near),
     )
 
--- the vector begins with the front of the window
-pub same_front : (d resized extended bytes slice near filler : List ℕ) (held len window : ℕ) → d ≡ resized → resized ≡ take len extended ++ filler → extended ≡ bytes ++ slice → bytes ≡ [] → slice ≡ take held near
-    → held ≤ len → held ≤ window → window ≤ 64 → length near ≡ 64 → take held d ≡ take held (take window near)
-same_front d resized extended bytes slice near filler held len window a b c none is within inside small full =
-    let front : extended ≡ take held near = c ∙ ap (λ (w : List ℕ). w ++ slice) none ∙ is in
-    let short : length (take held near) ≡ held = omega (arith, length-take held near, inside, small, full) in
-    let all : take len (take held near) ≡ take held near = take_all len (take held near) (omega (arith, short, within)) in
+-- the vector begins with the front of what was held
+pub same_front : (d resized extended bytes slice rest filler : List ℕ) (held len : ℕ) → d ≡ resized → resized ≡ take len extended ++ filler → extended ≡ bytes ++ slice → bytes ≡ [] → slice ≡ take held rest
+    → held ≤ len → held ≤ length rest → take held d ≡ take held rest
+same_front d resized extended bytes slice rest filler held len a b c none is within inside =
+    let front : extended ≡ take held rest = c ∙ ap (λ (w : List ℕ). w ++ slice) none ∙ is in
+    let short : length (take held rest) ≡ held = omega (arith, length-take held rest, inside) in
+    let all : take len (take held rest) ≡ take held rest = take_all len (take held rest) (omega (arith, short, within)) in
     ap (take held) (a ∙ b ∙ ap (λ (w : List ℕ). take len w ++ filler) front ∙ ap (λ (w : List ℕ). w ++ filler) all)
-    ∙ take_at (take held near) filler held short
-    ∙ sym (take-take held window near inside)
+    ∙ take_at (take held rest) filler held short
 
 pub pulled_from : (a b c : ℕ) (before after : Told) (x : List ℕ) → a ≡ b → Pulled a c before after x → Pulled b c before after x
 pulled_from a b c before after x same p = subst (λ (n : ℕ). Pulled n c before after x) same p

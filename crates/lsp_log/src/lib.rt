@@ -23,6 +23,3 @@ pub use laws::{one_log, records_come_first, some_log, written_is_read};
 pub use reader::LogReader;
 pub use record::Record;
 pub use write::{write_head, write_record};
-
-#[cfg(test)]
-mod tests;

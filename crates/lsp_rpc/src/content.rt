@@ -1,6 +1,7 @@
 // From the bytes of a content to its message.
-ghost use Rattle.std.specs.Prelude.{◌≡◌, ◌&&◌, ◌∷◌, [], Some, None, true, codes, IfOk, OnOk, IfErr, not, option_map, option_and_then, string_bytes, is_some};
+ghost use Rattle.std.specs.Prelude.{◌≡◌, ◌<◌, ◌&&◌, ◌∷◌, [], Some, Err, codes, length, IfOk, IfErr, not, option_map, option_and_then, string_bytes, is_some};
 ghost use Rattle.serde_json.specs.Data.{string};
+ghost use Rattle.serde_json.specs.Errors.{IsMemory};
 ghost use Rattle.serde_json.specs.View.{view};
 ghost use Rattle.lsp_rpc.specs.Ident.{id_view};
 ghost use Rattle.lsp_rpc.specs.Message.{response};
@@ -9,82 +10,77 @@ ghost use Rattle.lsp_rpc.specs.Shape as shape;
 ghost use Rattle.lsp_rpc.specs.Shape.{as_id, is_id, unless_null, holds_unless_absent};
 ghost use Rattle.lsp_rpc.specs.Reading as reading;
 ghost use Rattle.lsp_rpc.specs.Reading.{least_broken};
-ghost use Rattle.lsp_rpc.specs.Fault.{Names, rule_unless_read};
+ghost use Rattle.lsp_rpc.specs.Fault.{IsLeast, rule_unless_read};
+ghost use Rattle.lsp_rpc.specs.declared.fault.RpcFault.TheVariants.{Rule, Memory};
 
-use crate::fault::RpcFault;
+use crate::fault::{BrokenRule, RpcFault};
 use crate::message::{Answer, Id, Message};
 use crate::parts::{Parts, parts_of};
 use crate::shape::{id_in, integer_of, is_structure, is_text};
-use serde_json::Value;
+use serde_json::{Error, Value};
 use std::alloc::Global;
 
 /// Rule 205: the value is neither an integer nor a string.
-fn id_of(value: Value) -> Result<Id, RpcFault>
+fn id_of(value: Value) -> Result<Id, BrokenRule>
     ensures ok { IfOk result (λ id. as_id (view value) ≡ Some (id_view id)) }
-    ensures rule { IfErr result (Names (rule_unless_read 205 (as_id (view value)))) }
+    ensures rule { IsLeast (rule_unless_read 205 (as_id (view value))) result }
 {
-    id_in(value).ok_or(RpcFault::Rule(205))
+    id_in(value).ok_or(BrokenRule(205))
 }
 
 /// The method, where there is one. Rule 204: it is no string.
-fn method_of(method: Option<Value>) -> Result<Option<String>, RpcFault>
+fn method_of(method: Option<Value>) -> Result<Option<String>, BrokenRule>
     ensures ok { IfOk result (λ name.
         option_map view method ≡ option_map (λ s. string (string_bytes s)) name) }
-    ensures rule { IfErr result (Names (least_broken
-        ((204, not (holds_unless_absent shape.is_string (option_map view method))) ∷ []))) }
+    ensures rule { IsLeast (least_broken
+        ((204, not (holds_unless_absent shape.is_string (option_map view method))) ∷ [])) result }
 {
     match method {
         Some(Value::String(name)) => Ok(Some(name)),
-        Some(_) => Err(RpcFault::Rule(204)),
+        Some(_) => Err(BrokenRule(204)),
         None => Ok(None),
     }
 }
 
 /// The id of a call, where there is one. Rule 205: it is neither an integer nor a string.
-fn call_id(id: Option<Value>) -> Result<Option<Id>, RpcFault>
+fn call_id(id: Option<Value>) -> Result<Option<Id>, BrokenRule>
     ensures ok { IfOk result (λ own.
         option_map id_view own ≡ option_and_then as_id (option_map view id)) }
-    ensures good { OnOk result (holds_unless_absent is_id (option_map view id) ≡ true) }
-    ensures rule { IfErr result (Names (least_broken
-        ((205, not (holds_unless_absent is_id (option_map view id))) ∷ []))) }
+    ensures rule { IsLeast (least_broken
+        ((205, not (holds_unless_absent is_id (option_map view id))) ∷ [])) result }
 {
     id.map(id_of).transpose()
 }
 
 /// The id of a response, `None` where it is null. Rule 205: it is none of an integer, a string and
 /// null. Rule 207: there is no id.
-fn response_id(id: Option<Value>) -> Result<Option<Id>, RpcFault>
+fn response_id(id: Option<Value>) -> Result<Option<Id>, BrokenRule>
     ensures ok { IfOk result (λ own.
         option_map id_view own ≡ option_and_then as_id (option_map view id)) }
-    ensures there { OnOk result (is_some id ≡ true) }
-    ensures good { OnOk result (holds_unless_absent shape.is_id_or_null (option_map view id)
-        ≡ true) }
-    ensures rule { IfErr result (Names (least_broken
+    ensures rule { IsLeast (least_broken
         ((205, not (holds_unless_absent shape.is_id_or_null (option_map view id)))
-        ∷ (207, not (is_some id)) ∷ []))) }
+        ∷ (207, not (is_some id)) ∷ [])) result }
 {
     match id {
         Some(Value::Null) => Ok(None),
         Some(id) => Ok(Some(id_of(id)?)),
-        None => Err(RpcFault::Rule(207)),
+        None => Err(BrokenRule(207)),
     }
 }
 
 /// The params, where there are any; null stands for none. Rule 206: they are neither an array, an
 /// object nor null.
-fn params_of(params: Option<Value>) -> Result<Option<Value>, RpcFault>
+fn params_of(params: Option<Value>) -> Result<Option<Value>, BrokenRule>
     ensures ok { IfOk result (λ own.
         option_map view own ≡ option_and_then unless_null (option_map view params)) }
-    ensures good { OnOk result
-        (holds_unless_absent shape.is_structure_or_null (option_map view params) ≡ true) }
-    ensures rule { IfErr result (Names (least_broken
+    ensures rule { IsLeast (least_broken
         ((206, not (holds_unless_absent shape.is_structure_or_null (option_map view params)))
-        ∷ []))) }
+        ∷ [])) result }
 {
     match params {
         Some(Value::Null) | None => Ok(None),
         Some(params) if is_structure(&params) => Ok(Some(params)),
-        Some(_) => Err(RpcFault::Rule(206)),
+        Some(_) => Err(BrokenRule(206)),
     }
 }
 
@@ -100,41 +96,33 @@ fn code_of(error: &Value) -> Option<i32>
 
 /// What a response answers. Rule 207: there is not exactly one of a result and an error. Rule 208:
 /// the error is no error object.
-fn answer_of(value: Option<Value>, error: Option<Value>) -> Result<Answer, RpcFault>
+fn answer_of(value: Option<Value>, error: Option<Value>) -> Result<Answer, BrokenRule>
     ensures ok { IfOk result (λ answer.
         reading.reply_in (option_map view value) (option_map view error)
         ≡ Some (answer_view answer)) }
-    ensures one { OnOk result
-        (reading.either (option_map view value) (option_map view error) ≡ true) }
-    ensures good { OnOk result (holds_unless_absent reading.is_error (option_map view error)
-        ≡ true) }
-    ensures rule { IfErr result (Names (least_broken
+    ensures rule { IsLeast (least_broken
         ((207, not (reading.either (option_map view value) (option_map view error)))
-        ∷ (208, not (holds_unless_absent reading.is_error (option_map view error))) ∷ []))) }
+        ∷ (208, not (holds_unless_absent reading.is_error (option_map view error))) ∷ [])) result }
 {
     match (value, error) {
         (Some(value), None) => Ok(Answer::Result(value)),
         (None, Some(error)) => {
-            let code = code_of(&error).ok_or(RpcFault::Rule(208))?;
+            let code = code_of(&error).ok_or(BrokenRule(208))?;
             Ok(Answer::Error { code })
         }
-        _ => Err(RpcFault::Rule(207)),
+        _ => Err(BrokenRule(207)),
     }
 }
 
 /// A request or a notification.
-fn call_of(method: String, id: Option<Value>, params: Option<Value>) -> Result<Message, RpcFault>
+fn call_of(method: String, id: Option<Value>, params: Option<Value>) -> Result<Message, BrokenRule>
     ensures ok { IfOk result (λ message. message_view message ≡ reading.call (string_bytes method)
         (option_and_then as_id (option_map view id))
         (option_and_then unless_null (option_map view params))) }
-    ensures keeps { OnOk result (least_broken
+    ensures rule { IsLeast (least_broken
         ((205, not (holds_unless_absent is_id (option_map view id)))
         ∷ (206, not (holds_unless_absent shape.is_structure_or_null (option_map view params)))
-        ∷ []) ≡ None) }
-    ensures rule { IfErr result (Names (least_broken
-        ((205, not (holds_unless_absent is_id (option_map view id)))
-        ∷ (206, not (holds_unless_absent shape.is_structure_or_null (option_map view params)))
-        ∷ []))) }
+        ∷ [])) result }
 {
     let id = call_id(id)?;
     let params = params_of(params)?;
@@ -148,18 +136,14 @@ fn response_of(
     id: Option<Value>,
     value: Option<Value>,
     error: Option<Value>,
-) -> Result<Message, RpcFault>
+) -> Result<Message, BrokenRule>
     ensures ok { IfOk result (λ message. Some (message_view message) ≡ option_map
         (response (option_and_then as_id (option_map view id)))
         (reading.reply_in (option_map view value) (option_map view error))) }
-    ensures keeps { OnOk result (least_broken
+    ensures rule { IsLeast (least_broken
         ((205, not (holds_unless_absent shape.is_id_or_null (option_map view id)))
         ∷ (207, not (is_some id && reading.either (option_map view value) (option_map view error)))
-        ∷ (208, not (holds_unless_absent reading.is_error (option_map view error))) ∷ []) ≡ None) }
-    ensures rule { IfErr result (Names (least_broken
-        ((205, not (holds_unless_absent shape.is_id_or_null (option_map view id)))
-        ∷ (207, not (is_some id && reading.either (option_map view value) (option_map view error)))
-        ∷ (208, not (holds_unless_absent reading.is_error (option_map view error))) ∷ []))) }
+        ∷ (208, not (holds_unless_absent reading.is_error (option_map view error))) ∷ [])) result }
 {
     let id = response_id(id)?;
     let answer = answer_of(value, error)?;
@@ -177,28 +161,25 @@ fn has_version(version: Option<Value>) -> bool
 fn versioned_method(
     version: Option<Value>,
     method: Option<Value>,
-) -> Result<Option<String>, RpcFault>
+) -> Result<Option<String>, BrokenRule>
     ensures ok { IfOk result (λ name.
         option_map view method ≡ option_map (λ s. string (string_bytes s)) name) }
-    ensures good { OnOk result
-        (shape.holds_of (shape.is_text (codes "2.0")) (option_map view version) ≡ true) }
-    ensures rule { IfErr result (Names (least_broken
+    ensures rule { IsLeast (least_broken
         ((203, not (shape.holds_of (shape.is_text (codes "2.0")) (option_map view version)))
-        ∷ (204, not (holds_unless_absent shape.is_string (option_map view method))) ∷ []))) }
+        ∷ (204, not (holds_unless_absent shape.is_string (option_map view method))) ∷ [])) result }
 {
     if has_version(version) {
         method_of(method)
     } else {
-        Err(RpcFault::Rule(203))
+        Err(BrokenRule(203))
     }
 }
 
 /// The message that the parts make. The refusal is the least rule that they break.
-pub(crate) fn assemble(parts: Parts) -> Result<Message, RpcFault>
+pub(crate) fn assemble(parts: Parts) -> Result<Message, BrokenRule>
     ensures ok { IfOk result (λ message.
         reading.message_in (parts_view parts) ≡ Some (message_view message)) }
-    ensures keeps { OnOk result (least_broken (reading.rules_on (parts_view parts)) ≡ None) }
-    ensures rule { IfErr result (Names (least_broken (reading.rules_on (parts_view parts)))) }
+    ensures rule { IsLeast (least_broken (reading.rules_on (parts_view parts))) result }
 {
     match versioned_method(parts.version, parts.method)? {
         Some(method) => call_of(method, parts.id, parts.params),
@@ -207,24 +188,45 @@ pub(crate) fn assemble(parts: Parts) -> Result<Message, RpcFault>
 }
 
 /// The message that a value is. The refusal is the least rule that it breaks.
-fn message_of(value: Value) -> Result<Message, RpcFault>
+fn message_of(value: Value) -> Result<Message, BrokenRule>
     ensures ok { IfOk result (λ message. reading.IsMessage (view value) (message_view message)) }
-    ensures rule { IfErr result (Names (reading.broken_rule (view value))) }
+    ensures rule { IsLeast (reading.broken_rule (view value)) result }
 {
     assemble(parts_of(value)?)
 }
 
+/// Why no value was read: memory was refused, or the content is no JSON text (rule 201).
+fn unread(error: &Error) -> RpcFault
+    ensures memory { IsMemory error.now → result ≡ Memory }
+    ensures rule { ¬ IsMemory error.now → result ≡ Rule 201 }
+{
+    if error.is_memory() {
+        RpcFault::Memory
+    } else {
+        RpcFault::Rule(201)
+    }
+}
+
+/// The value of a JSON text. Rule 201: the content is none.
+fn value_of(alloc: Global, content: &[u8]) -> Result<Value, RpcFault>
+    ensures ok { IfOk result (λ value. reading.IsJson content.now (view value)) }
+    ensures rule { IfErr result (reading.IsRefusal content.now) }
+    ensures memory { result ≡ Err Memory → 0 < length content.now }
+{
+    match Value::from_slice(alloc, content) {
+        Ok(value) => Ok(value),
+        Err(error) => Err(unread(&error)),
+    }
+}
+
 /// Reads a content (JSON-RPC 2.0, sections 4 and 5; LSP 3.17, Base Protocol). The refusal is the
 /// least rule that it breaks: 201 where it is no JSON text, 202 to 208 where its value is no
-/// message.
+/// message. Memory is taken for the value alone, and none for an empty content.
 pub fn read(alloc: Global, content: &[u8]) -> Result<Message, RpcFault>
     ensures ok { IfOk result (λ message. reading.Reads content.now (message_view message)) }
     ensures rule { IfErr result (reading.IsRefusal content.now) }
+    ensures memory { result ≡ Err Memory → 0 < length content.now }
 {
-    let value = match Value::from_slice(alloc, content) {
-        Ok(value) => value,
-        Err(error) if error.is_memory() => return Err(RpcFault::Memory),
-        Err(_) => return Err(RpcFault::Rule(201)),
-    };
-    message_of(value)
+    let value = value_of(alloc, content)?;
+    Ok(message_of(value)?)
 }

@@ -1,74 +1,67 @@
 // The params of the notifications on documents (LSP 3.17, Text Document Synchronization).
-ghost use Rattle.std.specs.Prelude.{◌≡◌, Some, IfOk, IfErr, string_bytes};
+ghost use Rattle.std.specs.Prelude.{◌≡◌, string_bytes};
 ghost use Rattle.serde_json.specs.View.{view};
-ghost use Rattle.lsp_rpc.specs.Fault.{Names, rule_unless_read};
+ghost use Rattle.lsp_rpc.specs.Fault.{Gives};
 ghost use Rattle.lsp_rpc.specs.Params as spec;
 ghost use Rattle.lsp_rpc.specs.View.{act_view};
 
 use crate::act::Act;
 use crate::changes::changes_of;
 use crate::fault::RpcFault;
-use crate::params::{copied_text, into_given, into_required, into_text, required, text_of};
+use crate::params::{BAD_PARAMS, copied_text, into_given, into_member, into_text, text_of};
 use crate::shape::integer_of;
 use serde_json::Value;
 use std::alloc::Global;
 
 fn uri_of(document: &Value) -> Result<String, RpcFault>
-    ensures ok { IfOk result (λ s. spec.uri_at (view document.now) ≡ Some (string_bytes s)) }
-    ensures rule { IfErr result (Names (rule_unless_read 209 (spec.uri_at (view document.now)))) }
+    ensures { Gives (λ s. string_bytes s) 209 result (spec.uri_at (view document.now)) }
 {
-    copied_text(required(document, "uri")?)
+    copied_text(document.get("uri").ok_or(BAD_PARAMS)?)
 }
 
-fn version_of(document: &Value) -> Result<i32, RpcFault>
-    ensures ok { IfOk result (λ n. spec.version_at (view document.now) ≡ Some n) }
-    ensures rule { IfErr result (Names (rule_unless_read 209
-        (spec.version_at (view document.now)))) }
+fn version_of(document: &Value) -> Option<i32>
+    ensures { result ≡ spec.version_at (view document.now) }
 {
-    integer_of(required(document, "version")?).ok_or(RpcFault::Rule(209))
+    integer_of(document.get("version")?)
 }
 
 pub(crate) fn did_open_of(params: Value) -> Result<Act, RpcFault>
-    ensures ok { IfOk result (λ act. spec.did_open_at (view params) ≡ Some (act_view act)) }
-    ensures rule { IfErr result (Names (rule_unless_read 209 (spec.did_open_at (view params)))) }
+    ensures { Gives act_view 209 result (spec.did_open_at (view params)) }
 {
-    let document = into_required(params, "textDocument")?;
-    let version = version_of(&document)?;
+    let document = into_member(params, "textDocument").ok_or(BAD_PARAMS)?;
+    let version = version_of(&document).ok_or(BAD_PARAMS)?;
     let uri = uri_of(&document)?;
-    let text = into_text(document, "text")?;
+    let text = into_text(document, "text").ok_or(BAD_PARAMS)?;
     Ok(Act::DidOpen { uri, version, text })
 }
 
 pub(crate) fn did_change_of(alloc: Global, params: Value) -> Result<Act, RpcFault>
-    ensures ok { IfOk result (λ act. spec.did_change_at (view params) ≡ Some (act_view act)) }
-    ensures rule { IfErr result (Names (rule_unless_read 209 (spec.did_change_at (view params)))) }
+    ensures { Gives act_view 209 result (spec.did_change_at (view params)) }
 {
-    let document = required(&params, "textDocument")?;
-    let version = version_of(document)?;
+    let document = params.get("textDocument").ok_or(BAD_PARAMS)?;
+    let version = version_of(document).ok_or(BAD_PARAMS)?;
     let uri = uri_of(document)?;
-    let changes = changes_of(alloc, into_required(params, "contentChanges")?)?;
+    let changes = into_member(params, "contentChanges").ok_or(BAD_PARAMS)?;
     Ok(Act::DidChange {
         uri,
         version,
-        changes,
+        changes: changes_of(alloc, changes)?,
     })
 }
 
 pub(crate) fn did_close_of(params: Value) -> Result<Act, RpcFault>
-    ensures ok { IfOk result (λ act. spec.did_close_at (view params) ≡ Some (act_view act)) }
-    ensures rule { IfErr result (Names (rule_unless_read 209 (spec.did_close_at (view params)))) }
+    ensures { Gives act_view 209 result (spec.did_close_at (view params)) }
 {
-    let uri = uri_of(required(&params, "textDocument")?)?;
+    let uri = uri_of(params.get("textDocument").ok_or(BAD_PARAMS)?)?;
     Ok(Act::DidClose { uri })
 }
 
 pub(crate) fn did_save_of(params: Value) -> Result<Act, RpcFault>
-    ensures ok { IfOk result (λ act. spec.did_save_at (view params) ≡ Some (act_view act)) }
-    ensures rule { IfErr result (Names (rule_unless_read 209 (spec.did_save_at (view params)))) }
+    ensures { Gives act_view 209 result (spec.did_save_at (view params)) }
 {
-    let uri = uri_of(required(&params, "textDocument")?)?;
+    let uri = uri_of(params.get("textDocument").ok_or(BAD_PARAMS)?)?;
     let text = match into_given(params, "text") {
-        Some(text) => Some(text_of(text)?),
+        Some(text) => Some(text_of(text).ok_or(BAD_PARAMS)?),
         None => None,
     };
     Ok(Act::DidSave { uri, text })

@@ -1,4 +1,4 @@
-ghost use Rattle.lsp_rpc.specs.declared.fault.RpcFault.TheVariants.{Memory};
+ghost use Rattle.lsp_rpc.specs.declared.fault.RpcFault.TheVariants.{Rule, Memory};
 ghost use Rattle.std.specs.Prelude.{◌≡◌};
 
 use std::alloc::{AllocError, AllocFailed};
@@ -11,6 +11,18 @@ pub enum RpcFault {
     Rule(u16),
     #[error("out of memory")]
     Memory,
+}
+
+/// The least rule that a content breaks, by its number.
+#[derive(Clone, Copy, Drop)]
+pub(crate) struct BrokenRule(pub(crate) u16);
+
+impl From<BrokenRule> for RpcFault {
+    ghost from_gives = { λ broken e. e ≡ Rule broken.0 };
+
+    fn from(broken: BrokenRule) -> RpcFault {
+        RpcFault::Rule(broken.0)
+    }
 }
 
 impl From<AllocError> for RpcFault {

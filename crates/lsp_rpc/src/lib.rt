@@ -10,8 +10,6 @@ mod act;
 mod changes;
 mod content;
 mod did_change;
-#[cfg(test)]
-mod did_change_tests;
 mod documents;
 mod edits;
 mod fault;
@@ -19,33 +17,26 @@ mod ids;
 mod initialize;
 mod laws;
 mod members;
-mod memory;
 mod message;
 mod methods;
 mod outline;
-#[cfg(test)]
-mod outline_tests;
 mod params;
 mod parts;
-mod plain;
 mod results;
 mod shape;
 mod skip;
-#[cfg(test)]
-mod tests;
 mod words;
 
-pub use act::{Act, Change, Offer, Picked, Spoken};
+pub use act::{Act, Offer, Picked, Spoken};
 pub use content::read;
 pub use fault::RpcFault;
 pub use ids::{copy_id, same_id};
 pub use laws::{
     message_breaks_no_rule, message_or_rule, one_message, one_rule, same_id_is_equality,
 };
-pub use memory::Memory;
+pub use lsp_types::{Change, Encoding, Memory, Position, Side, Span, SyncKind};
 pub use message::{Answer, Id, Message};
 pub use methods::{act_of, take_act};
 pub use outline::OutlineReader;
-pub use plain::{Encoding, Position, Side, Span, SyncKind};
 pub use results::picked_of;
 pub use words::{push_id, push_quoted, words_of};

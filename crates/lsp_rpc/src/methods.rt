@@ -1,59 +1,63 @@
 // What a message means, by its side, its kind and its method.
-ghost use Rattle.std.specs.Prelude.{◌≡◌, Some, None, IfOk, IfErr, codes, option_map};
+ghost use Rattle.std.specs.Prelude.{◌≡◌, None, codes, option_map};
 ghost use Rattle.serde_json.specs.Find.{as_str};
 ghost use Rattle.serde_json.specs.View.{view};
-ghost use Rattle.lsp_rpc.specs.Fault.{Names, rule_unless_read};
+ghost use Rattle.lsp_rpc.specs.Fault.{Gives};
+ghost use Rattle.lsp_rpc.specs.Ident.{id_view};
 ghost use Rattle.lsp_rpc.specs.Params as spec;
 ghost use Rattle.lsp_rpc.specs.Outline.{without_params};
+ghost use Rattle.lsp_rpc.specs.Shape.{as_id};
 ghost use Rattle.lsp_rpc.specs.View.{act_view, lent_view, message_view, texts_view};
 
 use crate::act::Act;
 use crate::documents::{did_change_of, did_close_of, did_open_of, did_save_of};
 use crate::fault::RpcFault;
 use crate::initialize::initialize_of;
-use crate::message::Message;
-use crate::params::{id_of, into_required, into_text, items_of, required_params};
-use crate::plain::Side;
+use crate::message::{Id, Message};
+use crate::params::{BAD_PARAMS, into_member, into_text, items_of, required_params};
+use crate::shape::id_in;
+use lsp_types::Side;
 use serde_json::Value;
 use std::alloc::Global;
 use std::borrow::Cow;
 
-fn cancel_of(params: Value) -> Result<Act, RpcFault>
-    ensures ok { IfOk result (λ act. spec.cancel_at (view params) ≡ Some (act_view act)) }
-    ensures rule { IfErr result (Names (rule_unless_read 209 (spec.cancel_at (view params)))) }
+/// The id that the member of this name is, moved out of the value.
+fn id_at(value: Value, name: &str) -> Option<Id>
+    ensures { option_map id_view result ≡ spec.required name.now as_id (view value) }
 {
-    let id = id_of(into_required(params, "id")?)?;
+    id_in(into_member(value, name)?)
+}
+
+fn cancel_of(params: Value) -> Result<Act, RpcFault>
+    ensures { Gives act_view 209 result (spec.cancel_at (view params)) }
+{
+    let id = id_at(params, "id").ok_or(BAD_PARAMS)?;
     Ok(Act::Cancel { id })
 }
 
 fn progress_of(params: Value) -> Result<Act, RpcFault>
-    ensures ok { IfOk result (λ act. spec.progress_at (view params) ≡ Some (act_view act)) }
-    ensures rule { IfErr result (Names (rule_unless_read 209
-        (spec.progress_at (view params)))) }
+    ensures { Gives act_view 209 result (spec.progress_at (view params)) }
 {
-    let token = id_of(into_required(params, "token")?)?;
+    let token = id_at(params, "token").ok_or(BAD_PARAMS)?;
     Ok(Act::Progress { token })
 }
 
 fn methods_of(alloc: Global, value: Value) -> Result<Vec<String>, RpcFault>
-    ensures ok { IfOk result (λ v. spec.array_of (spec.required (codes "method") as_str)
-        (view value) ≡ Some (texts_view v.items)) }
-    ensures rule { IfErr result (Names (rule_unless_read 209 (spec.array_of
-        (spec.required (codes "method") as_str) (view value)))) }
+    ensures { Gives (λ v. texts_view v.items) 209 result
+        (spec.array_of (spec.required (codes "method") as_str) (view value)) }
 {
     let mut found = Vec::new(alloc);
-    for item in items_of(value)? {
-        found.push(into_text(item, "method")?)?;
+    for item in items_of(value).ok_or(BAD_PARAMS)? {
+        found.push(into_text(item, "method").ok_or(BAD_PARAMS)?)?;
     }
     Ok(found)
 }
 
 fn register_of(alloc: Global, params: Value) -> Result<Act, RpcFault>
-    ensures ok { IfOk result (λ act. spec.register_at (view params) ≡ Some (act_view act)) }
-    ensures rule { IfErr result (Names (rule_unless_read 209
-        (spec.register_at (view params)))) }
+    ensures { Gives act_view 209 result (spec.register_at (view params)) }
 {
-    let methods = methods_of(alloc, into_required(params, "registrations")?)?;
+    let registrations = into_member(params, "registrations").ok_or(BAD_PARAMS)?;
+    let methods = methods_of(alloc, registrations)?;
     Ok(Act::Register { methods })
 }
 
@@ -63,12 +67,8 @@ fn editor_request(
     method: &str,
     params: Option<Cow<'_, Value>>,
 ) -> Result<Act, RpcFault>
-    ensures ok { IfOk result (λ act.
-        spec.act_by spec.editor_requests method.now (option_map lent_view params.entry)
-        ≡ Some (act_view act)) }
-    ensures rule { IfErr result (Names (rule_unless_read 209
-        (spec.act_by spec.editor_requests method.now
-        (option_map lent_view params.entry)))) }
+    ensures { Gives act_view 209 result
+        (spec.act_by spec.editor_requests method.now (option_map lent_view params.entry)) }
 {
     match method {
         "initialize" => initialize_of(alloc, required_params(params)?),
@@ -83,12 +83,8 @@ fn editor_notification(
     method: &str,
     params: Option<Cow<'_, Value>>,
 ) -> Result<Act, RpcFault>
-    ensures ok { IfOk result (λ act.
-        spec.act_by spec.editor_notifications method.now (option_map lent_view params.entry)
-        ≡ Some (act_view act)) }
-    ensures rule { IfErr result (Names (rule_unless_read 209
-        (spec.act_by spec.editor_notifications method.now
-        (option_map lent_view params.entry)))) }
+    ensures { Gives act_view 209 result
+        (spec.act_by spec.editor_notifications method.now (option_map lent_view params.entry)) }
 {
     match method {
         "initialized" => Ok(Act::Initialized),
@@ -108,12 +104,8 @@ fn server_request(
     method: &str,
     params: Option<Cow<'_, Value>>,
 ) -> Result<Act, RpcFault>
-    ensures ok { IfOk result (λ act.
-        spec.act_by spec.server_requests method.now (option_map lent_view params.entry)
-        ≡ Some (act_view act)) }
-    ensures rule { IfErr result (Names (rule_unless_read 209
-        (spec.act_by spec.server_requests method.now
-        (option_map lent_view params.entry)))) }
+    ensures { Gives act_view 209 result
+        (spec.act_by spec.server_requests method.now (option_map lent_view params.entry)) }
 {
     match method {
         "window/showMessageRequest" => Ok(Act::Early),
@@ -128,12 +120,8 @@ fn server_notification(
     method: &str,
     params: Option<Cow<'_, Value>>,
 ) -> Result<Act, RpcFault>
-    ensures ok { IfOk result (λ act.
-        spec.act_by spec.server_notifications method.now (option_map lent_view params.entry)
-        ≡ Some (act_view act)) }
-    ensures rule { IfErr result (Names (rule_unless_read 209
-        (spec.act_by spec.server_notifications method.now
-        (option_map lent_view params.entry)))) }
+    ensures { Gives act_view 209 result
+        (spec.act_by spec.server_notifications method.now (option_map lent_view params.entry)) }
 {
     match method {
         "$/cancelRequest" => cancel_of(required_params(params)?),
@@ -149,11 +137,8 @@ fn request_act(
     method: &str,
     params: Option<Cow<'_, Value>>,
 ) -> Result<Act, RpcFault>
-    ensures ok { IfOk result (λ act.
-        spec.act_by (spec.requests side) method.now (option_map lent_view params.entry)
-        ≡ Some (act_view act)) }
-    ensures rule { IfErr result (Names (rule_unless_read 209
-        (spec.act_by (spec.requests side) method.now (option_map lent_view params.entry)))) }
+    ensures { Gives act_view 209 result
+        (spec.act_by (spec.requests side) method.now (option_map lent_view params.entry)) }
 {
     match side {
         Side::Editor => editor_request(alloc, method, params),
@@ -167,11 +152,8 @@ fn notification_act(
     method: &str,
     params: Option<Cow<'_, Value>>,
 ) -> Result<Act, RpcFault>
-    ensures ok { IfOk result (λ act.
-        spec.act_by (spec.notifications side) method.now (option_map lent_view params.entry)
-        ≡ Some (act_view act)) }
-    ensures rule { IfErr result (Names (rule_unless_read 209
-        (spec.act_by (spec.notifications side) method.now (option_map lent_view params.entry)))) }
+    ensures { Gives act_view 209 result
+        (spec.act_by (spec.notifications side) method.now (option_map lent_view params.entry)) }
 {
     match side {
         Side::Editor => editor_notification(alloc, method, params),
@@ -195,10 +177,7 @@ fn take_params(params: &mut Option<Value>) -> Option<Cow<'static, Value>>
 /// not have the method's shape. A response is `Act::Other`. Params that are read are copied;
 /// [`take_act`] moves them.
 pub fn act_of(alloc: Global, message: &Message, side: Side) -> Result<Act, RpcFault>
-    ensures ok { IfOk result (λ act. spec.act_at side (message_view message.now)
-        ≡ Some (act_view act)) }
-    ensures rule { IfErr result (Names (rule_unless_read 209
-        (spec.act_at side (message_view message.now)))) }
+    ensures { Gives act_view 209 result (spec.act_at side (message_view message.now)) }
 {
     match message {
         Message::Request { method, params, .. } => {
@@ -216,10 +195,7 @@ pub fn act_of(alloc: Global, message: &Message, side: Side) -> Result<Act, RpcFa
 /// What [`act_of`] gives, with the texts moved out of the message. The message is left without its
 /// params, also where there is an error.
 pub fn take_act(alloc: Global, message: &mut Message, side: Side) -> Result<Act, RpcFault>
-    ensures ok { IfOk result (λ act. spec.act_at side (message_view message.old)
-        ≡ Some (act_view act)) }
-    ensures rule { IfErr result (Names (rule_unless_read 209
-        (spec.act_at side (message_view message.old)))) }
+    ensures gives { Gives act_view 209 result (spec.act_at side (message_view message.old)) }
     ensures rest { message_view message.new ≡ without_params (message_view message.old) }
 {
     match message {

@@ -1,5 +1,5 @@
 // The members of a message, moved out of their object.
-ghost use Rattle.std.specs.Prelude.{◌≡◌, ℕ, List, Some, None, IfOk, OnOk, IfErr, true, false, if◌then◌else◌, option_map};
+ghost use Rattle.std.specs.Prelude.{◌≡◌, ℕ, List, Some, None, IfOk, OnOk, true, false, if◌then◌else◌, option_map};
 ghost use Rattle.std.specs.Str.{bytes_eq};
 ghost use Rattle.serde_json.specs.Data.{null};
 ghost use Rattle.serde_json.specs.Find.{get_member};
@@ -7,9 +7,9 @@ ghost use Rattle.serde_json.specs.View.{view, members_view};
 ghost use Rattle.lsp_rpc.specs.Shape.{is_object};
 ghost use Rattle.lsp_rpc.specs.Reading as reading;
 ghost use Rattle.lsp_rpc.specs.View.{parts_view};
-ghost use Rattle.lsp_rpc.specs.Fault.{Names};
+ghost use Rattle.lsp_rpc.specs.Fault.{IsLeast};
 
-use crate::fault::RpcFault;
+use crate::fault::BrokenRule;
 use serde_json::{Map, Value};
 
 /// The members that a message is made of; `None` is a member that is missing.
@@ -50,13 +50,13 @@ pub(crate) fn take_member(members: &mut Map<String, Value>, name: &str) -> Optio
 }
 
 /// The parts of a value. Rule 202: it is no object.
-pub(crate) fn parts_of(value: Value) -> Result<Parts, RpcFault>
+pub(crate) fn parts_of(value: Value) -> Result<Parts, BrokenRule>
     ensures ok { IfOk result (λ parts. parts_view parts ≡ reading.parts_of (view value)) }
     ensures object { OnOk result (is_object (view value) ≡ true) }
-    ensures rule { IfErr result (Names (if is_object (view value) then None else Some 202)) }
+    ensures rule { IsLeast (if is_object (view value) then None else Some 202) result }
 {
     let Value::Object(mut members) = value else {
-        return Err(RpcFault::Rule(202));
+        return Err(BrokenRule(202));
     };
     Ok(Parts {
         version: take_member(&mut members, "jsonrpc"),

@@ -1,14 +1,15 @@
 // What the result that answers `initialize` picks.
-ghost use Rattle.std.specs.Prelude.{◌≡◌, Some, IfOk, IfErr, option_map, string_bytes};
+ghost use Rattle.std.specs.Prelude.{◌≡◌, Err, true, is_some, option_map};
 ghost use Rattle.serde_json.specs.View.{view};
 ghost use Rattle.lsp_rpc.specs.View.{picked_view};
 ghost use Rattle.lsp_rpc.specs.Results as spec;
-ghost use Rattle.lsp_rpc.specs.Fault.{Names, rule_unless_read};
+ghost use Rattle.lsp_rpc.specs.Fault.{Gives};
+ghost use Rattle.lsp_rpc.specs.declared.fault.RpcFault.TheVariants.{Memory};
 
 use crate::act::Picked;
 use crate::fault::RpcFault;
-use crate::plain::SyncKind;
 use crate::shape::{given, integer_of};
+use lsp_types::SyncKind;
 use serde_json::Value;
 use std::alloc::Global;
 
@@ -55,11 +56,10 @@ fn encoding_in(capabilities: &Value) -> Option<&str>
 }
 
 /// What the result of an `initialize` picks (LSP 3.17, InitializeResult). Rule 501: it does not
-/// have the shape.
+/// have the shape. Memory is taken only where it does.
 pub fn picked_of(alloc: Global, answer: &Value) -> Result<Picked, RpcFault>
-    ensures ok { IfOk result (λ picked. spec.picked_at (view answer.now)
-        ≡ Some (picked_view picked)) }
-    ensures rule { IfErr result (Names (rule_unless_read 501 (spec.picked_at (view answer.now)))) }
+    ensures gives { Gives picked_view 501 result (spec.picked_at (view answer.now)) }
+    ensures memory { result ≡ Err Memory → is_some (spec.picked_at (view answer.now)) ≡ true }
 {
     let bad_shape = RpcFault::Rule(501);
     let capabilities = answer.get("capabilities").ok_or(bad_shape)?;

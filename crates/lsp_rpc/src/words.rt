@@ -1,5 +1,5 @@
 // The words that name a message in a report.
-ghost use Rattle.std.specs.Prelude.{◌≡◌, ◌++◌, IfOk, OnOk, OnErr, string_bytes, codes, option_map};
+ghost use Rattle.std.specs.Prelude.{◌≡◌, ◌++◌, IfOk, OnOk, OnErr, string_bytes, option_map};
 ghost use Rattle.std.specs.Fmt.{signed_decimal};
 ghost use Rattle.json.specs.Print.{quoted};
 ghost use Rattle.lsp_rpc.specs.Ident.{id_view};
@@ -7,9 +7,9 @@ ghost use Rattle.lsp_rpc.specs.View.{message_view, answer_view};
 ghost use Rattle.lsp_rpc.specs.Message.{response};
 ghost use Rattle.lsp_rpc.specs.Words as spec;
 
-use crate::memory::Memory;
 use crate::message::{Answer, Id, Message};
 use itoa::Buffer;
+use lsp_types::Memory;
 use serde_json::Value;
 use std::alloc::Global;
 

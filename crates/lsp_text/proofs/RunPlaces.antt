@@ -5,7 +5,7 @@ use Rattle.std.proofs.lemmas.Grind.{flat_map-append}
 use Rattle.std.proofs.Math.Seq.{take-append-add, drop-append-add}
 use Rattle.std.specs.List.{flat_map, splice}
 use Rattle.std.proofs.lemmas.Bool.{cases_lt}
-use Rattle.lsp_rpc.specs.declared.plain.Encoding.TheVariants.{Utf8}
+use Rattle.lsp_types.specs.declared.position.Encoding.TheVariants.{Utf8}
 use Rattle.lsp_text.specs.Lines.{Line, text_of}
 use Rattle.lsp_text.specs.Places.{units}
 use Rattle.lsp_text.proofs.Counting.{units-append}

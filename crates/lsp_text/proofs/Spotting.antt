@@ -2,12 +2,13 @@
 use Rattle.std.proofs.Common.{◌≡◌, ◌<◌, ◌≤◌, ◌+◌, ◌-◌, ℕ, true, List, [], ◌∷◌, ◌++◌, length, take, drop, Some, refl, sym, ap, subst, ◌∙◌, arith, length-append}
 use Rattle.std.proofs.lemmas.List.{append-nil, drop_more, drop_all, take_at, drop_at, take-append-le, length-take-le, take_all}
 use Rattle.std.specs.Option.{option_map}
+use Rattle.std.specs.List.{slice_range}
 use Rattle.std.specs.Str.{chars, IsUtf8, IsCharBoundary}
 use Rattle.std.proofs.lemmas.Str.{encodes-append, chars-encodes, IsUtf8-take, IsUtf8-drop, IsCharBoundary-at_seam, IsCharBoundary-end}
 use lib.Utf8.{encodes, scalars}
-use Rattle.lsp_rpc.specs.declared.plain.Encoding.{Encoding}
-use Rattle.lsp_rpc.specs.declared.plain.Encoding.TheVariants.{Utf8}
-use Rattle.lsp_rpc.specs.declared.plain.Position.{Position}
+use Rattle.lsp_types.specs.declared.position.Encoding.{Encoding}
+use Rattle.lsp_types.specs.declared.position.Encoding.TheVariants.{Utf8}
+use Rattle.lsp_types.specs.declared.position.Position.{Position}
 use Rattle.lsp_text.specs.Lines.{Line, open_line, spelled, text_of, lines_of}
 use Rattle.lsp_text.specs.Places.{units, place_of, place_at, place_in_line}
 use Rattle.lsp_text.specs.Offsets.{IsOffset}
@@ -35,6 +36,14 @@ line_before-some t i some lt =
     let n : i - (i - 1) ≡ 1 = omega arith in
     let here : drop (i - 1) ls ≡ line_at (i - 1) t ∷ drop (i - 1 + 1) ls = drop_more ls (i - 1) (open_line []) (omega arith) in
     ap (λ x. text_of (take x (drop (i - 1) ls))) n ∙ ap (λ (x : List Line). text_of (take 1 x)) here ∙ append-nil (spelled (line_at (i - 1) t))
+
+-- the text of one line
+pub one_line : (t : List ℕ) (i : ℕ) → i < length (lines_of t) → text_of (slice_range (lines_of t) i (i + 1)) ≡ spelled (line_at i t)
+one_line t i lt =
+    let ls = lines_of t in
+    let n : i + 1 - i ≡ 1 = omega arith in
+    let here : drop i ls ≡ line_at i t ∷ drop (i + 1) ls = drop_more ls i (open_line []) lt in
+    ap (λ x. text_of (take x (drop i ls))) n ∙ ap (λ (x : List Line). text_of (take 1 x)) here ∙ append-nil (spelled (line_at i t))
 
 last_from : (front : List Line) (l : Line) → drop (length (front ++ l ∷ []) - 1) (front ++ l ∷ []) ≡ l ∷ []
 last_from front l = drop_at front (l ∷ []) (length (front ++ l ∷ []) - 1) (omega (arith, length-append front (l ∷ [])))

@@ -7,7 +7,7 @@ use Rattle.std.specs.Str.{chars, IsUtf8, IsCharBoundary}
 use Rattle.std.proofs.lemmas.Str.{encodes-append, chars-encodes, IsCharBoundary-at_seam, IsUtf8-append, IsUtf8-take, IsUtf8-drop, encodes-chars, scalars-chars}
 use lib.Utf8.{encodes, scalars, scalar}
 use Rattle.std.proofs.lemmas.Bool.{and_parts, and_from}
-use Rattle.lsp_rpc.specs.declared.plain.Encoding.TheVariants.{Utf8, Utf16, Utf32}
+use Rattle.lsp_types.specs.declared.position.Encoding.TheVariants.{Utf8, Utf16, Utf32}
 use Rattle.lsp_text.specs.Lines.{Line, open_line, spelled, text_of, lines_of}
 use Rattle.lsp_text.specs.Places.{units}
 use Rattle.lsp_text.specs.Rewriting.{with_text}

@@ -1,6 +1,6 @@
 -- What always holds of kept lines.
 use Rattle.std.specs.Prelude.{◌≡◌, ◌<◌, ◌^◌, length}
-use Rattle.lsp_rpc.specs.declared.plain.Encoding.TheVariants.{Utf8}
+use Rattle.lsp_types.specs.declared.position.Encoding.TheVariants.{Utf8}
 use Rattle.lsp_text.specs.Lines.{lines_of, text_of}
 use Rattle.lsp_text.specs.Places.{units}
 use Rattle.lsp_text.specs.Runs.{joined_runs}

@@ -1,7 +1,7 @@
 -- What a lent piece stands for.
 use Rattle.std.specs.Prelude.{◌≡◌, take, drop, length}
 use Rattle.std.specs.Str.{chars, IsUtf8, IsCharBoundary}
-use Rattle.lsp_rpc.specs.declared.plain.Encoding.TheVariants.{Utf16}
+use Rattle.lsp_types.specs.declared.position.Encoding.TheVariants.{Utf16}
 use Rattle.lsp_text.specs.Lines.{Line}
 use Rattle.lsp_text.specs.Places.{units}
 use Rattle.lsp_text.specs.declared.lined.lent.LentPiece.TheInside.{Inside}

@@ -2,7 +2,7 @@
 use Rattle.std.specs.Prelude.{◌≡◌, ◌+◌, ◌-◌, ℕ, true, List, [], ◌∷◌, length, take, drop, map}
 use Rattle.std.specs.Str.{chars}
 use lib.Utf8.{encodes, scalars}
-use Rattle.lsp_rpc.specs.declared.plain.Encoding.TheVariants.{Utf8, Utf16}
+use Rattle.lsp_types.specs.declared.position.Encoding.TheVariants.{Utf8, Utf16}
 use Rattle.lsp_text.specs.Lines.{Line, spelled, text_of}
 use Rattle.lsp_text.specs.Places.{units}
 use Rattle.lsp_text.specs.declared.lined.short.LineCounts.{LineCounts}

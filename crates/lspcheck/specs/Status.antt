@@ -1,10 +1,10 @@
 -- The exit statuses.
 use Rattle.std.specs.Prelude.{ℕ, Result, Ok, Err}
-use Rattle.lsp_judge.specs.declared.outcome.Outcome.{Outcome}
-use Rattle.lsp_judge.specs.declared.outcome.Outcome.TheVariants.{Done, Judged, Stream, NoDocument, TooFew}
-use Rattle.lsp_judge.specs.declared.outcome.RunFault.{RunFault}
-use Rattle.lsp_judge.specs.declared.outcome.RunFault.TheVariants.{Read, Write, Memory}
-use Rattle.lsp_judge.specs.declared.verdict.Verdict.TheVariants.{Yes, No, BadLog}
+use Rattle.lsp_verdict.specs.declared.outcome.Outcome.{Outcome}
+use Rattle.lsp_verdict.specs.declared.outcome.Outcome.TheVariants.{Done, Judged, Stream, NoDocument, TooFew}
+use Rattle.lsp_verdict.specs.declared.outcome.RunFault.{RunFault}
+use Rattle.lsp_verdict.specs.declared.outcome.RunFault.TheVariants.{Read, Write, Memory}
+use Rattle.lsp_verdict.specs.declared.verdict.Verdict.TheVariants.{Yes, No, BadLog}
 
 -- 0 yes or done, 1 no, 2 a bad log or a bad stream, 3 a read or write fault, 4 out of memory, 5 no such document or too few messages
 abbrev pub status_of : Result Outcome RunFault → ℕ

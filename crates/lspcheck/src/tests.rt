@@ -1,127 +1,63 @@
-//! Worked streams and sessions through the runs, over readers and writers that give and take little.
-mod check;
-mod command;
-mod frames;
-mod hostile;
-mod logs;
-mod sessions;
+//! Command lines, and what they ask for.
+use crate::command::{Request, request_of};
+use std::alloc::Global;
+use std::test::*;
 
-use super::*;
+/// Words behind the program's name, and behind ` = ` the task and the file, or the status where there
+/// is nothing to run.
+const LINES: &str = r#"check = Check None
+check a.log = Check Some("a.log")
+check - = Check Some("-")
+check a b = 64
+show a.log = Show Some("a.log")
+text 1 file:///a = Text { number: 1, uri: "file:///a" } None
+text +3 file:///a a.log = Text { number: 3, uri: "file:///a" } Some("a.log")
+text 003 file:///a = Text { number: 3, uri: "file:///a" } None
+text 1099511627776 u = Text { number: 1099511627776, uri: "u" } None
+text 1099511627777 u = 64
+text 0 u = 64
+text -1 u = 64
+text x u = 64
+text 1 = 64
+normal = Normal None
+normal a.log = Normal Some("a.log")
+normal --as lengths = 64
+frames = Frames(Lengths) None
+frames --as canonical = Frames(Canonical) None
+frames --as kinds a.bin = Frames(Kinds) Some("a.bin")
+frames --as other = 64
+frames --as kinds --as kinds = 64
+other = 64
+help = 0
+--help = 0
+text --help = 0"#;
 
-/// A reader that gives so many bytes a call at most, and whose calls fail once none is left.
-#[derive(Drop)]
-struct Pieces<'a> {
-    rest: &'a [u8],
-    most: usize,
-    calls_left: u64,
-}
-
-impl<'a> Pieces<'a> {
-    /// A reader whose calls don't fail.
-    fn new(rest: &'a [u8], most: usize) -> Pieces<'a> {
-        Pieces {
-            rest,
-            most,
-            calls_left: u64::MAX,
-        }
+/// The words of a line, the program's name first.
+fn words_in(alloc: Global, line: &str) -> Result<Vec<String>, Fail> {
+    let mut words = Vec::new(alloc);
+    words.push(String::from_str(alloc, "lspcheck")?)?;
+    for word in line.split_whitespace() {
+        words.push(String::from_str(alloc, word)?)?;
     }
+    Ok(words)
 }
 
-impl Read for Pieces<'_> {
-    ghost use Rattle.std.specs.Prelude.{None};
+/// What these words ask for, as text.
+fn asked_by(alloc: Global, line: &str) -> Result<String, Fail> {
+    let words = words_in(alloc, line)?;
+    Ok(match request_of(alloc, words.as_slice()) {
+        Ok(Request { task, file }) => format!(in alloc; "{task:?} {file:?}")?,
+        Err(error) if error.use_stderr() => String::from_str(alloc, "64")?,
+        Err(_) => String::from_str(alloc, "0")?,
+    })
+}
 
-    ghost remaining = { λ _. None };
-
-    fn read(&mut self, buf: &mut [u8]) -> io::Result<usize> {
-        if self.calls_left == 0 {
-            return Err(io::Error::from(io::ErrorKind::Other));
-        }
-        self.calls_left -= 1;
-        let most = buf.len().min(self.most);
-        self.rest.read(&mut buf[..most])
+#[test]
+fn command_lines(rt: HostRuntime) -> Result<(), Fail> {
+    for row in LINES.lines() {
+        let (line, wanted) = row.split_once(" = ").ok_or("no answer")?;
+        assert_eq!(rt; asked_by(rt.alloc(), line)?.as_str(), wanted, "{line}");
     }
-}
-
-/// A reader that gives these bytes and fails in place of its end.
-#[derive(Drop)]
-struct Broken<'a> {
-    rest: &'a [u8],
-}
-
-impl Read for Broken<'_> {
-    ghost use Rattle.std.specs.Prelude.{None};
-
-    ghost remaining = { λ _. None };
-
-    fn read(&mut self, buf: &mut [u8]) -> io::Result<usize> {
-        if self.rest.is_empty() {
-            return Err(io::Error::from(io::ErrorKind::Other));
-        }
-        self.rest.read(buf)
-    }
-}
-
-/// A reader without an end: its first bytes, and then others over and over.
-#[derive(Drop)]
-struct Endless<'a> {
-    rest: &'a [u8],
-    again: &'a [u8],
-    given: u64,
-}
-
-impl<'a> Endless<'a> {
-    fn new(first: &'a [u8], again: &'a [u8]) -> Endless<'a> {
-        Endless {
-            rest: first,
-            again,
-            given: 0,
-        }
-    }
-}
-
-impl Read for Endless<'_> {
-    ghost use Rattle.std.specs.Prelude.{None};
-
-    ghost remaining = { λ _. None };
-
-    fn read(&mut self, buf: &mut [u8]) -> io::Result<usize> {
-        if self.rest.is_empty() {
-            self.rest = self.again;
-        }
-        let count = self.rest.read(buf)?;
-        self.given = self.given.wrapping_add(count as u64);
-        Ok(count)
-    }
-}
-
-/// A writer that takes one byte a call, and whose calls fail once none is left, or take nothing.
-#[derive(Drop)]
-struct Sparing {
-    bytes: Vec<u8>,
-    calls_left: u64,
-    takes_nothing: bool,
-}
-
-impl Write for Sparing {
-    ghost use Rattle.std.specs.Prelude.{Some};
-
-    ghost contents = { λ w. Some w.bytes.items };
-
-    fn write(&mut self, buf: &[u8]) -> io::Result<usize> {
-        if self.calls_left == 0 {
-            if self.takes_nothing {
-                return Ok(0);
-            }
-            return Err(io::Error::from(io::ErrorKind::Other));
-        }
-        self.calls_left -= 1;
-        if buf.is_empty() {
-            return Ok(0);
-        }
-        self.bytes.write(&buf[..1])
-    }
-
-    fn flush(&mut self) -> io::Result<()> {
-        Ok(())
-    }
+    assert_eq!(rt; asked_by(rt.alloc(), "")?.as_str(), "64");
+    Ok(())
 }

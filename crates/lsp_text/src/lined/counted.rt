@@ -10,7 +10,7 @@ ghost use lib.Utf8.{encodes};
 
 use super::lent::LentPiece;
 use crate::counts::measure;
-use lsp_rpc::Encoding;
+use lsp_types::Encoding;
 use std::alloc::{AllocError, Global};
 use std::marker::Model;
 

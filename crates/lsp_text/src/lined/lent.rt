@@ -13,7 +13,7 @@ use super::counted::CountedLine;
 use super::pieced::{chars_in, find, push_bodies};
 use crate::columns::offset_in_counted;
 use crate::counts::measure;
-use lsp_rpc::Encoding;
+use lsp_types::Encoding;
 use std::alloc::AllocError;
 use std::marker::Model;
 

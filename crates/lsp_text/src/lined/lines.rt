@@ -14,7 +14,7 @@ use super::run::SharedRun;
 use super::runs::{
     bytes_between, chars_of, count_after, count_in, joined, locate, put, share_all, spell,
 };
-use lsp_rpc::{Encoding, Position};
+use lsp_types::{Encoding, Position};
 use std::alloc::{AllocError, Global};
 use std::marker::Model;
 

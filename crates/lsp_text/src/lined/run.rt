@@ -14,7 +14,7 @@ use super::lent::LentLine;
 use super::pieced::PiecedLine;
 use super::short::{LentLines, ShortLines};
 use crate::counts::measure;
-use lsp_rpc::Encoding;
+use lsp_types::Encoding;
 use std::alloc::{AllocError, Global};
 use std::marker::Model;
 use std::rc::Rc;

@@ -9,7 +9,7 @@ ghost use Rattle.lsp_text.specs.Places.{units};
 ghost use Rattle.lsp_text.specs.Runs.{joined_runs, IsPlaceInRuns};
 
 use super::run::SharedRun;
-use lsp_rpc::Encoding;
+use lsp_types::Encoding;
 use std::alloc::{AllocError, Global};
 
 /// The run that a line is in, and its number there.

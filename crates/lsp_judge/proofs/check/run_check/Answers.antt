@@ -1,9 +1,9 @@
 use Rattle.std.proofs.Common.{◌∙◌}
-use Rattle.lsp_judge.specs.declared.verdict.Verdict.TheVariants.{Yes, No, BadLog}
-use Rattle.lsp_judge.specs.Given.{verdict_view}
+use Rattle.lsp_verdict.specs.declared.verdict.Verdict.TheVariants.{Yes, No, BadLog}
+use Rattle.lsp_verdict.specs.Given.{verdict_view}
 use Rattle.lsp_judge.proofs.Answering.{as_read, read_map, read_verdict, front_of, clean_yes}
-use Rattle.lsp_judge.proofs.LogEnds.{yes_at_end}
-use Rattle.lsp_judge.proofs.Meanings.{yes_means_kept, no_names, bad_log_has}
+use Rattle.lsp_verdict.proofs.LogEnds.{yes_at_end}
+use Rattle.lsp_verdict.proofs.Meanings.{yes_means_kept, no_names, bad_log_has}
 use Rattle.lsp_judge.proofs.check.run_check.Goals as goal
 
 pub returns-in_err-put_all-clause-write_fault : goal.returns-in_err-put_all-clause-write_fault

@@ -12,7 +12,7 @@ returns-in_err-message-in-Ok-Some-clause-no g c =
 pub returns-in-Err-clause-no : goal.returns-in-Err-clause-no
 returns-in-Err-clause-no g c = λ bytes contents so_far stands follows.
     let next = rw c.in-Err.is at c.next.follows.holds-at-none in
-    fault_next c.args.side bytes contents so_far _ _ _ _ _ _ c.who_of.result c.no.result stands follows next c.who_of.ensures c.no.ensures
+    fault_next c.args.side bytes contents so_far _ _ _ _ _ _ c.who_of.result c.no_next.result stands follows next c.who_of.ensures c.no_next.ensures
 
 pub returns-in_ok-message-in-Ok-Some-clause-ok : goal.returns-in_ok-message-in-Ok-Some-clause-ok
 returns-in_ok-message-in-Ok-Some-clause-ok g c = λ bytes contents so_far stands follows.

@@ -3,8 +3,9 @@ use Rattle.lsp_frame.specs.Bounds.{Bounds}
 use Rattle.lsp_frame.specs.Decoder.{State}
 use Rattle.lsp_judge.specs.Taking.{Stopped}
 use Rattle.lsp_judge.proofs.Bringing.{taken, refused}
-use Rattle.lsp_judge.proofs.Tails.{on_ok, if_err, pushed_limits}
+use Rattle.lsp_judge.proofs.Tails.{on_ok, if_err}
 use Rattle.lsp_judge.proofs.contents.take_bytes.Goals as goal
+use Rattle.lsp_verdict.proofs.Drained.{pushed_limits}
 
 pub returns-clause-ok : goal.returns-clause-ok
 returns-clause-ok g c =

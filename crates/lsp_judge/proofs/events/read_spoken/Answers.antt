@@ -13,7 +13,7 @@ pub returns-in_err-act-clause-rule : goal.returns-in_err-act-clause-rule
 returns-in_err-act-clause-rule c =
     let p = err_from_is_err_and c.from_residual-in_err-act.result c.from_residual-in_err-act.ensures.1 in
     let whole = c.in_ok-message.ensures.ok in
-    rw p.1 (λ limit events. rw p.2 (params_refused _ _ limit events whole.0 _ whole.1 (params_named c.args.side (message_view c.in_ok-message.message) whole.0 _ whole.2.same c.in_err-act.ensures.rule)))
+    rw p.1 (λ limit events. rw p.2 (params_refused _ _ limit events whole.0 _ whole.1 (params_named c.args.side (message_view c.in_ok-message.message) whole.0 _ whole.2.same c.in_err-act.ensures.gives)))
 
 pub returns-clause-ok : goal.returns-clause-ok
 returns-clause-ok c =
@@ -24,5 +24,5 @@ returns-clause-ok c =
       reads = whole.1;
       apart = whole.2;
       rest = c.in_ok-act.ensures.rest;
-      means = c.in_ok-act.ensures.ok;
+      means = c.in_ok-act.ensures.gives;
     }

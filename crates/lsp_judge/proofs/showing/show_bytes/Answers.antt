@@ -3,8 +3,9 @@ use Rattle.std.proofs.lemmas.Result.{err_from_is_err_and}
 use Rattle.lsp_frame.specs.Decoder.{State}
 use Rattle.lsp_judge.proofs.Bringing.{taken}
 use Rattle.lsp_judge.proofs.ShownBytes.{nothing_brought, all_shown, all_refused}
-use Rattle.lsp_judge.proofs.Tails.{on_ok, if_err, pushed_limits}
+use Rattle.lsp_judge.proofs.Tails.{on_ok, if_err}
 use Rattle.lsp_judge.proofs.showing.show_bytes.Goals as goal
+use Rattle.lsp_verdict.proofs.Drained.{pushed_limits}
 
 pub returns-in_err-push-clause-shown : goal.returns-in_err-push-clause-shown
 returns-in_err-push-clause-shown g c =

@@ -1,6 +1,6 @@
 use Rattle.std.proofs.Common.{◌≡◌, ℕ, List, length}
 use Rattle.lsp_frame.specs.Decoder.{StandsFor}
-use Rattle.lsp_judge.specs.Event.{Event}
+use Rattle.lsp_verdict.specs.Event.{Event}
 use Rattle.lsp_judge.specs.Standing.{Follows}
 use Rattle.lsp_judge.proofs.Showings.{ShownSoFar}
 use Rattle.lsp_judge.proofs.showing.show_contents.Given as goal

@@ -2,8 +2,8 @@ use Rattle.std.proofs.Common.{◌≡◌, List, map, take}
 use Rattle.lsp_docs.specs.Calls.{Call}
 use Rattle.lsp_docs.specs.Documents.{documents}
 use Rattle.lsp_docs.specs.State as docs_state
-use Rattle.lsp_judge.specs.Given.{document_view}
-use Rattle.lsp_judge.specs.Verdict.{document_of}
+use Rattle.lsp_verdict.specs.Given.{document_view}
+use Rattle.lsp_verdict.specs.Verdict.{document_of}
 use Rattle.lsp_judge.proofs.summary.open_documents.Given as goal
 
 abbrev pub invariant-loop-index : goal.invariant-loop-index

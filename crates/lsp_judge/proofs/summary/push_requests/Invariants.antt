@@ -1,5 +1,5 @@
 use Rattle.std.proofs.Common.{◌≡◌, ◌++◌, map, take}
-use Rattle.lsp_judge.specs.Given.{requests_view}
+use Rattle.lsp_verdict.specs.Given.{requests_view}
 use Rattle.lsp_judge.proofs.summary.push_requests.Given as goal
 
 abbrev pub invariant-loop-index : goal.invariant-loop-index

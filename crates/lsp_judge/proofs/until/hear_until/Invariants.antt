@@ -1,6 +1,6 @@
 use Rattle.std.proofs.Common.{◌≡◌, ℕ, List, length}
 use Rattle.lsp_frame.specs.Decoder.{StandsFor}
-use Rattle.lsp_judge.specs.Event.{Event}
+use Rattle.lsp_verdict.specs.Event.{Event}
 use Rattle.lsp_judge.specs.Standing.{Follows}
 use Rattle.lsp_judge.proofs.Untils.{HeardSoFar}
 use Rattle.lsp_judge.proofs.until.hear_until.Given as goal

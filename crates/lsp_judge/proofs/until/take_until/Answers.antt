@@ -3,8 +3,9 @@ use Rattle.lsp_frame.specs.Bounds.{Bounds}
 use Rattle.lsp_frame.specs.Decoder.{State}
 use Rattle.lsp_judge.specs.Until.{StoppedBefore}
 use Rattle.lsp_judge.proofs.Fronts.{taken_until, refused_before}
-use Rattle.lsp_judge.proofs.Tails.{if_ok, if_err, pushed_limits}
+use Rattle.lsp_judge.proofs.Tails.{if_ok, if_err}
 use Rattle.lsp_judge.proofs.until.take_until.Goals as goal
+use Rattle.lsp_verdict.proofs.Drained.{pushed_limits}
 
 pub returns-clause-ok : goal.returns-clause-ok
 returns-clause-ok g c =

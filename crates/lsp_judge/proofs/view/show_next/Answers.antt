@@ -1,6 +1,6 @@
 use Rattle.std.proofs.Common.{refl}
 use Rattle.std.proofs.lemmas.Result.{err_from_is_err_and}
-use Rattle.lsp_judge.specs.declared.outcome.RunFault.TheVariants as faults
+use Rattle.lsp_verdict.specs.declared.outcome.RunFault.TheVariants as faults
 use Rattle.lsp_judge.proofs.ShownSteps.{record_shows, end_showed, bad_showed, fault_showed}
 use Rattle.lsp_judge.proofs.view.show_next.Goals as goal
 

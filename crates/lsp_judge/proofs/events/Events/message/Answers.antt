@@ -1,8 +1,9 @@
 use Rattle.std.proofs.Common.{sym, subst, ◌∙◌}
-use Rattle.lsp_judge.specs.Contents.{ReadsAs}
-use Rattle.lsp_judge.specs.Event.{Event, message}
-use Rattle.lsp_judge.specs.Standing.{AreCounts, Refuses}
-use Rattle.lsp_judge.specs.declared.counts.Counts.{Counts}
+use Rattle.lsp_verdict.specs.Contents.{ReadsAs}
+use Rattle.lsp_verdict.specs.Event.{Event, message}
+use Rattle.lsp_judge.specs.Standing.{Refuses}
+use Rattle.lsp_verdict.specs.Counting.{AreCounts}
+use Rattle.lsp_verdict.specs.declared.counts.Counts.{Counts}
 use Rattle.lsp_judge.proofs.Following.{whose_content, follows_on, ruled, ruled_some}
 use Rattle.lsp_judge.proofs.events.Events.message.Goals as goal
 
@@ -27,5 +28,5 @@ returns-in-Err-Rule-clause-no g c = λ events follows.
     let h = rw c.in-Err-Rule.field-0-is at told in
     let whose = whose_content c.args.side c.args.content.now h.0 h.1 ∙ sym c.who_of-in-Err-Rule.ensures in
     let counted = subst (λ (w : Counts). AreCounts w events) (sym c.in-Err-Rule.ensures.counts) follows.counted in
-    ruled_some limit events (ReadsAs c.args.side c.args.content.now) h.0 c.no.result h.1
-    (ruled limit events h.0 c.in-Err-Rule.rule c.who_of-in-Err-Rule.result c.no.result h.2 whose (c.no.ensures events counted))
+    ruled_some limit events (ReadsAs c.args.side c.args.content.now) h.0 c.no_next.result h.1
+    (ruled limit events h.0 c.in-Err-Rule.rule c.who_of-in-Err-Rule.result c.no_next.result h.2 whose (c.no_next.ensures events counted))

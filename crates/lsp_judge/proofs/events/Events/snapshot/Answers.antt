@@ -3,8 +3,8 @@ use Rattle.std.proofs.lemmas.Int.{to_z-of_z}
 use mir.Val.{SFits}
 use Rattle.lsp_docs.specs.Rules.{call_rule}
 use Rattle.lsp_docs.specs.Calls.{shows}
-use Rattle.lsp_judge.specs.Calls.{calls}
-use Rattle.lsp_judge.specs.Event.{snapshot}
+use Rattle.lsp_verdict.specs.Calls.{calls}
+use Rattle.lsp_verdict.specs.Event.{snapshot}
 use Rattle.lsp_judge.specs.Faults.{Names}
 use Rattle.lsp_judge.proofs.Following.{call_named, shown_holds, follows_on, ruled}
 use Rattle.lsp_judge.proofs.events.Events.snapshot.Goals as goal
@@ -32,4 +32,4 @@ returns-in-Rule-clause-no g c = λ events follows.
     let named : Names (call_rule old.docs.limit (calls events) (shows uri c.args.version text)) c.from.result =
     rw c.from.ensures (call_named _ _ (rule (calls events) follows.holds.called)) in
     let breaks = rw c.in-Rule.is at named in
-    ruled old.docs.limit events (snapshot uri c.args.version text) c.in-Rule.rule _ c.no.result breaks refl (c.no.ensures events follows.counted)
+    ruled old.docs.limit events (snapshot uri c.args.version text) c.in-Rule.rule _ c.no_next.result breaks refl (c.no_next.ensures events follows.counted)

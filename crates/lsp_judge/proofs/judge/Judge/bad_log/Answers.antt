@@ -1,8 +1,8 @@
 use Rattle.std.proofs.Common.{ap, sym, ◌∙◌, Some}
-use Rattle.lsp_judge.specs.Given.{verdict_view}
+use Rattle.lsp_verdict.specs.Given.{verdict_view}
 use Rattle.lsp_judge.specs.Rulings.{verdict_in}
 use Rattle.lsp_judge.specs.Standing.{State}
-use Rattle.lsp_judge.specs.Verdict.{no}
+use Rattle.lsp_verdict.specs.Verdict.{no}
 use Rattle.lsp_judge.proofs.Answering.{given_names, open_none}
 use Rattle.lsp_judge.proofs.Finals.{given_final, log_final}
 use Rattle.lsp_judge.proofs.judge.Judge.bad_log.Goals as goal

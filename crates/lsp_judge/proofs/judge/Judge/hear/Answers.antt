@@ -2,8 +2,8 @@ use Rattle.std.proofs.Common.{refl, w32, rules}
 use Rattle.std.proofs.lemmas.Int.{to_z-of_z}
 use Rattle.std.specs.Prelude.{string_bytes}
 use mir.Val.{SFits}
-use Rattle.lsp_rpc.specs.declared.plain.Side.TheVariants.{Editor, Server}
-use Rattle.lsp_judge.specs.Placed.{joined}
+use Rattle.lsp_types.specs.declared.side.Side.TheVariants.{Editor, Server}
+use Rattle.lsp_verdict.specs.Placed.{joined}
 use Rattle.lsp_judge.proofs.Records.{editor_taken, server_taken, shown_taken, bytes_rule, shown_rule}
 use Rattle.lsp_judge.proofs.Tails.{on_ok, if_err}
 use Rattle.lsp_judge.proofs.judge.Judge.hear.Goals as goal

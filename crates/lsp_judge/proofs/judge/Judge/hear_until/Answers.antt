@@ -1,9 +1,9 @@
 use Rattle.std.proofs.Common.{refl, sym, ap}
 use Rattle.std.specs.Prelude.{option_map}
 use Rattle.std.proofs.lemmas.Result.{err_from_is_err_and}
-use Rattle.lsp_rpc.specs.declared.plain.Side.TheVariants.{Editor}
+use Rattle.lsp_types.specs.declared.side.Side.TheVariants.{Editor}
 use Rattle.lsp_log.specs.Records.{record_view}
-use Rattle.lsp_judge.specs.Placed.{joined}
+use Rattle.lsp_verdict.specs.Placed.{joined}
 use Rattle.lsp_judge.proofs.RecordsUntil.{bytes_until, bytes_rules, beside_of, beside_until, beside_rules}
 use Rattle.lsp_judge.proofs.Tails.{if_ok, if_err}
 use Rattle.lsp_judge.proofs.judge.Judge.hear_until.Goals as goal

@@ -3,7 +3,7 @@ use Rattle.std.specs.List.{replace_range}
 use Rattle.std.specs.Str.{chars, IsCharBoundary}
 use Rattle.std.specs.String.{string_bytes}
 use lib.Utf8.{encodes}
-use Rattle.lsp_rpc.specs.declared.plain.Encoding.TheVariants.{Utf8, Utf16}
+use Rattle.lsp_types.specs.declared.position.Encoding.TheVariants.{Utf8, Utf16}
 use Rattle.lsp_text.specs.Lines.{Line, open_line, spelled, text_of}
 use Rattle.lsp_text.specs.Places.{units}
 use Rattle.lsp_text.specs.Rewriting.{with_text}

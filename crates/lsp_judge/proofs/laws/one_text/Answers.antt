@@ -1,5 +1,0 @@
-use Rattle.lsp_judge.proofs.TextLogs as proved
-use Rattle.lsp_judge.proofs.laws.one_text.Goals as goal
-
-pub returns : goal.returns
-returns c = proved.one_text

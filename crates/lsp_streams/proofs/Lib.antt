@@ -1,0 +1,17 @@
+pub mod StreamPartsLemmas
+pub mod StreamFound
+pub mod StreamsDue
+pub mod StreamRuns
+pub mod StreamEndings
+pub mod StreamOutputs
+pub mod NormalPieces
+pub mod NormalForms
+pub mod NormalContents
+pub mod NormalBringing
+pub mod NormalRecords
+pub mod NormalCounts
+pub mod NormalOne
+pub mod NormalLogs
+pub mod NormalRows
+pub mod NormalAgain
+pub mod NormalVerdict

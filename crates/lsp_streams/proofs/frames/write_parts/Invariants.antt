@@ -1,0 +1,15 @@
+use Rattle.std.proofs.Common.{◌-◌, ◌+◌}
+use Rattle.lsp_streams.proofs.StreamRuns.{SoFar}
+use Rattle.lsp_streams.proofs.frames.write_parts.Given as goal
+
+abbrev pub invariant-loop-messages : goal.invariant-loop-messages
+invariant-loop-messages g l =
+    SoFar l.fn.limits l.fn.mode
+    (g.R.Source.told l.fn.reader)
+    (g.R.Source.told l.reader)
+    (g.W.Sink.told l.fn.writer)
+    (g.W.Sink.told l.writer)
+    l.decoder l.given l.read
+
+abbrev pub decreases-loop-messages : goal.decreases-loop-messages
+decreases-loop-messages g l = l.log + 1 - l.read

@@ -1,0 +1,105 @@
+-- The normal form of a log: each content as its canonical frame, in records that are full but for the last, and each snapshot as it is.
+use Rattle.std.specs.Prelude.{◌≡◌, ℕ, ◌+◌, List, [], ◌∷◌, ◌++◌, length, map, filter, Bool, true, false, Option, Some, None}
+use Rattle.std.specs.Int.{div_ceil}
+use Rattle.std.specs.List.{flat_map}
+use Rattle.std.specs.Option.{option_or}
+use Rattle.std.specs.Simd.{first_chunks}
+use Rattle.lsp_frame.specs.Bounds.{Bounds}
+use Rattle.lsp_frame.specs.Sink.{canonical}
+use Rattle.lsp_types.specs.declared.side.Side.{Side}
+use Rattle.lsp_types.specs.declared.side.Side.TheVariants.{Editor, Server}
+use Rattle.lsp_session.specs.Sent.{same_side}
+use Rattle.lsp_log.specs.declared.fault.LogCode.{LogCode}
+use Rattle.lsp_log.specs.Log.{Record, chunk, shown, first_line, spelling, IsLog}
+use Rattle.lsp_verdict.specs.declared.outcome.Outcome.{Outcome}
+use Rattle.lsp_verdict.specs.declared.outcome.Outcome.TheVariants.{Done, Judged, Stream, NoDocument, TooFew}
+use Rattle.lsp_verdict.specs.Given.{verdict_view}
+use Rattle.lsp_verdict.specs.LookBack.{first_of}
+use Rattle.lsp_verdict.specs.Outcome.{HasRest, ending}
+use Rattle.lsp_verdict.specs.Placed.{Raw, content, broken, show, Placed, joined}
+use Rattle.lsp_verdict.specs.Verdict.{Verdict, no, Ending, who_of, bad_log_of}
+
+-- ---- what is written
+
+-- the bytes in pieces of this size, the last of which may be shorter
+abbrev pub cut : ℕ → List ℕ → List (List ℕ)
+cut size bytes = first_chunks size (div_ceil (length bytes) size) bytes
+
+-- bytes of a side as records that are full at this size but for the last
+abbrev pub chunks : ℕ → Side → List ℕ → List Record
+chunks size side bytes = map (chunk side) (cut size bytes)
+
+-- the records of the events up to the first fault of the frames
+abbrev pub records_of : ℕ → List Raw → List Record
+records_of size [] = []
+records_of size (content side bytes ∷ raws) = chunks size side (canonical bytes) ++ records_of size raws
+records_of size (show number uri text ∷ raws) = shown number uri text ∷ records_of size raws
+records_of size (broken side rule ∷ raws) = []
+
+-- the first line, and these records
+abbrev pub form_of : ℕ → List Raw → List ℕ
+form_of size raws = first_line ++ flat_map spelling (records_of size raws)
+
+-- ---- how it ends
+
+abbrev pub is_of : Side → Raw → Bool
+is_of side (content by bytes) = same_side side by
+is_of side (broken by rule) = same_side side by
+is_of side (show number uri text) = false
+
+-- No by this rule at the event that comes next, with the number that the side's next message has
+abbrev pub no_next : ℕ → Side → List Raw → Verdict
+no_next rule side before = no rule (who_of side) (length (filter (is_of side) before) + 1) (length before + 1)
+
+abbrev pub no_at : List Raw → Raw → Option Verdict
+no_at before (content side bytes) = None
+no_at before (broken side rule) = Some (no_next rule side before)
+no_at before (show number uri text) = None
+
+-- No at the first fault of the frames
+abbrev pub first_broken : List Raw → Option Verdict
+first_broken raws = first_of no_at raws
+
+-- 107 where bytes are left that are no whole frame, the editor's first
+abbrev pub rest_of : List Raw → Bool → Bool → Option Verdict
+rest_of raws true server = Some (no_next 107 Editor raws)
+rest_of raws false true = Some (no_next 107 Server raws)
+rest_of raws false false = None
+
+-- the first by place: a fault of the frames, a fault of the log, a rest
+abbrev pub fault_of : List Raw → Ending → Option Verdict
+fault_of raws end = option_or (first_broken raws) (option_or (bad_log_of end.log_fault) (rest_of raws end.editor_rest end.server_rest))
+
+-- ---- the normal form of a log
+
+-- **the normal form of a log**: its events up to the first fault of the frames, and the fault that ends it, or none
+pub record IsNormal (limits : Bounds) (log out : List ℕ) (fault : Option Verdict) : Type 0 where
+  pub records : List Record
+  pub log_fault : Option (ℕ × LogCode)
+  pub raws : List Raw
+  pub editor : List ℕ
+  pub server : List ℕ
+  pub is_log : IsLog limits log records log_fault
+  pub placed : Placed limits records raws
+  pub editor_rest : HasRest limits (joined Editor records) editor
+  pub server_rest : HasRest limits (joined Server records) server
+  pub ends : fault_of raws (ending log_fault editor server) ≡ fault
+  pub written : out ≡ form_of limits.chunk raws
+
+-- ---- a run
+
+-- the outcome carries the fault as its verdict
+abbrev pub Carries : Outcome → Option Verdict → Type 0
+Carries Done fault = fault ≡ None
+Carries (Judged v) fault = fault ≡ Some (verdict_view v)
+Carries (Stream frame fault) _ = ⊥
+Carries NoDocument fault = ⊥
+Carries TooFew fault = ⊥
+
+-- this is the normal form of the log, and the outcome carries the fault that ends it, if any
+abbrev pub EndsNormal : Bounds → List ℕ → List ℕ → Outcome → Type 0
+EndsNormal limits log out outcome = (fault : Option Verdict) × IsNormal limits log out fault × Carries outcome fault
+
+-- the normal form of the log begins with these bytes
+abbrev pub BeginsNormal : Bounds → List ℕ → List ℕ → Type 0
+BeginsNormal limits log written = (out : List ℕ) (fault : Option Verdict) → IsNormal limits log out fault → (left : List ℕ) × (out ≡ written ++ left)

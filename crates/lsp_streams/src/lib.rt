@@ -1,0 +1,16 @@
+//! The runs that judge nothing: the frames of one raw stream, and the normal form of a log.
+#![tactic(auto)]
+
+mod frames;
+mod normal;
+mod normal_laws;
+mod pieces;
+mod stream_laws;
+
+pub use frames::run_frames;
+pub use normal::run_normal;
+pub use normal_laws::{
+    normal_form_keeps_events, normal_form_keeps_verdict, normal_form_stays, one_normal_form,
+    some_normal_form,
+};
+pub use stream_laws::{one_run, some_run};

@@ -1,0 +1,5 @@
+use Rattle.lsp_verdict.proofs.InterleavingStages as proved
+use Rattle.lsp_verdict.proofs.interleaving_laws.handshake_in_turn.Goals as goal
+
+pub returns : goal.returns
+returns c = proved.in_each_order

@@ -1,0 +1,40 @@
+-- The verdicts of the code, in the words of the definitions.
+use Rattle.std.specs.Prelude.{List, map, string_bytes}
+use Rattle.lsp_types.specs.declared.side.Side.{Side}
+use Rattle.lsp_session.specs.Entry.{Entry, request_view}
+use Rattle.lsp_session.specs.declared.pending.OpenRequest.{OpenRequest}
+use Rattle.lsp_docs.specs.State.{capped}
+use Rattle.lsp_verdict.specs.declared.verdict.OpenDocument.{OpenDocument}
+use Rattle.lsp_verdict.specs.declared.verdict.Summary as code
+use Rattle.lsp_verdict.specs.declared.verdict.Verdict as verdict
+use Rattle.lsp_verdict.specs.declared.verdict.Verdict.TheVariants as verdicts
+use Rattle.lsp_verdict.specs.Verdict.{Document, Summary, Verdict, yes, no, bad_log}
+
+abbrev pub document_view : OpenDocument → Document
+document_view d = record { uri = string_bytes d.uri; number = d.version; bytes = d.bytes }
+
+abbrev pub requests_view : List (Side × OpenRequest) → List (Side × Entry)
+requests_view requests = map (λ r. (r.0, request_view r.1)) requests
+
+abbrev pub summary_view : code.Summary → Summary
+summary_view s = record {
+  editor = s.editor;
+  server = s.server;
+  snapshots = s.snapshots;
+  unmatched = s.unmatched;
+  encoding = s.encoding;
+  sync = s.sync;
+  documents = map document_view s.documents.items;
+  requests = requests_view s.requests.items;
+}
+
+abbrev pub verdict_view : verdict.Verdict → Verdict
+verdict_view (verdicts.Yes s) = yes (summary_view s)
+verdict_view (verdicts.No rule who count event) = no rule who count event
+verdict_view (verdicts.BadLog at fault) = bad_log at fault
+
+-- a verdict with its counts as the code gives them
+abbrev pub as_given : Verdict → Verdict
+as_given (yes s) = yes (record s { editor = capped s.editor; server = capped s.server; snapshots = capped s.snapshots; unmatched = capped s.unmatched })
+as_given (no rule who count event) = no rule who (capped count) (capped event)
+as_given (bad_log at fault) = bad_log (capped at) fault

@@ -1,0 +1,69 @@
+-- The report of a verdict.
+use Rattle.std.specs.Prelude.{ℕ, List, [], ◌∷◌, ◌++◌, Bool, true, false, Option, Some, None, codes, decimal}
+use Rattle.std.specs.List.{flat_map}
+use Rattle.std.specs.Fmt.{signed_decimal}
+use Rattle.json.specs.Print.{quoted}
+use Rattle.lsp_rpc.specs.Words.{id_text}
+use Rattle.lsp_types.specs.declared.side.Side.{Side}
+use Rattle.lsp_types.specs.declared.side.Side.TheVariants.{Editor, Server}
+use Rattle.lsp_types.specs.declared.position.Encoding.{Encoding}
+use Rattle.lsp_types.specs.declared.position.Encoding.TheVariants.{Utf8, Utf16, Utf32}
+use Rattle.lsp_types.specs.declared.change.SyncKind.{SyncKind}
+use Rattle.lsp_types.specs.declared.change.SyncKind.TheVariants.{Nothing, Full, Incremental}
+use Rattle.lsp_session.specs.Entry.{Entry}
+use Rattle.lsp_verdict.specs.declared.verdict.Who.{Who}
+use Rattle.lsp_verdict.specs.declared.verdict.Who.TheVariants as who
+use Rattle.lsp_verdict.specs.Texts.{text_of, code_name, code_text}
+use Rattle.lsp_verdict.specs.Verdict.{Document, Summary, Verdict, yes, no, bad_log}
+
+-- words with a space between each two, and a LF
+abbrev pub line : List (List ℕ) → List ℕ
+line [] = 10 ∷ []
+line (w ∷ []) = w ++ 10 ∷ []
+line (w ∷ x ∷ ws) = w ++ 32 ∷ line (x ∷ ws)
+
+abbrev pub side_name : Side → List ℕ
+side_name Editor = codes "editor"
+side_name Server = codes "server"
+
+abbrev pub who_name : Who → List ℕ
+who_name who.Editor = codes "editor"
+who_name who.Server = codes "server"
+who_name who.Snapshot = codes "snapshot"
+
+abbrev pub encoding_name : Option Encoding → List ℕ
+encoding_name None = codes "-"
+encoding_name (Some Utf8) = codes "utf-8"
+encoding_name (Some Utf16) = codes "utf-16"
+encoding_name (Some Utf32) = codes "utf-32"
+
+abbrev pub kind_name : Option SyncKind → List ℕ
+kind_name None = codes "-"
+kind_name (Some Nothing) = codes "none"
+kind_name (Some Full) = codes "full"
+kind_name (Some Incremental) = codes "incremental"
+
+abbrev pub document_line : Document → List ℕ
+document_line d = line (codes "document" ∷ signed_decimal d.number ∷ decimal d.bytes ∷ quoted d.uri ∷ [])
+
+abbrev pub cancelled_word : Bool → List (List ℕ)
+cancelled_word true = codes "cancelled" ∷ []
+cancelled_word false = []
+
+abbrev pub request_line : Side × Entry → List ℕ
+request_line (side, r) = line (codes "request" ∷ side_name side ∷ id_text r.id ∷ quoted r.method ∷ cancelled_word r.cancelled)
+
+-- what was counted, and what was agreed
+abbrev pub count_lines : Summary → List ℕ
+count_lines s =
+    line (codes "messages" ∷ decimal s.editor ∷ decimal s.server ∷ [])
+    ++ line (codes "snapshots" ∷ decimal s.snapshots ∷ codes "unmatched" ∷ decimal s.unmatched ∷ [])
+    ++ line (codes "encoding" ∷ encoding_name s.encoding ∷ codes "sync" ∷ kind_name s.sync ∷ [])
+
+-- the report of a verdict
+abbrev pub report : Verdict → List ℕ
+report (yes s) =
+    line (codes "yes" ∷ []) ++ count_lines s ++ flat_map document_line s.documents ++ flat_map request_line s.requests
+report (no rule who count event) =
+    line (codes "no" ∷ decimal rule ∷ who_name who ∷ decimal count ∷ codes "event" ∷ decimal event ∷ []) ++ line (text_of rule ∷ [])
+report (bad_log at code) = line (codes "bad" ∷ codes "log" ∷ code_name code ∷ codes "record" ∷ decimal at ∷ []) ++ line (code_text code ∷ [])

@@ -1,0 +1,71 @@
+-- What a run reads and writes, and how its failures count.
+use Rattle.std.specs.Prelude.{◌≡◌, ℕ, ◌+◌, ◌≤◌, List, [], ◌++◌, length, Bool, true, Result, Ok, Err}
+use Rattle.std.specs.Io.KnownBytes.{IsAtEnd}
+use Rattle.lsp_frame.specs.Bounds.{Bounds}
+use Rattle.lsp_frame.specs.Sink.{Wrote, Stopped}
+use Rattle.lsp_frame.specs.Told.{Told, Gave, Took, after_failure}
+use Rattle.lsp_verdict.specs.declared.outcome.Outcome.{Outcome}
+use Rattle.lsp_verdict.specs.declared.outcome.RunFault.{RunFault}
+use Rattle.lsp_verdict.specs.declared.outcome.RunFault.TheVariants as faults
+
+-- what a source gave, which is no more than one byte past the limit, and whether its end was met
+pub record HasRead (limits : Bounds) (before after : Told) (bytes : List ℕ) (ended : Bool) : Type 0 where
+  pub gave : Gave before after bytes
+  pub no_further : length bytes ≤ limits.log + 1
+  pub end : ended ≡ true → IsAtEnd after.bytes
+
+-- the stream begins with the bytes read, and is no more than they where its end was met
+abbrev pub GoesOn : List ℕ → Bool → List ℕ → Type 0
+GoesOn bytes ended stream = (more : List ℕ) × (stream ≡ bytes ++ more) × (ended ≡ true → more ≡ [])
+
+-- this holds of the stream read, however it goes on where its end was not met
+pub record OfRead (limits : Bounds) (before after : Told) (Holds : List ℕ → Type 0) : Type 0 where
+  pub bytes : List ℕ
+  pub ended : Bool
+  pub read : HasRead limits before after bytes ended
+  pub holds : (stream : List ℕ) → GoesOn bytes ended stream → Holds stream
+
+-- a source gave at most so many bytes
+abbrev pub GaveAtMost : ℕ → Told → Told → Type 0
+GaveAtMost most before after = (bytes : List ℕ) × Gave before after bytes × (length bytes ≤ most)
+
+-- a prefix of these bytes is written
+abbrev pub AppendsFront : Told → Told → List ℕ → Type 0
+AppendsFront old new due = (front : List ℕ) × (back : List ℕ) × (due ≡ front ++ back) × Took old new front
+
+-- these bytes are written, or after a write fault a prefix of them, or for want of memory none
+abbrev pub Tells : Told → Told → List ℕ → Result (Unit {0}) RunFault → Type 0
+Tells old new bytes (Ok u) = Wrote old new bytes
+Tells old new bytes (Err faults.Write) = Stopped old new bytes
+Tells old new bytes (Err faults.Memory) = new ≡ old
+Tells old new bytes (Err faults.Read) = ⊥
+
+-- a prefix of these bytes is written, and no write failed
+pub record WroteSome (old new : Told) (due : List ℕ) : Type 0 where
+  pub front : List ℕ
+  pub back : List ℕ
+  pub whole : due ≡ front ++ back
+  pub wrote : Wrote old new front
+
+-- these bytes are written, or after a write fault or for want of memory a prefix of them
+abbrev pub TellsSome : Told → Told → List ℕ → Result (Unit {0}) RunFault → Type 0
+TellsSome old new bytes (Ok u) = Wrote old new bytes
+TellsSome old new bytes (Err faults.Write) = Stopped old new bytes
+TellsSome old new bytes (Err faults.Memory) = WroteSome old new bytes
+TellsSome old new bytes (Err faults.Read) = ⊥
+
+-- ---- failures
+
+-- a source has failed once more after a read fault, and no more after anything else
+abbrev pub source_failures : Result Outcome RunFault → ℕ → ℕ
+source_failures (Err faults.Read) before = after_failure before
+source_failures (Err faults.Write) before = before
+source_failures (Err faults.Memory) before = before
+source_failures (Ok outcome) before = before
+
+-- a sink has failed once more after a write fault, and no more after anything else
+abbrev pub sink_failures : Result Outcome RunFault → ℕ → ℕ
+sink_failures (Err faults.Write) before = after_failure before
+sink_failures (Err faults.Read) before = before
+sink_failures (Err faults.Memory) before = before
+sink_failures (Ok outcome) before = before

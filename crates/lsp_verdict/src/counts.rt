@@ -1,0 +1,61 @@
+//! How many events there were.
+ghost use Rattle.std.specs.Prelude.{◌≡◌, ◌++◌, ◌∷◌, [], ℕ, List};
+ghost use Rattle.lsp_verdict.specs.Counting.{AreCounts};
+ghost use Rattle.lsp_verdict.specs.Event.{Event};
+ghost use Rattle.lsp_verdict.specs.Given.{as_given};
+ghost use Rattle.lsp_verdict.specs.Verdict.{no, no_next, whose};
+
+use crate::verdict::Who;
+
+/// How many events there were, whose they were, and in all; each at most 2^64 - 1.
+#[derive(Clone, Copy, Debug, PartialEq, Eq)]
+pub struct Counts {
+    /// Messages and faults of the editor.
+    pub editor: u64,
+    /// Messages and faults of the server.
+    pub server: u64,
+    /// Snapshots.
+    pub snapshots: u64,
+    /// All of these.
+    pub all: u64,
+}
+
+impl Counts {
+    /// The counts of no events.
+    pub fn new() -> Counts
+        ensures { AreCounts result [] }
+    {
+        Counts {
+            editor: 0,
+            server: 0,
+            snapshots: 0,
+            all: 0,
+        }
+    }
+
+    /// One more event.
+    pub fn add(&mut self, by: Who)
+        ensures { (events : List Event) (event : Event) → AreCounts self.old events → whose event ≡ by
+            → AreCounts self.new (events ++ event ∷ []) }
+    {
+        match by {
+            Who::Editor => self.editor = self.editor.saturating_add(1),
+            Who::Server => self.server = self.server.saturating_add(1),
+            Who::Snapshot => self.snapshots = self.snapshots.saturating_add(1),
+        }
+        self.all = self.all.saturating_add(1);
+    }
+
+    /// The numbers of the event that comes next, from 1: among those of `by`, and among all.
+    pub fn next(&self, by: Who) -> (u64, u64)
+        ensures { (rule : ℕ) (events : List Event) → AreCounts self.now events
+            → no rule by result.0 result.1 ≡ as_given (no_next rule by events) }
+    {
+        let before = match by {
+            Who::Editor => self.editor,
+            Who::Server => self.server,
+            Who::Snapshot => self.snapshots,
+        };
+        (before.saturating_add(1), self.all.saturating_add(1))
+    }
+}

@@ -1,0 +1,29 @@
+//! What a recorded session is, and what the verdict on it means: its events, which of them offends,
+//! and the reports of what is found.
+//!
+//! Nothing is read or judged here. The definitions say which events the records of a log bring, which
+//! of them offends by which rule, and so which verdict a log has; the laws say what the verdicts mean.
+#![tactic(auto)]
+
+mod counts;
+mod interleaving_laws;
+mod laws;
+mod names;
+mod outcome;
+mod report;
+mod texts;
+mod verdict;
+
+pub use counts::Counts;
+pub use interleaving_laws::{
+    both_yes_agree, handshake_in_turn, only_order_offends, sessions_are_read,
+};
+pub use laws::{
+    bad_log_means_fault, cuts_dont_matter, cuts_leave_verdict, events_are_streams, events_first,
+    kept_means_yes, no_names_the_first, offence_decides, one_session, one_text, one_verdict,
+    some_final, some_session, some_verdict, yes_means_kept,
+};
+pub use names::side_name;
+pub use outcome::{Mode, Outcome, RunFault, StreamFault};
+pub use report::{report_of, stream_report};
+pub use verdict::{OpenDocument, Summary, Verdict, Who, who_of};

@@ -1,0 +1,100 @@
+//! What is asked of a run, and how it ends.
+use crate::verdict::Verdict;
+use lsp_frame::WriteFault;
+use lsp_rpc::Memory;
+use std::alloc::AllocError;
+use thiserror::Error;
+
+/// What a run writes for the frames of a stream.
+#[derive(Clone, Copy, Debug, PartialEq, Eq)]
+pub enum Mode {
+    /// A line for each frame: its number, from 1, and the bytes of its content.
+    Lengths,
+    /// Each content behind the one canonical header part.
+    Canonical,
+    /// A line for each frame: its number, the bytes of its content, and the words that name its
+    /// message.
+    Kinds,
+}
+
+/// What is wrong with a stream.
+#[derive(Clone, Copy, Debug, PartialEq, Eq)]
+pub enum StreamFault {
+    /// A frame, or the rest of the stream, breaks this rule.
+    Rule(u16),
+    /// The stream is longer than the limit, and its bytes up to there have no other fault.
+    TooLong,
+}
+
+/// How a run ended that met no fault of reading, writing or memory.
+#[derive(Drop)]
+pub enum Outcome {
+    /// All that was asked for was written, and nothing was wrong with it.
+    Done,
+    /// The session has this verdict.
+    Judged(Verdict),
+    /// The frame of this number, from 1, has the fault.
+    Stream { frame: u64, fault: StreamFault },
+    /// No document of the URI is open at the place that was asked for.
+    NoDocument,
+    /// The editor sent fewer messages than were asked for.
+    TooFew,
+}
+
+/// Why a run stopped before its end.
+#[derive(Clone, Copy, Debug, PartialEq, Eq, Error)]
+pub enum RunFault {
+    /// The source failed.
+    #[error("read fault")]
+    Read,
+    /// The sink failed.
+    #[error("write fault")]
+    Write,
+    /// Memory was refused.
+    #[error("out of memory")]
+    Memory,
+}
+
+impl From<lsp_frame::Memory> for RunFault {
+    ghost use Rattle.std.specs.Prelude.{◌≡◌};
+    ghost use Rattle.lsp_verdict.specs.declared.outcome.RunFault.TheVariants as faults;
+
+    ghost from_gives = { λ _ fault. fault ≡ faults.Memory };
+
+    fn from(_memory: lsp_frame::Memory) -> RunFault {
+        RunFault::Memory
+    }
+}
+
+impl From<Memory> for RunFault {
+    ghost use Rattle.std.specs.Prelude.{◌≡◌};
+    ghost use Rattle.lsp_verdict.specs.declared.outcome.RunFault.TheVariants as faults;
+
+    ghost from_gives = { λ _ fault. fault ≡ faults.Memory };
+
+    fn from(_memory: Memory) -> RunFault {
+        RunFault::Memory
+    }
+}
+
+impl From<AllocError> for RunFault {
+    ghost use Rattle.std.specs.Prelude.{◌≡◌};
+    ghost use Rattle.lsp_verdict.specs.declared.outcome.RunFault.TheVariants as faults;
+
+    ghost from_gives = { λ _ fault. fault ≡ faults.Memory };
+
+    fn from(_error: AllocError) -> RunFault {
+        RunFault::Memory
+    }
+}
+
+impl From<WriteFault> for RunFault {
+    ghost use Rattle.std.specs.Prelude.{◌≡◌};
+    ghost use Rattle.lsp_verdict.specs.declared.outcome.RunFault.TheVariants as faults;
+
+    ghost from_gives = { λ _ fault. fault ≡ faults.Write };
+
+    fn from(_fault: WriteFault) -> RunFault {
+        RunFault::Write
+    }
+}

@@ -1,0 +1,174 @@
+//! Reports: what is printed of a verdict, and of a fault of a stream.
+ghost use Rattle.std.specs.Prelude.{◌≡◌, ◌++◌, IfOk, OnOk, string_bytes, map};
+ghost use Rattle.std.specs.List.{flat_map};
+ghost use Rattle.lsp_session.specs.Entry.{request_view};
+ghost use Rattle.lsp_verdict.specs.Given.{document_view, summary_view, verdict_view};
+ghost use Rattle.lsp_verdict.specs.Report.{count_lines, document_line, request_line, report};
+ghost use Rattle.lsp_verdict.specs.StreamReport.{two_lines, stream_report};
+ghost use Rattle.lsp_verdict.specs.Verdict.{yes, no, bad_log};
+
+use crate::names::{encoding_name, kind_name, side_name, who_name};
+use crate::outcome::StreamFault;
+use crate::texts::{code_name, code_text, text_of};
+use crate::verdict::{OpenDocument, Summary, Verdict, Who};
+use itoa::Buffer;
+use lsp_log::LogCode;
+use lsp_rpc::{Memory, Side, push_id, push_quoted};
+use lsp_session::OpenRequest;
+use std::alloc::Global;
+use std::fmt::Write;
+
+fn two_lines(alloc: Global, code: &str, frame: u64, text: &str) -> Result<Vec<u8>, Memory>
+    ensures { IfOk result (λ report. report.items ≡ two_lines code.now frame text.now) }
+{
+    let report = format!(in alloc; "fault {code} frame {frame}\n{text}\n")?;
+    Ok(report.into_bytes())
+}
+
+/// The two lines that tell the fault of a frame: its code and the frame's number, and the rule's
+/// fixed text. A rule without a text has an empty second line.
+pub fn stream_report(alloc: Global, frame: u64, fault: StreamFault) -> Result<Vec<u8>, Memory>
+    ensures { IfOk result (λ report. report.items ≡ stream_report frame fault) }
+{
+    match fault {
+        StreamFault::Rule(rule) => {
+            let mut digits = Buffer::new();
+            two_lines(alloc, digits.format(rule), frame, text_of(rule))
+        }
+        StreamFault::TooLong => {
+            two_lines(alloc, code_name(LogCode::L6), frame, code_text(LogCode::L6))
+        }
+    }
+}
+
+fn push_document(alloc: Global, report: &mut String, document: &OpenDocument) -> Result<(), Memory>
+    ensures { OnOk result (string_bytes report.new
+        ≡ string_bytes report.old ++ document_line (document_view document.now)) }
+{
+    let OpenDocument {
+        uri,
+        version,
+        bytes,
+    } = document;
+    write!(report, "document {version} {bytes} ")?;
+    push_quoted(alloc, report, uri.as_str())?;
+    Ok(report.push_str("\n")?)
+}
+
+fn push_request(
+    alloc: Global,
+    report: &mut String,
+    side: Side,
+    request: &OpenRequest,
+) -> Result<(), Memory>
+    ensures { OnOk result (string_bytes report.new
+        ≡ string_bytes report.old ++ request_line (side, request_view request.now)) }
+{
+    let name = side_name(side);
+    write!(report, "request {name} ")?;
+    push_id(alloc, report, &request.id)?;
+    report.push_str(" ")?;
+    push_quoted(alloc, report, request.method.as_str())?;
+    let end = if request.cancelled {
+        " cancelled\n"
+    } else {
+        "\n"
+    };
+    Ok(report.push_str(end)?)
+}
+
+fn push_documents(
+    alloc: Global,
+    report: &mut String,
+    documents: &[OpenDocument],
+) -> Result<(), Memory>
+    ensures { OnOk result (string_bytes report.new
+        ≡ string_bytes report.old ++ flat_map document_line (map document_view documents.now)) }
+{
+    for document in documents {
+        push_document(alloc, report, document)?;
+    }
+    Ok(())
+}
+
+fn push_requests(
+    alloc: Global,
+    report: &mut String,
+    requests: &[(Side, OpenRequest)],
+) -> Result<(), Memory>
+    ensures { OnOk result (string_bytes report.new ≡ string_bytes report.old
+        ++ flat_map request_line (map (λ r. (r.0, request_view r.1)) requests.now)) }
+{
+    for (side, request) in requests {
+        push_request(alloc, report, *side, request)?;
+    }
+    Ok(())
+}
+
+fn push_counts(report: &mut String, summary: &Summary) -> Result<(), Memory>
+    ensures { OnOk result (string_bytes report.new
+        ≡ string_bytes report.old ++ count_lines (summary_view summary.now)) }
+{
+    let Summary {
+        editor,
+        server,
+        snapshots,
+        unmatched,
+        ..
+    } = summary;
+    let encoding = encoding_name(summary.encoding);
+    let sync = kind_name(summary.sync);
+    writeln!(report, "messages {editor} {server}")?;
+    writeln!(report, "snapshots {snapshots} unmatched {unmatched}")?;
+    writeln!(report, "encoding {encoding} sync {sync}")?;
+    Ok(())
+}
+
+fn summary_report(alloc: Global, summary: &Summary) -> Result<Vec<u8>, Memory>
+    ensures { IfOk result (λ bytes. bytes.items ≡ report (yes (summary_view summary.now))) }
+{
+    let mut report = String::from_str(alloc, "yes\n")?;
+    push_counts(&mut report, summary)?;
+    push_documents(alloc, &mut report, summary.documents.as_slice())?;
+    push_requests(alloc, &mut report, summary.requests.as_slice())?;
+    Ok(report.into_bytes())
+}
+
+fn no_report(alloc: Global, rule: u16, who: Who, number: u64, event: u64) -> Result<Vec<u8>, Memory>
+    ensures { IfOk result (λ bytes. bytes.items ≡ report (no rule who number event)) }
+{
+    let name = who_name(who);
+    let text = text_of(rule);
+    let report = format!(in alloc; "no {rule} {name} {number} event {event}\n{text}\n")?;
+    Ok(report.into_bytes())
+}
+
+fn bad_log_report(alloc: Global, number: u64, fault: LogCode) -> Result<Vec<u8>, Memory>
+    ensures { IfOk result (λ bytes. bytes.items ≡ report (bad_log number fault)) }
+{
+    let code = code_name(fault);
+    let text = code_text(fault);
+    let report = format!(in alloc; "bad log {code} record {number}\n{text}\n")?;
+    Ok(report.into_bytes())
+}
+
+/// The report of a verdict, a line feed behind each line.
+///
+/// Of Yes: what was counted and agreed, a line for each document that is open, in order of opening,
+/// and one for each open request, the editor's first; URIs, ids and methods are JSON text. Of No:
+/// the rule, whose event it is, its number and that of the event, and the rule's fixed text. Of a
+/// bad log: its code, the number of the record, and the fixed text.
+pub fn report_of(alloc: Global, verdict: &Verdict) -> Result<Vec<u8>, Memory>
+    ensures { IfOk result (λ bytes. bytes.items ≡ report (verdict_view verdict.now)) }
+{
+    match verdict {
+        Verdict::Yes(summary) => summary_report(alloc, summary),
+        Verdict::No {
+            rule,
+            who,
+            number,
+            event,
+        } => no_report(alloc, *rule, *who, *number, *event),
+        Verdict::BadLog { number, fault } => bad_log_report(alloc, *number, *fault),
+    }
+}

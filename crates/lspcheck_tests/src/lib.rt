@@ -1,0 +1,21 @@
+//! Tests of the judge and of the runs over logs and streams, by their public names alone.
+//!
+//! They stand apart from the crates that they try, so that each of those is proved once.
+#![tactic(auto)]
+
+#[cfg(test)]
+mod frames;
+#[cfg(test)]
+mod hostile;
+#[cfg(test)]
+mod logs;
+#[cfg(test)]
+mod normal_forms;
+#[cfg(test)]
+mod readers;
+#[cfg(test)]
+mod reports;
+#[cfg(test)]
+mod runs;
+#[cfg(test)]
+mod sessions;
