@@ -19,8 +19,8 @@ use Rattle.lsp_verdict.specs.Interleaving.{own, IsRead, is_asked, is_reply, firs
 use Rattle.lsp_verdict.specs.LookBack.{first_from}
 use Rattle.lsp_verdict.specs.Verdict.{no_by, no_at, first_no, offence}
 use Rattle.lsp_verdict.proofs.Finding.{map_none}
-use Rattle.lsp_verdict.proofs.InterleavingHandshake.{IsWaiting, IsSettled, IsNamed, Stage, fresh, waiting, settled, at_first, early_request, named, never, open_rule, replying, rules, starting, step, value_of}
-use Rattle.lsp_verdict.proofs.InterleavingParts.{first_result-from, read_back, read_front, sent_own}
+use Rattle.lsp_verdict.proofs.Interleaving.Handshake.{IsWaiting, IsSettled, IsNamed, Stage, fresh, waiting, settled, at_first, early_request, named, never, open_rule, replying, rules, starting, step, value_of}
+use Rattle.lsp_verdict.proofs.Interleaving.Parts.{first_result-from, read_back, read_front, sent_own}
 use Rattle.lsp_verdict.proofs.LookBackLemmas.{first_of-snoc, or_none_parts}
 use Rattle.lsp_verdict.proofs.Messages.{sent_in-append, session_rule_none}
 

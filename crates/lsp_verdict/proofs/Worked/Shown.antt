@@ -13,7 +13,7 @@ use Rattle.serde_json.specs.Read.{number_of}
 use Rattle.lsp_verdict.specs.Shown.{show_of}
 use Rattle.lsp_verdict.specs.Verdict.{no}
 use Rattle.lsp_verdict.specs.declared.verdict.Who.TheVariants as who
-use Rattle.lsp_verdict.proofs.Templates.{judged, START, REQ}
+use Rattle.lsp_verdict.proofs.Worked.Templates.{judged, START, REQ}
 
 -- the request that is asked twice is shown once
 asked_twice : show_of (judged (START ++ REQ ∷ REQ ∷ [])) (START ++ REQ ∷ REQ ∷ [])

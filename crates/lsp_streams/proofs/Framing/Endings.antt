@@ -18,7 +18,7 @@ use Rattle.lsp_verdict.specs.declared.outcome.Outcome.TheVariants.{Done}
 use Rattle.lsp_verdict.specs.declared.outcome.RunFault.{RunFault}
 use Rattle.lsp_verdict.specs.declared.outcome.RunFault.TheVariants.{Read, Write, Memory}
 use Rattle.lsp_verdict.proofs.RunReading.{read_map}
-use Rattle.lsp_streams.proofs.StreamsDue.{due_is, due_begins}
+use Rattle.lsp_streams.proofs.Framing.Due.{due_is, due_begins}
 
 -- all that is due is written
 abbrev pub WroteRun : Bounds → Mode → Told → Told → Told → Told → Outcome → Type 0

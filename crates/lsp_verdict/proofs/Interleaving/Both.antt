@@ -1,5 +1,6 @@
 -- Two interleavings of the same events: what they agree in, and where they can't.
 use Rattle.std.proofs.Common.{◌≡◌, ℕ, Bool, true, false, cond, ◌&&◌, List, [], ◌∷◌, ◌++◌, map, length, All, Option, Some, None, is_some, inl, inr, refl, sym, ap, subst, ◌∙◌, append_assoc, true≢false}
+use Rattle.std.proofs.lemmas.Bool.{and_parts}
 use Rattle.std.specs.Prelude.{filter, if◌then◌else◌, option_map, option_and_then}
 use Rattle.std.specs.List.{filter_map}
 use Rattle.std.specs.Option.{option_or}
@@ -30,10 +31,10 @@ use Rattle.lsp_verdict.specs.declared.verdict.Who.{Who}
 use Rattle.lsp_session.proofs.Bools.{true_or_false}
 use Rattle.lsp_verdict.proofs.CallsMade.{document_rule_none}
 use Rattle.lsp_verdict.proofs.Finding.{or_cases, same_split}
-use Rattle.lsp_verdict.proofs.InterleavingCalls.{Keeps, Leads, by_result, call_under, calls_own, event_call, keeps, leads_front, other_none}
-use Rattle.lsp_verdict.proofs.InterleavingHandshake.{IsWaiting, IsSettled, Stage, fresh, waiting, settled, never, no_offer, open_rule, replying, starting}
-use Rattle.lsp_verdict.proofs.InterleavingParts.{Place, only_from, place, read_back, read_front, read_others, sent_own}
-use Rattle.lsp_verdict.proofs.InterleavingStages.{agreed_own, result_own, stage_of}
+use Rattle.lsp_verdict.proofs.Interleaving.Calls.{Keeps, Leads, by_result, call_under, calls_own, event_call, keeps, leads_front, other_none}
+use Rattle.lsp_verdict.proofs.Interleaving.Handshake.{IsWaiting, IsSettled, Stage, fresh, waiting, settled, never, no_offer, open_rule, replying, starting}
+use Rattle.lsp_verdict.proofs.Interleaving.Parts.{Place, only_from, place, read_back, read_front, read_others, sent_own}
+use Rattle.lsp_verdict.proofs.Interleaving.Stages.{agreed_own, result_own, stage_of}
 use Rattle.lsp_verdict.proofs.LookBackLemmas.{first_of-append, or_none_parts}
 use Rattle.lsp_verdict.proofs.Messages.{sent_in-append}
 use Rattle.lsp_verdict.proofs.Verdicts.{Why, is_refused, is_yes, names_first, nothing_found, nothing_offends, yes_where}
@@ -172,14 +173,10 @@ abbrev all_ordered : List Row → Bool
 all_ordered [] = true
 all_ordered (row ∷ rows) = is_ordered row.answer && all_ordered rows
 
-both : (a b : Bool) → (a && b) ≡ true → (a ≡ true) × (b ≡ true)
-both true b h = (refl, h)
-both false b h = absurd (true≢false (sym h))
-
 rows_ordered : (test : Row → Bool) (rows : List Row) → all_ordered rows ≡ true → is_ordered (first_answer test rows) ≡ true
 rows_ordered test [] h = refl
 rows_ordered test (row ∷ rows) h =
-    let parts = both (is_ordered row.answer) (all_ordered rows) h in
+    let parts = and_parts (is_ordered row.answer) (all_ordered rows) h in
     if_ordered (test row) row.answer (first_answer test rows) parts.0 (rows_ordered test rows parts.1)
 
 -- ---- the first event that offends in one list, where nothing offends in the other

@@ -11,7 +11,7 @@ use Rattle.serde_json.specs.Read.{number_of}
 use Rattle.lsp_verdict.specs.Event.{Event}
 use Rattle.lsp_verdict.specs.Verdict.{verdict, yes, no, bad_log}
 use Rattle.lsp_verdict.specs.declared.verdict.Who.TheVariants as who
-use Rattle.lsp_verdict.proofs.Templates.{limit, judged, kept_of, kept, I, I1, IT, IE, A, A1, N1, START, OPEN, SH, RN, EX, REQ, CANCEL, RES, ERR, LOG, PROG, REG, T, E}
+use Rattle.lsp_verdict.proofs.Worked.Templates.{limit, judged, kept_of, kept, I, I1, IT, IE, A, A1, N1, START, OPEN, SH, RN, EX, REQ, CANCEL, RES, ERR, LOG, PROG, REG, T, E}
 use Rattle.lsp_rpc.specs.Ident.{number}
 use Rattle.lsp_types.specs.declared.side.Side.TheVariants.{Editor}
 use Rattle.lsp_types.specs.declared.position.Encoding.TheVariants.{Utf16}

@@ -21,8 +21,8 @@ use Rattle.lsp_verdict.specs.Placed.{Raw, content}
 use Rattle.lsp_verdict.specs.RunIo.{Tells}
 use Rattle.lsp_verdict.specs.Counting.{AreCounts}
 use Rattle.lsp_verdict.specs.Verdict.{whose, who_of}
-use Rattle.lsp_streams.proofs.NormalForms.{contents_sound, spelled_behind, spelled_one}
-use Rattle.lsp_streams.proofs.NormalPieces.{due}
+use Rattle.lsp_streams.proofs.Forming.Forms.{contents_sound, spelled_behind, spelled_one}
+use Rattle.lsp_streams.proofs.Forming.Pieces.{due}
 
 -- ---- one content more
 

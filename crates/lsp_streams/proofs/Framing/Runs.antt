@@ -1,6 +1,6 @@
 -- A run over the parts of a stream so far, and its ends.
-use Rattle.std.specs.Prelude.{OnOk, is_ok, nat_lt}
-use Rattle.std.proofs.Common.{◌≡◌, ℕ, ◌+◌, ◌-◌, ◌≤◌, ◌<◌, List, [], ◌∷◌, ◌++◌, length, take, Bool, true, false, Option, Some, None, Result, Ok, Err, refl, sym, ap, subst, ◌∙◌, append_assoc, arith, inl, inr}
+use Rattle.std.specs.Prelude.{nat_lt}
+use Rattle.std.proofs.Common.{◌≡◌, ℕ, ◌+◌, ◌-◌, ◌≤◌, ◌<◌, List, [], ◌∷◌, ◌++◌, length, take, Bool, true, false, Option, Some, None, Err, refl, sym, ap, subst, ◌∙◌, append_assoc, arith, inl, inr}
 use Rattle.std.specs.Io.KnownBytes.{IsAtEnd}
 use Rattle.std.proofs.lemmas.Bool.{false≢true, lt-ltb, le-ltb}
 use Rattle.std.proofs.lemmas.List.{append-nil, length-append, length-take, take_all, take_at, take-append-le}
@@ -24,8 +24,9 @@ use Rattle.lsp_streams.specs.StreamParts.{Refuses, outcome_at, RunsThrough}
 use Rattle.lsp_verdict.specs.RunIo.{source_failures, sink_failures}
 use Rattle.lsp_streams.specs.StreamRun.{fault_of, HasParts}
 use Rattle.lsp_streams.specs.StreamSteps.{AreParts, FoundAll, StopsAt, FoundFault, FoundBroken, Finds, WroteParts, BrokeOff}
-use Rattle.lsp_streams.proofs.StreamPartsLemmas.{run_through, run_refused}
-use Rattle.lsp_streams.proofs.StreamsDue.{stream_front}
+use Rattle.lsp_streams.proofs.Framing.Parts.{run_through, run_refused}
+use Rattle.lsp_streams.proofs.Framing.Due.{stream_front}
+use Rattle.lsp_streams.proofs.SameLimits.{frames_at, stream_at}
 
 pub record SoFar (limits : Bounds) (mode : Mode) (before now sink_before sink_now : Told) (d : State) (given read : ℕ) : Type 0 where
   pub bytes : List ℕ
@@ -69,16 +70,6 @@ told_all limits mode before now sink_before sink_now sink_new d e given given' r
       };
       ends = found.ends;
     }
-
-frames_at : (l m : Bounds) (bytes : List ℕ) (contents : List (List ℕ)) (rest : List ℕ) → l ≡ m → Frames l bytes contents rest → Frames m bytes contents rest
-frames_at l m bytes contents rest e frames = subst (λ (b : Bounds). Frames b bytes contents rest) e frames
-
-stream_at : (l m : Bounds) (bytes : List ℕ) (contents : List (List ℕ)) (rest : List ℕ) (fault : Option ℕ) → l ≡ m → IsStream l bytes contents rest fault → IsStream m bytes contents rest fault
-stream_at l m bytes contents rest fault e stream = subst (λ (b : Bounds). IsStream b bytes contents rest fault) e stream
-
-pub on_ok : {X E P : Type 0} (r : Result X E) → is_ok r ≡ true → OnOk r P → P
-on_ok (Ok x) ok p = p
-on_ok (Err e) ok p = absurd cc
 
 -- ---- faults of the reader, of the writer and of memory
 

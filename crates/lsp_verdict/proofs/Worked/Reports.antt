@@ -15,8 +15,8 @@ use Rattle.lsp_verdict.specs.Verdict.{no, bad_log}
 use Rattle.lsp_verdict.specs.declared.verdict.Who.TheVariants as who
 use Rattle.lsp_verdict.specs.Report.{report}
 use Rattle.lsp_verdict.specs.Shown.{show_of, text_is, no_document, too_few, refused}
-use Rattle.lsp_verdict.proofs.Templates.{limit, clean, judged, START, REQ, CANCEL, text_after}
-use Rattle.lsp_verdict.proofs.Rows.{whole}
+use Rattle.lsp_verdict.proofs.Worked.Templates.{limit, clean, judged, START, REQ, CANCEL, text_after}
+use Rattle.lsp_verdict.proofs.Worked.Sessions.{whole}
 
 whole_report : report (judged whole)
     ≡ codes "yes\nmessages 5 2\nsnapshots 1 unmatched 0\nencoding utf-16 sync incremental\ndocument 1 2 \"file:///a\"\n"

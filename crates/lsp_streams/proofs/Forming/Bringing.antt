@@ -18,12 +18,9 @@ use Rattle.lsp_streams.specs.NormalSteps.{spelled, WroteFront, WroteAll, WroteTo
 use Rattle.lsp_verdict.specs.Placed.{Raw, content, broken, new_fault}
 use Rattle.lsp_verdict.specs.Drained.{IsDrained}
 use Rattle.lsp_verdict.proofs.Below.{some_stream, frames_first}
-use Rattle.lsp_streams.proofs.NormalForms.{contents_sound, sound_more, broken_behind, spelled_behind, spelled_broken}
+use Rattle.lsp_streams.proofs.Forming.Forms.{contents_sound, sound_more, broken_behind, spelled_behind, spelled_broken}
 use Rattle.lsp_verdict.proofs.Streams.{some_brings}
-
--- a stream under the same limits
-stream_at : (l m : Bounds) (bytes : List ℕ) (contents : List (List ℕ)) (rest : List ℕ) (fault : Option ℕ) → l ≡ m → IsStream l bytes contents rest fault → IsStream m bytes contents rest fault
-stream_at l m bytes contents rest fault e stream = subst (λ (b : Bounds). IsStream b bytes contents rest fault) e stream
+use Rattle.lsp_streams.proofs.SameLimits.{stream_at}
 
 -- all contents, and no fault
 all_brought : (limits : Bounds) (side : Side) (old d : State) (c : Counts) (start new : Told) (sent more : List ℕ) (before : List Raw) → old.limits ≡ limits → d.limits ≡ limits → first_broken before ≡ None → (drained : IsDrained old sent)

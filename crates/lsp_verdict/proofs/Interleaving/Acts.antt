@@ -1,4 +1,5 @@
 -- What a message can mean on its side.
+use Rattle.std.proofs.lemmas.Bool.{not-true}
 use Rattle.std.proofs.Common.{◌≡◌, ℕ, Bool, true, false, not, List, [], ◌∷◌, Option, Some, None, is_none, refl, sym, ap, subst, true≢false}
 use Rattle.std.specs.Prelude.{if◌then◌else◌, option_map, option_and_then}
 use Rattle.std.specs.Str.{bytes_eq}
@@ -52,13 +53,9 @@ requests_stay = (
   (plain_row stays shutdown refl, tt),
 )
 
-not_true : (b : Bool) → not b ≡ true → b ≡ false
-not_true true h = absurd (true≢false (sym h))
-not_true false h = refl
-
 -- a request doesn't exit
 pub request_stays : (method : List ℕ) (params : Option Data) (act : Act) → act_by editor_requests method params ≡ Some act → is_exit act ≡ false
-request_stays method params act e = not_true (is_exit act) (by_rows stays editor_requests requests_stay refl method params act e)
+request_stays method params act e = not-true (is_exit act) (by_rows stays editor_requests requests_stay refl method params act e)
 
 -- ---- the server's messages
 

@@ -33,9 +33,9 @@ use Rattle.lsp_verdict.specs.RunIo.{source_failures, sink_failures}
 use Rattle.lsp_verdict.specs.Verdict.{Verdict, bad_log}
 use Rattle.std.specs.Option.{option_or}
 use Rattle.lsp_verdict.proofs.Below.{records_come_first, some_stream}
-use Rattle.lsp_streams.proofs.NormalCounts.{broken_exact, end_exact, carries_exact}
-use Rattle.lsp_streams.proofs.NormalForms.{form_begins}
-use Rattle.lsp_streams.proofs.NormalOne.{broken_normal}
+use Rattle.lsp_streams.proofs.Forming.Counts.{broken_exact, end_exact, carries_exact}
+use Rattle.lsp_streams.proofs.Forming.Forms.{form_begins}
+use Rattle.lsp_streams.proofs.Forming.OneForm.{broken_normal}
 use Rattle.lsp_verdict.proofs.Outcomes.{placed_front}
 
 -- ---- what is due begins with what is due for the first records

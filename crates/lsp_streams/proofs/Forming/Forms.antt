@@ -21,7 +21,7 @@ use Rattle.std.proofs.lemmas.List.{length-map}
 use Rattle.lsp_verdict.specs.Verdict as verdict
 use Rattle.lsp_verdict.specs.Verdict.{Verdict, no, who_of, belongs_to, count_of}
 use Rattle.lsp_verdict.proofs.LookBackLemmas.{first_of-append, first_of-snoc}
-use Rattle.lsp_streams.proofs.NormalPieces.{due}
+use Rattle.lsp_streams.proofs.Forming.Pieces.{due}
 
 -- ---- events without a fault, and with one
 

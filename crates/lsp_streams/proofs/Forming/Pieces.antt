@@ -3,21 +3,17 @@ use Rattle.std.specs.Int.{div_ceil}
 use Rattle.std.specs.Prelude.{map}
 use Rattle.std.specs.List.{flat_map}
 use Rattle.std.specs.Simd.{first_chunks}
-use Rattle.std.proofs.Common.{◌≡◌, ℕ, suc, ◌+◌, ◌-◌, ◌/◌, ◌%◌, min, ◌<◌, List, [], ◌∷◌, ◌++◌, length, take, drop, Result, Ok, Err, inl, inr, refl, sym, ap, subst, ◌∙◌, append_assoc, append-nil, arith}
+use Rattle.std.proofs.Common.{◌≡◌, ℕ, suc, ◌+◌, ◌-◌, ◌/◌, ◌%◌, min, ◌<◌, List, [], ◌∷◌, ◌++◌, length, take, drop, inl, inr, sym, ap, subst, ◌∙◌, append_assoc, append-nil, arith}
 use Rattle.std.proofs.Math.Nat.{zero-div, zero-mod, div-eq_of_lt, mod-eq_of_lt, add-div_right, add-mod_right}
 use Rattle.std.proofs.Math.Seq.{take-append-add, drop-append-add}
 use Rattle.std.proofs.lemmas.Bool.{cases_lt}
 use Rattle.std.proofs.lemmas.List.{length-append, length-drop, take-append-le, drop-append-le, take_all, drop_all}
-use Rattle.lsp_frame.specs.Sink.{Wrote, Stopped, Writes}
+use Rattle.lsp_frame.specs.Sink.{Wrote, Stopped}
 use Rattle.lsp_frame.specs.Told.{Told}
-use Rattle.lsp_frame.proofs.Writing.{HasPut, wrote_then, wrote_nothing, stopped_then, stopped_before, four}
+use Rattle.lsp_frame.proofs.Writing.{HasPut, wrote_then, stopped_then, stopped_before, four}
 use Rattle.lsp_types.specs.declared.side.Side.{Side}
 use Rattle.lsp_log.specs.Log.{chunk, chunk_head, head_line, spelling, with_feed}
 use Rattle.lsp_streams.specs.Normal.{cut, chunks}
-
-pub writes_behind : {X E : Type 0} (a b c : Told) (r : Result X E) (x y : List ℕ) → Wrote a b x → Writes b c r y → Writes a c r (x ++ y)
-writes_behind a b c (Ok v) x y p q = wrote_then a b c x y p q
-writes_behind a b c (Err e) x y p q = stopped_then a b c x y p q
 
 -- ---- one record
 
@@ -139,9 +135,6 @@ due_some size first second side front back full some e f =
     ∙ ap (λ (w : List ℕ). spelling (chunk side w) ++ due size side (drop size (front ++ back))) ends.now
     ∙ ap (λ (w : List ℕ). spelling (chunk side (take first front ++ take second back)) ++ due size side w) ends.later
 
-pub put_begun : (start : Told) (bytes : List ℕ) → HasPut start start bytes bytes
-put_begun start bytes = record { front = []; whole = refl; wrote = wrote_nothing start }
-
 pub put_one : (start old new : Told) (bytes one rest : List ℕ) → HasPut start old bytes (one ++ rest) → Wrote old new one → HasPut start new bytes rest
 put_one start old new bytes one rest so_far wrote = record {
   front = so_far.front ++ one;
@@ -152,11 +145,3 @@ put_one start old new bytes one rest so_far wrote = record {
 pub put_part : (start old new : Told) (bytes one rest : List ℕ) → HasPut start old bytes (one ++ rest) → Stopped old new one → Stopped start new bytes
 put_part start old new bytes one rest so_far stopped =
     subst (λ (w : List ℕ). Stopped start new w) (sym so_far.whole) (stopped_then start old new so_far.front (one ++ rest) so_far.wrote (stopped_before old new one rest stopped))
-
-pub put_done : (start now : Told) (size : ℕ) (side : Side) (bytes front back : List ℕ) → HasPut start now bytes (due size side (front ++ back)) → front ≡ [] → back ≡ [] → Wrote start now bytes
-put_done start now size side bytes front back so_far none nothing =
-    let end : due size side (front ++ back) ≡ [] =
-    ap (λ (w : List ℕ). due size side (w ++ back)) none
-    ∙ ap (λ (w : List ℕ). due size side w) nothing
-    ∙ ap (λ (ps : List (List ℕ)). flat_map spelling (map (chunk side) ps)) (cut_none size) in
-    subst (λ (w : List ℕ). Wrote start now w) (sym (so_far.whole ∙ ap (λ (w : List ℕ). so_far.front ++ w) end ∙ append-nil so_far.front)) so_far.wrote

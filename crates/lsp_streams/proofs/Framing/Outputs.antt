@@ -14,7 +14,7 @@ use Rattle.lsp_verdict.specs.declared.outcome.Outcome.{Outcome}
 use Rattle.lsp_verdict.specs.declared.outcome.Outcome.TheVariants.{Stream}
 use Rattle.lsp_verdict.specs.declared.outcome.StreamFault.{StreamFault}
 use Rattle.lsp_verdict.specs.declared.outcome.StreamFault.TheVariants.{Rule}
-use Rattle.lsp_streams.proofs.StreamsDue.{same_parts, due_is}
+use Rattle.lsp_streams.proofs.Framing.Due.{same_parts, due_is}
 
 -- a content has a part, or the mode refuses it
 abbrev pub PartOrRule : Mode → ℕ → List ℕ → Type 0

@@ -13,7 +13,7 @@ use Rattle.lsp_verdict.specs.Event.{Event}
 use Rattle.lsp_verdict.specs.Shown.{text_is, too_few, refused}
 use Rattle.lsp_verdict.specs.Verdict.{Ending, no, bad_log}
 use Rattle.lsp_verdict.specs.declared.verdict.Who.TheVariants as who
-use Rattle.lsp_verdict.proofs.Templates.{limit, clean, text_after, START, OPEN}
+use Rattle.lsp_verdict.proofs.Worked.Templates.{limit, clean, text_after, START, OPEN}
 
 -- a document is opened twice, by the editor's messages 3 and 4
 abbrev twice : List Event

@@ -25,13 +25,13 @@ use Rattle.lsp_streams.specs.NormalLaws.{before_fault, is_frame_rule, NormalForm
 use Rattle.lsp_verdict.specs.Outcome.{HasRest}
 use Rattle.lsp_verdict.specs.Placed.{Raw, content, broken, show, Brings, new_fault, Placed, PlacedAfter, joined}
 use Rattle.lsp_verdict.specs.Verdict.{Verdict}
-use Rattle.lsp_streams.proofs.NormalPieces.{cut_none, cut_some}
+use Rattle.lsp_streams.proofs.Forming.Pieces.{cut_none, cut_some}
 use Rattle.lsp_verdict.proofs.Below.{one_log}
 use Rattle.lsp_verdict.proofs.Outcomes.{cut_joined}
 use Rattle.lsp_verdict.proofs.PlacedLemmas.{one_placed}
 use Rattle.lsp_verdict.proofs.Proved.{stream_laws, cuts_law}
 use Rattle.lsp_verdict.proofs.Sessions.{some_placed}
-use Rattle.lsp_streams.proofs.StreamFound.{says_within}
+use Rattle.lsp_streams.proofs.Framing.Found.{says_within}
 use Rattle.lsp_verdict.proofs.Streams.{no_stream}
 
 -- ---- lists

@@ -24,7 +24,7 @@ use Rattle.lsp_verdict.specs.RunIo.{sink_failures}
 use Rattle.lsp_verdict.specs.Counting.{AreCounts}
 use Rattle.lsp_verdict.specs.Drained.{IsDrained}
 use Rattle.lsp_verdict.specs.Verdict.{whose}
-use Rattle.lsp_streams.proofs.NormalForms.{form_behind, shown_sound}
+use Rattle.lsp_streams.proofs.Forming.Forms.{form_behind, shown_sound}
 use Rattle.lsp_verdict.proofs.PlacedLemmas.{placed-snoc}
 use Rattle.lsp_verdict.proofs.OneRecord.{joined_own, joined_server, joined_editor, joined_shown, placed_one}
 use Rattle.lsp_verdict.proofs.Drained.{drained_along, new_drained}

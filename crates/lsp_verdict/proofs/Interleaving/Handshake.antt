@@ -26,8 +26,8 @@ use Rattle.lsp_session.proofs.ByStateLemmas.{rule_by-state_of}
 use Rattle.lsp_session.proofs.Steps.{open_initializes-push, open_requests-push}
 use Rattle.lsp_verdict.specs.Interleaving.{first_result, is_asked, is_reply, result_by}
 use Rattle.lsp_verdict.specs.LookBack.{first_from}
-use Rattle.lsp_verdict.proofs.InterleavingActs.{request_stays}
-use Rattle.lsp_verdict.proofs.LookBackLemmas.{first_of-snoc, or_none_parts}
+use Rattle.lsp_verdict.proofs.Interleaving.Acts.{request_stays}
+use Rattle.lsp_verdict.proofs.LookBackLemmas.{first_of-snoc, or_assoc, or_none, or_none_parts}
 
 -- ---- the stages
 
@@ -99,17 +99,9 @@ still : (o p : Option Settled) (value : Data) → option_map value_of o ≡ Some
 still None p value e = cc
 still (Some s) p value e = e
 
-or_more : {X : Type 0} (a b c : Option X) → option_or a (option_or b c) ≡ option_or (option_or a b) c
-or_more None b c = refl
-or_more (Some x) b c = refl
-
-or_none : {X : Type 0} (a : Option X) → option_or a None ≡ a
-or_none None = refl
-or_none (Some x) = refl
-
 pub first_result-append : (xs ys : List Sent) → first_result (xs ++ ys) ≡ option_or (first_result xs) (first_result ys)
 first_result-append [] ys = refl
-first_result-append (x ∷ xs) ys = ap (option_or (result_by x)) (first_result-append xs ys) ∙ or_more (result_by x) (first_result xs) (first_result ys)
+first_result-append (x ∷ xs) ys = ap (option_or (result_by x)) (first_result-append xs ys) ∙ or_assoc (result_by x) (first_result xs) (first_result ys)
 
 result_push : (h : List Sent) (m : Sent) → first_result (h ++ m ∷ []) ≡ option_or (first_result h) (result_by m)
 result_push h m = first_result-append h (m ∷ []) ∙ ap (option_or (first_result h)) (or_none (result_by m))

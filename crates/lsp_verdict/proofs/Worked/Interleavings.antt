@@ -13,7 +13,7 @@ use Rattle.lsp_verdict.specs.Event.{Event, sent_in}
 use Rattle.lsp_verdict.specs.Interleaving.{AreInterleavings, IsRead, first_result, is_order_rule, own}
 use Rattle.lsp_verdict.specs.Verdict.{no}
 use Rattle.lsp_verdict.specs.declared.verdict.Who.TheVariants as who
-use Rattle.lsp_verdict.proofs.Templates.{A, A1, ERR, I, I1, N1, OPEN, REQ, RES, START, T, judged}
+use Rattle.lsp_verdict.proofs.Worked.Templates.{A, A1, ERR, I, I1, N1, OPEN, REQ, RES, START, T, judged}
 
 abbrev asked_first : List Event
 asked_first = START ++ REQ ∷ OPEN (codes "1") (codes "ab") ∷ T 1 (codes "ab") ∷ RES (codes "7") ∷ []

@@ -15,7 +15,8 @@ use Rattle.lsp_verdict.specs.Outcome.{is_rest, IsVerdict}
 use Rattle.lsp_verdict.specs.Placed.{Raw, content, broken, show, Placed, Reads}
 use Rattle.lsp_verdict.specs.Verdict.{Verdict, yes, bad_log_of, rest_of, no_at, first_no, no_next, summary, whose}
 use Rattle.lsp_verdict.proofs.Logs.{offence_decides}
-use Rattle.lsp_streams.proofs.NormalAgain.{IsSane, again, placed_sane, log_fits, form_is}
+use Rattle.lsp_streams.proofs.Forming.Again.{IsSane, again, placed_sane, log_fits, form_is}
+use Rattle.lsp_verdict.proofs.LookBackLemmas.{or_none_parts}
 use Rattle.lsp_verdict.proofs.OneEvent.{some_list}
 
 -- ---- an offence before a fault of the frames
@@ -74,18 +75,14 @@ no_again limits sizes out all events v on sane reads first written within =
 
 -- ---- a yes
 
-or_right : (a b : Option Verdict) → option_or a b ≡ None → b ≡ None
-or_right None b e = e
-or_right (Some x) b e = absurd cc
-
 -- where no event offends, none is a fault of the frames
 clean_from : (limit : ℕ) (before : List Event) (raws : List Raw) (events : List Event) → AllZip Reads raws events → first_from (no_at limit) before events ≡ None → before_fault raws ≡ raws
 clean_from limit before [] events reads none = refl
 clean_from limit before (raw ∷ raws) [] reads none = absurd reads
 clean_from limit before (content side bytes ∷ raws) (e ∷ events) reads none =
-    ap (λ (rs : List Raw). content side bytes ∷ rs) (clean_from limit (before ++ e ∷ []) raws events reads.1 (or_right (no_at limit before e) (first_from (no_at limit) (before ++ e ∷ []) events) none))
+    ap (λ (rs : List Raw). content side bytes ∷ rs) (clean_from limit (before ++ e ∷ []) raws events reads.1 (or_none_parts (no_at limit before e) (first_from (no_at limit) (before ++ e ∷ []) events) none).1)
 clean_from limit before (show n uri t ∷ raws) (e ∷ events) reads none =
-    ap (λ (rs : List Raw). show n uri t ∷ rs) (clean_from limit (before ++ e ∷ []) raws events reads.1 (or_right (no_at limit before e) (first_from (no_at limit) (before ++ e ∷ []) events) none))
+    ap (λ (rs : List Raw). show n uri t ∷ rs) (clean_from limit (before ++ e ∷ []) raws events reads.1 (or_none_parts (no_at limit before e) (first_from (no_at limit) (before ++ e ∷ []) events) none).1)
 clean_from limit before (broken side rule ∷ raws) (e ∷ events) reads none =
     let here : first_from (no_at limit) before (fault side rule ∷ events) ≡ None = subst (λ (x : Event). first_from (no_at limit) before (x ∷ events) ≡ None) reads.0 none in
     absurd (cc here)

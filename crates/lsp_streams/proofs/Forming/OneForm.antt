@@ -12,7 +12,7 @@ use Rattle.lsp_verdict.specs.Placed.{Raw, Placed, joined}
 use Rattle.lsp_verdict.specs.Verdict.{Verdict, Ending, bad_log_of}
 use Rattle.lsp_verdict.proofs.Below.{one_log, some_log, some_stream, records_come_first}
 use Rattle.lsp_verdict.proofs.LookBackLemmas.{first_of-more}
-use Rattle.lsp_streams.proofs.NormalForms.{form_stops}
+use Rattle.lsp_streams.proofs.Forming.Forms.{form_stops}
 use Rattle.lsp_verdict.proofs.Outcomes.{placed_front, one_rest}
 use Rattle.lsp_verdict.proofs.PlacedLemmas.{one_placed}
 use Rattle.lsp_verdict.proofs.Proved.{stream_laws}

@@ -30,9 +30,9 @@ use Rattle.lsp_verdict.specs.Interleaving.{is_own, own, IsRead, first_result}
 use Rattle.lsp_verdict.specs.LookBack.{first_from, each_from}
 use Rattle.lsp_verdict.specs.Verdict.{no_by, no_at, first_no, offence}
 use Rattle.lsp_verdict.proofs.Finding.{map_none}
-use Rattle.lsp_verdict.proofs.InterleavingActs.{server_calls_nothing}
-use Rattle.lsp_verdict.proofs.InterleavingHandshake.{Stage, fresh, waiting, settled, at_first, first_result-append, late_rows, not_done, others_follow, rules}
-use Rattle.lsp_verdict.proofs.InterleavingStages.{agreed_stage, one_more}
+use Rattle.lsp_verdict.proofs.Interleaving.Acts.{server_calls_nothing}
+use Rattle.lsp_verdict.proofs.Interleaving.Handshake.{Stage, fresh, waiting, settled, at_first, first_result-append, late_rows, not_done, others_follow, rules}
+use Rattle.lsp_verdict.proofs.Interleaving.Stages.{agreed_stage, one_more}
 use Rattle.lsp_verdict.proofs.LookBackLemmas.{or_none_parts}
 use Rattle.lsp_verdict.proofs.Messages.{sent_in-append, session_rule_none}
 

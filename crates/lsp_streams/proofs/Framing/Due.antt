@@ -10,7 +10,7 @@ use Rattle.lsp_streams.specs.StreamRun.{fault_of, HasParts, closing, IsRun}
 use Rattle.lsp_verdict.specs.declared.outcome.Mode.{Mode}
 use Rattle.lsp_verdict.specs.declared.outcome.Outcome.{Outcome}
 use Rattle.lsp_verdict.specs.declared.outcome.StreamFault.{StreamFault}
-use Rattle.lsp_streams.proofs.StreamPartsLemmas.{SameRun, one_run, run_begins}
+use Rattle.lsp_streams.proofs.Framing.Parts.{SameRun, one_run, run_begins}
 
 -- ---- one output
 

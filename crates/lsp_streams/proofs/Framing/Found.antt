@@ -5,7 +5,7 @@ use Rattle.std.proofs.Common.{Bool, true, false, ◌≡◌, ℕ, ◌+◌, ◌≤
 use Rattle.std.proofs.lemmas.List.{length-append, length_push, append-nil}
 use Rattle.std.proofs.lemmas.Bool.{leb-true}
 use Rattle.lsp_frame.specs.Bounds.{Bounds}
-use Rattle.lsp_frame.specs.Frame.{IsFrame, Frames}
+use Rattle.lsp_frame.specs.Frame.{IsFrame}
 use Rattle.lsp_frame.specs.Header.{blank_line, is_number, lengths, content_length, fits_charsets, length_and_charset, Says}
 use Rattle.lsp_frame.specs.Sink.{Wrote, Stopped}
 use Rattle.lsp_frame.specs.Told.{Told, Took}
@@ -17,7 +17,8 @@ use Rattle.lsp_streams.specs.StreamSteps.{AreParts, WritesPart, FoundAll, FoundF
 use Rattle.lsp_verdict.specs.declared.outcome.Mode.{Mode}
 use Rattle.lsp_verdict.specs.declared.outcome.RunFault.{RunFault}
 use Rattle.lsp_verdict.specs.declared.outcome.RunFault.TheVariants.{Read, Write, Memory}
-use Rattle.lsp_streams.proofs.StreamPartsLemmas.{parts_push}
+use Rattle.lsp_streams.proofs.Framing.Parts.{parts_push}
+use Rattle.lsp_streams.proofs.SameLimits.{frames_at}
 
 pub frame_long : (limits : Bounds) (frame content : List ℕ) → IsFrame limits frame content → 0 < length frame
 frame_long limits frame content is =
@@ -31,16 +32,6 @@ pub record FoundSoFar (d : State) (mode : Mode) (old new : Told) (given : ℕ) (
   pub are_parts : AreParts mode 1 contents (before ++ parts)
   pub wrote : Wrote old new parts
   pub count : given ≡ length contents
-
-pub none_yet : (d : State) (mode : Mode) (old : Told) (given : ℕ) (bytes before : List ℕ) (contents : List (List ℕ)) → StandsFor d bytes contents → given ≡ length contents → AreParts mode 1 contents before → FoundSoFar d mode old old given bytes before
-none_yet d mode old given bytes before contents stands count are = record {
-  contents = contents;
-  parts = [];
-  stands = stands;
-  are_parts = subst (λ (w : List ℕ). AreParts mode 1 contents w) (sym (append-nil before)) are;
-  wrote = wrote_nothing old;
-  count = count;
-}
 
 part_here : (mode : Mode) (given n : ℕ) (content part : List ℕ) → given ≡ n → IsPart mode (given + 1) content part → IsPart mode (1 + n) content part
 part_here mode given n content part same is =
@@ -77,9 +68,6 @@ one_stopped d e mode old mid new given bytes before content part so_far next is 
       wrote = all.took;
       sink = all.failures;
     }
-
-frames_at : (l m : Bounds) (bytes : List ℕ) (contents : List (List ℕ)) (rest : List ℕ) → l ≡ m → Frames l bytes contents rest → Frames m bytes contents rest
-frames_at l m bytes contents rest e frames = subst (λ (b : Bounds). Frames b bytes contents rest) e frames
 
 -- memory was refused before a part
 pub one_refused_memory : (d e : State) (mode : Mode) (old mid new : Told) (given : ℕ) (bytes before content : List ℕ) → FoundSoFar d mode old mid given bytes before → e.limits ≡ d.limits → new ≡ mid → FoundBroken e mode old new bytes before Memory
