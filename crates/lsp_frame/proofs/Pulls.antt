@@ -1,5 +1,5 @@
 -- A piece that a source put behind the bytes that a decoder holds.
-use Rattle.std.proofs.Common.{◌≡◌, ℕ, zero, suc, ◌+◌, ◌-◌, ◌≤◌, List, [], ◌∷◌, ◌++◌, length, take, drop, Option, Some, None, Ok, refl, sym, ap, subst, ◌∙◌, append-nil, arith, true, false}
+use Rattle.std.proofs.Common.{◌≡◌, ℕ, suc, ◌+◌, ◌-◌, ◌≤◌, List, [], ◌∷◌, ◌++◌, length, take, drop, Option, Some, None, refl, sym, ap, subst, ◌∙◌, append-nil, arith, true, false}
 use Rattle.std.proofs.lemmas.List.{length-append, length-take, take-append-le, take-take}
 use borrow.Rule.Slice.PartMut.{put_mid}
 use Rattle.lsp_frame.specs.Bounds.{Bounds}
@@ -10,9 +10,7 @@ use Rattle.lsp_frame.specs.Decoder.{State, pushed, pushed_at}
 use Rattle.lsp_frame.specs.Pulling.{Pulls}
 use Rattle.lsp_frame.proofs.Steps.{state_at, push_stands}
 use Rattle.lsp_frame.specs.Decoder.{StandsFor}
-use Rattle.lsp_frame.specs.Frame.{IsHeader}
-use Rattle.lsp_frame.specs.Header.{Says}
-use Rattle.lsp_frame.specs.Start.{StartsWithHeader}
+use Rattle.lsp_frame.proofs.Starts.{header_stays}
 use Rattle.lsp_frame.specs.Buffer.{AheadStands, FaultStands}
 use Rattle.lsp_frame.specs.declared.start.FrameSize.{FrameSize}
 
@@ -63,19 +61,9 @@ pulled limits items written start end n piece fault old before after most is non
       stands = λ bytes contents stands. subst (λ (s : State). StandsFor s (bytes ++ piece) contents) (sym same) (push_stands now piece bytes contents stands);
     })
 
--- what stands in front still does, with more behind it
-starts_more : (limits : Bounds) (rest more : List ℕ) (size : FrameSize) → StartsWithHeader limits rest size → StartsWithHeader limits (rest ++ more) size
-starts_more limits rest more size starts =
-    let same : take size.header rest ≡ take size.header (rest ++ more) = sym (take-append-le size.header rest more starts.fits) in
-    record {
-      fits = omega (arith, starts.fits, length-append rest more);
-      part = subst (λ (w : List ℕ). IsHeader limits w) same starts.part;
-      says = subst (λ (w : List ℕ). Says limits w (Ok size.content)) same starts.says;
-    }
-
-pub ahead_more : (limits : Bounds) (rest more : List ℕ) (ahead : Option FrameSize) → AheadStands limits rest ahead → AheadStands limits (rest ++ more) ahead
+ahead_more : (limits : Bounds) (rest more : List ℕ) (ahead : Option FrameSize) → AheadStands limits rest ahead → AheadStands limits (rest ++ more) ahead
 ahead_more limits rest more None stands = tt
-ahead_more limits rest more (Some size) stands = starts_more limits rest more size stands
+ahead_more limits rest more (Some size) stands = header_stays limits rest more size stands
 
 pub ahead_along : (limits : Bounds) (rest held more : List ℕ) (ahead : Option FrameSize) → rest ≡ held ++ more → AheadStands limits held ahead → AheadStands limits rest ahead
 ahead_along limits rest held more ahead same stands = subst (λ (w : List ℕ). AheadStands limits w ahead) (sym same) (ahead_more limits held more ahead stands)

@@ -1,6 +1,6 @@
 -- One step of a decoder, over its buffer.
 use Rattle.std.proofs.Common.{◌≡◌, ℕ, zero, suc, ◌+◌, ◌-◌, ◌≤◌, List, [], ◌∷◌, ◌++◌, length, take, drop, Option, None, Some, Result, Ok, Err, append_assoc, ◌<◌, refl, sym, ap, subst, ◌∙◌, arith}
-use Rattle.std.proofs.lemmas.List.{length-append, take-append-drop, take-take, length-take, length-drop, drop-drop, drop_at, drop-take, take_rest, append-nil}
+use Rattle.std.proofs.lemmas.List.{length-append, take-append-drop, take-take, length-take, length-drop, drop-drop, drop_at, drop-take, append-nil}
 use Rattle.std.proofs.lemmas.List.Edits.{take-paste}
 use Rattle.std.specs.List.{copy_within}
 use Rattle.std.specs.Prelude.{OnOk, IfSome}

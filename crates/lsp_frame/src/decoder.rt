@@ -121,12 +121,7 @@ fn to_front(buffer: &mut [u8], start: usize, end: usize)
 }
 
 /// Moves the bytes between two places to the front, and makes room for so many behind them. An `Err` changes nothing.
-fn make_room(
-    buffer: &mut Vec<u8>,
-    start: usize,
-    end: usize,
-    more: usize,
-) -> Result<(), AllocError>
+fn make_room(buffer: &mut Vec<u8>, start: usize, end: usize, more: usize) -> Result<(), AllocError>
     requires places { (start ≤ end) × (end ≤ vec_len buffer.old) }
     requires more { more < 2 ^ 63 }
     ensures front { OnOk result (take (end - start) buffer.new.items ≡ drop start (take end buffer.old.items)) }

@@ -8,6 +8,7 @@
 //! What holds of all frames and streams stands in the contracts of functions that do nothing, such as [`one_reading`].
 #![tactic(auto)]
 
+mod bytes;
 mod decoder;
 mod field;
 mod header;
@@ -19,6 +20,7 @@ mod rule;
 mod start;
 mod write;
 
+pub use bytes::{after_byte, all_digits};
 pub use decoder::{Decoder, FrameFault, PullFault};
 pub use io::{Failed, Input, Output, Sink, Source};
 pub use laws::{

@@ -239,7 +239,8 @@ fn count_pulled<R: Read + Drop>(
 
 #[test]
 fn a_decoder_takes_its_bytes_from_a_reader(rt: HostRuntime) {
-    let stream = b"Content-Length: 2\r\n\r\n{}X: y\r\ncontent-length: 3\r\n\r\n[0]Content-Length: 1\r\n\r\n";
+    let stream =
+        b"Content-Length: 2\r\n\r\n{}X: y\r\ncontent-length: 3\r\n\r\n[0]Content-Length: 1\r\n\r\n";
     for step in [1, 3, 22, 4096] {
         let counted = count_pulled(rt.alloc(), stream.as_slice(), step);
         assert_eq!(rt; counted, Ok((2, Err(FrameFault { rule: 107 }))));
@@ -247,7 +248,10 @@ fn a_decoder_takes_its_bytes_from_a_reader(rt: HostRuntime) {
             rest: stream,
             calls_left: 1,
         };
-        assert_eq!(rt; count_pulled(rt.alloc(), failing, step), Err(PullFault::Read));
+        assert_eq!(rt;
+            count_pulled(rt.alloc(), failing, step),
+            Err(PullFault::Read)
+        );
     }
 }
 

@@ -3,7 +3,7 @@ use crate::logs::{Log, frame_of, split_word};
 use crate::readers::{Endless, Pieces};
 use crate::runs::{Work, check_sessions, word_of};
 use lsp_command::Task;
-use lsp_judge::{Input, Limits, Output, run_check};
+use lsp_judge::{Input, Limits, Mode, Output, run_check};
 use std::alloc::Global;
 use std::process::Abort;
 use std::test::*;
