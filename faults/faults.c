@@ -1,6 +1,7 @@
 /* Fails one call of the program that it is loaded into: its FAULT_AT-th allocation, read or write of
    standard output, as FAULT_KIND says. Each of these reads or writes takes at most FAULT_MOST bytes.
-   How many calls of the kind there were goes to the file FAULT_COUNT. */
+   How many calls of the kind there were goes to the file FAULT_COUNT. With FAULT_BETWEEN only those
+   count that come after the program writes `ready` and before it writes `done`. */
 #define _GNU_SOURCE
 #include <dlfcn.h>
 #include <errno.h>
@@ -15,6 +16,8 @@ static enum kind kind = NONE;
 static long at = 0;
 static long seen = 0;
 static size_t most = -1;
+static int between = 0;
+static int counts = 1;
 
 static void *(*real_malloc)(size_t);
 static void *(*real_calloc)(size_t, size_t);
@@ -44,6 +47,8 @@ __attribute__((constructor)) static void start(void)
     const char *bytes = getenv("FAULT_MOST");
     at = number ? atol(number) : 0;
     most = bytes ? strtoul(bytes, NULL, 10) : (size_t)-1;
+    between = getenv("FAULT_BETWEEN") != NULL;
+    counts = !between;
     if (!name) return;
     if (!strcmp(name, "allocation")) kind = ALLOCATION;
     if (!strcmp(name, "read")) kind = READ;
@@ -63,7 +68,7 @@ __attribute__((destructor)) static void end(void)
 static int fails(enum kind called)
 {
     find_real();
-    return called == kind && ++seen == at;
+    return called == kind && counts && ++seen == at;
 }
 
 static void *refused(void)
@@ -104,5 +109,7 @@ ssize_t read(int file, void *bytes, size_t size)
 ssize_t write(int file, const void *bytes, size_t size)
 {
     if (file != 1) return real_write(file, bytes, size);
+    if (between && size >= 5 && !memcmp(bytes, "ready", 5)) counts = 1;
+    if (between && size >= 4 && !memcmp(bytes, "done", 4)) counts = 0;
     return fails(WRITE) ? failed() : real_write(file, bytes, cut(size));
 }

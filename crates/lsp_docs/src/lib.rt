@@ -11,6 +11,7 @@ mod document;
 mod fault;
 mod kind;
 mod laws;
+mod opened;
 mod snapshot;
 mod waiting;
 
@@ -20,6 +21,3 @@ pub use laws::{
     documents_are_held, held_is_shown, setters_compare, snapshots_agree, versions_rise,
 };
 pub use snapshot::Match;
-
-#[cfg(test)]
-mod tests;

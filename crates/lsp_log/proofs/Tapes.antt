@@ -1,6 +1,8 @@
 -- What a tape holds after it was read into and given from.
 use Rattle.std.proofs.Common.{◌≡◌, Bool, true, false, ℕ, zero, suc, ◌+◌, ◌-◌, ◌<◌, ◌≤◌, List, [], ◌∷◌, ◌++◌, length, take, drop, refl, sym, ap, subst, ◌∙◌, append_assoc, append-nil, arith}
 use Rattle.std.proofs.lemmas.List.{length-append, length-take, length-drop, take-append-le, take_at}
+use Rattle.std.proofs.lemmas.List.Edits.{take-paste}
+use Rattle.std.specs.List.{copy_within}
 use borrow.Rule.Slice.PartMut.{put_mid}
 use Rattle.lsp_frame.specs.Told.{Told, after_failure}
 use Rattle.lsp_frame.proofs.Telling.{gave_nothing, gave_then}
@@ -8,7 +10,7 @@ use Rattle.memchr.specs.Find.{Passes, Nowhere, NoneBefore, is_byte}
 use Rattle.lsp_log.specs.Log.{HasLine, holds_feed}
 use Rattle.lsp_log.proofs.Bytes.{first_cut, nowhere_none}
 use Rattle.std.specs.Prelude.{slice_index, ◌==◌}
-use Rattle.std.proofs.lemmas.List.{nil_from_length, take_all, take-append-drop, take-take}
+use Rattle.std.proofs.lemmas.List.{nil_from_length, take_all, take-append-drop}
 use Rattle.std.proofs.lemmas.Bool.{cases_lt}
 use Rattle.std.proofs.Common.{inl, inr}
 use Rattle.std.proofs.lemmas.Map.Views.{exact_unsigned_eq}
@@ -25,13 +27,16 @@ drop_take (suc count) zero xs = ap (λ n. take n (drop (suc count) xs)) (let e :
 drop_take (suc count) (suc len) [] = take_nothing (suc len - suc count)
 drop_take (suc count) (suc len) (x ∷ xs) = ap (λ n. take n (drop count xs)) (let e : suc len - suc count ≡ len - count = omega arith in e) ∙ drop_take count len xs
 
-pub skipped : (near turned : List ℕ) (len count left : ℕ) → count ≤ length (take len near) → len ≤ 64 → length near ≡ 64 → turned ≡ drop count near ++ take count near
-    → (record { rest = take (len - count) turned; left = left }) ≡ (let h : Held = record { rest = drop count (take len near); left = left } in h)
-skipped near turned len count left fits small full is =
-    ap (λ (w : List ℕ). let h : Held = record { rest = w; left = left } in h)
-    (ap (take (len - count)) is
-    ∙ take-append-le (len - count) (drop count near) (take count near) (omega (arith, length-drop count near, length-take len near, fits, small, full))
-    ∙ drop_take count len near)
+-- the bytes between two places, as a slice gives them
+pub between : (near : List ℕ) (start end : ℕ) → take (end - start) (drop start near) ≡ drop start (take end near)
+between near start end = drop_take start end near
+
+-- ... and moved to the front
+pub at_front : (near : List ℕ) (start end : ℕ) → start ≤ end → end ≤ length near → take (end - start) (copy_within near start end 0) ≡ drop start (take end near)
+at_front near start end from fits =
+    subst (λ (n : ℕ). take n (copy_within near start end 0) ≡ take (end - start) (drop start near)) (let e : 0 + (end - start) ≡ end - start = omega arith in e)
+    (take-paste near 0 (drop start near) (end - start) (omega arith) (omega (arith, length-drop start near, from, fits)))
+    ∙ between near start end
 
 -- ---- pulls
 
@@ -217,16 +222,15 @@ took_all old new before after d buffer tail held len count full within near all 
       ap length written ∙ omega (arith, length-append (take held old.rest) buffer, length-take held old.rest, is, within, near),
     )
 
--- the vector begins with the front of the window
-pub same_front : (d resized extended bytes slice near filler : List ℕ) (held len window : ℕ) → d ≡ resized → resized ≡ take len extended ++ filler → extended ≡ bytes ++ slice → bytes ≡ [] → slice ≡ take held near
-    → held ≤ len → held ≤ window → window ≤ 64 → length near ≡ 64 → take held d ≡ take held (take window near)
-same_front d resized extended bytes slice near filler held len window a b c none is within inside small full =
-    let front : extended ≡ take held near = c ∙ ap (λ (w : List ℕ). w ++ slice) none ∙ is in
-    let short : length (take held near) ≡ held = omega (arith, length-take held near, inside, small, full) in
-    let all : take len (take held near) ≡ take held near = take_all len (take held near) (omega (arith, short, within)) in
+-- the vector begins with the front of what was held
+pub same_front : (d resized extended bytes slice rest filler : List ℕ) (held len : ℕ) → d ≡ resized → resized ≡ take len extended ++ filler → extended ≡ bytes ++ slice → bytes ≡ [] → slice ≡ take held rest
+    → held ≤ len → held ≤ length rest → take held d ≡ take held rest
+same_front d resized extended bytes slice rest filler held len a b c none is within inside =
+    let front : extended ≡ take held rest = c ∙ ap (λ (w : List ℕ). w ++ slice) none ∙ is in
+    let short : length (take held rest) ≡ held = omega (arith, length-take held rest, inside) in
+    let all : take len (take held rest) ≡ take held rest = take_all len (take held rest) (omega (arith, short, within)) in
     ap (take held) (a ∙ b ∙ ap (λ (w : List ℕ). take len w ++ filler) front ∙ ap (λ (w : List ℕ). w ++ filler) all)
-    ∙ take_at (take held near) filler held short
-    ∙ sym (take-take held window near inside)
+    ∙ take_at (take held rest) filler held short
 
 pub pulled_from : (a b c : ℕ) (before after : Told) (x : List ℕ) → a ≡ b → Pulled a c before after x → Pulled b c before after x
 pulled_from a b c before after x same p = subst (λ (n : ℕ). Pulled n c before after x) same p

@@ -1,5 +1,5 @@
 //! The bytes of a reader, a few of them looked at before they are given.
-ghost use Rattle.std.specs.Prelude.{◌≡◌, ◌≤◌, length, drop, IfOk, []};
+ghost use Rattle.std.specs.Prelude.{◌≡◌, ◌≤◌, ◌-◌, length, take, drop, IfOk, []};
 ghost use Rattle.lsp_log.specs.Tape.{PullAnswer, BufferAnswer, FillAnswer, ReachAnswer, LineAnswer, TakeAnswer, PartAnswer, CutAnswer};
 
 use lsp_frame::{Failed, Source};
@@ -41,24 +41,27 @@ impl From<Failed> for PartFault {
     }
 }
 
-/// The bytes that were read and not given, at most a window of them.
+/// The bytes that were read and not given, at most a window of them. They move to the window's front where more is read.
 #[derive(Drop)]
 pub struct Tape {
     near: [u8; WINDOW],
-    len: usize,
+    /// Where the bytes begin that were not given.
+    start: usize,
+    /// Where the bytes end that were read.
+    end: usize,
     /// How many bytes more may be read.
     left: u64,
 }
 
 impl Model for Tape {
-    ghost use Rattle.std.specs.Prelude.{◌≤◌, take};
+    ghost use Rattle.std.specs.Prelude.{◌≤◌, take, drop};
     ghost use Rattle.lsp_log.specs.Tape.{Held};
 
     ghost Value = { Held };
 
-    ghost view = { λ a. record { rest = take a.len a.near; left = a.left } };
+    ghost view = { λ a. record { rest = drop a.start (take a.end a.near); left = a.left } };
 
-    ghost invariant = { λ a. a.len ≤ 64 };
+    ghost invariant = { λ a. (a.start ≤ a.end) × (a.end ≤ 64) };
 }
 
 /// Reads into the front of the buffer, and counts what was read.
@@ -101,6 +104,15 @@ fn fill_buffer<R: Source>(
     Ok(filled)
 }
 
+/// Moves the bytes between two places to the front.
+fn to_front(near: &mut [u8; WINDOW], start: usize, end: usize)
+    requires { (start ≤ end) × (end ≤ 64) }
+    ensures len { length near.new ≡ 64 }
+    ensures front { take (end - start) near.new ≡ drop start (take end near.old) }
+{
+    near.copy_within(start..end, 0);
+}
+
 impl Tape {
     /// A tape of which nothing was read.
     pub fn new(left: u64) -> Tape
@@ -108,7 +120,8 @@ impl Tape {
     {
         Tape {
             near: [0; WINDOW],
-            len: 0,
+            start: 0,
+            end: 0,
             left,
         }
     }
@@ -118,7 +131,7 @@ impl Tape {
         ensures value { result.now ≡ self.now.rest }
         ensures short { length result.now ≤ 64 }
     {
-        &self.near[..self.len]
+        &self.near[self.start..self.end]
     }
 
     /// Gives bytes that were read.
@@ -126,8 +139,7 @@ impl Tape {
         requires { count ≤ length self.old.rest }
         ensures { self.new ≡ record self.old { rest = drop count self.old.rest } }
     {
-        self.near.rotate_left(count);
-        self.len -= count;
+        self.start += count;
     }
 
     /// Reads more into the window.
@@ -135,8 +147,11 @@ impl Tape {
         ensures short { length self.new.rest ≤ 64 }
         ensures answer { FillAnswer self.old self.new (R.told reader.old) (R.told reader.new) result }
     {
-        let count = pull_within(reader, &mut self.left, &mut self.near[self.len..])?;
-        self.len += count;
+        to_front(&mut self.near, self.start, self.end);
+        self.end -= self.start;
+        self.start = 0;
+        let count = pull_within(reader, &mut self.left, &mut self.near[self.end..])?;
+        self.end += count;
         Ok(count)
     }
 
@@ -146,7 +161,7 @@ impl Tape {
         ensures short { length self.new.rest ≤ 64 }
         ensures answer { ReachAnswer self.old self.new (R.told reader.old) (R.told reader.new) count result }
     {
-        while self.len < count {
+        while self.near().len() < count {
             if self.fill(reader)? == 0 {
                 return Ok(());
             }
@@ -163,7 +178,7 @@ impl Tape {
             if let Some(end) = memchr(b'\n', self.near()) {
                 return Ok(Some(end));
             }
-            if self.len == WINDOW {
+            if self.near().len() == WINDOW {
                 return Ok(None);
             }
             if self.fill(reader)? == 0 {
@@ -182,9 +197,10 @@ impl Tape {
         ensures short { length self.new.rest ≤ 64 }
         ensures answer { TakeAnswer self.old self.new (R.told reader.old) (R.told reader.new) len result }
     {
-        let held = self.len.min(len);
+        let near = self.near();
+        let held = near.len().min(len);
         let mut bytes = Vec::with_capacity(alloc, len)?;
-        bytes.extend_from_slice(&self.near[..held])?;
+        bytes.extend_from_slice(&near[..held])?;
         bytes.resize(len, 0)?;
         self.skip(held);
         let count = fill_buffer(reader, &mut self.left, &mut bytes[held..])?;

@@ -10,8 +10,6 @@ mod act;
 mod changes;
 mod content;
 mod did_change;
-#[cfg(test)]
-mod did_change_tests;
 mod documents;
 mod edits;
 mod fault;
@@ -23,15 +21,11 @@ mod message;
 mod methods;
 mod numbers;
 mod outline;
-#[cfg(test)]
-mod outline_tests;
 mod params;
 mod parts;
 mod results;
 mod shape;
 mod skip;
-#[cfg(test)]
-mod tests;
 mod words;
 
 pub use act::{Act, Offer, Picked, Spoken};

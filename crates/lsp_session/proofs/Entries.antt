@@ -1,12 +1,13 @@
 -- What a `Pending` keeps beside the open requests that it stands for.
 use Rattle.std.proofs.Common.{Bor, ◌≡◌, ℕ, zero, suc, List, [], ◌∷◌, ◌++◌, Option, Some, None, option_map, is_some, length, inl, inr, Bool, true, false, cond, ◌||◌, true≢false, refl, sym, ap, ◌∙◌, subst}
-use Rattle.std.specs.Prelude.{IfSome, IsSome, filter, option_and_then, option_to_list, slice_get, slice_index_or}
+use Rattle.std.specs.Prelude.{filter, not, option_and_then, slice_get}
 use Rattle.std.specs.Option.{option_copied}
+use Rattle.std.specs.List.{list_any}
 use Rattle.std.specs.Map.{lookup}
 use Rattle.lsp_rpc.specs.Ident.{Ident, id_view, same_id}
 use Rattle.lsp_rpc.specs.declared.message.Id.{Id}
 use Rattle.lsp_session.specs.Entry.{Entry, IdsDiffer, cancel, entry_of, has_id, request_view, without}
-use Rattle.lsp_session.specs.Held.{AllDiffer, AllHave, IsHeld, IsOf, entries_in, entries_of, is_among, is_found, is_other, request_of}
+use Rattle.lsp_session.specs.Held.{AllDiffer, AllHave, IsHeld, IsOf, entries_in, entries_of, is_among, is_other, request_of}
 use Rattle.lsp_session.specs.declared.pending.OpenRequest.{OpenRequest}
 use Rattle.lsp_session.proofs.Bools.{left_false, or_false, right_false, true_or_false}
 use Rattle.lsp_rpc.proofs.IdLemmas.{same_id-refl, same_id-true}
@@ -91,42 +92,19 @@ filter-absent id [] n = refl
 filter-absent id (other ∷ ids) n =
     rw (left_false (same_id id (id_view other)) _ n) (ap (λ l. other ∷ l) (filter-absent id ids (right_false (same_id id (id_view other)) _ n)))
 
-pub filter-first : (id : Ident) (first : Id) (rest : List Id) → AllDiffer (first ∷ rest) → same_id id (id_view first) ≡ true → filter (is_other id) (first ∷ rest) ≡ rest
-filter-first id first rest d p =
-    rw p (filter-absent id rest (subst (λ x. is_among x rest ≡ false) (sym (same_id-true id (id_view first) p)) d.0))
+-- an id that entered leaves again
+pub filter-last : (id : Ident) (ids : List Id) (last : Id) → is_among id ids ≡ false → same_id id (id_view last) ≡ true → filter (is_other id) (ids ++ last ∷ []) ≡ ids
+filter-last id [] last n p = rw p refl
+filter-last id (other ∷ ids) last n p =
+    rw (left_false (same_id id (id_view other)) _ n) (ap (λ l. other ∷ l) (filter-last id ids last (right_false (same_id id (id_view other)) _ n) p))
 
-pub filter-last : (id : Ident) (front : List Id) (last : Id) → AllDiffer (front ++ last ∷ []) → same_id id (id_view last) ≡ true → filter (is_other id) (front ++ last ∷ []) ≡ front
-filter-last id [] last d p = rw p refl
-filter-last id (other ∷ front) last d p =
-    let apart : same_id id (id_view other) ≡ false =
-    same_id-flip (id_view other) id
-    (subst (λ x. same_id (id_view other) x ≡ false) (sym (same_id-true id (id_view last) p)) (not_last (id_view other) front (sym (is_among-push (id_view other) front last) ∙ d.0))) in
-    rw apart (ap (λ l. other ∷ l) (filter-last id front last d.1 p))
-  where
-    not_last : (x : Ident) (ids : List Id) → (is_among x ids || same_id x (id_view last)) ≡ false → same_id x (id_view last) ≡ false
-    not_last x ids h = right_false (is_among x ids) _ h
+-- the ids that a test tells apart, as an order of ids has them
+pub is_among-any : (test : Id → Bool) (id : Ident) → ((other : Id) → test other ≡ same_id id (id_view other)) → (ids : List Id) → list_any test ids ≡ is_among id ids
+is_among-any test id agrees [] = refl
+is_among-any test id agrees (other ∷ ids) = rw (agrees other, is_among-any test id agrees ids) refl
 
--- the id that a look at one end of the order finds is the id
-abbrev hits : Ident → Option (Bor Id) → Bool
-hits id found = is_found id (option_copied found)
-
-pub first_out : (id : Ident) (ids left : List Id) (found : Option (Bor Id)) (out : Option Id) → AllDiffer ids → true ≡ hits id found
-    → IfSome found (λ x. x.now ≡ slice_index_or ids 0 x.now) → ((d : Id) → IsSome found → out ≡ Some (slice_index_or ids 0 d)) → ids ≡ option_to_list out ++ left
-    → left ≡ filter (is_other id) ids
-first_out id ids left None out d hit seen value e = absurd (true≢false hit)
-first_out id ids left (Some x) out d hit seen value e =
-    let first : out ≡ Some x.now = value x.now refl ∙ ap (λ y. Some y) (sym seen) in
-    let parts : ids ≡ x.now ∷ left = e ∙ ap (λ o. option_to_list o ++ left) first in
-    rw parts (sym (filter-first id x.now left (subst AllDiffer parts d) (sym hit)))
-
-pub last_out : (id : Ident) (ids left : List Id) (n : ℕ) (found : Option (Bor Id)) (out : Option Id) → AllDiffer ids → true ≡ hits id found
-    → IfSome found (λ x. x.now ≡ slice_index_or ids n x.now) → ((d : Id) → IsSome found → out ≡ Some (slice_index_or ids n d)) → ids ≡ left ++ option_to_list out
-    → left ≡ filter (is_other id) ids
-last_out id ids left n None out d hit seen value e = absurd (true≢false hit)
-last_out id ids left n (Some x) out d hit seen value e =
-    let last : out ≡ Some x.now = value x.now refl ∙ ap (λ y. Some y) (sym seen) in
-    let parts : ids ≡ left ++ x.now ∷ [] = e ∙ ap (λ o. left ++ option_to_list o) last in
-    rw parts (sym (filter-last id left x.now (subst AllDiffer parts d) (sym hit)))
+pub filter-others : (test : Id → Bool) (id : Ident) → ((other : Id) → test other ≡ same_id id (id_view other)) → (ids : List Id) → filter (λ other. not (test other)) ids ≡ filter (is_other id) ids
+filter-others test id agrees ids = ap (λ t. filter t ids) (λ i other. not (agrees other i))
 
 -- ---- what is kept, and the entries
 
@@ -183,6 +161,9 @@ module _ (g : Ident → Option OpenRequest) where
   pub has_id-held : (k : Id) (ids : List Id) → IsHeld ids g → is_some (g (id_view k)) ≡ has_id (id_view k) (entries_of ids g)
   has_id-held k ids h =
       sym (is_some-view (g (id_view k))) ∙ (ap is_some (entry_of-held k ids h) ∙ is_some-entry_of (id_view k) (entries_of ids g))
+
+  pub is_among-held : (k : Id) (ids : List Id) → IsHeld ids g → is_some (g (id_view k)) ≡ false → is_among (id_view k) ids ≡ false
+  is_among-held k ids h none = sym (has_id-among (id_view k) ids h.have) ∙ (sym (has_id-held k ids h) ∙ none)
 
   -- ---- the places
 

@@ -45,11 +45,6 @@ pub record IsHeld (ids : List Id) (requests : Ident → Option OpenRequest) : Ty
   pub differ : AllDiffer ids
   pub others : (id : Id) → is_among (id_view id) ids ≡ false → requests (id_view id) ≡ None
 
--- the id is this one, if there is one
-abbrev pub is_found : Ident → Option Id → Bool
-is_found id None = false
-is_found id (Some other) = same_id id (id_view other)
-
 -- an id that is another one
 abbrev pub is_other : Ident → Id → Bool
 is_other id other = not (same_id id (id_view other))

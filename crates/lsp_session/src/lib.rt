@@ -12,8 +12,6 @@ mod pending;
 mod phase;
 mod refusal;
 mod session;
-#[cfg(test)]
-mod tests;
 
 pub use laws::{
     answered_once, answers_a_request, answers_no_other, least_rule, one_handshake, params_unread,

@@ -1,15 +1,13 @@
-ghost use Rattle.std.specs.Prelude.{None, IfErr, IfOk, ◌≡◌, ◌++◌, ◌∷◌, [], length, OnOk, OnErr, false, filter, option_map, slice_get};
-ghost use Rattle.std.specs.Option.{option_copied};
+ghost use Rattle.std.specs.Prelude.{None, IfErr, IfOk, ◌≡◌, ◌++◌, ◌∷◌, [], length, OnOk, OnErr, option_map, slice_get};
 ghost use Rattle.lsp_rpc.specs.Ident.{id_view};
 ghost use Rattle.lsp_session.specs.Entry.{request_view, has_id, IdsDiffer, entry_of, without, cancel, ask_rule, new_entry};
-ghost use Rattle.lsp_session.specs.Held.{AllDiffer, is_found, is_other};
 ghost use Rattle.lsp_session.specs.Refusal.{Names};
 
 use crate::refusal::Refusal;
 use indexmap::IndexMap;
-use lsp_rpc::{Id, Memory, copy_id, same_id};
+use lsp_order::Order;
+use lsp_rpc::{Id, Memory, copy_id};
 use std::alloc::Global;
-use std::collections::VecDeque;
 use std::marker::Model;
 
 /// A request that waits for its response.
@@ -28,7 +26,7 @@ pub struct OpenRequest {
 pub struct Pending {
     /// The ids in the order of asking, since a map that keeps an order moves all entries behind one
     /// that it gives away.
-    order: VecDeque<Id>,
+    order: Order<Id>,
     requests: IndexMap<Id, OpenRequest>,
 }
 
@@ -39,9 +37,9 @@ impl Model for Pending {
 
     ghost Value = { List Entry };
 
-    ghost view = { λ p. entries_of p.order.items (request_of p.requests.entries) };
+    ghost view = { λ p. entries_of p.order (request_of p.requests.entries) };
 
-    ghost invariant = { λ p. IsHeld p.order.items (request_of p.requests.entries) };
+    ghost invariant = { λ p. IsHeld p.order (request_of p.requests.entries) };
 }
 
 fn new_request(alloc: Global, id: &Id, method: &str) -> Result<OpenRequest, Memory>
@@ -55,40 +53,13 @@ fn new_request(alloc: Global, id: &Id, method: &str) -> Result<OpenRequest, Memo
     })
 }
 
-/// Takes the id out of the order. Where it is the first or the last, no other id moves.
-fn forget(order: &mut VecDeque<Id>, id: &Id)
-    requires { AllDiffer order.old.items }
-    ensures { order.new.items ≡ filter (is_other (id_view id.now)) order.old.items }
-{
-    if is_id(order.front(), id) {
-        let _ = order.pop_front();
-    } else if is_id(order.back(), id) {
-        let _ = order.pop_back();
-    } else {
-        order.retain(
-            |other: &Id| -> bool
-                ensures { result ≡ is_other (id_view id.entry.now) other.now }
-            { !same_id(id, other) },
-        );
-    }
-}
-
-fn is_id(found: Option<&Id>, id: &Id) -> bool
-    ensures { result ≡ is_found (id_view id.now) (option_copied found.entry) }
-{
-    match found {
-        Some(other) => same_id(id, other),
-        None => false,
-    }
-}
-
 impl Pending {
     /// No open requests. Takes no memory until the first is asked.
     pub fn new(alloc: Global) -> Self
         ensures { result ≡ [] }
     {
         Pending {
-            order: VecDeque::new(alloc),
+            order: Order::new(alloc),
             requests: IndexMap::new(alloc),
         }
     }
@@ -106,7 +77,7 @@ impl Pending {
         ensures { option_map (λ request. request_view request.now) result
             ≡ slice_get self.now index }
     {
-        let id = self.order.get(index)?;
+        let id = self.order.at(index)?;
         self.requests.get(id)
     }
 
@@ -128,11 +99,14 @@ impl Pending {
             return Err(Refusal::Rule(302));
         }
         let last = copy_id(id)?;
+        let same = copy_id(id)?;
         let key = copy_id(id)?;
         let request = new_request(*self.requests.allocator(), id, method)?;
-        self.order.reserve(1)?;
-        self.requests.insert(key, request)?;
-        self.order.push_back_reserved(last);
+        self.order.push(last, same)?;
+        let Ok(_) = self.requests.insert(key, request) else {
+            self.order.remove(id);
+            return Err(Refusal::Memory);
+        };
         Ok(())
     }
 
@@ -158,7 +132,15 @@ impl Pending {
         ensures left { self.new ≡ without (id_view id.now) self.old }
     {
         let request = self.requests.swap_remove(id)?;
-        forget(&mut self.order, id);
+        self.order.remove(id);
         Some(request)
+    }
+
+    /// Makes ready for a walk over all open requests: after it, until one is answered, [`Pending::at`]
+    /// finds each at once.
+    pub fn pack(&mut self)
+        ensures { self.new ≡ self.old }
+    {
+        self.order.pack();
     }
 }

@@ -9,8 +9,9 @@ pub mod NormalForms
 pub mod NormalContents
 pub mod NormalBringing
 pub mod NormalRecords
+pub mod NormalCounts
+pub mod NormalOne
 pub mod NormalLogs
 pub mod NormalRows
-pub mod NormalOne
 pub mod NormalAgain
 pub mod NormalVerdict

@@ -26,14 +26,13 @@ use Rattle.lsp_verdict.specs.Outcome.{HasRest}
 use Rattle.lsp_verdict.specs.Placed.{Raw, content, broken, show, Brings, new_fault, Placed, PlacedAfter, joined}
 use Rattle.lsp_verdict.specs.Verdict.{Verdict}
 use Rattle.lsp_streams.proofs.NormalPieces.{cut_none, cut_some}
-use Rattle.lsp_streams.proofs.NormalOne.{decides}
-use Rattle.lsp_verdict.proofs.Below.{one_log, records_come_first}
+use Rattle.lsp_verdict.proofs.Below.{one_log}
 use Rattle.lsp_verdict.proofs.Outcomes.{cut_joined}
 use Rattle.lsp_verdict.proofs.PlacedLemmas.{one_placed}
 use Rattle.lsp_verdict.proofs.Proved.{stream_laws, cuts_law}
 use Rattle.lsp_verdict.proofs.Sessions.{some_placed}
 use Rattle.lsp_streams.proofs.StreamFound.{says_within}
-use Rattle.lsp_verdict.proofs.Drained.{no_frame, no_fault}
+use Rattle.lsp_verdict.proofs.Streams.{no_stream}
 
 -- ---- lists
 
@@ -236,9 +235,6 @@ frames_placed limits sizes editor server es ss (show n uri t ∷ raws) sane p q 
     let later = frames_placed limits sizes editor server es ss raws sane.1 p q in
     record { placed = (before_fault raws, refl, later.placed); editor_rest = later.editor_rest; server_rest = later.server_rest }
 
-nothing : (limits : Bounds) → IsInRange limits → IsStream limits [] [] [] None
-nothing limits sizes = record { frames = refl; no_more = no_frame limits; fault = no_fault limits sizes }
-
 -- ---- the form as a log
 
 -- the form of these events, as a log
@@ -252,7 +248,7 @@ pub record IsAgain (limits : Bounds) (out : List ℕ) (raws : List Raw) : Type 0
 pub again : (limits : Bounds) → IsInRange limits → (out : List ℕ) (raws : List Raw) → AllByRecursion (IsSane limits) raws → out ≡ form_of limits.chunk raws → length out ≤ limits.log → IsAgain limits out raws
 again limits sizes out raws sane written within =
     let us : List Record = records_of limits.chunk raws in
-    let whole = frames_placed limits sizes [] [] [] [] raws sane (nothing limits sizes) (nothing limits sizes) in
+    let whole = frames_placed limits sizes [] [] [] [] raws sane (no_stream limits sizes) (no_stream limits sizes) in
     let same : merged us ≡ merged (frames_of raws) = merged_records limits.chunk raws sizes.chunk_low in
     let some = some_placed limits [] [] us in
     let events : some.0 ≡ before_fault raws = cuts_law limits us (frames_of raws) some.0 (before_fault raws) same some.1 whole.placed in
@@ -290,14 +286,13 @@ log_fits limits log rs flaw (inl a) = a.1.begins.fits
 log_fits limits log rs flaw (inr a) = subst (λ (xs : List Record). AllByRecursion (Fits limits) xs) (sym a.0) tt
 
 has_form : (limits : Bounds) (log out : List ℕ) (fault : Option Verdict) → IsNormal limits log out fault → HasForm limits out
-has_form limits log out fault (inl (v, is, b)) = record { raws = b.raws; sane = placed_sane limits [] [] b.records b.raws b.begins.fits b.placed; written = b.written }
-has_form limits log out fault (inr w) = record { raws = w.raws; sane = placed_sane limits [] [] w.records w.raws (log_fits limits log w.records w.log_fault w.is_log) w.placed; written = w.written }
+has_form limits log out fault w = record { raws = w.raws; sane = placed_sane limits [] [] w.records w.raws (log_fits limits log w.records w.log_fault w.is_log) w.placed; written = w.written }
 
 pub normal_form_stays : NormalFormStays
 normal_form_stays limits sizes log out fault normal within =
     let form = has_form limits log out fault normal in
     let log_of = again limits sizes out form.raws form.sane form.written within in
-    inr (record {
+    record {
       records = log_of.records;
       log_fault = None;
       raws = before_fault form.raws;
@@ -309,13 +304,10 @@ normal_form_stays limits sizes log out fault normal within =
       server_rest = log_of.server_rest;
       ends = ap (λ (o : Option Verdict). option_or o None) (sound_from [] form.raws);
       written = form.written ∙ ap (λ (rs : List Record). first_line ++ flat_map spelling rs) (sym (same_records limits.chunk form.raws));
-    })
+    }
 
 pub form_is : (limits : Bounds) → IsInRange limits → (log out : List ℕ) (rs : List Record) (flaw : Option (ℕ × LogCode)) (raws : List Raw) (fault : Option Verdict) → IsLog limits log rs flaw → Placed limits rs raws → IsNormal limits log out fault → out ≡ form_of limits.chunk raws
-form_is limits sizes log out rs flaw raws fault is_log placed (inl (v, is, b)) =
-    let cut = records_come_first limits sizes log b.rest b.records rs flaw b.begins is_log in
-    b.written ∙ sym (decides limits b.records rs cut.0 b.raws raws v cut.1 b.placed placed b.breaks).form
-form_is limits sizes log out rs flaw raws fault is_log placed (inr w) =
+form_is limits sizes log out rs flaw raws fault is_log placed w =
     let same = one_log limits sizes log w.records rs w.log_fault flaw w.is_log is_log in
     w.written ∙ ap (form_of limits.chunk) (one_placed limits (stream_laws limits) [] [] rs w.raws raws (subst (λ (xs : List Record). Placed limits xs w.raws) same.0 w.placed) placed)
 

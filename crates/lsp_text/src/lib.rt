@@ -18,8 +18,6 @@ mod lined;
 mod plain;
 mod spot;
 mod store;
-#[cfg(test)]
-mod tests;
 
 pub use changes::{change, change_all};
 pub use counts::{Counts, measure};

@@ -10,7 +10,6 @@ pub mod Finding
 pub mod Verdicts
 pub mod Messages
 pub mod CallsMade
-pub mod Bindings
 pub mod Meanings
 pub mod Logs
 pub mod Listing
@@ -34,3 +33,5 @@ pub mod Interleavings
 pub mod InterleavingRows
 pub mod Drained
 pub mod OneRecord
+pub mod RunReading
+pub mod JoinedStreams

@@ -7,8 +7,7 @@ use Rattle.lsp_frame.specs.Bounds.{Bounds, IsInRange}
 use Rattle.lsp_types.specs.declared.side.Side.TheVariants.{Editor, Server}
 use Rattle.lsp_log.specs.declared.fault.LogCode.{LogCode}
 use Rattle.lsp_log.specs.Log.{Record, Fits, head_of, spelling, first_line, BeginsLog}
-use Rattle.lsp_verdict.specs.Event.{Event}
-use Rattle.lsp_verdict.specs.Laws.{OneVerdict, SomeVerdict, merged}
+use Rattle.lsp_verdict.specs.Laws.{OneVerdict, SomeVerdict, SomeFinal, EventsFirst, OffenceDecides, merged}
 use Rattle.lsp_verdict.specs.Placed.{IsSession, joined}
 use Rattle.lsp_verdict.specs.Outcome.{IsFinal, IsVerdict, Offends, ending}
 use Rattle.lsp_verdict.specs.Verdict.{Verdict, verdict}
@@ -47,7 +46,7 @@ final_more limits rs us more flaw v w whole p q = offends_final limits rs more f
 
 -- ---- each log has a verdict
 
-pub some_final : (limits : Bounds) (rs : List Record) (flaw : Option (ℕ × LogCode)) → (v : Verdict) × IsFinal limits rs flaw v
+pub some_final : SomeFinal
 some_final limits rs flaw =
     let session = some_session limits rs in
     let editor = some_stream limits (joined Editor rs) in
@@ -71,14 +70,13 @@ some_verdict limits log =
     (final.0, record { records = whole.0; fault = whole.1; is_log = whole.2; final = final.1 })
 
 -- its events begin with those of records that it begins with
-pub events_first : (limits : Bounds) → IsInRange limits → (log rest : List ℕ) (rs : List Record) (es : List Event) (v : Verdict) → BeginsLog limits log rs rest → IsSession limits rs es → (whole : IsVerdict limits log v)
-    → (later : List Event) × (whole.final.events ≡ es ++ later)
+pub events_first : EventsFirst
 events_first limits sizes log rest rs es v begins session whole =
     let cut = records_come_first limits sizes log rest rs whole.records whole.fault begins whole.is_log in
     session_front limits rs cut.0 es whole.final.events session (subst (λ (us : List Record). IsSession limits us whole.final.events) cut.1 whole.final.session)
 
 -- where an event of these offends, the No at the first is the verdict
-pub offence_decides : (limits : Bounds) → IsInRange limits → (log rest : List ℕ) (rs : List Record) (v : Verdict) → BeginsLog limits log rs rest → Offends limits rs v → IsVerdict limits log v
+pub offence_decides : OffenceDecides
 offence_decides limits sizes log rest rs v begins offends =
     let whole = some_verdict limits log in
     let cut = records_come_first limits sizes log rest rs whole.1.records whole.1.fault begins whole.1.is_log in

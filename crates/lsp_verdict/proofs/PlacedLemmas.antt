@@ -53,7 +53,7 @@ nothing_behind limits laws bytes more us n r s f g rule is a b =
     (cancel_all us n (laws.contents (bytes ++ more) _ _ _ _ _ _ b later), laws.fault (bytes ++ more) _ _ _ _ _ _ b later ∙ sym is)
 
 -- two pieces, one after the other, bring what they bring as one
-join_brings : (limits : Bounds) → StreamLaws limits → (side : Side) (before x y : List ℕ) (now later : List Raw) → Brings limits side before x now → Brings limits side (before ++ x) y later → Brings limits side before (x ++ y) (now ++ later)
+pub join_brings : (limits : Bounds) → StreamLaws limits → (side : Side) (before x y : List ℕ) (now later : List Raw) → Brings limits side before x now → Brings limits side (before ++ x) y later → Brings limits side before (x ++ y) (now ++ later)
 join_brings limits laws side before x y now later b c =
     let same : c.contents ≡ b.contents ++ b.new_contents = laws.contents (before ++ x) _ _ _ _ _ _ c.stream b.new_stream in
     let fault_same : c.old_fault ≡ b.last_fault = laws.fault (before ++ x) _ _ _ _ _ _ c.stream b.new_stream in

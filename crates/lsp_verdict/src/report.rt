@@ -172,6 +172,3 @@ pub fn report_of(alloc: Global, verdict: &Verdict) -> Result<Vec<u8>, Memory>
         Verdict::BadLog { number, fault } => bad_log_report(alloc, *number, *fault),
     }
 }
-
-#[cfg(test)]
-mod tests;

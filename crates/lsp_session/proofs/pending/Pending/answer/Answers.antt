@@ -3,7 +3,7 @@ use Rattle.lsp_rpc.specs.Ident.{id_view}
 use Rattle.lsp_rpc.specs.contracts.message.IdPartialEq.TheImpl.{eq-value}
 use Rattle.lsp_session.specs.Entry.{request_view}
 use Rattle.lsp_session.specs.Held.{request_of}
-use Rattle.lsp_session.proofs.Entries.{IsHeld-answer, entries_of-answer, entry_of-held, has_id-held, lookup-request_of, puts-updates, without-absent}
+use Rattle.lsp_session.proofs.Entries.{IsHeld-answer, filter-others, entries_of-answer, entry_of-held, has_id-held, lookup-request_of, puts-updates, without-absent}
 use Rattle.lsp_session.proofs.Ids.{eq_is_same_id}
 use Rattle.lsp_session.proofs.pending.Pending.answer.Goals as goal
 
@@ -33,7 +33,7 @@ invariant_of-self-2 c =
     let id = c.args.id.now in
     let es = c.self.inside.requests.entries in
     let puts = puts-updates (eq-value).it eq_is_same_id (id_view id) ((eq-value).it id) (eq_is_same_id id) None es _ c.swap_remove.ensures.updates.0 in
-    rw c.forget.ensures (IsHeld-answer (id_view id) (request_of es) _ puts _ c.self.invariant)
+    rw (c.remove.ensures ∙ filter-others ((eq-value).it id) (id_view id) (eq_is_same_id id) c.self.inside.order) (IsHeld-answer (id_view id) (request_of es) _ puts _ c.self.invariant)
 
 pub returns-clause-found : goal.returns-clause-found
 returns-clause-found c =
@@ -48,4 +48,4 @@ returns-clause-left c =
     let id = c.args.id.now in
     let es = c.self.inside.requests.entries in
     let puts = puts-updates (eq-value).it eq_is_same_id (id_view id) ((eq-value).it id) (eq_is_same_id id) None es _ c.swap_remove.ensures.updates.0 in
-    rw (c.forget.ensures, ← c.self.view_is) (entries_of-answer (id_view id) (request_of es) _ puts _ c.self.invariant.have)
+    rw (c.remove.ensures ∙ filter-others ((eq-value).it id) (id_view id) (eq_is_same_id id) c.self.inside.order, ← c.self.view_is) (entries_of-answer (id_view id) (request_of es) _ puts _ c.self.invariant.have)

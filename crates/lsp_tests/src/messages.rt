@@ -1,0 +1,455 @@
+//! Messages: the rules that contents break, what messages mean, and the words that name them.
+use lsp_rpc::{
+    Id, Memory, Message, RpcFault, Side, act_of, copy_id, picked_of, read, same_id, take_act,
+    words_of,
+};
+use serde_json::Value;
+use std::alloc::{AllocError, Global};
+use std::test::Fail;
+
+/// The rule that a content breaks, or 0 for a message.
+fn rule_of(alloc: Global, content: &[u8]) -> u16 {
+    match read(alloc, content) {
+        Ok(_) => 0,
+        Err(RpcFault::Rule(rule)) => rule,
+        Err(RpcFault::Memory) => 1,
+    }
+}
+
+fn nested(alloc: Global, depth: usize) -> Result<Vec<u8>, Memory> {
+    let mut content = Vec::new(alloc);
+    content.extend_from_slice(&[b'['; 128][..depth.min(128)])?;
+    content.extend_from_slice(&[b']'; 128][..depth.min(128)])?;
+    Ok(content)
+}
+
+const CONTENTS: [(&str, u16); 25] = [
+    ("", 201),
+    ("{", 201),
+    ("\"\\ud800\"", 201),
+    ("[]", 202),
+    ("{}", 203),
+    ("{\"jsonrpc\":\"2.1\",\"method\":\"exit\"}", 203),
+    ("{\"jsonrpc\":\"2.0\",\"method\":null}", 204),
+    (
+        "{\"jsonrpc\":\"2.0\",\"id\":null,\"method\":\"initialize\"}",
+        205,
+    ),
+    (
+        "{\"jsonrpc\":\"2.0\",\"id\":true,\"method\":\"initialize\"}",
+        205,
+    ),
+    (
+        "{\"jsonrpc\":\"2.0\",\"id\":2147483648,\"method\":\"initialize\"}",
+        205,
+    ),
+    (
+        "{\"jsonrpc\":\"2.0\",\"id\":[],\"result\":1,\"error\":1}",
+        205,
+    ),
+    (
+        "{\"jsonrpc\":\"2.0\",\"method\":\"exit\",\"params\":1}",
+        206,
+    ),
+    ("{\"jsonrpc\":\"2.0\"}", 207),
+    ("{\"jsonrpc\":\"2.0\",\"id\":1}", 207),
+    (
+        "{\"jsonrpc\":\"2.0\",\"id\":1,\"result\":null,\"error\":{\"code\":1,\"message\":\"\"}}",
+        207,
+    ),
+    ("{\"jsonrpc\":\"2.0\",\"result\":null}", 207),
+    (
+        "{\"jsonrpc\":\"2.0\",\"id\":1,\"error\":{\"message\":\"m\"}}",
+        208,
+    ),
+    ("{\"jsonrpc\":\"2.0\",\"id\":1,\"error\":null}", 208),
+    (
+        "{\"jsonrpc\":\"2.0\",\"id\":1,\"method\":\"initialize\"}",
+        0,
+    ),
+    (
+        "{\"jsonrpc\":\"2.0\",\"id\":1,\"method\":\"initialize\",\"params\":{}}",
+        0,
+    ),
+    (
+        "{\"jsonrpc\":\"2.0\",\"method\":\"textDocument/didClose\",\"params\":[]}",
+        0,
+    ),
+    (
+        "{\"jsonrpc\":\"2.0\",\"method\":\"$/cancelRequest\",\"params\":{\"id\":null}}",
+        0,
+    ),
+    ("{\"jsonrpc\":\"2.0\",\"id\":1,\"result\":null}", 0),
+    (
+        "{\"jsonrpc\":\"2.0\",\"method\":\"initialize\",\"params\":{\"capabilities\":{}}}",
+        0,
+    ),
+    (
+        "{\"jsonrpc\":\"2.0\",\"method\":\"exit\",\"extra\":[1],\"params\":null}",
+        0,
+    ),
+];
+
+#[test]
+fn contents_give_their_rules(rt: HostRuntime) -> Result<(), Fail> {
+    for (content, rule) in CONTENTS {
+        assert_eq!(rt; rule_of(rt.alloc(), content.as_bytes()), rule, "{content}");
+    }
+    Ok(())
+}
+
+#[test]
+fn hostile_contents_give_their_rules(rt: HostRuntime) -> Result<(), Fail> {
+    let alloc = rt.alloc();
+    assert_eq!(rt; rule_of(alloc, nested(alloc, 127)?.as_slice()), 202);
+    assert_eq!(rt; rule_of(alloc, nested(alloc, 128)?.as_slice()), 201);
+    assert_eq!(rt;
+        rule_of(alloc, b"{\"jsonrpc\":\"2.0\",\"method\":\"\xff\"}"),
+        201
+    );
+    Ok(())
+}
+
+/// What a message means on its side, or the rule that it breaks.
+fn meaning_of(alloc: Global, side: Side, content: &str) -> Result<String, AllocError> {
+    match read(alloc, content.as_bytes()).and_then(|message| act_of(alloc, &message, side)) {
+        Ok(act) => format!(in alloc; "{act:?}"),
+        Err(fault) => format!(in alloc; "{fault}"),
+    }
+}
+
+const MEANINGS: [(Side, &str, &str); 36] = [
+    (
+        Side::Editor,
+        "{\"jsonrpc\":\"2.0\",\"id\":1,\"method\":\"initialize\",\"params\":{\"capabilities\":{}}}",
+        "Initialize(Offer { encodings: None, token: None })",
+    ),
+    (
+        Side::Editor,
+        "{\"jsonrpc\":\"2.0\",\"id\":1,\"method\":\"initialize\",\"params\":{\"workDoneToken\":\"w\",\"capabilities\":{\"general\":{\"positionEncodings\":[\"utf-8\",\"x\"]}}}}",
+        "Initialize(Offer { encodings: Some([\"utf-8\", \"x\"]), token: Some(Text(\"w\")) })",
+    ),
+    (
+        Side::Editor,
+        "{\"jsonrpc\":\"2.0\",\"id\":1,\"method\":\"initialize\",\"params\":{\"workDoneToken\":null,\"capabilities\":{\"general\":{\"positionEncodings\":null}}}}",
+        "Initialize(Offer { encodings: None, token: None })",
+    ),
+    (
+        Side::Editor,
+        "{\"jsonrpc\":\"2.0\",\"method\":\"initialized\",\"params\":{}}",
+        "Initialized",
+    ),
+    (
+        Side::Editor,
+        "{\"jsonrpc\":\"2.0\",\"id\":2,\"method\":\"shutdown\",\"params\":null}",
+        "Shutdown",
+    ),
+    (
+        Side::Editor,
+        "{\"jsonrpc\":\"2.0\",\"method\":\"exit\"}",
+        "Exit",
+    ),
+    (
+        Side::Editor,
+        "{\"jsonrpc\":\"2.0\",\"method\":\"textDocument/didOpen\",\"params\":{\"textDocument\":{\"uri\":\"file:///a\",\"languageId\":\"x\",\"version\":1,\"text\":\"ab\"}}}",
+        "DidOpen { uri: \"file:///a\", version: 1, text: \"ab\" }",
+    ),
+    (
+        Side::Editor,
+        "{\"jsonrpc\":\"2.0\",\"method\":\"textDocument/didChange\",\"params\":{\"textDocument\":{\"uri\":\"file:///a\",\"version\":2},\"contentChanges\":[{\"text\":\"a\",\"range\":null},{\"range\":{\"start\":{\"line\":0,\"character\":2147483647},\"end\":{\"line\":1,\"character\":0}},\"text\":\"b\"}]}}",
+        "DidChange { uri: \"file:///a\", version: 2, changes: [Change { span: None, text: \"a\" }, Change { span: Some(Span { first: Position { line: 0, column: 2147483647 }, second: Position { line: 1, column: 0 } }), text: \"b\" }] }",
+    ),
+    (
+        Side::Editor,
+        "{\"jsonrpc\":\"2.0\",\"method\":\"textDocument/didChange\",\"params\":{\"textDocument\":{\"uri\":\"file:///a\",\"version\":2},\"contentChanges\":[]}}",
+        "DidChange { uri: \"file:///a\", version: 2, changes: [] }",
+    ),
+    (
+        Side::Editor,
+        "{\"jsonrpc\":\"2.0\",\"method\":\"textDocument/didClose\",\"params\":{\"textDocument\":{\"uri\":\"file:///a\"}}}",
+        "DidClose { uri: \"file:///a\" }",
+    ),
+    (
+        Side::Editor,
+        "{\"jsonrpc\":\"2.0\",\"method\":\"textDocument/didSave\",\"params\":{\"textDocument\":{\"uri\":\"file:///a\"},\"text\":\"x\"}}",
+        "DidSave { uri: \"file:///a\", text: Some(\"x\") }",
+    ),
+    (
+        Side::Editor,
+        "{\"jsonrpc\":\"2.0\",\"method\":\"textDocument/didSave\",\"params\":{\"textDocument\":{\"uri\":\"file:///a\"},\"text\":null}}",
+        "DidSave { uri: \"file:///a\", text: None }",
+    ),
+    (
+        Side::Editor,
+        "{\"jsonrpc\":\"2.0\",\"method\":\"$/cancelRequest\",\"params\":{\"id\":7}}",
+        "Cancel { id: Number(7) }",
+    ),
+    (
+        Side::Server,
+        "{\"jsonrpc\":\"2.0\",\"method\":\"$/cancelRequest\",\"params\":{\"id\":\"7\"}}",
+        "Cancel { id: Text(\"7\") }",
+    ),
+    (
+        Side::Server,
+        "{\"jsonrpc\":\"2.0\",\"method\":\"$/progress\",\"params\":{\"token\":\"w\",\"value\":{}}}",
+        "Progress { token: Text(\"w\") }",
+    ),
+    (
+        Side::Server,
+        "{\"jsonrpc\":\"2.0\",\"method\":\"window/logMessage\",\"params\":{\"type\":3,\"message\":\"m\"}}",
+        "Early",
+    ),
+    (
+        Side::Server,
+        "{\"jsonrpc\":\"2.0\",\"id\":5,\"method\":\"window/showMessageRequest\",\"params\":{}}",
+        "Early",
+    ),
+    (
+        Side::Server,
+        "{\"jsonrpc\":\"2.0\",\"id\":1,\"method\":\"client/registerCapability\",\"params\":{\"registrations\":[{\"id\":\"r\",\"method\":\"a\"}]}}",
+        "Register { methods: [\"a\"] }",
+    ),
+    (
+        Side::Editor,
+        "{\"jsonrpc\":\"2.0\",\"method\":\"$/progress\",\"params\":[]}",
+        "Other",
+    ),
+    (
+        Side::Server,
+        "{\"jsonrpc\":\"2.0\",\"method\":\"exit\"}",
+        "Other",
+    ),
+    (
+        Side::Editor,
+        "{\"jsonrpc\":\"2.0\",\"method\":\"initialize\",\"params\":{\"capabilities\":{}}}",
+        "Other",
+    ),
+    (
+        Side::Editor,
+        "{\"jsonrpc\":\"2.0\",\"id\":1,\"result\":null}",
+        "Other",
+    ),
+    (
+        Side::Editor,
+        "{\"jsonrpc\":\"2.0\",\"id\":1,\"method\":\"initialize\"}",
+        "rule 209",
+    ),
+    (
+        Side::Editor,
+        "{\"jsonrpc\":\"2.0\",\"id\":1,\"method\":\"initialize\",\"params\":{}}",
+        "rule 209",
+    ),
+    (
+        Side::Editor,
+        "{\"jsonrpc\":\"2.0\",\"id\":1,\"method\":\"initialize\",\"params\":{\"capabilities\":[]}}",
+        "rule 209",
+    ),
+    (
+        Side::Editor,
+        "{\"jsonrpc\":\"2.0\",\"id\":1,\"method\":\"initialize\",\"params\":{\"capabilities\":{\"general\":1}}}",
+        "rule 209",
+    ),
+    (
+        Side::Editor,
+        "{\"jsonrpc\":\"2.0\",\"id\":1,\"method\":\"initialize\",\"params\":{\"capabilities\":{\"general\":{\"positionEncodings\":[\"a\",1]}}}}",
+        "rule 209",
+    ),
+    (
+        Side::Editor,
+        "{\"jsonrpc\":\"2.0\",\"id\":1,\"method\":\"initialize\",\"params\":{\"capabilities\":{},\"workDoneToken\":true}}",
+        "rule 209",
+    ),
+    (
+        Side::Editor,
+        "{\"jsonrpc\":\"2.0\",\"method\":\"textDocument/didOpen\",\"params\":{\"textDocument\":{\"uri\":\"file:///a\",\"version\":\"1\",\"text\":\"t\"}}}",
+        "rule 209",
+    ),
+    (
+        Side::Editor,
+        "{\"jsonrpc\":\"2.0\",\"method\":\"textDocument/didClose\",\"params\":[]}",
+        "rule 209",
+    ),
+    (
+        Side::Editor,
+        "{\"jsonrpc\":\"2.0\",\"method\":\"$/cancelRequest\",\"params\":{\"id\":null}}",
+        "rule 209",
+    ),
+    (
+        Side::Editor,
+        "{\"jsonrpc\":\"2.0\",\"method\":\"textDocument/didChange\",\"params\":{\"textDocument\":{\"uri\":\"file:///a\",\"version\":2},\"contentChanges\":[{\"range\":{\"start\":{\"line\":-1,\"character\":0},\"end\":{\"line\":1,\"character\":0}},\"text\":\"a\"}]}}",
+        "rule 209",
+    ),
+    (
+        Side::Editor,
+        "{\"jsonrpc\":\"2.0\",\"method\":\"textDocument/didChange\",\"params\":{\"textDocument\":{\"uri\":\"file:///a\",\"version\":2},\"contentChanges\":[{\"range\":{\"start\":{\"line\":0,\"character\":0},\"end\":{\"line\":0,\"character\":2147483648}},\"text\":\"a\"}]}}",
+        "rule 209",
+    ),
+    (
+        Side::Editor,
+        "{\"jsonrpc\":\"2.0\",\"method\":\"textDocument/didChange\",\"params\":{\"textDocument\":{\"uri\":\"file:///a\",\"version\":2},\"contentChanges\":[{\"range\":null}]}}",
+        "rule 209",
+    ),
+    (
+        Side::Editor,
+        "{\"jsonrpc\":\"2.0\",\"method\":\"textDocument/didSave\",\"params\":{\"textDocument\":{\"uri\":\"file:///a\"},\"text\":1}}",
+        "rule 209",
+    ),
+    (
+        Side::Server,
+        "{\"jsonrpc\":\"2.0\",\"id\":1,\"method\":\"client/registerCapability\",\"params\":{\"registrations\":[{\"id\":\"r\"}]}}",
+        "rule 209",
+    ),
+];
+
+#[test]
+fn messages_have_their_meanings(rt: HostRuntime) -> Result<(), Fail> {
+    for (side, content, meaning) in MEANINGS {
+        let found = meaning_of(rt.alloc(), side, content)?;
+        assert_eq!(rt; found.as_str(), meaning, "{content}");
+    }
+    Ok(())
+}
+
+fn has_params(message: &Message) -> bool {
+    match message {
+        Message::Request { params, .. } | Message::Notification { params, .. } => params.is_some(),
+        Message::Response { .. } => false,
+    }
+}
+
+/// What a message means, taken out of it, and the words that then name the message.
+fn taken_of(alloc: Global, side: Side, content: &str) -> Result<String, RpcFault> {
+    let mut message = read(alloc, content.as_bytes())?;
+    let act = take_act(alloc, &mut message, side);
+    let words = match words_of(alloc, &message) {
+        Ok(words) => words,
+        Err(Memory) => return Err(RpcFault::Memory),
+    };
+    let left = if has_params(&message) {
+        " with params"
+    } else {
+        ""
+    };
+    match act {
+        Ok(act) => Ok(format!(in alloc; "{act:?} of {words}{left}")?),
+        Err(fault) => Ok(format!(in alloc; "{fault} of {words}{left}")?),
+    }
+}
+
+#[test]
+fn texts_are_moved_out_of_their_message(rt: HostRuntime) -> Result<(), Fail> {
+    let rows = [
+        (
+            "{\"jsonrpc\":\"2.0\",\"id\":7,\"method\":\"initialize\",\"params\":{\"workDoneToken\":\"w\",\"capabilities\":{}}}",
+            "Initialize(Offer { encodings: None, token: Some(Text(\"w\")) }) of request 7 \"initialize\"",
+        ),
+        (
+            "{\"jsonrpc\":\"2.0\",\"method\":\"textDocument/didOpen\",\"params\":{\"textDocument\":{\"uri\":\"file:///a\",\"languageId\":\"x\",\"version\":1,\"text\":\"ab\"}}}",
+            "DidOpen { uri: \"file:///a\", version: 1, text: \"ab\" } of notification \"textDocument/didOpen\"",
+        ),
+        (
+            "{\"jsonrpc\":\"2.0\",\"method\":\"textDocument/didOpen\",\"params\":{\"textDocument\":{\"uri\":\"file:///a\",\"version\":1}}}",
+            "rule 209 of notification \"textDocument/didOpen\"",
+        ),
+        (
+            "{\"jsonrpc\":\"2.0\",\"id\":\"a\",\"result\":{}}",
+            "Other of result \"a\"",
+        ),
+    ];
+    for (content, expected) in rows {
+        let found = taken_of(rt.alloc(), Side::Editor, content)?;
+        assert_eq!(rt; found.as_str(), expected, "{content}");
+    }
+    Ok(())
+}
+
+fn picks_of(alloc: Global, answer: &Value) -> Result<String, AllocError> {
+    match picked_of(alloc, answer) {
+        Ok(picked) => format!(in alloc; "{picked:?}"),
+        Err(fault) => format!(in alloc; "{fault}"),
+    }
+}
+
+#[test]
+fn results_pick_an_encoding_and_a_kind(rt: HostRuntime) -> Result<(), Fail> {
+    let rows = [
+        (
+            "{\"capabilities\":{\"textDocumentSync\":2}}",
+            "Picked { encoding: \"utf-16\", kind: Incremental }",
+        ),
+        (
+            "{\"capabilities\":{\"positionEncoding\":\"utf-8\",\"textDocumentSync\":{\"change\":1}}}",
+            "Picked { encoding: \"utf-8\", kind: Full }",
+        ),
+        (
+            "{\"capabilities\":{\"positionEncoding\":null,\"textDocumentSync\":{\"change\":null}}}",
+            "Picked { encoding: \"utf-16\", kind: Nothing }",
+        ),
+        (
+            "{\"capabilities\":{}}",
+            "Picked { encoding: \"utf-16\", kind: Nothing }",
+        ),
+        ("{\"capabilities\":{\"textDocumentSync\":3}}", "rule 501"),
+        (
+            "{\"capabilities\":{\"textDocumentSync\":{\"change\":\"1\"}}}",
+            "rule 501",
+        ),
+        ("{\"capabilities\":{\"positionEncoding\":8}}", "rule 501"),
+        ("{\"capabilities\":[]}", "rule 501"),
+        ("null", "rule 501"),
+    ];
+    for (answer, picks) in rows {
+        let found = picks_of(rt.alloc(), &Value::from_str(rt.alloc(), answer)?)?;
+        assert_eq!(rt; found.as_str(), picks, "{answer}");
+    }
+    Ok(())
+}
+
+#[test]
+fn messages_have_their_words(rt: HostRuntime) -> Result<(), Fail> {
+    let rows = [
+        (
+            "{\"jsonrpc\":\"2.0\",\"id\":1,\"method\":\"initialize\",\"params\":{\"capabilities\":{}}}",
+            "request 1 \"initialize\"",
+        ),
+        (
+            "{\"jsonrpc\":\"2.0\",\"id\":2,\"method\":\"shutdown\",\"params\":null}",
+            "request 2 \"shutdown\"",
+        ),
+        (
+            "{\"jsonrpc\":\"2.0\",\"method\":\"exit\"}",
+            "notification \"exit\"",
+        ),
+        ("{\"jsonrpc\":\"2.0\",\"id\":2,\"result\":null}", "result 2"),
+        (
+            "{\"jsonrpc\":\"2.0\",\"id\":7,\"error\":{\"code\":-32800,\"message\":\"c\"}}",
+            "error 7 -32800",
+        ),
+        (
+            "{\"jsonrpc\":\"2.0\",\"id\":null,\"result\":null}",
+            "result null",
+        ),
+        (
+            "{\"jsonrpc\":\"2.0\",\"id\":\"a\\\"\\n\",\"method\":\"m\"}",
+            "request \"a\\\"\\n\" \"m\"",
+        ),
+    ];
+    for (content, words) in rows {
+        let message = read(rt.alloc(), content.as_bytes())?;
+        assert_eq!(rt;
+            words_of(rt.alloc(), &message)?.as_str(),
+            words,
+            "{content}"
+        );
+    }
+    Ok(())
+}
+
+#[test]
+fn a_number_and_a_text_are_two_ids(rt: HostRuntime) -> Result<(), Fail> {
+    let number = Id::Number(1);
+    let text = Id::Text(String::from_str(rt.alloc(), "1")?);
+    assert!(rt; !same_id(&number, &text));
+    assert!(rt; same_id(&copy_id(&text)?, &text));
+    Ok(())
+}

@@ -1,0 +1,298 @@
+//! Contents read by their outline.
+use lsp_rpc::{Answer, Id, Memory, Message, OutlineReader, RpcFault, Side, words_of};
+use serde_json::Value;
+use std::alloc::{AllocError, Global};
+use std::test::Fail;
+
+/// The words of a content's message, or the rule that it breaks.
+fn words_or_rule(
+    alloc: Global,
+    reader: &mut OutlineReader,
+    content: &str,
+) -> Result<String, AllocError> {
+    match reader.words(content.as_bytes()) {
+        Ok(words) => Ok(words),
+        Err(fault) => format!(in alloc; "{fault}"),
+    }
+}
+
+const CONTENTS: [(&str, &str); 14] = [
+    (
+        "{\"jsonrpc\":\"2.0\",\"id\":1,\"result\":[1,-2.5e3,{\"a\":null}]}",
+        "result 1",
+    ),
+    (
+        "{\"result\":{},\"id\":\"7\",\"jsonrpc\":\"2.0\"}",
+        "result \"7\"",
+    ),
+    (
+        "{\"jsonrpc\":\"2.0\",\"id\":null,\"result\":true}",
+        "result null",
+    ),
+    (
+        "{\"jsonrpc\":\"2.0\",\"id\":1,\"error\":{\"code\":-32800,\"message\":\"\"}}",
+        "error 1 -32800",
+    ),
+    (
+        "{\"jsonrpc\":\"2.0\",\"id\":-3,\"method\":\"a\",\"params\":[]}",
+        "request -3 \"a\"",
+    ),
+    (
+        "{\"jsonrpc\":\"2.0\",\"method\":\"a\",\"method\":\"b\",\"other\":[[]]}",
+        "notification \"b\"",
+    ),
+    (
+        "{\"jsonrpc\":\"2.0\",\"method\":\"a\",\"params\":1,\"params\":{}}",
+        "notification \"a\"",
+    ),
+    (
+        "{\"jsonrpc\":\"2.0\",\"method\":\"a\",\"params\":1}",
+        "rule 206",
+    ),
+    (
+        "{\"jsonrpc\":\"2.0\",\"id\":1,\"result\":1,\"error\":1}",
+        "rule 207",
+    ),
+    (
+        "{\"jsonrpc\":\"2.0\",\"id\":1,\"result\":1e999}",
+        "rule 201",
+    ),
+    (
+        "{\"jsonrpc\":\"2.0\",\"id\":1,\"result\":\"\\ud800\"}",
+        "rule 201",
+    ),
+    ("{\"jsonrpc\":\"2.0\",\"id\":1,\"result\":1} 2", "rule 201"),
+    ("{\"jsonrpc\":\"2.0\",\"id\":1,\"result\":[1,]}", "rule 201"),
+    ("[]", "rule 202"),
+];
+
+#[test]
+fn words_of_outlines(rt: HostRuntime) -> Result<(), Fail> {
+    let alloc = rt.alloc();
+    let mut reader = OutlineReader::new(alloc);
+    for (content, words) in CONTENTS {
+        assert_eq!(rt; words_or_rule(alloc, &mut reader, content)?.as_str(), words);
+    }
+    Ok(())
+}
+
+#[test]
+fn outlines_and_answers(rt: HostRuntime) -> Result<(), Fail> {
+    let mut reader = OutlineReader::new(rt.alloc());
+    let call = reader.read(b"{\"jsonrpc\":\"2.0\",\"id\":5,\"method\":\"m\",\"params\":{}}");
+    assert!(rt;
+        matches!(
+            call,
+            Ok(Message::Request {
+                id: Id::Number(5),
+                ..
+            })
+        )
+    );
+    let answer = reader.read_answer(b"{\"jsonrpc\":\"2.0\",\"id\":5,\"result\":[]}");
+    assert!(rt;
+        matches!(
+            answer,
+            Ok(Message::Response {
+                id: Some(Id::Number(5)),
+                ..
+            })
+        )
+    );
+    Ok(())
+}
+
+/// A content of more than 1,024 bytes.
+fn long_content(alloc: Global, before: &str, after: &str) -> Result<Vec<u8>, Memory> {
+    let mut content = Vec::new(alloc);
+    content.extend_from_slice(before.as_bytes())?;
+    for _ in 0..11 {
+        content.extend_from_slice(&[b'a'; 100])?;
+    }
+    content.extend_from_slice(after.as_bytes())?;
+    Ok(content)
+}
+
+/// What is kept of the params or of the value that is answered.
+fn kept_of(message: &Message) -> &'static str {
+    match message {
+        Message::Request { params: None, .. } | Message::Notification { params: None, .. } => {
+            "no params"
+        }
+        Message::Request { .. } | Message::Notification { .. } => "params",
+        Message::Response {
+            answer: Answer::Result(Value::Null),
+            ..
+        } => "null",
+        Message::Response { .. } => "whole",
+    }
+}
+
+/// The words of a message and what is kept of it, or the rule that its content breaks.
+fn told(alloc: Global, read: Result<Message, RpcFault>) -> Result<String, Memory> {
+    match read {
+        Ok(message) => {
+            let words = words_of(alloc, &message)?;
+            let kept = kept_of(&message);
+            Ok(format!(in alloc; "{words}, {kept}")?)
+        }
+        Err(fault) => Ok(format!(in alloc; "{fault}")?),
+    }
+}
+
+/// What stands before and behind a long text, and what `read` and `read_answer` tell.
+const LONG: [(&str, &str, &str, &str); 9] = [
+    (
+        "{\"jsonrpc\":\"2.0\",\"id\":5,\"method\":\"m\",\"params\":{\"text\":\"",
+        "\"}}",
+        "request 5 \"m\", no params",
+        "request 5 \"m\", params",
+    ),
+    (
+        "{\"jsonrpc\":\"2.0\",\"method\":\"m\",\"params\":[\"",
+        "\"]}",
+        "notification \"m\", no params",
+        "notification \"m\", params",
+    ),
+    (
+        "{\"jsonrpc\":\"2.0\",\"id\":\"7\",\"result\":\"",
+        "\"}",
+        "result \"7\", null",
+        "result \"7\", null",
+    ),
+    (
+        "{\"jsonrpc\":\"2.0\",\"id\":null,\"result\":[{\"a\":\"",
+        "\",\"b\":[1,-2.5e3,true,null]}]}",
+        "result null, null",
+        "result null, null",
+    ),
+    (
+        "{\"result\":{\"a\":\"",
+        "\"},\"id\":7,\"jsonrpc\":\"2.0\"}",
+        "result 7, null",
+        "result 7, null",
+    ),
+    (
+        "{\"jsonrpc\":\"2.0\",\"id\":7,\"error\":{\"code\":-32800,\"message\":\"",
+        "\"}}",
+        "error 7 -32800, whole",
+        "error 7 -32800, whole",
+    ),
+    (
+        "{\"jsonrpc\":\"2.0\",\"id\":7,\"result\":1,\"x\":\"",
+        "\",\"error\":1}",
+        "rule 207",
+        "rule 207",
+    ),
+    (
+        "{\"jsonrpc\":\"2.0\",\"method\":\"m\",\"params\":\"",
+        "\"}",
+        "rule 206",
+        "rule 206",
+    ),
+    (
+        "{\"jsonrpc\":\"2.0\",\"id\":7,\"result\":\"",
+        "\\ud800\"}",
+        "rule 201",
+        "rule 201",
+    ),
+];
+
+#[test]
+fn long_contents(rt: HostRuntime) -> Result<(), Fail> {
+    let alloc = rt.alloc();
+    let mut reader = OutlineReader::new(alloc);
+    for (before, after, outline, answer) in LONG {
+        let content = long_content(alloc, before, after)?;
+        let content = content.as_slice();
+        assert_eq!(rt; told(alloc, reader.read(content))?.as_str(), outline);
+        assert_eq!(rt; told(alloc, reader.read_answer(content))?.as_str(), answer);
+    }
+    Ok(())
+}
+
+/// What `read_call` tells of a content.
+fn told_call(
+    alloc: Global,
+    reader: &mut OutlineReader,
+    side: Side,
+    content: &str,
+) -> Result<String, Memory> {
+    let Some(spoken) = reader.read_call(side, content.as_bytes()) else {
+        return Ok(String::from_str(alloc, "none")?);
+    };
+    let words = words_of(alloc, &spoken.message)?;
+    Ok(format!(in alloc; "{words}, {:?}", spoken.act)?)
+}
+
+const CALLS: [(Side, &str, &str); 12] = [
+    (
+        Side::Editor,
+        "{\"jsonrpc\":\"2.0\",\"id\":3,\"method\":\"textDocument/hover\",\"params\":{\"position\":{\"line\":1,\"character\":2}}}",
+        "request 3 \"textDocument/hover\", Other",
+    ),
+    (
+        Side::Editor,
+        "{\"jsonrpc\":\"2.0\",\"method\":\"initialized\",\"params\":{}}",
+        "notification \"initialized\", Initialized",
+    ),
+    (
+        Side::Editor,
+        "{\"id\":\"a\",\"method\":\"shutdown\",\"jsonrpc\":\"2.0\"}",
+        "request \"a\" \"shutdown\", Shutdown",
+    ),
+    (
+        Side::Server,
+        "{\"jsonrpc\":\"2.0\",\"method\":\"exit\",\"params\":null}",
+        "notification \"exit\", Other",
+    ),
+    (
+        Side::Server,
+        "{\"jsonrpc\":\"2.0\",\"method\":\"window/logMessage\",\"params\":{\"type\":3,\"message\":\"\"}}",
+        "notification \"window/logMessage\", Early",
+    ),
+    (
+        Side::Server,
+        "{\"jsonrpc\":\"2.0\",\"id\":1,\"method\":\"window/showMessageRequest\",\"params\":[]}",
+        "request 1 \"window/showMessageRequest\", Early",
+    ),
+    (
+        Side::Editor,
+        "{\"jsonrpc\":\"2.0\",\"method\":\"textDocument/didClose\",\"params\":{\"textDocument\":{\"uri\":\"a\"}}}",
+        "none",
+    ),
+    (
+        Side::Server,
+        "{\"jsonrpc\":\"2.0\",\"method\":\"$/cancelRequest\",\"params\":{\"id\":1}}",
+        "none",
+    ),
+    (
+        Side::Editor,
+        "{\"jsonrpc\":\"2.0\",\"id\":3,\"method\":\"textDocument/hover\",\"params\":1}",
+        "none",
+    ),
+    (
+        Side::Server,
+        "{\"jsonrpc\":\"2.0\",\"id\":3,\"result\":null}",
+        "none",
+    ),
+    (
+        Side::Server,
+        "{\"jsonrpc\":\"2.0\",\"id\":3,\"error\":{\"code\":1,\"message\":\"\"}}",
+        "none",
+    ),
+    (Side::Editor, "[]", "none"),
+];
+
+#[test]
+fn calls_by_their_names(rt: HostRuntime) -> Result<(), Fail> {
+    let alloc = rt.alloc();
+    let mut reader = OutlineReader::new(alloc);
+    for (side, content, words) in CALLS {
+        assert_eq!(rt;
+            told_call(alloc, &mut reader, side, content)?.as_str(),
+            words
+        );
+    }
+    Ok(())
+}

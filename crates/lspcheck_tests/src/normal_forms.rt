@@ -1,0 +1,57 @@
+//! Normal forms of small logs, at small limits.
+use lsp_judge::{Input, Limits, Outcome, Output, RunFault, report_of, run_normal};
+use std::alloc::Global;
+use std::test::*;
+
+/// The normal form of a log, and the report of the fault that ends it, if any.
+fn normal_of(alloc: Global, limits: Limits, log: &[u8]) -> Result<(Vec<u8>, Vec<u8>), RunFault> {
+    let mut written = Vec::new(alloc);
+    let mut source = Input::new(log);
+    let outcome = {
+        let mut sink = Output::new(&mut written);
+        run_normal(alloc, &mut source, &mut sink, limits)?
+    };
+    let report = match outcome {
+        Outcome::Judged(verdict) => report_of(alloc, &verdict)?,
+        _ => Vec::new(alloc),
+    };
+    Ok((written, report))
+}
+
+#[test]
+fn normal_forms_of_small_logs(rt: HostRuntime) {
+    let limits = Limits::new(64, 200, 64, 2, 4096).expect(&rt, "limits");
+    let rows: [(&[u8], &[u8], &str); 6] = [
+        (b"lsp-session 1\n", b"lsp-session 1\n", ""),
+        (
+            b"lsp-session 1\nE 33\nContent-Length: 75\r\n\r\n{\"jsonrpc\":\nE 64\n\"2.0\",\"id\":1,\"method\":\"initialize\",\"params\":{\"capabilities\":{}}}\n",
+            b"lsp-session 1\nE 64\nContent-Length: 75\r\n\r\n{\"jsonrpc\":\"2.0\",\"id\":1,\"method\":\"initiali\nE 33\nze\",\"params\":{\"capabilities\":{}}}\n",
+            "",
+        ),
+        (
+            b"lsp-session 1\nS 24\ncontent-length: 02\r\n\r\n{}\nT -1 1 2\nu\nab\n",
+            b"lsp-session 1\nS 23\nContent-Length: 2\r\n\r\n{}\nT -1 1 2\nu\nab\n",
+            "",
+        ),
+        (
+            b"lsp-session 1\nE 3\nabc\nS 3\nabc\n",
+            b"lsp-session 1\n",
+            "no 107 editor 1 event 1\nstream ends inside a frame\n",
+        ),
+        (
+            b"lsp-session 1\nT 1 1 0\nu\n\nS 44\nContent-Length: 1\r\n\r\n?Content-Length: x\r\n\r\n?\nX\n",
+            b"lsp-session 1\nT 1 1 0\nu\n\nS 22\nContent-Length: 1\r\n\r\n?\n",
+            "no 104 server 2 event 3\nbad Content-Length number\n",
+        ),
+        (
+            b"lsp-session 9\n",
+            b"lsp-session 1\n",
+            "bad log L1 record 0\nbad first line\n",
+        ),
+    ];
+    for (log, normal, report) in rows {
+        let (written, told) = normal_of(rt.alloc(), limits, log).expect(&rt, "no fault");
+        assert_eq!(rt; written.as_slice(), normal);
+        assert_eq!(rt; told.as_slice(), report.as_bytes());
+    }
+}

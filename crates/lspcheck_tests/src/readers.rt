@@ -1,0 +1,121 @@
+//! Readers and writers that give and take little, and fail at a chosen call.
+use std::io;
+use std::io::{Read, Write};
+
+/// A reader that gives so many bytes a call at most, and whose calls fail once none is left.
+#[derive(Drop)]
+pub(super) struct Pieces<'a> {
+    pub(super) rest: &'a [u8],
+    pub(super) most: usize,
+    pub(super) calls_left: u64,
+}
+
+impl<'a> Pieces<'a> {
+    /// A reader whose calls don't fail.
+    pub(super) fn new(rest: &'a [u8], most: usize) -> Pieces<'a> {
+        Pieces {
+            rest,
+            most,
+            calls_left: u64::MAX,
+        }
+    }
+}
+
+impl Read for Pieces<'_> {
+    ghost use Rattle.std.specs.Prelude.{None};
+
+    ghost remaining = { λ _. None };
+
+    fn read(&mut self, buf: &mut [u8]) -> io::Result<usize> {
+        if self.calls_left == 0 {
+            return Err(io::Error::from(io::ErrorKind::Other));
+        }
+        self.calls_left -= 1;
+        let most = buf.len().min(self.most);
+        self.rest.read(&mut buf[..most])
+    }
+}
+
+/// A reader that gives these bytes and fails in place of its end.
+#[derive(Drop)]
+pub(super) struct Broken<'a> {
+    pub(super) rest: &'a [u8],
+}
+
+impl Read for Broken<'_> {
+    ghost use Rattle.std.specs.Prelude.{None};
+
+    ghost remaining = { λ _. None };
+
+    fn read(&mut self, buf: &mut [u8]) -> io::Result<usize> {
+        if self.rest.is_empty() {
+            return Err(io::Error::from(io::ErrorKind::Other));
+        }
+        self.rest.read(buf)
+    }
+}
+
+/// A reader without an end: its first bytes, and then others over and over.
+#[derive(Drop)]
+pub(super) struct Endless<'a> {
+    pub(super) rest: &'a [u8],
+    pub(super) again: &'a [u8],
+    pub(super) given: u64,
+}
+
+impl<'a> Endless<'a> {
+    pub(super) fn new(first: &'a [u8], again: &'a [u8]) -> Endless<'a> {
+        Endless {
+            rest: first,
+            again,
+            given: 0,
+        }
+    }
+}
+
+impl Read for Endless<'_> {
+    ghost use Rattle.std.specs.Prelude.{None};
+
+    ghost remaining = { λ _. None };
+
+    fn read(&mut self, buf: &mut [u8]) -> io::Result<usize> {
+        if self.rest.is_empty() {
+            self.rest = self.again;
+        }
+        let count = self.rest.read(buf)?;
+        self.given = self.given.wrapping_add(count as u64);
+        Ok(count)
+    }
+}
+
+/// A writer that takes one byte a call, and whose calls fail once none is left, or take nothing.
+#[derive(Drop)]
+pub(super) struct Sparing {
+    pub(super) bytes: Vec<u8>,
+    pub(super) calls_left: u64,
+    pub(super) takes_nothing: bool,
+}
+
+impl Write for Sparing {
+    ghost use Rattle.std.specs.Prelude.{Some};
+
+    ghost contents = { λ w. Some w.bytes.items };
+
+    fn write(&mut self, buf: &[u8]) -> io::Result<usize> {
+        if self.calls_left == 0 {
+            if self.takes_nothing {
+                return Ok(0);
+            }
+            return Err(io::Error::from(io::ErrorKind::Other));
+        }
+        self.calls_left -= 1;
+        if buf.is_empty() {
+            return Ok(0);
+        }
+        self.bytes.write(&buf[..1])
+    }
+
+    fn flush(&mut self) -> io::Result<()> {
+        Ok(())
+    }
+}
