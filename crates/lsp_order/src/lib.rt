@@ -2,7 +2,5 @@
 #![tactic(auto)]
 
 mod order;
-#[cfg(test)]
-mod tests;
 
 pub use order::Order;

@@ -1,5 +1,5 @@
 -- The normal form of a log: each content as its canonical frame, in records that are full but for the last, and each snapshot as it is.
-use Rattle.std.specs.Prelude.{◌≡◌, ◌⊎◌, ℕ, ◌+◌, List, [], ◌∷◌, ◌++◌, length, map, filter, Bool, true, false, Option, Some, None}
+use Rattle.std.specs.Prelude.{◌≡◌, ℕ, ◌+◌, List, [], ◌∷◌, ◌++◌, length, map, filter, Bool, true, false, Option, Some, None}
 use Rattle.std.specs.Int.{div_ceil}
 use Rattle.std.specs.List.{flat_map}
 use Rattle.std.specs.Option.{option_or}
@@ -10,7 +10,7 @@ use Rattle.lsp_types.specs.declared.side.Side.{Side}
 use Rattle.lsp_types.specs.declared.side.Side.TheVariants.{Editor, Server}
 use Rattle.lsp_session.specs.Sent.{same_side}
 use Rattle.lsp_log.specs.declared.fault.LogCode.{LogCode}
-use Rattle.lsp_log.specs.Log.{Record, chunk, shown, first_line, spelling, BeginsLog, IsLog}
+use Rattle.lsp_log.specs.Log.{Record, chunk, shown, first_line, spelling, IsLog}
 use Rattle.lsp_verdict.specs.declared.outcome.Outcome.{Outcome}
 use Rattle.lsp_verdict.specs.declared.outcome.Outcome.TheVariants.{Done, Judged, Stream, NoDocument, TooFew}
 use Rattle.lsp_verdict.specs.Given.{verdict_view}
@@ -72,18 +72,8 @@ fault_of raws end = option_or (first_broken raws) (option_or (bad_log_of end.log
 
 -- ---- the normal form of a log
 
--- the log begins with records in which the frames have a fault, so that it doesn't matter how it goes on
-pub record IsBroken (limits : Bounds) (log out : List ℕ) (v : Verdict) : Type 0 where
-  pub records : List Record
-  pub rest : List ℕ
-  pub raws : List Raw
-  pub begins : BeginsLog limits log records rest
-  pub placed : Placed limits records raws
-  pub breaks : first_broken raws ≡ Some v
-  pub written : out ≡ form_of limits.chunk raws
-
--- all of the log, with this fault or none
-pub record IsWhole (limits : Bounds) (log out : List ℕ) (fault : Option Verdict) : Type 0 where
+-- **the normal form of a log**: its events up to the first fault of the frames, and the fault that ends it, or none
+pub record IsNormal (limits : Bounds) (log out : List ℕ) (fault : Option Verdict) : Type 0 where
   pub records : List Record
   pub log_fault : Option (ℕ × LogCode)
   pub raws : List Raw
@@ -95,10 +85,6 @@ pub record IsWhole (limits : Bounds) (log out : List ℕ) (fault : Option Verdic
   pub server_rest : HasRest limits (joined Server records) server
   pub ends : fault_of raws (ending log_fault editor server) ≡ fault
   pub written : out ≡ form_of limits.chunk raws
-
--- **the normal form of a log**, and the fault that ends it, or none
-abbrev pub IsNormal : Bounds → List ℕ → List ℕ → Option Verdict → Type 0
-IsNormal limits log out fault = ((v : Verdict) × (fault ≡ Some v) × IsBroken limits log out v) ⊎ IsWhole limits log out fault
 
 -- ---- a run
 

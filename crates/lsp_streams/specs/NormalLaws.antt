@@ -8,7 +8,11 @@ use Rattle.lsp_verdict.specs.Placed.{Raw, content, broken, show, Placed}
 use Rattle.lsp_verdict.specs.Outcome.{IsVerdict}
 use Rattle.lsp_verdict.specs.Verdict.{Verdict, yes, no, bad_log}
 
--- **A log has one normal form**, which ends with one fault or none.
+-- **Every log has a normal form**, whatever its bytes.
+abbrev pub SomeNormalForm : Type 0
+SomeNormalForm = (limits : Bounds) (log : List ℕ) → (out : List ℕ) × (fault : Option Verdict) × IsNormal limits log out fault
+
+-- **And it has one**, which ends with one fault or none.
 abbrev pub OneNormalForm : Type 0
 OneNormalForm = (limits : Bounds) → IsInRange limits → (log out other : List ℕ) (f g : Option Verdict) → IsNormal limits log out f → IsNormal limits log other g → (out ≡ other) × (f ≡ g)
 

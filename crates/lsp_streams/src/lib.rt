@@ -11,5 +11,6 @@ pub use frames::run_frames;
 pub use normal::run_normal;
 pub use normal_laws::{
     normal_form_keeps_events, normal_form_keeps_verdict, normal_form_stays, one_normal_form,
+    some_normal_form,
 };
 pub use stream_laws::{one_run, some_run};

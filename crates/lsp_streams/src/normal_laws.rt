@@ -1,7 +1,12 @@
 //! Laws of normal forms, each the contract of a function that does nothing.
-ghost use Rattle.lsp_streams.specs.NormalLaws.{OneNormalForm, NormalFormKeepsEvents, NormalFormKeepsVerdict, NormalFormStays};
+ghost use Rattle.lsp_streams.specs.NormalLaws.{OneNormalForm, NormalFormKeepsEvents, NormalFormKeepsVerdict, NormalFormStays, SomeNormalForm};
 
-/// A log has one normal form, which ends with one fault or none.
+/// Every list of bytes has a normal form.
+pub fn some_normal_form()
+    ensures { SomeNormalForm }
+{}
+
+/// And it has one only, which ends with one fault or none.
 pub fn one_normal_form()
     ensures { OneNormalForm }
 {}

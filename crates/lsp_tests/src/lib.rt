@@ -1,4 +1,4 @@
-//! Tests of frames, messages, sessions, texts, documents and logs, by their public names alone.
+//! Tests of frames, messages, sessions, texts, documents, logs and keys in order, by their public names alone.
 //!
 //! They stand apart from the crates that they try, so that each of those is proved once.
 #![tactic(auto)]
@@ -13,6 +13,8 @@ mod frames;
 mod logs;
 #[cfg(test)]
 mod messages;
+#[cfg(test)]
+mod order;
 #[cfg(test)]
 mod outlines;
 #[cfg(test)]

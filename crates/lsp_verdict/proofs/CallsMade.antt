@@ -1,4 +1,4 @@
--- Where no event offends, the calls on documents are accepted, and versions rise.
+-- Where no event offends, the calls on documents are accepted, versions rise, and held texts are those of the snapshots.
 use Rattle.std.proofs.Common.{◌≡◌, ℕ, Bool, true, false, List, [], ◌∷◌, ◌++◌, Option, Some, None, refl, sym, ap, subst, ◌∙◌, append-nil}
 use Rattle.std.specs.Prelude.{ℤ, int_lt, not, if◌then◌else◌, map, option_and_then, unwrap_or}
 use Rattle.std.specs.List.{cons_option}
@@ -15,9 +15,10 @@ use Rattle.lsp_text.specs.Edits.{Edit}
 use Rattle.lsp_docs.specs.Rules.{change_rule, call_rule, AreAcceptedFrom, AreAccepted}
 use Rattle.lsp_verdict.specs.Calls.{edit_of, call_of, call_at, calls}
 use Rattle.lsp_verdict.specs.Event.{Event, message, fault, snapshot, sent_in}
-use Rattle.lsp_verdict.specs.Kept.{NothingOffends, VersionsRise}
+use Rattle.lsp_verdict.specs.Kept.{NothingOffends, VersionsRise, SnapshotsAgree}
 use Rattle.lsp_verdict.specs.LookBack.{first_from, each_from}
 use Rattle.lsp_verdict.specs.Verdict.{no_by, no_at, first_no, offence, document_rule}
+use Rattle.lsp_verdict.proofs.Below.{bound-agrees}
 use Rattle.lsp_verdict.proofs.Finding.{map_none}
 use Rattle.lsp_verdict.proofs.LookBackLemmas.{or_none_parts, each_of-snoc}
 
@@ -60,3 +61,8 @@ versions_rise limit es clean before after m uri number cs cut means =
     let kind = unwrap_or (sync_kind (sent_in before)) Nothing in
     let made : call_of enc kind m.act ≡ call_of enc kind (did_change uri number cs) = ap (call_of enc kind) means in
     rises limit _ _ _ number (map edit_of cs) (held limit uri (calls before)) (ap (option_and_then (call_rule limit (calls before))) (sym made) ∙ none)
+
+-- after every prefix each held text is that of each snapshot of its opening and version
+pub snapshots_agree : (limit : ℕ) (made : List Call) → AreAccepted limit made → SnapshotsAgree limit made
+snapshots_agree limit made accepted before after front back uri number text v whole cut is same binds =
+    bound-agrees limit before after front back uri number text v (subst (AreAccepted limit) whole accepted) (sym whole ∙ cut) binds is same

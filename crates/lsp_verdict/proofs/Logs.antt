@@ -1,53 +1,23 @@
 -- A log has a verdict, and one only.
-use Rattle.std.proofs.Common.{◌≡◌, ◌⊎◌, ℕ, List, [], ◌∷◌, ◌++◌, Bool, true, Option, inl, inr, refl, sym, ap, subst, ◌∙◌, append_assoc}
-use Rattle.std.specs.Prelude.{IsTrue}
-use Rattle.std.specs.List.{flat_map, AllByRecursion}
-use Rattle.std.proofs.lemmas.List.{append_cancel_left}
+use Rattle.std.proofs.Common.{◌≡◌, ℕ, List, ◌++◌, Option, refl, sym, ap, subst}
 use Rattle.lsp_frame.specs.Bounds.{Bounds, IsInRange}
 use Rattle.lsp_types.specs.declared.side.Side.TheVariants.{Editor, Server}
 use Rattle.lsp_log.specs.declared.fault.LogCode.{LogCode}
-use Rattle.lsp_log.specs.Log.{Record, Fits, head_of, spelling, first_line, BeginsLog}
-use Rattle.lsp_verdict.specs.Event.{Event}
-use Rattle.lsp_verdict.specs.Laws.{OneVerdict, SomeVerdict, merged}
+use Rattle.lsp_log.specs.Log.{Record}
+use Rattle.lsp_verdict.specs.Laws.{OneVerdict, SomeVerdict, SomeFinal, EventsFirst, OffenceDecides, merged}
 use Rattle.lsp_verdict.specs.Placed.{IsSession, joined}
 use Rattle.lsp_verdict.specs.Outcome.{IsFinal, IsVerdict, Offends, ending}
 use Rattle.lsp_verdict.specs.Verdict.{Verdict, verdict}
-use Rattle.lsp_verdict.proofs.Below.{range_writable, spelling_one, one_log, some_log, some_stream, records_come_first}
+use Rattle.lsp_verdict.proofs.Below.{one_log, some_log, some_stream, records_come_first}
 use Rattle.lsp_verdict.proofs.Outcomes.{cuts_leave_verdict, offends_final, session_front}
 use Rattle.lsp_verdict.proofs.Sessions.{same_session, some_session}
-
-is_true : {b : Bool} → IsTrue b → b ≡ true
-is_true e = e
-
--- one list of records begins the other
-abbrev pub Begin : List Record → List Record → Type 0
-Begin rs us = ((more : List Record) × (us ≡ rs ++ more)) ⊎ ((more : List Record) × (rs ≡ us ++ more))
-
-begin_next : (r : Record) (rs us : List Record) → Begin rs us → Begin (r ∷ rs) (r ∷ us)
-begin_next r rs us (inl (more, e)) = inl (more, ap (λ w. r ∷ w) e)
-begin_next r rs us (inr (more, e)) = inr (more, ap (λ w. r ∷ w) e)
-
-spellings : (limits : Bounds) → IsInRange limits → (rs us : List Record) (xs ys : List ℕ) → AllByRecursion (Fits limits) rs → AllByRecursion (Fits limits) us
-    → flat_map spelling rs ++ xs ≡ flat_map spelling us ++ ys → Begin rs us
-spellings limits sizes [] us xs ys p q e = inl (us, refl)
-spellings limits sizes (r ∷ rs) [] xs ys p q e = inr (r ∷ rs, refl)
-spellings limits sizes (r ∷ rs) (u ∷ us) xs ys p q e =
-    let heads = spelling_one r u (flat_map spelling rs ++ xs) (flat_map spelling us ++ ys) (range_writable limits sizes (head_of r) (is_true p.0.range)) (range_writable limits sizes (head_of u) (is_true q.0.range))
-    (sym (append_assoc (spelling r) (flat_map spelling rs) xs) ∙ e ∙ append_assoc (spelling u) (flat_map spelling us) ys) in
-    subst (λ (w : Record). Begin (r ∷ rs) (w ∷ us)) heads.0 (begin_next r rs us (spellings limits sizes rs us xs ys p.1 q.1 heads.1))
-
-pub both_begin : (limits : Bounds) → IsInRange limits → (log : List ℕ) (rs us : List Record) (xs ys : List ℕ) → BeginsLog limits log rs xs → BeginsLog limits log us ys → Begin rs us
-both_begin limits sizes log rs us xs ys p q =
-    spellings limits sizes rs us xs ys p.fits q.fits
-    (append_cancel_left first_line _ _
-    (sym (append_assoc first_line (flat_map spelling rs) xs) ∙ sym p.whole ∙ q.whole ∙ append_assoc first_line (flat_map spelling us) ys))
 
 pub final_more : (limits : Bounds) (rs us more : List Record) (flaw : Option (ℕ × LogCode)) (v w : Verdict) → us ≡ rs ++ more → Offends limits rs v → IsFinal limits us flaw w → v ≡ w
 final_more limits rs us more flaw v w whole p q = offends_final limits rs more flaw v w p (subst (λ (x : List Record). IsFinal limits x flaw w) whole q)
 
 -- ---- each log has a verdict
 
-pub some_final : (limits : Bounds) (rs : List Record) (flaw : Option (ℕ × LogCode)) → (v : Verdict) × IsFinal limits rs flaw v
+pub some_final : SomeFinal
 some_final limits rs flaw =
     let session = some_session limits rs in
     let editor = some_stream limits (joined Editor rs) in
@@ -71,14 +41,13 @@ some_verdict limits log =
     (final.0, record { records = whole.0; fault = whole.1; is_log = whole.2; final = final.1 })
 
 -- its events begin with those of records that it begins with
-pub events_first : (limits : Bounds) → IsInRange limits → (log rest : List ℕ) (rs : List Record) (es : List Event) (v : Verdict) → BeginsLog limits log rs rest → IsSession limits rs es → (whole : IsVerdict limits log v)
-    → (later : List Event) × (whole.final.events ≡ es ++ later)
+pub events_first : EventsFirst
 events_first limits sizes log rest rs es v begins session whole =
     let cut = records_come_first limits sizes log rest rs whole.records whole.fault begins whole.is_log in
     session_front limits rs cut.0 es whole.final.events session (subst (λ (us : List Record). IsSession limits us whole.final.events) cut.1 whole.final.session)
 
 -- where an event of these offends, the No at the first is the verdict
-pub offence_decides : (limits : Bounds) → IsInRange limits → (log rest : List ℕ) (rs : List Record) (v : Verdict) → BeginsLog limits log rs rest → Offends limits rs v → IsVerdict limits log v
+pub offence_decides : OffenceDecides
 offence_decides limits sizes log rest rs v begins offends =
     let whole = some_verdict limits log in
     let cut = records_come_first limits sizes log rest rs whole.1.records whole.1.fault begins whole.1.is_log in

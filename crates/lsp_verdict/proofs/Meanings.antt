@@ -1,9 +1,7 @@
 -- What the verdicts on a log mean.
 use Rattle.std.proofs.Common.{◌≡◌, ◌⊎◌, ◌<◌, ℕ, Bool, true, false, List, [], ◌∷◌, length, Option, Some, None, inl, inr, refl, sym, ap, subst, ◌∙◌, arith}
-use Rattle.std.proofs.lemmas.List.{length-append}
 use Rattle.lsp_frame.specs.Bounds.{Bounds, IsInRange}
 use Rattle.lsp_frame.specs.Frame.{Breaks, IsStream}
-use Rattle.lsp_frame.specs.Header.{blank_line}
 use Rattle.lsp_types.specs.declared.side.Side.TheVariants.{Editor, Server}
 use Rattle.lsp_log.specs.declared.fault.LogCode.{LogCode}
 use Rattle.lsp_log.specs.Log.{Record, IsLog}
@@ -17,16 +15,12 @@ use Rattle.lsp_verdict.specs.Placed.{IsSession, joined}
 use Rattle.lsp_verdict.specs.declared.verdict.Who.{Who}
 use Rattle.lsp_verdict.specs.declared.verdict.Who.TheVariants as who
 use Rattle.lsp_verdict.specs.Verdict.{Verdict, Summary, yes, no, bad_log, no_next, no_by, first_no, bad_log_of, rest_of, summary}
-use Rattle.lsp_verdict.proofs.Bindings.{snapshots_agree}
-use Rattle.lsp_verdict.proofs.CallsMade.{calls_accepted, versions_rise}
+use Rattle.lsp_verdict.proofs.CallsMade.{calls_accepted, versions_rise, snapshots_agree}
+use Rattle.lsp_verdict.proofs.Streams.{no_fault}
 use Rattle.lsp_verdict.proofs.Messages.{admitted, answers_match, keeps_lifecycle}
 use Rattle.lsp_verdict.proofs.Verdicts.{nothing_offends, nothing_found, names_first, Why, is_yes, is_refused, yes_where}
 
 -- ---- a stream with nothing left has no fault
-
-no_fault : (limits : Bounds) → IsInRange limits → (rule : ℕ) → Breaks limits [] rule → ⊥
-no_fault limits sizes rule (inl b) = absurd (omega (arith, b.1.long, sizes.header_low))
-no_fault limits sizes rule (inr b) = absurd (omega (arith, ap length b.whole, length-append b.header b.after, ap length b.part.ends.1, length-append b.part.ends.0 blank_line))
 
 frames_of : (limits : Bounds) → IsInRange limits → (bytes contents_rest : List ℕ) → contents_rest ≡ [] → HasRest limits bytes contents_rest → AreFrames limits bytes
 frames_of limits sizes bytes left none (contents, None, stream) = (contents, subst (λ (w : List ℕ). IsStream limits bytes contents w None) none stream)

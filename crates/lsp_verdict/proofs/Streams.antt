@@ -1,11 +1,30 @@
--- The contents of bytes are the first ones of those of more bytes.
-use Rattle.std.proofs.Common.{ℕ, List, ◌++◌, refl, subst}
+-- The stream of no bytes, and of more bytes.
+use Rattle.std.proofs.Common.{ℕ, List, [], ◌++◌, None, inl, inr, refl, subst, ap, length, arith}
 use Rattle.std.specs.Prelude.{map}
-use Rattle.lsp_frame.specs.Bounds.{Bounds}
-use Rattle.lsp_frame.specs.Frame.{IsStream}
+use Rattle.std.proofs.lemmas.List.{length-append}
+use Rattle.lsp_frame.specs.Bounds.{Bounds, IsInRange}
+use Rattle.lsp_frame.specs.Frame.{Begins, Breaks, IsStream}
+use Rattle.lsp_frame.specs.Header.{blank_line}
 use Rattle.lsp_types.specs.declared.side.Side.{Side}
 use Rattle.lsp_verdict.specs.Placed.{Raw, content, Brings, new_fault}
 use Rattle.lsp_verdict.proofs.Below.{frames_more, frames_first, some_stream}
+
+-- ---- no bytes
+
+no_frame : (limits : Bounds) (bytes after : List ℕ) → Begins limits [] bytes after → ⊥
+no_frame limits bytes after b =
+    let ends = b.2.part.ends in
+    absurd (omega (arith, ap length b.1, length-append b.0 after, ap length b.2.whole, length-append b.2.header bytes, ap length ends.1, length-append ends.0 blank_line))
+
+pub no_fault : (limits : Bounds) → IsInRange limits → (rule : ℕ) → Breaks limits [] rule → ⊥
+no_fault limits sizes rule (inl b) = absurd (omega (arith, b.1.long, sizes.header_low))
+no_fault limits sizes rule (inr b) = absurd (omega (arith, ap length b.whole, length-append b.header b.after, ap length b.part.ends.1, length-append b.part.ends.0 blank_line))
+
+-- no bytes have no content and no fault
+pub no_stream : (limits : Bounds) → IsInRange limits → IsStream limits [] [] [] None
+no_stream limits sizes = record { frames = refl; no_more = no_frame limits; fault = no_fault limits sizes }
+
+-- ---- more bytes
 
 -- more bytes bring something, be it nothing
 pub some_brings : (limits : Bounds) (side : Side) (before more : List ℕ) → (now : List Raw) × Brings limits side before more now

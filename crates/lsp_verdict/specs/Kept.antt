@@ -1,7 +1,5 @@
 -- What Yes says of a session, in plain words.
-use Rattle.std.specs.Prelude.{◌≡◌, ℕ, ℤ, ◌+◌, int_lt, List, [], ◌∷◌, ◌++◌, length, true, ◌&&◌, not, if◌then◌else◌, Option, Some, None, is_some, option_map}
-use Rattle.std.specs.List.{list_any}
-use Rattle.std.specs.Option.{option_or}
+use Rattle.std.specs.Prelude.{◌≡◌, ℕ, ℤ, ◌+◌, int_lt, List, [], ◌∷◌, ◌++◌, length, true, Some, None}
 use Rattle.lsp_frame.specs.Bounds.{Bounds}
 use Rattle.lsp_frame.specs.Frame.{IsStream}
 use Rattle.lsp_rpc.specs.Act.{Change, did_change}
@@ -9,8 +7,9 @@ use Rattle.lsp_types.specs.declared.side.Side.TheVariants.{Editor, Server}
 use Rattle.lsp_session.specs.Lifecycle.{lifecycle_rule}
 use Rattle.lsp_session.specs.Requests.{answers}
 use Rattle.lsp_session.specs.Sent.{Sent, is_response}
-use Rattle.lsp_docs.specs.Calls.{Call, shows, is_close}
-use Rattle.lsp_docs.specs.Documents.{Version, opening, held}
+use Rattle.lsp_docs.specs.Binding.{standing, binding}
+use Rattle.lsp_docs.specs.Calls.{Call, shows}
+use Rattle.lsp_docs.specs.Documents.{Version, held}
 use Rattle.lsp_log.specs.Log.{Record, IsLog}
 use Rattle.lsp_verdict.specs.Calls.{calls}
 use Rattle.lsp_verdict.specs.Event.{Event, message, sent_in}
@@ -68,26 +67,12 @@ VersionsRise limit events =
     (before after : List Event) (m : Sent) (uri : List ℕ) (number : ℤ) (changes : List Change) → events ≡ before ++ message m ∷ after → m.act ≡ did_change uri number changes
     → (v : Version) × (held limit uri (calls before) ≡ Some v) × (int_lt v.number number ≡ true)
 
--- the place of the opening of this URI that stands after these calls
-abbrev pub opening_place : List ℕ → List Call → Option ℕ
-opening_place uri [] = None
-opening_place uri (c ∷ after) = if is_some (opening uri c) && not (list_any (is_close uri) after) then Some 0 else option_map (λ i. i + 1) (opening_place uri after)
-
--- the place of the first opening of this URI
-abbrev pub next_opening : List ℕ → List Call → Option ℕ
-next_opening uri [] = None
-next_opening uri (c ∷ after) = if is_some (opening uri c) then Some 0 else option_map (λ i. i + 1) (next_opening uri after)
-
--- the opening that a snapshot between these calls binds to: the one that stands there, else the next
-abbrev pub binding : List ℕ → List Call → List Call → Option ℕ
-binding uri before after = option_or (opening_place uri before) (option_map (λ i. length before + 1 + i) (next_opening uri after))
-
 -- **After every prefix, each held text equals every snapshot recorded for its opening and version**, be it recorded before the prefix ends or later.
 abbrev pub SnapshotsAgree : ℕ → List Call → Type 0
 SnapshotsAgree limit made =
     (before after front back : List Call) (uri : List ℕ) (number : ℤ) (text : List ℕ) (v : Version)
     → made ≡ before ++ after → made ≡ front ++ shows uri number text ∷ back
-    → held limit uri before ≡ Some v → v.number ≡ number → binding uri front back ≡ opening_place uri before → v.text ≡ text
+    → held limit uri before ≡ Some v → v.number ≡ number → binding uri front back ≡ standing uri before → v.text ≡ text
 
 -- ---- all of it
 

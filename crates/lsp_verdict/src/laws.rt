@@ -1,6 +1,6 @@
 //! Laws over the definitions: each is the contract of a function that does nothing.
 ghost use Rattle.lsp_verdict.specs.Headline.{BadLogMeansFault, KeptMeansYes, NoNamesTheFirst, YesMeansKept};
-ghost use Rattle.lsp_verdict.specs.Laws.{CutsDontMatter, CutsLeaveVerdict, OneSession, OneVerdict, SomeSession, SomeVerdict};
+ghost use Rattle.lsp_verdict.specs.Laws.{CutsDontMatter, CutsLeaveVerdict, EventsFirst, OffenceDecides, OneSession, OneVerdict, SidesAreStreams, SnapshotsAreShown, SomeFinal, SomeSession, SomeVerdict};
 ghost use Rattle.lsp_verdict.specs.TextAfter.{OneText};
 
 /// Yes means: the log has no fault, both streams are complete frames, no message breaks the
@@ -38,6 +38,14 @@ pub fn one_session()
     ensures { OneSession }
 {}
 
+/// The events of a side, in order, are what the contents of all its bytes are read as, and then the
+/// fault of their frames; the snapshots are those of the records. So the frames that are complete
+/// or not, and those whose messages keep the rules or not, are the same.
+pub fn events_are_streams()
+    ensures sides { SidesAreStreams }
+    ensures snapshots { SnapshotsAreShown }
+{}
+
 /// How bytes are cut into records doesn't matter for the events.
 pub fn cuts_dont_matter()
     ensures { CutsDontMatter }
@@ -46,6 +54,22 @@ pub fn cuts_dont_matter()
 /// Nor for the verdict.
 pub fn cuts_leave_verdict()
     ensures { CutsLeaveVerdict }
+{}
+
+/// Any records have a verdict, however the log that holds them ends.
+pub fn some_final()
+    ensures { SomeFinal }
+{}
+
+/// The events of a log begin with those of any records that it begins with.
+pub fn events_first()
+    ensures { EventsFirst }
+{}
+
+/// Where an event of the records that a log begins with offends, the No at the first of them is the
+/// verdict on the log, whatever else it holds.
+pub fn offence_decides()
+    ensures { OffenceDecides }
 {}
 
 /// All bytes have a verdict: each list of bytes is a log, of which each stream has a reading.

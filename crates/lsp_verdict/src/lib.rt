@@ -19,8 +19,9 @@ pub use interleaving_laws::{
     both_yes_agree, handshake_in_turn, only_order_offends, sessions_are_read,
 };
 pub use laws::{
-    bad_log_means_fault, cuts_dont_matter, cuts_leave_verdict, kept_means_yes, no_names_the_first,
-    one_session, one_text, one_verdict, some_session, some_verdict, yes_means_kept,
+    bad_log_means_fault, cuts_dont_matter, cuts_leave_verdict, events_are_streams, events_first,
+    kept_means_yes, no_names_the_first, offence_decides, one_session, one_text, one_verdict,
+    some_final, some_session, some_verdict, yes_means_kept,
 };
 pub use names::side_name;
 pub use outcome::{Mode, Outcome, RunFault, StreamFault};

@@ -233,61 +233,77 @@ const CUT_OFF: &[u8] = b"Content-Length: 1\r\n\r\n1Content-Length: 2\r\n";
 
 const CUT_OFF_LINES: &[u8] = b"1 1\nfault 107 frame 2\nstream ends inside a frame\n";
 
+/// How a run over these bytes ends whose reader fails behind so many calls, and what it wrote.
+fn read_by(alloc: Global, calls: u64) -> (Ended, Vec<u8>) {
+    let mut written = Vec::new(alloc);
+    let mut source = Input::new(Pieces {
+        rest: CUT_OFF,
+        most: 1,
+        calls_left: calls,
+    });
+    let mut sink = Output::new(&mut written);
+    let ended = run_frames(
+        alloc,
+        &mut source,
+        &mut sink,
+        Limits::profile(),
+        Mode::Lengths,
+    );
+    (ended_of(&ended), written)
+}
+
 #[test]
 fn a_reader_that_fails_at_any_call(rt: HostRuntime) {
     for calls in 0..CUT_OFF.len() as u64 + 2 {
-        let mut written = Vec::new(rt.alloc());
-        let mut source = Input::new(Pieces {
-            rest: CUT_OFF,
-            most: 1,
-            calls_left: calls,
-        });
-        let ended = {
-            let mut sink = Output::new(&mut written);
-            run_frames(
-                rt.alloc(),
-                &mut source,
-                &mut sink,
-                Limits::profile(),
-                Mode::Lengths,
-            )
-        };
-        if calls <= CUT_OFF.len() as u64 {
-            assert_eq!(rt; ended_of(&ended), Err(RunFault::Read));
+        let (ended, written) = read_by(rt.alloc(), calls);
+        let wanted = if calls <= CUT_OFF.len() as u64 {
+            Err(RunFault::Read)
         } else {
-            assert_eq!(rt; ended_of(&ended), fault(2, 107));
-        }
+            fault(2, 107)
+        };
+        assert_eq!(rt; ended, wanted, "{calls} calls");
         assert!(rt; CUT_OFF_LINES.starts_with(written.as_slice()));
     }
 }
 
+/// How a run over these bytes ends that writes to this writer.
+fn written_to(alloc: Global, writer: &mut Sparing) -> Ended {
+    let mut source = Input::new(CUT_OFF);
+    let mut sink = Output::new(writer);
+    let ended = run_frames(
+        alloc,
+        &mut source,
+        &mut sink,
+        Limits::profile(),
+        Mode::Lengths,
+    );
+    ended_of(&ended)
+}
+
+/// How a run ends whose writer takes so many bytes, and then fails or takes nothing, and what it took.
+fn written_by(alloc: Global, calls: u64, takes_nothing: bool) -> (Ended, Vec<u8>) {
+    let mut writer = Sparing {
+        bytes: Vec::new(alloc),
+        calls_left: calls,
+        takes_nothing,
+    };
+    let ended = written_to(alloc, &mut writer);
+    (ended, writer.bytes)
+}
+
 #[test]
 fn a_writer_that_fails_or_takes_nothing_at_any_call(rt: HostRuntime) {
-    for takes_nothing in [false, true] {
-        for calls in 0..CUT_OFF_LINES.len() as u64 + 1 {
-            let mut writer = Sparing {
-                bytes: Vec::new(rt.alloc()),
-                calls_left: calls,
-                takes_nothing,
-            };
-            let mut source = Input::new(CUT_OFF);
-            let ended = {
-                let mut sink = Output::new(&mut writer);
-                run_frames(
-                    rt.alloc(),
-                    &mut source,
-                    &mut sink,
-                    Limits::profile(),
-                    Mode::Lengths,
-                )
-            };
-            if calls < CUT_OFF_LINES.len() as u64 {
-                assert_eq!(rt; ended_of(&ended), Err(RunFault::Write));
-            } else {
-                assert_eq!(rt; ended_of(&ended), fault(2, 107));
-            }
-            assert_eq!(rt; writer.bytes.len() as u64, calls);
-            assert!(rt; CUT_OFF_LINES.starts_with(writer.bytes.as_slice()));
+    for calls in 0..CUT_OFF_LINES.len() as u64 + 1 {
+        let wanted = if calls < CUT_OFF_LINES.len() as u64 {
+            Err(RunFault::Write)
+        } else {
+            fault(2, 107)
+        };
+        for takes_nothing in [false, true] {
+            let (ended, written) = written_by(rt.alloc(), calls, takes_nothing);
+            assert_eq!(rt; ended, wanted, "{calls} calls");
+            assert_eq!(rt; written.len() as u64, calls);
+            assert!(rt; CUT_OFF_LINES.starts_with(written.as_slice()));
         }
     }
 }

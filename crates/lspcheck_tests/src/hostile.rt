@@ -1,8 +1,9 @@
 //! Logs and streams that are cut short, without an end, nested deep, or spoilt in one byte.
 use crate::logs::{Log, frame_of, split_word};
 use crate::readers::{Endless, Pieces};
-use crate::runs::{Task, Work, check_sessions, word_of};
-use lsp_judge::{Input, Limits, Output, run_check};
+use crate::runs::{Work, check_sessions, word_of};
+use lsp_command::Task;
+use lsp_judge::{Input, Limits, Mode, Output, run_check};
 use std::alloc::Global;
 use std::process::Abort;
 use std::test::*;
@@ -57,9 +58,8 @@ fn verdict_on(alloc: Global, log: &[u8], most: usize) -> Result<String, Fail> {
         alloc,
         limits: Limits::profile(),
         log: Pieces::new(log, most),
-        written: &mut written,
     };
-    let _outcome = work.run(Task::Check)?;
+    let _outcome = work.run(Task::Check, &mut written)?;
     let report = str::from_utf8(written.as_slice())?;
     let line = report.lines().next().ok_or("no report")?;
     Ok(String::from_str(alloc, line)?)
@@ -169,9 +169,8 @@ fn lines_of(alloc: Global, stream: &[u8]) -> Result<(String, &'static str), Fail
         alloc,
         limits: Limits::profile(),
         log: Pieces::new(stream, 7),
-        written: &mut written,
     };
-    let ended = work.run(Task::Frames);
+    let ended = work.run(Task::Frames(Mode::Lengths), &mut written);
     let lines = String::from_str(alloc, str::from_utf8(written.as_slice())?)?;
     Ok((lines, word_of(&ended)))
 }
