@@ -2,11 +2,8 @@ pub mod Answered
 pub mod Faults
 pub mod Rulings
 pub mod Standing
-pub mod Taking
-pub mod Showing
+pub mod Next
+pub mod Hearing
 pub mod Logged
-pub mod ShownLog
 pub mod TextAnswers
-pub mod TextRun
-pub mod Until
 pub mod Apart

@@ -1,6 +1,7 @@
+use Rattle.std.proofs.Common.{refl}
 use Rattle.std.proofs.lemmas.Result.{err_from_is_err_and}
-use Rattle.lsp_judge.proofs.Takings.{one_next, fault_next, content_next}
-use Rattle.lsp_judge.proofs.contents.hear_next.Goals as goal
+use Rattle.lsp_judge.proofs.NextContent.{one_next, fault_next, content_next}
+use Rattle.lsp_judge.proofs.contents.next_message.Goals as goal
 
 pub returns-in_err-message-in-Ok-Some-clause-no : goal.returns-in_err-message-in-Ok-Some-clause-no
 returns-in_err-message-in-Ok-Some-clause-no g c =
@@ -17,4 +18,4 @@ returns-in-Err-clause-no g c = λ bytes contents so_far stands follows.
 pub returns-in_ok-message-in-Ok-Some-clause-ok : goal.returns-in_ok-message-in-Ok-Some-clause-ok
 returns-in_ok-message-in-Ok-Some-clause-ok g c = λ bytes contents so_far stands follows.
     let next = rw (c.in-Ok-Some.is, c.in-Ok-Some.field-0-is) at c.next.follows.holds-at-none in
-    one_next c.args.side bytes contents so_far _ _ _ _ _ _ _ stands next (c.in_ok-message-in-Ok-Some.ensures.ok so_far follows)
+    (refl, one_next c.args.side bytes contents so_far _ _ _ _ _ _ _ stands next (c.in_ok-message-in-Ok-Some.ensures.ok so_far follows))
