@@ -397,3 +397,7 @@ stops_rules limits rs before (No rule who number at) o = (
 )
 stops_rules limits rs before (BadLog number code) o = o
 stops_rules limits rs before Memory o = tt
+
+-- and of the limits that were
+pub stops_along : (now limits : Bounds) (rs : List Record) (before : List Event) (ruling : Ruling) → now ≡ limits → Stops now rs before ruling → Rules limits rs ruling
+stops_along now limits rs before ruling same o = subst (λ (b : Bounds). Rules b rs ruling) same (stops_rules now rs before ruling o)

@@ -1,9 +1,6 @@
-use Rattle.std.proofs.Common.{◌++◌, ◌∷◌, [], subst}
+use Rattle.std.proofs.Common.{◌++◌, ◌∷◌, []}
 use Rattle.std.proofs.lemmas.Result.{err_from_is_err_and}
-use Rattle.lsp_frame.specs.Bounds.{Bounds}
-use Rattle.lsp_log.specs.Records.{record_view}
-use Rattle.lsp_judge.specs.Standing.{Rules}
-use Rattle.lsp_judge.proofs.Pulling.{stops_rules, hearing_open}
+use Rattle.lsp_judge.proofs.Pulling.{stops_along, hearing_open}
 use Rattle.lsp_judge.proofs.Records.{keeps_trans}
 use Rattle.lsp_judge.proofs.judge.Judge.hear.Goals as goal
 
@@ -14,7 +11,7 @@ returns-in_err-heard-clause-no g c =
     let p = err_from_is_err_and from.result from.ensures.1 in
     rw p.1 (λ records limits o. rw p.2 (
     let h = kept.hears records limits o in
-    subst (λ (b : Bounds). Rules b (records ++ record_view c.args.next ∷ []) _) kept.keeps.limits (stops_rules _ _ h.0 _ (c.in_err-heard.ensures.no _ h.0 h.1))))
+    stops_along _ _ _ h.0 _ kept.keeps.limits (c.in_err-heard.ensures.no _ h.0 h.1)))
 
 pub loop-heard-preserved : goal.loop-heard-preserved
 loop-heard-preserved g c =
