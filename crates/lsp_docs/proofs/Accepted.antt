@@ -20,9 +20,6 @@ accepted-split limit before (x ∷ xs) ys h =
     let parts = accepted-split limit (before ++ x ∷ []) xs ys h.1 in
     ((h.0, parts.0), subst (λ l. AreAcceptedFrom limit l ys) (append_assoc before (x ∷ []) xs) parts.1)
 
-pub accepted-last : (limit : ℕ) (calls : List Call) (c : Call) → AreAccepted limit (calls ++ c ∷ []) → call_rule limit calls c ≡ None
-accepted-last limit calls c h = (accepted-split limit [] calls (c ∷ []) h).1.0
-
 -- ---- what an accepted call that closes nothing makes of a held version
 
 pub record Next (limit : ℕ) (uri : Bytes) (calls : List Call) (c : Call) (v : Version) : Type 0 where

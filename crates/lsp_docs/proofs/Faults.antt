@@ -1,16 +1,6 @@
--- Faults of changes, and clauses on results.
-use Rattle.std.proofs.Common.{ℕ, Result, Ok, Err}
+-- Clauses on results.
+use Rattle.std.proofs.Common.{Result, Ok, Err}
 use Rattle.std.specs.Prelude.{OnOk, OnErr, IfErr}
-use Rattle.lsp_text.specs.declared.fault.TextFault.{TextFault}
-use Rattle.lsp_text.specs.declared.fault.TextFault.TheVariants as text
-use Rattle.lsp_text.specs.Edits.{IsFaultOf}
-use Rattle.lsp_docs.specs.Texts.{Text}
-use Rattle.lsp_docs.specs.Fault.{Breaks, fault_of}
-
--- a fault of a text is a fault of its document
-pub breaks-fault : (r : Result Text ℕ) (f : TextFault) → IsFaultOf r f → Breaks r (fault_of f)
-breaks-fault r (text.Rule n) h = h
-breaks-fault r text.Memory h = tt
 
 pub on_ok : {U E : Type 0} {P Q : Type 0} (r : Result U E) → (P → Q) → OnOk r P → OnOk r Q
 on_ok (Ok u) f h = f h

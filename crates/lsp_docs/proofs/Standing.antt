@@ -3,8 +3,8 @@ use Rattle.std.proofs.Common.{◌≡◌, ℕ, ◌+◌, Bool, true, false, ◌||�
 use Rattle.std.specs.Prelude.{ℤ, not, is_some, int_lt, slice_get}
 use Rattle.std.specs.Str.{bytes_eq}
 use Rattle.std.proofs.lemmas.Option.{none-some, same_Some}
-use Rattle.lsp_rpc.specs.declared.plain.Encoding.{Encoding}
-use Rattle.lsp_rpc.specs.declared.plain.SyncKind.{SyncKind}
+use Rattle.lsp_types.specs.declared.position.Encoding.{Encoding}
+use Rattle.lsp_types.specs.declared.change.SyncKind.{SyncKind}
 use Rattle.lsp_docs.specs.Texts.{Text}
 use Rattle.lsp_text.specs.Edits.{Edit}
 use Rattle.lsp_docs.specs.Calls.{Bytes, Call, opens, changes, closes, saves, shows}
@@ -89,6 +89,24 @@ held_at (g ∷ hs) (suc i) h d e =
 pub documents-held : (limit : ℕ) (calls : List Call) (i : ℕ) (h : Held) → AreAccepted limit calls → slice_get (documents limit calls) i ≡ Some h → held limit h.uri calls ≡ Some h.version
 documents-held limit calls i h accepted e =
     held-documents limit h.uri calls ∙ held_at (documents limit calls) i h (documents-distinct limit calls accepted) e
+
+-- the URI of the first document stands at no later place
+not_again : (k : Held) (hs : List Held) (j : ℕ) (g h : Held) → IsDistinct (k ∷ hs) → Some k ≡ Some g → slice_get hs j ≡ Some h → g.uri ≡ h.uri → ⊥
+not_again k hs j g h d e f same =
+    let first : k.uri ≡ h.uri = ap (λ x. x.uri) (same_Some k g e) ∙ same in
+    none-some h.version (sym (subst (λ x. held_in x hs ≡ None) first d.0) ∙ held_at hs j h d.1 f)
+
+-- a URI stands at one place
+once_at : (hs : List Held) (i j : ℕ) (g h : Held) → IsDistinct hs → slice_get hs i ≡ Some g → slice_get hs j ≡ Some h → g.uri ≡ h.uri → i ≡ j
+once_at [] i j g h d e f same = absurd (none-some g e)
+once_at (k ∷ hs) zero zero g h d e f same = refl
+once_at (k ∷ hs) zero (suc j) g h d e f same = absurd (not_again k hs j g h d e f same)
+once_at (k ∷ hs) (suc i) zero g h d e f same = absurd (not_again k hs i h g d f e (sym same))
+once_at (k ∷ hs) (suc i) (suc j) g h d e f same = ap suc (once_at hs i j g h d.1 e f same)
+
+pub documents-once : (limit : ℕ) (calls : List Call) (i j : ℕ) (g h : Held) → AreAccepted limit calls → slice_get (documents limit calls) i ≡ Some g
+    → slice_get (documents limit calls) j ≡ Some h → g.uri ≡ h.uri → i ≡ j
+documents-once limit calls i j g h accepted e f same = once_at (documents limit calls) i j g h (documents-distinct limit calls accepted) e f same
 
 -- ---- snapshots
 

@@ -6,8 +6,8 @@ use Rattle.std.specs.Option.{option_or}
 use Rattle.std.specs.List.{list_any}
 use Rattle.std.proofs.lemmas.Option.{none-some}
 use Rattle.std.proofs.lemmas.List.Folds.{list_any-append}
-use Rattle.lsp_rpc.specs.declared.plain.Encoding.{Encoding}
-use Rattle.lsp_rpc.specs.declared.plain.SyncKind.{SyncKind}
+use Rattle.lsp_types.specs.declared.position.Encoding.{Encoding}
+use Rattle.lsp_types.specs.declared.change.SyncKind.{SyncKind}
 use Rattle.lsp_docs.specs.Texts.{Text}
 use Rattle.lsp_text.specs.Edits.{Edit, applied}
 use Rattle.lsp_docs.specs.Calls.{Bytes, Call, opens, changes, closes, saves, shows, is_close}
@@ -34,9 +34,6 @@ still c s = still_at c s.uri s.version.number
 pub none_row : (b : Bool) (n : ℕ) (rest : Option ℕ) → (if b then Some n else rest) ≡ None → (b ≡ false) × (rest ≡ None)
 none_row true n rest h = absurd (none-some n (sym h))
 none_row false n rest h = (refl, h)
-
-pub none_last : (x : Option ℕ) → (if true then x else None) ≡ None → x ≡ None
-none_last x h = h
 
 pub not_false : (b : Bool) → not b ≡ false → b ≡ true
 not_false true h = refl

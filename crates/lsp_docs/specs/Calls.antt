@@ -1,8 +1,8 @@
 -- What is said of documents, one call after another: a URI, and then what the message or the snapshot says of it.
 use Rattle.std.specs.Prelude.{ℕ, ℤ, List, Bool, false, Option}
 use Rattle.std.specs.Str.{bytes_eq}
-use Rattle.lsp_rpc.specs.declared.plain.Encoding.{Encoding}
-use Rattle.lsp_rpc.specs.declared.plain.SyncKind.{SyncKind}
+use Rattle.lsp_types.specs.declared.position.Encoding.{Encoding}
+use Rattle.lsp_types.specs.declared.change.SyncKind.{SyncKind}
 use Rattle.lsp_docs.specs.Texts.{Text}
 use Rattle.lsp_text.specs.Edits.{Edit}
 

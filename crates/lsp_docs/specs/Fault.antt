@@ -16,6 +16,11 @@ abbrev pub Names : Option ℕ → DocFault → Type 0
 Names rule (Rule n) = rule ≡ Some n
 Names rule Memory = Unit {0}
 
+-- the fault names a rule, and is no want of memory
+abbrev pub IsRule : DocFault → Type 0
+IsRule (Rule n) = Unit {0}
+IsRule Memory = ⊥
+
 -- the fault is the rule that refuses the text, unless memory ran out
 abbrev pub Breaks : Result Text ℕ → DocFault → Type 0
 Breaks r (Rule n) = r ≡ Err n

@@ -27,9 +27,11 @@ abbrev pub HeldIsShown : Type 0
 HeldIsShown = (limit : ℕ) (before after front back : List Call) (uri : Bytes) (n : ℤ) (t : Text) (v : Version) → AreAccepted limit (before ++ after)
     → before ++ after ≡ front ++ shows uri n t ∷ back → binding uri front back ≡ standing uri before → held limit uri before ≡ Some v → v.number ≡ n → v.text ≡ t
 
--- **Each open document is held**: what the list of the open documents has at a place is what is held of that URI.
-abbrev pub DocumentsAreHeld : Type 0
-DocumentsAreHeld = (limit : ℕ) (calls : List Call) (i : ℕ) (h : Held) → AreAccepted limit calls → slice_get (documents limit calls) i ≡ Some h → held limit h.uri calls ≡ Some h.version
+-- **Each open document is held**: what the list of the open documents has at a place is what is held of that URI, and no URI stands at two places.
+pub record DocumentsAreHeld : Type 0 where
+  pub each : (limit : ℕ) (calls : List Call) (i : ℕ) (h : Held) → AreAccepted limit calls → slice_get (documents limit calls) i ≡ Some h → held limit h.uri calls ≡ Some h.version
+  pub once : (limit : ℕ) (calls : List Call) (i j : ℕ) (g h : Held) → AreAccepted limit calls → slice_get (documents limit calls) i ≡ Some g
+      → slice_get (documents limit calls) j ≡ Some h → g.uri ≡ h.uri → i ≡ j
 
 -- **A snapshot is compared exactly where a call sets its version for its opening.**
 pub record SettersCompare : Type 0 where

@@ -3,9 +3,9 @@ use Rattle.std.specs.Prelude.{◌≡◌, ℕ, ℤ, int_lt, List, [], ◌∷◌, 
 use Rattle.std.specs.List.{list_any, list_all}
 use Rattle.std.specs.Ordering.{int_eq}
 use Rattle.std.specs.Str.{bytes_eq}
-use Rattle.lsp_rpc.specs.declared.plain.Encoding.{Encoding}
-use Rattle.lsp_rpc.specs.declared.plain.SyncKind.{SyncKind}
-use Rattle.lsp_rpc.specs.declared.plain.SyncKind.TheVariants.{Nothing, Full, Incremental}
+use Rattle.lsp_types.specs.declared.position.Encoding.{Encoding}
+use Rattle.lsp_types.specs.declared.change.SyncKind.{SyncKind}
+use Rattle.lsp_types.specs.declared.change.SyncKind.TheVariants.{Nothing, Full, Incremental}
 use Rattle.lsp_docs.specs.Texts.{Text, byte_len}
 use Rattle.lsp_text.specs.Edits.{Edit, applied}
 use Rattle.lsp_docs.specs.Calls.{Call, opens, changes, closes, saves, shows, uri_of}

@@ -1,6 +1,6 @@
 -- Texts as characters.
 use Rattle.std.specs.Prelude.{ℕ, List}
-use Rattle.lsp_rpc.specs.declared.plain.Encoding.TheVariants.{Utf8}
+use Rattle.lsp_types.specs.declared.position.Encoding.TheVariants.{Utf8}
 use Rattle.lsp_text.specs.Places.{units}
 
 -- the characters of a text

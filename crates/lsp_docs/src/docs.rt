@@ -10,7 +10,7 @@ ghost use Rattle.lsp_docs.specs.Documents.{versioned, held, documents};
 ghost use Rattle.lsp_docs.specs.Snapshots.{waiting, unmatched};
 ghost use Rattle.lsp_docs.specs.Rules.{differs, show_rule, text_rule, call_rule};
 ghost use Rattle.lsp_docs.specs.State.{capped, held_in, queue_of, set_in, changed_at, early_rule, IsChanged, with_held, Stands};
-ghost use Rattle.lsp_docs.specs.Fault.{Names, Breaks};
+ghost use Rattle.lsp_docs.specs.Fault.{Names, IsRule, Breaks};
 ghost use Rattle.lsp_docs.specs.Kept.{version_of};
 ghost use Rattle.lsp_text.specs.Changes.{edits_of, edit_of};
 ghost use Rattle.lsp_docs.specs.Answer.{answer_of};
@@ -25,8 +25,8 @@ use crate::snapshot::{Match, any_differs, is_due};
 use crate::waiting::Waiting;
 use indexmap::IndexMap;
 use lsp_frame::Limits;
-use lsp_rpc::{Change, Encoding, SyncKind};
 use lsp_text::{TextStore, change_all};
+use lsp_types::{Change, Encoding, SyncKind};
 use std::alloc::{AllocError, Global};
 use std::marker::Model;
 
@@ -186,6 +186,7 @@ impl<S: TextStore> Docs<S> {
         ensures limit { self.new.limit ≡ self.old.limit }
         ensures rule { IfErr result (λ fault. (calls : List Call) → Stands self.old calls
             → Names (call_rule self.old.limit calls (closes uri.now)) fault) }
+        ensures rule_only { IfErr result IsRule }
         ensures err { OnErr result (self.new ≡ self.old) }
     {
         if self.documents.shift_remove(uri).is_none() {
@@ -205,6 +206,7 @@ impl<S: TextStore> Docs<S> {
             → call_rule self.now.limit calls (saves uri.now (option_map (λ t. chars t.now) text.entry)) ≡ None) }
         ensures rule { IfErr result (λ fault. (calls : List Call) → Stands self.now calls
             → Names (call_rule self.now.limit calls (saves uri.now (option_map (λ t. chars t.now) text.entry))) fault) }
+        ensures rule_only { IfErr result IsRule }
     {
         let Some(text) = text else {
             return Ok(());

@@ -11,8 +11,8 @@ ghost use Rattle.lsp_text.specs.Changes.{edit_of};
 
 use crate::fault::{DocFault, LATE_SNAPSHOT, SNAPSHOT_DIFFERS};
 use crate::snapshot::Match;
-use lsp_rpc::{Change, Encoding};
 use lsp_text::{TextStore, change};
+use lsp_types::{Change, Encoding};
 
 /// A text at its version.
 #[derive(Drop)]

@@ -3,8 +3,8 @@
 ghost use Rattle.std.specs.Prelude.{◌≡◌};
 ghost use Rattle.lsp_docs.specs.declared.fault.DocFault.TheVariants.{Memory};
 
-use lsp_rpc::Memory as OutOfMemory;
 use lsp_text::TextFault;
+use lsp_types::Memory as OutOfMemory;
 use std::alloc::{AllocError, AllocFailed};
 use thiserror::Error;
 

@@ -5,7 +5,7 @@ ghost use Rattle.std.specs.List.{list_all};
 ghost use Rattle.lsp_text.specs.Changes.{edits_of};
 ghost use Rattle.lsp_docs.specs.Rules as rules;
 
-use lsp_rpc::{Change, SyncKind};
+use lsp_types::{Change, SyncKind};
 
 /// Whether changes are of the agreed kind (LSP 3.17, "TextDocumentSyncKind").
 pub(crate) fn fits_kind(kind: SyncKind, changes: &[Change]) -> bool

@@ -7,4 +7,5 @@ pub mod Starts
 pub mod Readings
 pub mod Canonical
 pub mod Steps
+pub mod Telling
 pub mod Writing

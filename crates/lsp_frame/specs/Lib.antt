@@ -1,4 +1,4 @@
-pub mod Failures
+pub mod Told
 pub mod Bounds
 pub mod Header
 pub mod Frame

@@ -1,9 +1,10 @@
 //! Where bytes come from and where they go. A contract can name the bytes of both, where they are known.
-ghost use Rattle.std.specs.Prelude.{◌≡◌, ℕ, ◌+◌, ◌<◌, List, None, Option, IfOk, OnOk, OnErr, length};
+ghost use Rattle.std.specs.Prelude.{◌≡◌, ◌⊎◌, ◌<◌, Ok, IfOk, OnErr, IsErr, length, take};
 ghost use Rattle.std.specs.Io.{ReadsAtMost, WritesAtMost};
-ghost use Rattle.std.specs.Io.KnownBytes.{ReadConsumes, WriteAppends};
-ghost use Rattle.lsp_frame.specs.Failures.{CountsFailure};
+ghost use Rattle.std.specs.Io.KnownBytes.{IsAtEnd};
+ghost use Rattle.lsp_frame.specs.Told.{Told, Gave, Took, KeepsBytes, CountsFailure, Raises};
 
+use std::io;
 use std::io::{Read, Write};
 use thiserror::Error;
 
@@ -14,68 +15,104 @@ pub struct Failed;
 
 /// What gives bytes, as `std::io::Read` does.
 pub trait Source {
-    /// The bytes still to give, where they are known.
-    ghost remaining: { Self → Option (List ℕ) };
-
-    /// How many calls have failed, up to the greatest `u64`.
-    ghost failures: { Self → ℕ };
+    /// The bytes still to give, where they are known, how many were given, and how many calls have failed.
+    ghost told: { Self → Told };
 
     /// Fills the front of the buffer, and says with how many bytes: none only at the end, or where there is no room.
     fn pull(&mut self, buffer: &mut [u8]) -> Result<usize, Failed>
         ensures count { ReadsAtMost result buffer.new }
-        ensures bytes { ReadConsumes (remaining self.old) (remaining self.new) result buffer.new }
-        ensures failures { CountsFailure (failures self.old) (failures self.new) result };
+        ensures gave { IfOk result (λ n. Gave (told self.old) (told self.new) (take n buffer.new)) }
+        ensures end { IfOk result (λ n. n ≡ 0 → 0 < length buffer.new → IsAtEnd (told self.new).bytes) }
+        ensures err { OnErr result (KeepsBytes (told self.old) (told self.new)) }
+        ensures failures { CountsFailure (told self.old).failures (told self.new).failures result };
 }
 
 /// What takes bytes, as `std::io::Write` does.
 pub trait Sink {
-    /// The bytes taken so far, where they are known.
-    ghost taken: { Self → Option (List ℕ) };
-
-    /// How many calls have failed, up to the greatest `u64`.
-    ghost failures: { Self → ℕ };
+    /// The bytes taken so far, where they are known, how many they are, and how many calls have failed.
+    ghost told: { Self → Told };
 
     /// Takes bytes from the front, and says how many: at least one, unless it was given none.
     fn put(&mut self, bytes: &[u8]) -> Result<usize, Failed>
         ensures count { WritesAtMost result bytes.now }
         ensures some { IfOk result (λ n. 0 < length bytes.now → 0 < n) }
-        ensures bytes { WriteAppends (taken self.old) (taken self.new) result bytes.now }
-        ensures failures { CountsFailure (failures self.old) (failures self.new) result };
+        ensures took { IfOk result (λ n. Took (told self.old) (told self.new) (take n bytes.now)) }
+        ensures err { OnErr result (KeepsBytes (told self.old) (told self.new)) }
+        ensures failures { CountsFailure (told self.old).failures (told self.new).failures result };
+}
+
+/// How many bytes were moved, and how many calls have failed, each up to the greatest `u64`.
+#[derive(Clone, Copy)]
+struct Tally {
+    bytes: u64,
+    failures: u64,
+}
+
+impl Tally {
+    /// Counts a call by its answer, and gives that on.
+    fn count(&mut self, answer: Result<usize, Failed>) -> Result<usize, Failed>
+        ensures same { result ≡ answer }
+        ensures bytes { IfOk answer (λ n. Raises self.old.bytes self.new.bytes n) }
+        ensures no_bytes { OnErr answer (self.new.bytes ≡ self.old.bytes) }
+        ensures failures { CountsFailure self.old.failures self.new.failures answer }
+    {
+        match answer {
+            Ok(count) => self.bytes = self.bytes.saturating_add(count as u64),
+            Err(Failed) => self.failures = self.failures.saturating_add(1),
+        }
+        answer
+    }
+}
+
+/// The answer of a source whose reader answered so: it fails where the reader did.
+fn pulled(answer: io::Result<usize>) -> Result<usize, Failed>
+    ensures ok { IfOk answer (λ n. result ≡ Ok n) }
+    ensures err { OnErr answer (IsErr result) }
+{
+    answer.map_err(|_| Failed)
+}
+
+/// The answer of a sink whose writer answered so to this many bytes: it fails where the writer did, or where that took
+/// none of some bytes.
+fn taken(answer: io::Result<usize>, len: usize) -> Result<usize, Failed>
+    ensures some { IfOk answer (λ n. (0 < n) ⊎ (len ≡ 0) → result ≡ Ok n) }
+    ensures none { IfOk answer (λ n. n ≡ 0 → 0 < len → IsErr result) }
+    ensures err { OnErr answer (IsErr result) }
+{
+    match answer {
+        Ok(count) if count > 0 || len == 0 => Ok(count),
+        _ => Err(Failed),
+    }
 }
 
 /// A source over a reader of std, whose bytes it gives.
 #[derive(Drop)]
 pub struct Input<R> {
     reader: R,
-    failures: u64,
+    tally: Tally,
 }
 
 impl<R: Read> Input<R> {
-    /// A source that has not failed.
+    /// A source that gave nothing and has not failed.
     pub fn new(reader: R) -> Input<R>
-        ensures remaining { ⟦<Input<R> as Source>⟧.remaining result ≡ R.remaining reader }
-        ensures failures { ⟦<Input<R> as Source>⟧.failures result ≡ 0 }
+        ensures { ⟦<Input<R> as Source>⟧.told result ≡ record { bytes = R.remaining reader; count = 0; failures = 0 } }
     {
         Input {
             reader,
-            failures: 0,
+            tally: Tally {
+                bytes: 0,
+                failures: 0,
+            },
         }
     }
 }
 
 impl<R: Read> Source for Input<R> {
-    ghost remaining = { λ s. R.remaining s.reader };
-
-    ghost failures = { λ s. s.failures };
+    ghost told = { λ s. record { bytes = R.remaining s.reader; count = s.tally.bytes; failures = s.tally.failures } };
 
     fn pull(&mut self, buffer: &mut [u8]) -> Result<usize, Failed> {
-        match self.reader.read(buffer) {
-            Ok(count) => Ok(count),
-            Err(_) => {
-                self.failures = self.failures.saturating_add(1);
-                Err(Failed)
-            }
-        }
+        let answer = pulled(self.reader.read(buffer));
+        self.tally.count(answer)
     }
 }
 
@@ -83,34 +120,29 @@ impl<R: Read> Source for Input<R> {
 #[derive(Drop)]
 pub struct Output<W> {
     writer: W,
-    failures: u64,
+    tally: Tally,
 }
 
 impl<W: Write> Output<W> {
-    /// A sink that has not failed.
+    /// A sink that took nothing and has not failed.
     pub fn new(writer: W) -> Output<W>
-        ensures taken { ⟦<Output<W> as Sink>⟧.taken result ≡ W.contents writer }
-        ensures failures { ⟦<Output<W> as Sink>⟧.failures result ≡ 0 }
+        ensures { ⟦<Output<W> as Sink>⟧.told result ≡ record { bytes = W.contents writer; count = 0; failures = 0 } }
     {
         Output {
             writer,
-            failures: 0,
+            tally: Tally {
+                bytes: 0,
+                failures: 0,
+            },
         }
     }
 }
 
 impl<W: Write> Sink for Output<W> {
-    ghost taken = { λ s. W.contents s.writer };
-
-    ghost failures = { λ s. s.failures };
+    ghost told = { λ s. record { bytes = W.contents s.writer; count = s.tally.bytes; failures = s.tally.failures } };
 
     fn put(&mut self, bytes: &[u8]) -> Result<usize, Failed> {
-        match self.writer.write(bytes) {
-            Ok(count) if count > 0 || bytes.is_empty() => Ok(count),
-            _ => {
-                self.failures = self.failures.saturating_add(1);
-                Err(Failed)
-            }
-        }
+        let answer = taken(self.writer.write(bytes), bytes.len());
+        self.tally.count(answer)
     }
 }

@@ -241,6 +241,29 @@ fn a_source_fails_and_a_slice_is_read(rt: HostRuntime) {
 }
 
 #[test]
+fn the_end_and_no_room_are_no_failures(rt: HostRuntime) {
+    let mut input = Input::new(b"abc".as_slice());
+    let mut buffer = [0; 4];
+    assert_eq!(rt; input.pull(&mut []), Ok(0));
+    assert_eq!(rt; input.pull(&mut buffer), Ok(3));
+    assert_eq!(rt; input.pull(&mut buffer), Ok(0));
+    assert_eq!(rt; input.pull(&mut []), Ok(0));
+}
+
+#[test]
+fn a_writer_that_takes_none_of_some_bytes_fails(rt: HostRuntime) {
+    let mut output = Output::new(SlowWriter {
+        bytes: Vec::new(rt.alloc()),
+        calls_left: 1,
+    });
+    assert_eq!(rt; output.put(b""), Ok(0));
+    assert_eq!(rt; output.put(b"ab"), Ok(1));
+    assert_eq!(rt; output.put(b""), Ok(0));
+    assert_eq!(rt; output.put(b"b"), Err(Failed));
+    assert_eq!(rt; output.put(b""), Ok(0));
+}
+
+#[test]
 fn limits_have_ranges(rt: HostRuntime) {
     let profile = Limits::profile();
     let same = Limits::new(

@@ -19,8 +19,7 @@ impl From<Failed> for WriteFault {
 
 /// Writes all the bytes, in as many calls as the sink wants.
 pub fn put_all<W: Sink>(writer: &mut W, bytes: &[u8]) -> Result<(), WriteFault>
-    ensures { Writes (record { bytes = W.taken writer.old; failures = W.failures writer.old })
-        (record { bytes = W.taken writer.new; failures = W.failures writer.new }) result bytes.now }
+    ensures { Writes (W.told writer.old) (W.told writer.new) result bytes.now }
 {
     let mut rest = bytes;
     while !rest.is_empty() {
@@ -32,9 +31,7 @@ pub fn put_all<W: Sink>(writer: &mut W, bytes: &[u8]) -> Result<(), WriteFault>
 
 /// Writes the number in decimal digits, without leading zeros.
 pub fn put_number<W: Sink>(writer: &mut W, number: u64) -> Result<(), WriteFault>
-    ensures { Writes (record { bytes = W.taken writer.old; failures = W.failures writer.old })
-        (record { bytes = W.taken writer.new; failures = W.failures writer.new })
-        result (decimal number) }
+    ensures { Writes (W.told writer.old) (W.told writer.new) result (decimal number) }
 {
     let mut buffer = Buffer::new();
     put_all(writer, buffer.format(number).as_bytes())
@@ -44,9 +41,7 @@ pub fn put_number<W: Sink>(writer: &mut W, number: u64) -> Result<(), WriteFault
 /// zeros, and the content.
 pub fn write_frame<W: Sink>(writer: &mut W, content: &[u8]) -> Result<(), WriteFault>
     requires { length content.now ≤ 67108864 }
-    ensures { Writes (record { bytes = W.taken writer.old; failures = W.failures writer.old })
-        (record { bytes = W.taken writer.new; failures = W.failures writer.new })
-        result (canonical content.now) }
+    ensures { Writes (W.told writer.old) (W.told writer.new) result (canonical content.now) }
 {
     put_all(writer, b"Content-Length: ")?;
     put_number(writer, content.len() as u64)?;

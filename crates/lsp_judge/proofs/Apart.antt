@@ -5,11 +5,11 @@ use Rattle.lsp_rpc.specs.Act.{Act}
 use Rattle.lsp_rpc.specs.Fault as content
 use Rattle.lsp_rpc.specs.Fault.{rule_unless_read}
 use Rattle.lsp_rpc.specs.Message.{Message, request, notification, response, result, error}
-use Rattle.lsp_rpc.specs.Outline.{outline, without_params, without_result}
+use Rattle.lsp_rpc.specs.Outline.{outline, without_params, without_result, IsOrLacksResult}
 use Rattle.lsp_rpc.specs.Params.{act_at}
 use Rattle.lsp_rpc.specs.declared.fault.RpcFault.{RpcFault}
-use Rattle.lsp_rpc.specs.declared.plain.Side.{Side}
-use Rattle.lsp_rpc.specs.declared.plain.Side.TheVariants.{Editor, Server}
+use Rattle.lsp_types.specs.declared.side.Side.{Side}
+use Rattle.lsp_types.specs.declared.side.Side.TheVariants.{Editor, Server}
 use Rattle.lsp_session.specs.Handshake.{is_empty, open_initializes}
 use Rattle.lsp_session.specs.Laws.{sent_by}
 use Rattle.lsp_session.specs.OpenInitialize.{Initialize}
@@ -27,9 +27,19 @@ none_waits : (waiting : List Initialize) → false ≡ not (is_empty waiting) �
 none_waits [] h = refl
 none_waits (i ∷ rest) h = absurd (cc)
 
+without_twice : (m : Message) → without_result (without_result m) ≡ without_result m
+without_twice (request id method params) = refl
+without_twice (notification method params) = refl
+without_twice (response id (result value)) = refl
+without_twice (response id (error code)) = refl
+
+same_but_result : (said whole : Message) → IsOrLacksResult said whole → without_result said ≡ without_result whole
+same_but_result said whole (inl is) = ap without_result is
+same_but_result said whole (inr is) = ap without_result is ∙ without_twice whole
+
 pub apart : (s : session.State) (said whole : Message) → ((before : List Sent) → session.Stands s before → false ≡ not (is_empty (open_initializes before)))
-    → without_result said ≡ without_result whole → IsApart s said whole
-apart s said whole none same = record { same = same; read = λ before stands. inl (none_waits (open_initializes before) (none before stands)) }
+    → IsOrLacksResult said whole → IsApart s said whole
+apart s said whole none left = record { same = same_but_result said whole left; read = λ before stands. inl (none_waits (open_initializes before) (none before stands)) }
 
 pub whole_read : (s : session.State) (m : Message) → IsApart s m m
 whole_read s m = record { same = refl; read = λ before stands. inr refl }

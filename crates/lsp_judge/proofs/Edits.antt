@@ -2,7 +2,7 @@
 use Rattle.std.proofs.Common.{◌≡◌, List, [], ◌∷◌, refl, ap}
 use Rattle.std.specs.Prelude.{map}
 use Rattle.lsp_rpc.specs.View.{changes_view}
-use Rattle.lsp_rpc.specs.declared.act.Change.{Change}
+use Rattle.lsp_types.specs.declared.change.Change.{Change}
 use Rattle.lsp_text.specs.Changes as changes
 use Rattle.lsp_verdict.specs.Calls.{edit_of}
 

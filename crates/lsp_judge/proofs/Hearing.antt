@@ -12,11 +12,11 @@ use Rattle.lsp_rpc.specs.Params.{act_at}
 use Rattle.lsp_rpc.specs.Reading as reading
 use Rattle.lsp_rpc.specs.declared.fault.RpcFault.{RpcFault}
 use Rattle.lsp_rpc.specs.declared.fault.RpcFault.TheVariants as contents
-use Rattle.lsp_rpc.specs.declared.plain.Encoding.{Encoding}
-use Rattle.lsp_rpc.specs.declared.plain.Encoding.TheVariants.{Utf16}
-use Rattle.lsp_rpc.specs.declared.plain.Side.{Side}
-use Rattle.lsp_rpc.specs.declared.plain.SyncKind.{SyncKind}
-use Rattle.lsp_rpc.specs.declared.plain.SyncKind.TheVariants.{Nothing}
+use Rattle.lsp_types.specs.declared.position.Encoding.{Encoding}
+use Rattle.lsp_types.specs.declared.position.Encoding.TheVariants.{Utf16}
+use Rattle.lsp_types.specs.declared.side.Side.{Side}
+use Rattle.lsp_types.specs.declared.change.SyncKind.{SyncKind}
+use Rattle.lsp_types.specs.declared.change.SyncKind.TheVariants.{Nothing}
 use Rattle.lsp_session.specs.Negotiation.{encoding, sync_kind}
 use Rattle.lsp_session.specs.Refusal as refusal
 use Rattle.lsp_session.specs.Rules.{rule_after}

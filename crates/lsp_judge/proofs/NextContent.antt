@@ -7,7 +7,7 @@ use Rattle.lsp_frame.specs.Decoder as decoder
 use Rattle.lsp_frame.specs.Frame.{Frames, IsStream}
 use Rattle.lsp_frame.specs.Header.{blank_line}
 use Rattle.lsp_rpc.specs.Message.{Message}
-use Rattle.lsp_rpc.specs.declared.plain.Side.{Side}
+use Rattle.lsp_types.specs.declared.side.Side.{Side}
 use Rattle.lsp_session.specs.State as session
 use Rattle.lsp_docs.specs.State as docs
 use Rattle.lsp_verdict.specs.Contents.{ReadsAs}

@@ -1,7 +1,7 @@
 -- What is answered on records and on a log, in plain words.
 use Rattle.std.specs.Prelude.{◌≡◌, ℕ, List, Option, Some, None}
 use Rattle.lsp_frame.specs.Bounds.{Bounds}
-use Rattle.lsp_rpc.specs.declared.plain.Side.TheVariants.{Editor, Server}
+use Rattle.lsp_types.specs.declared.side.Side.TheVariants.{Editor, Server}
 use Rattle.lsp_log.specs.Log.{Record, IsLog}
 use Rattle.lsp_judge.specs.declared.ruling.Ruling.{Ruling}
 use Rattle.lsp_verdict.specs.declared.verdict.Verdict as code

@@ -1,6 +1,6 @@
 -- What a judge gives for good, in the words of verdicts.
 use Rattle.std.specs.Prelude.{◌≡◌, ℕ, List, Option, Some, None, Result, Ok, Err}
-use Rattle.lsp_rpc.specs.declared.memory.Memory as memory
+use Rattle.lsp_types.specs.declared.memory.Memory as memory
 use Rattle.lsp_judge.specs.declared.ruling.Ruling.{Ruling}
 use Rattle.lsp_judge.specs.declared.ruling.Ruling.TheVariants.{No, BadLog, Memory}
 use Rattle.lsp_verdict.specs.Event.{Event}

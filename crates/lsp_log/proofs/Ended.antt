@@ -2,14 +2,14 @@
 use Rattle.std.proofs.Common.{◌≡◌, ◌⊎◌, ℕ, ◌+◌, ◌-◌, ◌<◌, ◌≤◌, Bool, true, false, List, [], ◌∷◌, ◌++◌, length, take, drop, Option, Some, None, Result, Ok, Err, refl, sym, ap, subst, ◌∙◌, append_assoc, append-nil, inl, inr, arith}
 use Rattle.std.specs.Prelude.{nat_lt}
 use Rattle.std.specs.List.{flat_map, AllByRecursion}
-use Rattle.std.specs.Io.KnownBytes.{Consumes, IsAtEnd}
+use Rattle.std.specs.Io.KnownBytes.{IsAtEnd}
 use Rattle.std.proofs.lemmas.List.{length-append, take-append-le, take-append-drop, length-take}
 use Rattle.std.proofs.lemmas.Bool.{cases_lt}
 use borrow.Author.Tests.{lt-ltb, ltb-true}
 use Rattle.lsp_frame.specs.Bounds.{Bounds, IsInRange}
-use Rattle.lsp_frame.specs.Sink.{Told}
+use Rattle.lsp_frame.specs.Told.{Told, Gave}
 use Rattle.lsp_log.specs.Log as log
-use Rattle.lsp_log.specs.Log.{Flaw, bad_line, bad_number, cut_short, bad_end, not_utf8, EndsWith, Fits, spelling, with_feed, head_line, head_of, parts_of, first_line, BeginsLog, HasRecords, IsLog, code_of, at_record}
+use Rattle.lsp_log.specs.Log.{Flaw, bad_line, bad_number, cut_short, bad_end, not_utf8, EndsWith, Fits, spelling, with_feed, head_line, head_of, parts_of, first_line, HasRecords, IsLog, code_of, at_record}
 use Rattle.lsp_log.specs.Tape.{Held, ReadFailed, Refused, IsOver, IsCutAt}
 use Rattle.lsp_log.specs.Stops.{Ends, LacksFirst, wants_bytes}
 use Rattle.lsp_log.specs.Records.{record_view}
@@ -24,13 +24,14 @@ use Rattle.lsp_log.specs.declared.record.Record.{Record}
 use Rattle.lsp_log.specs.declared.stop.Stop.{Stop}
 use Rattle.lsp_log.specs.declared.stop.Stop.TheVariants.{FirstLine, Nothing, Form, Number, Short, End, Text, Read, Memory}
 use Rattle.lsp_log.specs.declared.reader.Progress.TheVariants as progress
-use Rattle.lsp_log.proofs.Tapes.{consumes_then, failed_then}
+use Rattle.lsp_frame.proofs.Telling.{gave_then}
+use Rattle.lsp_log.proofs.Tapes.{failed_then}
 use Rattle.lsp_log.proofs.Reading.{IsOpen, is_open, behind, number_is, ends_there, two_codes, take_more, record_stands}
 
 -- the log ends so behind these records, whatever may follow
 record Closed (limits : Bounds) (before after : Told) (bytes : List ℕ) (records : List log.Record) (code : Option LogCode) : Type 0 where
   piece : List ℕ
-  read : Consumes before.bytes after.bytes piece
+  read : Gave before after piece
   within : length (bytes ++ piece) ≤ limits.log + 1
   failures : after.failures ≡ before.failures
   at_end : code ≡ None → IsAtEnd after.bytes
@@ -53,7 +54,7 @@ with_code limits all records flaw c d same h = subst (λ (b : Bool). HasRecords 
 -- all that was read, behind which the records end
 record Reached (s : State) (before now : Told) (bytes : List ℕ) (records : List log.Record) (left : ℕ) (flaw : Option Flaw) : Type 0 where
   piece : List ℕ
-  read : Consumes before.bytes now.bytes piece
+  read : Gave before now piece
   failures : now.failures ≡ before.failures
   left_is : left + length (bytes ++ piece) ≡ s.limits.log
   over : wants_bytes flaw ≡ true → IsOver left now
@@ -104,7 +105,7 @@ closed_cut s before now after bytes records left flaw wants r (none, byte, read,
     let same : bytes ++ (r.piece ++ byte ∷ []) ≡ (bytes ++ r.piece) ++ byte ∷ [] = sym (append_assoc bytes r.piece (byte ∷ [])) in
     record {
       piece = r.piece ++ byte ∷ [];
-      read = consumes_then before.bytes now.bytes after.bytes r.piece (byte ∷ []) r.read read;
+      read = gave_then before now after r.piece (byte ∷ []) r.read read;
       within = omega (arith, ap length same, length-append (bytes ++ r.piece) (byte ∷ []), full);
       failures = failures ∙ r.failures;
       at_end = λ is. has_code flaw wants is;
@@ -129,7 +130,7 @@ closed_at_end : (s : State) (before now after : Told) (bytes : List ℕ) (record
     → Closed s.limits before after bytes records (code_of flaw false)
 closed_at_end s before now after bytes records left flaw wants r (read, over, failures) = record {
   piece = r.piece ++ [];
-  read = consumes_then before.bytes now.bytes after.bytes r.piece [] r.read read;
+  read = gave_then before now after r.piece [] r.read read;
   within = omega (arith, r.left_is, ap length same);
   failures = failures ∙ r.failures;
   at_end = λ _. over (r.over wants);

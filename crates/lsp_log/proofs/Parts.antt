@@ -4,7 +4,7 @@ use Rattle.std.specs.Prelude.{◌==◌, nat_le, slice_index, if◌then◌else◌
 use Rattle.std.specs.List.{flat_map}
 use borrow.Author.Tests.{le-leb, leb-true}
 use Rattle.lsp_frame.specs.Bounds.{Bounds}
-use Rattle.lsp_frame.specs.Sink.{Told}
+use Rattle.lsp_frame.specs.Told.{Told}
 use Rattle.lsp_log.specs.Log as log
 use Rattle.lsp_log.specs.Log.{Flaw, cut_short, bad_end, not_utf8, parts_flaw, with_feed, head_of, parts_of, shown, shown_head, IsText, EndsWith}
 use Rattle.lsp_log.specs.Tape.{Held, Taken, PartAnswer}

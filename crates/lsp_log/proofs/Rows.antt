@@ -2,7 +2,7 @@
 use Rattle.std.proofs.Common.{◌≡◌, ℕ, List, true, false, ap, ◌∷◌, [], Some, None, refl, inl, inr, lit<}
 use Rattle.std.specs.Prelude.{pos, negsuc, codes, slice_index, ◌==◌}
 use Rattle.std.specs.Fmt.{digits}
-use Rattle.lsp_rpc.specs.declared.plain.Side.TheVariants.{Editor, Server}
+use Rattle.lsp_types.specs.declared.side.Side.TheVariants.{Editor, Server}
 use Rattle.lsp_frame.specs.Bounds.{profile}
 use Rattle.lsp_log.specs.declared.fault.LogCode.TheVariants.{L1, L3}
 use Rattle.lsp_log.specs.Log.{chunk, shown, spelling, IsLog, Breaks, bad_number, cut_short, bad_end, chunk_head}

@@ -7,7 +7,7 @@ use Rattle.std.proofs.lemmas.Bool.{cases_Bool, cases_eq}
 use Rattle.std.proofs.lemmas.Fmt.{decimal_digit}
 use Rattle.std.proofs.lemmas.List.{length-append}
 use Rattle.std.proofs.lemmas.Map.Views.{exact_unsigned_eq}
-use Rattle.lsp_rpc.specs.declared.plain.Side.TheVariants.{Editor, Server}
+use Rattle.lsp_types.specs.declared.side.Side.TheVariants.{Editor, Server}
 use Rattle.lsp_log.specs.Log.{Head, chunk_head, shown_head, head_line, is_writable, has_decimal, has_signed}
 use Rattle.lsp_log.specs.Words.{is_numeral, NoNumber, NoSigned, NoSnapshot, NoHead, holds_space}
 use Rattle.lsp_log.proofs.LogLemmas.{holds, clash, below, small_decimal, true_both, shown_line}

@@ -1,10 +1,9 @@
 -- What a tape holds after it was read into and given from.
-use Rattle.std.proofs.Common.{◌≡◌, Bool, true, false, ℕ, zero, suc, ◌+◌, ◌-◌, ◌<◌, ◌≤◌, List, [], ◌∷◌, ◌++◌, length, take, drop, Option, Some, None, refl, sym, ap, subst, ◌∙◌, append_assoc, append-nil, arith}
-use Rattle.std.specs.Io.KnownBytes.{Consumes, Keeps}
+use Rattle.std.proofs.Common.{◌≡◌, Bool, true, false, ℕ, zero, suc, ◌+◌, ◌-◌, ◌<◌, ◌≤◌, List, [], ◌∷◌, ◌++◌, length, take, drop, refl, sym, ap, subst, ◌∙◌, append_assoc, append-nil, arith}
 use Rattle.std.proofs.lemmas.List.{length-append, length-take, length-drop, take-append-le, take_at}
 use borrow.Rule.Slice.PartMut.{put_mid}
-use Rattle.lsp_frame.specs.Failures.{after_failure}
-use Rattle.lsp_frame.specs.Sink.{Told}
+use Rattle.lsp_frame.specs.Told.{Told, after_failure}
+use Rattle.lsp_frame.proofs.Telling.{gave_nothing, gave_then}
 use Rattle.memchr.specs.Find.{Passes, Nowhere, NoneBefore, is_byte}
 use Rattle.lsp_log.specs.Log.{HasLine, holds_feed}
 use Rattle.lsp_log.proofs.Bytes.{first_cut, nowhere_none}
@@ -15,21 +14,6 @@ use Rattle.std.proofs.Common.{inl, inr}
 use Rattle.std.proofs.lemmas.Map.Views.{exact_unsigned_eq}
 use Rattle.lsp_log.specs.Log.{with_feed}
 use Rattle.lsp_log.specs.Tape.{Held, Pulled, IsOver, ReadFailed, Refused, Filled, Taken, Wants, Misses}
-
-pub consumes_then : (a b c : Option (List ℕ)) (x y : List ℕ) → Consumes a b x → Consumes b c y → Consumes a c (x ++ y)
-consumes_then None b c x y p q = tt
-consumes_then (Some us) None c x y p q = absurd p
-consumes_then (Some us) (Some vs) None x y p q = absurd q
-consumes_then (Some us) (Some vs) (Some ws) x y p q = p ∙ ap (λ (w : List ℕ). x ++ w) q ∙ sym (append_assoc x y ws)
-
-pub consumes_nothing : (a : Option (List ℕ)) → Consumes a a []
-consumes_nothing None = tt
-consumes_nothing (Some x) = refl
-
-pub keeps_consumes : (a b : Option (List ℕ)) → Keeps a b → Consumes a b []
-keeps_consumes None b k = tt
-keeps_consumes (Some x) None k = k
-keeps_consumes (Some x) (Some y) k = sym k
 
 take_nothing : (n : ℕ) → take {A = ℕ} n [] ≡ []
 take_nothing zero = refl
@@ -53,21 +37,18 @@ skipped near turned len count left fits small full is =
 
 pub pulled_then : (a b c : ℕ) (before now after : Told) (x y : List ℕ) → Pulled a b before now x → Pulled b c now after y → Pulled a c before after (x ++ y)
 pulled_then a b c before now after x y p q = record {
-  read = consumes_then before.bytes now.bytes after.bytes x y p.read q.read;
+  read = gave_then before now after x y p.read q.read;
   left = omega (arith, p.left, q.left, length-append x y);
   failures = q.failures ∙ p.failures;
 }
 
 pub pulled_nothing : (a : ℕ) (now : Told) → Pulled a a now now []
-pulled_nothing a now = record { read = consumes_nothing now.bytes; left = omega arith; failures = refl }
-
-pub failed_now : (before after : Told) → Keeps before.bytes after.bytes → after.failures ≡ after_failure before.failures → (left : ℕ) → ReadFailed left before after
-failed_now before after keeps failed left = record { piece = []; read = keeps_consumes before.bytes after.bytes keeps; within = omega arith; failures = failed }
+pulled_nothing a now = record { read = gave_nothing now; left = omega arith; failures = refl }
 
 pub failed_then : (a b : ℕ) (before now after : Told) (x : List ℕ) → Pulled a b before now x → ReadFailed b now after → ReadFailed a before after
 failed_then a b before now after x p f = record {
   piece = x ++ f.piece;
-  read = consumes_then before.bytes now.bytes after.bytes x f.piece p.read f.read;
+  read = gave_then before now after x f.piece p.read f.read;
   within = omega (arith, length-append x f.piece, p.left, f.within);
   failures = f.failures ∙ ap after_failure p.failures;
 }
@@ -75,7 +56,7 @@ failed_then a b before now after x p f = record {
 pub refused_then : (a b : ℕ) (before now after : Told) (x : List ℕ) → Pulled a b before now x → Refused b now after → Refused a before after
 refused_then a b before now after x p r = record {
   piece = x ++ r.piece;
-  read = consumes_then before.bytes now.bytes after.bytes x r.piece p.read r.read;
+  read = gave_then before now after x r.piece p.read r.read;
   within = omega (arith, length-append x r.piece, p.left, r.within);
   failures = r.failures ∙ p.failures;
 }
@@ -92,9 +73,6 @@ filled_then a b c before now after x y p q = record {
   pulled = pulled_then a.left b.left c.left before now after x y p.pulled q.pulled;
   rest = q.rest ∙ ap (λ (w : List ℕ). w ++ y) p.rest ∙ append_assoc a.rest x y;
 }
-
-pub filled_nothing : (a : Held) (now : Told) → Filled a a now now []
-filled_nothing a now = record { pulled = pulled_nothing a.left now; rest = sym (append-nil a.rest) }
 
 take_past : (xs ys : List ℕ) (n : ℕ) → take (length xs + n) (xs ++ ys) ≡ xs ++ take n ys
 take_past [] ys n = ap (λ k. take k ys) (omega arith)

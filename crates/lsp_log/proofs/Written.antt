@@ -2,8 +2,9 @@
 use Rattle.std.proofs.Common.{◌≡◌, List, ℕ, ℤ, [], ◌∷◌, ◌++◌, length, Result, Ok, Err, sym, ap, subst, ◌∙◌, append_assoc, append-nil}
 use Rattle.std.specs.Prelude.{codes, decimal}
 use Rattle.std.specs.Fmt.{signed_decimal}
-use Rattle.lsp_rpc.specs.declared.plain.Side.{Side}
-use Rattle.lsp_frame.specs.Sink.{Told, Wrote, Stopped, Writes}
+use Rattle.lsp_types.specs.declared.side.Side.{Side}
+use Rattle.lsp_frame.specs.Sink.{Wrote, Stopped, Writes}
+use Rattle.lsp_frame.specs.Told.{Told}
 use Rattle.lsp_frame.proofs.Writing.{wrote_then, stopped_then, stopped_before, four}
 use Rattle.lsp_log.specs.Log.{spelling, letter, chunk, shown, head_line, shown_head, with_feed}
 

@@ -1,7 +1,7 @@
 -- How the code finds what ends a log.
 use Rattle.std.specs.Prelude.{◌≡◌, ℕ, ◌+◌, ◌-◌, ◌^◌, ◌≤◌, min, List, [], ◌++◌, length, Option, Some, None, Bool, false, Result, Ok, Err}
 use Rattle.lsp_frame.specs.Bounds.{Bounds}
-use Rattle.lsp_frame.specs.Sink.{Told}
+use Rattle.lsp_frame.specs.Told.{Told}
 use Rattle.lsp_log.specs.Log.{Flaw, bad_line, bad_number, cut_short, bad_end, not_utf8, EndsWith, first_line, code_of}
 use Rattle.lsp_log.specs.Tape.{ReadFailed, IsCutAt}
 use Rattle.lsp_log.specs.Stops.{LacksFirst, StopAnswer, Found}

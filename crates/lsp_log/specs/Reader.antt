@@ -1,10 +1,9 @@
 -- What a reader of a log gives, and what it stands for.
 use Rattle.std.specs.Prelude.{◌≡◌, ◌⊎◌, ℕ, ◌+◌, ◌≤◌, List, [], ◌∷◌, ◌++◌, length, Option, Some, None, Result, Ok, Err}
-use Rattle.std.specs.Io.KnownBytes.{Consumes, IsAtEnd}
+use Rattle.std.specs.Io.KnownBytes.{IsAtEnd}
 use Rattle.std.specs.List.{flat_map, AllByRecursion}
 use Rattle.lsp_frame.specs.Bounds.{Bounds, IsInRange}
-use Rattle.lsp_frame.specs.Failures.{after_failure}
-use Rattle.lsp_frame.specs.Sink.{Told}
+use Rattle.lsp_frame.specs.Told.{Told, Gave, after_failure}
 use Rattle.lsp_log.specs.Log as log
 use Rattle.lsp_log.specs.Log.{Fits, spelling, first_line, BeginsLog, IsLog}
 use Rattle.lsp_log.specs.Tape.{Held}
@@ -107,7 +106,7 @@ Tells new before after bytes records (Err Memory) = after.failures ≡ before.fa
 -- the bytes that the reader gave in the call, and what holds of them and of all that it gave before
 pub record Given (new : State) (before after : Told) (result : Result (Option Record) LogFault) (bytes : List ℕ) (records : List log.Record) : Type 0 where
   pub piece : List ℕ
-  pub read : Consumes before.bytes after.bytes piece
+  pub read : Gave before after piece
   pub within : length (bytes ++ piece) ≤ new.limits.log + 1
   pub stands : StandsFor new (bytes ++ piece) (records_with records result)
   pub tells : Tells new before after (bytes ++ piece) records result

@@ -1,10 +1,9 @@
 -- What a tape holds, and what it takes of its reader.
 use Rattle.std.specs.Prelude.{◌≡◌, ◌==◌, ℕ, ◌+◌, ◌<◌, ◌≤◌, List, [], ◌∷◌, ◌++◌, length, take, drop, Option, Some, None, Bool, true, false, Result, Ok, Err, slice_index}
-use Rattle.std.specs.Io.KnownBytes.{Consumes, IsAtEnd, Keeps}
+use Rattle.std.specs.Io.KnownBytes.{IsAtEnd}
 use Rattle.std.specs.Prelude.{Vec}
 use Rattle.std.specs.Global.{Global}
-use Rattle.lsp_frame.specs.Failures.{after_failure}
-use Rattle.lsp_frame.specs.Sink.{Told}
+use Rattle.lsp_frame.specs.Told.{Told, Gave, KeepsBytes, after_failure}
 use Rattle.lsp_log.specs.Log.{HasLine, holds_feed, with_feed}
 use Rattle.lsp_log.specs.declared.tape.PartFault.{PartFault}
 use Rattle.lsp_log.specs.declared.tape.PartFault.TheVariants.{Short, End, Read, Memory}
@@ -16,7 +15,7 @@ pub record Held : Type 0 where
 
 -- the reader gave these bytes, and didn't fail
 pub record Pulled (left_old left_new : ℕ) (before after : Told) (piece : List ℕ) : Type 0 where
-  pub read : Consumes before.bytes after.bytes piece
+  pub read : Gave before after piece
   pub left : left_new + length piece ≡ left_old
   pub failures : after.failures ≡ before.failures
 
@@ -27,13 +26,13 @@ IsOver left after = 0 < left → IsAtEnd after.bytes
 -- the reader failed after it gave some bytes, no more than may be read
 pub record ReadFailed (left : ℕ) (before after : Told) : Type 0 where
   pub piece : List ℕ
-  pub read : Consumes before.bytes after.bytes piece
+  pub read : Gave before after piece
   pub within : length piece ≤ left
   pub failures : after.failures ≡ after_failure before.failures
 
 abbrev pub PullAnswer : {E : Type 0} → ℕ → ℕ → Told → Told → List ℕ → Result ℕ E → Type 0
 PullAnswer left_old left_new before after buffer (Ok n) = Pulled left_old left_new before after (take n buffer) × (n ≡ 0 → 0 < length buffer → IsOver left_new after)
-PullAnswer left_old left_new before after buffer (Err e) = Keeps before.bytes after.bytes × (after.failures ≡ after_failure before.failures)
+PullAnswer left_old left_new before after buffer (Err e) = KeepsBytes before after × (after.failures ≡ after_failure before.failures)
 
 -- the tape reads some bytes behind those that it holds
 pub record Filled (old new : Held) (before after : Told) (piece : List ℕ) : Type 0 where
@@ -80,7 +79,7 @@ pub record Misses (old new : Held) (before after : Told) (len : ℕ) : Type 0 wh
 -- memory was refused after the reader gave some bytes
 pub record Refused (left : ℕ) (before after : Told) : Type 0 where
   pub piece : List ℕ
-  pub read : Consumes before.bytes after.bytes piece
+  pub read : Gave before after piece
   pub within : length piece ≤ left
   pub failures : after.failures ≡ before.failures
 
@@ -100,8 +99,8 @@ PartAnswer old new before after len (Err Memory) = Refused old.left before after
 
 -- one byte past all that may be read was there; or nothing was read, and where nothing more may be read the reader is at its end
 abbrev pub IsCutAt : ℕ → Told → Told → Bool → Type 0
-IsCutAt left before after true = (left ≡ 0) × (byte : ℕ) × Consumes before.bytes after.bytes (byte ∷ []) × (after.failures ≡ before.failures)
-IsCutAt left before after false = Consumes before.bytes after.bytes [] × (IsOver left before → IsAtEnd after.bytes) × (after.failures ≡ before.failures)
+IsCutAt left before after true = (left ≡ 0) × (byte : ℕ) × Gave before after (byte ∷ []) × (after.failures ≡ before.failures)
+IsCutAt left before after false = Gave before after [] × (IsOver left before → IsAtEnd after.bytes) × (after.failures ≡ before.failures)
 
 abbrev pub CutAnswer : {E : Type 0} → ℕ → Told → Told → Result Bool E → Type 0
 CutAnswer left before after (Ok cut) = IsCutAt left before after cut

@@ -26,10 +26,7 @@ fn text_of(bytes: Vec<u8>) -> Result<String, Stop>
 
 /// Goes past the first line.
 pub fn first_line<R: Source>(tape: &mut Tape, reader: &mut R) -> Result<(), Stop>
-    ensures { FirstAnswer tape.old tape.new
-        (record { bytes = R.remaining reader.old; failures = R.failures reader.old })
-        (record { bytes = R.remaining reader.new; failures = R.failures reader.new })
-        result }
+    ensures { FirstAnswer tape.old tape.new (R.told reader.old) (R.told reader.new) result }
 {
     tape.reach(reader, FIRST_LINE.len())?;
     if !tape.near().starts_with(FIRST_LINE) {
@@ -48,10 +45,7 @@ fn two_parts<R: Source>(
     second: usize,
 ) -> Result<(Vec<u8>, Vec<u8>), PartFault>
     ensures short { length tape.new.rest ≤ 64 }
-    ensures answer { TwoPartsAnswer tape.old tape.new
-        (record { bytes = R.remaining reader.old; failures = R.failures reader.old })
-        (record { bytes = R.remaining reader.new; failures = R.failures reader.new })
-        first second result }
+    ensures answer { TwoPartsAnswer tape.old tape.new (R.told reader.old) (R.told reader.new) first second result }
 {
     let front = tape.part(alloc, reader, first)?;
     let back = tape.part(alloc, reader, second)?;
@@ -68,10 +62,7 @@ fn snapshot<R: Source>(
     text: u64,
 ) -> Result<Record, Stop>
     ensures short { length tape.new.rest ≤ 64 }
-    ensures answer { PartsAnswer tape.old tape.new
-        (record { bytes = R.remaining reader.old; failures = R.failures reader.old })
-        (record { bytes = R.remaining reader.new; failures = R.failures reader.new })
-        (shown_head version uri text) result }
+    ensures answer { PartsAnswer tape.old tape.new (R.told reader.old) (R.told reader.new) (shown_head version uri text) result }
 {
     let (uri, text) = two_parts(alloc, tape, reader, uri as usize, text as usize)?;
     let uri = text_of(uri)?;
@@ -87,10 +78,7 @@ fn parts<R: Source>(
     head: Head,
 ) -> Result<Record, Stop>
     ensures short { length tape.new.rest ≤ 64 }
-    ensures answer { PartsAnswer tape.old tape.new
-        (record { bytes = R.remaining reader.old; failures = R.failures reader.old })
-        (record { bytes = R.remaining reader.new; failures = R.failures reader.new })
-        (head_view head) result }
+    ensures answer { PartsAnswer tape.old tape.new (R.told reader.old) (R.told reader.new) (head_view head) result }
 {
     match head {
         Head::Bytes { side, len } => {
@@ -111,10 +99,7 @@ pub fn record<R: Source>(
     reader: &mut R,
 ) -> Result<Record, Stop>
     ensures short { length tape.new.rest ≤ 64 }
-    ensures answer { FoundAnswer limits.now tape.old tape.new
-        (record { bytes = R.remaining reader.old; failures = R.failures reader.old })
-        (record { bytes = R.remaining reader.new; failures = R.failures reader.new })
-        result }
+    ensures answer { FoundAnswer limits.now tape.old tape.new (R.told reader.old) (R.told reader.new) result }
 {
     let Some(end) = tape.line(reader)? else {
         return match tape.near().len() {

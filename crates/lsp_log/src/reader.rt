@@ -78,16 +78,10 @@ impl LogReader {
         // Every answer but a record is kept.
         ensures keeps { kept_by self.new ≡ keeps_of result }
         // A kept answer is given again, and nothing is read or changed.
-        ensures kept { RepeatsKept self.old self.new
-            (record { bytes = R.remaining reader.old; failures = R.failures reader.old })
-            (record { bytes = R.remaining reader.new; failures = R.failures reader.new })
-            result }
+        ensures kept { RepeatsKept self.old self.new (R.told reader.old) (R.told reader.new) result }
         // Otherwise the reader stands for the bytes read and the records given, this one
         // included, and the answer is that of the log.
-        ensures gives { kept_by self.old ≡ None → Gives self.old self.new
-            (record { bytes = R.remaining reader.old; failures = R.failures reader.old })
-            (record { bytes = R.remaining reader.new; failures = R.failures reader.new })
-            result }
+        ensures gives { kept_by self.old ≡ None → Gives self.old self.new (R.told reader.old) (R.told reader.new) result }
     {
         if let Progress::Over(end) = self.progress {
             return none_of(end);
@@ -110,10 +104,7 @@ impl LogReader {
         requires { kept_by self.old ≡ None }
         ensures limits { self.new.limits ≡ self.old.limits }
         ensures given { self.new.given ≡ self.old.given }
-        ensures answer { FindAnswer self.old self.new
-            (record { bytes = R.remaining reader.old; failures = R.failures reader.old })
-            (record { bytes = R.remaining reader.new; failures = R.failures reader.new })
-            result }
+        ensures answer { FindAnswer self.old self.new (R.told reader.old) (R.told reader.new) result }
     {
         if let Progress::FirstLine = self.progress {
             first_line(&mut self.tape, reader)?;
@@ -124,10 +115,7 @@ impl LogReader {
 
     /// What is answered for good, where no record was found.
     fn end<R: Source>(&self, reader: &mut R, stop: Stop) -> Result<(), LogFault>
-        ensures { EndAnswer self.now
-            (record { bytes = R.remaining reader.old; failures = R.failures reader.old })
-            (record { bytes = R.remaining reader.new; failures = R.failures reader.new })
-            stop result }
+        ensures { EndAnswer self.now (R.told reader.old) (R.told reader.new) stop result }
     {
         match stop {
             Stop::Nothing | Stop::Short => match self.tape.is_cut(reader) {

@@ -4,7 +4,7 @@ ghost use Rattle.lsp_log.specs.Log.{Fits, is_within};
 ghost use Rattle.lsp_log.specs.Records.{record_view};
 
 use lsp_frame::Limits;
-use lsp_rpc::Side;
+use lsp_types::Side;
 
 /// The longest URI of a snapshot, in bytes.
 pub const MAX_URI: u64 = 8192;

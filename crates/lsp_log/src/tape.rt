@@ -69,10 +69,7 @@ fn pull_within<R: Source>(
 ) -> Result<usize, Failed>
     ensures len { length buffer.new ≡ length buffer.old }
     ensures count { IfOk result (λ n. n ≤ length buffer.new) }
-    ensures bytes { PullAnswer left.old left.new
-        (record { bytes = R.remaining reader.old; failures = R.failures reader.old })
-        (record { bytes = R.remaining reader.new; failures = R.failures reader.new })
-        buffer.new result }
+    ensures bytes { PullAnswer left.old left.new (R.told reader.old) (R.told reader.new) buffer.new result }
 {
     let most = (*left).min(buffer.len() as u64) as usize;
     if most == 0 {
@@ -91,10 +88,7 @@ fn fill_buffer<R: Source>(
 ) -> Result<usize, Failed>
     ensures len { length buffer.new ≡ length buffer.old }
     ensures count { IfOk result (λ n. n ≤ length buffer.new) }
-    ensures bytes { BufferAnswer left.old left.new
-        (record { bytes = R.remaining reader.old; failures = R.failures reader.old })
-        (record { bytes = R.remaining reader.new; failures = R.failures reader.new })
-        buffer.new result }
+    ensures bytes { BufferAnswer left.old left.new (R.told reader.old) (R.told reader.new) buffer.new result }
 {
     let mut filled = 0;
     while filled < buffer.len() {
@@ -139,10 +133,7 @@ impl Tape {
     /// Reads more into the window.
     fn fill<R: Source>(&mut self, reader: &mut R) -> Result<usize, Failed>
         ensures short { length self.new.rest ≤ 64 }
-        ensures answer { FillAnswer self.old self.new
-            (record { bytes = R.remaining reader.old; failures = R.failures reader.old })
-            (record { bytes = R.remaining reader.new; failures = R.failures reader.new })
-            result }
+        ensures answer { FillAnswer self.old self.new (R.told reader.old) (R.told reader.new) result }
     {
         let count = pull_within(reader, &mut self.left, &mut self.near[self.len..])?;
         self.len += count;
@@ -153,10 +144,7 @@ impl Tape {
     pub fn reach<R: Source>(&mut self, reader: &mut R, count: usize) -> Result<(), Failed>
         requires { count ≤ 64 }
         ensures short { length self.new.rest ≤ 64 }
-        ensures answer { ReachAnswer self.old self.new
-            (record { bytes = R.remaining reader.old; failures = R.failures reader.old })
-            (record { bytes = R.remaining reader.new; failures = R.failures reader.new })
-            count result }
+        ensures answer { ReachAnswer self.old self.new (R.told reader.old) (R.told reader.new) count result }
     {
         while self.len < count {
             if self.fill(reader)? == 0 {
@@ -169,10 +157,7 @@ impl Tape {
     /// Reads until a line end is in the window, and gives its place.
     pub fn line<R: Source>(&mut self, reader: &mut R) -> Result<Option<usize>, Failed>
         ensures short { length self.new.rest ≤ 64 }
-        ensures answer { LineAnswer self.old self.new
-            (record { bytes = R.remaining reader.old; failures = R.failures reader.old })
-            (record { bytes = R.remaining reader.new; failures = R.failures reader.new })
-            result }
+        ensures answer { LineAnswer self.old self.new (R.told reader.old) (R.told reader.new) result }
     {
         loop {
             if let Some(end) = memchr(b'\n', self.near()) {
@@ -195,10 +180,7 @@ impl Tape {
         len: usize,
     ) -> Result<Vec<u8>, PartFault>
         ensures short { length self.new.rest ≤ 64 }
-        ensures answer { TakeAnswer self.old self.new
-            (record { bytes = R.remaining reader.old; failures = R.failures reader.old })
-            (record { bytes = R.remaining reader.new; failures = R.failures reader.new })
-            len result }
+        ensures answer { TakeAnswer self.old self.new (R.told reader.old) (R.told reader.new) len result }
     {
         let held = self.len.min(len);
         let mut bytes = Vec::with_capacity(alloc, len)?;
@@ -220,10 +202,7 @@ impl Tape {
         len: usize,
     ) -> Result<Vec<u8>, PartFault>
         ensures short { length self.new.rest ≤ 64 }
-        ensures answer { PartAnswer self.old self.new
-            (record { bytes = R.remaining reader.old; failures = R.failures reader.old })
-            (record { bytes = R.remaining reader.new; failures = R.failures reader.new })
-            len result }
+        ensures answer { PartAnswer self.old self.new (R.told reader.old) (R.told reader.new) len result }
     {
         let bytes = self.take(alloc, reader, len)?;
         self.reach(reader, 1)?;
@@ -240,10 +219,7 @@ impl Tape {
 
     /// Whether a byte stands behind all that may be read. It reads that byte, where no other may be read.
     pub fn is_cut<R: Source>(&self, reader: &mut R) -> Result<bool, Failed>
-        ensures { CutAnswer self.now.left
-            (record { bytes = R.remaining reader.old; failures = R.failures reader.old })
-            (record { bytes = R.remaining reader.new; failures = R.failures reader.new })
-            result }
+        ensures { CutAnswer self.now.left (R.told reader.old) (R.told reader.new) result }
     {
         if self.left > 0 {
             return Ok(false);

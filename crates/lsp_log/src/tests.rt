@@ -4,7 +4,7 @@ ghost use Rattle.lsp_log.specs.Log.{IsLog};
 
 use super::*;
 use lsp_frame::{Input, Limits, Output, Source};
-use lsp_rpc::Side;
+use lsp_types::Side;
 use std::alloc::Global;
 use std::io;
 use std::io::Read;
@@ -35,9 +35,9 @@ impl Read for Pieces<'_> {
 
 /// The number of records of a log. Its contract is proved from that of `next` alone.
 fn count_records<R: Source>(alloc: Global, limits: Limits, reader: &mut R) -> Result<u64, LogFault>
-    ensures whole { (all : List ℕ) → R.remaining reader.old ≡ Some all
+    ensures whole { (all : List ℕ) → (R.told reader.old).bytes ≡ Some all
         → IfOk result (λ n. (records : List log.Record) × IsLog limits all records None × (n ≡ length records)) }
-    ensures bad { (all : List ℕ) (number : ℕ) (code : LogCode) → R.remaining reader.old ≡ Some all
+    ensures bad { (all : List ℕ) (number : ℕ) (code : LogCode) → (R.told reader.old).bytes ≡ Some all
         → result ≡ Err (LogFault.Bad number code) → (records : List log.Record) × IsLog limits all records (Some (number, code)) }
 {
     let mut log = LogReader::new(alloc, limits);

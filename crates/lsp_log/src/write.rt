@@ -9,13 +9,11 @@ use crate::found::FIRST_LINE;
 use crate::record::Record;
 use itoa::Buffer;
 use lsp_frame::{Sink, WriteFault, put_all};
-use lsp_rpc::Side;
+use lsp_types::Side;
 
 /// Writes the first line of a log. After a fault a prefix of it is written.
 pub fn write_head<W: Sink>(writer: &mut W) -> Result<(), WriteFault>
-    ensures { Writes (record { bytes = W.taken writer.old; failures = W.failures writer.old })
-        (record { bytes = W.taken writer.new; failures = W.failures writer.new })
-        result first_line }
+    ensures { Writes (W.told writer.old) (W.told writer.new) result first_line }
 {
     put_all(writer, FIRST_LINE)
 }
@@ -24,9 +22,7 @@ pub fn write_head<W: Sink>(writer: &mut W) -> Result<(), WriteFault>
 /// written.
 pub fn write_record<W: Sink>(writer: &mut W, entry: &Record) -> Result<(), WriteFault>
     requires { Fits profile (record_view entry.now) }
-    ensures { Writes (record { bytes = W.taken writer.old; failures = W.failures writer.old })
-        (record { bytes = W.taken writer.new; failures = W.failures writer.new })
-        result (spelling (record_view entry.now)) }
+    ensures { Writes (W.told writer.old) (W.told writer.new) result (spelling (record_view entry.now)) }
 {
     match entry {
         Record::Bytes { side, bytes } => put_chunk(writer, *side, bytes),
@@ -45,9 +41,7 @@ fn letter(side: Side) -> &'static [u8]
 
 /// Writes a record of bytes.
 fn put_chunk<W: Sink>(writer: &mut W, side: Side, bytes: &[u8]) -> Result<(), WriteFault>
-    ensures { Writes (record { bytes = W.taken writer.old; failures = W.failures writer.old })
-        (record { bytes = W.taken writer.new; failures = W.failures writer.new })
-        result (spelling (chunk side bytes.now)) }
+    ensures { Writes (W.told writer.old) (W.told writer.new) result (spelling (chunk side bytes.now)) }
 {
     put_all(writer, letter(side))?;
     put_line(writer, Buffer::new().format(bytes.len()).as_bytes())?;
@@ -61,9 +55,7 @@ fn put_snapshot<W: Sink>(
     uri: &str,
     text: &str,
 ) -> Result<(), WriteFault>
-    ensures { Writes (record { bytes = W.taken writer.old; failures = W.failures writer.old })
-        (record { bytes = W.taken writer.new; failures = W.failures writer.new })
-        result (spelling (shown version uri.now text.now)) }
+    ensures { Writes (W.told writer.old) (W.told writer.new) result (spelling (shown version uri.now text.now)) }
 {
     put_snapshot_head(writer, version, uri.len(), text.len())?;
     put_line(writer, uri.as_bytes())?;
@@ -77,9 +69,7 @@ fn put_snapshot_head<W: Sink>(
     uri: usize,
     text: usize,
 ) -> Result<(), WriteFault>
-    ensures { Writes (record { bytes = W.taken writer.old; failures = W.failures writer.old })
-        (record { bytes = W.taken writer.new; failures = W.failures writer.new })
-        result (with_feed (head_line (shown_head version uri text))) }
+    ensures { Writes (W.told writer.old) (W.told writer.new) result (with_feed (head_line (shown_head version uri text))) }
 {
     put_all(writer, b"T ")?;
     put_word(writer, Buffer::new().format(version).as_bytes())?;
@@ -89,9 +79,7 @@ fn put_snapshot_head<W: Sink>(
 
 /// Writes the bytes and a space.
 fn put_word<W: Sink>(writer: &mut W, bytes: &[u8]) -> Result<(), WriteFault>
-    ensures { Writes (record { bytes = W.taken writer.old; failures = W.failures writer.old })
-        (record { bytes = W.taken writer.new; failures = W.failures writer.new })
-        result (bytes.now ++ 32 ∷ []) }
+    ensures { Writes (W.told writer.old) (W.told writer.new) result (bytes.now ++ 32 ∷ []) }
 {
     put_all(writer, bytes)?;
     put_all(writer, b" ")
@@ -99,9 +87,7 @@ fn put_word<W: Sink>(writer: &mut W, bytes: &[u8]) -> Result<(), WriteFault>
 
 /// Writes the bytes and a line end.
 fn put_line<W: Sink>(writer: &mut W, bytes: &[u8]) -> Result<(), WriteFault>
-    ensures { Writes (record { bytes = W.taken writer.old; failures = W.failures writer.old })
-        (record { bytes = W.taken writer.new; failures = W.failures writer.new })
-        result (with_feed bytes.now) }
+    ensures { Writes (W.told writer.old) (W.told writer.new) result (with_feed bytes.now) }
 {
     put_all(writer, bytes)?;
     put_all(writer, b"\n")

@@ -11,7 +11,7 @@ use Rattle.lsp_rpc.specs.Outline.{without_params}
 use Rattle.lsp_rpc.specs.Params.{all_of, did_change_at, act_at}
 use Rattle.lsp_rpc.specs.Reading.{IsMessage}
 use Rattle.lsp_rpc.specs.Shape.{as_integer}
-use Rattle.lsp_rpc.specs.declared.plain.Side.TheVariants.{Editor}
+use Rattle.lsp_types.specs.declared.side.Side.TheVariants.{Editor}
 use Rattle.lsp_rpc.proofs.Outlining.{differ}
 
 pub small_natural : (n : ℕ) → n < 2 ^ 31 → as_integer (number (unsigned n)) ≡ Some (pos n)

@@ -1,14 +1,13 @@
 -- The parts of a message as members come in, and the message that they make.
-use Rattle.std.proofs.Common.{◌≡◌, ℕ, List, Bool, true, false, Option, Some, None, option_map, option_and_then, codes, bytes_eq, true≢false, refl, sym, ap, ◌∙◌, subst}
-use Rattle.std.specs.Prelude.{⊤}
+use Rattle.std.proofs.Common.{◌≡◌, inl, inr, ℕ, ℤ, List, Bool, true, false, Option, Some, None, option_map, option_and_then, codes, bytes_eq, true≢false, refl, sym, ap, ◌∙◌, subst}
 use Rattle.std.proofs.lemmas.Slice.Eq.{bytes_eq-Decides}
 use Rattle.serde_json.specs.Data.{Data, null, object, Members, put}
 use Rattle.serde_json.specs.Find.{get_member, as_str}
 use Rattle.serde_json.proofs.Views.{get_member-put, get_member-put_other}
 use Rattle.lsp_rpc.specs.Ident.{Ident}
 use Rattle.lsp_rpc.specs.Message.{Message, request, notification, response, Reply, result, error}
-use Rattle.lsp_rpc.specs.Outline.{outline, without_result, part_named, with_part, kept}
-use Rattle.lsp_rpc.specs.Reading.{Parts, parts_of, rules_on, least_broken, message_in, call, reply_in, either, IsMessage}
+use Rattle.lsp_rpc.specs.Outline.{outline, part_named, with_part, kept, IsOrIsOutline, IsOrLacksResult}
+use Rattle.lsp_rpc.specs.Reading.{Parts, parts_of, rules_on, least_broken, message_in, call, code_of, reply_in, either, IsMessage}
 use Rattle.lsp_rpc.specs.Shape.{as_id, unless_null, is_structure_or_null, holds_unless_absent}
 use Rattle.lsp_rpc.specs.Words.{words_of}
 
@@ -93,14 +92,14 @@ module _ (d : Data) (ms : Members) where
 -- ---- the message
 
 abbrev Same : Message → Option Message → Type 0
-Same m o = (whole : Message) × (o ≡ Some whole) × (outline m ≡ outline whole)
+Same m o = (whole : Message) × (o ≡ Some whole) × (m ≡ outline whole)
 
 abbrev pick : {A : Type 0} → A → Option A → A
 pick a None = a
 pick a (Some b) = b
 
-same_some : (m a b : Message) → Some a ≡ Some m → outline a ≡ outline b → Same m (Some b)
-same_some m a b e h = (b, refl, ap outline (sym (ap (pick m) e)) ∙ h)
+same_some : (m a b : Message) → Some a ≡ Some m → a ≡ outline b → Same m (Some b)
+same_some m a b e h = (b, refl, sym (ap (pick m) e) ∙ h)
 
 called : (method : List ℕ) (id : Option Ident) (params : Option Data) (m : Message) → Some (call method id None) ≡ Some m → Same m (Some (call method id params))
 called method (Some id) params m e = same_some m (request id method None) (request id method params) e refl
@@ -111,10 +110,16 @@ called_by : (name : Option (List ℕ)) (id : Option Ident) (params : Option Data
 called_by None id params m e = absurd (cc)
 called_by (Some method) id params m e = called method id params m e
 
+failed : (id : Option Ident) (code : Option ℤ) (m : Message) → option_map (response id) (option_map error code) ≡ Some m
+    → Same m (option_map (response id) (option_map error code))
+failed id None m h = absurd (cc)
+failed id (Some code) m h = same_some m (response id (error code)) (response id (error code)) h refl
+
 answered : (id : Option Ident) (r e : Option Data) (m : Message) → option_map (response id) (reply_in (option_map (λ value. null) r) e) ≡ Some m
     → Same m (option_map (response id) (reply_in r e))
 answered id (Some value) e m h = same_some m (response id (result null)) (response id (result value)) h refl
-answered id None e m h = (m, h, refl)
+answered id None None m h = absurd (cc)
+answered id None (Some e) m h = failed id (code_of e) m h
 
 made : (version method id params r e : Option Data) (m : Message)
     → message_in (kept (record { version = version; method = method; id = id; params = params; result = r; error = e })) ≡ Some m
@@ -129,10 +134,10 @@ either_kept (Some value) e = refl
 rules_kept : (p : Parts) → holds_unless_absent is_structure_or_null p.params ≡ true → rules_on (kept p) ≡ rules_on p
 rules_kept p h = rw (h, either_kept p.result p.error)
 
--- what the parts that are kept make is the message of the value, but for its params and its result
+-- what the parts that are kept make is the outline of the value's message
 pub outlined : (ms : Members) (m : Message) → holds_unless_absent is_structure_or_null (parts_of (object ms)).params ≡ true
     → least_broken (rules_on (kept (parts_of (object ms)))) ≡ None → message_in (kept (parts_of (object ms))) ≡ Some m
-    → (whole : Message) × IsMessage (object ms) whole × (outline m ≡ outline whole)
+    → (whole : Message) × IsMessage (object ms) whole × (m ≡ outline whole)
 outlined ms m good keeps is =
     let p = parts_of (object ms) in
     let whole = made p.version p.method p.id p.params p.result p.error m is in
@@ -144,30 +149,14 @@ words_by_outline (notification method params) = refl
 words_by_outline (response id (result value)) = refl
 words_by_outline (response id (error code)) = refl
 
--- messages with one outline have the same words
-pub same_words : (a b : Message) → outline a ≡ outline b → words_of a ≡ words_of b
-same_words a b h = words_by_outline a ∙ ap words_of h ∙ sym (words_by_outline b)
+-- a message and its outline have the same words
+pub same_words : (m whole : Message) → IsOrIsOutline m whole → words_of m ≡ words_of whole
+same_words m whole (inl is) = ap words_of is
+same_words m whole (inr is) = ap words_of is ∙ sym (words_by_outline whole)
 
-abbrev IsCall : Message → Type 0
-IsCall (request id method params) = ⊤
-IsCall (notification method params) = ⊤
-IsCall (response id reply) = ⊥
-
-outline_is_call : (m : Message) → IsCall m → IsCall (outline m)
-outline_is_call (request id method params) h = tt
-outline_is_call (notification method params) h = tt
-outline_is_call (response id reply) h = absurd h
-
-outline_of_response : (id : Option Ident) (reply : Reply) → without_result (response id reply) ≡ outline (response id reply)
-outline_of_response id (result value) = refl
-outline_of_response id (error code) = refl
-
-response_is_no_call : (id : Option Ident) (reply : Reply) → IsCall (outline (response id reply)) → ⊥
-response_is_no_call id (result value) h = h
-response_is_no_call id (error code) h = h
-
--- responses with one outline differ in the value of the result alone
-pub same_answer : (id : Option Ident) (reply : Reply) (b : Message) → outline (response id reply) ≡ outline b → without_result (response id reply) ≡ without_result b
-same_answer id reply (response other answer) h = outline_of_response id reply ∙ h ∙ sym (outline_of_response other answer)
-same_answer id reply (request other method params) h = absurd (response_is_no_call id reply (subst IsCall (sym h) tt))
-same_answer id reply (notification method params) h = absurd (response_is_no_call id reply (subst IsCall (sym h) tt))
+-- a response that is an outline lacks the value alone
+pub lacks_result : (id : Option Ident) (reply : Reply) (whole : Message) → response id reply ≡ outline whole → IsOrLacksResult (response id reply) whole
+lacks_result id reply (request other method params) h = absurd (cc)
+lacks_result id reply (notification method params) h = absurd (cc)
+lacks_result id reply (response other (result value)) h = inr h
+lacks_result id reply (response other (error code)) h = inr h

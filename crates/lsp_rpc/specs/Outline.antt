@@ -1,5 +1,5 @@
 -- A message apart from what its params and its result hold.
-use Rattle.std.specs.Prelude.{◌≡◌, ℕ, List, true, if◌then◌else◌, Some, None, option_map, codes}
+use Rattle.std.specs.Prelude.{◌≡◌, ◌⊎◌, ℕ, List, true, if◌then◌else◌, Some, None, option_map, codes}
 use Rattle.std.specs.Str.{bytes_eq}
 use Rattle.serde_json.specs.Data.{Data, null, boolean, number, string, array, object}
 use Rattle.lsp_rpc.specs.Message.{Message, request, notification, response, result, error}
@@ -31,6 +31,14 @@ abbrev pub without_params : Message → Message
 without_params (request id method params) = request id method None
 without_params (notification method params) = notification method None
 without_params (response id reply) = response id reply
+
+-- the whole message, or its outline
+abbrev pub IsOrIsOutline : Message → Message → Type 0
+IsOrIsOutline message whole = (message ≡ whole) ⊎ (message ≡ outline whole)
+
+-- the whole message, or what it is without the value that it answers
+abbrev pub IsOrLacksResult : Message → Message → Type 0
+IsOrLacksResult message whole = (message ≡ whole) ⊎ (message ≡ without_result whole)
 
 -- ---- how an outline is read
 

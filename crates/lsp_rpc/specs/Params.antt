@@ -6,10 +6,10 @@ use Rattle.serde_json.specs.Find.{as_str, as_array}
 use Rattle.lsp_rpc.specs.Shape.{member, unless_null, is_object, as_integer, as_id}
 use Rattle.lsp_rpc.specs.Message.{Message, request, notification, response}
 use Rattle.lsp_rpc.specs.Act.{Text, Act, Offer, Change, initialize, initialized, shutdown, exit, did_open, did_change, did_close, did_save, cancel, progress, early, register, other}
-use Rattle.lsp_rpc.specs.declared.plain.Side.{Side}
-use Rattle.lsp_rpc.specs.declared.plain.Side.TheVariants.{Editor, Server}
-use Rattle.lsp_rpc.specs.declared.plain.Position.{Position}
-use Rattle.lsp_rpc.specs.declared.plain.Span.{Span}
+use Rattle.lsp_types.specs.declared.side.Side.{Side}
+use Rattle.lsp_types.specs.declared.side.Side.TheVariants.{Editor, Server}
+use Rattle.lsp_types.specs.declared.position.Position.{Position}
+use Rattle.lsp_types.specs.declared.position.Span.{Span}
 
 -- ---- words for shapes
 

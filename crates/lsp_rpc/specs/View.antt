@@ -13,7 +13,7 @@ use Rattle.lsp_rpc.specs.declared.parts.Parts as parts
 use Rattle.lsp_rpc.specs.declared.act.Act as act
 use Rattle.lsp_rpc.specs.declared.act.Act.TheVariants as acts
 use Rattle.lsp_rpc.specs.declared.act.Offer as offer
-use Rattle.lsp_rpc.specs.declared.act.Change as change
+use Rattle.lsp_types.specs.declared.change.Change as change
 use Rattle.lsp_rpc.specs.declared.act.Picked as picked
 use Rattle.std.specs.Prelude.{String}
 use Rattle.std.specs.Cow.{cow_value}

@@ -1,5 +1,5 @@
 use crate::message::{Id, Message};
-use crate::plain::{Span, SyncKind};
+use lsp_types::{Change, SyncKind};
 
 /// What the editor offers in its `initialize` (LSP 3.17, Initialize Request). `None` stands for a
 /// member that is missing or null.
@@ -17,14 +17,6 @@ pub struct Picked {
     /// The name of an encoding; `utf-16` where none is given.
     pub encoding: String,
     pub kind: SyncKind,
-}
-
-/// A text in the place of a span, or of the whole text where there is none (LSP 3.17,
-/// TextDocumentContentChangeEvent).
-#[derive(Debug, Drop, PartialEq, Eq)]
-pub struct Change {
-    pub span: Option<Span>,
-    pub text: String,
 }
 
 /// What a message means to the session of its side.

@@ -6,11 +6,10 @@ ghost use Rattle.lsp_rpc.specs.Fault.{Names, rule_unless_read};
 ghost use Rattle.lsp_rpc.specs.Params as spec;
 ghost use Rattle.lsp_rpc.specs.View.{change_view, changes_view};
 
-use crate::act::Change;
 use crate::fault::RpcFault;
 use crate::params::{into_text, items_of, required, uinteger_of};
-use crate::plain::{Position, Span};
 use crate::shape::given;
+use lsp_types::{Change, Position, Span};
 use serde_json::Value;
 use std::alloc::Global;
 

@@ -10,15 +10,16 @@ ghost use Rattle.lsp_rpc.specs.Message.{Message as SpecMessage};
 ghost use Rattle.lsp_rpc.specs.Outline.{without_params};
 ghost use Rattle.lsp_rpc.specs.Params as spec;
 ghost use Rattle.lsp_rpc.specs.Reading as reading;
-ghost use Rattle.lsp_rpc.specs.declared.plain.Side.TheVariants.{Editor};
+ghost use Rattle.lsp_types.specs.declared.side.Side.TheVariants.{Editor};
 ghost use Rattle.lsp_rpc.specs.View.{act_view, changes_view, message_view};
 
-use crate::act::{Act, Change, Spoken};
+use crate::act::{Act, Spoken};
 use crate::edits::next_changes;
 use crate::members::{Gathered, next_object, next_string, next_uinteger, take_text};
 use crate::message::Message;
 use crate::skip::skip;
 use json::{Reader, Scratch};
+use lsp_types::Change;
 use std::alloc::Global;
 
 /// How deep values may nest in a content, as `serde_json` reads it.

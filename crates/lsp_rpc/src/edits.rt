@@ -7,11 +7,10 @@ ghost use Rattle.serde_json.specs.Read.{of_items, of_json, converted};
 ghost use Rattle.lsp_rpc.specs.Params as spec;
 ghost use Rattle.lsp_rpc.specs.View.{change_view, changes_view};
 
-use crate::act::Change;
 use crate::members::{Gathered, next_object, next_string, next_uinteger};
-use crate::plain::{Position, Span};
 use crate::skip::skip;
 use json::{Reader, Token};
+use lsp_types::{Change, Position, Span};
 use std::alloc::Global;
 
 /// The members of a position.

@@ -2,8 +2,8 @@
 ghost use Rattle.std.specs.Prelude.{◌≡◌, IfOk};
 ghost use Rattle.lsp_rpc.specs.Ident as ident;
 
-use crate::memory::Memory;
 use crate::message::Id;
+use lsp_types::Memory;
 
 /// Whether two ids are one: the number 1 and the text `1` are two (JSON-RPC 2.0, section 4).
 pub fn same_id(first: &Id, second: &Id) -> bool

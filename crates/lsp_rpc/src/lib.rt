@@ -19,7 +19,6 @@ mod ids;
 mod initialize;
 mod laws;
 mod members;
-mod memory;
 mod message;
 mod methods;
 mod outline;
@@ -27,7 +26,6 @@ mod outline;
 mod outline_tests;
 mod params;
 mod parts;
-mod plain;
 mod results;
 mod shape;
 mod skip;
@@ -35,17 +33,16 @@ mod skip;
 mod tests;
 mod words;
 
-pub use act::{Act, Change, Offer, Picked, Spoken};
+pub use act::{Act, Offer, Picked, Spoken};
 pub use content::read;
 pub use fault::RpcFault;
 pub use ids::{copy_id, same_id};
 pub use laws::{
     message_breaks_no_rule, message_or_rule, one_message, one_rule, same_id_is_equality,
 };
-pub use memory::Memory;
+pub use lsp_types::{Change, Encoding, Memory, Position, Side, Span, SyncKind};
 pub use message::{Answer, Id, Message};
 pub use methods::{act_of, take_act};
 pub use outline::OutlineReader;
-pub use plain::{Encoding, Position, Side, Span, SyncKind};
 pub use results::picked_of;
 pub use words::{push_id, push_quoted, words_of};

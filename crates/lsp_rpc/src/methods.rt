@@ -13,7 +13,7 @@ use crate::fault::RpcFault;
 use crate::initialize::initialize_of;
 use crate::message::Message;
 use crate::params::{id_of, into_required, into_text, items_of, required_params};
-use crate::plain::Side;
+use lsp_types::Side;
 use serde_json::Value;
 use std::alloc::Global;
 use std::borrow::Cow;

@@ -5,9 +5,9 @@ ghost use Rattle.serde_json.specs.Data.{Data, Members, object, no_members};
 ghost use Rattle.serde_json.specs.Read.{of_json, of_members, converted, number_of, number_from, read as read_text};
 ghost use Rattle.serde_json.specs.View.{view, number_view};
 ghost use Rattle.lsp_rpc.specs.Message.{Message as SpecMessage};
-ghost use Rattle.lsp_rpc.specs.Outline.{outline, without_params, without_result, part_named, with_part, AreKept};
+ghost use Rattle.lsp_rpc.specs.Outline.{outline, without_params, part_named, with_part, AreKept, IsOrIsOutline, IsOrLacksResult};
 ghost use Rattle.lsp_rpc.specs.Params.{act_at};
-ghost use Rattle.lsp_rpc.specs.declared.plain.Side.TheVariants.{Editor};
+ghost use Rattle.lsp_types.specs.declared.side.Side.TheVariants.{Editor};
 ghost use Rattle.lsp_rpc.specs.Reading as reading;
 ghost use Rattle.lsp_rpc.specs.View.{act_view, message_view};
 ghost use Rattle.lsp_rpc.specs.Words.{words_of as spec_words_of};
@@ -180,7 +180,7 @@ fn outline_of(
     wanted: Wanted,
 ) -> Option<Message>
     ensures { IfSome result (λ message. (whole : SpecMessage) × reading.Reads content.now whole
-        × (outline (message_view message) ≡ outline whole)) }
+        × (message_view message ≡ outline whole)) }
 {
     let text = simdutf8::basic::from_utf8(content).ok()?;
     let parts = parts_of_text(alloc, text, scratch, wanted)?;
@@ -207,11 +207,12 @@ impl OutlineReader {
         }
     }
 
-    /// Reads a content as [`read`] does (JSON-RPC 2.0, sections 4 and 5), but for the values of its
-    /// params and of its result, which may be left out. The refusal is the least rule that it breaks.
+    /// Reads a content as [`read`] does (JSON-RPC 2.0, sections 4 and 5), whole or without the
+    /// values of its params and of its result: the params are `None` then, the result is null. The
+    /// refusal is the least rule that it breaks.
     pub fn read(&mut self, content: &[u8]) -> Result<Message, RpcFault>
         ensures ok { IfOk result (λ message. (whole : SpecMessage) × reading.Reads content.now whole
-            × (outline (message_view message) ≡ outline whole)) }
+            × IsOrIsOutline (message_view message) whole) }
         ensures rule { IfErr result (reading.IsRefusal content.now) }
     {
         match outline_of(self.alloc, content, &mut self.scratch, Wanted::All) {
@@ -220,11 +221,11 @@ impl OutlineReader {
         }
     }
 
-    /// Reads a content as [`read`] does, but for the value of its result, which may be left out. The
-    /// refusal is the least rule that it breaks.
+    /// Reads a content as [`read`] does, whole or without the value of its result, which is null
+    /// then. The refusal is the least rule that it breaks.
     pub fn read_answer(&mut self, content: &[u8]) -> Result<Message, RpcFault>
         ensures ok { IfOk result (λ message. (whole : SpecMessage) × reading.Reads content.now whole
-            × (without_result (message_view message) ≡ without_result whole)) }
+            × IsOrLacksResult (message_view message) whole) }
         ensures rule { IfErr result (reading.IsRefusal content.now) }
     {
         if content.len() < SHORT {

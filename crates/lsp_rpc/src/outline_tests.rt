@@ -1,4 +1,5 @@
-use crate::{Id, Message, OutlineReader};
+use crate::{Answer, Id, Memory, Message, OutlineReader, RpcFault, words_of};
+use serde_json::Value;
 use std::alloc::{AllocError, Global};
 use std::test::Fail;
 
@@ -97,5 +98,114 @@ fn outlines_and_answers(rt: HostRuntime) -> Result<(), Fail> {
             })
         )
     );
+    Ok(())
+}
+
+/// A content of more than 1,024 bytes.
+fn long_content(alloc: Global, before: &str, after: &str) -> Result<Vec<u8>, Memory> {
+    let mut content = Vec::new(alloc);
+    content.extend_from_slice(before.as_bytes())?;
+    for _ in 0..11 {
+        content.extend_from_slice(&[b'a'; 100])?;
+    }
+    content.extend_from_slice(after.as_bytes())?;
+    Ok(content)
+}
+
+/// What is kept of the params or of the value that is answered.
+fn kept_of(message: &Message) -> &'static str {
+    match message {
+        Message::Request { params: None, .. } | Message::Notification { params: None, .. } => {
+            "no params"
+        }
+        Message::Request { .. } | Message::Notification { .. } => "params",
+        Message::Response {
+            answer: Answer::Result(Value::Null),
+            ..
+        } => "null",
+        Message::Response { .. } => "whole",
+    }
+}
+
+/// The words of a message and what is kept of it, or the rule that its content breaks.
+fn told(alloc: Global, read: Result<Message, RpcFault>) -> Result<String, Memory> {
+    match read {
+        Ok(message) => {
+            let words = words_of(alloc, &message)?;
+            let kept = kept_of(&message);
+            Ok(format!(in alloc; "{words}, {kept}")?)
+        }
+        Err(fault) => Ok(format!(in alloc; "{fault}")?),
+    }
+}
+
+/// What stands before and behind a long text, and what `read` and `read_answer` tell.
+const LONG: [(&str, &str, &str, &str); 9] = [
+    (
+        "{\"jsonrpc\":\"2.0\",\"id\":5,\"method\":\"m\",\"params\":{\"text\":\"",
+        "\"}}",
+        "request 5 \"m\", no params",
+        "request 5 \"m\", params",
+    ),
+    (
+        "{\"jsonrpc\":\"2.0\",\"method\":\"m\",\"params\":[\"",
+        "\"]}",
+        "notification \"m\", no params",
+        "notification \"m\", params",
+    ),
+    (
+        "{\"jsonrpc\":\"2.0\",\"id\":\"7\",\"result\":\"",
+        "\"}",
+        "result \"7\", null",
+        "result \"7\", null",
+    ),
+    (
+        "{\"jsonrpc\":\"2.0\",\"id\":null,\"result\":[{\"a\":\"",
+        "\",\"b\":[1,-2.5e3,true,null]}]}",
+        "result null, null",
+        "result null, null",
+    ),
+    (
+        "{\"result\":{\"a\":\"",
+        "\"},\"id\":7,\"jsonrpc\":\"2.0\"}",
+        "result 7, null",
+        "result 7, null",
+    ),
+    (
+        "{\"jsonrpc\":\"2.0\",\"id\":7,\"error\":{\"code\":-32800,\"message\":\"",
+        "\"}}",
+        "error 7 -32800, whole",
+        "error 7 -32800, whole",
+    ),
+    (
+        "{\"jsonrpc\":\"2.0\",\"id\":7,\"result\":1,\"x\":\"",
+        "\",\"error\":1}",
+        "rule 207",
+        "rule 207",
+    ),
+    (
+        "{\"jsonrpc\":\"2.0\",\"method\":\"m\",\"params\":\"",
+        "\"}",
+        "rule 206",
+        "rule 206",
+    ),
+    (
+        "{\"jsonrpc\":\"2.0\",\"id\":7,\"result\":\"",
+        "\\ud800\"}",
+        "rule 201",
+        "rule 201",
+    ),
+];
+
+#[test]
+fn long_contents(rt: HostRuntime) -> Result<(), Fail> {
+    let alloc = rt.alloc();
+    let mut reader = OutlineReader::new(alloc);
+    for (before, after, outline, answer) in LONG {
+        let content = long_content(alloc, before, after)?;
+        let content = content.as_slice();
+        assert_eq!(rt; told(alloc, reader.read(content))?.as_str(), outline);
+        assert_eq!(rt; told(alloc, reader.read_answer(content))?.as_str(), answer);
+    }
     Ok(())
 }

@@ -7,8 +7,8 @@ ghost use Rattle.lsp_rpc.specs.Fault.{Names, rule_unless_read};
 
 use crate::act::Picked;
 use crate::fault::RpcFault;
-use crate::plain::SyncKind;
 use crate::shape::{given, integer_of};
+use lsp_types::SyncKind;
 use serde_json::Value;
 use std::alloc::Global;
 

@@ -7,9 +7,9 @@ ghost use Rattle.lsp_rpc.specs.View.{message_view, answer_view};
 ghost use Rattle.lsp_rpc.specs.Message.{response};
 ghost use Rattle.lsp_rpc.specs.Words as spec;
 
-use crate::memory::Memory;
 use crate::message::{Answer, Id, Message};
 use itoa::Buffer;
+use lsp_types::Memory;
 use serde_json::Value;
 use std::alloc::Global;
 

@@ -2,8 +2,8 @@
 use Rattle.std.proofs.Common.{◌≡◌, ℕ, List, ◌∷◌, [], Bool, true, false, not, ◌&&◌, ◌||◌, Option, Some, None, is_some, option_and_then, refl}
 use Rattle.lsp_rpc.specs.Act.{Act}
 use Rattle.lsp_rpc.specs.Message.{Message}
-use Rattle.lsp_rpc.specs.declared.plain.Side.{Side}
-use Rattle.lsp_rpc.specs.declared.plain.Side.TheVariants.{Editor, Server}
+use Rattle.lsp_types.specs.declared.side.Side.{Side}
+use Rattle.lsp_types.specs.declared.side.Side.TheVariants.{Editor, Server}
 use Rattle.lsp_session.specs.ByState as by_state
 use Rattle.lsp_session.specs.Handshake.{Settled, first_settled, is_done, is_empty, open_initializes, was_sent}
 use Rattle.lsp_session.specs.Lifecycle.{is_early, lifecycle_rule, reports_on}
@@ -23,13 +23,6 @@ is_done-state_of before = some (first_settled before)
     some : (settled : Option Settled) → is_some (agreed_in settled) ≡ is_some settled
     some None = refl
     some (Some s) = refl
-
-pub agreement-state_of : (before : List Sent) → by_state.agreement (state_of before) ≡ agreed before
-agreement-state_of before = inner (first_settled before)
-  where
-    inner : (settled : Option Settled) → option_and_then (λ a. a) (agreed_in settled) ≡ option_and_then (λ s. agreed_at s.value) settled
-    inner None = refl
-    inner (Some s) = refl
 
 request_rule-state_of : (before : List Sent) (m : Sent) → by_state.request_rule (state_of before) m.side m.message ≡ request_rule before m
 request_rule-state_of before m = rw (open_of-state_of m.side before, open_of-state_of (other_side m.side) before) refl

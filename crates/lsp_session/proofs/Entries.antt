@@ -5,7 +5,7 @@ use Rattle.std.specs.Option.{option_copied}
 use Rattle.std.specs.Map.{lookup}
 use Rattle.lsp_rpc.specs.Ident.{Ident, id_view, same_id}
 use Rattle.lsp_rpc.specs.declared.message.Id.{Id}
-use Rattle.lsp_session.specs.Entry.{Entry, cancel, entry_of, has_id, request_view, without}
+use Rattle.lsp_session.specs.Entry.{Entry, IdsDiffer, cancel, entry_of, has_id, request_view, without}
 use Rattle.lsp_session.specs.Held.{AllDiffer, AllHave, IsHeld, IsOf, entries_in, entries_of, is_among, is_found, is_other, request_of}
 use Rattle.lsp_session.specs.declared.pending.OpenRequest.{OpenRequest}
 use Rattle.lsp_session.proofs.Bools.{left_false, or_false, right_false, true_or_false}
@@ -139,6 +139,18 @@ module _ (g : Ident → Option OpenRequest) where
   has_id-among x [] h = refl
   has_id-among x (id ∷ ids) h =
       first_has x (id_view id) (g (id_view id)) (entries_of ids g) h.0 ∙ ap (λ b. same_id x (id_view id) || b) (has_id-among x ids h.1)
+
+  -- no id stands at two places
+  pub differ-held : (ids : List Id) → IsHeld ids g → IdsDiffer (entries_of ids g)
+  differ-held ids h = differ ids h.have h.differ
+    where
+      first : (k : Ident) (slot : Option OpenRequest) (rest : List Entry) → IsOf k slot → has_id k rest ≡ false → IdsDiffer rest → IdsDiffer (entries_in slot ++ rest)
+      first k None rest h n d = absurd h
+      first k (Some r) rest h n d = (subst (λ x. has_id x rest ≡ false) h n, d)
+
+      differ : (ids : List Id) → AllHave ids g → AllDiffer ids → IdsDiffer (entries_of ids g)
+      differ [] h d = tt
+      differ (id ∷ ids) h d = first (id_view id) (g (id_view id)) (entries_of ids g) h.0 (has_id-among (id_view id) ids h.1 ∙ d.0) (differ ids h.1 d.1)
 
   first_entry : (x k : Ident) (slot : Option OpenRequest) (rest : List Entry) → IsOf k slot → same_id x k ≡ true → entry_of x (entries_in slot ++ rest) ≡ option_map request_view slot
   first_entry x k None rest h p = absurd h

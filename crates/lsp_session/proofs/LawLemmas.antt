@@ -4,8 +4,8 @@ use Rattle.std.specs.Option.{option_or}
 use Rattle.std.proofs.lemmas.Option.{same_Some}
 use Rattle.lsp_rpc.specs.Ident.{Ident, same_id}
 use Rattle.lsp_rpc.specs.Message.{Message, request, notification, response}
-use Rattle.lsp_rpc.specs.declared.plain.Side.{Side}
-use Rattle.lsp_rpc.specs.declared.plain.Side.TheVariants.{Editor, Server}
+use Rattle.lsp_types.specs.declared.side.Side.{Side}
+use Rattle.lsp_types.specs.declared.side.Side.TheVariants.{Editor, Server}
 use Rattle.lsp_session.specs.Entry.{Entry, has_id}
 use Rattle.lsp_session.specs.Laws.{AnsweredOnce, AnsweredRequest, AnswersARequest, AnswersNoOther}
 use Rattle.lsp_session.specs.Requests.{answers, answers_request, id_rule, is_answered, is_cancelled, names, open_entry, open_requests, request_rule}

@@ -5,8 +5,8 @@ use Rattle.serde_json.specs.Data.{Data, Members}
 use Rattle.lsp_rpc.specs.Ident.{Ident, number, text}
 use Rattle.lsp_rpc.specs.Message.{Reply, request, notification, response, result, error}
 use Rattle.lsp_rpc.specs.Act.{Act, Text, initialize, initialized, shutdown, exit, cancel, progress, early, register, other}
-use Rattle.lsp_rpc.specs.declared.plain.Side.{Side}
-use Rattle.lsp_rpc.specs.declared.plain.Side.TheVariants.{Editor, Server}
+use Rattle.lsp_types.specs.declared.side.Side.{Side}
+use Rattle.lsp_types.specs.declared.side.Side.TheVariants.{Editor, Server}
 use Rattle.lsp_session.specs.Sent.{Sent}
 
 abbrev pub asks : Side → Ident → Text → Act → Sent

@@ -3,9 +3,9 @@ use Rattle.std.proofs.Common.{refl}
 use Rattle.std.specs.Prelude.{◌≡◌, ℕ, pos, List, [], ◌∷◌, ◌++◌, Bool, true, false, length, map, codes, Option, Some, None}
 use Rattle.lsp_rpc.specs.Ident.{number, text}
 use Rattle.lsp_rpc.specs.Act.{other}
-use Rattle.lsp_rpc.specs.declared.plain.Encoding.TheVariants.{Utf16}
-use Rattle.lsp_rpc.specs.declared.plain.Side.TheVariants.{Editor, Server}
-use Rattle.lsp_rpc.specs.declared.plain.SyncKind.TheVariants.{Nothing, Full, Incremental}
+use Rattle.lsp_types.specs.declared.position.Encoding.TheVariants.{Utf16}
+use Rattle.lsp_types.specs.declared.side.Side.TheVariants.{Editor, Server}
+use Rattle.lsp_types.specs.declared.change.SyncKind.TheVariants.{Nothing, Full, Incremental}
 use Rattle.lsp_session.specs.declared.phase.Phase.TheVariants.{Fresh, Waiting, Answered, Ready, Stopping, Exited}
 use Rattle.lsp_session.specs.Handshake.{phase}
 use Rattle.lsp_session.specs.Negotiation.{encoding, sync_kind}

@@ -4,8 +4,8 @@ use Rattle.std.specs.Option.{option_or}
 use Rattle.std.proofs.lemmas.List.Folds.{list_any-append}
 use Rattle.lsp_rpc.specs.Act.{Act}
 use Rattle.lsp_rpc.specs.Ident.{Ident, same_id}
-use Rattle.lsp_rpc.specs.declared.plain.Side.{Side}
-use Rattle.lsp_rpc.specs.declared.plain.Side.TheVariants.{Editor, Server}
+use Rattle.lsp_types.specs.declared.side.Side.{Side}
+use Rattle.lsp_types.specs.declared.side.Side.TheVariants.{Editor, Server}
 use Rattle.lsp_session.specs.Entry as entry
 use Rattle.lsp_session.specs.Entry.{Entry, without}
 use Rattle.lsp_session.specs.Handshake.{Settled, first_settled, first_settled_from, initialize_by, open_initialize, open_initializes, settled_by, was_sent}

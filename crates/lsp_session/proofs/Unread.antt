@@ -3,7 +3,7 @@ use Rattle.std.proofs.Common.{◌≡◌, ℕ, List, [], ◌∷◌, ◌++◌, Opt
 use Rattle.lsp_rpc.specs.Act.{Act}
 use Rattle.lsp_rpc.specs.Message.{Message, request, notification, response, result, error}
 use Rattle.lsp_rpc.specs.Outline.{without_params, without_result}
-use Rattle.lsp_rpc.specs.declared.plain.Side.{Side}
+use Rattle.lsp_types.specs.declared.side.Side.{Side}
 use Rattle.lsp_session.specs.Handshake.{open_initializes}
 use Rattle.lsp_session.specs.Laws.{ParamsUnread, ResultUnread, sent_by}
 use Rattle.lsp_session.specs.Rules.{rule_after}

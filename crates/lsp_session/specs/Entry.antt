@@ -1,5 +1,5 @@
 -- The open requests of one side, in the order in which they were asked.
-use Rattle.std.specs.Prelude.{ℕ, List, [], ◌∷◌, map, Bool, true, false, ◌||◌, if◌then◌else◌, Option, Some, None, string_bytes}
+use Rattle.std.specs.Prelude.{◌≡◌, ℕ, List, [], ◌∷◌, map, Bool, true, false, ◌||◌, if◌then◌else◌, Option, Some, None, string_bytes}
 use Rattle.lsp_rpc.specs.Ident.{Ident, same_id, id_view}
 use Rattle.lsp_session.specs.declared.pending.OpenRequest.{OpenRequest}
 
@@ -19,6 +19,11 @@ new_entry id method = record { id = id; method = method; cancelled = false }
 abbrev pub has_id : Ident → List Entry → Bool
 has_id id [] = false
 has_id id (e ∷ es) = same_id id e.id || has_id id es
+
+-- no id stands twice
+abbrev pub IdsDiffer : List Entry → Type 0
+IdsDiffer [] = Unit {0}
+IdsDiffer (e ∷ es) = (has_id e.id es ≡ false) × IdsDiffer es
 
 -- the entry with this id
 abbrev pub entry_of : Ident → List Entry → Option Entry

@@ -7,6 +7,7 @@ pub mod Lifecycle
 pub mod Negotiation
 pub mod Rules
 pub mod Laws
+pub mod Incomplete
 pub mod Held
 pub mod State
 pub mod ByState

@@ -3,7 +3,7 @@
 use Rattle.std.specs.Prelude.{ℕ, List, [], ◌∷◌, ◌++◌, Bool, false, not, ◌&&◌, ◌||◌, if◌then◌else◌, Option, Some, None}
 use Rattle.lsp_rpc.specs.Ident.{Ident, same_id}
 use Rattle.lsp_rpc.specs.Message.{Message, request, notification, response}
-use Rattle.lsp_rpc.specs.declared.plain.Side.{Side}
+use Rattle.lsp_types.specs.declared.side.Side.{Side}
 use Rattle.lsp_session.specs.Entry.{Entry, has_id, ask_rule}
 use Rattle.lsp_session.specs.Sent.{Sent, other_side, request_of, request_by, answered_id, cancelled_id}
 

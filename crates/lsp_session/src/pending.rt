@@ -1,7 +1,7 @@
 ghost use Rattle.std.specs.Prelude.{None, IfErr, IfOk, ◌≡◌, ◌++◌, ◌∷◌, [], length, OnOk, OnErr, false, filter, option_map, slice_get};
 ghost use Rattle.std.specs.Option.{option_copied};
 ghost use Rattle.lsp_rpc.specs.Ident.{id_view};
-ghost use Rattle.lsp_session.specs.Entry.{request_view, has_id, entry_of, without, cancel, ask_rule, new_entry};
+ghost use Rattle.lsp_session.specs.Entry.{request_view, has_id, IdsDiffer, entry_of, without, cancel, ask_rule, new_entry};
 ghost use Rattle.lsp_session.specs.Held.{AllDiffer, is_found, is_other};
 ghost use Rattle.lsp_session.specs.Refusal.{Names};
 
@@ -93,9 +93,10 @@ impl Pending {
         }
     }
 
-    /// How many requests are open.
+    /// How many requests are open. No two of them have the same id.
     pub fn len(&self) -> usize
-        ensures { result ≡ length self.now }
+        ensures count { result ≡ length self.now }
+        ensures differ { IdsDiffer self.now }
     {
         self.order.len()
     }

@@ -4,6 +4,7 @@ ghost use Rattle.lsp_rpc.specs.View.{act_view, message_view};
 ghost use Rattle.lsp_session.specs.ByState as by_state;
 ghost use Rattle.lsp_session.specs.Entry.{has_id, new_entry};
 ghost use Rattle.lsp_session.specs.Handshake as handshake;
+ghost use Rattle.lsp_session.specs.Incomplete as complete;
 ghost use Rattle.lsp_session.specs.Negotiation as negotiation;
 ghost use Rattle.lsp_session.specs.Refusal.{Names};
 ghost use Rattle.lsp_session.specs.Requests.{open_requests};
@@ -140,6 +141,22 @@ impl Session {
             → result.now ≡ open_requests side before }
     {
         self.asked_by(side)
+    }
+
+    /// What the session lacks if it ends here: 303 where a request of the editor, cancelled or not,
+    /// has no response yet (JSON-RPC 2.0, section 4), else 407 where the editor did not send `exit`
+    /// (LSP 3.17, "Exit Notification").
+    pub fn incomplete(&self) -> Option<u16>
+        ensures { (before : List Sent) → Stands self.now before
+            → result ≡ complete.incomplete before }
+    {
+        if self.editor.len() > 0 {
+            Some(303)
+        } else if self.exited {
+            None
+        } else {
+            Some(407)
+        }
     }
 
     /// Whether an `initialize` waits for its response, so that the value of a result may matter.

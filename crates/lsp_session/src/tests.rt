@@ -2,7 +2,8 @@
 //! of that side, by the name of its content, and the rule that it breaks, 0 for none. A line
 //! `is PHASE ENCODING KIND OPEN CANCELLED OPEN` says how far the session has come, what is agreed, how
 //! many requests of the editor are open and cancelled, and how many of the server are open. A line
-//! `session` begins a new session.
+//! `lacks RULE` says what the session would lack if it ended there, 0 for nothing. A line `session`
+//! begins a new session.
 use crate::{Pending, Refusal, Session};
 use lsp_rpc::{Id, RpcFault, Side, act_of, read};
 use std::test::Fail;
@@ -168,6 +169,43 @@ editor null-to-5 406
 server log 0
 is Exited Some(Utf16) Some(Incremental) 0 0 1";
 
+const COMPLETE: &str = "session
+lacks 407
+editor initialize 0
+lacks 303
+server result-2-incremental 0
+lacks 407
+editor initialized 0
+editor hover 0
+lacks 303
+editor shutdown 0
+editor exit 0
+lacks 303
+server error-to-7 0
+lacks 303
+server null-to-2 0
+lacks 0
+session
+editor initialize 0
+server result-2-incremental 0
+editor initialized 0
+editor hover 0
+editor cancel-7 0
+lacks 303
+server error-to-7 0
+lacks 407
+server question 0
+lacks 407
+editor exit 0
+lacks 0
+session
+editor exit 0
+lacks 0
+session
+editor initialize 0
+editor exit 0
+lacks 303";
+
 fn content_of(name: &str) -> Option<&'static str> {
     for line in CONTENTS.lines() {
         if let Some((found, content)) = line.split_once(' ') {
@@ -241,6 +279,8 @@ fn first_broken(rt: &HostRuntime, sessions: &str) -> Result<Option<usize>, Fail>
             true
         } else if let Some(wanted) = line.strip_prefix("is ") {
             state_of(rt, &session)?.as_str() == wanted
+        } else if let Some(wanted) = line.strip_prefix("lacks ") {
+            wanted.parse().ok() == Some(session.incomplete().unwrap_or(0))
         } else {
             keeps_word(rt, &mut session, line) == Some(true)
         };
@@ -272,6 +312,14 @@ fn the_server_picks_what_was_offered(rt: HostRuntime) -> Result<(), Fail> {
 #[test]
 fn each_side_sends_what_the_lifecycle_allows(rt: HostRuntime) -> Result<(), Fail> {
     assert_eq!(rt; first_broken(&rt, LIFECYCLE)?, None);
+    Ok(())
+}
+
+#[test]
+fn a_session_is_complete_once_all_is_answered_and_exit_was_sent(
+    rt: HostRuntime,
+) -> Result<(), Fail> {
+    assert_eq!(rt; first_broken(&rt, COMPLETE)?, None);
     Ok(())
 }
 

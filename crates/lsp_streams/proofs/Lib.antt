@@ -9,6 +9,7 @@ pub mod NormalForms
 pub mod NormalContents
 pub mod NormalBringing
 pub mod NormalRecords
+pub mod NormalCounts
 pub mod NormalLogs
 pub mod NormalRows
 pub mod NormalOne

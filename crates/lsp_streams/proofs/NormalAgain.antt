@@ -13,8 +13,8 @@ use Rattle.std.specs.Str.Parse.{digits_value}
 use Rattle.lsp_frame.specs.Sink.{canonical}
 use Rattle.lsp_frame.proofs.Canonical.{canonical_frame}
 use Rattle.lsp_frame.proofs.Frames.{frames_more, frames_push}
-use Rattle.lsp_rpc.specs.declared.plain.Side.{Side}
-use Rattle.lsp_rpc.specs.declared.plain.Side.TheVariants.{Editor, Server}
+use Rattle.lsp_types.specs.declared.side.Side.{Side}
+use Rattle.lsp_types.specs.declared.side.Side.TheVariants.{Editor, Server}
 use Rattle.lsp_log.specs.Log.{Record, chunk, shown, first_line, spelling, Fits, IsLog}
 use Rattle.lsp_log.specs.declared.fault.LogCode.{LogCode}
 use Rattle.lsp_log.proofs.OneLog.{written_is_read}

@@ -5,15 +5,16 @@ use Rattle.std.proofs.lemmas.List.{map-append}
 use Rattle.lsp_frame.specs.Bounds.{Bounds}
 use Rattle.lsp_frame.specs.Decoder.{State}
 use Rattle.lsp_frame.specs.Frame.{Frames, IsStream}
-use Rattle.lsp_frame.specs.Sink.{Told, Wrote}
+use Rattle.lsp_frame.specs.Sink.{Wrote}
+use Rattle.lsp_frame.specs.Told.{Told}
 use Rattle.lsp_frame.proofs.Writing.{wrote_nothing}
-use Rattle.lsp_rpc.specs.declared.plain.Side.{Side}
+use Rattle.lsp_types.specs.declared.side.Side.{Side}
 use Rattle.lsp_verdict.specs.declared.counts.Counts.{Counts}
 use Rattle.lsp_verdict.specs.declared.outcome.Outcome.{Outcome}
 use Rattle.lsp_verdict.specs.declared.outcome.RunFault.{RunFault}
 use Rattle.lsp_verdict.specs.declared.outcome.RunFault.TheVariants.{Memory}
 use Rattle.lsp_streams.specs.Normal.{no_next, first_broken}
-use Rattle.lsp_streams.specs.NormalSteps.{spelled, WroteFront, GaveAll, GaveFault, GavePart, GivesContents, Brought, BroughtFault, BroughtPart, BringsRecords}
+use Rattle.lsp_streams.specs.NormalSteps.{spelled, WroteFront, WroteAll, WroteToFault, WrotePart, GivesContents, Brought, BroughtFault, BroughtPart, BringsRecords}
 use Rattle.lsp_verdict.specs.Placed.{Raw, content, broken, new_fault}
 use Rattle.lsp_verdict.specs.Drained.{IsDrained}
 use Rattle.lsp_verdict.proofs.Below.{some_stream, frames_first}
@@ -26,29 +27,29 @@ stream_at l m bytes contents rest fault e stream = subst (λ (b : Bounds). IsStr
 
 -- all contents, and no fault
 all_brought : (limits : Bounds) (side : Side) (old d : State) (c : Counts) (start new : Told) (sent more : List ℕ) (before : List Raw) → old.limits ≡ limits → d.limits ≡ limits → first_broken before ≡ None → (drained : IsDrained old sent)
-    → GaveAll side limits.chunk d c start new (sent ++ more) drained.contents before → Brought limits side d c start new sent more before
+    → WroteAll side limits.chunk d c start new (sent ++ more) drained.contents before → Brought limits side d c start new sent more before
 all_brought limits side old d c start new sent more before was is sound drained all = record {
-  now = map (content side) all.gave.more;
+  now = map (content side) all.contents_written.more;
   brings = record {
     contents = drained.contents;
     rest = old.rest;
     old_fault = None;
     stream = stream_at old.limits limits sent drained.contents old.rest None was drained.ends.1;
-    new_contents = all.gave.more;
+    new_contents = all.contents_written.more;
     new_rest = d.rest;
     last_fault = None;
-    new_stream = stream_at d.limits limits (sent ++ more) (drained.contents ++ all.gave.more) d.rest None is all.ends.1;
-    brought = sym (append-nil (map (content side) all.gave.more));
+    new_stream = stream_at d.limits limits (sent ++ more) (drained.contents ++ all.contents_written.more) d.rest None is all.ends.1;
+    brought = sym (append-nil (map (content side) all.contents_written.more));
   };
-  sound = sound_more side before all.gave.more sound;
-  drained = record { contents = drained.contents ++ all.gave.more; stands = all.gave.stands; ends = all.ends };
-  counted = all.gave.counted;
-  wrote = all.gave.wrote;
+  sound = sound_more side before all.contents_written.more sound;
+  drained = record { contents = drained.contents ++ all.contents_written.more; stands = all.contents_written.stands; ends = all.ends };
+  counted = all.contents_written.counted;
+  wrote = all.contents_written.wrote;
 }
 
 -- contents, and behind them a fault of the frames
 fault_brought : (limits : Bounds) (side : Side) (old d : State) (start new : Told) (sent more : List ℕ) (before : List Raw) (outcome : Outcome) → old.limits ≡ limits → d.limits ≡ limits → first_broken before ≡ None → (drained : IsDrained old sent)
-    → GaveFault side limits.chunk d start new (sent ++ more) drained.contents before outcome → BroughtFault limits side start new sent more before outcome
+    → WroteToFault side limits.chunk d start new (sent ++ more) drained.contents before outcome → BroughtFault limits side start new sent more before outcome
 fault_brought limits side old d start new sent more before outcome was is sound drained f =
     let given : List Raw = map (content side) f.more in
     record {
@@ -84,12 +85,12 @@ front_more size side old new contents others last fault w =
           ∙ spelled_behind size given behind (contents_sound side contents)
           ∙ ap (λ (x : List ℕ). x ++ spelled size behind) w.whole
           ∙ append_assoc w.front w.back (spelled size behind);
-      appends = w.appends;
+      took = w.took;
       failures = w.failures;
     }
 
 part_brought : (limits : Bounds) (side : Side) (old d : State) (start new : Told) (sent more : List ℕ) (fault : RunFault) → old.limits ≡ limits → d.limits ≡ limits → (drained : IsDrained old sent)
-    → GavePart side limits.chunk d start new (sent ++ more) drained.contents fault → BroughtPart limits side start new sent more fault
+    → WrotePart side limits.chunk d start new (sent ++ more) drained.contents fault → BroughtPart limits side start new sent more fault
 part_brought limits side old d start new sent more fault was is drained p =
     let full = some_stream limits (sent ++ more) in
     let frames : Frames limits (sent ++ more) (drained.contents ++ p.more) p.rest = subst (λ (b : Bounds). Frames b (sent ++ more) (drained.contents ++ p.more) p.rest) is p.frames in
@@ -119,7 +120,7 @@ none_brought limits side now sent more =
       now = some.0;
       late = tt;
       brings = some.1;
-      wrote = record { front = []; back = spelled limits.chunk some.0; whole = refl; appends = (wrote_nothing now).appends; failures = refl };
+      wrote = record { front = []; back = spelled limits.chunk some.0; whole = refl; took = (wrote_nothing now).took; failures = refl };
     }
 
 pub brought : (limits : Bounds) (side : Side) (old d : State) (c : Counts) (start new : Told) (sent more : List ℕ) (before : List Raw) (n : ℕ) (result : Result (Option Outcome) RunFault) → old.limits ≡ limits → d.limits ≡ limits → n ≡ limits.chunk → first_broken before ≡ None

@@ -1,22 +1,22 @@
 -- Writing the contents that a decoder holds, one after another.
 use Rattle.std.specs.Prelude.{map}
-use Rattle.std.specs.Io.KnownBytes.{Appends}
 use Rattle.std.proofs.Common.{◌≡◌, ℕ, List, [], ◌∷◌, ◌++◌, Some, None, Ok, Err, sym, ap, subst, ◌∙◌, append_assoc, append-nil}
 use Rattle.std.proofs.lemmas.List.{map-append}
 use Rattle.lsp_frame.specs.Bounds.{Bounds}
 use Rattle.lsp_frame.specs.Decoder.{State, StandsFor, Next}
 use Rattle.lsp_frame.specs.Frame.{Frames}
-use Rattle.lsp_frame.specs.Sink.{Told, Wrote, canonical}
+use Rattle.lsp_frame.specs.Sink.{Wrote, canonical}
+use Rattle.lsp_frame.specs.Told.{Told, Took}
 use Rattle.lsp_frame.proofs.Writing.{wrote_then, stopped_then}
-use Rattle.lsp_rpc.specs.declared.plain.Side.{Side}
+use Rattle.lsp_types.specs.declared.side.Side.{Side}
 use Rattle.lsp_verdict.specs.declared.counts.Counts.{Counts}
 use Rattle.lsp_verdict.specs.declared.outcome.Outcome.{Outcome}
 use Rattle.lsp_verdict.specs.declared.outcome.RunFault.{RunFault}
 use Rattle.lsp_verdict.specs.declared.outcome.RunFault.TheVariants.{Read, Write, Memory}
 use Rattle.lsp_verdict.specs.declared.verdict.Who.{Who}
 use Rattle.lsp_verdict.specs.Event.{Event}
-use Rattle.lsp_streams.specs.Normal.{no_next, Carries}
-use Rattle.lsp_streams.specs.NormalSteps.{mark, Counted, spelled, Gave, GaveAll, GaveFault, GavePart}
+use Rattle.lsp_streams.specs.Normal.{no_next}
+use Rattle.lsp_streams.specs.NormalSteps.{mark, Counted, CarriesCapped, spelled, WroteContents, WroteAll, WroteToFault, WrotePart}
 use Rattle.lsp_verdict.specs.Placed.{Raw, content}
 use Rattle.lsp_verdict.specs.RunIo.{Tells}
 use Rattle.lsp_verdict.specs.Counting.{AreCounts}
@@ -41,10 +41,10 @@ marks_push side before more bytes =
     ∙ ap (map mark) (sym (append_assoc before (map (content side) more) (content side bytes ∷ [])))
     ∙ map-append mark (before ++ map (content side) more) (content side bytes ∷ [])
 
-pub gave_one : (side : Side) (size : ℕ) (d e : State) (c k : Counts) (by : Who) (old mid new : Told) (bytes here : List ℕ) (contents : List (List ℕ)) (before : List Raw) → Gave side size d c old mid bytes contents before
+pub one_written : (side : Side) (size : ℕ) (d e : State) (c k : Counts) (by : Who) (old mid new : Told) (bytes here : List ℕ) (contents : List (List ℕ)) (before : List Raw) → WroteContents side size d c old mid bytes contents before
     → Next d e (Ok (Some here)) → Wrote mid new (due size side (canonical here)) → by ≡ who_of side → ((events : List Event) (event : Event) → AreCounts c events → whose event ≡ by → AreCounts k (events ++ event ∷ []))
-    → Gave side size e k old new bytes contents before
-gave_one side size d e c k by old mid new bytes here contents before gave next wrote is adds = record {
+    → WroteContents side size e k old new bytes contents before
+one_written side size d e c k by old mid new bytes here contents before gave next wrote is adds = record {
   more = gave.more ++ here ∷ [];
   stands = subst (λ (cs : List (List ℕ)). StandsFor e bytes cs) (append_assoc contents gave.more (here ∷ [])) (next.stands bytes (contents ++ gave.more) gave.stands);
   counted = subst (λ (es : List Event). AreCounts k es) (sym (marks_push side before gave.more here)) (adds (map mark (before ++ map (content side) gave.more)) (mark (content side here)) gave.counted (sym is));
@@ -53,14 +53,14 @@ gave_one side size d e c k by old mid new bytes here contents before gave next w
 
 -- ---- the ends
 
-pub gave_all : (side : Side) (size : ℕ) (d e : State) (c : Counts) (old new : Told) (bytes : List ℕ) (contents : List (List ℕ)) (before : List Raw) → Gave side size d c old new bytes contents before → Next d e (Ok None) → GaveAll side size e c old new bytes contents before
-gave_all side size d e c old new bytes contents before gave next =
+pub all_written : (side : Side) (size : ℕ) (d e : State) (c : Counts) (old new : Told) (bytes : List ℕ) (contents : List (List ℕ)) (before : List Raw) → WroteContents side size d c old new bytes contents before → Next d e (Ok None) → WroteAll side size e c old new bytes contents before
+all_written side size d e c old new bytes contents before gave next =
     let s = next.stands bytes (contents ++ gave.more) gave.stands in
-    record { gave = record { more = gave.more; stands = s.0; counted = gave.counted; wrote = gave.wrote }; ends = s.1 }
+    record { contents_written = record { more = gave.more; stands = s.0; counted = gave.counted; wrote = gave.wrote }; ends = s.1 }
 
-pub gave_fault : (side : Side) (size : ℕ) (d e : State) (c : Counts) (old new : Told) (bytes : List ℕ) (contents : List (List ℕ)) (before : List Raw) (rule : ℕ) (outcome : Outcome) → Gave side size d c old new bytes contents before → Next d e (Err rule)
-    → ((raws : List Raw) → Counted c raws → Carries outcome (Some (no_next rule side raws))) → GaveFault side size e old new bytes contents before outcome
-gave_fault side size d e c old new bytes contents before rule outcome gave next carries = record {
+pub fault_met : (side : Side) (size : ℕ) (d e : State) (c : Counts) (old new : Told) (bytes : List ℕ) (contents : List (List ℕ)) (before : List Raw) (rule : ℕ) (outcome : Outcome) → WroteContents side size d c old new bytes contents before → Next d e (Err rule)
+    → ((raws : List Raw) → Counted c raws → CarriesCapped outcome (Some (no_next rule side raws))) → WroteToFault side size e old new bytes contents before outcome
+fault_met side size d e c old new bytes contents before rule outcome gave next carries = record {
   more = gave.more;
   rule = rule;
   ends = (next.stands bytes (contents ++ gave.more) gave.stands).1;
@@ -68,9 +68,9 @@ gave_fault side size d e c old new bytes contents before rule outcome gave next 
   carries = carries (before ++ map (content side) gave.more) gave.counted;
 }
 
-pub gave_part : (side : Side) (size : ℕ) (d e : State) (c : Counts) (old mid new : Told) (bytes here : List ℕ) (contents : List (List ℕ)) (before : List Raw) (fault : RunFault) → Gave side size d c old mid bytes contents before → Next d e (Ok (Some here)) → e.limits ≡ d.limits
-    → Tells mid new (due size side (canonical here)) (Err fault) → GavePart side size e old new bytes contents fault
-gave_part side size d e c old mid new bytes here contents before Write gave next same stopped =
+pub part_written : (side : Side) (size : ℕ) (d e : State) (c : Counts) (old mid new : Told) (bytes here : List ℕ) (contents : List (List ℕ)) (before : List Raw) (fault : RunFault) → WroteContents side size d c old mid bytes contents before → Next d e (Ok (Some here)) → e.limits ≡ d.limits
+    → Tells mid new (due size side (canonical here)) (Err fault) → WrotePart side size e old new bytes contents fault
+part_written side size d e c old mid new bytes here contents before Write gave next same stopped =
     let all = stopped_then old mid new (spelled size (map (content side) gave.more)) (due size side (canonical here)) gave.wrote stopped in
     let stands : StandsFor e bytes (contents ++ (gave.more ++ here ∷ [])) = subst (λ (cs : List (List ℕ)). StandsFor e bytes cs) (append_assoc contents gave.more (here ∷ [])) (next.stands bytes (contents ++ gave.more) gave.stands) in
     record {
@@ -82,11 +82,11 @@ gave_part side size d e c old mid new bytes here contents before Write gave next
         front = all.front;
         back = all.back;
         whole = spelled_push size side gave.more here ∙ all.whole;
-        appends = all.appends;
+        took = all.took;
         failures = all.failures;
       };
     }
-gave_part side size d e c old mid new bytes here contents before Memory gave next same stays = record {
+part_written side size d e c old mid new bytes here contents before Memory gave next same stays = record {
   more = gave.more;
   rest = gave.stands.rest;
   late = tt;
@@ -95,14 +95,14 @@ gave_part side size d e c old mid new bytes here contents before Memory gave nex
     front = spelled size (map (content side) gave.more);
     back = [];
     whole = sym (append-nil (spelled size (map (content side) gave.more)));
-    appends = subst (λ (t : Told). Appends old.bytes t.bytes (spelled size (map (content side) gave.more))) (sym stays) gave.wrote.appends;
+    took = subst (λ (t : Told). Took old t (spelled size (map (content side) gave.more))) (sym stays) gave.wrote.took;
     failures = ap (λ (t : Told). t.failures) stays ∙ gave.wrote.failures;
   };
 }
-gave_part side size d e c old mid new bytes here contents before Read gave next same told = absurd told
+part_written side size d e c old mid new bytes here contents before Read gave next same told = absurd told
 
 -- the same, where the size of a record is known under another name
-pub gave_part_of : (side : Side) (size n : ℕ) (d e : State) (c : Counts) (old mid new : Told) (bytes here : List ℕ) (contents : List (List ℕ)) (before : List Raw) (fault : RunFault) → n ≡ size → Gave side size d c old mid bytes contents before → Next d e (Ok (Some here)) → e.limits ≡ d.limits
-    → Tells mid new (due n side (canonical here)) (Err fault) → GavePart side size e old new bytes contents fault
-gave_part_of side size n d e c old mid new bytes here contents before fault is gave next same told =
-    gave_part side size d e c old mid new bytes here contents before fault gave next same (subst (λ (k : ℕ). Tells mid new (due k side (canonical here)) (Err fault)) is told)
+pub part_written_of : (side : Side) (size n : ℕ) (d e : State) (c : Counts) (old mid new : Told) (bytes here : List ℕ) (contents : List (List ℕ)) (before : List Raw) (fault : RunFault) → n ≡ size → WroteContents side size d c old mid bytes contents before → Next d e (Ok (Some here)) → e.limits ≡ d.limits
+    → Tells mid new (due n side (canonical here)) (Err fault) → WrotePart side size e old new bytes contents fault
+part_written_of side size n d e c old mid new bytes here contents before fault is gave next same told =
+    part_written side size d e c old mid new bytes here contents before fault gave next same (subst (λ (k : ℕ). Tells mid new (due k side (canonical here)) (Err fault)) is told)

@@ -1,12 +1,12 @@
 -- The records of events, behind others and behind a fault of the frames.
 use Rattle.std.specs.Prelude.{map, filter}
 use Rattle.std.specs.List.{flat_map}
-use Rattle.std.proofs.Common.{◌≡◌, ℕ, suc, ◌+◌, min, arith, List, [], ◌∷◌, ◌++◌, length, Option, Some, None, refl, sym, ap, ◌∙◌, append_assoc, append-nil}
+use Rattle.std.proofs.Common.{◌≡◌, ℕ, suc, ◌+◌, List, [], ◌∷◌, ◌++◌, length, Option, Some, None, refl, sym, ap, ◌∙◌, append_assoc, append-nil}
 use Rattle.std.proofs.lemmas.Grind.{flat_map-append}
 use Rattle.std.specs.Option.{option_or}
 use Rattle.lsp_frame.specs.Sink.{canonical}
-use Rattle.lsp_rpc.specs.declared.plain.Side.{Side}
-use Rattle.lsp_rpc.specs.declared.plain.Side.TheVariants.{Editor, Server}
+use Rattle.lsp_types.specs.declared.side.Side.{Side}
+use Rattle.lsp_types.specs.declared.side.Side.TheVariants.{Editor, Server}
 use Rattle.lsp_log.specs.Log.{Record, shown, first_line, spelling}
 use Rattle.lsp_verdict.specs.LookBack.{first_from}
 use Rattle.lsp_verdict.specs.Placed.{Raw, content, broken, show}

@@ -1,15 +1,15 @@
 -- The normal form of a log, against that of the records that were read.
-use Rattle.std.specs.Prelude.{option_map, nat_le, ◌&&◌}
+use Rattle.std.specs.Prelude.{nat_le, ◌&&◌}
 use Rattle.std.specs.List.{AllByRecursion}
-use Rattle.std.specs.Io.KnownBytes.{Consumes, IsAtEnd}
-use Rattle.std.proofs.Common.{◌≡◌, ℕ, ◌+◌, ◌-◌, ◌^◌, ◌<◌, ◌≤◌, min, List, [], ◌∷◌, ◌++◌, length, Bool, true, false, Option, Some, None, Result, Ok, Err, inl, inr, refl, sym, ap, subst, ◌∙◌, append_assoc, append-nil, arith}
-use Rattle.std.proofs.KnownBytes.{Consumes-nil, Consumes-trans}
+use Rattle.std.specs.Io.KnownBytes.{IsAtEnd}
+use Rattle.std.proofs.Common.{◌≡◌, ℕ, ◌+◌, ◌≤◌, List, [], ◌∷◌, ◌++◌, length, Bool, true, false, Option, Some, None, Result, Ok, Err, inl, inr, refl, sym, ap, subst, ◌∙◌, append_assoc, append-nil, arith}
 use Rattle.std.proofs.lemmas.Bool.{false≢true, and_parts, and_from}
 use Rattle.std.proofs.lemmas.Bool.Decides.{nat_tests}
 use Rattle.lsp_frame.specs.Bounds.{Bounds, IsInRange, profile}
-use Rattle.lsp_frame.specs.Failures.{after_failure}
-use Rattle.lsp_frame.specs.Sink.{Told, Stopped}
-use Rattle.lsp_rpc.specs.declared.plain.Side.TheVariants.{Editor, Server}
+use Rattle.lsp_frame.specs.Sink.{Stopped}
+use Rattle.lsp_frame.specs.Told.{Told, Gave, after_failure}
+use Rattle.lsp_frame.proofs.Telling.{gave_nothing, gave_then}
+use Rattle.lsp_types.specs.declared.side.Side.TheVariants.{Editor, Server}
 use Rattle.lsp_log.specs.Log.{Record, chunk, shown, head_of, first_line, is_i32, is_within, in_range, Fits, BeginsLog, IsLog}
 use Rattle.lsp_log.specs.Reader as reader
 use Rattle.lsp_log.specs.Reader.{kept_by, StandsFor, Begins, Given, MayFollow}
@@ -25,16 +25,16 @@ use Rattle.lsp_verdict.specs.declared.outcome.Outcome.TheVariants.{Done, Judged,
 use Rattle.lsp_verdict.specs.declared.outcome.RunFault.{RunFault}
 use Rattle.lsp_verdict.specs.declared.outcome.RunFault.TheVariants as faults
 use Rattle.lsp_verdict.specs.declared.verdict.Verdict.TheVariants as given
-use Rattle.lsp_streams.specs.Normal.{form_of, first_broken, fault_of, Carries, IsNormal, IsCutShort}
-use Rattle.lsp_streams.specs.NormalSteps.{IsLate, Formed, FormedFault, FormedPart, FormsRecord, EndsWhole, IsReading, SoFar, Ended, BrokeOff, StepAnswers}
+use Rattle.lsp_streams.specs.Normal.{form_of, first_broken, fault_of, IsNormal, Carries}
+use Rattle.lsp_streams.specs.NormalSteps.{CarriesCapped, IsLate, BeganNormal, Formed, FormedFault, FormedPart, FormsRecord, EndsWhole, IsReading, SoFar, Ended, BrokeOff, StepAnswers}
 use Rattle.lsp_verdict.specs.Outcome.{ending}
 use Rattle.lsp_verdict.specs.Placed.{Raw, Placed, joined}
 use Rattle.lsp_verdict.specs.RunIo.{source_failures, sink_failures}
-use Rattle.lsp_verdict.specs.Given.{as_given}
 use Rattle.lsp_verdict.specs.Verdict.{Verdict, bad_log}
 use Rattle.std.specs.Option.{option_or}
 use Rattle.lsp_verdict.proofs.Below.{records_come_first, some_stream}
 use Rattle.lsp_verdict.proofs.Logs.{both_begin}
+use Rattle.lsp_streams.proofs.NormalCounts.{broken_exact, end_exact, carries_exact}
 use Rattle.lsp_streams.proofs.NormalForms.{form_begins, form_stops}
 use Rattle.lsp_verdict.proofs.Outcomes.{placed_front}
 
@@ -82,9 +82,9 @@ read_due limits sizes bytes more log out rs raws fault is (inr begins) placed no
 -- ---- a record was read
 
 -- the reader stands for one record more, whose events are not written yet
-pub record Took (limits : Bounds) (r : reader.State) (start now : Told) (rs : List Record) : Type 0 where
+pub record HasRecord (limits : Bounds) (r : reader.State) (start now : Told) (rs : List Record) : Type 0 where
   pub bytes : List ℕ
-  pub read : Consumes start.bytes now.bytes bytes
+  pub read : Gave start now bytes
   pub no_fault : now.failures ≡ start.failures
   pub limits_are : r.limits ≡ limits
   pub unread : kept_by r ≡ None
@@ -93,15 +93,15 @@ pub record Took (limits : Bounds) (r : reader.State) (start now : Told) (rs : Li
   pub sizes : IsInRange limits
   pub begins : Begins limits bytes rs
 
-pub took : (limits : Bounds) (r s : reader.State) (t : Streams) (start before after sink mid : Told) (next : code.Record) → (so_far : SoFar limits r t start before sink mid) → s.limits ≡ r.limits → kept_by s ≡ None → Given s before after (Ok (Some next)) so_far.bytes so_far.records
-    → Took limits s start after (so_far.records ++ record_view next ∷ [])
-took limits r s t start before after sink mid next so_far same free got =
+pub has_record : (limits : Bounds) (r s : reader.State) (t : Streams) (start before after sink mid : Told) (next : code.Record) → (so_far : SoFar limits r t start before sink mid) → s.limits ≡ r.limits → kept_by s ≡ None → Given s before after (Ok (Some next)) so_far.bytes so_far.records
+    → HasRecord limits s start after (so_far.records ++ record_view next ∷ [])
+has_record limits r s t start before after sink mid next so_far same free got =
     let bytes : List ℕ = so_far.bytes ++ got.piece in
     let rs : List Record = so_far.records ++ record_view next ∷ [] in
     let alike : s.limits ≡ limits = same ∙ so_far.limits_are in
     record {
       bytes = bytes;
-      read = Consumes-trans _ _ _ so_far.bytes got.piece so_far.read got.read;
+      read = gave_then _ _ _ so_far.bytes got.piece so_far.read got.read;
       no_fault = got.tells ∙ so_far.no_fault;
       limits_are = alike;
       unread = free;
@@ -123,80 +123,87 @@ some_begins limits bytes more rs r (inl none) = absurd (not_nil rs r none)
 some_begins limits bytes more rs r (inr begins) = begins more
 
 -- an outcome that carries a fault is not `Done`
-carried : (outcome : Outcome) (v : Verdict) → Carries outcome (Some v) → outcome ≡ Done → ⊥
+carried : (outcome : Outcome) (v : Verdict) → CarriesCapped outcome (Some v) → outcome ≡ Done → ⊥
 carried Done v carries e = absurd cc
 carried (Judged w) v carries e = absurd cc
 carried (Stream frame fault) v carries e = absurd cc
 carried NoDocument v carries e = absurd cc
 carried TooFew v carries e = absurd cc
 
-took_fault : (limits : Bounds) (s : reader.State) (start after sink new : Told) (rs : List Record) (r : Record) (outcome : Outcome) → Took limits s start after (rs ++ r ∷ []) → FormedFault limits sink new (rs ++ r ∷ []) outcome → Ended limits start after sink new outcome
-took_fault limits s start after sink new rs r outcome t f = record {
-  normal = record {
-    bytes = t.bytes;
-    out = form_of limits.chunk f.raws;
-    ended = false;
-    read = record { gave = t.read; no_further = t.within; end = not_ended };
-    wrote = f.wrote.appends;
-    due = λ log goes.
-        let b = some_begins limits t.bytes goes.0 rs r t.begins in (
-          Some f.verdict,
-          inl (
-            f.verdict,
-            refl,
-            record {
-              records = rs ++ r ∷ [];
-              rest = b.0;
-              raws = f.raws;
-              begins = subst (λ (w : List ℕ). BeginsLog limits w (rs ++ r ∷ []) b.0) (sym goes.1) b.1;
-              placed = f.placed;
-              breaks = f.breaks;
-              written = refl;
-            },
-          ),
-          f.carries,
-        );
-  };
-  done = λ done. absurd (carried outcome f.verdict f.carries done);
-  source = t.no_fault;
-  sink = f.wrote.failures;
-}
+record_fault : (limits : Bounds) (s : reader.State) (start after sink new : Told) (rs : List Record) (r : Record) (outcome : Outcome) → HasRecord limits s start after (rs ++ r ∷ []) → FormedFault limits sink new (rs ++ r ∷ []) outcome → Ended limits start after sink new outcome
+record_fault limits s start after sink new rs r outcome t f =
+    let first = some_begins limits t.bytes [] rs r t.begins in
+    let exact = broken_exact limits t.sizes (t.bytes ++ []) (rs ++ r ∷ []) first.0 f.raws f.verdict first.1 f.placed f.breaks in
+    record {
+      normal = (
+        form_of limits.chunk f.raws,
+        f.wrote.took,
+        record {
+          bytes = t.bytes;
+          ended = false;
+          read = record { gave = t.read; no_further = t.within; end = not_ended };
+          holds = λ log goes.
+              let b = some_begins limits t.bytes goes.0 rs r t.begins in (
+                Some f.verdict,
+                inl (
+                  f.verdict,
+                  refl,
+                  record {
+                    records = rs ++ r ∷ [];
+                    rest = b.0;
+                    raws = f.raws;
+                    begins = subst (λ (w : List ℕ). BeginsLog limits w (rs ++ r ∷ []) b.0) (sym goes.1) b.1;
+                    placed = f.placed;
+                    breaks = f.breaks;
+                    written = refl;
+                  },
+                ),
+                carries_exact outcome (Some f.verdict) (ap Some exact) f.carries,
+              );
+        },
+      );
+      done = λ done. absurd (carried outcome f.verdict f.carries done);
+      source = t.no_fault;
+      sink = f.wrote.failures;
+    }
 
 late_source : (fault : RunFault) (n : ℕ) → IsLate fault → n ≡ source_failures (Err fault) n
 late_source faults.Read n late = absurd late
 late_source faults.Write n late = refl
 late_source faults.Memory n late = refl
 
-took_part : (limits : Bounds) (s : reader.State) (start after sink new : Told) (rs : List Record) (fault : RunFault) → Took limits s start after rs → FormedPart limits sink new rs fault → BrokeOff limits start after sink new fault
-took_part limits s start after sink new rs fault t f = record {
-  cut_short = record {
-    bytes = t.bytes;
-    written = f.wrote.front;
-    ended = false;
-    read = record { gave = t.read; no_further = t.within; end = not_ended };
-    wrote = f.wrote.appends;
-    begins = λ log out due_fault goes normal.
-        let due = read_due limits t.sizes t.bytes goes.0 log out rs f.raws due_fault goes.1 t.begins f.placed normal in
-        (f.wrote.back ++ due.0, due.1 ∙ ap (λ (w : List ℕ). w ++ due.0) f.wrote.whole ∙ append_assoc f.wrote.front f.wrote.back due.0);
-  };
+record_part : (limits : Bounds) (s : reader.State) (start after sink new : Told) (rs : List Record) (fault : RunFault) → HasRecord limits s start after rs → FormedPart limits sink new rs fault → BrokeOff limits start after sink new fault
+record_part limits s start after sink new rs fault t f = record {
+  cut_short = (
+    f.wrote.front,
+    f.wrote.took,
+    record {
+      bytes = t.bytes;
+      ended = false;
+      read = record { gave = t.read; no_further = t.within; end = not_ended };
+      holds = λ log goes out due_fault normal.
+          let due = read_due limits t.sizes t.bytes goes.0 log out rs f.raws due_fault goes.1 t.begins f.placed normal in
+          (f.wrote.back ++ due.0, due.1 ∙ ap (λ (w : List ℕ). w ++ due.0) f.wrote.whole ∙ append_assoc f.wrote.front f.wrote.back due.0);
+    },
+  );
   source = t.no_fault ∙ late_source fault start.failures f.late;
   sink = f.wrote.failures;
 }
 
-pub took_answers : (limits : Bounds) (s : reader.State) (t : Streams) (start after sink new : Told) (rs : List Record) (r : Record) (result : Result (Option Outcome) RunFault) → Took limits s start after (rs ++ r ∷ []) → FormsRecord limits t sink new (rs ++ r ∷ []) result
+pub record_answers : (limits : Bounds) (s : reader.State) (t : Streams) (start after sink new : Told) (rs : List Record) (r : Record) (result : Result (Option Outcome) RunFault) → HasRecord limits s start after (rs ++ r ∷ []) → FormsRecord limits t sink new (rs ++ r ∷ []) result
     → StepAnswers limits s t start after sink new result
-took_answers limits s t start after sink new rs r (Ok None) took f = record {
-  bytes = took.bytes;
+record_answers limits s t start after sink new rs r (Ok None) has f = record {
+  bytes = has.bytes;
   records = rs ++ r ∷ [];
-  read = took.read;
-  no_fault = took.no_fault;
-  limits_are = took.limits_are;
-  unread = took.unread;
-  stands = took.stands;
+  read = has.read;
+  no_fault = has.no_fault;
+  limits_are = has.limits_are;
+  unread = has.unread;
+  stands = has.stands;
   formed = f;
 }
-took_answers limits s t start after sink new rs r (Ok (Some outcome)) took f = took_fault limits s start after sink new rs r outcome took f
-took_answers limits s t start after sink new rs r (Err fault) took f = took_part limits s start after sink new (rs ++ r ∷ []) fault took f
+record_answers limits s t start after sink new rs r (Ok (Some outcome)) has f = record_fault limits s start after sink new rs r outcome has f
+record_answers limits s t start after sink new rs r (Err fault) has f = record_part limits s start after sink new (rs ++ r ∷ []) fault has f
 
 -- ---- the log ends
 
@@ -206,33 +213,37 @@ end_answers limits r s t start before after sink now outcome so_far same got end
     let bytes : List ℕ = so_far.bytes ++ got.piece in
     let alike : s.limits ≡ limits = same ∙ so_far.limits_are in
     let f = so_far.formed in
+    let is_log : IsLog limits bytes so_far.records None = subst (λ (b : Bounds). IsLog b bytes so_far.records None) alike got.tells.1 in
+    let sizes : IsInRange limits = subst IsInRange so_far.limits_are so_far.stands.0 in
+    let exact = end_exact limits sizes bytes so_far.records f.raws ends.editor ends.server is_log f.placed f.sound in
     record {
-      normal = record {
-        bytes = bytes;
-        out = form_of limits.chunk f.raws;
-        ended = true;
-        read = record { gave = Consumes-trans _ _ _ so_far.bytes got.piece so_far.read got.read; no_further = subst (λ (b : Bounds). length bytes ≤ b.log + 1) alike got.within; end = λ e. got.tells.0 };
-        wrote = f.wrote.appends;
-        due = λ log goes.
-            let whole : log ≡ bytes = goes.1 ∙ ap (λ (w : List ℕ). bytes ++ w) (goes.2 refl) ∙ append-nil bytes in
-            let is_log : IsLog limits bytes so_far.records None = subst (λ (b : Bounds). IsLog b bytes so_far.records None) alike got.tells.1 in (
-              fault_of f.raws (ending None ends.editor ends.server),
-              inr (record {
-                records = so_far.records;
-                log_fault = None;
-                raws = f.raws;
-                editor = ends.editor;
-                server = ends.server;
-                is_log = subst (λ (w : List ℕ). IsLog limits w so_far.records None) (sym whole) is_log;
-                placed = f.placed;
-                editor_rest = ends.editor_rest;
-                server_rest = ends.server_rest;
-                ends = refl;
-                written = refl;
-              }),
-              ends.carries,
-            );
-      };
+      normal = (
+        form_of limits.chunk f.raws,
+        f.wrote.took,
+        record {
+          bytes = bytes;
+          ended = true;
+          read = record { gave = gave_then _ _ _ so_far.bytes got.piece so_far.read got.read; no_further = subst (λ (b : Bounds). length bytes ≤ b.log + 1) alike got.within; end = λ e. got.tells.0 };
+          holds = λ log goes.
+              let whole : log ≡ bytes = goes.1 ∙ ap (λ (w : List ℕ). bytes ++ w) (goes.2 refl) ∙ append-nil bytes in (
+                fault_of f.raws (ending None ends.editor ends.server),
+                inr (record {
+                  records = so_far.records;
+                  log_fault = None;
+                  raws = f.raws;
+                  editor = ends.editor;
+                  server = ends.server;
+                  is_log = subst (λ (w : List ℕ). IsLog limits w so_far.records None) (sym whole) is_log;
+                  placed = f.placed;
+                  editor_rest = ends.editor_rest;
+                  server_rest = ends.server_rest;
+                  ends = refl;
+                  written = refl;
+                }),
+                carries_exact outcome (fault_of f.raws (ending None ends.editor ends.server)) exact ends.carries,
+              );
+        },
+      );
       done = λ done. got.tells.0;
       source = got.tells.2 ∙ so_far.no_fault;
       sink = f.wrote.failures;
@@ -254,47 +265,46 @@ is_ended None e = refl
 is_ended (Some []) e = refl
 is_ended (Some (b ∷ bytes)) e = absurd cc
 
-bad_ends : (raws : List Raw) (number : ℕ) (code : LogCode) (editor server : List ℕ) → first_broken raws ≡ None → number < 2 ^ 64 → Carries (Judged (given.BadLog number code)) (fault_of raws (ending (Some (number, code)) editor server))
-bad_ends raws number code editor server sound small =
-    let kept : min number (2 ^ 64 - 1) ≡ number = omega (arith, small) in
-    ap (λ (o : Option Verdict). option_map as_given (option_or o (Some (bad_log number code)))) sound
-    ∙ ap (λ (n : ℕ). Some (bad_log n code)) kept
+bad_ends : (raws : List Raw) (number : ℕ) (code : LogCode) (editor server : List ℕ) → first_broken raws ≡ None → Carries (Judged (given.BadLog number code)) (fault_of raws (ending (Some (number, code)) editor server))
+bad_ends raws number code editor server sound = ap (λ (o : Option Verdict). option_or o (Some (bad_log number code))) sound
 
-pub bad_answers : (limits : Bounds) (r s : reader.State) (t : Streams) (start before after sink now : Told) (number : ℕ) (code : LogCode) → number < 2 ^ 64 → (so_far : SoFar limits r t start before sink now) → s.limits ≡ r.limits
+pub bad_answers : (limits : Bounds) (r s : reader.State) (t : Streams) (start before after sink now : Told) (number : ℕ) (code : LogCode) → (so_far : SoFar limits r t start before sink now) → s.limits ≡ r.limits
     → Given s before after (Err (log_faults.Bad number code)) so_far.bytes so_far.records → Ended limits start after sink now (Judged (given.BadLog number code))
-bad_answers limits r s t start before after sink now number code small so_far same got =
+bad_answers limits r s t start before after sink now number code so_far same got =
     let bytes : List ℕ = so_far.bytes ++ got.piece in
     let alike : s.limits ≡ limits = same ∙ so_far.limits_are in
     let f = so_far.formed in
     let editor = some_stream limits (joined Editor so_far.records) in
     let server = some_stream limits (joined Server so_far.records) in
     record {
-      normal = record {
-        bytes = bytes;
-        out = form_of limits.chunk f.raws;
-        ended = ended_of after.bytes;
-        read = record { gave = Consumes-trans _ _ _ so_far.bytes got.piece so_far.read got.read; no_further = subst (λ (b : Bounds). length bytes ≤ b.log + 1) alike got.within; end = ended_is after.bytes };
-        wrote = f.wrote.appends;
-        due = λ log goes.
-            let follows : MayFollow after goes.0 = λ end. goes.2 (is_ended after.bytes end) in
-            let is_log : IsLog limits (bytes ++ goes.0) so_far.records (Some (number, code)) = subst (λ (b : Bounds). IsLog b (bytes ++ goes.0) so_far.records (Some (number, code))) alike (got.tells.0 goes.0 follows) in (
-              fault_of f.raws (ending (Some (number, code)) editor.1 server.1),
-              inr (record {
-                records = so_far.records;
-                log_fault = Some (number, code);
-                raws = f.raws;
-                editor = editor.1;
-                server = server.1;
-                is_log = subst (λ (w : List ℕ). IsLog limits w so_far.records (Some (number, code))) (sym goes.1) is_log;
-                placed = f.placed;
-                editor_rest = (editor.0, editor.2, editor.3);
-                server_rest = (server.0, server.2, server.3);
-                ends = refl;
-                written = refl;
-              }),
-              bad_ends f.raws number code editor.1 server.1 f.sound small,
-            );
-      };
+      normal = (
+        form_of limits.chunk f.raws,
+        f.wrote.took,
+        record {
+          bytes = bytes;
+          ended = ended_of after.bytes;
+          read = record { gave = gave_then _ _ _ so_far.bytes got.piece so_far.read got.read; no_further = subst (λ (b : Bounds). length bytes ≤ b.log + 1) alike got.within; end = ended_is after.bytes };
+          holds = λ log goes.
+              let follows : MayFollow after goes.0 = λ end. goes.2 (is_ended after.bytes end) in
+              let is_log : IsLog limits (bytes ++ goes.0) so_far.records (Some (number, code)) = subst (λ (b : Bounds). IsLog b (bytes ++ goes.0) so_far.records (Some (number, code))) alike (got.tells.0 goes.0 follows) in (
+                fault_of f.raws (ending (Some (number, code)) editor.1 server.1),
+                inr (record {
+                  records = so_far.records;
+                  log_fault = Some (number, code);
+                  raws = f.raws;
+                  editor = editor.1;
+                  server = server.1;
+                  is_log = subst (λ (w : List ℕ). IsLog limits w so_far.records (Some (number, code))) (sym goes.1) is_log;
+                  placed = f.placed;
+                  editor_rest = (editor.0, editor.2, editor.3);
+                  server_rest = (server.0, server.2, server.3);
+                  ends = refl;
+                  written = refl;
+                }),
+                bad_ends f.raws number code editor.1 server.1 f.sound,
+              );
+        },
+      );
       done = λ done. absurd (cc done);
       source = got.tells.1 ∙ so_far.no_fault;
       sink = f.wrote.failures;
@@ -303,7 +313,7 @@ bad_answers limits r s t start before after sink now number code small so_far sa
 -- ---- no record was read
 
 -- the reader gave some bytes more, and no record
-pub stop_answers : (limits : Bounds) (r : reader.State) (t : Streams) (start before after sink now : Told) (fault : RunFault) (piece : List ℕ) → (so_far : SoFar limits r t start before sink now) → Consumes before.bytes after.bytes piece
+pub stop_answers : (limits : Bounds) (r : reader.State) (t : Streams) (start before after sink now : Told) (fault : RunFault) (piece : List ℕ) → (so_far : SoFar limits r t start before sink now) → Gave before after piece
     → length (so_far.bytes ++ piece) ≤ limits.log + 1 → after.failures ≡ source_failures (Err fault) before.failures → source_failures (Err fault) before.failures ≡ source_failures (Err fault) start.failures → now.failures ≡ sink_failures (Err fault) now.failures → sink_failures (Err fault) now.failures ≡ sink_failures (Err fault) sink.failures → BrokeOff limits start after sink now fault
 stop_answers limits r t start before after sink now fault piece so_far read within source kept quiet sink_is =
     let f = so_far.formed in
@@ -311,14 +321,17 @@ stop_answers limits r t start before after sink now fault piece so_far read with
     let sizes : IsInRange limits = subst IsInRange so_far.limits_are so_far.stands.0 in
     let begins : Begins limits so_far.bytes so_far.records = subst (λ (b : Bounds). Begins b so_far.bytes so_far.records) so_far.limits_are (begins_open r so_far.bytes so_far.records so_far.unread so_far.stands) in
     record {
-      cut_short = record {
-        bytes = bytes;
-        written = form_of limits.chunk f.raws;
-        ended = false;
-        read = record { gave = Consumes-trans _ _ _ so_far.bytes piece so_far.read read; no_further = within; end = not_ended };
-        wrote = f.wrote.appends;
-        begins = λ log out due_fault goes normal. read_due limits sizes so_far.bytes (piece ++ goes.0) log out so_far.records f.raws due_fault (goes.1 ∙ append_assoc so_far.bytes piece goes.0) begins f.placed normal;
-      };
+      cut_short = (
+        form_of limits.chunk f.raws,
+        f.wrote.took,
+        record {
+          bytes = bytes;
+          ended = false;
+          read = record { gave = gave_then _ _ _ so_far.bytes piece so_far.read read; no_further = within; end = not_ended };
+          holds = λ log goes out due_fault normal.
+              read_due limits sizes so_far.bytes (piece ++ goes.0) log out so_far.records f.raws due_fault (goes.1 ∙ append_assoc so_far.bytes piece goes.0) begins f.placed normal;
+        },
+      );
       source = source ∙ kept;
       sink = quiet ∙ sink_is;
     }
@@ -364,7 +377,7 @@ pub nothing_read : (limits : Bounds) (r : reader.State) (t : Streams) (source si
 nothing_read limits r t source sink now new stands formed = record {
   bytes = [];
   records = [];
-  read = Consumes-nil source.bytes;
+  read = gave_nothing source;
   no_fault = refl;
   limits_are = ap (λ (s : reader.State). s.limits) new;
   unread = ap kept_by new;
@@ -373,14 +386,16 @@ nothing_read limits r t source sink now new stands formed = record {
 }
 
 -- the first line was not written whole
-pub head_cut : (limits : Bounds) (source sink now : Told) → Stopped sink now first_line → IsCutShort limits source.bytes source.bytes sink.bytes now.bytes
-head_cut limits source sink now stopped = record {
-  bytes = [];
-  written = stopped.front;
-  ended = false;
-  read = record { gave = Consumes-nil source.bytes; no_further = omega arith; end = not_ended };
-  wrote = stopped.appends;
-  begins = λ log out fault goes normal.
-      let first = due_first limits log out fault normal in
-      (stopped.back ++ first.0, first.1 ∙ ap (λ (w : List ℕ). w ++ first.0) stopped.whole ∙ append_assoc stopped.front stopped.back first.0);
-}
+pub head_cut : (limits : Bounds) (source sink now : Told) → Stopped sink now first_line → BeganNormal limits source source sink now
+head_cut limits source sink now stopped = (
+  stopped.front,
+  stopped.took,
+  record {
+    bytes = [];
+    ended = false;
+    read = record { gave = gave_nothing source; no_further = omega arith; end = not_ended };
+    holds = λ log goes out fault normal.
+        let first = due_first limits log out fault normal in
+        (stopped.back ++ first.0, first.1 ∙ ap (λ (w : List ℕ). w ++ first.0) stopped.whole ∙ append_assoc stopped.front stopped.back first.0);
+  },
+)

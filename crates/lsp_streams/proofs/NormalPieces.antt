@@ -8,9 +8,10 @@ use Rattle.std.proofs.Math.Nat.{zero-div, zero-mod, div-eq_of_lt, mod-eq_of_lt, 
 use Rattle.std.proofs.Math.Seq.{take-append-add, drop-append-add}
 use Rattle.std.proofs.lemmas.Bool.{cases_lt}
 use Rattle.std.proofs.lemmas.List.{length-append, length-drop, take-append-le, drop-append-le, take_all, drop_all}
-use Rattle.lsp_frame.specs.Sink.{Told, Wrote, Stopped, Writes}
+use Rattle.lsp_frame.specs.Sink.{Wrote, Stopped, Writes}
+use Rattle.lsp_frame.specs.Told.{Told}
 use Rattle.lsp_frame.proofs.Writing.{HasPut, wrote_then, wrote_nothing, stopped_then, stopped_before, four}
-use Rattle.lsp_rpc.specs.declared.plain.Side.{Side}
+use Rattle.lsp_types.specs.declared.side.Side.{Side}
 use Rattle.lsp_log.specs.Log.{chunk, chunk_head, head_line, spelling, with_feed}
 use Rattle.lsp_streams.specs.Normal.{cut, chunks}
 

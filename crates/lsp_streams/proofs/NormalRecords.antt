@@ -4,10 +4,12 @@ use Rattle.std.proofs.Common.{◌≡◌, ℕ, List, [], ◌∷◌, ◌++◌, Opt
 use Rattle.std.proofs.lemmas.List.{map-append}
 use Rattle.lsp_frame.specs.Bounds.{Bounds, IsInRange}
 use Rattle.lsp_frame.specs.Decoder as decoder
-use Rattle.lsp_frame.specs.Sink.{Told, Wrote, Stopped}
+use Rattle.lsp_frame.specs.Sink.{Wrote, Stopped}
+use Rattle.lsp_frame.specs.Told.{Told}
+use Rattle.lsp_frame.proofs.Telling.{took_then}
 use Rattle.lsp_frame.proofs.Writing.{wrote_then}
-use Rattle.lsp_rpc.specs.declared.plain.Side.{Side}
-use Rattle.lsp_rpc.specs.declared.plain.Side.TheVariants.{Editor, Server}
+use Rattle.lsp_types.specs.declared.side.Side.{Side}
+use Rattle.lsp_types.specs.declared.side.Side.TheVariants.{Editor, Server}
 use Rattle.lsp_log.specs.Log.{Record, chunk, shown, first_line, spelling}
 use Rattle.lsp_streams.specs.declared.normal.Streams.{Streams}
 use Rattle.lsp_verdict.specs.declared.outcome.Outcome.{Outcome}
@@ -43,14 +45,13 @@ failures_then Read a b c late same is = absurd late
 failures_then Write a b c late same is = is ∙ ap (sink_failures (Err Write)) same
 failures_then Memory a b c late same is = is ∙ same
 
-appends_part : (size : ℕ) (raws now : List Raw) (start mid new : Told) (fault : RunFault) → IsLate fault → first_broken raws ≡ None → Wrote start mid (form_of size raws) → WroteFront mid new (spelled size now) fault → WroteFront start new (form_of size (raws ++ now)) fault
-appends_part size raws now start mid new fault late sound p q =
-    let both = wrote_then start mid (record { bytes = new.bytes; failures = mid.failures }) (form_of size raws) q.front p (record { appends = q.appends; failures = refl }) in
+front_part : (size : ℕ) (raws now : List Raw) (start mid new : Told) (fault : RunFault) → IsLate fault → first_broken raws ≡ None → Wrote start mid (form_of size raws) → WroteFront mid new (spelled size now) fault → WroteFront start new (form_of size (raws ++ now)) fault
+front_part size raws now start mid new fault late sound p q =
     record {
       front = form_of size raws ++ q.front;
       back = q.back;
       whole = form_behind size raws now sound ∙ ap (λ (w : List ℕ). form_of size raws ++ w) q.whole ∙ sym (append_assoc (form_of size raws) q.front q.back);
-      appends = both.appends;
+      took = took_then start mid new (form_of size raws) q.front p.took q.took;
       failures = failures_then fault start.failures mid.failures new.failures late p.failures q.failures;
     }
 
@@ -73,7 +74,7 @@ part_formed limits side s start mid new rs bytes fault f b = record {
   raws = f.raws ++ b.now;
   placed = placed_more limits side rs bytes f.raws b.now f.placed b.brings;
   late = b.late;
-  wrote = appends_part limits.chunk f.raws b.now start mid new fault b.late f.sound f.wrote b.wrote;
+  wrote = front_part limits.chunk f.raws b.now start mid new fault b.late f.sound f.wrote b.wrote;
 }
 
 pub editor_formed : (limits : Bounds) (s t : Streams) (start mid new : Told) (rs : List Record) (bytes : List ℕ) (result : Result (Option Outcome) RunFault) → (f : Formed limits s start mid rs)
@@ -137,8 +138,8 @@ shown_part limits s start mid new rs n uri text f stopped = record {
   raws = f.raws ++ show n uri text ∷ [];
   placed = placed_shown limits rs n uri text f.raws f.placed;
   late = tt;
-  wrote = appends_part limits.chunk f.raws (show n uri text ∷ []) start mid new Write tt f.sound f.wrote
-      (record { front = stopped.front; back = stopped.back; whole = spelled_shown limits.chunk n uri text ∙ stopped.whole; appends = stopped.appends; failures = stopped.failures });
+  wrote = front_part limits.chunk f.raws (show n uri text ∷ []) start mid new Write tt f.sound f.wrote
+      (record { front = stopped.front; back = stopped.back; whole = spelled_shown limits.chunk n uri text ∙ stopped.whole; took = stopped.took; failures = stopped.failures });
 }
 
 -- ---- before the first record

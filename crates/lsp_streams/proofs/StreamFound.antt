@@ -4,11 +4,11 @@ use Rattle.std.specs.Str.Parse.{digits_value}
 use Rattle.std.proofs.Common.{Bool, true, false, ◌≡◌, ℕ, ◌+◌, ◌≤◌, ◌<◌, List, [], ◌∷◌, ◌++◌, length, Some, None, Result, Ok, Err, refl, sym, ap, subst, ◌∙◌, append_assoc, arith, inl, inr}
 use Rattle.std.proofs.lemmas.List.{length-append, length_push, append-nil}
 use Rattle.std.proofs.lemmas.Bool.{leb-true}
-use Rattle.std.specs.Io.KnownBytes.{Appends}
 use Rattle.lsp_frame.specs.Bounds.{Bounds}
 use Rattle.lsp_frame.specs.Frame.{IsFrame, Frames}
 use Rattle.lsp_frame.specs.Header.{blank_line, is_number, lengths, content_length, fits_charsets, length_and_charset, Says}
-use Rattle.lsp_frame.specs.Sink.{Told, Wrote, Stopped}
+use Rattle.lsp_frame.specs.Sink.{Wrote, Stopped}
+use Rattle.lsp_frame.specs.Told.{Told, Took}
 use Rattle.lsp_frame.specs.Decoder.{State, StandsFor, GivesFrame, Next}
 use Rattle.lsp_frame.proofs.Frames.{is_ok_of, err_not_ok}
 use Rattle.lsp_frame.proofs.Writing.{wrote_then, stopped_then, wrote_nothing}
@@ -74,7 +74,7 @@ one_stopped d e mode old mid new given bytes before content part so_far next is 
       left = all.back;
       frames = stands.frames;
       are_parts = subst (λ (w : List ℕ). AreParts mode 1 (so_far.contents ++ content ∷ []) (before ++ w)) all.whole (more_parts mode given before content part so_far.contents so_far.parts so_far.are_parts so_far.count is);
-      wrote = all.appends;
+      wrote = all.took;
       sink = all.failures;
     }
 
@@ -90,7 +90,7 @@ one_refused_memory d e mode old mid new given bytes before content so_far same s
   left = [];
   frames = frames_at d.limits e.limits bytes so_far.contents so_far.stands.rest (sym same) so_far.stands.frames;
   are_parts = subst (λ (w : List ℕ). AreParts mode 1 so_far.contents (before ++ w)) (sym (append-nil so_far.parts)) so_far.are_parts;
-  wrote = subst (λ (t : Told). Appends old.bytes t.bytes so_far.parts) (sym same_sink) so_far.wrote.appends;
+  wrote = subst (λ (t : Told). Took old t so_far.parts) (sym same_sink) so_far.wrote.took;
   sink = ap (λ (t : Told). t.failures) same_sink ∙ so_far.wrote.failures;
 }
 

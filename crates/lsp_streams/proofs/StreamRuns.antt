@@ -1,17 +1,18 @@
 -- A run over the parts of a stream so far, and its ends.
 use Rattle.std.specs.Prelude.{OnOk, is_ok, nat_lt}
 use Rattle.std.proofs.Common.{◌≡◌, ℕ, ◌+◌, ◌-◌, ◌≤◌, ◌<◌, List, [], ◌∷◌, ◌++◌, length, take, Bool, true, false, Option, Some, None, Result, Ok, Err, refl, sym, ap, subst, ◌∙◌, append_assoc, arith, inl, inr}
-use Rattle.std.specs.Io.KnownBytes.{Appends, Consumes, IsAtEnd, Keeps}
+use Rattle.std.specs.Io.KnownBytes.{IsAtEnd}
 use Rattle.std.proofs.lemmas.Bool.{false≢true, lt-ltb, le-ltb}
 use Rattle.std.proofs.lemmas.List.{append-nil, length-append, length-take, take_all, take_at, take-append-le}
 use Rattle.lsp_frame.specs.Bounds.{Bounds}
-use Rattle.lsp_frame.specs.Failures.{after_failure}
 use Rattle.lsp_frame.specs.Frame.{Frames, IsStream}
-use Rattle.lsp_frame.specs.Sink.{Told, Wrote}
+use Rattle.lsp_frame.specs.Sink.{Wrote}
+use Rattle.lsp_frame.specs.Told.{Told, Gave, KeepsBytes, after_failure}
 use Rattle.lsp_frame.specs.Decoder.{State, StandsFor, EndsWith, empty, pushed, pushed_at}
 use Rattle.lsp_frame.proofs.Frames.{frames_first, frames_more, faulty_more}
 use Rattle.lsp_frame.proofs.Readings.{some_stream}
 use Rattle.lsp_frame.proofs.Steps.{new_stands}
+use Rattle.lsp_frame.proofs.Telling.{gave_nothing, gave_then, gave_kept, took_then}
 use Rattle.lsp_frame.proofs.Writing.{wrote_then, wrote_nothing}
 use Rattle.lsp_verdict.specs.declared.outcome.Mode.{Mode}
 use Rattle.lsp_verdict.specs.declared.outcome.Outcome.{Outcome}
@@ -30,7 +31,7 @@ pub record SoFar (limits : Bounds) (mode : Mode) (before now sink_before sink_no
   pub bytes : List ℕ
   pub contents : List (List ℕ)
   pub parts : List ℕ
-  pub took : Consumes before.bytes now.bytes bytes
+  pub took : Gave before now bytes
   pub no_fault : now.failures ≡ before.failures
   pub len : length bytes ≡ read
   pub stands : StandsFor d bytes contents
@@ -45,28 +46,6 @@ pub record SoFar (limits : Bounds) (mode : Mode) (before now sink_before sink_no
 pub record ToldAll (limits : Bounds) (mode : Mode) (before now sink_before sink_now : Told) (d : State) (given read : ℕ) : Type 0 where
   pub so_far : SoFar limits mode before now sink_before sink_now d given read
   pub ends : EndsWith d so_far.bytes so_far.contents None
-
-consumes_then : (a b c : Option (List ℕ)) (x y : List ℕ) → Consumes a b x → Consumes b c y → Consumes a c (x ++ y)
-consumes_then None b c x y p q = tt
-consumes_then (Some us) None c x y p q = absurd p
-consumes_then (Some us) (Some vs) None x y p q = absurd q
-consumes_then (Some us) (Some vs) (Some ws) x y p q = p ∙ ap (λ (w : List ℕ). x ++ w) q ∙ sym (append_assoc x y ws)
-
-consumes_keeps : (a b c : Option (List ℕ)) (x : List ℕ) → Consumes a b x → Keeps b c → Consumes a c x
-consumes_keeps None b c x p k = tt
-consumes_keeps (Some us) None c x p k = absurd p
-consumes_keeps (Some us) (Some vs) None x p k = absurd k
-consumes_keeps (Some us) (Some vs) (Some ws) x p k = p ∙ ap (λ (w : List ℕ). x ++ w) (sym k)
-
-appends_then : (a b c : Option (List ℕ)) (x y : List ℕ) → Appends a b x → Appends b c y → Appends a c (x ++ y)
-appends_then None b c x y p q = tt
-appends_then (Some us) None c x y p q = absurd p
-appends_then (Some us) (Some vs) None x y p q = absurd q
-appends_then (Some us) (Some vs) (Some ws) x y p q = q ∙ ap (λ (w : List ℕ). w ++ y) p ∙ append_assoc us x y
-
-consumes_nothing : (a : Option (List ℕ)) → Consumes a a []
-consumes_nothing None = tt
-consumes_nothing (Some us) = refl
 
 pub told_all : (limits : Bounds) (mode : Mode) (before now sink_before sink_now sink_new : Told) (d e : State) (given given' read : ℕ) (so_far : SoFar limits mode before now sink_before sink_now d given read)
     → FoundAll e mode sink_now sink_new given' so_far.bytes so_far.parts → e.limits ≡ d.limits → given' + length e.rest ≤ given + length d.rest → ToldAll limits mode before now sink_before sink_new e given' read
@@ -120,7 +99,7 @@ found_broke limits mode before now sink_before sink_now sink_new d e given read 
       within = omega (arith, len, within);
       frames = frames_at e.limits limits so_far.bytes found.contents found.rest (same ∙ so_far.same_limits) found.frames;
       are_parts = subst (λ (w : List ℕ). AreParts mode 1 found.contents w) (sym (append_assoc so_far.parts found.written found.left)) found.are_parts;
-      wrote = appends_then sink_before.bytes sink_now.bytes sink_new.bytes so_far.parts found.written so_far.wrote.appends found.wrote;
+      wrote = took_then sink_before sink_now sink_new so_far.parts found.written so_far.wrote.took found.wrote;
       source = so_far.no_fault ∙ sym source;
       sink = found.sink ∙ sink;
     }
@@ -135,7 +114,7 @@ write_broke limits mode before now sink_before sink_now sink_new d e given given
 
 -- the reader gave these bytes more, and then the run stopped
 pub broke_behind : (limits : Bounds) (mode : Mode) (before now after sink_before sink_now : Told) (d : State) (given read : ℕ) (more : List ℕ) → ToldAll limits mode before now sink_before sink_now d given read
-    → Consumes now.bytes after.bytes more → after.failures ≡ now.failures → read + length more ≤ limits.log → BrokeOff limits mode before after sink_before sink_now faults.Memory
+    → Gave now after more → after.failures ≡ now.failures → read + length more ≤ limits.log → BrokeOff limits mode before after sink_before sink_now faults.Memory
 broke_behind limits mode before now after sink_before sink_now d given read more told took no_fault fits =
     let so_far = told.so_far in
     let len = so_far.len in
@@ -146,14 +125,14 @@ broke_behind limits mode before now after sink_before sink_now d given read more
       written = so_far.parts;
       left = [];
       read = record {
-        gave = consumes_then before.bytes now.bytes after.bytes so_far.bytes more so_far.took took;
+        gave = gave_then before now after so_far.bytes more so_far.took took;
         no_further = omega (arith, len, fits, length-append so_far.bytes more);
         end = λ h. absurd (false≢true h);
       };
       within = omega (arith, len, fits, length-append so_far.bytes more);
       frames = frames_more limits so_far.bytes so_far.contents so_far.stands.rest more (frames_at d.limits limits so_far.bytes so_far.contents so_far.stands.rest so_far.same_limits so_far.stands.frames);
       are_parts = subst (λ (w : List ℕ). AreParts mode 1 so_far.contents w) (sym (append-nil so_far.parts)) so_far.are_parts;
-      wrote = so_far.wrote.appends;
+      wrote = so_far.wrote.took;
       source = no_fault ∙ so_far.no_fault;
       sink = so_far.wrote.failures;
     }
@@ -164,7 +143,7 @@ nothing_yet limits mode before sink_before d fresh = record {
   bytes = [];
   contents = [];
   parts = [];
-  took = consumes_nothing before.bytes;
+  took = gave_nothing before;
   no_fault = refl;
   len = refl;
   stands = subst (λ (s : State). StandsFor s [] []) (sym fresh) (new_stands limits);
@@ -178,7 +157,7 @@ nothing_yet limits mode before sink_before d fresh = record {
 
 -- a failed pull gave nothing
 pub read_broke : (limits : Bounds) (mode : Mode) (before now after sink_before sink_now : Told) (d : State) (given read : ℕ) → ToldAll limits mode before now sink_before sink_now d given read
-    → Keeps now.bytes after.bytes → after.failures ≡ after_failure now.failures → BrokeOff limits mode before after sink_before sink_now faults.Read
+    → KeepsBytes now after → after.failures ≡ after_failure now.failures → BrokeOff limits mode before after sink_before sink_now faults.Read
 read_broke limits mode before now after sink_before sink_now d given read told keeps failed =
     let so_far = told.so_far in
     let len = so_far.len in
@@ -190,14 +169,14 @@ read_broke limits mode before now after sink_before sink_now d given read told k
       written = so_far.parts;
       left = [];
       read = record {
-        gave = consumes_keeps before.bytes now.bytes after.bytes so_far.bytes so_far.took keeps;
+        gave = gave_kept before now after so_far.bytes so_far.took keeps;
         no_further = omega (arith, len, within);
         end = λ h. absurd (false≢true h);
       };
       within = omega (arith, len, within);
       frames = frames_at d.limits limits so_far.bytes so_far.contents so_far.stands.rest so_far.same_limits so_far.stands.frames;
       are_parts = subst (λ (w : List ℕ). AreParts mode 1 so_far.contents w) (sym (append-nil so_far.parts)) so_far.are_parts;
-      wrote = so_far.wrote.appends;
+      wrote = so_far.wrote.took;
       source = failed ∙ ap after_failure so_far.no_fault;
       sink = so_far.wrote.failures;
     }
@@ -248,80 +227,86 @@ fault_ran limits mode before now sink_before sink_now sink_new d e given given' 
     let len = so_far.len in
     let within = so_far.within in
     record {
-      bytes = so_far.bytes;
       parts = so_far.parts ++ found.parts;
-      ended = false;
-      read = record { gave = so_far.took; no_further = omega (arith, len, within); end = λ h. absurd (false≢true h) };
       no_fault = so_far.no_fault;
       wrote = wrote_then sink_before sink_now sink_new so_far.parts found.parts so_far.wrote found.wrote;
-      due = λ stream goes.
-          let near = take (limits.log - length so_far.bytes) goes.0 in
-          let front : take limits.log stream ≡ so_far.bytes ++ near = ap (take limits.log) goes.1 ∙ stream_front limits so_far.bytes goes.0 (omega (arith, len, within)) in
-          stops_parts limits mode e so_far.bytes near found.contents (so_far.parts ++ found.parts) stream given' rule (same ∙ so_far.same_limits) front found.stops found.are_parts found.count;
+      due = record {
+        bytes = so_far.bytes;
+        ended = false;
+        read = record { gave = so_far.took; no_further = omega (arith, len, within); end = λ h. absurd (false≢true h) };
+        holds = λ stream goes.
+            let near = take (limits.log - length so_far.bytes) goes.0 in
+            let front : take limits.log stream ≡ so_far.bytes ++ near = ap (take limits.log) goes.1 ∙ stream_front limits so_far.bytes goes.0 (omega (arith, len, within)) in
+            stops_parts limits mode e so_far.bytes near found.contents (so_far.parts ++ found.parts) stream given' rule (same ∙ so_far.same_limits) front found.stops found.are_parts found.count;
+      };
     }
 
 -- the source is at its end
 pub end_ran : (limits : Bounds) (mode : Mode) (before now after sink_before sink_now : Told) (d : State) (given read : ℕ) (outcome : Outcome) → ToldAll limits mode before now sink_before sink_now d given read
-    → Consumes now.bytes after.bytes [] → IsAtEnd after.bytes → after.failures ≡ now.failures → (d.fault ≡ None → outcome ≡ outcome_at (given + 1) (fault_of None false d.rest)) → WroteParts limits mode before after sink_before sink_now outcome
+    → Gave now after [] → IsAtEnd after.bytes → after.failures ≡ now.failures → (d.fault ≡ None → outcome ≡ outcome_at (given + 1) (fault_of None false d.rest)) → WroteParts limits mode before after sink_before sink_now outcome
 end_ran limits mode before now after sink_before sink_now d given read outcome told took end no_fault at =
     let so_far = told.so_far in
     let len = so_far.len in
     let within = so_far.within in
     record {
-      bytes = so_far.bytes;
       parts = so_far.parts;
-      ended = true;
-      read = record {
-        gave = subst (λ (w : List ℕ). Consumes before.bytes after.bytes w) (append-nil so_far.bytes) (consumes_then before.bytes now.bytes after.bytes so_far.bytes [] so_far.took took);
-        no_further = omega (arith, len, within);
-        end = λ h. end;
-      };
       no_fault = no_fault ∙ so_far.no_fault;
       wrote = so_far.wrote;
-      due = λ stream goes.
-          let same : stream ≡ so_far.bytes = goes.1 ∙ ap (λ (w : List ℕ). so_far.bytes ++ w) (goes.2 refl) ∙ append-nil so_far.bytes in
-          let short : length so_far.bytes ≤ limits.log = omega (arith, len, within) in
-          let whole : take limits.log stream ≡ so_far.bytes = ap (take limits.log) same ∙ take_all limits.log so_far.bytes short in
-          let not_longer : nat_lt limits.log (length stream) ≡ false = ap (λ (w : List ℕ). nat_lt limits.log (length w)) same ∙ le-ltb limits.log (length so_far.bytes) short in
-          record {
-            contents = so_far.contents;
-            rest = d.rest;
-            fault = None;
-            is_stream = subst (λ (w : List ℕ). IsStream limits w so_far.contents d.rest None) (sym whole) (stream_at d.limits limits so_far.bytes so_far.contents d.rest None so_far.same_limits told.ends.1);
-            runs_through = subst (λ (b : Bool). RunsThrough mode 1 so_far.contents (fault_of None b d.rest) so_far.parts outcome) (sym not_longer)
-                (subst (λ (o : Outcome). RunsThrough mode 1 so_far.contents (fault_of None false d.rest) so_far.parts o) (sym (at told.ends.0))
-                (run_through mode 1 so_far.contents (fault_of None false d.rest) so_far.parts (given + 1) (number_at given so_far.contents so_far.count) so_far.are_parts));
-          };
+      due = record {
+        bytes = so_far.bytes;
+        ended = true;
+        read = record {
+          gave = subst (λ (w : List ℕ). Gave before after w) (append-nil so_far.bytes) (gave_then before now after so_far.bytes [] so_far.took took);
+          no_further = omega (arith, len, within);
+          end = λ h. end;
+        };
+        holds = λ stream goes.
+            let same : stream ≡ so_far.bytes = goes.1 ∙ ap (λ (w : List ℕ). so_far.bytes ++ w) (goes.2 refl) ∙ append-nil so_far.bytes in
+            let short : length so_far.bytes ≤ limits.log = omega (arith, len, within) in
+            let whole : take limits.log stream ≡ so_far.bytes = ap (take limits.log) same ∙ take_all limits.log so_far.bytes short in
+            let not_longer : nat_lt limits.log (length stream) ≡ false = ap (λ (w : List ℕ). nat_lt limits.log (length w)) same ∙ le-ltb limits.log (length so_far.bytes) short in
+            record {
+              contents = so_far.contents;
+              rest = d.rest;
+              fault = None;
+              is_stream = subst (λ (w : List ℕ). IsStream limits w so_far.contents d.rest None) (sym whole) (stream_at d.limits limits so_far.bytes so_far.contents d.rest None so_far.same_limits told.ends.1);
+              runs_through = subst (λ (b : Bool). RunsThrough mode 1 so_far.contents (fault_of None b d.rest) so_far.parts outcome) (sym not_longer)
+                  (subst (λ (o : Outcome). RunsThrough mode 1 so_far.contents (fault_of None false d.rest) so_far.parts o) (sym (at told.ends.0))
+                  (run_through mode 1 so_far.contents (fault_of None false d.rest) so_far.parts (given + 1) (number_at given so_far.contents so_far.count) so_far.are_parts));
+            };
+      };
     }
 
 -- a byte past the limit
 pub too_long_ran : (limits : Bounds) (mode : Mode) (before now after sink_before sink_now : Told) (d : State) (given read : ℕ) (byte : List ℕ) → ToldAll limits mode before now sink_before sink_now d given read
-    → read ≡ limits.log → length byte ≡ 1 → Consumes now.bytes after.bytes byte → after.failures ≡ now.failures → WroteParts limits mode before after sink_before sink_now (Stream (given + 1) TooLong)
+    → read ≡ limits.log → length byte ≡ 1 → Gave now after byte → after.failures ≡ now.failures → WroteParts limits mode before after sink_before sink_now (Stream (given + 1) TooLong)
 too_long_ran limits mode before now after sink_before sink_now d given read byte told full one took no_fault =
     let so_far = told.so_far in
     let len = so_far.len in
     record {
-      bytes = so_far.bytes ++ byte;
       parts = so_far.parts;
-      ended = false;
-      read = record {
-        gave = consumes_then before.bytes now.bytes after.bytes so_far.bytes byte so_far.took took;
-        no_further = omega (arith, len, full, one, length-append so_far.bytes byte);
-        end = λ h. absurd (false≢true h);
-      };
       no_fault = no_fault ∙ so_far.no_fault;
       wrote = so_far.wrote;
-      due = λ stream goes.
-          let first : take limits.log stream ≡ so_far.bytes = ap (take limits.log) (goes.1 ∙ append_assoc so_far.bytes byte goes.0) ∙ take_at so_far.bytes (byte ++ goes.0) limits.log (len ∙ full) in
-          let long : limits.log < length stream = omega (arith, len, full, one, ap length goes.1, length-append so_far.bytes byte, length-append (so_far.bytes ++ byte) goes.0) in
-          record {
-            contents = so_far.contents;
-            rest = d.rest;
-            fault = None;
-            is_stream = subst (λ (w : List ℕ). IsStream limits w so_far.contents d.rest None) (sym first) (stream_at d.limits limits so_far.bytes so_far.contents d.rest None so_far.same_limits told.ends.1);
-            runs_through = subst (λ (b : Bool). RunsThrough mode 1 so_far.contents (fault_of None b d.rest) so_far.parts (Stream (given + 1) TooLong)) (sym (lt-ltb limits.log (length stream) long))
-                (run_through mode 1 so_far.contents (Some TooLong) so_far.parts (given + 1) (number_at given so_far.contents so_far.count) so_far.are_parts);
-          };
+      due = record {
+        bytes = so_far.bytes ++ byte;
+        ended = false;
+        read = record {
+          gave = gave_then before now after so_far.bytes byte so_far.took took;
+          no_further = omega (arith, len, full, one, length-append so_far.bytes byte);
+          end = λ h. absurd (false≢true h);
+        };
+        holds = λ stream goes.
+            let first : take limits.log stream ≡ so_far.bytes = ap (take limits.log) (goes.1 ∙ append_assoc so_far.bytes byte goes.0) ∙ take_at so_far.bytes (byte ++ goes.0) limits.log (len ∙ full) in
+            let long : limits.log < length stream = omega (arith, len, full, one, ap length goes.1, length-append so_far.bytes byte, length-append (so_far.bytes ++ byte) goes.0) in
+            record {
+              contents = so_far.contents;
+              rest = d.rest;
+              fault = None;
+              is_stream = subst (λ (w : List ℕ). IsStream limits w so_far.contents d.rest None) (sym first) (stream_at d.limits limits so_far.bytes so_far.contents d.rest None so_far.same_limits told.ends.1);
+              runs_through = subst (λ (b : Bool). RunsThrough mode 1 so_far.contents (fault_of None b d.rest) so_far.parts (Stream (given + 1) TooLong)) (sym (lt-ltb limits.log (length stream) long))
+                  (run_through mode 1 so_far.contents (Some TooLong) so_far.parts (given + 1) (number_at given so_far.contents so_far.count) so_far.are_parts);
+            };
+      };
     }
 
 -- ---- the next piece
@@ -330,7 +315,7 @@ pushed_open : (d : State) (piece : List ℕ) → d.fault ≡ None → pushed d p
 pushed_open d piece none = ap (λ (f : Option ℕ). pushed_at f d piece) none
 
 push_on : (limits : Bounds) (mode : Mode) (before now after sink_before sink_now : Told) (d e : State) (given read : ℕ) (piece : List ℕ) (told : ToldAll limits mode before now sink_before sink_now d given read)
-    → Consumes now.bytes after.bytes piece → after.failures ≡ now.failures → e ≡ pushed d piece → StandsFor e (told.so_far.bytes ++ piece) told.so_far.contents → read + length piece ≤ limits.log
+    → Gave now after piece → after.failures ≡ now.failures → e ≡ pushed d piece → StandsFor e (told.so_far.bytes ++ piece) told.so_far.contents → read + length piece ≤ limits.log
     → SoFar limits mode before after sink_before sink_now e given (read + length piece)
 push_on limits mode before now after sink_before sink_now d e given read piece told took no_fault is stands fits =
     let so_far = told.so_far in
@@ -341,7 +326,7 @@ push_on limits mode before now after sink_before sink_now d e given read piece t
       bytes = so_far.bytes ++ piece;
       contents = so_far.contents;
       parts = so_far.parts;
-      took = consumes_then before.bytes now.bytes after.bytes so_far.bytes piece so_far.took took;
+      took = gave_then before now after so_far.bytes piece so_far.took took;
       no_fault = no_fault ∙ so_far.no_fault;
       len = omega (arith, len, length-append so_far.bytes piece);
       stands = stands;
@@ -354,12 +339,12 @@ push_on limits mode before now after sink_before sink_now d e given read piece t
     }
 
 -- an empty pull, where some bytes were asked for
-pub empty_pull : (a b : Option (List ℕ)) (n : ℕ) (buffer : List ℕ) → n ≡ 0 → Consumes a b (take n buffer) → Consumes a b []
-empty_pull a b n buffer none took = subst (λ (k : ℕ). Consumes a b (take k buffer)) none took
+pub empty_pull : (a b : Told) (n : ℕ) (buffer : List ℕ) → n ≡ 0 → Gave a b (take n buffer) → Gave a b []
+empty_pull a b n buffer none took = subst (λ (k : ℕ). Gave a b (take k buffer)) none took
 
 -- the front of the buffer that a pull filled is pushed
 pub push_taken : (limits : Bounds) (mode : Mode) (before now after sink_before sink_now : Told) (d e : State) (given read n : ℕ) (buffer tail : List ℕ) (told : ToldAll limits mode before now sink_before sink_now d given read)
-    → n ≤ length buffer → Consumes now.bytes after.bytes (take n buffer) → after.failures ≡ now.failures → e ≡ pushed d (take n (buffer ++ tail)) → StandsFor e (told.so_far.bytes ++ take n (buffer ++ tail)) told.so_far.contents → read + n ≤ limits.log
+    → n ≤ length buffer → Gave now after (take n buffer) → after.failures ≡ now.failures → e ≡ pushed d (take n (buffer ++ tail)) → StandsFor e (told.so_far.bytes ++ take n (buffer ++ tail)) told.so_far.contents → read + n ≤ limits.log
     → SoFar limits mode before after sink_before sink_now e given (read + n)
 push_taken limits mode before now after sink_before sink_now d e given read n buffer tail told fits took no_fault is stands within =
     let same : take n (buffer ++ tail) ≡ take n buffer = take-append-le n buffer tail fits in

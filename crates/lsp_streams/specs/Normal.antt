@@ -1,24 +1,22 @@
 -- The normal form of a log: each content as its canonical frame, in records that are full but for the last, and each snapshot as it is.
-use Rattle.std.specs.Prelude.{◌≡◌, ◌⊎◌, ℕ, ◌+◌, List, [], ◌∷◌, ◌++◌, length, map, filter, Bool, true, false, Option, Some, None, option_map}
+use Rattle.std.specs.Prelude.{◌≡◌, ◌⊎◌, ℕ, ◌+◌, List, [], ◌∷◌, ◌++◌, length, map, filter, Bool, true, false, Option, Some, None}
 use Rattle.std.specs.Int.{div_ceil}
-use Rattle.std.specs.Io.KnownBytes.{Appends}
 use Rattle.std.specs.List.{flat_map}
 use Rattle.std.specs.Option.{option_or}
 use Rattle.std.specs.Simd.{first_chunks}
 use Rattle.lsp_frame.specs.Bounds.{Bounds}
 use Rattle.lsp_frame.specs.Sink.{canonical}
-use Rattle.lsp_rpc.specs.declared.plain.Side.{Side}
-use Rattle.lsp_rpc.specs.declared.plain.Side.TheVariants.{Editor, Server}
+use Rattle.lsp_types.specs.declared.side.Side.{Side}
+use Rattle.lsp_types.specs.declared.side.Side.TheVariants.{Editor, Server}
 use Rattle.lsp_session.specs.Sent.{same_side}
 use Rattle.lsp_log.specs.declared.fault.LogCode.{LogCode}
 use Rattle.lsp_log.specs.Log.{Record, chunk, shown, first_line, spelling, BeginsLog, IsLog}
 use Rattle.lsp_verdict.specs.declared.outcome.Outcome.{Outcome}
 use Rattle.lsp_verdict.specs.declared.outcome.Outcome.TheVariants.{Done, Judged, Stream, NoDocument, TooFew}
-use Rattle.lsp_verdict.specs.Given.{verdict_view, as_given}
+use Rattle.lsp_verdict.specs.Given.{verdict_view}
 use Rattle.lsp_verdict.specs.LookBack.{first_of}
 use Rattle.lsp_verdict.specs.Outcome.{HasRest, ending}
 use Rattle.lsp_verdict.specs.Placed.{Raw, content, broken, show, Placed, joined}
-use Rattle.lsp_verdict.specs.RunIo.{HasRead, GoesOn}
 use Rattle.lsp_verdict.specs.Verdict.{Verdict, no, Ending, who_of, bad_log_of}
 
 -- ---- what is written
@@ -104,28 +102,18 @@ IsNormal limits log out fault = ((v : Verdict) × (fault ≡ Some v) × IsBroken
 
 -- ---- a run
 
--- the outcome carries the fault as its verdict, its numbers as the code gives them
+-- the outcome carries the fault as its verdict
 abbrev pub Carries : Outcome → Option Verdict → Type 0
 Carries Done fault = fault ≡ None
-Carries (Judged v) fault = option_map as_given fault ≡ Some (verdict_view v)
+Carries (Judged v) fault = fault ≡ Some (verdict_view v)
 Carries (Stream frame fault) _ = ⊥
 Carries NoDocument fault = ⊥
 Carries TooFew fault = ⊥
 
--- a run to its outcome: what was written is the normal form of the log, however that goes on
-pub record Normalizes (limits : Bounds) (before after sink_before sink_after : Option (List ℕ)) (outcome : Outcome) : Type 0 where
-  pub bytes : List ℕ
-  pub out : List ℕ
-  pub ended : Bool
-  pub read : HasRead limits before after bytes ended
-  pub wrote : Appends sink_before sink_after out
-  pub due : (log : List ℕ) → GoesOn bytes ended log → (fault : Option Verdict) × IsNormal limits log out fault × Carries outcome fault
+-- this is the normal form of the log, and the outcome carries the fault that ends it, if any
+abbrev pub EndsNormal : Bounds → List ℕ → List ℕ → Outcome → Type 0
+EndsNormal limits log out outcome = (fault : Option Verdict) × IsNormal limits log out fault × Carries outcome fault
 
--- a run cut short: what was written begins the normal form of the log, however that goes on
-pub record IsCutShort (limits : Bounds) (before after sink_before sink_after : Option (List ℕ)) : Type 0 where
-  pub bytes : List ℕ
-  pub written : List ℕ
-  pub ended : Bool
-  pub read : HasRead limits before after bytes ended
-  pub wrote : Appends sink_before sink_after written
-  pub begins : (log out : List ℕ) (fault : Option Verdict) → GoesOn bytes ended log → IsNormal limits log out fault → (left : List ℕ) × (out ≡ written ++ left)
+-- the normal form of the log begins with these bytes
+abbrev pub BeginsNormal : Bounds → List ℕ → List ℕ → Type 0
+BeginsNormal limits log written = (out : List ℕ) (fault : Option Verdict) → IsNormal limits log out fault → (left : List ℕ) × (out ≡ written ++ left)

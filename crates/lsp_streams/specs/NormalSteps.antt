@@ -1,28 +1,30 @@
 -- What the steps of a run that writes a normal form answer.
-use Rattle.std.specs.Prelude.{◌≡◌, ℕ, List, ◌++◌, chars, map, Option, Some, None, Result, Ok, Err}
-use Rattle.std.specs.Io.KnownBytes.{Appends, Consumes, IsAtEnd}
+use Rattle.std.specs.Prelude.{◌≡◌, ℕ, List, ◌++◌, chars, map, option_map, Option, Some, None, Result, Ok, Err}
+use Rattle.std.specs.Io.KnownBytes.{IsAtEnd}
 use Rattle.std.specs.List.{flat_map}
 use Rattle.lsp_frame.specs.Bounds.{Bounds}
 use Rattle.lsp_frame.specs.Decoder as decoder
 use Rattle.lsp_frame.specs.Frame.{Frames}
-use Rattle.lsp_frame.specs.Sink.{Told, Wrote}
-use Rattle.lsp_rpc.specs.declared.plain.Side.{Side}
-use Rattle.lsp_rpc.specs.declared.plain.Side.TheVariants.{Editor, Server}
+use Rattle.lsp_frame.specs.Sink.{Wrote}
+use Rattle.lsp_frame.specs.Told.{Told, Gave, Took}
+use Rattle.lsp_types.specs.declared.side.Side.{Side}
+use Rattle.lsp_types.specs.declared.side.Side.TheVariants.{Editor, Server}
 use Rattle.lsp_log.specs.Log.{Record, spelling}
 use Rattle.lsp_log.specs.Reader as reader
 use Rattle.lsp_log.specs.Reader.{kept_by}
 use Rattle.lsp_verdict.specs.declared.counts.Counts.{Counts}
 use Rattle.lsp_streams.specs.declared.normal.Streams.{Streams}
 use Rattle.lsp_verdict.specs.declared.outcome.Outcome.{Outcome}
-use Rattle.lsp_verdict.specs.declared.outcome.Outcome.TheVariants.{Done}
+use Rattle.lsp_verdict.specs.declared.outcome.Outcome.TheVariants.{Done, Judged, Stream, NoDocument, TooFew}
 use Rattle.lsp_verdict.specs.declared.outcome.RunFault.{RunFault}
 use Rattle.lsp_verdict.specs.declared.outcome.RunFault.TheVariants as faults
+use Rattle.lsp_verdict.specs.Given.{verdict_view, as_given}
 use Rattle.lsp_verdict.specs.Event as event
 use Rattle.lsp_verdict.specs.Event.{Event}
-use Rattle.lsp_streams.specs.Normal.{records_of, form_of, no_next, first_broken, fault_of, Carries, Normalizes, IsCutShort}
+use Rattle.lsp_streams.specs.Normal.{records_of, form_of, no_next, first_broken, fault_of, EndsNormal, BeginsNormal}
 use Rattle.lsp_verdict.specs.Outcome.{HasRest, ending}
 use Rattle.lsp_verdict.specs.Placed.{Raw, content, broken, show, Brings, Placed, joined}
-use Rattle.lsp_verdict.specs.RunIo.{source_failures, sink_failures}
+use Rattle.lsp_verdict.specs.RunIo.{OfRead, source_failures, sink_failures}
 use Rattle.lsp_verdict.specs.Counting.{AreCounts}
 use Rattle.lsp_verdict.specs.Drained.{IsDrained}
 use Rattle.lsp_verdict.specs.Verdict.{Verdict}
@@ -36,6 +38,14 @@ mark (show number uri text) = event.snapshot uri number (chars text)
 abbrev pub Counted : Counts → List Raw → Type 0
 Counted counts raws = AreCounts counts (map mark raws)
 
+-- the outcome carries the fault as its verdict, its numbers as they are counted
+abbrev pub CarriesCapped : Outcome → Option Verdict → Type 0
+CarriesCapped Done fault = fault ≡ None
+CarriesCapped (Judged v) fault = option_map as_given fault ≡ Some (verdict_view v)
+CarriesCapped (Stream frame fault) _ = ⊥
+CarriesCapped NoDocument fault = ⊥
+CarriesCapped TooFew fault = ⊥
+
 -- the records of these events, as they are written
 abbrev pub spelled : ℕ → List Raw → List ℕ
 spelled size raws = flat_map spelling (records_of size raws)
@@ -45,7 +55,7 @@ pub record WroteFront (old new : Told) (due : List ℕ) (fault : RunFault) : Typ
   pub front : List ℕ
   pub back : List ℕ
   pub whole : due ≡ front ++ back
-  pub appends : Appends old.bytes new.bytes front
+  pub took : Took old new front
   pub failures : new.failures ≡ sink_failures (Err fault) old.failures
 
 -- a fault of the writer or of memory, not of the reader
@@ -57,27 +67,27 @@ IsLate faults.Memory = Unit {0}
 -- ---- the contents that a decoder holds
 
 -- behind these contents the decoder gave more, which are written and counted
-pub record Gave (side : Side) (size : ℕ) (d : decoder.State) (counts : Counts) (old new : Told) (bytes : List ℕ) (contents : List (List ℕ)) (before : List Raw) : Type 0 where
+pub record WroteContents (side : Side) (size : ℕ) (d : decoder.State) (counts : Counts) (old new : Told) (bytes : List ℕ) (contents : List (List ℕ)) (before : List Raw) : Type 0 where
   pub more : List (List ℕ)
   pub stands : decoder.StandsFor d bytes (contents ++ more)
   pub counted : Counted counts (before ++ map (content side) more)
   pub wrote : Wrote old new (spelled size (map (content side) more))
 
 -- and these are all that the bytes have
-pub record GaveAll (side : Side) (size : ℕ) (d : decoder.State) (counts : Counts) (old new : Told) (bytes : List ℕ) (contents : List (List ℕ)) (before : List Raw) : Type 0 where
-  pub gave : Gave side size d counts old new bytes contents before
-  pub ends : decoder.EndsWith d bytes (contents ++ gave.more) None
+pub record WroteAll (side : Side) (size : ℕ) (d : decoder.State) (counts : Counts) (old new : Told) (bytes : List ℕ) (contents : List (List ℕ)) (before : List Raw) : Type 0 where
+  pub contents_written : WroteContents side size d counts old new bytes contents before
+  pub ends : decoder.EndsWith d bytes (contents ++ contents_written.more) None
 
 -- and behind them the frames have a fault, which the outcome carries
-pub record GaveFault (side : Side) (size : ℕ) (d : decoder.State) (old new : Told) (bytes : List ℕ) (contents : List (List ℕ)) (before : List Raw) (outcome : Outcome) : Type 0 where
+pub record WroteToFault (side : Side) (size : ℕ) (d : decoder.State) (old new : Told) (bytes : List ℕ) (contents : List (List ℕ)) (before : List Raw) (outcome : Outcome) : Type 0 where
   pub more : List (List ℕ)
   pub rule : ℕ
   pub ends : decoder.EndsWith d bytes (contents ++ more) (Some rule)
   pub wrote : Wrote old new (spelled size (map (content side) more))
-  pub carries : Carries outcome (Some (no_next rule side (before ++ map (content side) more)))
+  pub carries : CarriesCapped outcome (Some (no_next rule side (before ++ map (content side) more)))
 
 -- what is written begins the records of contents that the bytes have
-pub record GavePart (side : Side) (size : ℕ) (d : decoder.State) (old new : Told) (bytes : List ℕ) (contents : List (List ℕ)) (fault : RunFault) : Type 0 where
+pub record WrotePart (side : Side) (size : ℕ) (d : decoder.State) (old new : Told) (bytes : List ℕ) (contents : List (List ℕ)) (fault : RunFault) : Type 0 where
   pub more : List (List ℕ)
   pub rest : List ℕ
   pub late : IsLate fault
@@ -85,9 +95,9 @@ pub record GavePart (side : Side) (size : ℕ) (d : decoder.State) (old new : To
   pub wrote : WroteFront old new (spelled size (map (content side) more)) fault
 
 abbrev pub GivesContents : Side → ℕ → decoder.State → Counts → Told → Told → List ℕ → List (List ℕ) → List Raw → Result (Option Outcome) RunFault → Type 0
-GivesContents side size d counts old new bytes contents before (Ok None) = GaveAll side size d counts old new bytes contents before
-GivesContents side size d counts old new bytes contents before (Ok (Some outcome)) = GaveFault side size d old new bytes contents before outcome
-GivesContents side size d counts old new bytes contents before (Err fault) = GavePart side size d old new bytes contents fault
+GivesContents side size d counts old new bytes contents before (Ok None) = WroteAll side size d counts old new bytes contents before
+GivesContents side size d counts old new bytes contents before (Ok (Some outcome)) = WroteToFault side size d old new bytes contents before outcome
+GivesContents side size d counts old new bytes contents before (Err fault) = WrotePart side size d old new bytes contents fault
 
 -- ---- a record of bytes
 
@@ -107,7 +117,7 @@ pub record BroughtFault (limits : Bounds) (side : Side) (old new : Told) (sent m
   pub brings : Brings limits side sent more now
   pub breaks : first_broken (before ++ now) ≡ Some verdict
   pub wrote : Wrote old new (spelled limits.chunk now)
-  pub carries : Carries outcome (Some verdict)
+  pub carries : CarriesCapped outcome (Some verdict)
 
 -- what is written begins the records of what the bytes bring
 pub record BroughtPart (limits : Bounds) (side : Side) (old new : Told) (sent more : List ℕ) (fault : RunFault) : Type 0 where
@@ -143,7 +153,7 @@ pub record FormedFault (limits : Bounds) (old new : Told) (records : List Record
   pub placed : Placed limits records raws
   pub breaks : first_broken raws ≡ Some verdict
   pub wrote : Wrote old new (form_of limits.chunk raws)
-  pub carries : Carries outcome (Some verdict)
+  pub carries : CarriesCapped outcome (Some verdict)
 
 -- what is written begins the normal form of the records
 pub record FormedPart (limits : Bounds) (old new : Told) (records : List Record) (fault : RunFault) : Type 0 where
@@ -163,7 +173,7 @@ pub record EndsWhole (limits : Bounds) (records : List Record) (raws : List Raw)
   pub server : List ℕ
   pub editor_rest : HasRest limits (joined Editor records) editor
   pub server_rest : HasRest limits (joined Server records) server
-  pub carries : Carries outcome (fault_of raws (ending None editor server))
+  pub carries : CarriesCapped outcome (fault_of raws (ending None editor server))
 
 -- ---- a run
 
@@ -178,21 +188,30 @@ pub record IsReading (r : reader.State) : Type 0 where
 pub record SoFar (limits : Bounds) (r : reader.State) (s : Streams) (before now sink_before sink_now : Told) : Type 0 where
   pub bytes : List ℕ
   pub records : List Record
-  pub read : Consumes before.bytes now.bytes bytes
+  pub read : Gave before now bytes
   pub no_fault : now.failures ≡ before.failures
   pub limits_are : r.limits ≡ limits
   pub unread : kept_by r ≡ None
   pub stands : reader.StandsFor r bytes records
   pub formed : Formed limits s sink_before sink_now records
 
+-- the normal form of the log is written, and the outcome carries its fault
+abbrev pub WroteNormal : Bounds → Told → Told → Told → Told → Outcome → Type 0
+WroteNormal limits before now sink_before sink_now outcome =
+    (out : List ℕ) × Took sink_before sink_now out × OfRead limits before now (λ log. EndsNormal limits log out outcome)
+
+-- what is written begins the normal form of the log
+abbrev pub BeganNormal : Bounds → Told → Told → Told → Told → Type 0
+BeganNormal limits before now sink_before sink_now = (out : List ℕ) × Took sink_before sink_now out × OfRead limits before now (λ log. BeginsNormal limits log out)
+
 pub record Ended (limits : Bounds) (before now sink_before sink_now : Told) (outcome : Outcome) : Type 0 where
-  pub normal : Normalizes limits before.bytes now.bytes sink_before.bytes sink_now.bytes outcome
+  pub normal : WroteNormal limits before now sink_before sink_now outcome
   pub done : outcome ≡ Done → IsAtEnd now.bytes
   pub source : now.failures ≡ before.failures
   pub sink : sink_now.failures ≡ sink_before.failures
 
 pub record BrokeOff (limits : Bounds) (before now sink_before sink_now : Told) (fault : RunFault) : Type 0 where
-  pub cut_short : IsCutShort limits before.bytes now.bytes sink_before.bytes sink_now.bytes
+  pub cut_short : BeganNormal limits before now sink_before sink_now
   pub source : now.failures ≡ source_failures (Err fault) before.failures
   pub sink : sink_now.failures ≡ sink_failures (Err fault) sink_before.failures
 

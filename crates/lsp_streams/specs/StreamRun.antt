@@ -1,9 +1,7 @@
 -- What a run over a stream writes, and how it ends.
 use Rattle.std.specs.Prelude.{◌≡◌, ℕ, List, [], ◌∷◌, ◌++◌, length, take, Option, Some, None, Bool, true, false, nat_lt}
-use Rattle.std.specs.Io.KnownBytes.{Appends}
 use Rattle.lsp_frame.specs.Bounds.{Bounds}
 use Rattle.lsp_frame.specs.Frame.{IsStream}
-use Rattle.lsp_verdict.specs.RunIo.{HasRead, GoesOn}
 use Rattle.lsp_streams.specs.StreamParts.{RunsThrough}
 use Rattle.lsp_verdict.specs.StreamReport.{stream_report}
 use Rattle.lsp_verdict.specs.declared.outcome.Mode.{Mode}
@@ -45,23 +43,6 @@ abbrev pub IsRun : Bounds → Mode → List ℕ → List ℕ → Outcome → Typ
 IsRun limits mode stream out outcome =
     (parts : List ℕ) × HasParts limits mode stream parts outcome × (out ≡ parts ++ closing mode outcome)
 
--- ---- a run
-
--- a run to its outcome: what was written is what is due for the stream, however that goes on
-pub record Ran (limits : Bounds) (mode : Mode) (before after : Option (List ℕ)) (sink_before sink_after : Option (List ℕ)) (outcome : Outcome) : Type 0 where
-  pub bytes : List ℕ
-  pub out : List ℕ
-  pub ended : Bool
-  pub read : HasRead limits before after bytes ended
-  pub wrote : Appends sink_before sink_after out
-  pub due : (stream : List ℕ) → GoesOn bytes ended stream → IsRun limits mode stream out outcome
-
--- a run cut short: what was written begins what is due for the stream, however that goes on
-pub record IsCutShort (limits : Bounds) (mode : Mode) (before after : Option (List ℕ)) (sink_before sink_after : Option (List ℕ)) : Type 0 where
-  pub bytes : List ℕ
-  pub written : List ℕ
-  pub ended : Bool
-  pub read : HasRead limits before after bytes ended
-  pub wrote : Appends sink_before sink_after written
-  pub begins : (stream out : List ℕ) (outcome : Outcome) → GoesOn bytes ended stream
-      → IsRun limits mode stream out outcome → (left : List ℕ) × (out ≡ written ++ left)
+-- what is due for a stream begins with these bytes
+abbrev pub BeginsRun : Bounds → Mode → List ℕ → List ℕ → Type 0
+BeginsRun limits mode stream written = (out : List ℕ) (outcome : Outcome) → IsRun limits mode stream out outcome → (left : List ℕ) × (out ≡ written ++ left)

@@ -1,12 +1,12 @@
 -- What the steps of a run answer.
-use Rattle.std.specs.Prelude.{◌≡◌, ◌⊎◌, ℕ, ◌+◌, ◌≤◌, List, [], ◌∷◌, ◌++◌, length, Option, Some, None, Bool, false, Result, Ok, Err}
-use Rattle.std.specs.Io.KnownBytes.{Appends}
+use Rattle.std.specs.Prelude.{◌≡◌, ◌⊎◌, ℕ, ◌+◌, ◌≤◌, List, [], ◌∷◌, ◌++◌, length, Option, Some, None, false, Result, Ok, Err}
 use Rattle.lsp_frame.specs.Bounds.{Bounds}
 use Rattle.lsp_frame.specs.Frame.{Frames}
-use Rattle.lsp_frame.specs.Sink.{Told, Wrote, Stopped}
+use Rattle.lsp_frame.specs.Sink.{Wrote, Stopped}
+use Rattle.lsp_frame.specs.Told.{Told, Took}
 use Rattle.lsp_frame.specs.Decoder.{State, StandsFor, EndsWith}
 use Rattle.lsp_streams.specs.StreamParts.{IsPart, Refuses}
-use Rattle.lsp_verdict.specs.RunIo.{HasRead, GoesOn, source_failures, sink_failures}
+use Rattle.lsp_verdict.specs.RunIo.{HasRead, OfRead, source_failures, sink_failures}
 use Rattle.lsp_streams.specs.StreamRun.{HasParts}
 use Rattle.lsp_verdict.specs.declared.outcome.Mode.{Mode}
 use Rattle.lsp_verdict.specs.declared.outcome.Outcome.{Outcome}
@@ -65,7 +65,7 @@ pub record FoundBroken (d : State) (mode : Mode) (old new : Told) (bytes before 
   pub left : List ℕ
   pub frames : Frames d.limits bytes contents rest
   pub are_parts : AreParts mode 1 contents (before ++ (written ++ left))
-  pub wrote : Appends old.bytes new.bytes written
+  pub wrote : Took old new written
   pub sink : new.failures ≡ sink_failures (Err fault) old.failures
 
 abbrev pub Finds : State → Mode → Told → Told → ℕ → List ℕ → List ℕ → Result (Option ℕ) RunFault → Type 0
@@ -79,13 +79,10 @@ Finds d mode old new given bytes before (Err faults.Read) = ⊥
 
 -- the parts are written, and the outcome is known
 pub record WroteParts (limits : Bounds) (mode : Mode) (before after sink_before sink_after : Told) (outcome : Outcome) : Type 0 where
-  pub bytes : List ℕ
   pub parts : List ℕ
-  pub ended : Bool
-  pub read : HasRead limits before.bytes after.bytes bytes ended
   pub no_fault : after.failures ≡ before.failures
   pub wrote : Wrote sink_before sink_after parts
-  pub due : (stream : List ℕ) → GoesOn bytes ended stream → HasParts limits mode stream parts outcome
+  pub due : OfRead limits before after (λ stream. HasParts limits mode stream parts outcome)
 
 -- what is written begins the parts of the contents in the bytes read
 pub record BrokeOff (limits : Bounds) (mode : Mode) (before after sink_before sink_after : Told) (fault : RunFault) : Type 0 where
@@ -94,11 +91,11 @@ pub record BrokeOff (limits : Bounds) (mode : Mode) (before after sink_before si
   pub rest : List ℕ
   pub written : List ℕ
   pub left : List ℕ
-  pub read : HasRead limits before.bytes after.bytes bytes false
+  pub read : HasRead limits before after bytes false
   pub within : length bytes ≤ limits.log
   pub frames : Frames limits bytes contents rest
   pub are_parts : AreParts mode 1 contents (written ++ left)
-  pub wrote : Appends sink_before.bytes sink_after.bytes written
+  pub wrote : Took sink_before sink_after written
   pub source : after.failures ≡ source_failures (Err fault) before.failures
   pub sink : sink_after.failures ≡ sink_failures (Err fault) sink_before.failures
 

@@ -1,13 +1,14 @@
 //! A run over one raw stream of frames (LSP 3.17, "Base Protocol"): one direction of what passed
 //! between an editor and a server.
-ghost use Rattle.std.specs.Prelude.{◌≡◌, ◌≤◌, ◌<◌, ◌+◌, ◌^◌, ℕ, List, length, None, false, IfOk, OnErr, vec_len};
+ghost use Rattle.std.specs.Prelude.{◌≡◌, ◌≤◌, ◌<◌, ◌+◌, ◌^◌, ℕ, List, length, None, false, Ok, IfOk, OnErr, vec_len};
 ghost use Rattle.std.specs.Io.KnownBytes.{IsAtEnd};
 ghost use Rattle.lsp_frame.specs.Bounds.{IsInRange};
 ghost use Rattle.lsp_frame.specs.Decoder.{StandsFor};
 ghost use Rattle.lsp_frame.specs.Sink.{Writes};
+ghost use Rattle.lsp_frame.specs.Told.{Took};
 ghost use Rattle.lsp_streams.specs.StreamParts.{numbers, kind_line, outcome_at};
-ghost use Rattle.lsp_verdict.specs.RunIo.{Tells, source_failures, sink_failures};
-ghost use Rattle.lsp_streams.specs.StreamRun.{fault_of, closing, Ran, IsCutShort};
+ghost use Rattle.lsp_verdict.specs.RunIo.{OfRead, GaveAtMost, Tells, source_failures, sink_failures};
+ghost use Rattle.lsp_streams.specs.StreamRun.{fault_of, closing, IsRun, BeginsRun};
 ghost use Rattle.lsp_streams.specs.StreamSteps.{WritesPart, AreParts, Finds, PartsAnswer};
 
 use lsp_frame::{Decoder, Limits, Sink, Source, WriteFault, put_all, put_number, write_frame};
@@ -32,8 +33,8 @@ fn write_numbers<W: Sink>(
     content: &[u8],
     end: &[u8],
 ) -> Result<(), WriteFault>
-    ensures { Writes (record { bytes = W.taken writer.old; failures = W.failures writer.old })
-        (record { bytes = W.taken writer.new; failures = W.failures writer.new })
+    ensures { Writes (W.told writer.old)
+        (W.told writer.new)
         result (numbers frame content.now end.now) }
 {
     put_number(writer, frame)?;
@@ -49,8 +50,8 @@ fn write_kind_line<W: Sink>(
     content: &[u8],
     words: &[u8],
 ) -> Result<(), WriteFault>
-    ensures { Writes (record { bytes = W.taken writer.old; failures = W.failures writer.old })
-        (record { bytes = W.taken writer.new; failures = W.failures writer.new })
+    ensures { Writes (W.told writer.old)
+        (W.told writer.new)
         result (kind_line frame content.now words.now) }
 {
     write_numbers(writer, frame, content, b" ")?;
@@ -66,9 +67,7 @@ fn write_kind<W: Sink>(
     frame: u64,
     content: &[u8],
 ) -> Result<Option<u16>, RunFault>
-    ensures { WritesPart Mode.Kinds frame content.now
-        (record { bytes = W.taken writer.old; failures = W.failures writer.old })
-        (record { bytes = W.taken writer.new; failures = W.failures writer.new })
+    ensures { WritesPart Mode.Kinds frame content.now (W.told writer.old) (W.told writer.new)
         result }
 {
     let words = match messages.words(content) {
@@ -89,9 +88,7 @@ fn write_part<W: Sink>(
     content: &[u8],
 ) -> Result<Option<u16>, RunFault>
     requires { length content.now ≤ 67108864 }
-    ensures { WritesPart mode frame content.now
-        (record { bytes = W.taken writer.old; failures = W.failures writer.old })
-        (record { bytes = W.taken writer.new; failures = W.failures writer.new })
+    ensures { WritesPart mode frame content.now (W.told writer.old) (W.told writer.new)
         result }
 {
     match mode {
@@ -117,9 +114,7 @@ fn write_found<W: Sink>(
     ensures limits { decoder.new.limits ≡ decoder.old.limits }
     ensures answer { (bytes : List ℕ) (contents : List (List ℕ)) (parts : List ℕ) →
         StandsFor decoder.old bytes contents → given.old ≡ length contents → AreParts mode 1 contents parts →
-        Finds decoder.new mode
-        (record { bytes = W.taken writer.old; failures = W.failures writer.old })
-        (record { bytes = W.taken writer.new; failures = W.failures writer.new })
+        Finds decoder.new mode (W.told writer.old) (W.told writer.new)
         given.new bytes parts result }
 {
     loop {
@@ -160,11 +155,9 @@ fn write_parts<R: Source, W: Sink>(
     piece: &mut [u8],
 ) -> Result<Outcome, RunFault>
     requires { 0 < length piece.old }
-    ensures { PartsAnswer limits mode
-        (record { bytes = R.remaining reader.old; failures = R.failures reader.old })
-        (record { bytes = R.remaining reader.new; failures = R.failures reader.new })
-        (record { bytes = W.taken writer.old; failures = W.failures writer.old })
-        (record { bytes = W.taken writer.new; failures = W.failures writer.new })
+    ensures { PartsAnswer limits mode (R.told reader.old) (R.told reader.new)
+        (W.told writer.old)
+        (W.told writer.new)
         result }
 {
     let log = limits.log();
@@ -205,9 +198,7 @@ fn write_closing<W: Sink>(
     mode: Mode,
     outcome: &Outcome,
 ) -> Result<(), RunFault>
-    ensures { Tells
-        (record { bytes = W.taken writer.old; failures = W.failures writer.old })
-        (record { bytes = W.taken writer.new; failures = W.failures writer.new })
+    ensures { Tells (W.told writer.old) (W.told writer.new)
         (closing mode outcome.now) result }
 {
     if let Outcome::Stream { frame, fault } = outcome
@@ -235,16 +226,20 @@ pub fn run_frames<R: Source, W: Sink>(
     limits: Limits,
     mode: Mode,
 ) -> Result<Outcome, RunFault>
-    // What was written is what is due for the stream read, however it goes on where its end was not met.
-    ensures outcome { IfOk result (λ outcome. Ran limits mode
-        (R.remaining reader.old) (R.remaining reader.new) (W.taken writer.old) (W.taken writer.new) outcome) }
-    ensures done { result ≡ Ok Outcome.Done → IsAtEnd (R.remaining reader.new) }
+    // What is due for the stream read, however that goes on where its end was not met, is written, and
+    // nothing else.
+    ensures written { IfOk result (λ outcome. (out : List ℕ) × Took (W.told writer.old) (W.told writer.new) out
+        × OfRead limits (R.told reader.old) (R.told reader.new) (λ stream. IsRun limits mode stream out outcome)) }
+    // All was well only where the source's end was met.
+    ensures done { result ≡ Ok Outcome.Done → IsAtEnd (R.told reader.new).bytes }
 
-    // After a fault it is a prefix of that.
-    ensures fault { OnErr result (IsCutShort limits mode
-        (R.remaining reader.old) (R.remaining reader.new) (W.taken writer.old) (W.taken writer.new)) }
-    ensures read_fault { R.failures reader.new ≡ source_failures result (R.failures reader.old) }
-    ensures write_fault { W.failures writer.new ≡ sink_failures result (W.failures writer.old) }
+    // What is written before a fault begins what is due for the stream read.
+    ensures fault { OnErr result ((out : List ℕ) × Took (W.told writer.old) (W.told writer.new) out
+        × OfRead limits (R.told reader.old) (R.told reader.new) (λ stream. BeginsRun limits mode stream out)) }
+    ensures source_failures { (R.told reader.new).failures ≡ source_failures result (R.told reader.old).failures }
+    ensures sink_failures { (W.told writer.new).failures ≡ sink_failures result (W.told writer.old).failures }
+    // At most one byte past the limit is read.
+    ensures limit { GaveAtMost (limits.log + 1) (R.told reader.old) (R.told reader.new) }
 {
     let mut buffer = piece_buffer(alloc)?;
     let outcome = write_parts(alloc, reader, writer, limits, mode, buffer.as_mut_slice())?;

@@ -1,18 +1,19 @@
 //! The normal form of a log: each message as its canonical frame, in full records.
-ghost use Rattle.std.specs.Prelude.{◌≡◌, ◌<◌, ◌++◌, ◌∷◌, [], ℕ, List, None, Some, Ok, IfOk, OnErr};
+ghost use Rattle.std.specs.Prelude.{◌≡◌, ◌<◌, ◌+◌, ◌++◌, ◌∷◌, [], ℕ, List, None, Some, Ok, IfOk, OnErr};
 ghost use Rattle.std.specs.Io.KnownBytes.{IsAtEnd};
 ghost use Rattle.lsp_frame.specs.Bounds.{Bounds, profile};
 ghost use Rattle.lsp_frame.specs.Decoder.{StandsFor};
-ghost use Rattle.lsp_frame.specs.Sink.{Told, Wrote};
+ghost use Rattle.lsp_frame.specs.Sink.{Wrote};
+ghost use Rattle.lsp_frame.specs.Told.{Told, Took};
 ghost use Rattle.lsp_log.specs.Log as log;
 ghost use Rattle.lsp_log.specs.Log.{Fits, first_line};
 ghost use Rattle.lsp_log.specs.Reader.{ahead};
 ghost use Rattle.lsp_log.specs.Records.{record_view};
 ghost use Rattle.lsp_streams.specs.Normal as normal;
-ghost use Rattle.lsp_streams.specs.Normal.{Carries, first_broken, Normalizes, IsCutShort};
-ghost use Rattle.lsp_streams.specs.NormalSteps.{Counted, GivesContents, BringsRecords, Formed, FormsRecord, EndsWhole, IsReading, SoFar, StepAnswers};
+ghost use Rattle.lsp_streams.specs.Normal.{first_broken, EndsNormal, BeginsNormal};
+ghost use Rattle.lsp_streams.specs.NormalSteps.{Counted, CarriesCapped, GivesContents, BringsRecords, Formed, FormsRecord, EndsWhole, IsReading, SoFar, StepAnswers};
 ghost use Rattle.lsp_verdict.specs.Placed.{Raw};
-ghost use Rattle.lsp_verdict.specs.RunIo.{source_failures, sink_failures};
+ghost use Rattle.lsp_verdict.specs.RunIo.{OfRead, GaveAtMost, source_failures, sink_failures};
 ghost use Rattle.lsp_verdict.specs.Drained.{IsDrained};
 
 use crate::pieces::Pieces;
@@ -52,8 +53,8 @@ impl Streams {
     ) -> Result<Option<Outcome>, RunFault>
         requires { Fits profile (record_view entry.now) }
         ensures { (limits : Bounds) (start : Told) (records : List log.Record)
-            → Formed limits self.old start (record { bytes = W.taken writer.old; failures = W.failures writer.old }) records
-            → FormsRecord limits self.new start (record { bytes = W.taken writer.new; failures = W.failures writer.new })
+            → Formed limits self.old start (W.told writer.old) records
+            → FormsRecord limits self.new start (W.told writer.new)
             (records ++ record_view entry.now ∷ []) result }
     {
         match entry {
@@ -100,7 +101,7 @@ impl Streams {
 
 /// No at the event that comes next, with the number that the side's next message has.
 fn no_next(counts: &Counts, rule: u16, side: Side) -> Outcome
-    ensures { (raws : List Raw) → Counted counts.now raws → Carries result (Some (normal.no_next rule side raws)) }
+    ensures { (raws : List Raw) → Counted counts.now raws → CarriesCapped result (Some (normal.no_next rule side raws)) }
 {
     let who = who_of(side);
     let (number, event) = counts.next(who);
@@ -125,9 +126,7 @@ fn write_bytes<W: Sink>(
     ensures size { pieces.new ≡ pieces.old }
     ensures answer { (limits : Bounds) (sent : List ℕ) (before : List Raw) → decoder.old.limits ≡ limits → pieces.old ≡ limits.chunk
         → IsDrained decoder.old sent → Counted counts.old before → first_broken before ≡ None
-        → BringsRecords limits side decoder.new counts.new
-        (record { bytes = W.taken writer.old; failures = W.failures writer.old })
-        (record { bytes = W.taken writer.new; failures = W.failures writer.new })
+        → BringsRecords limits side decoder.new counts.new (W.told writer.old) (W.told writer.new)
         sent bytes.now before result }
 {
     decoder.push(bytes)?;
@@ -145,9 +144,7 @@ fn write_contents<W: Sink>(
     ensures limits { decoder.new.limits ≡ decoder.old.limits }
     ensures size { pieces.new ≡ pieces.old }
     ensures answer { (bytes : List ℕ) (contents : List (List ℕ)) (before : List Raw) → StandsFor decoder.old bytes contents → Counted counts.old before
-        → GivesContents side pieces.old decoder.new counts.new
-        (record { bytes = W.taken writer.old; failures = W.failures writer.old })
-        (record { bytes = W.taken writer.new; failures = W.failures writer.new })
+        → GivesContents side pieces.old decoder.new counts.new (W.told writer.old) (W.told writer.new)
         bytes contents before result }
 {
     loop {
@@ -173,11 +170,11 @@ fn write_next<R: Source, W: Sink>(
     ensures less { result ≡ Ok None → ahead log.new < ahead log.old }
     ensures answer { (limits : Bounds) (source sink : Told)
         → SoFar limits log.old streams.old
-        source (record { bytes = R.remaining reader.old; failures = R.failures reader.old })
-        sink (record { bytes = W.taken writer.old; failures = W.failures writer.old })
+        source (R.told reader.old)
+        sink (W.told writer.old)
         → StepAnswers limits log.new streams.new
-        source (record { bytes = R.remaining reader.new; failures = R.failures reader.new })
-        sink (record { bytes = W.taken writer.new; failures = W.failures writer.new })
+        source (R.told reader.new)
+        sink (W.told writer.new)
         result }
 {
     match log.next(reader) {
@@ -208,16 +205,20 @@ pub fn run_normal<R: Source, W: Sink>(
     writer: &mut W,
     limits: Limits,
 ) -> Result<Outcome, RunFault>
-    // What was written is the normal form of the log read, however it goes on where its end was not met.
-    ensures outcome { IfOk result (λ outcome. Normalizes limits
-        (R.remaining reader.old) (R.remaining reader.new) (W.taken writer.old) (W.taken writer.new) outcome) }
-    ensures done { result ≡ Ok Outcome.Done → IsAtEnd (R.remaining reader.new) }
+    // The normal form of the log read, however that goes on where its end was not met, is written, and
+    // nothing else; the outcome carries the fault that ends it.
+    ensures written { IfOk result (λ outcome. (out : List ℕ) × Took (W.told writer.old) (W.told writer.new) out
+        × OfRead limits (R.told reader.old) (R.told reader.new) (λ log. EndsNormal limits log out outcome)) }
+    // All was well only where the source's end was met.
+    ensures done { result ≡ Ok Outcome.Done → IsAtEnd (R.told reader.new).bytes }
 
-    // After a fault it is a prefix of that.
-    ensures fault { OnErr result (IsCutShort limits
-        (R.remaining reader.old) (R.remaining reader.new) (W.taken writer.old) (W.taken writer.new)) }
-    ensures read_fault { R.failures reader.new ≡ source_failures result (R.failures reader.old) }
-    ensures write_fault { W.failures writer.new ≡ sink_failures result (W.failures writer.old) }
+    // What is written before a fault begins the normal form of the log read.
+    ensures fault { OnErr result ((out : List ℕ) × Took (W.told writer.old) (W.told writer.new) out
+        × OfRead limits (R.told reader.old) (R.told reader.new) (λ log. BeginsNormal limits log out)) }
+    ensures source_failures { (R.told reader.new).failures ≡ source_failures result (R.told reader.old).failures }
+    ensures sink_failures { (W.told writer.new).failures ≡ sink_failures result (W.told writer.old).failures }
+    // At most one byte past the limit is read.
+    ensures limit { GaveAtMost (limits.log + 1) (R.told reader.old) (R.told reader.new) }
 {
     write_head(writer)?;
     let mut log = LogReader::new(alloc, limits);

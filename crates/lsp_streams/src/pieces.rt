@@ -56,9 +56,7 @@ impl Pieces {
         content: &[u8],
     ) -> Result<(), RunFault>
         ensures size { self.new ≡ self.old }
-        ensures tells { Tells
-            (record { bytes = W.taken writer.old; failures = W.failures writer.old })
-            (record { bytes = W.taken writer.new; failures = W.failures writer.new })
+        ensures tells { Tells (W.told writer.old) (W.told writer.new)
             (flat_map spelling (chunks self.old side (canonical content.now))) result }
     {
         fill_head(&mut self.head, content.len())?;
@@ -87,8 +85,8 @@ fn write_cut<W: Sink>(
     back: &[u8],
 ) -> Result<(), WriteFault>
     requires { 0 < size }
-    ensures { Writes (record { bytes = W.taken writer.old; failures = W.failures writer.old })
-        (record { bytes = W.taken writer.new; failures = W.failures writer.new })
+    ensures { Writes (W.told writer.old)
+        (W.told writer.new)
         result (flat_map spelling (chunks size side (front.now ++ back.now))) }
 {
     let mut front = front;
@@ -112,8 +110,8 @@ fn put_chunk<W: Sink>(
     front: &[u8],
     back: &[u8],
 ) -> Result<(), WriteFault>
-    ensures { Writes (record { bytes = W.taken writer.old; failures = W.failures writer.old })
-        (record { bytes = W.taken writer.new; failures = W.failures writer.new })
+    ensures { Writes (W.told writer.old)
+        (W.told writer.new)
         result (spelling (chunk side (front.now ++ back.now))) }
 {
     put_head_line(writer, side, front.len() as u64 + back.len() as u64)?;
@@ -124,8 +122,8 @@ fn put_chunk<W: Sink>(
 
 /// Writes the first line of a record of so many bytes.
 fn put_head_line<W: Sink>(writer: &mut W, side: Side, len: u64) -> Result<(), WriteFault>
-    ensures { Writes (record { bytes = W.taken writer.old; failures = W.failures writer.old })
-        (record { bytes = W.taken writer.new; failures = W.failures writer.new })
+    ensures { Writes (W.told writer.old)
+        (W.told writer.new)
         result (with_feed (head_line (chunk_head side len))) }
 {
     put_all(writer, letter(side))?;

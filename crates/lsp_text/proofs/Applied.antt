@@ -1,8 +1,8 @@
 -- Changes made one after another.
 use Rattle.std.proofs.Common.{◌≡◌, ◌<◌, ◌+◌, ℕ, List, [], ◌∷◌, ◌++◌, length, take, drop, get_or, Result, Ok, Err, refl, sym, ap, subst, ◌∙◌}
 use Rattle.std.proofs.lemmas.List.{at_drop_more, map_more, take-map}
-use Rattle.lsp_rpc.specs.declared.plain.Encoding.{Encoding}
-use Rattle.lsp_rpc.specs.declared.act.Change.{Change}
+use Rattle.lsp_types.specs.declared.position.Encoding.{Encoding}
+use Rattle.lsp_types.specs.declared.change.Change.{Change}
 use Rattle.lsp_text.specs.declared.fault.TextFault.{TextFault}
 use Rattle.lsp_text.specs.declared.fault.TextFault.TheVariants.{Rule, Memory}
 use Rattle.lsp_text.specs.Edits.{Edit, changed, and_then, applied, IsFaultOf, MakesFirst}

@@ -9,7 +9,7 @@ use Rattle.std.proofs.lemmas.Bool.Decides.{nat_tests}
 use Rattle.std.proofs.lemmas.List.Sums.{sum_by-append}
 use lib.Utf8.{encodes, encode}
 use mir.Val.{bool_byte}
-use Rattle.lsp_rpc.specs.declared.plain.Encoding.TheVariants.{Utf16}
+use Rattle.lsp_types.specs.declared.position.Encoding.TheVariants.{Utf16}
 use Rattle.lsp_text.specs.Places.{units, units_of_char}
 
 below : ℕ → List ℕ → ℕ

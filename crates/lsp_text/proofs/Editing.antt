@@ -5,9 +5,9 @@ use Rattle.std.proofs.lemmas.Bool.{false≢true, cond-true, cond-false, lt-ltb, 
 use Rattle.std.proofs.lemmas.Str.{len_utf8_bounds, chars-append, scalars-chars, IsUtf8-append, IsCharBoundary-at_seam}
 use Rattle.std.specs.Str.{chars, IsUtf8, IsCharBoundary}
 use lib.Utf8.{scalars}
-use Rattle.lsp_rpc.specs.declared.plain.Encoding.{Encoding}
-use Rattle.lsp_rpc.specs.declared.plain.Encoding.TheVariants.{Utf8}
-use Rattle.lsp_rpc.specs.declared.plain.Span.{Span}
+use Rattle.lsp_types.specs.declared.position.Encoding.{Encoding}
+use Rattle.lsp_types.specs.declared.position.Encoding.TheVariants.{Utf8}
+use Rattle.lsp_types.specs.declared.position.Span.{Span}
 use Rattle.lsp_text.specs.Lines.{Line, spelled, text_of, lines_of}
 use Rattle.lsp_text.specs.Places.{units, place_of}
 use Rattle.lsp_text.specs.Edits.{splice, limited, spliced, replaced}

@@ -4,7 +4,7 @@ use Rattle.std.proofs.lemmas.List.{append-nil, take-append-drop, at_drop_more, t
 use Rattle.std.specs.Str.{chars, IsUtf8}
 use Rattle.std.proofs.lemmas.Str.{encodes-chars, encodes-append, chars_from_encodes, len_utf8_bounds}
 use lib.Utf8.{encodes}
-use Rattle.lsp_rpc.specs.declared.plain.Encoding.TheVariants.{Utf8}
+use Rattle.lsp_types.specs.declared.position.Encoding.TheVariants.{Utf8}
 use Rattle.lsp_text.specs.Lines.{Line, spelled, text_of}
 use Rattle.lsp_text.specs.Places.{units}
 use Rattle.lsp_text.proofs.Cuts.{text_of-append}

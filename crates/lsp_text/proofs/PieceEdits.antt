@@ -6,7 +6,7 @@ use Rattle.std.specs.Str.{chars, IsUtf8, IsCharBoundary}
 use Rattle.std.proofs.lemmas.Str.{scalars-chars, chars-encodes, encodes-append, IsUtf8-append, IsCharBoundary-at_seam}
 use Rattle.std.proofs.lemmas.Bool.{and_parts, and_from}
 use lib.Utf8.{encodes, scalar, scalars}
-use Rattle.lsp_rpc.specs.declared.plain.Encoding.TheVariants.{Utf8}
+use Rattle.lsp_types.specs.declared.position.Encoding.TheVariants.{Utf8}
 use Rattle.lsp_text.specs.Lines.{Line, spelled, open_line}
 use Rattle.lsp_text.specs.Places.{units}
 use Rattle.lsp_text.specs.Rewriting.{with_text}

@@ -5,8 +5,8 @@ use Rattle.std.specs.List.{slice_get}
 use Rattle.std.specs.Option.{option_map}
 use Rattle.std.specs.Str.{chars, IsUtf8, IsCharBoundary}
 use Rattle.std.proofs.lemmas.Str.{chars-append, chars-nil, IsUtf8-append, IsUtf8-take, IsUtf8-drop, IsUtf8-nil, IsCharBoundary-start, IsCharBoundary-end, IsCharBoundary-at_seam, IsCharBoundary-from_rest}
-use Rattle.lsp_rpc.specs.declared.plain.Encoding.{Encoding}
-use Rattle.lsp_rpc.specs.declared.plain.Position.{Position}
+use Rattle.lsp_types.specs.declared.position.Encoding.{Encoding}
+use Rattle.lsp_types.specs.declared.position.Position.{Position}
 use Rattle.lsp_text.specs.declared.cut.FirstLine.{FirstLine}
 use Rattle.lsp_text.specs.Lines.{Line, open_line, spelled, text_of, lines_of, has_no_line_end, IsEndBefore, IsCut}
 use Rattle.lsp_text.specs.Places.{place_of, place_at, place_in_line}

@@ -6,7 +6,7 @@ use Rattle.lsp_text.specs.Lines.{Line, open_line, text_of, lines_of, starts_with
 use Rattle.lsp_text.specs.Rewriting.{but_last, rewritten, StandsApart}
 use Rattle.lsp_text.proofs.Cuts.{HasFirst, text_of-append}
 use Rattle.lsp_text.proofs.Positions.{text_of-lines_of}
-use Rattle.lsp_rpc.specs.declared.plain.Encoding.TheVariants.{Utf8}
+use Rattle.lsp_types.specs.declared.position.Encoding.TheVariants.{Utf8}
 use Rattle.lsp_text.specs.Places.{units}
 use Rattle.lsp_text.proofs.Counting.{units-append}
 use Rattle.lsp_text.proofs.Recut.{AreLines-lines_of, EndsLine, ends_line, recut_inside, recut_last, text_of-open}

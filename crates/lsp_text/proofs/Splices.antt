@@ -5,9 +5,9 @@ use Rattle.std.proofs.lemmas.Bool.{cond-true, cond-false, lt-ltb, le-ltb}
 use Rattle.std.specs.List.{replace_range}
 use Rattle.std.specs.Str.{chars, IsUtf8, IsCharBoundary}
 use Rattle.std.proofs.lemmas.Str.{chars-append, IsUtf8-append, IsUtf8-take, IsUtf8-drop, IsUtf8-between}
-use Rattle.lsp_rpc.specs.declared.plain.Encoding.{Encoding}
-use Rattle.lsp_rpc.specs.declared.plain.Encoding.TheVariants.{Utf8}
-use Rattle.lsp_rpc.specs.declared.plain.Span.{Span}
+use Rattle.lsp_types.specs.declared.position.Encoding.{Encoding}
+use Rattle.lsp_types.specs.declared.position.Encoding.TheVariants.{Utf8}
+use Rattle.lsp_types.specs.declared.position.Span.{Span}
 use Rattle.lsp_text.specs.Places.{place_of, units}
 use Rattle.lsp_text.specs.Offsets.{IsTextOffset}
 use Rattle.lsp_text.specs.Edits.{splice, limited, spliced, replaced}

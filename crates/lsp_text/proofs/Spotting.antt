@@ -5,9 +5,9 @@ use Rattle.std.specs.Option.{option_map}
 use Rattle.std.specs.Str.{chars, IsUtf8, IsCharBoundary}
 use Rattle.std.proofs.lemmas.Str.{encodes-append, chars-encodes, IsUtf8-take, IsUtf8-drop, IsCharBoundary-at_seam, IsCharBoundary-end}
 use lib.Utf8.{encodes, scalars}
-use Rattle.lsp_rpc.specs.declared.plain.Encoding.{Encoding}
-use Rattle.lsp_rpc.specs.declared.plain.Encoding.TheVariants.{Utf8}
-use Rattle.lsp_rpc.specs.declared.plain.Position.{Position}
+use Rattle.lsp_types.specs.declared.position.Encoding.{Encoding}
+use Rattle.lsp_types.specs.declared.position.Encoding.TheVariants.{Utf8}
+use Rattle.lsp_types.specs.declared.position.Position.{Position}
 use Rattle.lsp_text.specs.Lines.{Line, open_line, spelled, text_of, lines_of}
 use Rattle.lsp_text.specs.Places.{units, place_of, place_at, place_in_line}
 use Rattle.lsp_text.specs.Offsets.{IsOffset}

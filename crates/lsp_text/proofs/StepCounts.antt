@@ -3,8 +3,8 @@ use Rattle.std.proofs.Common.{◌≡◌, ◌<◌, ◌≤◌, ◌+◌, ◌-◌, �
 use Rattle.std.proofs.lemmas.List.{append-nil, drop-drop, drop_more}
 use Rattle.std.specs.Prelude.{min, max}
 use Rattle.std.specs.Str.{chars, IsUtf8}
-use Rattle.lsp_rpc.specs.declared.plain.Encoding.TheVariants.{Utf8}
-use Rattle.lsp_rpc.specs.declared.plain.Span.{Span}
+use Rattle.lsp_types.specs.declared.position.Encoding.TheVariants.{Utf8}
+use Rattle.lsp_types.specs.declared.position.Span.{Span}
 use Rattle.lsp_text.specs.Lines.{Line, open_line, spelled, text_of, lines_of}
 use Rattle.lsp_text.specs.Places.{units}
 use Rattle.lsp_text.specs.Steps.{raised, line_at, RisesWithin, line_bytes, line_number, bytes_about, touched}

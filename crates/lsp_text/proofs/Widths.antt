@@ -7,8 +7,8 @@ use Rattle.std.proofs.lemmas.Str.{len_utf8_bounds, IsUtf8-take, IsUtf8-drop, IsC
 use Rattle.std.specs.Option.{option_map}
 use Rattle.std.specs.Str.{chars, IsUtf8, IsCharBoundary}
 use lib.Utf8.{encodes}
-use Rattle.lsp_rpc.specs.declared.plain.Encoding.{Encoding}
-use Rattle.lsp_rpc.specs.declared.plain.Encoding.TheVariants.{Utf8, Utf16, Utf32}
+use Rattle.lsp_types.specs.declared.position.Encoding.{Encoding}
+use Rattle.lsp_types.specs.declared.position.Encoding.TheVariants.{Utf8, Utf16, Utf32}
 use Rattle.lsp_text.specs.Places.{units, units_of_char, place_in_line}
 use Rattle.lsp_text.specs.Offsets.{IsOffset, IsSkipped}
 use Rattle.lsp_text.proofs.Counting.{units-append, units-utf8, units-utf8_text, is_offset, seam}

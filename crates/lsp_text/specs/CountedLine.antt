@@ -2,7 +2,7 @@
 use Rattle.std.specs.Prelude.{◌≡◌, take, drop, length}
 use Rattle.std.specs.Str.{chars, IsCharBoundary}
 use Rattle.std.specs.String.{string_bytes}
-use Rattle.lsp_rpc.specs.declared.plain.Encoding.TheVariants.{Utf8, Utf16}
+use Rattle.lsp_types.specs.declared.position.Encoding.TheVariants.{Utf8, Utf16}
 use Rattle.lsp_text.specs.Lines.{Line}
 use Rattle.lsp_text.specs.Places.{units}
 use Rattle.lsp_text.specs.declared.lined.counted.CountedLine.TheInside.{Inside}

@@ -4,9 +4,9 @@ use Rattle.std.specs.declared.option.Option.{Option}
 use Rattle.std.specs.declared.option.Option.TheVariants.{Some, None}
 use Rattle.std.specs.declared.result.Result.{Result}
 use Rattle.std.specs.declared.result.Result.TheVariants.{Ok, Err}
-use Rattle.lsp_rpc.specs.declared.plain.Encoding.{Encoding}
-use Rattle.lsp_rpc.specs.declared.plain.Encoding.TheVariants.{Utf8}
-use Rattle.lsp_rpc.specs.declared.plain.Span.{Span}
+use Rattle.lsp_types.specs.declared.position.Encoding.{Encoding}
+use Rattle.lsp_types.specs.declared.position.Encoding.TheVariants.{Utf8}
+use Rattle.lsp_types.specs.declared.position.Span.{Span}
 use Rattle.lsp_text.specs.declared.fault.TextFault.{TextFault}
 use Rattle.lsp_text.specs.declared.fault.TextFault.TheVariants.{Rule, Memory}
 use Rattle.lsp_text.specs.declared.store.Place.{Place}

@@ -1,6 +1,6 @@
 -- What always holds of kept lines.
 use Rattle.std.specs.Prelude.{◌≡◌, ◌<◌, ◌^◌}
-use Rattle.lsp_rpc.specs.declared.plain.Encoding.TheVariants.{Utf8}
+use Rattle.lsp_types.specs.declared.position.Encoding.TheVariants.{Utf8}
 use Rattle.lsp_text.specs.Lines.{lines_of, text_of}
 use Rattle.lsp_text.specs.Places.{units}
 use Rattle.lsp_text.specs.declared.lined.lines.Lines.TheInside.{Inside}

@@ -1,7 +1,7 @@
 -- What a line in pieces stands for.
 use Rattle.std.specs.Prelude.{◌≡◌, ◌<◌, ◌+◌, ◌^◌, true, ◌++◌, length}
 use lib.Utf8.{scalars}
-use Rattle.lsp_rpc.specs.declared.plain.Encoding.TheVariants.{Utf8}
+use Rattle.lsp_types.specs.declared.position.Encoding.TheVariants.{Utf8}
 use Rattle.lsp_text.specs.Lines.{Line, spelled}
 use Rattle.lsp_text.specs.Places.{units}
 use Rattle.lsp_text.specs.Pieces.{bodies, pieces_in, bytes_in}

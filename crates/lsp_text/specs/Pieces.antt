@@ -3,8 +3,8 @@ use Rattle.std.specs.Prelude.{◌≡◌, ◌<◌, ◌≤◌, ◌+◌, ℕ, List,
 use Rattle.std.specs.List.{flat_map, replace_range}
 use Rattle.std.specs.Str.{chars}
 use lib.Utf8.{encodes}
-use Rattle.lsp_rpc.specs.declared.plain.Encoding.{Encoding}
-use Rattle.lsp_rpc.specs.declared.plain.Encoding.TheVariants.{Utf8}
+use Rattle.lsp_types.specs.declared.position.Encoding.{Encoding}
+use Rattle.lsp_types.specs.declared.position.Encoding.TheVariants.{Utf8}
 use Rattle.lsp_text.specs.Lines.{Line, open_line}
 use Rattle.lsp_text.specs.Places.{units}
 use Rattle.lsp_text.specs.Rewriting.{with_text}

@@ -3,7 +3,7 @@ use Rattle.std.specs.Prelude.{◌≡◌, ◌⊎◌, ◌+◌, ◌-◌, ◌<◌, �
 use Rattle.std.specs.List.{replace_range}
 use Rattle.std.specs.Str.{chars, IsCharBoundary}
 use lib.Utf8.{encodes, scalars}
-use Rattle.lsp_rpc.specs.declared.plain.Encoding.TheVariants.{Utf8}
+use Rattle.lsp_types.specs.declared.position.Encoding.TheVariants.{Utf8}
 use Rattle.lsp_text.specs.Lines.{Line, lines_of, text_of, spelled, starts_with_feed, has_no_line_end, IsEndBefore}
 use Rattle.lsp_text.specs.Places.{units}
 use Rattle.lsp_text.specs.Steps.{line_at}

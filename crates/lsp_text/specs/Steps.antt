@@ -1,8 +1,8 @@
 -- Steps of an edit.
 use Rattle.std.specs.Prelude.{◌≡◌, ◌≤◌, ℕ, ◌+◌, ◌-◌, ◌^◌, List, [], length, min, max, slice_range, slice_index_or}
-use Rattle.lsp_rpc.specs.declared.plain.Encoding.TheVariants.{Utf8}
-use Rattle.lsp_rpc.specs.declared.plain.Position.{Position}
-use Rattle.lsp_rpc.specs.declared.plain.Span.{Span}
+use Rattle.lsp_types.specs.declared.position.Encoding.TheVariants.{Utf8}
+use Rattle.lsp_types.specs.declared.position.Position.{Position}
+use Rattle.lsp_types.specs.declared.position.Span.{Span}
 use Rattle.lsp_text.specs.Lines.{Line, open_line, lines_of, text_of, spelled}
 use Rattle.lsp_text.specs.Places.{units}
 

@@ -7,7 +7,7 @@ ghost use Rattle.lsp_text.specs.Changes.{edits_of};
 
 use crate::fault::TextFault;
 use crate::store::TextStore;
-use lsp_rpc::{Change, Encoding, Span};
+use lsp_types::{Change, Encoding, Span};
 
 /// Makes a change: of the characters of a span where there is one, and else of the whole text (LSP 3.17,
 /// "TextDocumentContentChangeEvent"). The limit is in bytes of UTF-8. A refused change leaves the text.

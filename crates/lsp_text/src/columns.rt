@@ -6,7 +6,7 @@ ghost use Rattle.lsp_text.specs.Places.{units, units_of_char, place_in_line};
 ghost use Rattle.lsp_text.specs.Offsets.{IsOffset, IsSkipped};
 
 use crate::counts::measure;
-use lsp_rpc::Encoding;
+use lsp_types::Encoding;
 
 /// The bytes of which the units are counted at once.
 const CHUNK: usize = 512;

@@ -5,7 +5,7 @@ ghost use Rattle.std.specs.Str.{chars};
 ghost use Rattle.lsp_text.specs.Places.{units};
 
 use crate::lanes::count_below;
-use lsp_rpc::Encoding;
+use lsp_types::Encoding;
 
 /// How many characters (Unicode scalar values) a text has, and how many units of UTF-16.
 #[derive(Clone, Copy, Debug, PartialEq, Eq)]

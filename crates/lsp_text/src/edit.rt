@@ -13,7 +13,7 @@ ghost use lib.Utf8.{encodes, scalars};
 use crate::fault::{INSIDE_CHARACTER, OVER_LIMIT, REVERSED, TextFault};
 use crate::lined::lines::{Lines, Steps};
 use crate::spot::Spot;
-use lsp_rpc::{Encoding, Position, Span};
+use lsp_types::{Encoding, Position, Span};
 use memchr::memchr2;
 use std::alloc::{AllocError, Global};
 

@@ -16,7 +16,7 @@ use crate::fault::{INSIDE_CHARACTER, OVER_LIMIT, TextFault};
 use crate::spot::Spot;
 use crate::store::{Place, TextStore};
 use lines::{Lines, Steps};
-use lsp_rpc::{Encoding, Memory, Position, Span};
+use lsp_types::{Encoding, Memory, Position, Span};
 use std::alloc::Global;
 use std::marker::Model;
 

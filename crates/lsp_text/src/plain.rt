@@ -11,7 +11,7 @@ use crate::counts::measure;
 use crate::cut::FirstLine;
 use crate::fault::{INSIDE_CHARACTER, OVER_LIMIT, REVERSED, TextFault};
 use crate::store::{Place, TextStore};
-use lsp_rpc::{Encoding, Memory, Position, Span};
+use lsp_types::{Encoding, Memory, Position, Span};
 use std::alloc::Global;
 use std::marker::Model;
 

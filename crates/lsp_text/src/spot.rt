@@ -6,7 +6,7 @@ ghost use Rattle.lsp_text.specs.Steps.{line_at, line_number};
 
 use crate::lined::lines::Lines;
 use crate::lined::pieced::PiecedLine;
-use lsp_rpc::{Encoding, Position};
+use lsp_types::{Encoding, Position};
 
 /// A place in a line that is lent: how many of its bytes stand before it.
 #[derive(Clone, Copy)]

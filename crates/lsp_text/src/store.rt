@@ -8,7 +8,7 @@ ghost use Rattle.lsp_text.specs.Places.{units, place_of};
 ghost use Rattle.lsp_text.specs.Edits.{replaced, limited, IsFaultOf, IsPlaceOr605};
 
 use crate::fault::TextFault;
-use lsp_rpc::{Encoding, Memory, Position, Span};
+use lsp_types::{Encoding, Memory, Position, Span};
 use std::alloc::Global;
 
 /// A place in a text, between two characters or at its ends: the characters (Unicode scalar values) before it.

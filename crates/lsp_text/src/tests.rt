@@ -1,7 +1,7 @@
 //! Tables of positions, edits and counts, over both stores.
 
 use crate::{Counts, Lined, Place, Plain, TextFault, TextStore, change, change_all, measure};
-use lsp_rpc::{Change, Encoding, Position, Span};
+use lsp_types::{Change, Encoding, Position, Span};
 use std::alloc::Global;
 use std::process::Abort;
 use std::test::Fail;

@@ -12,9 +12,9 @@ use Rattle.lsp_verdict.specs.Event.{Event}
 use Rattle.lsp_verdict.specs.Verdict.{verdict, no}
 use Rattle.lsp_verdict.specs.declared.verdict.Who.TheVariants as who
 use Rattle.lsp_verdict.proofs.Templates.{clean, judged, Kept, kept_of, kept, I1, IE, A, N1, START, OPEN, CHG, REP, FULL, CLOSE, SAVE, T}
-use Rattle.lsp_rpc.specs.declared.plain.Encoding.{Encoding}
-use Rattle.lsp_rpc.specs.declared.plain.Encoding.TheVariants.{Utf8, Utf32}
-use Rattle.lsp_rpc.specs.declared.plain.SyncKind.TheVariants.{Incremental}
+use Rattle.lsp_types.specs.declared.position.Encoding.{Encoding}
+use Rattle.lsp_types.specs.declared.position.Encoding.TheVariants.{Utf8, Utf32}
+use Rattle.lsp_types.specs.declared.change.SyncKind.TheVariants.{Incremental}
 
 -- ---- positions and edits
 

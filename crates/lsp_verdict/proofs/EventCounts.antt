@@ -7,14 +7,14 @@ use Rattle.std.proofs.lemmas.List.Sums.{length-filter, count_by-le-length}
 use Rattle.lsp_frame.specs.Bounds.{Bounds}
 use Rattle.lsp_frame.specs.Frame.{Frames, IsStream}
 use Rattle.lsp_frame.specs.Header.{blank_line}
-use Rattle.lsp_rpc.specs.declared.plain.Side.{Side}
-use Rattle.lsp_rpc.specs.declared.plain.Side.TheVariants.{Editor, Server}
+use Rattle.lsp_types.specs.declared.side.Side.{Side}
+use Rattle.lsp_types.specs.declared.side.Side.TheVariants.{Editor, Server}
 use Rattle.lsp_docs.specs.Calls.{Call, opens, changes, closes, saves, shows}
 use Rattle.lsp_docs.specs.Snapshots.{unmatched_entry, unmatched_in, is_compared}
 use Rattle.lsp_log.specs.Log.{Record, chunk, shown, spelling, with_feed, head_line, head_of, parts_of, first_line, BeginsLog}
 use Rattle.lsp_verdict.specs.Event.{Event}
 use Rattle.lsp_verdict.specs.LookBack.{each_from}
-use Rattle.lsp_verdict.specs.Placed.{Raw, content, Brings, new_fault, PlacedAfter, Reads, IsSession}
+use Rattle.lsp_verdict.specs.Placed.{Raw, content, Brings, new_fault, PlacedAfter, Placed, Reads}
 use Rattle.lsp_verdict.proofs.Below.{one_stream, some_stream}
 
 -- ---- contents
@@ -116,21 +116,20 @@ weight_few : (records : List Record) → weight records ≤ length (flat_map spe
 weight_few [] = omega arith
 weight_few (r ∷ records) = omega (arith, weight_next r records, weight_few records, spelled r, length-append (spelling r) (flat_map spelling records))
 
-read_one : (raws : List Raw) (events : List Event) → AllZip Reads raws events → length raws ≡ length events
+pub read_one : (raws : List Raw) (events : List Event) → AllZip Reads raws events → length raws ≡ length events
 read_one [] [] p = refl
 read_one [] (e ∷ es) p = absurd p
 read_one (raw ∷ raws) [] p = absurd p
 read_one (raw ∷ raws) (e ∷ es) p = omega (arith, read_one raws es p.1)
 
 -- a log has no more events than bytes
-pub events_few : (limits : Bounds) (log : List ℕ) (records : List Record) (rest : List ℕ) (events : List Event) → BeginsLog limits log records rest → IsSession limits records events → length events ≤ limits.log
-events_few limits log records rest events begins session =
+pub raws_few : (limits : Bounds) (log : List ℕ) (records : List Record) (rest : List ℕ) (raws : List Raw) → BeginsLog limits log records rest → Placed limits records raws → length raws ≤ limits.log
+raws_few limits log records rest raws begins placed =
     let none = some_stream limits [] in
     omega (
       arith,
-      placed_few limits [] [] records session.0 none.0 none.0 none.1 none.1 none.2 none.2 none.3 none.3 session.1,
+      placed_few limits [] [] records raws none.0 none.0 none.1 none.1 none.2 none.2 none.3 none.3 placed,
       weight_few records,
-      read_one session.0 events session.2,
       ap length begins.whole,
       length-take limits.log log,
       length-append (first_line ++ flat_map spelling records) rest,

@@ -1,12 +1,12 @@
 -- The counts of a verdict on a log are exact.
-use Rattle.std.proofs.Common.{◌≡◌, ◌⊎◌, ℕ, ◌+◌, ◌≤◌, ◌<◌, ◌^◌, List, [], ◌∷◌, ◌++◌, Option, Some, None, inl, inr, refl, sym, ap, subst, ◌∙◌, length, length-append, arith}
-use Rattle.std.specs.List.{flat_map, AllZip}
+use Rattle.std.proofs.Common.{◌≡◌, ◌⊎◌, ℕ, ◌+◌, ◌≤◌, ◌<◌, ◌^◌, List, [], ◌∷◌, ◌++◌, Option, Some, None, inl, inr, sym, ap, subst, ◌∙◌, length, length-append, arith}
+use Rattle.std.specs.List.{flat_map}
 use Rattle.std.proofs.lemmas.List.{length-take}
 use Rattle.std.proofs.lemmas.Option.{same_Some}
 use Rattle.lsp_frame.specs.Bounds.{Bounds, IsInRange}
 use Rattle.lsp_docs.specs.Snapshots.{unmatched}
 use Rattle.lsp_docs.specs.State.{capped}
-use Rattle.lsp_rpc.specs.declared.plain.Side.TheVariants.{Editor, Server}
+use Rattle.lsp_types.specs.declared.side.Side.TheVariants.{Editor, Server}
 use Rattle.lsp_log.specs.declared.fault.LogCode.{LogCode}
 use Rattle.lsp_log.specs.Log.{Record, spelling, with_feed, head_line, head_of, parts_of, first_line, IsLog}
 use Rattle.lsp_verdict.specs.declared.verdict.Who.{Who}
@@ -16,9 +16,9 @@ use Rattle.lsp_verdict.specs.Event.{Event}
 use Rattle.lsp_verdict.specs.Given.{as_given}
 use Rattle.lsp_verdict.specs.Headline.{Names, HasRest107}
 use Rattle.lsp_verdict.specs.Outcome.{ending, IsVerdict}
-use Rattle.lsp_verdict.specs.Placed.{Raw, Reads, IsSession}
+use Rattle.lsp_verdict.specs.Placed.{Raw, Placed, IsSession}
 use Rattle.lsp_verdict.specs.Verdict.{Verdict, Summary, yes, no, bad_log, summary, is_of, is_snapshot, belongs_to, count_of, whose, no_next}
-use Rattle.lsp_verdict.proofs.EventCounts.{events_few, count_few, unmatched_events}
+use Rattle.lsp_verdict.proofs.EventCounts.{raws_few, read_one, count_few, unmatched_events}
 use Rattle.lsp_verdict.proofs.Meanings.{bad_log_has, final_no}
 use Rattle.lsp_verdict.proofs.Verdicts.{is_yes, yes_where}
 
@@ -37,20 +37,15 @@ pub records_fewer : (rs : List Record) → length rs ≤ length (flat_map spelli
 records_fewer [] = omega arith
 records_fewer (r ∷ rs) = omega (arith, records_fewer rs, spelling_some r, length-append (spelling r) (flat_map spelling rs))
 
-no_events : (limits : Bounds) (records : List Record) (events : List Event) → records ≡ [] → IsSession limits records events → events ≡ []
-no_events limits records events none session =
-    let s : IsSession limits [] events = subst (λ (rs : List Record). IsSession limits rs events) none session in
-    nothing s.0 events s.1 s.2
-  where
-    nothing : (raws : List Raw) (es : List Event) → raws ≡ [] → AllZip Reads raws es → es ≡ []
-    nothing [] [] e p = refl
-    nothing [] (x ∷ es) e p = absurd p
-    nothing (raw ∷ raws) es e p = absurd cc
-
 -- a log has no more events than bytes
+pub raws_within : (limits : Bounds) (log : List ℕ) (records : List Record) (flaw : Option (ℕ × LogCode)) (raws : List Raw) → IsLog limits log records flaw → Placed limits records raws → length raws ≤ limits.log
+raws_within limits log records flaw raws (inl (code, has, is)) placed = raws_few limits log records has.rest raws has.begins placed
+raws_within limits log records flaw raws (inr (none, flawed, missing)) placed =
+    let nothing : raws ≡ [] = subst (λ (rs : List Record). Placed limits rs raws) none placed in
+    omega (arith, ap length nothing)
+
 pub events_within : (limits : Bounds) (log : List ℕ) (records : List Record) (flaw : Option (ℕ × LogCode)) (events : List Event) → IsLog limits log records flaw → IsSession limits records events → length events ≤ limits.log
-events_within limits log records flaw events (inl (code, has, is)) session = events_few limits log records has.rest events has.begins session
-events_within limits log records flaw events (inr (none, flawed, missing)) session = omega (arith, ap length (no_events limits records events none session))
+events_within limits log records flaw events is_log session = omega (arith, raws_within limits log records flaw session.0 is_log session.1, read_one session.0 events session.2)
 
 -- ---- verdicts
 

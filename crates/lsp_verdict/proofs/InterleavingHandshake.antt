@@ -8,8 +8,8 @@ use Rattle.lsp_rpc.specs.Ident.{Ident, same_id}
 use Rattle.lsp_rpc.specs.Act.{Act, Offer, initialize}
 use Rattle.lsp_rpc.specs.Message.{Message, request, notification, response, Reply, result, error}
 use Rattle.lsp_rpc.specs.Params.{act_at}
-use Rattle.lsp_rpc.specs.declared.plain.Side.{Side}
-use Rattle.lsp_rpc.specs.declared.plain.Side.TheVariants.{Editor, Server}
+use Rattle.lsp_types.specs.declared.side.Side.{Side}
+use Rattle.lsp_types.specs.declared.side.Side.TheVariants.{Editor, Server}
 use Rattle.lsp_session.specs.ByState as by_state
 use Rattle.lsp_session.specs.Entry as entry
 use Rattle.lsp_session.specs.Entry.{Entry, new_entry}

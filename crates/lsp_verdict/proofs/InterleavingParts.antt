@@ -6,8 +6,8 @@ use Rattle.std.specs.Option.{option_or}
 use Rattle.std.proofs.lemmas.List.Elements.{All-nil, All-cons, All-head, All-tail, All-filter}
 use Rattle.serde_json.specs.Data.{Data}
 use Rattle.lsp_rpc.specs.Params.{act_at}
-use Rattle.lsp_rpc.specs.declared.plain.Side.{Side}
-use Rattle.lsp_rpc.specs.declared.plain.Side.TheVariants.{Editor, Server}
+use Rattle.lsp_types.specs.declared.side.Side.{Side}
+use Rattle.lsp_types.specs.declared.side.Side.TheVariants.{Editor, Server}
 use Rattle.lsp_session.specs.Handshake.{result_of}
 use Rattle.lsp_session.specs.Sent.{Sent, same_side}
 use Rattle.lsp_verdict.specs.Event.{Event, message, fault, snapshot, sent_of, sent_in}

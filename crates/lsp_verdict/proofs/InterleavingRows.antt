@@ -8,7 +8,7 @@ use Rattle.json.specs.Lex.{punctuate, lex}
 use Rattle.json.specs.Text.{content}
 use Rattle.json.specs.Word.{word, after_number}
 use Rattle.serde_json.specs.Read.{number_of}
-use Rattle.lsp_rpc.specs.declared.plain.Side.TheVariants.{Editor, Server}
+use Rattle.lsp_types.specs.declared.side.Side.TheVariants.{Editor, Server}
 use Rattle.lsp_verdict.specs.Event.{Event, sent_in}
 use Rattle.lsp_verdict.specs.Interleaving.{AreInterleavings, IsRead, first_result, is_order_rule, own}
 use Rattle.lsp_verdict.specs.Verdict.{no}

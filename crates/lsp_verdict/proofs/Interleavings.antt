@@ -9,8 +9,8 @@ use Rattle.serde_json.specs.Data.{Data}
 use Rattle.lsp_rpc.specs.Act.{Act}
 use Rattle.lsp_rpc.specs.Ident.{Ident}
 use Rattle.lsp_rpc.specs.Message.{Message, request, notification, response, Reply}
-use Rattle.lsp_rpc.specs.declared.plain.Side.{Side}
-use Rattle.lsp_rpc.specs.declared.plain.Side.TheVariants.{Editor, Server}
+use Rattle.lsp_types.specs.declared.side.Side.{Side}
+use Rattle.lsp_types.specs.declared.side.Side.TheVariants.{Editor, Server}
 use Rattle.lsp_session.specs.Entry.{Entry, has_id}
 use Rattle.lsp_session.specs.Handshake.{initialize_at, initialize_by, offer_to, open_initializes, result_of, settled_at, settled_by}
 use Rattle.lsp_session.specs.Laws.{sent_by}

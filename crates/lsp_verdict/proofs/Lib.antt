@@ -34,3 +34,4 @@ pub mod Interleavings
 pub mod InterleavingRows
 pub mod Drained
 pub mod OneRecord
+pub mod RunReading

@@ -6,6 +6,7 @@ use Rattle.std.proofs.lemmas.Bool.{ltb-false}
 use Rattle.std.proofs.lemmas.Grind.{flat_map-append}
 use Rattle.std.proofs.lemmas.List.{take_all}
 use Rattle.lsp_frame.specs.Bounds.{Bounds, IsInRange}
+use Rattle.lsp_frame.specs.Told.{Told}
 use Rattle.lsp_log.specs.Log.{Record, chunk, shown, Flaw, bad_line, bad_number, cut_short, bad_end, not_utf8, code_of, with_feed, head_line, head_of, parts_of, spelling, first_line, BeginsLog, EndsWith, IsLog}
 use Rattle.lsp_verdict.specs.Outcome.{IsVerdict}
 use Rattle.lsp_verdict.specs.RunIo.{OfRead}
@@ -74,10 +75,10 @@ one_more limits sizes log records others p q =
     ))
 
 -- **Yes is answered only at the end of what the reader gives.**
-pub yes_at_end : (limits : Bounds) → IsInRange limits → (before after : Option (List ℕ)) (s : Summary) → OfRead limits before after (λ log. IsVerdict limits log (yes s)) → IsAtEnd after
+pub yes_at_end : (limits : Bounds) → IsInRange limits → (before after : Told) (s : Summary) → OfRead limits before after (λ log. IsVerdict limits log (yes s)) → IsAtEnd after.bytes
 yes_at_end limits sizes before after s r = by_ended r.ended refl
   where
-    by_ended : (ended : Bool) → r.ended ≡ ended → IsAtEnd after
+    by_ended : (ended : Bool) → r.ended ≡ ended → IsAtEnd after.bytes
     by_ended true e = r.read.end e
     by_ended false e =
         let here = yes_means_kept limits sizes r.bytes s (r.holds r.bytes ([], sym (append-nil r.bytes), λ met. refl)) in

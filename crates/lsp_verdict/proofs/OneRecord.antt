@@ -3,8 +3,8 @@ use Rattle.std.proofs.Common.{◌≡◌, ℕ, List, [], ◌∷◌, ◌++◌, ref
 use Rattle.std.specs.Prelude.{ℤ, chars, if◌then◌else◌, Bool, true, false}
 use Rattle.std.specs.List.{AllZip}
 use Rattle.lsp_frame.specs.Bounds.{Bounds}
-use Rattle.lsp_rpc.specs.declared.plain.Side.{Side}
-use Rattle.lsp_rpc.specs.declared.plain.Side.TheVariants.{Editor, Server}
+use Rattle.lsp_types.specs.declared.side.Side.{Side}
+use Rattle.lsp_types.specs.declared.side.Side.TheVariants.{Editor, Server}
 use Rattle.lsp_session.specs.Sent.{same_side}
 use Rattle.lsp_log.specs.Log.{Record, chunk, shown}
 use Rattle.lsp_verdict.specs.Event.{Event, snapshot}

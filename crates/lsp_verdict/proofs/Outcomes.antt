@@ -4,8 +4,8 @@ use Rattle.std.specs.Prelude.{if◌then◌else◌, unwrap_or}
 use Rattle.std.specs.Option.{option_or}
 use Rattle.std.specs.List.{AllZip}
 use Rattle.lsp_frame.specs.Bounds.{Bounds}
-use Rattle.lsp_rpc.specs.declared.plain.Side.{Side}
-use Rattle.lsp_rpc.specs.declared.plain.Side.TheVariants.{Editor, Server}
+use Rattle.lsp_types.specs.declared.side.Side.{Side}
+use Rattle.lsp_types.specs.declared.side.Side.TheVariants.{Editor, Server}
 use Rattle.lsp_session.specs.Sent.{same_side}
 use Rattle.lsp_log.specs.Log.{Record, chunk, shown}
 use Rattle.lsp_log.specs.declared.fault.LogCode.{LogCode}

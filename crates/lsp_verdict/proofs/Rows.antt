@@ -13,9 +13,9 @@ use Rattle.lsp_verdict.specs.Verdict.{verdict, yes, no, bad_log}
 use Rattle.lsp_verdict.specs.declared.verdict.Who.TheVariants as who
 use Rattle.lsp_verdict.proofs.Templates.{limit, judged, kept_of, kept, I, I1, IT, IE, A, A1, N1, START, OPEN, SH, RN, EX, REQ, CANCEL, RES, ERR, LOG, PROG, REG, T, E}
 use Rattle.lsp_rpc.specs.Ident.{number}
-use Rattle.lsp_rpc.specs.declared.plain.Side.TheVariants.{Editor}
-use Rattle.lsp_rpc.specs.declared.plain.Encoding.TheVariants.{Utf16}
-use Rattle.lsp_rpc.specs.declared.plain.SyncKind.TheVariants.{Nothing, Incremental}
+use Rattle.lsp_types.specs.declared.side.Side.TheVariants.{Editor}
+use Rattle.lsp_types.specs.declared.position.Encoding.TheVariants.{Utf16}
+use Rattle.lsp_types.specs.declared.change.SyncKind.TheVariants.{Nothing, Incremental}
 use Rattle.lsp_log.specs.declared.fault.LogCode.TheVariants.{L2}
 
 empty : judged [] ≡ yes (record { editor = 0; server = 0; snapshots = 0; unmatched = 0; encoding = None; sync = None; documents = []; requests = [] })

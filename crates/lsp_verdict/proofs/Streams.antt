@@ -3,7 +3,7 @@ use Rattle.std.proofs.Common.{ℕ, List, ◌++◌, refl, subst}
 use Rattle.std.specs.Prelude.{map}
 use Rattle.lsp_frame.specs.Bounds.{Bounds}
 use Rattle.lsp_frame.specs.Frame.{IsStream}
-use Rattle.lsp_rpc.specs.declared.plain.Side.{Side}
+use Rattle.lsp_types.specs.declared.side.Side.{Side}
 use Rattle.lsp_verdict.specs.Placed.{Raw, content, Brings, new_fault}
 use Rattle.lsp_verdict.proofs.Below.{frames_more, frames_first, some_stream}
 

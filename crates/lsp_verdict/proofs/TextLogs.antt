@@ -2,7 +2,7 @@
 use Rattle.std.proofs.Common.{◌≡◌, ◌<◌, ℕ, List, [], ◌∷◌, ◌++◌, Option, Some, None, refl, sym, ap, ◌∙◌, append_assoc}
 use Rattle.std.specs.Prelude.{is_some, if◌then◌else◌}
 use Rattle.lsp_frame.specs.Bounds.{Bounds, IsInRange}
-use Rattle.lsp_rpc.specs.declared.plain.Side.TheVariants.{Editor}
+use Rattle.lsp_types.specs.declared.side.Side.TheVariants.{Editor}
 use Rattle.lsp_docs.specs.Documents.{held}
 use Rattle.lsp_log.specs.Log.{Record, BeginsLog}
 use Rattle.lsp_verdict.specs.Calls.{calls}

@@ -2,10 +2,10 @@
 use Rattle.std.specs.Prelude.{List, Option, Some, None, map, option_map, unwrap_or, chars}
 use Rattle.lsp_rpc.specs.Act as act
 use Rattle.lsp_rpc.specs.Act.{Act, did_open, did_change, did_close, did_save}
-use Rattle.lsp_rpc.specs.declared.plain.Encoding.{Encoding}
-use Rattle.lsp_rpc.specs.declared.plain.Encoding.TheVariants.{Utf16}
-use Rattle.lsp_rpc.specs.declared.plain.SyncKind.{SyncKind}
-use Rattle.lsp_rpc.specs.declared.plain.SyncKind.TheVariants.{Nothing}
+use Rattle.lsp_types.specs.declared.position.Encoding.{Encoding}
+use Rattle.lsp_types.specs.declared.position.Encoding.TheVariants.{Utf16}
+use Rattle.lsp_types.specs.declared.change.SyncKind.{SyncKind}
+use Rattle.lsp_types.specs.declared.change.SyncKind.TheVariants.{Nothing}
 use Rattle.lsp_session.specs.Negotiation.{encoding, sync_kind}
 use Rattle.lsp_text.specs.Edits.{Edit}
 use Rattle.lsp_docs.specs.Calls.{Call, opens, changes, closes, saves, shows}

@@ -4,7 +4,7 @@ use Rattle.lsp_rpc.specs.Message.{Message}
 use Rattle.lsp_rpc.specs.Reading as content
 use Rattle.lsp_rpc.specs.Reading.{BreaksRule}
 use Rattle.lsp_rpc.specs.Params.{act_at}
-use Rattle.lsp_rpc.specs.declared.plain.Side.{Side}
+use Rattle.lsp_types.specs.declared.side.Side.{Side}
 use Rattle.lsp_session.specs.Sent.{Sent}
 use Rattle.lsp_verdict.specs.Event.{Event, message, fault, snapshot}
 

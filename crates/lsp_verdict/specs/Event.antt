@@ -1,7 +1,7 @@
 -- What a session is made of, in the editor's order: the messages of both sides, their faults, and snapshots.
 use Rattle.std.specs.Prelude.{ℤ, List, ℕ, Option, Some, None}
 use Rattle.std.specs.List.{filter_map}
-use Rattle.lsp_rpc.specs.declared.plain.Side.{Side}
+use Rattle.lsp_types.specs.declared.side.Side.{Side}
 use Rattle.lsp_session.specs.Sent.{Sent}
 
 -- a message, with its side and what it means; a side's frame or content that breaks this rule; a snapshot of a URI, a version and a text. A URI is the bytes of its UTF-8, a text its characters

@@ -1,6 +1,6 @@
 -- The verdicts of the code, in the words of the definitions.
 use Rattle.std.specs.Prelude.{List, map, string_bytes}
-use Rattle.lsp_rpc.specs.declared.plain.Side.{Side}
+use Rattle.lsp_types.specs.declared.side.Side.{Side}
 use Rattle.lsp_session.specs.Entry.{Entry, request_view}
 use Rattle.lsp_session.specs.declared.pending.OpenRequest.{OpenRequest}
 use Rattle.lsp_docs.specs.State.{capped}

@@ -5,7 +5,7 @@ use Rattle.std.specs.Option.{option_or}
 use Rattle.lsp_frame.specs.Bounds.{Bounds}
 use Rattle.lsp_frame.specs.Frame.{IsStream}
 use Rattle.lsp_rpc.specs.Act.{Change, did_change}
-use Rattle.lsp_rpc.specs.declared.plain.Side.TheVariants.{Editor, Server}
+use Rattle.lsp_types.specs.declared.side.Side.TheVariants.{Editor, Server}
 use Rattle.lsp_session.specs.Lifecycle.{lifecycle_rule}
 use Rattle.lsp_session.specs.Requests.{answers}
 use Rattle.lsp_session.specs.Sent.{Sent, is_response}

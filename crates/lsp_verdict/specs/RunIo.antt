@@ -1,37 +1,37 @@
 -- What a run reads and writes, and how its failures count.
-use Rattle.std.specs.Prelude.{◌≡◌, ℕ, ◌+◌, ◌≤◌, List, [], ◌++◌, length, Option, Bool, true, Result, Ok, Err}
-use Rattle.std.specs.Io.KnownBytes.{Consumes, Appends, IsAtEnd}
+use Rattle.std.specs.Prelude.{◌≡◌, ℕ, ◌+◌, ◌≤◌, List, [], ◌++◌, length, Bool, true, Result, Ok, Err}
+use Rattle.std.specs.Io.KnownBytes.{IsAtEnd}
 use Rattle.lsp_frame.specs.Bounds.{Bounds}
-use Rattle.lsp_frame.specs.Failures.{after_failure}
-use Rattle.lsp_frame.specs.Sink.{Told, Wrote, Stopped}
+use Rattle.lsp_frame.specs.Sink.{Wrote, Stopped}
+use Rattle.lsp_frame.specs.Told.{Told, Gave, Took, after_failure}
 use Rattle.lsp_verdict.specs.declared.outcome.Outcome.{Outcome}
 use Rattle.lsp_verdict.specs.declared.outcome.RunFault.{RunFault}
 use Rattle.lsp_verdict.specs.declared.outcome.RunFault.TheVariants as faults
 
 -- what a source gave, which is no more than one byte past the limit, and whether its end was met
-pub record HasRead (limits : Bounds) (before after : Option (List ℕ)) (bytes : List ℕ) (ended : Bool) : Type 0 where
-  pub gave : Consumes before after bytes
+pub record HasRead (limits : Bounds) (before after : Told) (bytes : List ℕ) (ended : Bool) : Type 0 where
+  pub gave : Gave before after bytes
   pub no_further : length bytes ≤ limits.log + 1
-  pub end : ended ≡ true → IsAtEnd after
+  pub end : ended ≡ true → IsAtEnd after.bytes
 
 -- the stream begins with the bytes read, and is no more than they where its end was met
 abbrev pub GoesOn : List ℕ → Bool → List ℕ → Type 0
 GoesOn bytes ended stream = (more : List ℕ) × (stream ≡ bytes ++ more) × (ended ≡ true → more ≡ [])
 
 -- this holds of the stream read, however it goes on where its end was not met
-pub record OfRead (limits : Bounds) (before after : Option (List ℕ)) (Holds : List ℕ → Type 0) : Type 0 where
+pub record OfRead (limits : Bounds) (before after : Told) (Holds : List ℕ → Type 0) : Type 0 where
   pub bytes : List ℕ
   pub ended : Bool
   pub read : HasRead limits before after bytes ended
   pub holds : (stream : List ℕ) → GoesOn bytes ended stream → Holds stream
 
 -- a source gave at most so many bytes
-abbrev pub GaveAtMost : ℕ → Option (List ℕ) → Option (List ℕ) → Type 0
-GaveAtMost most before after = (bytes : List ℕ) × Consumes before after bytes × (length bytes ≤ most)
+abbrev pub GaveAtMost : ℕ → Told → Told → Type 0
+GaveAtMost most before after = (bytes : List ℕ) × Gave before after bytes × (length bytes ≤ most)
 
 -- a prefix of these bytes is written
-abbrev pub AppendsFront : Option (List ℕ) → Option (List ℕ) → List ℕ → Type 0
-AppendsFront old new due = (front : List ℕ) × (back : List ℕ) × (due ≡ front ++ back) × Appends old new front
+abbrev pub AppendsFront : Told → Told → List ℕ → Type 0
+AppendsFront old new due = (front : List ℕ) × (back : List ℕ) × (due ≡ front ++ back) × Took old new front
 
 -- these bytes are written, or after a write fault a prefix of them, or for want of memory none
 abbrev pub Tells : Told → Told → List ℕ → Result (Unit {0}) RunFault → Type 0

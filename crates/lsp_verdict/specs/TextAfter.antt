@@ -1,7 +1,7 @@
 -- The text held just after a message of the editor's, on the bytes of a log.
 use Rattle.std.specs.Prelude.{◌≡◌, ◌<◌, ℕ, List, [], ◌∷◌, ◌++◌, Some, None}
 use Rattle.lsp_frame.specs.Bounds.{Bounds, IsInRange}
-use Rattle.lsp_rpc.specs.declared.plain.Side.TheVariants.{Editor}
+use Rattle.lsp_types.specs.declared.side.Side.TheVariants.{Editor}
 use Rattle.lsp_log.specs.Log.{Record}
 use Rattle.lsp_verdict.specs.Event.{Event}
 use Rattle.lsp_verdict.specs.Outcome.{IsVerdict}

@@ -11,7 +11,7 @@ ghost use lib.Utf8.{encodes};
 
 use crate::columns::offset_in_counted;
 use crate::counts::measure;
-use lsp_rpc::Encoding;
+use lsp_types::Encoding;
 use std::alloc::{AllocError, Global};
 use std::marker::Model;
 

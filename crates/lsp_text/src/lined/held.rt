@@ -12,7 +12,7 @@ ghost use lib.Utf8.{encodes};
 
 use super::pieced::PiecedLine;
 use crate::cut::FirstLine;
-use lsp_rpc::Encoding;
+use lsp_types::Encoding;
 use std::alloc::{AllocError, Global};
 use std::marker::Model;
 

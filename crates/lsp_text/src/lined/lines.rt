@@ -14,7 +14,7 @@ use super::held::{
     put, spell,
 };
 use super::pieced::PiecedLine;
-use lsp_rpc::{Encoding, Position};
+use lsp_types::{Encoding, Position};
 use std::alloc::{AllocError, Global};
 use std::marker::Model;
 

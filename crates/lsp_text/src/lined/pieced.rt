@@ -13,7 +13,7 @@ ghost use lib.Utf8.{encodes, scalars};
 
 use super::counted::CountedLine;
 use crate::counts::measure;
-use lsp_rpc::Encoding;
+use lsp_types::Encoding;
 use std::alloc::{AllocError, Global};
 use std::marker::Model;
 

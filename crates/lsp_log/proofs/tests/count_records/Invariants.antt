@@ -4,7 +4,7 @@ use Rattle.lsp_log.proofs.tests.count_records.Given as goal
 
 abbrev pub invariant-loop-record : goal.invariant-loop-record
 invariant-loop-record g l =
-    Counted (g.R.Source.remaining l.fn.reader) (record { bytes = g.R.Source.remaining l.reader; failures = g.R.Source.failures l.reader }) l.log l.fn.limits l.count
+    Counted (g.R.Source.told l.fn.reader) (g.R.Source.told l.reader) l.log l.fn.limits l.count
 
 abbrev pub decreases-loop-record : goal.decreases-loop-record
 decreases-loop-record g l = ahead l.log

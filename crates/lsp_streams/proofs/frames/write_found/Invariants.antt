@@ -9,7 +9,7 @@ invariant-loop-fault g l = record {
   room : l.given + length l.decoder.rest ≤ l.fn.given + length l.fn.decoder.rest;
   limits : l.decoder.limits ≡ l.fn.decoder.limits;
   told : (bytes : List ℕ) (contents : List (List ℕ)) (parts : List ℕ) → StandsFor l.fn.decoder bytes contents → l.fn.given ≡ length contents → AreParts l.fn.mode 1 contents parts
-      → FoundSoFar l.decoder l.fn.mode (record { bytes = g.W.Sink.taken l.fn.writer; failures = g.W.Sink.failures l.fn.writer }) (record { bytes = g.W.Sink.taken l.writer; failures = g.W.Sink.failures l.writer }) l.given bytes parts;
+      → FoundSoFar l.decoder l.fn.mode (g.W.Sink.told l.fn.writer) (g.W.Sink.told l.writer) l.given bytes parts;
 }
 
 abbrev pub decreases-loop-fault : goal.decreases-loop-fault

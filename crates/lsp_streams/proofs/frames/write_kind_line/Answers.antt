@@ -1,7 +1,8 @@
 use Rattle.std.specs.Prelude.{codes, ◌++◌, ℕ, List, Result, Ok, Err}
 use Rattle.std.proofs.lemmas.Result.{err_from_is_err_and}
 use Rattle.lsp_frame.proofs.Writing.{stopped_before, stopped_then, wrote_then}
-use Rattle.lsp_frame.specs.Sink.{Told, Wrote, Writes}
+use Rattle.lsp_frame.specs.Sink.{Wrote, Writes}
+use Rattle.lsp_frame.specs.Told.{Told}
 use Rattle.lsp_streams.specs.StreamParts.{numbers}
 use Rattle.lsp_streams.proofs.frames.write_kind_line.Goals as goal
 

@@ -24,16 +24,16 @@ returns-in_default-pull g c =
     let so_far = c.loop-messages.invariant in
     let found = rw c.in_default.is at (c.in_ok-rule.ensures.answer so_far.bytes so_far.contents so_far.parts so_far.stands so_far.count so_far.are_parts) in
     let told = told_all _ _ _ _ _ _ _ _ _ _ _ _ so_far found c.write_found.ensures.limits c.write_found.ensures.room in
-    read_broke _ _ _ _ _ _ _ _ _ _ told c.in_default-pull.ensures.bytes c.in_default-pull.ensures.failures
+    read_broke _ _ _ _ _ _ _ _ _ _ told c.in_default-pull.ensures.err c.in_default-pull.ensures.failures
 
 pub returns-then-count-eq0 : goal.returns-then-count-eq0
 returns-then-count-eq0 g c =
     let so_far = c.loop-messages.invariant in
     let found = rw c.in_default.is at (c.in_ok-rule.ensures.answer so_far.bytes so_far.contents so_far.parts so_far.stands so_far.count so_far.are_parts) in
     let told = told_all _ _ _ _ _ _ _ _ _ _ _ _ so_far found c.write_found.ensures.limits c.write_found.ensures.room in
-    let pulled = c.in-Ok.ensures.bytes in
+    let pulled = c.in-Ok.ensures in
     let asked : 0 < length c.pull.new.buffer = grind (arith, length-take {A = ℕ}) in
-    end_ran _ _ _ _ _ _ _ _ _ _ _ told (empty_pull _ _ _ _ c.if-count-eq0.true pulled.0) (pulled.1 c.if-count-eq0.true asked) c.in-Ok.ensures.failures c.outcome_at_end.ensures
+    end_ran _ _ _ _ _ _ _ _ _ _ _ told (empty_pull _ _ _ _ c.if-count-eq0.true pulled.gave) (pulled.end c.if-count-eq0.true asked) pulled.failures c.outcome_at_end.ensures
 
 pub returns-then-read-log : goal.returns-then-read-log
 returns-then-read-log g c =
@@ -44,7 +44,7 @@ returns-then-read-log g c =
     let fits = pulled.count.0 in
     let full = c.if-read-log.true ∙ c.log-log.ensures.value in
     let one : length (take c.in-Ok.count c.pull.new.buffer) ≡ 1 = grind (arith, length-take {A = ℕ}) in
-    too_long_ran _ _ _ _ _ _ _ _ _ _ _ told full one pulled.bytes.0 pulled.failures
+    too_long_ran _ _ _ _ _ _ _ _ _ _ _ told full one pulled.gave pulled.failures
 
 pub returns-in_err-push : goal.returns-in_err-push
 returns-in_err-push g c =
@@ -54,7 +54,7 @@ returns-in_err-push g c =
     let pulled = c.in-Ok.ensures in
     let p = err_from_is_err_and c.from_residual-in_err-push.result c.from_residual-in_err-push.ensures.1 in
     let within : c.loop-messages.read + length (take c.in-Ok.count c.pull.new.buffer) ≤ c.args.limits.log = grind (arith, length-take {A = ℕ}) in
-    rw (p.1, p.2) (broke_behind _ _ _ _ _ _ _ _ _ _ _ told pulled.bytes.0 pulled.failures within)
+    rw (p.1, p.2) (broke_behind _ _ _ _ _ _ _ _ _ _ _ told pulled.gave pulled.failures within)
 
 pub loop-messages-preserved : goal.loop-messages-preserved
 loop-messages-preserved g c =
@@ -64,4 +64,4 @@ loop-messages-preserved g c =
     let pulled = c.in-Ok.ensures in
     let fits = pulled.count.0 in
     let within : c.loop-messages.read + c.in-Ok.count ≤ c.args.limits.log = grind (arith, length-take {A = ℕ}) in
-    push_taken _ _ _ _ _ _ _ _ _ _ _ c.in-Ok.count c.pull.new.buffer _ told fits pulled.bytes.0 pulled.failures c.in_ok-push.ensures.ok (c.in_ok-push.ensures.stands told.so_far.bytes told.so_far.contents told.so_far.stands) within
+    push_taken _ _ _ _ _ _ _ _ _ _ _ c.in-Ok.count c.pull.new.buffer _ told fits pulled.gave pulled.failures c.in_ok-push.ensures.ok (c.in_ok-push.ensures.stands told.so_far.bytes told.so_far.contents told.so_far.stands) within

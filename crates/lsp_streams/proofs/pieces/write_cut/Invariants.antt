@@ -6,8 +6,8 @@ use Rattle.lsp_streams.proofs.pieces.write_cut.Given as goal
 abbrev pub invariant-loop-front : goal.invariant-loop-front
 invariant-loop-front g l =
     HasPut
-    (record { bytes = g.W.Sink.taken l.fn.writer; failures = g.W.Sink.failures l.fn.writer })
-    (record { bytes = g.W.Sink.taken l.writer; failures = g.W.Sink.failures l.writer })
+    (g.W.Sink.told l.fn.writer)
+    (g.W.Sink.told l.writer)
     (due l.size l.side (l.fn.front ++ l.fn.back))
     (due l.size l.side (l.front ++ l.back))
 

@@ -1,7 +1,7 @@
 use Rattle.std.proofs.Common.{◌≤◌, ℕ, List, refl, ltb, length, arith, ap}
 use Rattle.std.specs.Str.{chars}
 use Rattle.std.proofs.lemmas.List.Sums.{count_by-le-length}
-use Rattle.lsp_rpc.specs.declared.plain.Encoding.TheVariants.{Utf16}
+use Rattle.lsp_types.specs.declared.position.Encoding.TheVariants.{Utf16}
 use Rattle.lsp_text.specs.Places.{units}
 use Rattle.lsp_text.proofs.Counting.{length-chars_le}
 use Rattle.lsp_text.proofs.ByteCounts.{counts_of_text}

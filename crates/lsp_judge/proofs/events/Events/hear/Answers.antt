@@ -2,8 +2,8 @@ use Rattle.std.proofs.Common.{ap, ◌∙◌, refl, sym}
 use Rattle.std.specs.Prelude.{unwrap_or}
 use Rattle.std.proofs.lemmas.Result.{err_from_is_err_and}
 use Rattle.lsp_rpc.specs.View.{act_view, message_view}
-use Rattle.lsp_rpc.specs.declared.plain.Encoding.TheVariants.{Utf16}
-use Rattle.lsp_rpc.specs.declared.plain.SyncKind.TheVariants.{Nothing}
+use Rattle.lsp_types.specs.declared.position.Encoding.TheVariants.{Utf16}
+use Rattle.lsp_types.specs.declared.change.SyncKind.TheVariants.{Nothing}
 use Rattle.lsp_session.specs.Laws.{sent_by}
 use Rattle.lsp_verdict.specs.Calls.{calls}
 use Rattle.lsp_verdict.specs.Event.{sent_in}

@@ -1,5 +1,4 @@
 use Rattle.std.proofs.Common.{◌≡◌, ◌∙◌, sym, ap}
-use Rattle.lsp_frame.specs.Sink.{Told}
 use Rattle.lsp_log.specs.Reader.{State, kept_in}
 use Rattle.lsp_log.specs.Ending.{first_of}
 use Rattle.lsp_log.specs.declared.reader.LogReader.TheInside.{Inside}
@@ -14,7 +13,7 @@ returns-clause-answer g c = elim c.match-self.branch [
       let tape = ap (λ (s : State). s.tape) c.self.view_is in
       let is_first = ap first_of (sym (ap (λ (s : State). s.progress) c.self.view_is) ∙ w.in-FirstLine.is) in
       let mid = ap (λ (i : Inside). i.tape) (sym w.self-inside-is) in
-      let told = ap (λ r. let t : Told = record { bytes = g.R.Source.remaining r; failures = g.R.Source.failures r } in t) (sym w.reader-is) in
+      let told = ap g.R.Source.told (sym w.reader-is) in
       let at = ap (λ (i : Inside). i.progress) w.self-inside-is in
       let i = c.match-self.self-inside in
       let new : State = record { limits = i.limits; tape = c.record.new.tape; progress = i.progress; given = i.given } in
@@ -25,7 +24,7 @@ returns-clause-answer g c = elim c.match-self.branch [
       let is_open : c.self.inside.progress ≡ progress.Records = open_records c.self.inside.progress (ap (λ (s : State). kept_in s.progress) c.self.view_is ∙ c.requires) w.in_default.not-FirstLine in
       let is_first = ap first_of (sym (ap (λ (s : State). s.progress) c.self.view_is) ∙ is_open) in
       let mid = ap (λ (i : Inside). i.tape) (sym w.self-inside-is) in
-      let told = ap (λ r. let t : Told = record { bytes = g.R.Source.remaining r; failures = g.R.Source.failures r } in t) (sym w.reader-is) in
+      let told = ap g.R.Source.told (sym w.reader-is) in
       let at = ap (λ (i : Inside). i.progress) w.self-inside-is ∙ is_open in
       let i = c.match-self.self-inside in
       let new : State = record { limits = i.limits; tape = c.record.new.tape; progress = i.progress; given = i.given } in

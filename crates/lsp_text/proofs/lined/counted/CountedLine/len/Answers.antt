@@ -1,7 +1,7 @@
 use Rattle.std.proofs.Common.{length, ap, sym, ◌∙◌}
 use Rattle.std.specs.String.{string_bytes}
 use Rattle.std.proofs.lemmas.Str.{IsUtf8-string_bytes}
-use Rattle.lsp_rpc.specs.declared.plain.Encoding.TheVariants.{Utf8}
+use Rattle.lsp_types.specs.declared.position.Encoding.TheVariants.{Utf8}
 use Rattle.lsp_text.specs.Lines.{Line, spelled}
 use Rattle.lsp_text.specs.Places.{units}
 use Rattle.lsp_text.proofs.Counting.{units-utf8_text}

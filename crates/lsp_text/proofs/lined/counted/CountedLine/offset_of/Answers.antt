@@ -2,7 +2,7 @@ use Rattle.std.proofs.Common.{◌≡◌, sym, subst, ap, List, ℕ, ◌∙◌, N
 use Rattle.std.specs.Str.{chars}
 use Rattle.std.proofs.lemmas.Str.{encodes-chars}
 use lib.Utf8.{encodes}
-use Rattle.lsp_rpc.specs.declared.plain.Encoding.TheVariants.{Utf32}
+use Rattle.lsp_types.specs.declared.position.Encoding.TheVariants.{Utf32}
 use Rattle.lsp_text.specs.Lines.{Line}
 use Rattle.lsp_text.specs.Places.{units, place_in_line}
 use Rattle.lsp_text.specs.Offsets.{IsOffset}

@@ -4,7 +4,7 @@ use Rattle.std.specs.List.{replace_range}
 use Rattle.std.specs.Str.{chars, IsCharBoundary}
 use Rattle.std.specs.String.{string_bytes}
 use Rattle.std.proofs.lemmas.Str.{IsUtf8-string_bytes}
-use Rattle.lsp_rpc.specs.declared.plain.Encoding.TheVariants.{Utf8, Utf16, Utf32}
+use Rattle.lsp_types.specs.declared.position.Encoding.TheVariants.{Utf8, Utf16, Utf32}
 use Rattle.lsp_text.specs.Lines.{Line}
 use Rattle.lsp_text.specs.Places.{units}
 use Rattle.lsp_text.proofs.LineEdits.{IsReplaced, is_replaced, CanReplace, can_replace}

@@ -1,7 +1,7 @@
 use Rattle.std.proofs.Common.{◌≡◌, ◌+◌, ltb, length, arith, ap, sym, ◌∙◌}
 use Rattle.std.proofs.lemmas.Bool.{ltb-true, ltb-false}
 use Rattle.std.specs.Str.{chars}
-use Rattle.lsp_rpc.specs.declared.plain.Encoding.TheVariants.{Utf8}
+use Rattle.lsp_types.specs.declared.position.Encoding.TheVariants.{Utf8}
 use Rattle.lsp_text.specs.Lines.{lines_of}
 use Rattle.lsp_text.specs.Places.{units}
 use Rattle.lsp_text.proofs.Rewrites.{IsRewritten, IsKept, rewritten_by, kept_after}

@@ -1,6 +1,6 @@
 use Rattle.std.proofs.Common.{◌+◌, ◌++◌, take, arith, ap, subst, ◌∙◌, sym}
 use lib.Utf8.{encodes}
-use Rattle.lsp_rpc.specs.declared.plain.Encoding.TheVariants.{Utf8}
+use Rattle.lsp_types.specs.declared.position.Encoding.TheVariants.{Utf8}
 use Rattle.lsp_text.specs.Lines.{Line}
 use Rattle.lsp_text.specs.Places.{units, place_in_line}
 use Rattle.lsp_text.specs.Offsets.{IsOffset}

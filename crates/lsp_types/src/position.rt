@@ -1,10 +1,3 @@
-/// A side of the session: the client, or the language server.
-#[derive(Clone, Copy, Debug, PartialEq, Eq)]
-pub enum Side {
-    Editor,
-    Server,
-}
-
 /// What a column counts: bytes of UTF-8, 16-bit units of UTF-16, or characters (LSP 3.17,
 /// PositionEncodingKind).
 #[derive(Clone, Copy, Debug, PartialEq, Eq)]
@@ -12,17 +5,6 @@ pub enum Encoding {
     Utf8,
     Utf16,
     Utf32,
-}
-
-/// How the editor sends the changes of a document (LSP 3.17, TextDocumentSyncKind).
-#[derive(Clone, Copy, Debug, PartialEq, Eq)]
-pub enum SyncKind {
-    /// Changes are not sent.
-    Nothing,
-    /// Each change is the whole text.
-    Full,
-    /// A change may be of a span.
-    Incremental,
 }
 
 /// A place in a text (LSP 3.17, Position). Lines and columns count from zero, columns in units of

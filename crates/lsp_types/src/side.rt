@@ -1,0 +1,6 @@
+/// A side of the session: the client, or the language server.
+#[derive(Clone, Copy, Debug, PartialEq, Eq)]
+pub enum Side {
+    Editor,
+    Server,
+}
