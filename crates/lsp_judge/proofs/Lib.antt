@@ -5,7 +5,11 @@ pub mod Following
 pub mod NextContent
 pub mod Records
 pub mod Pulling
-pub mod Finals
-pub mod Logging
+pub mod Entries
+pub mod KeptEvents
 pub mod Answering
+pub mod LogEvents
+pub mod ShownLogs
+pub mod TextRuns
+pub mod Finals
 pub mod Tails

@@ -7,8 +7,8 @@ use Rattle.std.specs.Global.{Global}
 use Rattle.lsp_frame.specs.Bounds.{Bounds}
 use Rattle.lsp_frame.specs.Decoder as decoder
 use Rattle.lsp_frame.specs.Frame.{Frames, IsStream}
-use Rattle.lsp_rpc.specs.declared.plain.Side.{Side}
-use Rattle.lsp_rpc.specs.declared.plain.Side.TheVariants.{Editor, Server}
+use Rattle.lsp_types.specs.declared.side.Side.{Side}
+use Rattle.lsp_types.specs.declared.side.Side.TheVariants.{Editor, Server}
 use Rattle.lsp_session.specs.State as session
 use Rattle.lsp_docs.specs.State as docs
 use Rattle.lsp_log.specs.Log.{Record, chunk, shown}
@@ -387,6 +387,9 @@ pub hearing_open : (s : State) (rs : List Record) (heard : List Event) → s.tur
 hearing_open s rs heard idle h =
     let a = awaits_none s rs h.due idle h.awaits in
     record { idle = idle; events = heard; is_session = (h.past, heard_whole s.limits rs h.past h.due a.0 h.placed, h.read); follows = h.follows; editor = a.1; server = a.2 }
+
+pub hearing_session : (s : State) (rs : List Record) (heard : List Event) → s.turn ≡ None → IsHearing s rs heard → IsSession s.limits rs heard
+hearing_session s rs heard idle h = (h.past, heard_whole s.limits rs h.past h.due (awaits_none s rs h.due idle h.awaits).0 h.placed, h.read)
 
 -- a No at the next event is that of the records
 pub stops_rules : (limits : Bounds) (rs : List Record) (before : List Event) (ruling : Ruling) → Stops limits rs before ruling → Rules limits rs ruling

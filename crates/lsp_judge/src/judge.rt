@@ -11,6 +11,7 @@ ghost use Rattle.lsp_verdict.specs.Placed.{IsSession};
 ghost use Rattle.lsp_judge.specs.Hearing.{IsHearing, HearsNext, Stops, unheard};
 ghost use Rattle.lsp_judge.specs.Rulings.{RestIs, IfRefused};
 ghost use Rattle.lsp_judge.specs.Standing.{IsOpen, AreLimits, Keeps, Rules, Stands, is_given};
+ghost use Rattle.lsp_judge.specs.TextAnswers.{AnswersHeld};
 ghost use Rattle.lsp_verdict.specs.Counting.{AreCounts};
 ghost use Rattle.lsp_verdict.specs.Verdict as spec;
 
@@ -19,6 +20,7 @@ use crate::events::Events;
 use crate::heard::{Heard, Turn};
 use crate::ruling::Ruling;
 use crate::summary::summary_of;
+use crate::text_answer::TextAnswer;
 use lsp_frame::{Decoder, Limits, Memory as Refused};
 use lsp_log::{LogCode, Record};
 use lsp_rpc::{Memory, Side};
@@ -65,6 +67,7 @@ impl<S: TextStore> Judge<S> {
     pub fn new(alloc: Global, limits: Limits) -> Self
         ensures limits { result.limits ≡ limits }
         ensures stands { Stands result [] }
+        ensures ungiven { result.given ≡ None }
     {
         let _document = limits.document();
         Judge {
@@ -185,6 +188,27 @@ impl<S: TextStore> Judge<S> {
                 Err(refused)
             }
         }
+    }
+
+    /// How many events were heard.
+    pub(crate) fn count(&self) -> u64
+        ensures { result ≡ self.now.counts.all }
+    {
+        self.events.counts.all
+    }
+
+    /// How many messages of the editor's were heard.
+    pub(crate) fn editor_count(&self) -> u64
+        ensures { result ≡ self.now.counts.editor }
+    {
+        self.events.counts.editor
+    }
+
+    /// The text that is held of a URI just after the events heard.
+    pub(crate) fn text_of(&self, alloc: Global, uri: &str) -> Result<TextAnswer, Memory>
+        ensures { AnswersHeld self.now uri.now result }
+    {
+        TextAnswer::held(alloc, &self.events.docs, uri)
     }
 
     /// The No by bytes that are no whole frame, the editor's first.

@@ -9,18 +9,25 @@
 
 mod check;
 mod contents;
+mod entry;
+mod event_reader;
 mod events;
 mod fault;
 mod heard;
 mod judge;
+mod lines;
 mod ruling;
-mod run;
 mod show;
+mod show_laws;
 mod summary;
+mod text;
 mod text_answer;
 
 pub use check::run_check;
 pub use judge::Judge;
+pub use show::run_show;
+pub use show_laws::one_shown;
+pub use text::{run_text, text_after};
 pub use text_answer::TextAnswer;
 pub use lsp_frame::{Input, Limits, Output};
 pub use lsp_log::LogCode;

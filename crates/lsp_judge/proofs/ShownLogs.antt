@@ -1,0 +1,169 @@
+-- What is due where a log is shown.
+use Rattle.std.proofs.Common.{◌≡◌, ◌+◌, ◌<◌, ◌^◌, ℕ, List, [], ◌∷◌, ◌++◌, length, Option, Some, None, Result, Ok, Err, refl, sym, ap, subst, ◌∙◌, append_assoc, append-nil, length-append, arith}
+use Rattle.std.specs.Prelude.{unwrap_or}
+use Rattle.std.specs.List.{flat_map, cons_option}
+use Rattle.std.proofs.lemmas.List.Concat.{flat_map-append}
+use Rattle.lsp_frame.specs.Bounds.{Bounds, IsInRange}
+use Rattle.lsp_frame.specs.Sink.{Wrote, Stopped}
+use Rattle.lsp_frame.specs.Told.{Told, Took, after_failure}
+use Rattle.lsp_frame.proofs.Telling.{took_then}
+use Rattle.lsp_frame.proofs.Writing.{wrote_nothing, wrote_then}
+use Rattle.lsp_verdict.specs.declared.outcome.RunFault.{RunFault}
+use Rattle.lsp_verdict.specs.declared.outcome.RunFault.TheVariants as faults
+use Rattle.lsp_verdict.specs.declared.outcome.Outcome.{Outcome}
+use Rattle.lsp_verdict.specs.declared.outcome.Outcome.TheVariants.{Judged}
+use Rattle.lsp_verdict.specs.declared.verdict.Verdict as code
+use Rattle.lsp_verdict.specs.Event.{Event}
+use Rattle.lsp_verdict.specs.Given.{verdict_view}
+use Rattle.lsp_verdict.specs.LookBack.{each_of, each_from}
+use Rattle.lsp_verdict.specs.Outcome.{IsVerdict}
+use Rattle.lsp_verdict.specs.Report.{report}
+use Rattle.lsp_verdict.specs.RunIo.{OfRead, Tells, source_failures, sink_failures}
+use Rattle.lsp_verdict.specs.Shown.{event_line, line_at, lines_of, show_of}
+use Rattle.lsp_verdict.specs.Verdict.{Verdict}
+use Rattle.lsp_verdict.proofs.Logs.{same_events, one_verdict}
+use Rattle.lsp_verdict.proofs.LookBackLemmas.{each_from-append, each_of-snoc}
+use Rattle.lsp_verdict.proofs.RunReading.{read_map}
+use Rattle.lsp_judge.specs.Entries.{failures_after}
+use Rattle.lsp_judge.specs.LogEvents.{EndsAt, BeginsWith, SoFar, Found, BrokeOff}
+use Rattle.lsp_judge.specs.ShownLog.{IsShown, BeginsShown, OneShown, ShowedAll, ShowedPart, line_of}
+use Rattle.lsp_judge.specs.declared.event_reader.EventReader.{EventReader}
+use Rattle.lsp_judge.proofs.Answering.{judged_as}
+use Rattle.lsp_judge.proofs.LogEvents.{so_far_begins}
+
+pub one_shown : OneShown
+one_shown limits sizes log v w out other (p, is) (q, at) =
+    let same : v ≡ w = one_verdict limits sizes log v w p q in
+    (same, is ∙ ap (show_of v) (same_events limits sizes log v w p q) ∙ ap (λ x. show_of x q.final.events) same ∙ sym at)
+
+-- ---- lines
+
+lines-append : (xs ys : List Event) → lines_of (xs ++ ys) ≡ lines_of xs ++ flat_map (λ shown. shown) (each_from line_at xs ys)
+lines-append xs ys = ap (flat_map (λ shown. shown)) (each_from-append line_at [] xs ys) ∙ flat_map-append (λ shown. shown) (each_of line_at xs) (each_from line_at xs ys)
+
+alone : (o : Option (List ℕ)) → flat_map (λ shown. shown) (cons_option o []) ≡ unwrap_or o []
+alone None = refl
+alone (Some line) = append-nil line
+
+lines-snoc : (xs : List Event) (x : Event) (number : ℕ) → number ≡ length xs + 1 → lines_of (xs ++ x ∷ []) ≡ lines_of xs ++ line_of number x
+lines-snoc xs x number is =
+    ap (flat_map (λ shown. shown)) (each_of-snoc line_at xs x)
+    ∙ flat_map-append (λ shown. shown) (each_of line_at xs) (cons_option (line_at xs x) [])
+    ∙ ap (λ l. lines_of xs ++ l) (alone (line_at xs x) ∙ ap (λ n. line_of n x) (sym is))
+
+-- ---- a log
+
+ends_shown : (limits : Bounds) (heard : List Event) (v : Verdict) (log : List ℕ) → EndsAt limits log heard v → IsShown limits log v (lines_of heard ++ report v)
+ends_shown limits heard v log (whole, is) = (whole, sym (ap (λ es. lines_of es ++ report v) is))
+
+begins_shown : (limits : Bounds) (heard : List Event) (front left : List ℕ) → lines_of heard ≡ front ++ left → (log : List ℕ) → BeginsWith limits heard log → BeginsShown limits log front
+begins_shown limits heard front left whole log (v, later, (says, is)) =
+    let tail = flat_map (λ shown. shown) (each_from line_at heard later) in (
+      v,
+      left ++ (tail ++ report v),
+      (
+        says,
+        sym (append_assoc front left (tail ++ report v))
+            ∙ ap (λ l. l ++ (tail ++ report v)) (sym whole)
+            ∙ sym (append_assoc (lines_of heard) tail (report v))
+            ∙ ap (λ l. l ++ report v) (sym (lines-append heard later))
+            ∙ sym (ap (λ es. lines_of es ++ report v) is),
+      ),
+    )
+
+-- ---- a run
+
+-- these events of the log were heard, and their lines written
+pub record Showing (limits : Bounds) (e : EventReader) (start now old new : Told) : Type 0 where
+  pub heard : List Event
+  pub so_far : SoFar limits e start now heard
+  pub wrote : Wrote old new (lines_of heard)
+
+pub nothing_shown : (limits : Bounds) (e : EventReader) (start old : Told) → SoFar limits e start start [] → Showing limits e start start old old
+nothing_shown limits e start old so_far = record { heard = []; so_far = so_far; wrote = wrote_nothing old }
+
+module _ (limits : Bounds) (start now old mid new : Told) (heard : List Event) (wrote : Wrote old mid (lines_of heard)) where
+  -- one more event and its line
+  pub one_shown_more : (e : EventReader) (event : Event) (number : ℕ) → SoFar limits e start now (heard ++ event ∷ []) → number ≡ length heard + 1 → Wrote mid new (line_of number event) → Showing limits e start now old new
+  one_shown_more e event number so_far is line = record {
+    heard = heard ++ event ∷ [];
+    so_far = so_far;
+    wrote = subst (Wrote old new) (sym (lines-snoc heard event number is)) (wrote_then old mid new (lines_of heard) (line_of number event) wrote line);
+  }
+
+  -- its line was not written
+  pub line_failed : (e : EventReader) (event : Event) (number : ℕ) (fault : RunFault) → SoFar limits e start now (heard ++ event ∷ []) → number ≡ length heard + 1 → Tells mid new (line_of number event) (Err fault) → ShowedPart limits start now old new fault
+  line_failed e event number faults.Write so_far is told =
+      let due : lines_of (heard ++ event ∷ []) ≡ (lines_of heard ++ told.front) ++ told.back = lines-snoc heard event number is ∙ ap (λ l. lines_of heard ++ l) told.whole ∙ sym (append_assoc (lines_of heard) told.front told.back) in
+      record {
+        out = lines_of heard ++ told.front;
+        took = took_then old mid new (lines_of heard) told.front wrote.took told.took;
+        due = read_map limits start now (BeginsWith limits (heard ++ event ∷ [])) (λ log. BeginsShown limits log (lines_of heard ++ told.front)) (begins_shown limits (heard ++ event ∷ []) (lines_of heard ++ told.front) told.back due)
+            (so_far_begins limits e start now (heard ++ event ∷ []) so_far);
+        source = so_far.at.failures;
+        sink = told.failures ∙ ap after_failure wrote.failures;
+      }
+  line_failed e event number faults.Memory so_far is told = record {
+    out = lines_of heard;
+    took = subst (λ (t : Told). Took old t (lines_of heard)) (sym told) wrote.took;
+    due = read_map limits start now (BeginsWith limits (heard ++ event ∷ [])) (λ log. BeginsShown limits log (lines_of heard)) (begins_shown limits (heard ++ event ∷ []) (lines_of heard) (line_of number event) (lines-snoc heard event number is))
+        (so_far_begins limits e start now (heard ++ event ∷ []) so_far);
+    source = so_far.at.failures;
+    sink = ap (λ (t : Told). t.failures) told ∙ wrote.failures;
+  }
+  line_failed e event number faults.Read so_far is told = absurd told
+
+  -- the verdict was found
+  pub all_shown : (v : Verdict) → Found limits start now heard v → ShowedAll limits start now old mid v
+  all_shown v found = record {
+    lines = lines_of heard;
+    wrote = wrote;
+    due = read_map limits start now (λ log. EndsAt limits log heard v) (λ log. IsShown limits log v (lines_of heard ++ report v)) (ends_shown limits heard v) found.of_read;
+    failures = found.failures;
+  }
+
+  -- the log was not read to its verdict
+  pub broke_shown : (fault : RunFault) → BrokeOff limits start now heard fault → ShowedPart limits start now old mid fault
+  broke_shown fault broke = record {
+    out = lines_of heard;
+    took = wrote.took;
+    due = read_map limits start now (BeginsWith limits heard) (λ log. BeginsShown limits log (lines_of heard)) (begins_shown limits heard (lines_of heard) [] (sym (append-nil (lines_of heard)))) broke.of_read;
+    source = by_source fault broke.failures broke.unwritten;
+    sink = by_sink fault wrote.failures broke.unwritten;
+  }
+    where
+      by_source : (f : RunFault) → now.failures ≡ failures_after f start.failures → (f ≡ faults.Write → ⊥) → now.failures ≡ source_failures (Err f) start.failures
+      by_source faults.Read e unwritten = e
+      by_source faults.Write e unwritten = e
+      by_source faults.Memory e unwritten = e
+
+      by_sink : (f : RunFault) → mid.failures ≡ old.failures → (f ≡ faults.Write → ⊥) → mid.failures ≡ sink_failures (Err f) old.failures
+      by_sink faults.Read e unwritten = e
+      by_sink faults.Write e unwritten = absurd (unwritten refl)
+      by_sink faults.Memory e unwritten = e
+
+-- ---- the report
+
+pub verdict_read : (limits : Bounds) (start now old new : Told) (given v : code.Verdict) → ShowedAll limits start now old new (verdict_view given)
+    → (let outcome : Result Outcome RunFault = Ok (Judged given) in outcome) ≡ Ok (Judged v) → OfRead limits start now (λ log. IsVerdict limits log (verdict_view v))
+verdict_read limits start now old new given v s e =
+    judged_as given v (λ w. OfRead limits start now (λ log. IsVerdict limits log (verdict_view w))) e (read_map limits start now _ (λ log. IsVerdict limits log (verdict_view given)) (λ log shown. shown.0) s.due)
+
+pub shown_read : (limits : Bounds) (start now old mid new : Told) (given v : code.Verdict) (written : List ℕ) → ShowedAll limits start now old mid (verdict_view given) → written ≡ report (verdict_view given) → Wrote mid new written
+    → (let outcome : Result Outcome RunFault = Ok (Judged given) in outcome) ≡ Ok (Judged v) → (out : List ℕ) × Took old new out × OfRead limits start now (λ log. IsShown limits log (verdict_view v) out)
+shown_read limits start now old mid new given v written s is wrote e =
+    judged_as given v (λ w. (out : List ℕ) × Took old new out × OfRead limits start now (λ log. IsShown limits log (verdict_view w) out)) e
+    (s.lines ++ report (verdict_view given), subst (λ l. Took old new (s.lines ++ l)) is (took_then old mid new s.lines written s.wrote.took wrote.took), s.due)
+
+-- memory was refused for the report
+pub lines_begun : (limits : Bounds) (start now old new : Told) (v : Verdict) → ShowedAll limits start now old new v → (out : List ℕ) × Took old new out × OfRead limits start now (λ log. BeginsShown limits log out)
+lines_begun limits start now old new v s = (s.lines, s.wrote.took, read_map limits start now (λ log. IsShown limits log v (s.lines ++ report v)) (λ log. BeginsShown limits log s.lines) (λ log shown. (v, report v, shown)) s.due)
+
+-- the report was not written
+pub report_begun : (limits : Bounds) (start now old mid new : Told) (v : Verdict) (written : List ℕ) → ShowedAll limits start now old mid v → written ≡ report v → Stopped mid new written → (out : List ℕ) × Took old new out × OfRead limits start now (λ log. BeginsShown limits log out)
+report_begun limits start now old mid new v written s is stopped = (
+  s.lines ++ stopped.front,
+  took_then old mid new s.lines stopped.front s.wrote.took stopped.took,
+  read_map limits start now (λ log. IsShown limits log v (s.lines ++ report v)) (λ log. BeginsShown limits log (s.lines ++ stopped.front))
+      (λ log shown. (v, stopped.back, subst (IsShown limits log v) (ap (λ l. s.lines ++ l) (sym is ∙ stopped.whole) ∙ sym (append_assoc s.lines stopped.front stopped.back)) shown)) s.due,
+)
