@@ -259,3 +259,37 @@ takes_record limits old new start mid now heard next i same at keeps hears = rec
   ungiven = keeps.given ∙ i.0.ungiven;
   hears = hears i.0.records heard i.1 i.0.hears;
 }
+
+-- ---- loops
+
+-- some events of the log were heard
+pub record Following (limits : Bounds) (e : EventReader) (start now : Told) : Type 0 where
+  pub heard : List Event
+  pub so_far : SoFar limits e start now heard
+
+-- one event more leaves fewer to come
+pub fewer : (limits : Bounds) (e f : EventReader) (start mid now : Told) (heard : List Event) (event : Event) → SoFar limits e start mid heard → SoFar limits f start now (heard ++ event ∷ [])
+    → limits.log + 1 - f.judge.counts.all < limits.log + 1 - e.judge.counts.all
+fewer limits e f start mid now heard event s t =
+    omega (
+      arith,
+      so_far_counts limits e start mid heard s,
+      so_far_counts limits f start now (heard ++ event ∷ []) t,
+      so_far_few limits f start now (heard ++ event ∷ []) t,
+      length-append heard (event ∷ []),
+    )
+
+-- what was heard before is no more than what is heard
+pub broke_early : (limits : Bounds) (start now : Told) (heard : List Event) (fault : RunFault) → BrokeOff limits start now heard fault → BrokeOff limits start now [] fault
+broke_early limits start now heard fault broke = record {
+  of_read = read_map limits start now (BeginsWith limits heard) (BeginsWith limits []) (λ log begins. (begins.0, heard ++ begins.1, begins.2)) broke.of_read;
+  failures = broke.failures;
+  unwritten = broke.unwritten;
+}
+
+-- the verdict that was found is that of the log
+pub verdict_found : (limits : Bounds) (start now : Told) (heard : List Event) (v : Verdict) → Found limits start now heard v → OfRead limits start now (λ log. IsVerdict limits log v) × (now.failures ≡ start.failures)
+verdict_found limits start now heard v found = (read_map limits start now (λ log. EndsAt limits log heard v) (λ log. IsVerdict limits log v) (λ log ends. ends.0) found.of_read, found.failures)
+
+pub fresh_along : (limits : Bounds) (e : EventReader) (start : Told) → e.log.limits ≡ limits → SoFar limits e start start [] → SoFar e.log.limits e start start []
+fresh_along limits e start same so_far = subst (λ (b : Bounds). SoFar b e start start []) (sym same) so_far

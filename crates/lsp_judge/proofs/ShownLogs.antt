@@ -29,7 +29,7 @@ use Rattle.lsp_judge.specs.LogEvents.{EndsAt, BeginsWith, SoFar, Found, BrokeOff
 use Rattle.lsp_judge.specs.ShownLog.{IsShown, BeginsShown, OneShown, ShowedAll, ShowedPart, line_of}
 use Rattle.lsp_judge.specs.declared.event_reader.EventReader.{EventReader}
 use Rattle.lsp_judge.proofs.Answering.{judged_as}
-use Rattle.lsp_judge.proofs.LogEvents.{so_far_begins}
+use Rattle.lsp_judge.proofs.LogEvents.{so_far_begins, so_far_counts}
 
 pub one_shown : OneShown
 one_shown limits sizes log v w out other (p, is) (q, at) =
@@ -83,17 +83,23 @@ pub nothing_shown : (limits : Bounds) (e : EventReader) (start old : Told) → S
 nothing_shown limits e start old so_far = record { heard = []; so_far = so_far; wrote = wrote_nothing old }
 
 module _ (limits : Bounds) (start now old mid new : Told) (heard : List Event) (wrote : Wrote old mid (lines_of heard)) where
+  numbered : (e : EventReader) (event : Event) (number : ℕ) → SoFar limits e start now (heard ++ event ∷ []) → number ≡ e.judge.counts.all → number ≡ length heard + 1
+  numbered e event number so_far counted = counted ∙ so_far_counts limits e start now (heard ++ event ∷ []) so_far ∙ length-append heard (event ∷ [])
+
   -- one more event and its line
-  pub one_shown_more : (e : EventReader) (event : Event) (number : ℕ) → SoFar limits e start now (heard ++ event ∷ []) → number ≡ length heard + 1 → Wrote mid new (line_of number event) → Showing limits e start now old new
-  one_shown_more e event number so_far is line = record {
+  pub one_shown_more : (e : EventReader) (event : Event) (number : ℕ) → SoFar limits e start now (heard ++ event ∷ []) → number ≡ e.judge.counts.all → Wrote mid new (line_of number event) → Showing limits e start now old new
+  one_shown_more e event number so_far counted line =
+    let is = numbered e event number so_far counted in
+    record {
     heard = heard ++ event ∷ [];
     so_far = so_far;
     wrote = subst (Wrote old new) (sym (lines-snoc heard event number is)) (wrote_then old mid new (lines_of heard) (line_of number event) wrote line);
   }
 
   -- its line was not written
-  pub line_failed : (e : EventReader) (event : Event) (number : ℕ) (fault : RunFault) → SoFar limits e start now (heard ++ event ∷ []) → number ≡ length heard + 1 → Tells mid new (line_of number event) (Err fault) → ShowedPart limits start now old new fault
-  line_failed e event number faults.Write so_far is told =
+  pub line_failed : (e : EventReader) (event : Event) (number : ℕ) (fault : RunFault) → SoFar limits e start now (heard ++ event ∷ []) → number ≡ e.judge.counts.all → Tells mid new (line_of number event) (Err fault) → ShowedPart limits start now old new fault
+  line_failed e event number faults.Write so_far counted told =
+      let is = numbered e event number so_far counted in
       let due : lines_of (heard ++ event ∷ []) ≡ (lines_of heard ++ told.front) ++ told.back = lines-snoc heard event number is ∙ ap (λ l. lines_of heard ++ l) told.whole ∙ sym (append_assoc (lines_of heard) told.front told.back) in
       record {
         out = lines_of heard ++ told.front;
@@ -103,7 +109,9 @@ module _ (limits : Bounds) (start now old mid new : Told) (heard : List Event) (
         source = so_far.at.failures;
         sink = told.failures ∙ ap after_failure wrote.failures;
       }
-  line_failed e event number faults.Memory so_far is told = record {
+  line_failed e event number faults.Memory so_far counted told =
+      let is = numbered e event number so_far counted in
+      record {
     out = lines_of heard;
     took = subst (λ (t : Told). Took old t (lines_of heard)) (sym told) wrote.took;
     due = read_map limits start now (BeginsWith limits (heard ++ event ∷ [])) (λ log. BeginsShown limits log (lines_of heard)) (begins_shown limits (heard ++ event ∷ []) (lines_of heard) (line_of number event) (lines-snoc heard event number is))
@@ -111,8 +119,9 @@ module _ (limits : Bounds) (start now old mid new : Told) (heard : List Event) (
     source = so_far.at.failures;
     sink = ap (λ (t : Told). t.failures) told ∙ wrote.failures;
   }
-  line_failed e event number faults.Read so_far is told = absurd told
+  line_failed e event number faults.Read so_far counted told = absurd told
 
+module _ (limits : Bounds) (start now old mid : Told) (heard : List Event) (wrote : Wrote old mid (lines_of heard)) where
   -- the verdict was found
   pub all_shown : (v : Verdict) → Found limits start now heard v → ShowedAll limits start now old mid v
   all_shown v found = record {

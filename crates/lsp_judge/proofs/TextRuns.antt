@@ -86,6 +86,9 @@ pub record Reading (limits : Bounds) (e : EventReader) (start now : Told) (n : �
   pub so_far : SoFar limits e start now heard
   pub few : count_of (is_of Editor) heard < n
 
+pub nothing_read : (limits : Bounds) (e : EventReader) (start : Told) (n : ℕ) → SoFar limits e start start [] → 0 < n → Reading limits e start start n
+nothing_read limits e start n so_far positive = record { heard = []; so_far = so_far; few = positive }
+
 count_other : (xs : List Event) (e : Event) → is_of Editor e ≡ false → count_of (is_of Editor) (xs ++ e ∷ []) ≡ count_of (is_of Editor) xs
 count_other xs e other =
     let none : count_of (is_of Editor) (e ∷ []) ≡ 0 = ap (λ b. length (if b then e ∷ [] else [])) other in

@@ -4,8 +4,8 @@ pub mod Rulings
 pub mod Standing
 pub mod Next
 pub mod Hearing
+pub mod TextAnswers
 pub mod Entries
 pub mod LogEvents
 pub mod ShownLog
-pub mod TextAnswers
 pub mod Apart

@@ -12,6 +12,9 @@ use Rattle.lsp_verdict.specs.Verdict.{Verdict}
 use Rattle.lsp_verdict.specs.declared.outcome.RunFault.{RunFault}
 use Rattle.lsp_verdict.specs.declared.verdict.Verdict as code
 use Rattle.lsp_verdict.specs.declared.outcome.RunFault.TheVariants as faults
+use Rattle.lsp_verdict.specs.TextAfter.{AnswersText}
+use Rattle.lsp_judge.specs.TextAnswers.{answer_view}
+use Rattle.lsp_judge.specs.declared.text_answer.TextAnswer.{TextAnswer}
 use Rattle.lsp_judge.specs.Entries.{IsAt, failures_after}
 use Rattle.lsp_judge.specs.Hearing.{IsHeard, IsHearing}
 use Rattle.lsp_judge.specs.declared.event_reader.EventReader.{EventReader}
@@ -38,6 +41,10 @@ pub record SoFar (limits : Bounds) (e : EventReader) (start now : Told) (heard :
   pub alike : e.judge.limits ≡ limits
   pub ungiven : e.judge.given ≡ None
   pub hears : IsHearing e.judge records heard
+
+-- nothing was heard yet
+abbrev pub IsFresh : EventReader → Told → Type 0
+IsFresh e now = SoFar e.log.limits e now now []
 
 -- the verdict was found behind these events
 pub record Found (limits : Bounds) (start now : Told) (heard : List Event) (v : Verdict) : Type 0 where
@@ -81,6 +88,11 @@ TakesEntry limits e start now heard (Err fault) = BrokeOff limits start now hear
 abbrev pub GivesVerdict : Bounds → Told → Told → Result code.Verdict RunFault → Type 0
 GivesVerdict limits start now (Ok v) = OfRead limits start now (λ log. IsVerdict limits log (verdict_view v)) × (now.failures ≡ start.failures)
 GivesVerdict limits start now (Err fault) = BrokeOff limits start now [] fault
+
+-- the answer for a text on the log read, or why there is none
+abbrev pub GivesText : Bounds → Told → Told → ℕ → List ℕ → Result TextAnswer RunFault → Type 0
+GivesText limits start now n uri (Ok answer) = OfRead limits start now (λ log. AnswersText limits log n uri (answer_view answer)) × (now.failures ≡ start.failures)
+GivesText limits start now n uri (Err fault) = BrokeOff limits start now [] fault
 
 -- the failures of a source after an answer
 abbrev pub failures_of : {X : Type 0} → Result X RunFault → ℕ → ℕ

@@ -15,7 +15,7 @@ ghost use Rattle.lsp_verdict.specs.Report.{report};
 ghost use Rattle.lsp_verdict.specs.RunIo.{OfRead, GaveAtMost, source_failures, sink_failures};
 ghost use Rattle.lsp_verdict.specs.Verdict.{yes, no, summary};
 
-use crate::event_reader::{EventReader, Next};
+use crate::event_reader::EventReader;
 use lsp_frame::{Limits, Sink, Source, put_all};
 use lsp_verdict::{Outcome, RunFault, Summary, Verdict, Who, report_of};
 use std::alloc::Global;
@@ -26,12 +26,7 @@ fn verdict_of<R: Source>(alloc: Global, reader: &mut R, limits: Limits) -> Resul
     ensures answer { GivesVerdict limits (R.told reader.old) (R.told reader.new) result }
 {
     let mut events = EventReader::new(alloc, limits);
-    loop {
-        match events.next(reader)? {
-            Next::Event(heard) => drop(heard),
-            Next::Verdict(verdict) => return Ok(verdict),
-        }
-    }
+    events.verdict(reader)
 }
 
 /// Reads a log up to the first event that offends, or to its end, and writes the report of the

@@ -4,7 +4,7 @@ ghost use Rattle.lsp_frame.specs.Bounds.{Bounds};
 ghost use Rattle.lsp_frame.specs.Told.{Told};
 ghost use Rattle.lsp_log.specs.Reader.{ahead};
 ghost use Rattle.lsp_verdict.specs.Event.{Event};
-ghost use Rattle.lsp_judge.specs.LogEvents.{SoFar, IsIdle, Pulls, PullsHere, TakesEntry};
+ghost use Rattle.lsp_judge.specs.LogEvents.{SoFar, IsFresh, IsIdle, Pulls, PullsHere, TakesEntry, GivesVerdict};
 ghost use Rattle.lsp_judge.specs.TextAnswers.{AnswersHeld};
 
 use crate::entry::{Entry, next_entry};
@@ -37,7 +37,8 @@ pub(crate) enum Next {
 impl EventReader {
     /// A reader that heard nothing.
     pub(crate) fn new(alloc: Global, limits: Limits) -> EventReader
-        ensures { (start : Told) → SoFar limits result start start [] }
+        ensures limits { result.log.limits ≡ limits }
+        ensures fresh { (start : Told) → IsFresh result start }
     {
         EventReader {
             log: LogReader::new(alloc, limits),
@@ -60,6 +61,19 @@ impl EventReader {
             }
             if let Some(next) = self.take_entry(reader)? {
                 return Ok(next);
+            }
+        }
+    }
+
+    /// Hears all events of the log, and gives its verdict.
+    pub(crate) fn verdict<R: Source>(&mut self, reader: &mut R) -> Result<Verdict, RunFault>
+        requires fresh { IsFresh self.old (R.told reader.old) }
+        ensures answer { GivesVerdict self.old.log.limits (R.told reader.old) (R.told reader.new) result }
+    {
+        loop {
+            match self.next(reader)? {
+                Next::Event(heard) => drop(heard),
+                Next::Verdict(verdict) => return Ok(verdict),
             }
         }
     }

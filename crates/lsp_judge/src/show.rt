@@ -4,6 +4,7 @@ ghost use Rattle.lsp_frame.specs.Told.{Took};
 ghost use Rattle.lsp_verdict.specs.Given.{verdict_view};
 ghost use Rattle.lsp_verdict.specs.Outcome.{IsVerdict};
 ghost use Rattle.lsp_verdict.specs.RunIo.{OfRead, GaveAtMost, source_failures, sink_failures};
+ghost use Rattle.lsp_judge.specs.LogEvents.{IsFresh};
 ghost use Rattle.lsp_judge.specs.ShownLog.{Shows, IsShown, BeginsShown};
 
 use crate::event_reader::{EventReader, Next};
@@ -44,14 +45,14 @@ pub fn run_show<R: Source, W: Sink>(
     // At most one byte past the limit is read.
     ensures limit { GaveAtMost (limits.log + 1) (R.told reader.old) (R.told reader.new) }
 {
-    let verdict = show_events(alloc, reader, writer, limits)?;
+    let verdict = show_log(alloc, reader, writer, limits)?;
     let report = report_of(alloc, &verdict)?;
     put_all(writer, report.as_slice())?;
     Ok(Outcome::Judged(verdict))
 }
 
 /// Reads a log up to its verdict, and writes the lines of the events before it.
-fn show_events<R: Source, W: Sink>(
+fn show_log<R: Source, W: Sink>(
     alloc: Global,
     reader: &mut R,
     writer: &mut W,
@@ -60,6 +61,19 @@ fn show_events<R: Source, W: Sink>(
     ensures { Shows limits (R.told reader.old) (R.told reader.new) (W.told writer.old) (W.told writer.new) result }
 {
     let mut events = EventReader::new(alloc, limits);
+    show_events(alloc, &mut events, reader, writer)
+}
+
+/// Hears the events of a log up to its verdict, and writes a line for each.
+fn show_events<R: Source, W: Sink>(
+    alloc: Global,
+    events: &mut EventReader,
+    reader: &mut R,
+    writer: &mut W,
+) -> Result<Verdict, RunFault>
+    requires fresh { IsFresh events.old (R.told reader.old) }
+    ensures { Shows events.old.log.limits (R.told reader.old) (R.told reader.new) (W.told writer.old) (W.told writer.new) result }
+{
     let mut line = String::new(alloc);
     loop {
         match events.next(reader)? {

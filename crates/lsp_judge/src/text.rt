@@ -7,7 +7,7 @@ ghost use Rattle.lsp_verdict.specs.RunIo.{OfRead, GaveAtMost, AppendsFront, sour
 ghost use Rattle.lsp_verdict.specs.Shown.{text_is, no_document, too_few, refused};
 ghost use Rattle.lsp_verdict.specs.TextAfter.{AnswersText};
 ghost use Rattle.lsp_judge.specs.TextAnswers.{answer_view};
-ghost use Rattle.lsp_judge.specs.LogEvents.{failures_of};
+ghost use Rattle.lsp_judge.specs.LogEvents.{IsFresh, GivesText, failures_of};
 
 use crate::event_reader::{EventReader, Next};
 use crate::text_answer::TextAnswer;
@@ -39,6 +39,22 @@ pub fn text_after<R: Source>(
     ensures limit { GaveAtMost (limits.log + 1) (R.told reader.old) (R.told reader.new) }
 {
     let mut events = EventReader::new(alloc, limits);
+    text_by(alloc, &mut events, reader, number, uri)
+}
+
+/// Hears the events of a log up to the editor's message of this number, and answers for the text that
+/// is held just after it.
+fn text_by<R: Source>(
+    alloc: Global,
+    events: &mut EventReader,
+    reader: &mut R,
+    number: u64,
+    uri: &str,
+) -> Result<TextAnswer, RunFault>
+    requires positive { 0 < number }
+    requires fresh { IsFresh events.old (R.told reader.old) }
+    ensures { GivesText events.old.log.limits (R.told reader.old) (R.told reader.new) number uri.now result }
+{
     loop {
         match events.next(reader)? {
             Next::Event(heard) => drop(heard),

@@ -1,6 +1,6 @@
 use Rattle.std.proofs.Common.{ap, ◌∙◌}
 use Rattle.std.proofs.lemmas.Result.{err_from_is_err_and}
-use Rattle.lsp_frame.specs.Failures.{after_failure}
+use Rattle.lsp_frame.specs.Told.{after_failure}
 use Rattle.lsp_verdict.proofs.RunReading.{read_within}
 use Rattle.lsp_judge.proofs.ShownLogs.{verdict_read, shown_read, lines_begun, report_begun}
 use Rattle.lsp_judge.proofs.show.run_show.Goals as goal
