@@ -1,113 +1,300 @@
--- The map of the documents beside the list that it stands for.
-use Rattle.std.proofs.Common.{◌≡◌, ℕ, ℤ, List, [], ◌∷◌, ◌++◌, map, Option, Some, None, option_map, is_some, inl, inr, Bool, true, cond, refl, sym, ap, ◌∙◌, string_bytes, String, Global, Bor, true≢false}
-use Rattle.std.specs.Prelude.{slice_get}
-use Rattle.std.proofs.lemmas.Option.{none-some, slice_get-map}
+-- The documents by URI beside the list that they stand for.
+use Rattle.std.proofs.Common.{◌≡◌, List, [], ◌∷◌, ◌++◌, map, filter, length, Option, Some, None, option_map, is_some, inl, inr, Bool, true, false, not, ◌||◌, cond, refl, sym, ap, ◌∙◌, subst, suc, append-nil, append_assoc, string_bytes, String, Global, Bor, true≢false}
+use Rattle.std.specs.Prelude.{if◌then◌else◌, slice_get}
+use Rattle.std.proofs.lemmas.Option.{none-some}
+use Rattle.std.specs.List.{list_any}
 use Rattle.std.specs.Option.{option_copied}
 use Rattle.std.specs.String.{string_eq}
-use Rattle.std.specs.Map.{lookup, set_value, remove_entry}
+use Rattle.std.specs.Map.{lookup, KeepsOthers}
 use Rattle.std.specs.Str.{bytes_eq}
-use Rattle.indexmap.specs.IndexMap.{insert_entry}
-use Rattle.lsp_docs.specs.Texts.{Text}
-use Rattle.lsp_docs.specs.Documents.{Version, versioned, Held}
-use Rattle.lsp_docs.specs.State.{Waits, held_in, set_in, without, with_held}
-use Rattle.lsp_docs.proofs.Words.{true_or_false}
-use Rattle.lsp_docs.proofs.Queues.{rest_of, head_is, not_head}
-use Rattle.lsp_docs.proofs.Stepping.{stated}
+use Rattle.lsp_docs.specs.Calls.{Bytes}
+use Rattle.lsp_docs.specs.Documents.{Version, Held, as_held}
+use Rattle.lsp_docs.specs.State.{held_in, set_in, without}
+use Rattle.lsp_docs.specs.Opened.{held_by, listed, AllHeld, UrisDiffer, AreHeld}
+use Rattle.lsp_docs.proofs.Words.{true_or_false, uri_is, uri_same, uri_flip}
 
 pub copied-map : {D R : Type 0} (f : D → R) (r : Option (Bor D)) → option_map (λ x. f x.now) r ≡ option_map f (option_copied r)
 copied-map f None = refl
 copied-map f (Some x) = refl
 
-module _ {D : Type 0} (version : D → ℤ) (content : D → Text) where
-  abbrev pub held_at : D → Version
-  held_at d = versioned (version d) (content d)
+left_false : (a b : Bool) → (a || b) ≡ false → a ≡ false
+left_false true b h = h
+left_false false b h = refl
 
-  abbrev pub seen : String Global × D → Held
-  seen e = record { uri = string_bytes e.0; version = held_at e.1 }
+right_false : (a b : Bool) → (a || b) ≡ false → b ≡ false
+right_false true b h = absurd (true≢false h)
+right_false false b h = h
 
-  uris : (es : List (String Global × D)) → map (λ h. h.uri) (map seen es) ≡ map (λ e. string_bytes e.0) es
-  uris [] = refl
-  uris (e ∷ es) = ap (λ l. string_bytes e.0 ∷ l) (uris es)
+-- ---- one URI is changed
 
-  pub uri-at : (es : List (String Global × D)) (i : ℕ) → slice_get (map (λ h. h.uri) (map seen es)) i ≡ option_map (λ e. string_bytes e.0) (slice_get es i)
-  uri-at es i = ap (λ l. slice_get l i) (uris es) ∙ slice_get-map (λ (e : String Global × D). string_bytes e.0) es i
+-- this is held of the URI, and of the others what was
+abbrev pub PutsUnder : Bytes → Option Version → (Bytes → Option Version) → (Bytes → Option Version) → Type 0
+PutsUnder uri w held next = (u : Bytes) → next u ≡ (if bytes_eq uri u then w else held u)
 
-  module _ (uri : List ℕ) where
-    abbrev pub is_key : String Global → Bool
-    is_key k = bytes_eq uri (string_bytes k)
+-- what the map's own words say of a change
+pub puts : {D : Type 0} (f : D → Version) (uri : Bytes) (w : Option D) (es new : List (String Global × D)) → lookup (λ key. bytes_eq uri (string_bytes key)) new ≡ w
+    → KeepsOthers string_eq (λ key. bytes_eq uri (string_bytes key)) es new → PutsUnder uri (option_map f w) (held_by f es) (held_by f new)
+unfolding KeepsOthers
+puts f uri w es new at keeps u =
+    elim (true_or_false (bytes_eq uri u)) [
+      | inl p ↦ ap (λ x. held_by f new x) (sym (uri_is uri u p)) ∙ (ap (option_map f) at ∙ sym (ap (λ b. if b then option_map f w else held_by f es u) p))
+      | inr p ↦
+          ap (option_map f) (keeps (λ key. bytes_eq u (string_bytes key)) (λ x y h. ap (λ b. bytes_eq b (string_bytes y)) (uri_is u (string_bytes x) h))
+          (λ k h. ap (λ b. bytes_eq u b) (sym (uri_is uri (string_bytes k) h)) ∙ (uri_flip u uri ∙ p)))
+          ∙ sym (ap (λ b. if b then option_map f w else held_by f es u) p)
+    ]
 
-    pub held_in-seen : (es : List (String Global × D)) → option_map held_at (lookup is_key es) ≡ held_in uri (map seen es)
-    held_in-seen [] = refl
-    held_in-seen (e ∷ es) = elim (true_or_false (is_key e.0)) [ inl p ↦ rw p refl | inr p ↦ rw p (held_in-seen es) ]
+-- the same under a key that bears the URI
+pub puts-key : {D : Type 0} (f : D → Version) (key : String Global) (uri : Bytes) → string_bytes key ≡ uri → (w : Option D) (es new : List (String Global × D))
+    → lookup (λ k. bytes_eq (string_bytes key) (string_bytes k)) new ≡ w → KeepsOthers string_eq (λ k. bytes_eq (string_bytes key) (string_bytes k)) es new
+    → PutsUnder uri (option_map f w) (held_by f es) (held_by f new)
+puts-key f key uri own w es new at keeps = subst (λ b. PutsUnder b (option_map f w) (held_by f es) (held_by f new)) own (puts f (string_bytes key) w es new at keeps)
 
-    pub set_in-there : (d w : D) (es : List (String Global × D)) → lookup is_key es ≡ Some d → map seen (set_value is_key es w) ≡ set_in uri (held_at w) (map seen es)
-    set_in-there d w [] h = refl
-    set_in-there d w (e ∷ es) h =
-        elim (true_or_false (is_key e.0)) [
-          | inl p ↦ rw p refl
-          | inr p ↦ rw p (ap (λ l. seen e ∷ l) (set_in-there d w es (rest_of (is_key e.0) e.1 (lookup is_key es) (Some d) h p)))
-        ]
+-- put and taken away again, nothing is changed
+pub puts-undone : (uri : Bytes) (w : Option Version) (held next last : Bytes → Option Version) → held uri ≡ None → PutsUnder uri w held next → PutsUnder uri None next last → held ≡ last
+puts-undone uri w held next last none first second = λ i u. same u i
+  where
+    same : (u : Bytes) → held u ≡ last u
+    same u = elim (true_or_false (bytes_eq uri u)) [
+      | inl p ↦ ap held (sym (uri_is uri u p)) ∙ (none ∙ sym (second u ∙ ap (λ b. if b then None else next u) p))
+      | inr p ↦ sym (second u ∙ (ap (λ b. if b then None else next u) p ∙ (first u ∙ ap (λ b. if b then w else held u) p)))
+    ]
 
-    pub set-same : (d w : D) → version w ≡ version d → content w ≡ content d → (es : List (String Global × D)) → lookup is_key es ≡ Some d → map seen (set_value is_key es w) ≡ map seen es
-    set-same d w v t [] h = refl
-    set-same d w v t (e ∷ es) h =
-        elim (true_or_false (is_key e.0)) [
-          | inl p ↦ let found = head_is (is_key e.0) e.1 (lookup is_key es) d h p in
-              rw (p, v ∙ ap version (sym found), t ∙ ap content (sym found)) refl
-          | inr p ↦ rw p (ap (λ l. seen e ∷ l) (set-same d w v t es (rest_of (is_key e.0) e.1 (lookup is_key es) (Some d) h p)))
-        ]
+-- ---- the list
 
-    pub removed : (es : List (String Global × D)) → map seen (remove_entry is_key es) ≡ without uri (map seen es)
-    removed [] = refl
-    removed (e ∷ es) = elim (true_or_false (is_key e.0)) [ inl p ↦ rw p refl | inr p ↦ rw p (ap (λ l. seen e ∷ l) (removed es)) ]
+pub uris-listed : (uris : List Bytes) (held : Bytes → Option Version) → AllHeld uris held → map (λ h. h.uri) (listed uris held) ≡ uris
+uris-listed [] held h = refl
+uris-listed (uri ∷ uris) held h = first (held uri) h.0 (uris-listed uris held h.1)
+  where
+    first : (o : Option Version) → is_some o ≡ true → map (λ h. h.uri) (listed uris held) ≡ uris → map (λ h. h.uri) (as_held uri o ++ listed uris held) ≡ uri ∷ uris
+    first None e rest = absurd (true≢false (sym e))
+    first (Some v) e rest = ap (λ l. uri ∷ l) rest
 
-    pub absent : (es : List (String Global × D)) → held_in uri (map seen es) ≡ None → lookup is_key es ≡ None
-    absent [] h = refl
-    absent (e ∷ es) h =
-        elim (true_or_false (is_key e.0)) [
-          | inl p ↦ absurd (none-some (held_at e.1) (sym (sym (ap (λ b. cond b (Some (held_at e.1)) (held_in uri (map seen es))) p) ∙ h)))
-          | inr p ↦ rw p (absent es (sym (ap (λ b. cond b (Some (held_at e.1)) (held_in uri (map seen es))) p) ∙ h))
-        ]
+pub length-listed : (uris : List Bytes) (held : Bytes → Option Version) → AllHeld uris held → length (listed uris held) ≡ length uris
+length-listed uris held h = sym (same (listed uris held)) ∙ ap length (uris-listed uris held h)
+  where
+    same : (hs : List Held) → length (map (λ (h : Held). h.uri) hs) ≡ length hs
+    same [] = refl
+    same (h ∷ hs) = ap (λ n. suc n) (same hs)
 
-    pub inserted : (k : String Global) (w : D) → string_bytes k ≡ uri → (es : List (String Global × D)) → lookup is_key es ≡ None
-        → map seen (insert_entry string_eq es k w) ≡ map seen es ++ record { uri = uri; version = held_at w } ∷ []
-    inserted k w own [] h = rw own refl
-    inserted k w own (e ∷ es) h =
-        let p = not_head (is_key e.0) e.1 (lookup is_key es) h in
-        rw (ap (λ b. bytes_eq b (string_bytes e.0)) own ∙ p) (ap (λ l. seen e ∷ l) (inserted k w own es (rest_of (is_key e.0) e.1 (lookup is_key es) None h p)))
+held_in-first : (uri u : Bytes) (o : Option Version) (rest : List Held) → is_some o ≡ true → held_in uri (as_held u o ++ rest) ≡ (if bytes_eq uri u then o else held_in uri rest)
+held_in-first uri u None rest e = absurd (true≢false (sym e))
+held_in-first uri u (Some v) rest e = refl
 
-pub there_is : {D : Type 0} (f : D → Version) (o : Option D) (h : Option Version) → option_map f o ≡ h → is_some h ≡ true → is_some o ≡ true
-there_is f (Some d) h e p = refl
-there_is f None h e p = absurd (true≢false (sym p ∙ ap is_some (sym e)))
+held_in-listed : (uri : Bytes) (uris : List Bytes) (held : Bytes → Option Version) → AllHeld uris held → held_in uri (listed uris held) ≡ (if list_any (bytes_eq uri) uris then held uri else None)
+held_in-listed uri [] held h = refl
+held_in-listed uri (u ∷ uris) held h =
+    held_in-first uri u (held u) (listed uris held) h.0
+    ∙ elim (true_or_false (bytes_eq uri u)) [
+      | inl p ↦ rw p (ap held (sym (uri_is uri u p)))
+      | inr p ↦ rw p (held_in-listed uri uris held h.1)
+    ]
 
--- what a write of the map leaves of the whole
-module _ {D : Type 0} (version : D → ℤ) (content : D → Text) (uri : List ℕ) (v : ℤ) (t : Text) (limit : ℕ) (w : Waits) where
-  pub inserted_is : (k : String Global) (d : D) → string_bytes k ≡ uri → version d ≡ v → content d ≡ t → (es new : List (String Global × D)) → held_in uri (map (seen version content) es) ≡ None
-      → new ≡ insert_entry string_eq es k d
-      → stated limit (map (seen version content) new) w ≡ with_held (map (seen version content) es ++ record { uri = uri; version = versioned v t } ∷ []) (stated limit (map (seen version content) es) w)
-  inserted_is k d own at holds es new none e =
-      let last : held_at version content d ≡ versioned v t = λ i. versioned (at i) (holds i) in
-      ap (λ l. stated limit l w) (ap (map (seen version content)) e
-      ∙ (inserted version content uri k d own es (absent version content uri es none) ∙ ap (λ x. map (seen version content) es ++ record { uri = uri; version = x } ∷ []) last))
+pub held_in-kept : (uri : Bytes) (uris : List Bytes) (held : Bytes → Option Version) → AreHeld uris held → held_in uri (listed uris held) ≡ held uri
+held_in-kept uri uris held h =
+    held_in-listed uri uris held h.have
+    ∙ elim (true_or_false (list_any (bytes_eq uri) uris)) [
+      | inl p ↦ rw p refl
+      | inr p ↦ rw p (sym (h.others uri p))
+    ]
 
-  pub set_is : (d x : D) → version x ≡ v → content x ≡ t → (es new : List (String Global × D)) → lookup (is_key version content uri) es ≡ Some d → new ≡ set_value (is_key version content uri) es x
-      → stated limit (map (seen version content) new) w ≡ with_held (set_in uri (versioned v t) (map (seen version content) es)) (stated limit (map (seen version content) es) w)
-  set_is d x at holds es new found e =
-      let last : held_at version content x ≡ versioned v t = λ i. versioned (at i) (holds i) in
-      ap (λ l. stated limit l w) (ap (map (seen version content)) e
-      ∙ (set_in-there version content uri d x es found ∙ ap (λ y. set_in uri y (map (seen version content) es)) last))
+-- a URI that is not held is none of these
+pub not_among : (uri : Bytes) (uris : List Bytes) (held : Bytes → Option Version) → AreHeld uris held → held uri ≡ None → list_any (bytes_eq uri) uris ≡ false
+not_among uri uris held h none = away uris h.have
+  where
+    away : (uris : List Bytes) → AllHeld uris held → list_any (bytes_eq uri) uris ≡ false
+    away [] a = refl
+    away (u ∷ uris) a = elim (true_or_false (bytes_eq uri u)) [
+      | inl p ↦ absurd (true≢false (sym a.0 ∙ (ap (λ x. is_some (held x)) (sym (uri_is uri u p)) ∙ ap is_some none)))
+      | inr p ↦ rw p (away uris a.1)
+    ]
 
-  pub same_is : (d x : D) → version x ≡ version d → content x ≡ content d → (es new : List (String Global × D)) → lookup (is_key version content uri) es ≡ Some d → new ≡ set_value (is_key version content uri) es x
-      → stated limit (map (seen version content) new) w ≡ stated limit (map (seen version content) es) w
-  same_is d x at holds es new found e = ap (λ l. stated limit l w) (ap (map (seen version content)) e ∙ set-same version content uri d x at holds es found)
+differs-from : (uri u : Bytes) (uris : List Bytes) → bytes_eq uri u ≡ true → list_any (bytes_eq u) uris ≡ false → list_any (bytes_eq uri) uris ≡ false
+differs-from uri u uris p d = ap (λ x. list_any (bytes_eq x) uris) (uri_is uri u p) ∙ d
 
-pub not_gone : {D : Type 0} (f : D → Version) (o : Option D) (h : Option Version) → option_map f o ≡ h → is_some h ≡ true → o ≡ None → ⊥
-not_gone f o h e p q = true≢false (sym p ∙ (ap is_some (sym e) ∙ ap (λ x. is_some (option_map f x)) q))
+module _ (uri : Bytes) (w : Option Version) (held next : Bytes → Option Version) (put : PutsUnder uri w held next) where
+  at_other : (u : Bytes) → bytes_eq uri u ≡ false → next u ≡ held u
+  at_other u p = put u ∙ ap (λ b. if b then w else held u) p
 
-pub some_map : {D R : Type 0} (f : D → R) (o : Option D) → is_some (option_map f o) ≡ is_some o
-some_map f None = refl
-some_map f (Some x) = refl
+  at_uri : (u : Bytes) → bytes_eq uri u ≡ true → next u ≡ w
+  at_uri u p = put u ∙ ap (λ b. if b then w else held u) p
 
-pub there-seen : {D : Type 0} (version : D → ℤ) (content : D → Text) (uri : List ℕ) (es : List (String Global × D))
-    → is_some (lookup (is_key version content uri) es) ≡ is_some (held_in uri (map (seen version content) es))
-there-seen version content uri es = sym (some_map (held_at version content) _) ∙ ap is_some (held_in-seen version content uri es)
+  listed-others : (uris : List Bytes) → list_any (bytes_eq uri) uris ≡ false → listed uris next ≡ listed uris held
+  listed-others [] n = refl
+  listed-others (u ∷ uris) n =
+      rw (at_other u (left_false (bytes_eq uri u) _ n)) (ap (λ l. as_held u (held u) ++ l) (listed-others uris (right_false (bytes_eq uri u) _ n)))
+
+  AllHeld-others : (uris : List Bytes) → list_any (bytes_eq uri) uris ≡ false → AllHeld uris held → AllHeld uris next
+  AllHeld-others [] n a = tt
+  AllHeld-others (u ∷ uris) n a =
+      (ap is_some (at_other u (left_false (bytes_eq uri u) _ n)) ∙ a.0, AllHeld-others uris (right_false (bytes_eq uri u) _ n) a.1)
+
+-- ---- a document comes to a version
+
+module _ (uri : Bytes) (v : Version) (held next : Bytes → Option Version) (put : PutsUnder uri (Some v) held next) where
+  set_in-first : (u : Bytes) (o : Option Version) (rest : List Held) → is_some o ≡ true → bytes_eq uri u ≡ true → set_in uri v (as_held u o ++ rest) ≡ record { uri = u; version = v } ∷ rest
+  set_in-first u None rest e p = absurd (true≢false (sym e))
+  set_in-first u (Some x) rest e p = rw p refl
+
+  set_in-later : (u : Bytes) (o : Option Version) (rest : List Held) → bytes_eq uri u ≡ false → set_in uri v (as_held u o ++ rest) ≡ as_held u o ++ set_in uri v rest
+  set_in-later u None rest p = refl
+  set_in-later u (Some x) rest p = rw p refl
+
+  pub listed-set : (uris : List Bytes) → AllHeld uris held → UrisDiffer uris → listed uris next ≡ set_in uri v (listed uris held)
+  listed-set [] a d = refl
+  listed-set (u ∷ uris) a d =
+      elim (true_or_false (bytes_eq uri u)) [
+        | inl p ↦ rw (at_uri uri (Some v) held next put u p)
+            (ap (λ l. record { uri = u; version = v } ∷ l) (listed-others uri (Some v) held next put uris (differs-from uri u uris p d.0))
+            ∙ sym (set_in-first u (held u) (listed uris held) a.0 p))
+        | inr p ↦ rw (at_other uri (Some v) held next put u p)
+            (ap (λ l. as_held u (held u) ++ l) (listed-set uris a.1 d.1) ∙ sym (set_in-later u (held u) (listed uris held) p))
+      ]
+
+  AllHeld-set : (uris : List Bytes) → AllHeld uris held → AllHeld uris next
+  AllHeld-set [] a = tt
+  AllHeld-set (u ∷ uris) a = (
+    elim (true_or_false (bytes_eq uri u)) [
+      | inl p ↦ ap is_some (at_uri uri (Some v) held next put u p)
+      | inr p ↦ ap is_some (at_other uri (Some v) held next put u p) ∙ a.0
+    ],
+    AllHeld-set uris a.1,
+  )
+
+  pub AreHeld-set : (uris : List Bytes) → AreHeld uris held → is_some (held uri) ≡ true → AreHeld uris next
+  AreHeld-set uris h there = record {
+    have = AllHeld-set uris h.have;
+    differ = h.differ;
+    others = λ u n. elim (true_or_false (bytes_eq uri u)) [
+      | inl p ↦ absurd (true≢false (sym there ∙ (ap (λ x. is_some (held x)) (uri_is uri u p) ∙ ap is_some (h.others u n))))
+      | inr p ↦ at_other uri (Some v) held next put u p ∙ h.others u n
+    ];
+  }
+
+  -- ---- a document is opened
+
+  listed-last : (uris : List Bytes) → listed (uris ++ uri ∷ []) next ≡ listed uris next ++ as_held uri (next uri)
+  listed-last [] = append-nil (as_held uri (next uri))
+  listed-last (u ∷ uris) = ap (λ l. as_held u (next u) ++ l) (listed-last uris) ∙ sym (append_assoc (as_held u (next u)) (listed uris next) (as_held uri (next uri)))
+
+  pub listed-push : (uris : List Bytes) → list_any (bytes_eq uri) uris ≡ false → listed (uris ++ uri ∷ []) next ≡ listed uris held ++ record { uri = uri; version = v } ∷ []
+  listed-push uris n =
+      listed-last uris ∙ (ap (λ l. l ++ as_held uri (next uri)) (listed-others uri (Some v) held next put uris n)
+      ∙ ap (λ o. listed uris held ++ as_held uri o) (at_uri uri (Some v) held next put uri (uri_same uri)))
+
+  AllHeld-push : (uris : List Bytes) → AllHeld uris next → AllHeld (uris ++ uri ∷ []) next
+  AllHeld-push [] a = (ap is_some (at_uri uri (Some v) held next put uri (uri_same uri)), tt)
+  AllHeld-push (u ∷ uris) a = (a.0, AllHeld-push uris a.1)
+
+  any-push : (u : Bytes) (uris : List Bytes) → list_any (bytes_eq u) (uris ++ uri ∷ []) ≡ (list_any (bytes_eq u) uris || bytes_eq u uri)
+  any-push u [] = or_false (bytes_eq u uri)
+    where
+      or_false : (b : Bool) → (b || false) ≡ b
+      or_false true = refl
+      or_false false = refl
+  any-push u (x ∷ uris) = elim (true_or_false (bytes_eq u x)) [ inl p ↦ rw p refl | inr p ↦ rw p (any-push u uris) ]
+
+  UrisDiffer-push : (uris : List Bytes) → UrisDiffer uris → list_any (bytes_eq uri) uris ≡ false → UrisDiffer (uris ++ uri ∷ [])
+  UrisDiffer-push [] d n = (refl, tt)
+  UrisDiffer-push (u ∷ uris) d n = (
+    any-push u uris ∙ rw (d.0, uri_flip u uri, left_false (bytes_eq uri u) _ n) refl,
+    UrisDiffer-push uris d.1 (right_false (bytes_eq uri u) _ n),
+  )
+
+  pub AreHeld-push : (uris : List Bytes) → AreHeld uris held → list_any (bytes_eq uri) uris ≡ false → AreHeld (uris ++ uri ∷ []) next
+  AreHeld-push uris h n = record {
+    have = AllHeld-push uris (AllHeld-set uris h.have);
+    differ = UrisDiffer-push uris h.differ n;
+    others = λ u away.
+        let parts = sym (any-push u uris) ∙ away in
+        at_other uri (Some v) held next put u (uri_flip uri u ∙ right_false (list_any (bytes_eq u) uris) _ parts)
+        ∙ h.others u (left_false (list_any (bytes_eq u) uris) _ parts);
+  }
+
+-- ---- a document is closed
+
+module _ (uri : Bytes) (held next : Bytes → Option Version) (put : PutsUnder uri None held next) where
+  all_others : (uris : List Bytes) → list_any (bytes_eq uri) uris ≡ false → filter (λ u. not (bytes_eq uri u)) uris ≡ uris
+  all_others [] n = refl
+  all_others (u ∷ uris) n = rw (left_false (bytes_eq uri u) _ n) (ap (λ l. u ∷ l) (all_others uris (right_false (bytes_eq uri u) _ n)))
+
+  without-first : (u : Bytes) (o : Option Version) (rest : List Held) → is_some o ≡ true → bytes_eq uri u ≡ true → without uri (as_held u o ++ rest) ≡ rest
+  without-first u None rest e p = absurd (true≢false (sym e))
+  without-first u (Some x) rest e p = rw p refl
+
+  without-later : (u : Bytes) (o : Option Version) (rest : List Held) → bytes_eq uri u ≡ false → without uri (as_held u o ++ rest) ≡ as_held u o ++ without uri rest
+  without-later u None rest p = refl
+  without-later u (Some x) rest p = rw p refl
+
+  pub listed-without : (uris : List Bytes) → AllHeld uris held → UrisDiffer uris → listed (filter (λ u. not (bytes_eq uri u)) uris) next ≡ without uri (listed uris held)
+  listed-without [] a d = refl
+  listed-without (u ∷ uris) a d =
+      elim (true_or_false (bytes_eq uri u)) [
+        | inl p ↦
+            let away = differs-from uri u uris p d.0 in
+            rw (p, all_others uris away) (listed-others uri None held next put uris away ∙ sym (without-first u (held u) (listed uris held) a.0 p))
+        | inr p ↦ rw (p, at_other uri None held next put u p)
+            (ap (λ l. as_held u (held u) ++ l) (listed-without uris a.1 d.1) ∙ sym (without-later u (held u) (listed uris held) p))
+      ]
+
+  AllHeld-without : (uris : List Bytes) → AllHeld uris held → AllHeld (filter (λ u. not (bytes_eq uri u)) uris) next
+  AllHeld-without [] a = tt
+  AllHeld-without (u ∷ uris) a =
+      elim (true_or_false (bytes_eq uri u)) [
+        | inl p ↦ rw p (AllHeld-without uris a.1)
+        | inr p ↦ rw p (ap is_some (at_other uri None held next put u p) ∙ a.0, AllHeld-without uris a.1)
+      ]
+
+  fewer : (u : Bytes) (uris : List Bytes) → list_any (bytes_eq u) uris ≡ false → list_any (bytes_eq u) (filter (λ x. not (bytes_eq uri x)) uris) ≡ false
+  fewer u [] n = refl
+  fewer u (x ∷ uris) n =
+      let rest = fewer u uris (right_false (bytes_eq u x) _ n) in
+      elim (true_or_false (bytes_eq uri x)) [ inl p ↦ rw p rest | inr p ↦ rw p (rw (left_false (bytes_eq u x) _ n) rest) ]
+
+  UrisDiffer-without : (uris : List Bytes) → UrisDiffer uris → UrisDiffer (filter (λ u. not (bytes_eq uri u)) uris)
+  UrisDiffer-without [] d = tt
+  UrisDiffer-without (u ∷ uris) d =
+      elim (true_or_false (bytes_eq uri u)) [
+        | inl p ↦ rw p (UrisDiffer-without uris d.1)
+        | inr p ↦ rw p (fewer u uris d.0, UrisDiffer-without uris d.1)
+      ]
+
+  -- another URI that is none of those left was none before
+  none_before : (u : Bytes) (uris : List Bytes) → bytes_eq uri u ≡ false → list_any (bytes_eq u) (filter (λ x. not (bytes_eq uri x)) uris) ≡ false → list_any (bytes_eq u) uris ≡ false
+  none_before u [] p n = refl
+  none_before u (x ∷ uris) p n =
+      elim (true_or_false (bytes_eq uri x)) [
+        | inl q ↦ rw (ap (λ y. bytes_eq u y) (sym (uri_is uri x q)) ∙ (uri_flip u uri ∙ p)) (none_before u uris p (rw q at n))
+        | inr q ↦
+            let kept : (bytes_eq u x || list_any (bytes_eq u) (filter (λ y. not (bytes_eq uri y)) uris)) ≡ false = rw q at n in
+            rw (left_false (bytes_eq u x) _ kept) (none_before u uris p (right_false (bytes_eq u x) _ kept))
+      ]
+
+  pub AreHeld-without : (uris : List Bytes) → AreHeld uris held → AreHeld (filter (λ u. not (bytes_eq uri u)) uris) next
+  AreHeld-without uris h = record {
+    have = AllHeld-without uris h.have;
+    differ = UrisDiffer-without uris h.differ;
+    others = λ u n. elim (true_or_false (bytes_eq uri u)) [
+      | inl p ↦ at_uri uri None held next put u p
+      | inr p ↦ at_other uri None held next put u p ∙ h.others u (none_before u uris p n)
+    ];
+  }
+
+-- ---- nothing is changed
+
+pub without-absent : (uri : Bytes) (hs : List Held) → held_in uri hs ≡ None → without uri hs ≡ hs
+without-absent uri [] h = refl
+without-absent uri (d ∷ hs) h =
+    elim (true_or_false (bytes_eq uri d.uri)) [
+      | inl p ↦ absurd (none-some d.version (sym (rw p at h)))
+      | inr p ↦ rw p (ap (λ l. d ∷ l) (without-absent uri hs (rw p at h)))
+    ]
+
+pub puts-same : (uri : Bytes) (v : Version) (held next : Bytes → Option Version) → held uri ≡ Some v → PutsUnder uri (Some v) held next → next ≡ held
+puts-same uri v held next there put = λ i u. same u i
+  where
+    same : (u : Bytes) → next u ≡ held u
+    same u = elim (true_or_false (bytes_eq uri u)) [
+      | inl p ↦ put u ∙ (ap (λ b. if b then Some v else held u) p ∙ (sym there ∙ ap held (uri_is uri u p)))
+      | inr p ↦ put u ∙ ap (λ b. if b then Some v else held u) p
+    ]

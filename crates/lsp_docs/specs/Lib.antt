@@ -6,6 +6,7 @@ pub mod Rules
 pub mod Missed
 pub mod State
 pub mod Fault
+pub mod Opened
 pub mod Kept
 pub mod Answer
 pub mod Binding

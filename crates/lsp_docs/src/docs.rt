@@ -21,13 +21,13 @@ use crate::fault::{
     VERSION_STAYS, WRONG_KIND,
 };
 use crate::kind::fits_kind;
+use crate::opened::OpenDocuments;
 use crate::snapshot::{Match, any_differs, is_due};
 use crate::waiting::Waiting;
-use indexmap::IndexMap;
 use lsp_frame::Limits;
 use lsp_text::{TextStore, change_all};
 use lsp_types::{Change, Encoding, SyncKind};
-use std::alloc::{AllocError, Global};
+use std::alloc::Global;
 use std::marker::Model;
 
 /// The open documents in order of opening, and the snapshots that wait for their versions.
@@ -37,20 +37,18 @@ use std::marker::Model;
 #[derive(Drop)]
 pub struct Docs<S: TextStore> {
     limit: u64,
-    documents: IndexMap<String, Document<S>>,
+    documents: OpenDocuments<S>,
     waiting: Waiting,
 }
 
 impl<S: TextStore> Model for Docs<S> {
-    ghost use Rattle.std.specs.Prelude.{map, string_bytes};
-    ghost use Rattle.lsp_docs.specs.Documents.{versioned};
     ghost use Rattle.lsp_docs.specs.State.{State};
 
     ghost Value = { State };
 
     ghost view = { λ d. record {
       limit = d.limit;
-      documents = map (λ e. record { uri = string_bytes e.0; version = versioned e.1.version (S.content e.1.store) }) d.documents.entries;
+      documents = d.documents;
       waits = d.waiting;
     } };
 }
@@ -63,7 +61,7 @@ impl<S: TextStore> Docs<S> {
     {
         Docs {
             limit: limits.document(),
-            documents: IndexMap::new(alloc),
+            documents: OpenDocuments::new(alloc),
             waiting: Waiting::new(alloc),
         }
     }
@@ -80,8 +78,15 @@ impl<S: TextStore> Docs<S> {
         ensures { (calls : List Call) → Stands self.now calls
             → option_map (λ uri. uri.now) result ≡ slice_get (map (λ h. h.uri) (documents self.now.limit calls)) index }
     {
-        let (uri, _) = self.documents.get_index(index)?;
-        Some(uri.as_str())
+        self.documents.at(index)
+    }
+
+    /// Makes ready for a walk over all open documents: after it, until one is closed, [`Docs::at`]
+    /// finds each at once.
+    pub fn pack(&mut self)
+        ensures { self.new ≡ self.old }
+    {
+        self.documents.pack();
     }
 
     /// The version that the server holds of a URI, if it is open.
@@ -138,7 +143,7 @@ impl<S: TextStore> Docs<S> {
         if self.refutes(uri, version, &store) {
             return Err(DocFault::Rule(SNAPSHOT_DIFFERS));
         }
-        self.insert(uri, version, store)?;
+        self.documents.insert(uri, version, store)?;
         self.waiting.reach(uri, version);
         Ok(())
     }
@@ -189,7 +194,7 @@ impl<S: TextStore> Docs<S> {
         ensures rule_only { IfErr result IsRule }
         ensures err { OnErr result (self.new ≡ self.old) }
     {
-        if self.documents.shift_remove(uri).is_none() {
+        if !self.documents.remove(uri) {
             return Err(DocFault::Rule(NOT_OPEN));
         }
         self.waiting.release(uri);
@@ -274,7 +279,7 @@ impl<S: TextStore> Docs<S> {
         if self.get(uri).is_some() {
             return Err(DocFault::Rule(ALREADY_OPEN));
         }
-        let store = S::from_text(*self.documents.allocator(), text)?;
+        let store = S::from_text(self.documents.alloc(), text)?;
         if self.limit < store.byte_len() {
             return Err(DocFault::Rule(OVER_LIMIT));
         }
@@ -286,17 +291,6 @@ impl<S: TextStore> Docs<S> {
         ensures { result ≡ list_any (differs (versioned version (S.content store.now))) (queue_of uri.now self.now.waits.queues) }
     {
         any_differs(self.waiting.of(uri), version, store)
-    }
-
-    fn insert(&mut self, uri: &str, version: i32, store: S) -> Result<(), AllocError>
-        requires { held_in uri.now self.old.documents ≡ None }
-        ensures ok { OnOk result (self.new ≡ with_held (self.old.documents
-            ++ (record { uri = uri.now; version = versioned version (S.content store) }) ∷ []) self.old) }
-        ensures err { OnErr result (self.new ≡ self.old) }
-    {
-        let key = String::from_str(*self.documents.allocator(), uri)?;
-        self.documents.insert(key, Document { version, store })?;
-        Ok(())
     }
 
     /// The rule that a change breaks, whatever text it leads to.
@@ -357,11 +351,8 @@ impl<S: TextStore> Docs<S> {
         ensures fault { IfErr result (Breaks (changed_at self.old encoding uri.now (edit_of change.now ∷ []))) }
         ensures err { OnErr result (self.new ≡ self.old) }
     {
-        let limit = self.limit;
-        let Some(document) = self.documents.get_mut(uri) else {
-            return Ok(());
-        };
-        document.change(limit, encoding, version, change)
+        self.documents
+            .change(self.limit, encoding, uri, version, change)
     }
 
     /// Makes the changes in a copy, which takes the place of the held store if no waiting snapshot contradicts it.
@@ -384,7 +375,7 @@ impl<S: TextStore> Docs<S> {
         if self.refutes(uri, version, &changed) {
             return Err(DocFault::Rule(SNAPSHOT_DIFFERS));
         }
-        self.set(uri, version, changed);
+        self.documents.set(uri, version, changed);
         Ok(())
     }
 
@@ -400,19 +391,8 @@ impl<S: TextStore> Docs<S> {
         ensures fault { IfErr result (Breaks (changed_at self.now encoding uri.now (edits_of changes.now))) }
     {
         let document = self.get(uri).unwrap();
-        let mut store = document.store.copy(*self.documents.allocator())?;
+        let mut store = document.store.copy(self.documents.alloc())?;
         change_all(&mut store, encoding, changes, self.limit)?;
         Ok(store)
-    }
-
-    /// Puts a version in the place of the held one.
-    fn set(&mut self, uri: &str, version: i32, store: S)
-        requires { is_some (held_in uri.now self.old.documents) ≡ true }
-        ensures { self.new ≡ with_held (set_in uri.now (versioned version (S.content store)) self.old.documents) self.old }
-    {
-        let Some(document) = self.documents.get_mut(uri) else {
-            return;
-        };
-        *document = Document { version, store };
     }
 }

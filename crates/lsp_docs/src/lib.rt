@@ -11,6 +11,7 @@ mod document;
 mod fault;
 mod kind;
 mod laws;
+mod opened;
 mod snapshot;
 mod waiting;
 

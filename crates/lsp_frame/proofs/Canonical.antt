@@ -89,7 +89,7 @@ blank_after w front back text e = elim (cases_lt (length front) (length w)) [
   | inr behind ↦ nil_from_length back (omega (arith, ap length e, length-append w blank_line, length-append front (blank_line ++ back)))
 ]
 
-header_part : (limits : Bounds) (ds : List ℕ) → 64 ≤ limits.header → length ds ≤ 10 → list_all is_ascii_digit ds ≡ true → IsHeader limits (length_header ds)
+pub header_part : (limits : Bounds) (ds : List ℕ) → 64 ≤ limits.header → length ds ≤ 10 → list_all is_ascii_digit ds ≡ true → IsHeader limits (length_header ds)
 header_part limits ds room short digits = record {
   ends = (codes "Content-Length: " ++ ds, refl);
   first = λ front back e. blank_after (codes "Content-Length: " ++ ds) front back (list_all-append is_text (codes "Content-Length: ") ds ∙ and_from _ _ refl (digits_text ds digits)) e;
@@ -109,7 +109,7 @@ header_spelled ds digits = record {
   );
 }
 
-header_says : (limits : Bounds) (ds : List ℕ) (n : ℕ) → list_all is_ascii_digit ds ≡ true → 0 < length ds → length ds ≤ 10 → digits_value 10 ds ≡ n → n ≤ limits.content → Says limits (length_header ds) (Ok n)
+pub header_says : (limits : Bounds) (ds : List ℕ) (n : ℕ) → list_all is_ascii_digit ds ≡ true → 0 < length ds → length ds ≤ 10 → digits_value 10 ds ≡ n → n ≤ limits.content → Says limits (length_header ds) (Ok n)
 header_says limits ds n digits some short value within =
     let least : nat_le 1 (length ds) ≡ true = grind (arith, nat_tests) in
     let most : nat_le (length ds) 10 ≡ true = grind (arith, nat_tests) in

@@ -1,5 +1,5 @@
 -- Reading a header part field by field.
-use Rattle.std.proofs.Common.{◌≡◌, ℕ, List, [], ◌∷◌, ◌++◌, sym, ap, ◌∙◌, append_assoc, inl, Result}
+use Rattle.std.proofs.Common.{◌≡◌, ℕ, List, [], ◌∷◌, ◌++◌, sym, ap, ◌∙◌, append_assoc}
 use Rattle.std.specs.List.{flat_map, list_all, AllByRecursion}
 use Rattle.lsp_frame.specs.declared.header.Lengths.{Lengths}
 use Rattle.std.specs.Prelude.{map, filter, Bool, true, false, not, ◌&&◌, nat_eq}
@@ -7,8 +7,7 @@ use lib.Pointwise.{pointwise}
 use Rattle.std.proofs.lemmas.List.{map-append, flat_map_more}
 use Rattle.std.proofs.lemmas.List.Elements.{filter-append}
 use Rattle.std.proofs.lemmas.List.Folds.{list_all-append}
-use Rattle.lsp_frame.specs.Bounds.{Bounds}
-use Rattle.lsp_frame.specs.Header.{Field, IsField, Spells, line, line_end, lengths, trimmed, is_content_length, is_content_type, fits_charset, parts, fits_charsets, content_length, length_and_charset, Says}
+use Rattle.lsp_frame.specs.Header.{Field, IsField, Spells, line, line_end, lengths, trimmed, is_content_length, is_content_type, fits_charset, parts, fits_charsets}
 use Rattle.lsp_frame.specs.Reading.{Holds, NoFieldBegins}
 use Rattle.lsp_frame.proofs.Fields.{cons_lines, rest_of_fields}
 
@@ -55,15 +54,6 @@ pub none_spell : (header rest : List ℕ) (counted : Lengths) (utf8 : Bool) → 
 none_spell header rest counted utf8 so_far goes_on none fields spelled =
     let more = rest_of_fields so_far.front fields rest so_far.each spelled.each (sym so_far.whole ∙ spelled.lines) in
     nothing_left more.0 rest more.1 more.2 goes_on none
-
--- what the fields that were read say, at the end
-pub said_at_end : (limits : Bounds) (header rest : List ℕ) (counted : Lengths) (utf8 : Bool) (said : Result ℕ ℕ) → HasRead header rest counted utf8 → rest ≡ line_end
-    → ((values : List (List ℕ)) → Holds counted values → said ≡ content_length limits values) → Says limits header (length_and_charset utf8 said)
-said_at_end limits header rest counted utf8 said so_far end says = inl (
-  so_far.front,
-  record { lines = so_far.whole ∙ ap (λ (w : List ℕ). flat_map line so_far.front ++ w) end; each = so_far.each },
-  ap (λ (b : Bool). length_and_charset b (content_length limits (lengths so_far.front))) (sym so_far.charsets) ∙ ap (length_and_charset utf8) (sym (says (lengths so_far.front) so_far.holds)),
-)
 
 -- the loop's test says that the end isn't reached
 pub not_end : (rest end : List ℕ) (differs : Bool) → differs ≡ not (pointwise nat_eq rest end) → differs ≡ true → end ≡ line_end → rest ≡ line_end → ⊥

@@ -6,6 +6,8 @@ pub mod Frames
 pub mod Starts
 pub mod Readings
 pub mod Canonical
+pub mod PlainHeaders
 pub mod Steps
+pub mod Pulls
 pub mod Telling
 pub mod Writing

@@ -1,6 +1,8 @@
 -- One step of a decoder, over its buffer.
-use Rattle.std.proofs.Common.{◌≡◌, ℕ, ◌+◌, ◌-◌, ◌≤◌, List, [], ◌∷◌, ◌++◌, length, take, drop, Option, None, Some, Result, Ok, Err, append_assoc, ◌<◌, refl, sym, ap, subst, ◌∙◌, arith}
-use Rattle.std.proofs.lemmas.List.{length-append, take-append-drop, take-take, length-take, length-drop, drop-drop, drop_at, drop-take, take_rest, append-nil}
+use Rattle.std.proofs.Common.{◌≡◌, ℕ, zero, suc, ◌+◌, ◌-◌, ◌≤◌, List, [], ◌∷◌, ◌++◌, length, take, drop, Option, None, Some, Result, Ok, Err, append_assoc, ◌<◌, refl, sym, ap, subst, ◌∙◌, arith}
+use Rattle.std.proofs.lemmas.List.{length-append, take-append-drop, take-take, length-take, length-drop, drop-drop, drop_at, drop-take, append-nil}
+use Rattle.std.proofs.lemmas.List.Edits.{take-paste}
+use Rattle.std.specs.List.{copy_within}
 use Rattle.std.specs.Prelude.{OnOk, IfSome}
 use Rattle.lsp_frame.specs.declared.decoder.FrameFault.{FrameFault}
 use Rattle.lsp_frame.specs.Bounds.{Bounds}
@@ -13,6 +15,16 @@ use Rattle.lsp_frame.proofs.Starts.{front_of, unfinished_content}
 use Rattle.lsp_frame.proofs.Readings.{rest_short}
 use Rattle.lsp_frame.proofs.Frames.{frames_more, frames_push, breaks_more, breaks_no_frame}
 
+take_nothing : (n : ℕ) → take {A = ℕ} n [] ≡ []
+take_nothing zero = refl
+take_nothing (suc n) = refl
+
+pub drop_take : (start end : ℕ) (xs : List ℕ) → take (end - start) (drop start xs) ≡ drop start (take end xs)
+drop_take zero end xs = ap (λ n. take n xs) (omega arith)
+drop_take (suc start) zero xs = ap (λ n. take n (drop (suc start) xs)) (let e : zero - suc start ≡ zero = omega arith in e)
+drop_take (suc start) (suc end) [] = take_nothing (suc end - suc start)
+drop_take (suc start) (suc end) (x ∷ xs) = ap (λ n. take n (drop start xs)) (let e : suc end - suc start ≡ end - start = omega arith in e) ∙ drop_take start end xs
+
 take_on : (s n : ℕ) (items : List ℕ) → take (s + n) items ≡ take s items ++ take n (drop s items)
 take_on s n items =
     sym (take-append-drop s (take (s + n) items))
@@ -24,25 +36,32 @@ last_is kept frame header content len =
     let at : length (kept ++ frame) - content ≡ length kept + header = omega (arith, length-append kept frame, len) in
     ap (λ (k : ℕ). drop k (kept ++ frame)) at ∙ sym (drop-drop header (length kept) (kept ++ frame)) ∙ ap (drop header) (drop_at kept frame (length kept) refl)
 
-abbrev pub state_at : Bounds → List ℕ → ℕ → Option ℕ → State
-state_at limits items start fault = record { limits = limits; kept = take start items; rest = drop start items; fault = fault }
+-- start and end: where the bytes begin that belong to no frame given, and where those pushed end
+abbrev pub state_at : Bounds → List ℕ → ℕ → ℕ → Option ℕ → State
+state_at limits items start end fault = record { limits = limits; kept = take start items; rest = drop start (take end items); fault = fault }
 
-pub gives_frame : (limits : Bounds) (items : List ℕ) (start header content : ℕ) (fault : Option ℕ) → fault ≡ None → start ≤ length items → StartsWithHeader limits (drop start items) (record { header = header; content = content })
-    → header + content ≤ length (drop start items) → (content ≤ length (take (start + (header + content)) items)) × GivesFrame (state_at limits items start fault) (state_at limits items (start + (header + content)) fault) (last_of (take (start + (header + content)) items) content)
-gives_frame limits items start header content fault none fits starts inside =
-    let rest = drop start items in
+front_on : (items : List ℕ) (start end n : ℕ) → start ≤ end → n ≤ length (drop start (take end items)) → take n (drop start items) ≡ take n (drop start (take end items))
+front_on items start end n from inside =
+    let within : start + n ≤ end = omega (arith, length-drop start (take end items), length-take end items, inside) in
+    sym (drop-take start n items) ∙ ap (drop start) (sym (take-take (start + n) end items within)) ∙ drop-take start n (take end items)
+
+pub gives_frame : (limits : Bounds) (items : List ℕ) (start end header content : ℕ) (fault : Option ℕ) → fault ≡ None → start ≤ end → end ≤ length items → StartsWithHeader limits (drop start (take end items)) (record { header = header; content = content })
+    → header + content ≤ length (drop start (take end items))
+    → (content ≤ length (take (start + (header + content)) items)) × GivesFrame (state_at limits items start end fault) (state_at limits items (start + (header + content)) end fault) (last_of (take (start + (header + content)) items) content)
+gives_frame limits items start end header content fault none from fits starts inside =
+    let rest = drop start (take end items) in
     let n = header + content in
     let frame = take n rest in
     let front = front_of limits rest (record { header = header; content = content }) starts inside in
-    let kept : take (start + n) items ≡ take start items ++ frame = take_on start n items in
+    let kept : take (start + n) items ≡ take start items ++ frame = take_on start n items ∙ ap (λ (w : List ℕ). take start items ++ w) (front_on items start end n from inside) in
     let last : last_of (take (start + n) items) content ≡ drop header frame = ap (λ (w : List ℕ). last_of w content) kept ∙ last_is (take start items) frame header content front.len in (
-      omega (arith, length-take (start + n) items, length-drop start items, inside),
+      omega (arith, length-take (start + n) items, length-drop start (take end items), length-take end items, inside, from, fits),
       record {
         open_before = none;
         frame = frame;
         is_frame = subst (λ (w : List ℕ). IsFrame limits frame w) (sym last) front.is_frame;
-        rest = sym (take-append-drop n rest) ∙ ap (λ (w : List ℕ). frame ++ w) (drop-drop n start items);
-        same = ap (λ (w : List ℕ). record { limits = limits; kept = w; rest = drop (start + n) items; fault = fault }) kept;
+        rest = sym (take-append-drop n rest) ∙ ap (λ (w : List ℕ). frame ++ w) (drop-drop n start (take end items));
+        same = ap (λ (w : List ℕ). record { limits = limits; kept = w; rest = drop (start + n) (take end items); fault = fault }) kept;
       },
     )
 
@@ -50,9 +69,16 @@ pub unfinished_end : (fault : Option ℕ) (rest : List ℕ) → fault ≡ None �
 unfinished_end fault [] none some = absurd (omega arith)
 unfinished_end fault (b ∷ rest) none some = ap (λ (f : Option ℕ). finish_at f (b ∷ rest)) (sym none)
 
--- the slice from a place on
-pub rest_slice : (xs items : List ℕ) (i : ℕ) → xs ≡ items → take (length xs - i) (drop i xs) ≡ drop i items
-rest_slice xs items i same = take_rest xs i ∙ ap (drop i) same
+-- the slice between two places
+pub rest_slice : (xs items : List ℕ) (start end : ℕ) → xs ≡ items → take (end - start) (drop start xs) ≡ drop start (take end items)
+rest_slice xs items start end same = drop_take start end xs ∙ ap (λ (w : List ℕ). drop start (take end w)) same
+
+-- the bytes between two places, moved to the front
+pub moved_down : (xs : List ℕ) (start end : ℕ) → start ≤ end → end ≤ length xs → take (end - start) (copy_within xs start end 0) ≡ drop start (take end xs)
+moved_down xs start end from fits =
+    subst (λ (n : ℕ). take n (copy_within xs start end 0) ≡ take (end - start) (drop start xs)) (let e : 0 + (end - start) ≡ end - start = omega arith in e)
+    (take-paste xs 0 (drop start xs) (end - start) (omega arith) (omega (arith, length-drop start xs, from, fits)))
+    ∙ drop_take start end xs
 
 -- ---- the streams that a decoder stands for
 
@@ -131,24 +157,24 @@ next_of old new (Ok None) step = record { step = step; stands = λ bytes content
 next_of old new (Err rule) step = record { step = step; stands = λ bytes contents. fault_stands old new rule bytes contents step }
 
 -- the frame ahead is whole
-pub frame_next : (limits : Bounds) (items : List ℕ) (start : ℕ) (size : FrameSize) (fault : Option ℕ) (old : State) → state_at limits items start fault ≡ old → old.fault ≡ None → start ≤ length items → StartsWithHeader old.limits old.rest size
-    → size.content ≤ length items - start - size.header → (size.content ≤ length (take (start + (size.header + size.content)) items)) × Next old (state_at limits items (start + (size.header + size.content)) fault) (Ok (Some (last_of (take (start + (size.header + size.content)) items) size.content)))
-frame_next limits items start size fault old is none fits starts whole =
-    let now = state_at limits items start fault in
-    let new = state_at limits items (start + (size.header + size.content)) fault in
+pub frame_next : (limits : Bounds) (items : List ℕ) (start end : ℕ) (size : FrameSize) (fault : Option ℕ) (old : State) → state_at limits items start end fault ≡ old → old.fault ≡ None → start ≤ end → end ≤ length items → StartsWithHeader old.limits old.rest size
+    → size.content ≤ end - start - size.header → (size.content ≤ length (take (start + (size.header + size.content)) items)) × Next old (state_at limits items (start + (size.header + size.content)) end fault) (Ok (Some (last_of (take (start + (size.header + size.content)) items) size.content)))
+frame_next limits items start end size fault old is none from fits starts whole =
+    let now = state_at limits items start end fault in
+    let new = state_at limits items (start + (size.header + size.content)) end fault in
     let open_now : fault ≡ None = ap (λ (s : State). s.fault) is ∙ none in
-    let starts_now : StartsWithHeader limits (drop start items) size = subst (λ (s : State). StartsWithHeader s.limits s.rest size) (sym is) starts in
+    let starts_now : StartsWithHeader limits (drop start (take end items)) size = subst (λ (s : State). StartsWithHeader s.limits s.rest size) (sym is) starts in
     let header_fits = starts_now.fits in
-    let gives = gives_frame limits items start size.header size.content fault open_now fits starts_now (omega (arith, length-drop start items)) in
+    let gives = gives_frame limits items start end size.header size.content fault open_now from fits starts_now (omega (arith, length-drop start (take end items), length-take end items)) in
     (gives.0, subst (λ (s : State). Next s new (Ok (Some (last_of (take (start + (size.header + size.content)) items) size.content)))) is (next_of now new (Ok (Some (last_of (take (start + (size.header + size.content)) items) size.content))) gives.1))
 
 -- the content ahead isn't whole yet
-pub unfinished_next : (limits : Bounds) (items : List ℕ) (start : ℕ) (size : FrameSize) (fault : Option ℕ) (old : State) → state_at limits items start fault ≡ old → old.fault ≡ None → StartsWithHeader old.limits old.rest size
-    → length items - start - size.header < size.content → Next old (state_at limits items start fault) (Ok None)
-unfinished_next limits items start size fault old is none starts short =
-    let len : length items - start ≡ length old.rest = sym (length-drop start items) ∙ ap (λ (s : State). length s.rest) is in
+pub unfinished_next : (limits : Bounds) (items : List ℕ) (start end : ℕ) (size : FrameSize) (fault : Option ℕ) (old : State) → state_at limits items start end fault ≡ old → old.fault ≡ None → end ≤ length items → StartsWithHeader old.limits old.rest size
+    → end - start - size.header < size.content → Next old (state_at limits items start end fault) (Ok None)
+unfinished_next limits items start end size fault old is none fits starts short =
+    let len : end - start ≡ length old.rest = omega (arith, length-drop start (take end items), length-take end items, fits, ap (λ (s : State). length s.rest) is) in
     let unfinished = unfinished_content old.limits old.rest size starts (omega (arith, len)) in
-    next_of old (state_at limits items start fault) (Ok None) (record { open_before = none; no_frame = unfinished.no_frame; no_fault = unfinished.no_fault; same = is })
+    next_of old (state_at limits items start end fault) (Ok None) (record { open_before = none; no_frame = unfinished.no_frame; no_fault = unfinished.no_fault; same = is })
 
 pub push_stands_ok : {E : Type 0} (r : Result (Unit {0}) E) (old new : State) (piece : List ℕ) → OnOk r (new ≡ pushed old piece) → OnOk r ((bytes : List ℕ) (contents : List (List ℕ)) → StandsFor old bytes contents → StandsFor new (bytes ++ piece) contents)
 push_stands_ok (Ok u) old new piece is = λ bytes contents stands. subst (λ (s : State). StandsFor s (bytes ++ piece) contents) (sym is) (push_stands old piece bytes contents stands)

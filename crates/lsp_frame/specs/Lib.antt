@@ -8,4 +8,5 @@ pub mod Start
 pub mod Sink
 pub mod Decoder
 pub mod Buffer
+pub mod Pulling
 pub mod Lending

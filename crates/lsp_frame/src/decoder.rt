@@ -1,11 +1,14 @@
 //! Frames from bytes that come in pieces (LSP 3.17, "Base Protocol").
-ghost use Rattle.std.specs.Prelude.{◌≡◌, ◌≤◌, ◌+◌, ℕ, List, [], ◌++◌, length, drop, vec_len, vec_capacity, Some, None, Err, Result, IsSome, IsOk, OnOk, OnErr};
+ghost use Rattle.std.specs.Prelude.{◌≡◌, ◌≤◌, ◌<◌, ◌+◌, ◌-◌, ◌^◌, ℕ, List, [], ◌++◌, length, take, drop, vec_len, Some, None, Err, Result, IsSome, IsOk, IfOk, OnOk, OnErr};
+ghost use Rattle.std.specs.Io.KnownBytes.{IsAtEnd};
 ghost use Rattle.std.specs.Borrow.{sem};
 ghost use Rattle.lsp_frame.specs.Frame.{Frames, IsStream};
 ghost use Rattle.lsp_frame.specs.Decoder.{empty, pushed, held_of, finish_of, StandsFor};
 ghost use Rattle.lsp_frame.specs.Buffer.{Advances, ReadsAhead, last_of};
+ghost use Rattle.lsp_frame.specs.Pulling.{Pulls, PullFails};
 ghost use Rattle.lsp_frame.specs.Lending.{LendsContent};
 
+use crate::io::{Failed, Source};
 use crate::limits::Limits;
 use crate::memory::Memory;
 use crate::rule;
@@ -29,6 +32,39 @@ pub struct FrameFault {
     pub rule: u16,
 }
 
+/// Why a decoder took no bytes of a source.
+#[derive(Clone, Copy, Debug, PartialEq, Eq, Error)]
+pub enum PullFault {
+    /// The source failed.
+    #[error("read fault")]
+    Read,
+    /// Memory was refused.
+    #[error("out of memory")]
+    Memory,
+}
+
+impl From<AllocError> for PullFault {
+    ghost use Rattle.std.specs.Prelude.{◌≡◌};
+    ghost use Rattle.lsp_frame.specs.declared.decoder.PullFault.TheVariants.{Memory};
+
+    ghost from_gives = { λ _ fault. fault ≡ Memory };
+
+    fn from(_error: AllocError) -> PullFault {
+        PullFault::Memory
+    }
+}
+
+impl From<Failed> for PullFault {
+    ghost use Rattle.std.specs.Prelude.{◌≡◌};
+    ghost use Rattle.lsp_frame.specs.declared.decoder.PullFault.TheVariants.{Read};
+
+    ghost from_gives = { λ _ fault. fault ≡ Read };
+
+    fn from(_failed: Failed) -> PullFault {
+        PullFault::Read
+    }
+}
+
 /// Takes the bytes of a stream in pieces of any size, and lends the contents of its frames one by one.
 ///
 /// The bytes stand in one buffer, from which each content is lent. A header part is parsed once, and a content is
@@ -37,9 +73,12 @@ pub struct FrameFault {
 #[derive(Drop)]
 pub struct Decoder {
     limits: Limits,
+    /// The bytes pushed, and behind them room for more.
     buffer: Vec<u8>,
     /// Where the bytes begin that belong to no frame given.
     start: usize,
+    /// Where the bytes pushed end.
+    end: usize,
     /// The size of the frame that begins there, once its header part was read.
     ahead: Option<FrameSize>,
     /// The fault that was given.
@@ -56,43 +95,64 @@ impl Model for Decoder {
     ghost view = { λ a. record {
       limits = a.limits;
       kept = take a.start a.buffer.items;
-      rest = drop a.start a.buffer.items;
+      rest = drop a.start (take a.end a.buffer.items);
       fault = a.fault;
     } };
 
-    ghost invariant = { λ a. (a.start ≤ vec_len a.buffer)
-        × AheadStands a.limits (drop a.start a.buffer.items) a.ahead
-        × FaultStands a.limits (drop a.start a.buffer.items) a.fault };
+    ghost invariant = { λ a. (a.start ≤ a.end)
+        × (a.end ≤ vec_len a.buffer)
+        × AheadStands a.limits (drop a.start (take a.end a.buffer.items)) a.ahead
+        × FaultStands a.limits (drop a.start (take a.end a.buffer.items)) a.fault };
 }
 
-/// Drops the bytes before a place. Only those behind it are moved, where they fit in front of it.
-fn drop_front(buffer: &mut Vec<u8>, start: usize)
-    requires { start ≤ vec_len buffer.old }
-    ensures items { buffer.new.items ≡ drop start buffer.old.items }
-    ensures capacity { vec_capacity buffer.new ≡ vec_capacity buffer.old }
+/// Moves the bytes between two places to the front.
+fn to_front(buffer: &mut [u8], start: usize, end: usize)
+    requires { (start ≤ end) × (end ≤ length buffer.old) }
+    ensures len { length buffer.new ≡ length buffer.old }
+    ensures front { take (end - start) buffer.new ≡ drop start (take end buffer.old) }
 {
-    let rest = buffer.len() - start;
+    let rest = end - start;
     if rest <= start {
         let (front, back) = buffer.split_at_mut(start);
-        front[..rest].copy_from_slice(back);
+        front[..rest].copy_from_slice(&back[..rest]);
     } else {
-        buffer.rotate_left(start);
+        buffer.copy_within(start..end, 0);
     }
-    buffer.truncate(rest);
 }
 
-/// Drops the bytes before a place, and appends the piece. An `Err` changes nothing.
-fn push_after(buffer: &mut Vec<u8>, start: usize, piece: &[u8]) -> Result<(), AllocError>
-    requires { start ≤ vec_len buffer.old }
-    ensures ok { OnOk result (buffer.new.items ≡ drop start buffer.old.items ++ piece.now) }
+/// Moves the bytes between two places to the front, and makes room for so many behind them. An `Err` changes nothing.
+fn make_room(buffer: &mut Vec<u8>, start: usize, end: usize, more: usize) -> Result<(), AllocError>
+    requires places { (start ≤ end) × (end ≤ vec_len buffer.old) }
+    requires more { more < 2 ^ 63 }
+    ensures front { OnOk result (take (end - start) buffer.new.items ≡ drop start (take end buffer.old.items)) }
+    ensures room { OnOk result (end - start + more ≤ vec_len buffer.new) }
     ensures err { OnErr result (buffer.new.items ≡ buffer.old.items) }
 {
-    let rest = buffer.len() - start;
-    if buffer.capacity() - rest < piece.len() {
-        buffer.reserve(piece.len())?;
+    let rest = end - start;
+    if buffer.len() - rest < more {
+        buffer.resize(rest + more, 0)?;
     }
-    drop_front(buffer, start);
-    buffer.extend_from_slice(piece)
+    to_front(buffer, start, end);
+    Ok(())
+}
+
+/// Moves the bytes between two places to the front, and puts the piece behind them. An `Err` changes nothing.
+fn push_after(
+    buffer: &mut Vec<u8>,
+    start: usize,
+    end: usize,
+    piece: &[u8],
+) -> Result<(), AllocError>
+    requires { (start ≤ end) × (end ≤ vec_len buffer.old) }
+    ensures len { OnOk result (end - start + length piece.now ≤ vec_len buffer.new) }
+    ensures ok { OnOk result (take (end - start + length piece.now) buffer.new.items
+        ≡ drop start (take end buffer.old.items) ++ piece.now) }
+    ensures err { OnErr result (buffer.new.items ≡ buffer.old.items) }
+{
+    make_room(buffer, start, end, piece.len())?;
+    let rest = end - start;
+    buffer[rest..rest + piece.len()].copy_from_slice(piece);
+    Ok(())
 }
 
 impl Decoder {
@@ -105,6 +165,7 @@ impl Decoder {
             limits,
             buffer: Vec::new(alloc),
             start: 0,
+            end: 0,
             ahead: None,
             fault: None,
         }
@@ -127,13 +188,37 @@ impl Decoder {
         self.append(piece)
     }
 
+    /// Takes the next bytes of the stream straight from a source: those that one call of it gives, at most so many, and
+    /// none only at its end; once a fault was given, nothing. Where the source fails or memory is refused, no byte is
+    /// taken.
+    pub fn pull<R: Source>(&mut self, source: &mut R, most: u32) -> Result<usize, PullFault>
+        ensures ok { IfOk result (λ n. Pulls self.old self.new (R.told source.old) (R.told source.new) most n) }
+        ensures end { IfOk result (λ n. n ≡ 0 → 0 < most → self.old.fault ≡ None → IsAtEnd (R.told source.new).bytes) }
+        ensures read_fault { result ≡ Err PullFault.Read →
+            PullFails self.old self.new (R.told source.old) (R.told source.new) }
+        ensures memory { result ≡ Err PullFault.Memory →
+            (self.new ≡ self.old) × (R.told source.new ≡ R.told source.old) }
+    {
+        if self.fault.is_some() {
+            return Ok(0);
+        }
+        make_room(&mut self.buffer, self.start, self.end, most as usize)?;
+        self.end -= self.start;
+        self.start = 0;
+        let end = self.end + most as usize;
+        let count = source.pull(&mut self.buffer[self.end..end])?;
+        self.end += count;
+        Ok(count)
+    }
+
     fn append(&mut self, piece: &[u8]) -> Result<(), Memory>
         ensures ok { OnOk result (self.new ≡ pushed self.old piece.now) }
         ensures err { OnErr result (self.new ≡ self.old) }
         ensures after_fault { IsSome self.old.fault → IsOk result }
     {
         if self.fault.is_none() {
-            push_after(&mut self.buffer, self.start, piece)?;
+            push_after(&mut self.buffer, self.start, self.end, piece)?;
+            self.end = self.end - self.start + piece.len();
             self.start = 0;
         }
         Ok(())
@@ -149,7 +234,7 @@ impl Decoder {
         if let Some(size) = self.ahead {
             return Ok(Some(size));
         }
-        match start_of(&self.limits, &self.buffer[self.start..]) {
+        match start_of(&self.limits, &self.buffer[self.start..self.end]) {
             Start::Header(size) => {
                 self.ahead = Some(size);
                 Ok(Some(size))
@@ -169,7 +254,7 @@ impl Decoder {
         let Some(size) = self.read_ahead()? else {
             return Ok(None);
         };
-        if self.buffer.len() - self.start - size.header < size.content {
+        if self.end - self.start - size.header < size.content {
             return Ok(None);
         }
         self.start += size.header + size.content;
@@ -200,7 +285,7 @@ impl Decoder {
     pub fn held(&self) -> u64
         ensures { result ≡ held_of self.now }
     {
-        self.buffer.len() as u64
+        self.end as u64
     }
 
     /// Whether the stream may end here. The fault is that which `next` gave, else 107, where a byte pushed belongs to no
@@ -212,7 +297,7 @@ impl Decoder {
     {
         match self.fault {
             Some(rule) => Err(FrameFault { rule }),
-            None if self.start == self.buffer.len() => Ok(()),
+            None if self.start == self.end => Ok(()),
             None => Err(FrameFault {
                 rule: rule::UNFINISHED_FRAME,
             }),

@@ -1,8 +1,10 @@
 //! The lines of a header part (LSP 3.17, "Header Part"; RFC 9110, sections 5.5 and 5.6.2).
-ghost use Rattle.std.specs.Prelude.{◌≡◌, ◌≤◌, ℕ, List, ◌∷◌, ◌++◌, length, MatchOption};
+ghost use Rattle.std.specs.Prelude.{◌≡◌, ◌≤◌, ◌++◌, length, MatchOption};
 ghost use Rattle.std.specs.List.{prefix_len, suffix_len};
 ghost use Rattle.lsp_frame.specs.Header.{is_token, is_text, is_blank, line, IsField, trimmed};
 ghost use Rattle.lsp_frame.specs.Reading.{field_view, NoFieldBegins};
+
+use crate::bytes::after_byte;
 
 /// A line of a header part, without the colon between its name and its value and without its end.
 #[derive(Clone, Copy)]
@@ -70,17 +72,6 @@ pub fn trim(value: &[u8]) -> &[u8]
 {
     let rest = &value[blanks_in_front(value)..];
     &rest[..rest.len() - blanks_at_end(rest)]
-}
-
-/// The bytes after the first, if that is this one.
-fn after_byte(bytes: &[u8], byte: u8) -> Option<&[u8]>
-    ensures { MatchOption result ((rest : List ℕ) → bytes.now ≡ byte ∷ rest → ⊥)
-        (λ rest. bytes.now ≡ byte ∷ rest.now) }
-{
-    match bytes {
-        [first, rest @ ..] if *first == byte => Some(rest),
-        _ => None,
-    }
 }
 
 /// The first line as a field, and the bytes after it.

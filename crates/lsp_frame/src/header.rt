@@ -1,11 +1,11 @@
 //! What a header part says of its content (LSP 3.17, "Header Part").
 ghost use Rattle.std.specs.Prelude.{◌≡◌, ◌<◌, ◌≤◌, ◌-◌, ℕ, List, [], ◌∷◌, ◌++◌, length, true, ◌&&◌};
 ghost use Rattle.std.specs.List.{list_all};
-ghost use Rattle.std.specs.Char.{is_ascii_digit};
 ghost use Rattle.std.specs.Str.Parse.{digits_value};
 ghost use Rattle.lsp_frame.specs.Header.{lengths, is_number, length_of, content_length, is_utf8_name, fits_charset, parts, fits_charsets, Says};
 ghost use Rattle.lsp_frame.specs.Reading.{field_view, Holds};
 
+use crate::bytes::all_digits;
 use crate::field::{Field, split_field, trim};
 use crate::limits::Limits;
 use crate::rule;
@@ -16,12 +16,6 @@ enum Lengths<'a> {
     Missing,
     One(&'a [u8]),
     Several,
-}
-
-fn all_digits(bytes: &[u8]) -> bool
-    ensures { result ≡ list_all is_ascii_digit bytes.now }
-{
-    bytes.iter().all(|byte| byte.is_ascii_digit())
 }
 
 /// Whether the value is 1 to 10 decimal digits.
@@ -44,7 +38,7 @@ fn number(digits: &[u8]) -> u64
 }
 
 /// The length of the content that one value gives, or its fault.
-fn length_of(limits: &Limits, value: &[u8]) -> Result<u64, u16>
+pub fn length_of(limits: &Limits, value: &[u8]) -> Result<u64, u16>
     ensures { result ≡ length_of limits.now value.now }
 {
     if !is_number(value) {

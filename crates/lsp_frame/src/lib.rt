@@ -8,6 +8,7 @@
 //! What holds of all frames and streams stands in the contracts of functions that do nothing, such as [`one_reading`].
 #![tactic(auto)]
 
+mod bytes;
 mod decoder;
 mod field;
 mod header;
@@ -19,7 +20,8 @@ mod rule;
 mod start;
 mod write;
 
-pub use decoder::{Decoder, FrameFault};
+pub use bytes::{after_byte, all_digits};
+pub use decoder::{Decoder, FrameFault, PullFault};
 pub use io::{Failed, Input, Output, Sink, Source};
 pub use laws::{
     canonical_is_frame, canonical_is_read, contents_stay, fault_stays, frames_come_first,

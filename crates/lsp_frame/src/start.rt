@@ -1,8 +1,11 @@
 //! What stands at the front of bytes.
-ghost use Rattle.std.specs.Prelude.{◌≡◌, ◌+◌, ◌≤◌, length};
-ghost use Rattle.lsp_frame.specs.Start.{StartsAs};
+ghost use Rattle.std.specs.Prelude.{◌≡◌, ◌≤◌, length, IfSome};
+ghost use Rattle.std.specs.List.{prefix_len};
+ghost use Rattle.std.specs.Char.{is_ascii_digit};
+ghost use Rattle.lsp_frame.specs.Bounds.{IsInRange};
+ghost use Rattle.lsp_frame.specs.Start.{StartsAs, StartsWithHeader};
 
-use crate::header::read_header;
+use crate::header::{length_of, read_header};
 use crate::limits::Limits;
 use crate::rule;
 use memchr::memmem;
@@ -24,12 +27,43 @@ pub enum Start {
     Unfinished,
 }
 
+fn digits_in_front(bytes: &[u8]) -> usize
+    ensures value { result ≡ prefix_len is_ascii_digit bytes.now }
+    ensures bound { result ≤ length bytes.now }
+{
+    bytes
+        .iter()
+        .take_while(|byte| byte.is_ascii_digit())
+        .count()
+}
+
+/// The size of the frame whose header part stands in front, where that is the one line `Content-Length: ` and digits,
+/// which is the common case. Whatever else stands there is left to [`read_header`].
+fn plain_size(limits: &Limits, bytes: &[u8]) -> Option<FrameSize>
+    requires { IsInRange limits.now }
+    ensures { IfSome result (λ size. StartsWithHeader limits.now bytes.now size) }
+{
+    let rest = bytes.strip_prefix(b"Content-Length: ")?;
+    let (digits, rest) = rest.split_at(digits_in_front(rest));
+    if !rest.starts_with(b"\r\n\r\n") {
+        return None;
+    }
+    let content = length_of(limits, digits).ok()?;
+    Some(FrameSize {
+        header: 20 + digits.len(),
+        content: content as usize,
+    })
+}
+
 /// What the bytes begin with.
 pub fn start_of(limits: &Limits, bytes: &[u8]) -> Start
     ensures { StartsAs limits.now bytes.now result }
 {
     let most = limits.header() as usize;
     let near = &bytes[..bytes.len().min(most)];
+    if let Some(size) = plain_size(limits, near) {
+        return Start::Header(size);
+    }
     let Some(at) = memmem::find(near, b"\r\n\r\n") else {
         if bytes.len() < most {
             return Start::Unfinished;

@@ -10,7 +10,7 @@ use Rattle.memchr.specs.Find.{Passes, Nowhere, NoneBefore, is_byte}
 use Rattle.lsp_log.specs.Log.{HasLine, holds_feed}
 use Rattle.lsp_log.proofs.Bytes.{first_cut, nowhere_none}
 use Rattle.std.specs.Prelude.{slice_index, ◌==◌}
-use Rattle.std.proofs.lemmas.List.{nil_from_length, take_all, take-append-drop, take-take}
+use Rattle.std.proofs.lemmas.List.{nil_from_length, take_all, take-append-drop}
 use Rattle.std.proofs.lemmas.Bool.{cases_lt}
 use Rattle.std.proofs.Common.{inl, inr}
 use Rattle.std.proofs.lemmas.Map.Views.{exact_unsigned_eq}

@@ -1,12 +1,13 @@
 -- Puts one after another, and what they write of a record.
-use Rattle.std.proofs.Common.{◌≡◌, List, ℕ, ℤ, [], ◌∷◌, ◌++◌, length, Result, Ok, Err, sym, ap, subst, ◌∙◌, append_assoc, append-nil}
+use Rattle.std.proofs.Common.{◌≡◌, List, ℕ, ℤ, [], ◌∷◌, ◌++◌, length, ◌+◌, Result, Ok, Err, sym, ap, subst, ◌∙◌, append_assoc, append-nil}
+use Rattle.std.proofs.lemmas.List.{length-append}
 use Rattle.std.specs.Prelude.{codes, decimal}
 use Rattle.std.specs.Fmt.{signed_decimal}
 use Rattle.lsp_types.specs.declared.side.Side.{Side}
 use Rattle.lsp_frame.specs.Sink.{Wrote, Stopped, Writes}
 use Rattle.lsp_frame.specs.Told.{Told}
 use Rattle.lsp_frame.proofs.Writing.{wrote_then, stopped_then, stopped_before, four}
-use Rattle.lsp_log.specs.Log.{spelling, letter, chunk, shown, head_line, shown_head, with_feed}
+use Rattle.lsp_log.specs.Log.{spelling, letter, chunk, chunk_head, shown, head_line, shown_head, with_feed}
 
 pub writes_then : {X E : Type 0} (a b c : Told) (r : Result X E) (x y : List ℕ) → Wrote a b x → Writes b c r y → Writes a c r (x ++ y)
 writes_then a b c (Ok v) x y p q = wrote_then a b c x y p q
@@ -28,11 +29,16 @@ writes_three a b c d r x y z p q s = writes_then a b d r x (y ++ z) p (writes_th
 
 -- ---- what is due
 
-pub chunk_parts : (side : Side) (bytes : List ℕ) → spelling (chunk side bytes) ≡ letter side ++ (with_feed (decimal (length bytes)) ++ with_feed bytes)
-chunk_parts side bytes =
-    ap (λ (w : List ℕ). with_feed (letter side ++ decimal (length bytes)) ++ w) (append-nil (with_feed bytes))
-    ∙ ap (λ (w : List ℕ). w ++ with_feed bytes) (append_assoc (letter side) (decimal (length bytes)) (10 ∷ []))
-    ∙ append_assoc (letter side) (with_feed (decimal (length bytes))) (with_feed bytes)
+pub chunk_head_parts : (side : Side) (n : ℕ) → with_feed (head_line (chunk_head side n)) ≡ letter side ++ with_feed (decimal n)
+chunk_head_parts side n = append_assoc (letter side) (decimal n) (10 ∷ [])
+
+pub chunk_parts : (side : Side) (front back : List ℕ) → spelling (chunk side (front ++ back)) ≡ with_feed (head_line (chunk_head side (length front + length back))) ++ (front ++ with_feed back)
+chunk_parts side front back =
+    ap (λ (n : ℕ). with_feed (head_line (chunk_head side n)) ++ (with_feed (front ++ back) ++ [])) (length-append front back)
+    ∙ ap (λ (w : List ℕ). with_feed (head_line (chunk_head side (length front + length back))) ++ w) (append-nil (with_feed (front ++ back)) ∙ append_assoc front back (10 ∷ []))
+
+pub chunk_alone : (side : Side) (bytes : List ℕ) → spelling (chunk side bytes) ≡ spelling (chunk side (bytes ++ []))
+chunk_alone side bytes = ap (λ (w : List ℕ). spelling (chunk side w)) (sym (append-nil bytes))
 
 pub shown_parts : (version : ℤ) (uri text : List ℕ) → spelling (shown version uri text) ≡ with_feed (head_line (shown_head version (length uri) (length text))) ++ (with_feed uri ++ with_feed text)
 shown_parts version uri text = ap (λ (w : List ℕ). with_feed (head_line (shown_head version (length uri) (length text))) ++ (with_feed uri ++ w)) (append-nil (with_feed text))

@@ -22,4 +22,4 @@ pub use fault::{LogCode, LogFault};
 pub use laws::{one_log, records_come_first, some_log, written_is_read};
 pub use reader::LogReader;
 pub use record::Record;
-pub use write::{write_head, write_record};
+pub use write::{write_chunk, write_head, write_record};

@@ -23,8 +23,8 @@ pub enum Progress {
 
 /// Gives the records of a log one after another.
 ///
-/// It asks its reader for no more than it needs, and for at most 64 bytes past the record that
-/// it gives. Of a log that is over its limit it reads one byte past the limit.
+/// It reads at most 64 bytes past the record that it gives, and of a log that is over its limit
+/// one byte past the limit.
 #[derive(Drop)]
 pub struct LogReader {
     alloc: Global,

@@ -2,7 +2,7 @@
 ghost use Rattle.std.specs.Prelude.{◌≡◌, ◌++◌, ◌∷◌, []};
 ghost use Rattle.lsp_frame.specs.Bounds.{profile};
 ghost use Rattle.lsp_frame.specs.Sink.{Writes};
-ghost use Rattle.lsp_log.specs.Log.{first_line, spelling, letter, chunk, shown, head_line, shown_head, Fits, with_feed};
+ghost use Rattle.lsp_log.specs.Log.{first_line, spelling, letter, chunk, chunk_head, shown, head_line, shown_head, Fits, with_feed};
 ghost use Rattle.lsp_log.specs.Records.{record_view};
 
 use crate::found::FIRST_LINE;
@@ -25,7 +25,7 @@ pub fn write_record<W: Sink>(writer: &mut W, entry: &Record) -> Result<(), Write
     ensures { Writes (W.told writer.old) (W.told writer.new) result (spelling (record_view entry.now)) }
 {
     match entry {
-        Record::Bytes { side, bytes } => put_chunk(writer, *side, bytes),
+        Record::Bytes { side, bytes } => write_chunk(writer, *side, bytes, &[]),
         Record::Snapshot { version, uri, text } => put_snapshot(writer, *version, uri, text),
     }
 }
@@ -39,13 +39,27 @@ fn letter(side: Side) -> &'static [u8]
     }
 }
 
-/// Writes a record of bytes.
-fn put_chunk<W: Sink>(writer: &mut W, side: Side, bytes: &[u8]) -> Result<(), WriteFault>
-    ensures { Writes (W.told writer.old) (W.told writer.new) result (spelling (chunk side bytes.now)) }
+/// Writes the record of bytes that stand in two parts, in the one spelling that a log has for it.
+/// After a fault a prefix of that is written.
+pub fn write_chunk<W: Sink>(
+    writer: &mut W,
+    side: Side,
+    front: &[u8],
+    back: &[u8],
+) -> Result<(), WriteFault>
+    ensures { Writes (W.told writer.old) (W.told writer.new) result (spelling (chunk side (front.now ++ back.now))) }
+{
+    put_chunk_head(writer, side, front.len() as u64 + back.len() as u64)?;
+    put_all(writer, front)?;
+    put_line(writer, back)
+}
+
+/// Writes the first line of a record of so many bytes.
+fn put_chunk_head<W: Sink>(writer: &mut W, side: Side, len: u64) -> Result<(), WriteFault>
+    ensures { Writes (W.told writer.old) (W.told writer.new) result (with_feed (head_line (chunk_head side len))) }
 {
     put_all(writer, letter(side))?;
-    put_line(writer, Buffer::new().format(bytes.len()).as_bytes())?;
-    put_line(writer, bytes)
+    put_line(writer, Buffer::new().format(len).as_bytes())
 }
 
 /// Writes a snapshot.

@@ -2,7 +2,8 @@
 ghost use Rattle.std.specs.Prelude.{◌<◌};
 
 use lsp_frame::{
-    Decoder, Failed, FrameFault, Input, Limits, Output, Sink, Source, WriteFault, write_frame,
+    Decoder, Failed, FrameFault, Input, Limits, Output, PullFault, Sink, Source, WriteFault,
+    write_frame,
 };
 use std::alloc::Global;
 use std::io;
@@ -211,6 +212,47 @@ fn a_push_gives_up_the_frames_given(rt: HostRuntime) -> Result<(), Fail> {
     }
     assert_eq!(rt; decoder.held(), 97);
     Ok(())
+}
+
+/// How many contents a decoder gives that takes its bytes straight from a reader, and how the stream ends.
+fn count_pulled<R: Read + Drop>(
+    alloc: Global,
+    reader: R,
+    step: u32,
+) -> Result<(u64, Result<(), FrameFault>), PullFault> {
+    let mut source = Input::new(reader);
+    let mut decoder = Decoder::new(alloc, Limits::profile());
+    let mut count = 0u64;
+    for _ in 0u64..u64::MAX {
+        match decoder.next() {
+            Err(fault) => return Ok((count, Err(fault))),
+            Ok(Some(_)) => count = count.saturating_add(1),
+            Ok(None) => {
+                if decoder.pull(&mut source, step)? == 0 {
+                    break;
+                }
+            }
+        }
+    }
+    Ok((count, decoder.finish()))
+}
+
+#[test]
+fn a_decoder_takes_its_bytes_from_a_reader(rt: HostRuntime) {
+    let stream =
+        b"Content-Length: 2\r\n\r\n{}X: y\r\ncontent-length: 3\r\n\r\n[0]Content-Length: 1\r\n\r\n";
+    for step in [1, 3, 22, 4096] {
+        let counted = count_pulled(rt.alloc(), stream.as_slice(), step);
+        assert_eq!(rt; counted, Ok((2, Err(FrameFault { rule: 107 }))));
+        let failing = FailingReader {
+            rest: stream,
+            calls_left: 1,
+        };
+        assert_eq!(rt;
+            count_pulled(rt.alloc(), failing, step),
+            Err(PullFault::Read)
+        );
+    }
 }
 
 #[test]

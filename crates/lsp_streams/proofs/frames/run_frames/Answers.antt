@@ -2,7 +2,7 @@ use Rattle.std.proofs.Common.{[], arith}
 use Rattle.std.proofs.lemmas.Result.{err_from_is_err_and}
 use Rattle.lsp_frame.proofs.Telling.{gave_nothing}
 use Rattle.lsp_verdict.proofs.RunReading.{read_within}
-use Rattle.lsp_streams.proofs.StreamEndings.{ran, nothing_ran, closing_cut, broken, done_at_end}
+use Rattle.lsp_streams.proofs.Framing.Endings.{ran, nothing_ran, closing_cut, broken, done_at_end}
 use Rattle.lsp_streams.proofs.frames.run_frames.Goals as goal
 
 pub returns-in_err-buffer-clause-fault : goal.returns-in_err-buffer-clause-fault

@@ -1,6 +1,6 @@
 use Rattle.std.proofs.Common.{arith, ℕ, ◌≡◌, ◌<◌, ◌≤◌, ◌+◌, ◌∙◌, length, take, length-take}
 use Rattle.std.proofs.lemmas.Result.{err_from_is_err_and}
-use Rattle.lsp_streams.proofs.StreamRuns.{nothing_yet, told_all, write_broke, broke_behind, read_broke, fault_ran, end_ran, too_long_ran, push_taken, empty_pull}
+use Rattle.lsp_streams.proofs.Framing.Runs.{nothing_yet, told_all, write_broke, broke_behind, read_broke, fault_ran, end_ran, too_long_ran, push_taken, empty_pull}
 use Rattle.lsp_streams.proofs.frames.write_parts.Goals as goal
 
 pub loop-messages-init : goal.loop-messages-init

@@ -1,7 +1,7 @@
 use Rattle.std.proofs.Common.{[], ◌∷◌}
 use Rattle.std.proofs.lemmas.Result.{err_from_is_err_and}
 use Rattle.lsp_frame.proofs.Writing.{stopped_first, stopped_second, stopped_third, writes_four}
-use Rattle.lsp_streams.proofs.NormalPieces.{chunk_due}
+use Rattle.lsp_streams.proofs.Forming.Pieces.{chunk_due}
 use Rattle.lsp_streams.proofs.pieces.put_chunk.Goals as goal
 
 pub returns-in_err-put_head_line : goal.returns-in_err-put_head_line

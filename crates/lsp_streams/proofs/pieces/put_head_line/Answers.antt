@@ -1,7 +1,7 @@
 use Rattle.std.specs.Prelude.{decimal, [], ◌∷◌}
 use Rattle.std.proofs.lemmas.Result.{err_from_is_err_and}
 use Rattle.lsp_frame.proofs.Writing.{stopped_before, stopped_then, wrote_then}
-use Rattle.lsp_streams.proofs.NormalPieces.{writes_behind}
+use Rattle.lsp_log.proofs.Written.{writes_then}
 use Rattle.lsp_streams.proofs.pieces.put_head_line.Goals as goal
 
 pub returns-in_err-put_all : goal.returns-in_err-put_all
@@ -19,4 +19,4 @@ returns-in_err-put_number g c =
 pub returns : goal.returns
 returns g c =
     let wrote = rw c.letter.ensures at c.in_ok-put_all.ensures in
-    writes_behind _ _ _ c.put_all-2.result _ (10 ∷ []) (wrote_then _ _ _ _ (decimal c.args.len) wrote c.in_ok-put_number.ensures) c.put_all-2.ensures
+    writes_then _ _ _ c.put_all-2.result _ (10 ∷ []) (wrote_then _ _ _ _ (decimal c.args.len) wrote c.in_ok-put_number.ensures) c.put_all-2.ensures

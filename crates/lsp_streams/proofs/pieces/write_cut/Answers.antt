@@ -2,7 +2,7 @@ use Rattle.std.proofs.Common.{◌+◌, ◌<◌, length, arith}
 use Rattle.std.proofs.lemmas.Bool.Decides.{nat_tests}
 use Rattle.std.proofs.lemmas.List.{take_rest}
 use Rattle.std.proofs.lemmas.Result.{err_from_is_err_and}
-use Rattle.lsp_streams.proofs.NormalPieces.{due_some, put_one, put_part}
+use Rattle.lsp_streams.proofs.Forming.Pieces.{due_some, put_one, put_part}
 use Rattle.lsp_streams.proofs.pieces.write_cut.Goals as goal
 
 pub returns-in_err-put_chunk : goal.returns-in_err-put_chunk

@@ -1,4 +1,4 @@
-use Rattle.std.proofs.Common.{◌∙◌, sym, subst, List, ◌++◌, ◌∷◌, [], map, w32, rules}
+use Rattle.std.proofs.Common.{◌∙◌, sym, subst, List, ◌++◌, ◌∷◌, [], w32, rules}
 use Rattle.std.proofs.lemmas.Int.{to_z-of_z}
 use mir.Val.{SFits}
 use Rattle.lsp_docs.specs.Calls.{Call, changes}
@@ -7,7 +7,6 @@ use Rattle.lsp_docs.specs.State.{Stands, held_in, queue_of, reached}
 use Rattle.lsp_text.specs.Changes.{edits_of}
 use Rattle.lsp_docs.specs.Fault.{Names}
 use Rattle.lsp_docs.proofs.Stepping.{Stands-changed, names-stands, rule-stands, early-rule, late-rule, stated}
-use Rattle.lsp_docs.proofs.Entries.{seen}
 use Rattle.lsp_docs.proofs.docs.Docs.did_change.Goals as goal
 
 pub returns-in-Some-clause-rule : goal.returns-in-Some-clause-rule
@@ -57,6 +56,6 @@ returns-clause-stands g c = λ calls h.
     let accepted = rule-stands s calls call h ∙ returns-clause-accepted g c calls h in
     let ok = simp to_z-of_z at c.in_ok-set_text.ensures.ok in
     let re = simp to_z-of_z at c.reach.ensures in
-    subst (λ w. Stands (stated c.self.inside.limit (map (seen (λ d. d.version) (λ d. g.S.TextStore.content d.store)) c.self.inside.documents.entries) w) (calls ++ call ∷ [])) (sym re)
+    subst (λ w. Stands (stated c.self.inside.limit c.self.inside.documents w) (calls ++ call ∷ [])) (sym re)
     (subst (λ x. Stands (stated x.limit x.documents (reached uri n x.waits)) (calls ++ call ∷ [])) (sym (c.self.view_is ∙ ok.is))
     (Stands-changed s calls c.args.encoding c.args.kind uri n cs ok.text accepted ok.made h))

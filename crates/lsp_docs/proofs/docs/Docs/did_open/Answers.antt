@@ -1,4 +1,4 @@
-use Rattle.std.proofs.Common.{ap, ◌∙◌, sym, subst, List, ◌++◌, ◌∷◌, [], w32, rules, map}
+use Rattle.std.proofs.Common.{ap, ◌∙◌, sym, subst, List, ◌++◌, ◌∷◌, [], w32, rules}
 use Rattle.std.specs.Str.{chars}
 use Rattle.std.specs.List.{list_any}
 use Rattle.std.proofs.lemmas.Int.{to_z-of_z}
@@ -9,7 +9,6 @@ use Rattle.lsp_docs.specs.Rules.{differs, call_rule}
 use Rattle.lsp_docs.specs.State.{Stands, held_in, queue_of, reached}
 use Rattle.lsp_docs.specs.Fault.{Names}
 use Rattle.lsp_docs.proofs.Stepping.{Stands-opened, names-stands, open-early, open-late, rule-stands, stated, version-refuted, version-agrees}
-use Rattle.lsp_docs.proofs.Entries.{seen}
 use Rattle.lsp_docs.proofs.docs.Docs.did_open.Goals as goal
 
 pub returns-in_err-store-clause-rule : goal.returns-in_err-store-clause-rule
@@ -56,7 +55,9 @@ returns-clause-stands g c = λ calls h.
     let n = c.args.version in
     let call = opens uri n t in
     let accepted = rule-stands s calls call h ∙ returns-clause-accepted g c calls h in
-    subst (λ w. Stands (stated c.self.inside.limit (map (seen (λ d. d.version) (λ d. g.S.TextStore.content d.store)) c.self.inside.documents.entries) w) (calls ++ call ∷ [])) (sym re)
-    (subst (λ x. Stands (stated x.limit x.documents (reached uri n x.waits)) (calls ++ call ∷ [])) (sym (c.self.view_is ∙ ins))
+    let content = g.S.TextStore.content c.in_ok-store.store in
+    subst (λ w. Stands (stated c.self.inside.limit c.insert.new.self w) (calls ++ call ∷ [])) (sym re)
+    (subst (λ l. Stands (stated c.self.inside.limit l (reached uri n c.self.inside.waiting)) (calls ++ call ∷ [])) (sym ins)
+    (subst (λ x. Stands (stated x.limit (x.documents ++ record { uri = uri; version = versioned n content } ∷ []) (reached uri n x.waits)) (calls ++ call ∷ [])) (sym c.self.view_is)
     (subst (λ x. Stands (stated s.limit (s.documents ++ record { uri = uri; version = versioned n x } ∷ []) (reached uri n s.waits)) (calls ++ call ∷ [])) (sym c.in_ok-store.ensures.store)
-    (Stands-opened s calls uri n t accepted h)))
+    (Stands-opened s calls uri n t accepted h))))

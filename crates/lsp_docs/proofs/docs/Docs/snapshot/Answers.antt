@@ -1,4 +1,4 @@
-use Rattle.std.proofs.Common.{sym, ap, ◌∙◌, subst, List, ◌++◌, ◌∷◌, [], map, w32, rules}
+use Rattle.std.proofs.Common.{sym, ap, ◌∙◌, subst, List, ◌++◌, ◌∷◌, [], w32, rules}
 use Rattle.std.specs.Str.{chars}
 use Rattle.std.proofs.lemmas.Int.{to_z-of_z}
 use mir.Val.{SFits}
@@ -8,7 +8,6 @@ use Rattle.lsp_docs.specs.Rules.{call_rule}
 use Rattle.lsp_docs.specs.State.{Stands, held_in, shown_to}
 use Rattle.lsp_docs.specs.Answer.{answer_of}
 use Rattle.lsp_docs.specs.Fault.{Names}
-use Rattle.lsp_docs.proofs.Entries.{seen}
 use Rattle.lsp_docs.proofs.Stepping.{Stands-equal, Stands-shown, names-stands, rule-stands, held-stands, stated, equal-holds, waits-ahead}
 use Rattle.lsp_docs.proofs.docs.Docs.snapshot.Goals as goal
 
@@ -54,7 +53,7 @@ returns-in_ok-add-in-Waits-clause-stands g c = λ calls h.
     let answer = simp to_z-of_z at c.in_ok-judge.ensures.answer in
     let allowed = simp to_z-of_z at c.in_ok-judge.ensures.allowed in
     let added = simp to_z-of_z at c.in_ok-add-in-Waits.ensures.ok in
-    subst (λ w. Stands (stated c.self.inside.limit (map (seen (λ d. d.version) (λ d. g.S.TextStore.content d.store)) c.self.inside.documents.entries) w) (calls ++ call ∷ [])) (sym added)
+    subst (λ w. Stands (stated c.self.inside.limit c.self.inside.documents w) (calls ++ call ∷ [])) (sym added)
     (subst (λ x. Stands (stated x.limit x.documents (shown_to uri (versioned n t) x.waits)) (calls ++ call ∷ [])) (sym c.self.view_is)
     (Stands-shown s calls uri n t allowed (waits-ahead n (held_in uri s.documents) (sym answer ∙ c.in-Waits.is)) h))
 

@@ -11,12 +11,12 @@ returns-in_err-size c =
 pub returns-in_default : goal.returns-in_default
 returns-in_default c = next_of _ _ (Ok None) (rw c.in_default.is at c.in_ok-size.ensures)
 
-pub returns-then-len-self : goal.returns-then-len-self
-returns-then-len-self c =
+pub returns-then-self-size : goal.returns-then-self-size
+returns-then-self-size c =
     let ahead = rw c.in-Some.is at c.in_ok-size.ensures in
-    rw (← c.self.view_is) (unfinished_next c.self.inside.limits c.self.inside.buffer.items c.self.inside.start c.in-Some.size c.self.inside.fault c.args.self.now (c.self.view_is ∙ ahead.0) ahead.1 ahead.2 (omega arith))
+    rw (← c.self.view_is) (unfinished_next c.self.inside.limits c.self.inside.buffer.items c.self.inside.start c.self.inside.end c.in-Some.size c.self.inside.fault c.args.self.now (c.self.view_is ∙ ahead.0) ahead.1 (omega (arith, c.self.invariant.1, c.self.inside.buffer.ok.0)) ahead.2 (omega arith))
 
 pub returns : goal.returns
 returns c =
     let ahead = rw c.in-Some.is at c.in_ok-size.ensures in
-    frame_next c.self.inside.limits c.self.inside.buffer.items c.self.inside.start c.in-Some.size c.self.inside.fault c.args.self.now (c.self.view_is ∙ ahead.0) ahead.1 (omega arith) ahead.2 (omega arith)
+    frame_next c.self.inside.limits c.self.inside.buffer.items c.self.inside.start c.self.inside.end c.in-Some.size c.self.inside.fault c.args.self.now (c.self.view_is ∙ ahead.0) ahead.1 c.self.invariant.0 (omega (arith, c.self.invariant.1, c.self.inside.buffer.ok.0)) ahead.2 (omega arith)

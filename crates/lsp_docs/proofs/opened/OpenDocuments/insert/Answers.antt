@@ -1,0 +1,90 @@
+use Rattle.std.proofs.Common.{◌≡◌, ◌++◌, ◌∷◌, [], Some, None, false, map, string_bytes, refl, sym, ap, subst, ◌∙◌, w32, to_z, of_z}
+use Rattle.std.proofs.lemmas.Int.{to_z-of_z}
+use Rattle.std.specs.List.{list_any}
+use Rattle.std.specs.Str.{bytes_eq}
+use mir.Val.{SFits}
+use Rattle.lsp_docs.specs.Opened.{AreHeld, held_by, listed}
+use Rattle.lsp_docs.specs.Documents.{versioned}
+use Rattle.lsp_docs.specs.State.{held_in}
+use Rattle.lsp_docs.proofs.Entries.{AreHeld-push, held_in-kept, listed-push, not_among, puts, puts-key, puts-undone}
+use Rattle.lsp_docs.proofs.Words.{any-map, map-append}
+use Rattle.lsp_docs.proofs.opened.OpenDocuments.insert.Goals as goal
+
+pub push-requires-clause-new : goal.push-requires-clause-new
+push-requires-clause-new g c =
+    let uri = c.args.uri.now in
+    let order = c.self.inside.order in
+    let uris = map string_bytes order in
+    let held = held_by (λ d. versioned d.version (g.S.TextStore.content d.store)) c.self.inside.documents.entries in
+    let none = sym (held_in-kept uri uris held c.self.invariant) ∙ (ap (held_in uri) c.self.view_is ∙ c.requires) in
+    sym (any-map (bytes_eq (string_bytes c.in_ok-last.last)) string_bytes order)
+    ∙ (ap (λ b. list_any (bytes_eq b) uris) c.in_ok-last.ensures.ok ∙ not_among uri uris held c.self.invariant none)
+
+-- ---- the order finds room
+
+pub invariant_of-self-in_default : goal.invariant_of-self-in_default
+invariant_of-self-in_default g c =
+    let uri = c.args.uri.now in
+    let order = c.self.inside.order in
+    let uris = map string_bytes order in
+    let es = c.self.inside.documents.entries in
+    let held = held_by (λ d. versioned d.version (g.S.TextStore.content d.store)) es in
+    let next = held_by (λ d. versioned d.version (g.S.TextStore.content d.store)) c.insert.new.self.entries in
+    let none = sym (held_in-kept uri uris held c.self.invariant) ∙ (ap (held_in uri) c.self.view_is ∙ c.requires) in
+    let updates = c.in_ok-insert.ensures.updates in
+    let put = puts-key (λ d. versioned d.version (g.S.TextStore.content d.store)) c.in_ok-key.key uri c.in_ok-key.ensures.ok _ es c.insert.new.self.entries updates.1 updates.3 in
+    let last = ap (map string_bytes) c.in_default.ensures.ok ∙ (map-append string_bytes order (c.in_ok-last.last ∷ []) ∙ ap (λ b. uris ++ b ∷ []) c.in_ok-last.ensures.ok) in
+    subst (λ us. AreHeld us next) (sym last) (AreHeld-push uri _ held next put uris c.self.invariant (not_among uri uris held c.self.invariant none))
+
+pub returns-clause-ok : goal.returns-clause-ok
+returns-clause-ok g c =
+    let fits : SFits w32 c.args.version = c.ranges.version in
+    let uri = c.args.uri.now in
+    let order = c.self.inside.order in
+    let uris = map string_bytes order in
+    let es = c.self.inside.documents.entries in
+    let held = held_by (λ d. versioned d.version (g.S.TextStore.content d.store)) es in
+    let next = held_by (λ d. versioned d.version (g.S.TextStore.content d.store)) c.insert.new.self.entries in
+    let none = sym (held_in-kept uri uris held c.self.invariant) ∙ (ap (held_in uri) c.self.view_is ∙ c.requires) in
+    let updates = c.in_ok-insert.ensures.updates in
+    let put = puts-key (λ d. versioned d.version (g.S.TextStore.content d.store)) c.in_ok-key.key uri c.in_ok-key.ensures.ok _ es c.insert.new.self.entries updates.1 updates.3 in
+    let last = ap (map string_bytes) c.in_default.ensures.ok ∙ (map-append string_bytes order (c.in_ok-last.last ∷ []) ∙ ap (λ b. uris ++ b ∷ []) c.in_ok-last.ensures.ok) in
+    let stored = versioned (to_z w32 (of_z w32 c.args.version)) (g.S.TextStore.content c.args.store) in
+    ap (λ us. listed us next) last
+    ∙ (listed-push uri _ held next put uris (not_among uri uris held c.self.invariant none)
+    ∙ (ap (λ l. l ++ record { uri = uri; version = stored } ∷ []) c.self.view_is
+    ∙ ap (λ n. c.args.self.now ++ record { uri = uri; version = versioned n (g.S.TextStore.content c.args.store) } ∷ []) (to_z-of_z w32 c.args.version fits)))
+
+-- ---- it finds none, and the document leaves again
+
+pub invariant_of-self-in-Err : goal.invariant_of-self-in-Err
+invariant_of-self-in-Err g c =
+    let uri = c.args.uri.now in
+    let uris = map string_bytes c.self.inside.order in
+    let es = c.self.inside.documents.entries in
+    let held = held_by (λ d. versioned d.version (g.S.TextStore.content d.store)) es in
+    let next = held_by (λ d. versioned d.version (g.S.TextStore.content d.store)) c.insert.new.self.entries in
+    let none = sym (held_in-kept uri uris held c.self.invariant) ∙ (ap (held_in uri) c.self.view_is ∙ c.requires) in
+    let updates = c.in_ok-insert.ensures.updates in
+    let put = puts-key (λ d. versioned d.version (g.S.TextStore.content d.store)) c.in_ok-key.key uri c.in_ok-key.ensures.ok _ es c.insert.new.self.entries updates.1 updates.3 in
+    let last = held_by (λ d. versioned d.version (g.S.TextStore.content d.store)) c.swap_remove.new.self.entries in
+    let away = c.swap_remove.ensures.updates in
+    let back = puts (λ d. versioned d.version (g.S.TextStore.content d.store)) uri None c.insert.new.self.entries c.swap_remove.new.self.entries away.1 away.3 in
+    subst (λ o. AreHeld (map string_bytes o) last) (sym c.in-Err.ensures.err)
+    (subst (λ h. AreHeld uris h) (puts-undone uri _ held next last none put back) c.self.invariant)
+
+pub returns-in-Err-clause-err : goal.returns-in-Err-clause-err
+returns-in-Err-clause-err g c =
+    let uri = c.args.uri.now in
+    let uris = map string_bytes c.self.inside.order in
+    let es = c.self.inside.documents.entries in
+    let held = held_by (λ d. versioned d.version (g.S.TextStore.content d.store)) es in
+    let next = held_by (λ d. versioned d.version (g.S.TextStore.content d.store)) c.insert.new.self.entries in
+    let none = sym (held_in-kept uri uris held c.self.invariant) ∙ (ap (held_in uri) c.self.view_is ∙ c.requires) in
+    let updates = c.in_ok-insert.ensures.updates in
+    let put = puts-key (λ d. versioned d.version (g.S.TextStore.content d.store)) c.in_ok-key.key uri c.in_ok-key.ensures.ok _ es c.insert.new.self.entries updates.1 updates.3 in
+    let last = held_by (λ d. versioned d.version (g.S.TextStore.content d.store)) c.swap_remove.new.self.entries in
+    let away = c.swap_remove.ensures.updates in
+    let back = puts (λ d. versioned d.version (g.S.TextStore.content d.store)) uri None c.insert.new.self.entries c.swap_remove.new.self.entries away.1 away.3 in
+    ap (λ o. listed (map string_bytes o) last) c.in-Err.ensures.err
+    ∙ (ap (listed uris) (sym (puts-undone uri _ held next last none put back)) ∙ c.self.view_is)

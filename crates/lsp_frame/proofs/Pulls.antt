@@ -1,0 +1,92 @@
+-- A piece that a source put behind the bytes that a decoder holds.
+use Rattle.std.proofs.Common.{◌≡◌, ℕ, suc, ◌+◌, ◌-◌, ◌≤◌, List, [], ◌∷◌, ◌++◌, length, take, drop, Option, Some, None, refl, sym, ap, subst, ◌∙◌, append-nil, arith, true, false}
+use Rattle.std.proofs.lemmas.List.{length-append, length-take, take-append-le, take-take}
+use borrow.Rule.Slice.PartMut.{put_mid}
+use Rattle.lsp_frame.specs.Bounds.{Bounds}
+use Rattle.lsp_frame.specs.Told.{Told, Gave}
+use Rattle.std.specs.Prelude.{is_some}
+use Rattle.lsp_frame.proofs.Telling.{gave_nothing}
+use Rattle.lsp_frame.specs.Decoder.{State, pushed, pushed_at}
+use Rattle.lsp_frame.specs.Pulling.{Pulls}
+use Rattle.lsp_frame.proofs.Steps.{state_at, push_stands}
+use Rattle.lsp_frame.specs.Decoder.{StandsFor}
+use Rattle.lsp_frame.proofs.Starts.{header_stays}
+use Rattle.lsp_frame.specs.Buffer.{AheadStands, FaultStands}
+use Rattle.lsp_frame.specs.declared.start.FrameSize.{FrameSize}
+
+take_past : (xs ys : List ℕ) (n : ℕ) → take (length xs + n) (xs ++ ys) ≡ xs ++ take n ys
+take_past [] ys n = ap (λ k. take k ys) (omega arith)
+take_past (x ∷ xs) ys n = ap (λ k. take k (x ∷ (xs ++ ys))) (let e : suc (length xs) + n ≡ suc (length xs + n) = omega arith in e) ∙ ap (λ w. x ∷ w) (take_past xs ys n)
+
+-- a front of the buffer that was written behind what stood there
+take_written : (xs buffer tail : List ℕ) (len count : ℕ) → length xs ≡ len → count ≤ length buffer → take (len + count) (xs ++ (buffer ++ tail)) ≡ xs ++ take count buffer
+take_written xs buffer tail len count is fits =
+    ap (λ k. take (k + count) (xs ++ (buffer ++ tail))) (sym is) ∙ take_past xs (buffer ++ tail) count ∙ ap (λ w. xs ++ w) (take-append-le count buffer tail fits)
+
+pushed_open : (fault : Option ℕ) (s : State) (rest piece : List ℕ) → s.fault ≡ fault → fault ≡ None → rest ≡ s.rest ++ piece → record s { kept = []; rest = rest } ≡ pushed_at fault s piece
+pushed_open None s rest piece is none same = ap (λ (w : List ℕ). record s { kept = []; rest = w }) same
+pushed_open (Some rule) s rest piece is none same = absurd cc
+
+-- the bytes that are held behind such a piece
+pub pulled_rest : (items moved slice buffer tail : List ℕ) (start end room len most n : ℕ) → take (end - start) moved ≡ drop start (take end items) → slice ≡ moved → end - start + most ≤ len → len ≡ length moved → n ≤ length buffer → n ≤ most
+    → take (end - start + n) (take len (put_mid (end - start) room slice buffer ++ tail)) ≡ drop start (take end items) ++ take n buffer
+pulled_rest items moved slice buffer tail start end room len most n front same fits full count within =
+    let rest = end - start in
+    let held : List ℕ = take rest slice in
+    let held_is : held ≡ drop start (take end items) = ap (take rest) same ∙ front in
+    let held_len : length held ≡ rest = omega (arith, length-take rest slice, ap length same, fits, full) in
+    let behind : List ℕ = drop room (drop rest slice) in
+    let written : List ℕ = put_mid rest room slice buffer in
+    let all : length written ≡ length held + (length buffer + length behind) = omega (arith, length-append held (buffer ++ behind), length-append buffer behind) in
+    take-take (rest + n) len (written ++ tail) (omega (arith, fits, within))
+    ∙ take-append-le (rest + n) written tail (omega (arith, all, held_len, count))
+    ∙ take_written held buffer behind rest n held_len count
+    ∙ ap (λ (w : List ℕ). w ++ take n buffer) held_is
+
+pub pulled : (limits : Bounds) (items written : List ℕ) (start end n : ℕ) (piece : List ℕ) (fault : Option ℕ) (old : State) (before after : Told) (most : ℕ)
+    → state_at limits items start end fault ≡ old → fault ≡ None → take (end - start + n) written ≡ drop start (take end items) ++ piece → length piece ≡ n → n ≤ most → Gave before after piece → after.failures ≡ before.failures
+    → Pulls old (state_at limits written 0 (end - start + n) fault) before after most n
+pulled limits items written start end n piece fault old before after most is none whole len within gave failures =
+    let now = state_at limits items start end fault in
+    let new = state_at limits written 0 (end - start + n) fault in
+    let same : new ≡ pushed now piece = pushed_open fault now new.rest piece refl none whole in
+    subst (λ (s : State). Pulls s new before after most n) is
+    (record {
+      piece = piece;
+      gave = gave;
+      failures = failures;
+      count = len;
+      within = within;
+      pushed = same;
+      stands = λ bytes contents stands. subst (λ (s : State). StandsFor s (bytes ++ piece) contents) (sym same) (push_stands now piece bytes contents stands);
+    })
+
+ahead_more : (limits : Bounds) (rest more : List ℕ) (ahead : Option FrameSize) → AheadStands limits rest ahead → AheadStands limits (rest ++ more) ahead
+ahead_more limits rest more None stands = tt
+ahead_more limits rest more (Some size) stands = header_stays limits rest more size stands
+
+pub ahead_along : (limits : Bounds) (rest held more : List ℕ) (ahead : Option FrameSize) → rest ≡ held ++ more → AheadStands limits held ahead → AheadStands limits rest ahead
+ahead_along limits rest held more ahead same stands = subst (λ (w : List ℕ). AheadStands limits w ahead) (sym same) (ahead_more limits held more ahead stands)
+
+pub no_fault_stands : (limits : Bounds) (rest : List ℕ) (fault : Option ℕ) → fault ≡ None → FaultStands limits rest fault
+no_fault_stands limits rest fault none = rw none tt
+
+pushed_shut : (fault : Option ℕ) (s : State) → is_some fault ≡ true → s ≡ pushed_at fault s []
+pushed_shut None s some = absurd cc
+pushed_shut (Some rule) s some = refl
+
+-- a decoder that gave a fault takes nothing
+pub pulled_shut : (s : State) (now : Told) (most : ℕ) → is_some s.fault ≡ true → Pulls s s now now most 0
+pulled_shut s now most some = record {
+  piece = [];
+  gave = gave_nothing now;
+  failures = refl;
+  count = refl;
+  within = omega arith;
+  pushed = pushed_shut s.fault s some;
+  stands = λ bytes contents stands. subst (λ (w : List ℕ). StandsFor s w contents) (sym (append-nil bytes)) stands;
+}
+
+pub not_some : (fault : Option ℕ) → is_some fault ≡ false → fault ≡ None
+not_some None none = refl
+not_some (Some rule) none = absurd cc
