@@ -3,3 +3,5 @@ pub mod Readings
 pub mod Skipping
 pub mod Outlining
 pub mod Editing
+pub mod Calls
+pub mod ShortNumerals

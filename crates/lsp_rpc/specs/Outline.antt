@@ -1,5 +1,5 @@
 -- A message apart from what its params and its result hold.
-use Rattle.std.specs.Prelude.{◌≡◌, ◌⊎◌, ℕ, List, true, if◌then◌else◌, Some, None, option_map, codes}
+use Rattle.std.specs.Prelude.{◌≡◌, ◌⊎◌, ℕ, List, Bool, true, false, if◌then◌else◌, Some, None, option_map, codes}
 use Rattle.std.specs.Str.{bytes_eq}
 use Rattle.serde_json.specs.Data.{Data, null, boolean, number, string, array, object}
 use Rattle.lsp_rpc.specs.Message.{Message, request, notification, response, result, error}
@@ -31,6 +31,12 @@ abbrev pub without_params : Message → Message
 without_params (request id method params) = request id method None
 without_params (notification method params) = notification method None
 without_params (response id reply) = response id reply
+
+-- a request or a notification
+abbrev pub is_call : Message → Bool
+is_call (request id method params) = true
+is_call (notification method params) = true
+is_call (response id reply) = false
 
 -- the whole message, or its outline
 abbrev pub IsOrIsOutline : Message → Message → Type 0

@@ -19,6 +19,7 @@ mod laws;
 mod members;
 mod message;
 mod methods;
+mod numbers;
 mod outline;
 mod params;
 mod parts;

@@ -1,13 +1,12 @@
 //! Objects read token by token, without a tree of values: the members that are wanted are gathered
 //! as they come, and the others are gone past.
-ghost use Rattle.std.specs.Prelude.{◌≡◌, ◌^◌, ℕ, ◌<◌, length, false, pos, Some, IfSome, string_bytes};
+ghost use Rattle.std.specs.Prelude.{◌≡◌, ◌^◌, ℕ, ◌<◌, length, pos, Some, IfSome, string_bytes};
 ghost use Rattle.json.specs.Json.{value, members};
 ghost use Rattle.serde_json.specs.Data.{Data, Members, unsigned, object, string, no_members, put};
-ghost use Rattle.serde_json.specs.Read.{of_json, of_members, converted, number_from, number_of};
+ghost use Rattle.serde_json.specs.Read.{of_json, of_members, converted, number_of};
 ghost use Rattle.lsp_rpc.specs.Shape.{as_integer};
 
-use crate::skip::has_minus;
-use fast_float::Numeral;
+use crate::numbers::natural_of;
 use json::{Reader, Token};
 use std::alloc::Global;
 
@@ -111,25 +110,13 @@ pub(crate) fn take_text(reader: &mut Reader<'_>, text: &str) -> Option<()>
     }
 }
 
-/// The integer that a numeral without a sign writes.
-#[inline(always)]
-fn natural(numeral: &Numeral<'_>) -> Option<u64>
-    ensures { IfSome result (λ n. number_from false numeral.now ≡ Some (unsigned n)) }
-{
-    numeral.to_u64()
-}
-
 /// The integer from 0 to 2,147,483,647 that the digits write.
 #[inline(always)]
 fn uinteger(digits: &str) -> Option<u32>
     ensures read { IfSome result (λ n. number_of digits.now ≡ Some (unsigned n)) }
     ensures fits { IfSome result (λ n. n < 2 ^ 31) }
 {
-    let digits = digits.as_bytes();
-    if has_minus(digits) {
-        return None;
-    }
-    let n = natural(&Numeral::scan(digits))?;
+    let n = natural_of(digits)?;
     if n < 1 << 31 { Some(n as u32) } else { None }
 }
 

@@ -2,10 +2,10 @@
 ghost use Rattle.std.specs.Prelude.{◌≡◌, ◌<◌, length, Some, false, IfSome, IfOk, IfErr, string_bytes};
 ghost use Rattle.json.specs.Json.{value, members};
 ghost use Rattle.serde_json.specs.Data.{Data, Members, object, no_members};
-ghost use Rattle.serde_json.specs.Read.{of_json, of_members, converted, number_of, number_from, read as read_text};
+ghost use Rattle.serde_json.specs.Read.{of_json, of_members, converted, number_of, read as read_text};
 ghost use Rattle.serde_json.specs.View.{view, number_view};
 ghost use Rattle.lsp_rpc.specs.Message.{Message as SpecMessage};
-ghost use Rattle.lsp_rpc.specs.Outline.{outline, without_params, part_named, with_part, AreKept, IsOrIsOutline, IsOrLacksResult};
+ghost use Rattle.lsp_rpc.specs.Outline.{outline, without_params, is_call, part_named, with_part, AreKept, IsOrIsOutline, IsOrLacksResult};
 ghost use Rattle.lsp_rpc.specs.Params.{act_at};
 ghost use Rattle.lsp_types.specs.declared.side.Side.TheVariants.{Editor};
 ghost use Rattle.lsp_rpc.specs.Reading as reading;
@@ -17,19 +17,18 @@ use crate::content::{assemble, read};
 use crate::did_change::spoken_change;
 use crate::fault::RpcFault;
 use crate::message::Message;
+use crate::methods::act_of;
+use crate::numbers::natural_of;
 use crate::parts::Parts;
-use crate::skip::{has_minus, skip};
+use crate::skip::skip;
 use crate::words::words_of;
-use fast_float::Numeral;
 use json::{Reader, Scratch, Token};
+use lsp_types::Side;
 use serde_json::{Number, Value};
 use std::alloc::Global;
 
 /// How deep values may nest inside the object that a message is.
 const DEPTH: usize = 126;
-
-/// Contents with fewer bytes are read as fast whole.
-const SHORT: usize = 1024;
 
 /// Which part of a message a member is.
 #[derive(Clone, Copy)]
@@ -49,6 +48,36 @@ enum Wanted {
     All,
     /// Those without a method.
     Answers,
+    /// Those with a method of which neither side reads the params.
+    Calls,
+}
+
+impl Wanted {
+    /// Whether a message with this part may be wanted.
+    fn allows(self, part: Part) -> bool {
+        match self {
+            Wanted::All => true,
+            Wanted::Answers => !matches!(part, Part::Method),
+            Wanted::Calls => !matches!(part, Part::Result | Part::Error),
+        }
+    }
+}
+
+/// Whether a side reads the params of calls of this method.
+fn has_read_params(method: &Value) -> bool {
+    matches!(
+        method.as_str(),
+        Some(
+            "initialize"
+                | "textDocument/didOpen"
+                | "textDocument/didChange"
+                | "textDocument/didClose"
+                | "textDocument/didSave"
+                | "client/registerCapability"
+                | "$/cancelRequest"
+                | "$/progress"
+        )
+    )
 }
 
 fn part_named(name: &str) -> Part
@@ -65,24 +94,11 @@ fn part_named(name: &str) -> Part
     }
 }
 
-/// The integer that a numeral without a sign writes.
-#[inline(always)]
-fn integer_of(numeral: &Numeral<'_>) -> Option<Number>
-    ensures { IfSome result (λ n. number_from false numeral.now ≡ Some (number_view n)) }
-{
-    let n = numeral.to_u64()?;
-    Number::from_u128(n as u128)
-}
-
 /// The number that the digits write, where it is an integer that is not negative.
 fn natural(digits: &str) -> Option<Number>
     ensures { IfSome result (λ n. number_of digits.now ≡ Some (number_view n)) }
 {
-    let digits = digits.as_bytes();
-    if has_minus(digits) {
-        return None;
-    }
-    integer_of(&Numeral::scan(digits))
+    Number::from_u128(natural_of(digits)? as u128)
 }
 
 /// The next value, where it is neither an array nor an object.
@@ -113,13 +129,18 @@ fn take_part(
         → AreKept (with_part (part_named name.now) d p) parts.new)) }
     ensures shorter { IfSome result (λ _. length reader.new < length reader.old) }
 {
-    match part_named(name) {
+    let part = part_named(name);
+    if !wanted.allows(part) {
+        return None;
+    }
+    match part {
         Part::Version => parts.version = Some(plain(alloc, reader)?),
         Part::Method => {
-            if wanted == Wanted::Answers {
+            let method = plain(alloc, reader)?;
+            if wanted == Wanted::Calls && has_read_params(&method) {
                 return None;
             }
-            parts.method = Some(plain(alloc, reader)?);
+            parts.method = Some(method);
         }
         Part::Id => parts.id = Some(plain(alloc, reader)?),
         Part::Error => parts.error = Some(plain(alloc, reader)?),
@@ -190,6 +211,27 @@ fn outline_of(
     }
 }
 
+fn is_call(message: &Message) -> bool
+    ensures { result ≡ is_call (message_view message.now) }
+{
+    !matches!(message, Message::Response { .. })
+}
+
+/// The call that an outline is, with what it means whatever its params are.
+fn call_in(alloc: Global, side: Side, message: Message) -> Option<Spoken>
+    ensures { IfSome result (λ spoken. (whole : SpecMessage) → message_view message ≡ outline whole
+        → (message_view spoken.message ≡ without_params whole)
+        × (act_at side whole ≡ Some (act_view spoken.act))) }
+{
+    if !is_call(&message) {
+        return None;
+    }
+    let Ok(act) = act_of(alloc, &message, side) else {
+        return None;
+    };
+    Some(Spoken { message, act })
+}
+
 /// Reads contents one after another, apart from what their params and results hold. It keeps the
 /// room that a read needs.
 #[derive(Drop)]
@@ -228,9 +270,6 @@ impl OutlineReader {
             × IsOrLacksResult (message_view message) whole) }
         ensures rule { IfErr result (reading.IsRefusal content.now) }
     {
-        if content.len() < SHORT {
-            return read(self.alloc, content);
-        }
         match outline_of(self.alloc, content, &mut self.scratch, Wanted::Answers) {
             Some(Message::Response { id, answer }) => Ok(Message::Response { id, answer }),
             _ => read(self.alloc, content),
@@ -247,6 +286,18 @@ impl OutlineReader {
             × (act_at Editor whole ≡ Some (act_view spoken.act))) }
     {
         spoken_change(self.alloc, content, &mut self.scratch)
+    }
+
+    /// Reads a request or a notification whose params its side doesn't read, with what it means. `None`
+    /// where the content is another message or none, where its members have an uncommon form, and
+    /// where memory was refused: [`read`] and [`take_act`](crate::take_act) tell what it is.
+    pub fn read_call(&mut self, side: Side, content: &[u8]) -> Option<Spoken>
+        ensures { IfSome result (λ spoken. (whole : SpecMessage) × reading.Reads content.now whole
+            × (message_view spoken.message ≡ without_params whole)
+            × (act_at side whole ≡ Some (act_view spoken.act))) }
+    {
+        let message = outline_of(self.alloc, content, &mut self.scratch, Wanted::Calls)?;
+        call_in(self.alloc, side, message)
     }
 
     /// The words that name the message of a content, as [`words_of`] gives them. The refusal is the

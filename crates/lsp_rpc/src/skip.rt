@@ -1,12 +1,12 @@
 //! Going past a JSON value of which only the kind is wanted.
-ghost use Rattle.std.specs.Prelude.{◌≡◌, ◌<◌, ◌==◌, length, slice_index, Some, true, IsTrue, IfSome, is_some};
+ghost use Rattle.std.specs.Prelude.{◌≡◌, ◌<◌, length, Some, IsTrue, IfSome};
 ghost use Rattle.json.specs.Json.{value, items, members};
 ghost use Rattle.serde_json.specs.Data.{Data, Items, Members, no_members};
-ghost use Rattle.serde_json.specs.Read.{of_json, of_items, of_members, converted, number_of, number_from};
+ghost use Rattle.serde_json.specs.Read.{of_json, of_items, of_members, converted};
 ghost use Rattle.lsp_rpc.specs.Outline.{kind_of};
 ghost use Rattle.lsp_rpc.specs.Shape.{is_structure_or_null};
 
-use fast_float::Numeral;
+use crate::numbers::is_in_range;
 use json::{Reader, Token};
 
 /// What kind of value stands somewhere, as far as a message's params and result are judged.
@@ -17,35 +17,6 @@ pub(crate) enum Kind {
     Plain,
     /// An array or an object.
     Structure,
-}
-
-#[inline(always)]
-pub(crate) fn has_minus(digits: &[u8]) -> bool
-    ensures value { result ≡ (slice_index digits.now 0 == 45) }
-    ensures some { IsTrue result → 0 < length digits.now }
-{
-    !digits.is_empty() && digits[0] == b'-'
-}
-
-/// Whether the numeral is a 64-bit integer or a finite float.
-#[inline(always)]
-fn fits(negative: bool, numeral: &Numeral<'_>) -> bool
-    ensures { IsTrue result → is_some (number_from negative numeral.now) ≡ true }
-{
-    let fits_integer = !negative && numeral.to_u64().is_some();
-    fits_integer || numeral.to_float::<f64>(negative).is_finite()
-}
-
-/// Whether `serde_json` reads the number.
-fn is_in_range(digits: &str) -> bool
-    ensures { IsTrue result → is_some (number_of digits.now) ≡ true }
-{
-    let digits = digits.as_bytes();
-    if has_minus(digits) {
-        fits(true, &Numeral::scan(&digits[1..]))
-    } else {
-        fits(false, &Numeral::scan(digits))
-    }
 }
 
 impl Kind {

@@ -1,5 +1,5 @@
 //! Contents read by their outline.
-use lsp_rpc::{Answer, Id, Memory, Message, OutlineReader, RpcFault, words_of};
+use lsp_rpc::{Answer, Id, Memory, Message, OutlineReader, RpcFault, Side, words_of};
 use serde_json::Value;
 use std::alloc::{AllocError, Global};
 use std::test::Fail;
@@ -207,6 +207,92 @@ fn long_contents(rt: HostRuntime) -> Result<(), Fail> {
         let content = content.as_slice();
         assert_eq!(rt; told(alloc, reader.read(content))?.as_str(), outline);
         assert_eq!(rt; told(alloc, reader.read_answer(content))?.as_str(), answer);
+    }
+    Ok(())
+}
+
+/// What `read_call` tells of a content.
+fn told_call(
+    alloc: Global,
+    reader: &mut OutlineReader,
+    side: Side,
+    content: &str,
+) -> Result<String, Memory> {
+    let Some(spoken) = reader.read_call(side, content.as_bytes()) else {
+        return Ok(String::from_str(alloc, "none")?);
+    };
+    let words = words_of(alloc, &spoken.message)?;
+    Ok(format!(in alloc; "{words}, {:?}", spoken.act)?)
+}
+
+const CALLS: [(Side, &str, &str); 12] = [
+    (
+        Side::Editor,
+        "{\"jsonrpc\":\"2.0\",\"id\":3,\"method\":\"textDocument/hover\",\"params\":{\"position\":{\"line\":1,\"character\":2}}}",
+        "request 3 \"textDocument/hover\", Other",
+    ),
+    (
+        Side::Editor,
+        "{\"jsonrpc\":\"2.0\",\"method\":\"initialized\",\"params\":{}}",
+        "notification \"initialized\", Initialized",
+    ),
+    (
+        Side::Editor,
+        "{\"id\":\"a\",\"method\":\"shutdown\",\"jsonrpc\":\"2.0\"}",
+        "request \"a\" \"shutdown\", Shutdown",
+    ),
+    (
+        Side::Server,
+        "{\"jsonrpc\":\"2.0\",\"method\":\"exit\",\"params\":null}",
+        "notification \"exit\", Other",
+    ),
+    (
+        Side::Server,
+        "{\"jsonrpc\":\"2.0\",\"method\":\"window/logMessage\",\"params\":{\"type\":3,\"message\":\"\"}}",
+        "notification \"window/logMessage\", Early",
+    ),
+    (
+        Side::Server,
+        "{\"jsonrpc\":\"2.0\",\"id\":1,\"method\":\"window/showMessageRequest\",\"params\":[]}",
+        "request 1 \"window/showMessageRequest\", Early",
+    ),
+    (
+        Side::Editor,
+        "{\"jsonrpc\":\"2.0\",\"method\":\"textDocument/didClose\",\"params\":{\"textDocument\":{\"uri\":\"a\"}}}",
+        "none",
+    ),
+    (
+        Side::Server,
+        "{\"jsonrpc\":\"2.0\",\"method\":\"$/cancelRequest\",\"params\":{\"id\":1}}",
+        "none",
+    ),
+    (
+        Side::Editor,
+        "{\"jsonrpc\":\"2.0\",\"id\":3,\"method\":\"textDocument/hover\",\"params\":1}",
+        "none",
+    ),
+    (
+        Side::Server,
+        "{\"jsonrpc\":\"2.0\",\"id\":3,\"result\":null}",
+        "none",
+    ),
+    (
+        Side::Server,
+        "{\"jsonrpc\":\"2.0\",\"id\":3,\"error\":{\"code\":1,\"message\":\"\"}}",
+        "none",
+    ),
+    (Side::Editor, "[]", "none"),
+];
+
+#[test]
+fn calls_by_their_names(rt: HostRuntime) -> Result<(), Fail> {
+    let alloc = rt.alloc();
+    let mut reader = OutlineReader::new(alloc);
+    for (side, content, words) in CALLS {
+        assert_eq!(rt;
+            told_call(alloc, &mut reader, side, content)?.as_str(),
+            words
+        );
     }
     Ok(())
 }

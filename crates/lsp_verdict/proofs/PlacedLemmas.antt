@@ -1,7 +1,7 @@
 -- How bytes are cut into records doesn't matter for the events.
 use Rattle.std.proofs.Common.{◌≡◌, ℕ, List, [], ◌∷◌, ◌++◌, refl, sym, ap, subst, ◌∙◌, append_assoc, Option, Some, None}
 use Rattle.std.specs.Prelude.{map}
-use Rattle.std.proofs.lemmas.List.{append-nil, map-append}
+use Rattle.std.proofs.lemmas.List.{append-nil, append_cancel_left, map-append}
 use Rattle.lsp_types.specs.declared.side.Side.{Side}
 use Rattle.lsp_types.specs.declared.side.Side.TheVariants.{Editor, Server}
 use Rattle.lsp_frame.specs.Bounds.{Bounds}
@@ -16,12 +16,8 @@ pub record StreamLaws (limits : Bounds) : Type 0 where
   pub fault : (bytes : List ℕ) (us bs : List (List ℕ)) (r s : List ℕ) (p q : Option ℕ) → IsStream limits bytes us r p → IsStream limits bytes bs s q → p ≡ q
   pub faulty : (bytes : List ℕ) (us : List (List ℕ)) (rest : List ℕ) (rule : ℕ) (more : List ℕ) → IsStream limits bytes us rest (Some rule) → IsStream limits (bytes ++ more) us (rest ++ more) (Some rule)
 
-cancel_front : {A : Type 0} (xs ys zs : List A) → xs ++ ys ≡ xs ++ zs → ys ≡ zs
-cancel_front [] ys zs e = e
-cancel_front (x ∷ xs) ys zs e = cancel_front xs ys zs (cc e)
-
 cancel_all : {A : Type 0} (xs ys : List A) → xs ++ ys ≡ xs → ys ≡ []
-cancel_all xs ys e = cancel_front xs ys [] (e ∙ sym (append-nil xs))
+cancel_all xs ys e = append_cancel_left xs ys [] (e ∙ sym (append-nil xs))
 
 -- the parts of what two pieces bring
 brought_twice : (side : Side) (n1 n2 : List (List ℕ)) (f0 f1 f2 : Option ℕ) → ((rule : ℕ) → f1 ≡ Some rule → (n2 ≡ []) × (f2 ≡ f1)) → ((rule : ℕ) → f0 ≡ Some rule → f1 ≡ f0)
@@ -85,7 +81,7 @@ pub one_brings : (limits : Bounds) → StreamLaws limits → (side : Side) (befo
 one_brings limits laws side before more now other a b =
     let old : a.contents ≡ b.contents = laws.contents before _ _ _ _ _ _ a.stream b.stream in
     let new : a.contents ++ a.new_contents ≡ b.contents ++ b.new_contents = laws.contents (before ++ more) _ _ _ _ _ _ a.new_stream b.new_stream in
-    let more_same : a.new_contents ≡ b.new_contents = cancel_front b.contents a.new_contents b.new_contents (ap (λ w. w ++ a.new_contents) (sym old) ∙ new) in
+    let more_same : a.new_contents ≡ b.new_contents = append_cancel_left b.contents a.new_contents b.new_contents (ap (λ w. w ++ a.new_contents) (sym old) ∙ new) in
     let old_fault : a.old_fault ≡ b.old_fault = laws.fault before _ _ _ _ _ _ a.stream b.stream in
     let new_faults : a.last_fault ≡ b.last_fault = laws.fault (before ++ more) _ _ _ _ _ _ a.new_stream b.new_stream in
     a.brought

@@ -1,8 +1,9 @@
 //! Logs and streams that are cut short, without an end, nested deep, or spoilt in one byte.
 use crate::logs::{Log, frame_of, split_word};
 use crate::readers::{Endless, Pieces};
-use crate::runs::{Task, Work, check_sessions, word_of};
-use lsp_judge::{Input, Limits, Output, run_check};
+use crate::runs::{Work, check_sessions, word_of};
+use lsp_command::Task;
+use lsp_judge::{Input, Limits, Mode, Output, run_check};
 use std::alloc::Global;
 use std::process::Abort;
 use std::test::*;
@@ -169,7 +170,7 @@ fn lines_of(alloc: Global, stream: &[u8]) -> Result<(String, &'static str), Fail
         limits: Limits::profile(),
         log: Pieces::new(stream, 7),
     };
-    let ended = work.run(Task::Frames, &mut written);
+    let ended = work.run(Task::Frames(Mode::Lengths), &mut written);
     let lines = String::from_str(alloc, str::from_utf8(written.as_slice())?)?;
     Ok((lines, word_of(&ended)))
 }

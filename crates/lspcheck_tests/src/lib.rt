@@ -1,8 +1,11 @@
-//! Tests of the judge and of the runs over logs and streams, by their public names alone.
+//! Tests of the judge, of the words of the command line and of the runs over logs and streams, by
+//! their public names alone.
 //!
 //! They stand apart from the crates that they try, so that each of those is proved once.
 #![tactic(auto)]
 
+#[cfg(test)]
+mod command_lines;
 #[cfg(test)]
 mod frames;
 #[cfg(test)]

@@ -3,10 +3,8 @@
 use crate::logs::{Log, split_word};
 use crate::readers::{Broken, Pieces};
 use crate::sessions;
-use lsp_judge::{
-    Input, Limits, Mode, Outcome, Output, RunFault, Verdict, report_of, run_check, run_frames,
-    run_normal, run_show, run_text,
-};
+use lsp_command::{Task, report_apart, run_task};
+use lsp_judge::{Input, Limits, Mode, Outcome, Output, RunFault, Verdict};
 use std::alloc::Global;
 use std::num::NonZeroU64;
 use std::process::Abort;
@@ -14,16 +12,6 @@ use std::test::*;
 
 /// How a run ended.
 pub(super) type Ended = Result<Outcome, RunFault>;
-
-/// What to do with a log or a stream.
-#[derive(Clone, Copy, Debug)]
-pub(super) enum Task<'a> {
-    Check,
-    Show,
-    Text { number: NonZeroU64, uri: &'a str },
-    Normal,
-    Frames,
-}
 
 /// A log or a stream that comes in pieces, and its limits.
 #[derive(Drop)]
@@ -34,45 +22,11 @@ pub(super) struct Work<'a> {
 }
 
 impl Work<'_> {
-    fn check(self, written: &mut Vec<u8>) -> Ended {
-        let mut source = Input::new(self.log);
-        let mut sink = Output::new(written);
-        run_check(self.alloc, &mut source, &mut sink, self.limits)
-    }
-
-    fn show(self, written: &mut Vec<u8>) -> Ended {
-        let mut source = Input::new(self.log);
-        let mut sink = Output::new(written);
-        run_show(self.alloc, &mut source, &mut sink, self.limits)
-    }
-
-    fn text(self, written: &mut Vec<u8>, number: u64, uri: &str) -> Ended {
-        let mut source = Input::new(self.log);
-        let mut sink = Output::new(written);
-        run_text(self.alloc, &mut source, &mut sink, self.limits, number, uri)
-    }
-
-    fn normal(self, written: &mut Vec<u8>) -> Ended {
-        let mut source = Input::new(self.log);
-        let mut sink = Output::new(written);
-        run_normal(self.alloc, &mut source, &mut sink, self.limits)
-    }
-
-    fn frames(self, written: &mut Vec<u8>) -> Ended {
-        let mut source = Input::new(self.log);
-        let mut sink = Output::new(written);
-        let mode = Mode::Lengths;
-        run_frames(self.alloc, &mut source, &mut sink, self.limits, mode)
-    }
-
+    /// The run that the program makes for the task.
     pub(super) fn run(self, task: Task<'_>, written: &mut Vec<u8>) -> Ended {
-        match task {
-            Task::Check => self.check(written),
-            Task::Show => self.show(written),
-            Task::Text { number, uri } => self.text(written, number.get(), uri),
-            Task::Normal => self.normal(written),
-            Task::Frames => self.frames(written),
-        }
+        let mut source = Input::new(self.log);
+        let mut sink = Output::new(written);
+        run_task(self.alloc, task, &mut source, &mut sink, self.limits)
     }
 }
 
@@ -99,8 +53,11 @@ fn push_report(
     task: Task<'_>,
     ended: &Ended,
 ) -> Result<(), Fail> {
-    if let (Task::Text { .. } | Task::Normal, Ok(Outcome::Judged(verdict))) = (task, ended) {
-        for line in report_of(alloc, verdict)?.split_inclusive(|byte| *byte == b'\n') {
+    let Ok(outcome) = ended else {
+        return Ok(());
+    };
+    if let Some(report) = report_apart(alloc, task, outcome)? {
+        for line in report.split_inclusive(|byte| *byte == b'\n') {
             told.extend_from_slice(b"! ")?;
             told.extend_from_slice(line)?;
         }
@@ -149,7 +106,7 @@ fn run_of<'a>(word: &str, rest: &'a str) -> Result<Option<(Task<'a>, &'a str)>, 
         "=" => Task::Check,
         "show" => Task::Show,
         "normal" => Task::Normal,
-        "frames" => Task::Frames,
+        "frames" => Task::Frames(Mode::Lengths),
         "text" => {
             let (number, rest) = split_word(rest);
             let (uri, end) = split_word(rest);

@@ -1,6 +1,6 @@
 use Rattle.std.proofs.lemmas.Result.{err_from_is_err_and}
 use Rattle.lsp_verdict.proofs.RunReading.{read_within}
-use Rattle.lsp_streams.proofs.StreamEndings.{ran, closing_cut, broken, done_at_end}
+use Rattle.lsp_streams.proofs.Framing.Endings.{ran, closing_cut, broken, done_at_end}
 use Rattle.lsp_streams.proofs.frames.run_frames.Goals as goal
 
 pub returns-in_err-outcome-clause-fault : goal.returns-in_err-outcome-clause-fault

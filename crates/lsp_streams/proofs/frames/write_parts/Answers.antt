@@ -1,6 +1,6 @@
-use Rattle.std.proofs.Common.{arith, ℕ, ◌≡◌, ◌<◌, ◌≤◌, ◌+◌, ◌∙◌, length}
+use Rattle.std.proofs.Common.{arith, ◌≡◌, ◌≤◌, ◌+◌, ◌∙◌, length}
 use Rattle.std.proofs.lemmas.Result.{err_from_is_err_and}
-use Rattle.lsp_streams.proofs.StreamRuns.{nothing_yet, told_all, write_broke, memory_broke, read_broke, fault_ran, end_pulled, too_long_ran, pull_taken}
+use Rattle.lsp_streams.proofs.Framing.Runs.{nothing_yet, told_all, write_broke, memory_broke, read_broke, fault_ran, end_pulled, too_long_ran, pull_taken}
 use Rattle.lsp_streams.proofs.frames.write_parts.Goals as goal
 
 pub loop-messages-init : goal.loop-messages-init

@@ -1,0 +1,24 @@
+use Rattle.lsp_command.proofs.run.run_task.Goals as goal
+
+pub returns-in-Check-clause-answers : goal.returns-in-Check-clause-answers
+returns-in-Check-clause-answers g c = rw c.in-Check.is (record {
+  judged = c.run_check.ensures.judged;
+  verdict = c.run_check.ensures.verdict;
+  report = c.run_check.ensures.report;
+  ended = c.run_check.ensures.ended;
+  read_fault = c.run_check.ensures.read_fault;
+  memory = c.run_check.ensures.memory;
+  write_fault = c.run_check.ensures.write_fault;
+})
+
+pub returns-in-Text-clause-answers : goal.returns-in-Text-clause-answers
+returns-in-Text-clause-answers g c = rw (c.in-Text.is, ← c.get.ensures.value) (record {
+  text = c.run_text.ensures.text;
+  silent = c.run_text.ensures.silent;
+  no_document = c.run_text.ensures.no_document;
+  too_few = c.run_text.ensures.too_few;
+  refused = c.run_text.ensures.refused;
+  read_fault = c.run_text.ensures.read_fault;
+  memory = c.run_text.ensures.memory;
+  write_fault = c.run_text.ensures.write_fault;
+})

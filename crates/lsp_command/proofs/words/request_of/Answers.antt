@@ -1,0 +1,21 @@
+use Rattle.std.proofs.Common.{◌≡◌, ◌∙◌, IfSome, Some, sym, ap, option_map}
+use Rattle.clap.specs.Matches.{found_of}
+use Rattle.lsp_command.specs.Words.{file_of}
+use Rattle.lsp_command.proofs.words.request_of.Goals as goal
+
+pub returns : goal.returns
+returns c =
+    let is : c.task_of.result ≡ Some c.in-Some-task_of.task = c.in-Some-task_of.is in (
+      c.in-Some.name.now,
+      found_of c.in-Some.arguments.now,
+      record {
+        task = record {
+          check = λ e. sym is ∙ c.task_of.ensures.check e;
+          show = λ e. sym is ∙ c.task_of.ensures.show e;
+          text = λ e. c.in-Some-task_of.ensures.text e;
+          normal = λ e. sym is ∙ c.task_of.ensures.normal e;
+          frames = λ e. sym is ∙ c.task_of.ensures.frames e;
+        };
+        file = c.file_of-file.ensures ∙ ap file_of c.get_str.ensures;
+      },
+    )

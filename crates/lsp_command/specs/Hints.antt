@@ -1,0 +1,62 @@
+-- What an input seems to be by the bytes that it begins with.
+use Rattle.std.specs.Prelude.{ℕ, Bool, ◌||◌, List, [], ◌∷◌, ◌++◌, Option, Some, None, Result, Ok, Err, codes, nat_eq, zero, suc, if◌then◌else◌}
+use Rattle.std.specs.List.{starts_with}
+use Rattle.lsp_verdict.specs.declared.outcome.Outcome.{Outcome}
+use Rattle.lsp_verdict.specs.declared.outcome.Outcome.TheVariants.{Done, Judged, Stream, NoDocument, TooFew}
+use Rattle.lsp_verdict.specs.declared.outcome.RunFault.{RunFault}
+use Rattle.lsp_verdict.specs.declared.verdict.Verdict.{Verdict}
+use Rattle.lsp_verdict.specs.declared.verdict.Verdict.TheVariants.{Yes, No, BadLog}
+use Rattle.lsp_command.specs.declared.hint.Hint.{Hint}
+use Rattle.lsp_command.specs.declared.hint.Hint.TheVariants as hints
+
+abbrev pub begins : List ℕ → List ℕ → Bool
+begins front bytes = starts_with nat_eq bytes front
+
+-- gzip, bzip2, xz, Zstandard, zip
+abbrev pub is_compressed : List ℕ → Bool
+is_compressed bytes = begins (31 ∷ 139 ∷ []) bytes || (begins (codes "BZh") bytes
+    || (begins (253 ∷ codes "7zXZ") bytes || (begins (40 ∷ 181 ∷ 47 ∷ 253 ∷ []) bytes
+    || begins (codes "PK" ++ 3 ∷ 4 ∷ []) bytes)))
+
+-- a log behind a byte order mark of UTF-8
+abbrev pub has_mark : List ℕ → Bool
+has_mark bytes = begins (239 ∷ 187 ∷ 191 ∷ []) bytes
+
+-- a field of a header part
+abbrev pub is_stream : List ℕ → Bool
+is_stream bytes = begins (codes "Content-") bytes || begins (codes "content-") bytes
+
+abbrev pub session_hint : List ℕ → Hint
+session_hint bytes =
+    if begins (codes "lsp-session 1" ++ 13 ∷ []) bytes then hints.LineEnds
+    else if begins (codes "lsp-session ") bytes then hints.OtherFormat
+    else if is_compressed bytes then hints.Compressed
+    else hints.Unknown
+
+-- what an input seems to be that does not begin as a log does
+abbrev pub log_hint : List ℕ → Hint
+log_hint [] = hints.Empty
+log_hint (byte ∷ bytes) =
+    if is_stream (byte ∷ bytes) then hints.RawStream
+    else if has_mark (byte ∷ bytes) then hints.ByteOrderMark
+    else session_hint (byte ∷ bytes)
+
+-- what an input seems to be that is no stream of frames
+abbrev pub stream_hint : List ℕ → Option Hint
+stream_hint bytes = if begins (codes "lsp-session ") bytes then Some hints.Log else None
+
+-- a log has a fault at its first line only where its record is 0
+abbrev pub verdict_hint : Verdict → List ℕ → Option Hint
+verdict_hint (Yes s) bytes = None
+verdict_hint (No rule who number event) bytes = None
+verdict_hint (BadLog zero code) bytes = Some (log_hint bytes)
+verdict_hint (BadLog (suc n) code) bytes = None
+
+-- what an input seems to be, where a run ended so on it
+abbrev pub hint_of : Result Outcome RunFault → List ℕ → Option Hint
+hint_of (Ok (Judged v)) bytes = verdict_hint v bytes
+hint_of (Ok (Stream frame fault)) bytes = stream_hint bytes
+hint_of (Ok Done) bytes = None
+hint_of (Ok NoDocument) bytes = None
+hint_of (Ok TooFew) bytes = None
+hint_of (Err fault) bytes = None

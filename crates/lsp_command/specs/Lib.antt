@@ -1,0 +1,7 @@
+pub mod Beginnings
+pub mod Hints
+pub mod Ports
+pub mod Remarks
+pub mod Status
+pub mod Tasks
+pub mod Words

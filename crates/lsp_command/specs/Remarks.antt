@@ -1,0 +1,30 @@
+-- What is said on standard error of how a run ended.
+use Rattle.std.specs.Prelude.{ℕ, List, Option, Some, None, Result, Ok, Err, codes}
+use Rattle.lsp_verdict.specs.Given.{verdict_view}
+use Rattle.lsp_verdict.specs.Report.{report}
+use Rattle.lsp_verdict.specs.StreamReport.{stream_report}
+use Rattle.lsp_verdict.specs.declared.outcome.Mode.TheVariants.{Canonical}
+use Rattle.lsp_verdict.specs.declared.outcome.Outcome.{Outcome}
+use Rattle.lsp_verdict.specs.declared.outcome.Outcome.TheVariants.{Done, Judged, Stream, NoDocument, TooFew}
+use Rattle.lsp_verdict.specs.declared.outcome.RunFault.{RunFault}
+use Rattle.lsp_verdict.specs.declared.outcome.RunFault.TheVariants.{Read, Write, Memory}
+use Rattle.lsp_command.specs.declared.task.Task.{Task}
+use Rattle.lsp_command.specs.declared.task.Task.TheVariants.{Text, Normal, Frames}
+
+-- the fixed words for how a run ended
+abbrev pub remark_of : Result Outcome RunFault → Option (List ℕ)
+remark_of (Ok NoDocument) = Some (codes "no such document")
+remark_of (Ok TooFew) = Some (codes "fewer editor messages")
+remark_of (Ok Done) = None
+remark_of (Ok (Judged v)) = None
+remark_of (Ok (Stream frame fault)) = None
+remark_of (Err Read) = Some (codes "lspcheck: read fault")
+remark_of (Err Write) = Some (codes "lspcheck: write fault")
+remark_of (Err Memory) = Some (codes "lspcheck: out of memory")
+
+-- the report that stands apart from what was asked for: that of a verdict in `text` and `normal`, that of a stream in `frames --as canonical`
+abbrev pub report_apart : Task → Outcome → Option (List ℕ)
+report_apart (Text number uri) (Judged v) = Some (report (verdict_view v))
+report_apart Normal (Judged v) = Some (report (verdict_view v))
+report_apart (Frames Canonical) (Stream frame fault) = Some (stream_report frame fault)
+report_apart task outcome = None

@@ -1,0 +1,109 @@
+-- What each task answers and writes: what the run of its name does with its arguments.
+use Rattle.std.specs.Prelude.{◌≡◌, ◌⊎◌, ℕ, List, Result, Ok, Err, IfOk, OnOk, OnErr, IsOk}
+use Rattle.std.specs.Io.KnownBytes.{IsAtEnd}
+use lib.Utf8.{encodes}
+use Rattle.std.specs.Int.NonZero.{non_zero_u64_get}
+use Rattle.lsp_frame.specs.Bounds.{Bounds}
+use Rattle.lsp_frame.specs.Told.{Told, KeepsBytes, Took}
+use Rattle.lsp_judge.specs.Answered.{IsReportCut}
+use Rattle.lsp_verdict.specs.Given.{verdict_view}
+use Rattle.lsp_streams.specs.Normal.{EndsNormal, BeginsNormal}
+use Rattle.lsp_verdict.specs.Outcome.{IsVerdict}
+use Rattle.lsp_verdict.specs.Report.{report}
+use Rattle.lsp_verdict.specs.RunIo.{OfRead, AppendsFront}
+use Rattle.lsp_verdict.specs.Shown.{text_is, no_document, too_few, refused}
+use Rattle.lsp_judge.specs.ShownLog.{IsShown, BeginsShown}
+use Rattle.lsp_streams.specs.StreamRun.{IsRun, BeginsRun}
+use Rattle.lsp_verdict.specs.TextAfter.{AnswersText}
+use Rattle.lsp_verdict.specs.declared.outcome.Mode.{Mode}
+use Rattle.lsp_verdict.specs.declared.outcome.Outcome.{Outcome}
+use Rattle.lsp_verdict.specs.declared.outcome.Outcome.TheVariants as outcomes
+use Rattle.lsp_verdict.specs.declared.outcome.RunFault.{RunFault}
+use Rattle.lsp_verdict.specs.declared.outcome.RunFault.TheVariants as faults
+use Rattle.lsp_verdict.specs.declared.verdict.Summary.{Summary}
+use Rattle.lsp_verdict.specs.declared.verdict.Verdict.{Verdict}
+use Rattle.lsp_verdict.specs.declared.verdict.Verdict.TheVariants as verdicts
+use Rattle.lsp_command.specs.declared.task.Task.{Task}
+use Rattle.lsp_command.specs.declared.task.Task.TheVariants.{Check, Show, Text, Normal, Frames}
+
+-- what a source and a sink tell before a run and after it
+pub record Ports : Type 0 where
+  pub source_before : Told
+  pub source_after : Told
+  pub sink_before : Told
+  pub sink_after : Told
+
+-- this holds of the bytes read, however they go on where their end was not met
+abbrev pub Read : Bounds → Ports → (List ℕ → Type 0) → Type 0
+Read limits p Holds = OfRead limits p.source_before p.source_after Holds
+
+-- these bytes were written, and no other
+abbrev pub Wrote : Ports → List ℕ → Type 0
+Wrote p out = Took p.sink_before p.sink_after out
+
+-- nothing was written
+abbrev pub IsSilent : Ports → Type 0
+IsSilent p = p.sink_after ≡ p.sink_before
+
+-- `check`: the verdict on the log read, and its report
+pub record Checked (limits : Bounds) (p : Ports) (result : Result Outcome RunFault) : Type 0 where
+  pub judged : IfOk result (λ outcome. (v : Verdict) × (outcome ≡ outcomes.Judged v))
+  pub verdict : (v : Verdict) → result ≡ Ok (outcomes.Judged v) → Read limits p (λ log. IsVerdict limits log (verdict_view v))
+  pub report : (v : Verdict) → result ≡ Ok (outcomes.Judged v) → Wrote p (report (verdict_view v))
+  pub ended : (s : Summary) → result ≡ Ok (outcomes.Judged (verdicts.Yes s)) → IsAtEnd p.source_after.bytes
+  pub read_fault : result ≡ Err faults.Read → IsSilent p
+  pub memory : result ≡ Err faults.Memory → IsSilent p
+  pub write_fault : result ≡ Err faults.Write → IsReportCut limits p.source_before p.source_after p.sink_before p.sink_after
+
+-- `show`: the verdict on the log read, the lines of the events before its place, and its report
+pub record Showed (limits : Bounds) (p : Ports) (result : Result Outcome RunFault) : Type 0 where
+  pub judged : IfOk result (λ outcome. (v : Verdict) × (outcome ≡ outcomes.Judged v))
+  pub shown : (v : Verdict) → result ≡ Ok (outcomes.Judged v)
+      → (out : List ℕ) × Wrote p out × Read limits p (λ log. IsShown limits log (verdict_view v) out)
+  pub fault : OnErr result ((out : List ℕ) × Wrote p out × Read limits p (λ log. BeginsShown limits log out))
+
+-- `text`: the text that is held for the URI after the editor's message of the number, and nothing else
+pub record ToldText (limits : Bounds) (p : Ports) (number : ℕ) (uri : List ℕ) (result : Result Outcome RunFault) : Type 0 where
+  pub text : result ≡ Ok outcomes.Done → (text : List ℕ) × Wrote p (encodes text)
+      × Read limits p (λ log. AnswersText limits log number uri (text_is text))
+  pub silent : IfOk result (λ outcome. (outcome ≡ outcomes.Done) ⊎ (IsSilent p))
+  pub no_document : result ≡ Ok outcomes.NoDocument → Read limits p (λ log. AnswersText limits log number uri no_document)
+  pub too_few : result ≡ Ok outcomes.TooFew → Read limits p (λ log. AnswersText limits log number uri too_few)
+  pub refused : (v : Verdict) → result ≡ Ok (outcomes.Judged v)
+      → Read limits p (λ log. AnswersText limits log number uri (refused (verdict_view v)))
+  pub read_fault : result ≡ Err faults.Read → IsSilent p
+  pub memory : result ≡ Err faults.Memory → IsSilent p
+  pub write_fault : result ≡ Err faults.Write → (text : List ℕ) × AppendsFront p.sink_before p.sink_after (encodes text)
+      × Read limits p (λ log. AnswersText limits log number uri (text_is text))
+
+-- `normal`: the normal form of the log read, or after a fault what begins it
+pub record Normalized (limits : Bounds) (p : Ports) (result : Result Outcome RunFault) : Type 0 where
+  pub written : IfOk result (λ outcome. (out : List ℕ) × Wrote p out × Read limits p (λ log. EndsNormal limits log out outcome))
+  pub done : result ≡ Ok outcomes.Done → IsAtEnd p.source_after.bytes
+  pub fault : OnErr result ((out : List ℕ) × Wrote p out × Read limits p (λ log. BeginsNormal limits log out))
+
+-- `frames`: what is due in the mode for the stream read, or after a fault what begins it
+pub record Framed (limits : Bounds) (p : Ports) (mode : Mode) (result : Result Outcome RunFault) : Type 0 where
+  pub written : IfOk result (λ outcome. (out : List ℕ) × Wrote p out × Read limits p (λ stream. IsRun limits mode stream out outcome))
+  pub done : result ≡ Ok outcomes.Done → IsAtEnd p.source_after.bytes
+  pub fault : OnErr result ((out : List ℕ) × Wrote p out × Read limits p (λ stream. BeginsRun limits mode stream out))
+
+-- **each task is the run of its name**, with its arguments, on this input and into this output
+abbrev pub Answers : Bounds → Task → Ports → Result Outcome RunFault → Type 0
+Answers limits Check p result = Checked limits p result
+Answers limits Show p result = Showed limits p result
+Answers limits (Text number uri) p result = ToldText limits p (non_zero_u64_get number) uri.now result
+Answers limits Normal p result = Normalized limits p result
+Answers limits (Frames mode) p result = Framed limits p mode result
+
+-- what a task answered is the answer, or it ended well and what it wrote could not be handed on: a write fault
+abbrev pub IsHandedOn : Result Outcome RunFault → Result Outcome RunFault → Type 0
+IsHandedOn ended result = (result ≡ ended) ⊎ (IsOk ended × (result ≡ Err faults.Write))
+
+-- the task was done, and then what it had written was handed on
+pub record RanThrough (limits : Bounds) (task : Task) (p : Ports) (result : Result Outcome RunFault) : Type 0 where
+  pub gathered : Told
+  pub ended : Result Outcome RunFault
+  pub answers : Answers limits task (record p { sink_after = gathered }) ended
+  pub kept : KeepsBytes gathered p.sink_after
+  pub handed_on : IsHandedOn ended result

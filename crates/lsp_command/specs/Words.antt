@@ -1,0 +1,50 @@
+-- What the words of a command line ask for, read off what the parser found in them.
+use Rattle.std.specs.Prelude.{◌≡◌, ℕ, ◌==◌, List, Option, Some, None, IfSome, codes, option_and_then, option_map, if◌then◌else◌}
+use Rattle.std.specs.Str.{bytes_eq}
+use Rattle.std.specs.Str.Parse.{digits_value, without_leading_plus}
+use Rattle.std.specs.Int.NonZero.{non_zero_u64_get}
+use Rattle.clap.specs.Matches.{first_value, one_text}
+use Rattle.clap.specs.declared.parser.matches.Found.{Found}
+use Rattle.lsp_verdict.specs.declared.outcome.Mode.{Mode}
+use Rattle.lsp_verdict.specs.declared.outcome.Mode.TheVariants.{Lengths, Canonical, Kinds}
+use Rattle.lsp_command.specs.declared.task.Request.{Request}
+use Rattle.lsp_command.specs.declared.task.Task.{Task}
+use Rattle.lsp_command.specs.declared.task.Task.TheVariants as tasks
+
+-- the file of a name: `-` is standard input, as is no name
+abbrev pub file_of : Option (List ℕ) → Option (List ℕ)
+file_of name = option_and_then (λ n. if bytes_eq n (codes "-") then None else Some n) name
+
+-- the mode of a name
+abbrev pub mode_named : List ℕ → Mode
+mode_named name =
+    if bytes_eq name (codes "canonical") then Canonical
+    else if bytes_eq name (codes "kinds") then Kinds
+    else Lengths
+
+abbrev pub mode_of : Option (List ℕ) → Mode
+mode_of (Some name) = mode_named name
+mode_of None = Lengths
+
+-- the text of a URI after the editor's message of a number, both as the words give them
+abbrev pub AsksText : Found → Task → Type 0
+AsksText found (tasks.Text number uri) = (first_value found (codes "uri") ≡ Some uri.now)
+    × ((digits : List ℕ) × (one_text found (codes "number") ≡ Some digits)
+    × (non_zero_u64_get number ≡ digits_value 10 (without_leading_plus digits)))
+AsksText found tasks.Check = ⊥
+AsksText found tasks.Show = ⊥
+AsksText found tasks.Normal = ⊥
+AsksText found (tasks.Frames mode) = ⊥
+
+-- **what the command of a name asks for**, with what was found of its arguments
+pub record HasTask (name : List ℕ) (found : Found) (asked : Option Task) : Type 0 where
+  pub check : name ≡ codes "check" → asked ≡ Some tasks.Check
+  pub show : name ≡ codes "show" → asked ≡ Some tasks.Show
+  pub text : name ≡ codes "text" → IfSome asked (AsksText found)
+  pub normal : name ≡ codes "normal" → asked ≡ Some tasks.Normal
+  pub frames : name ≡ codes "frames" → asked ≡ Some (tasks.Frames (mode_of (first_value found (codes "as"))))
+
+-- what the words ask for: the task of a command, and the file that its words name
+pub record Asks (name : List ℕ) (found : Found) (request : Request) : Type 0 where
+  pub task : HasTask name found (Some request.task)
+  pub file : option_map (λ path. path.now) request.file ≡ file_of (first_value found (codes "file"))

@@ -1,0 +1,110 @@
+//! What an input seems to be that is not what the command reads.
+ghost use Rattle.std.specs.Prelude.{◌≡◌};
+ghost use Rattle.lsp_command.specs.Hints.{begins, is_compressed, is_stream, log_hint, session_hint, hint_of};
+
+use lsp_judge::{Outcome, RunFault, Verdict};
+use std::fmt;
+
+/// What an input seems to be that is not what the command reads.
+#[derive(Clone, Copy, Debug, PartialEq, Eq)]
+pub enum Hint {
+    /// Nothing at all.
+    Empty,
+    /// One raw direction of a session, where a log was wanted.
+    RawStream,
+    /// A log, where one raw direction of a session was wanted.
+    Log,
+    /// A log whose first line ends with CR LF.
+    LineEnds,
+    /// A log behind a byte order mark.
+    ByteOrderMark,
+    /// A log in a format of another number.
+    OtherFormat,
+    /// A compressed file.
+    Compressed,
+    /// None of these.
+    Unknown,
+}
+
+impl fmt::Display for Hint {
+    fn fmt<W: fmt::Write>(&self, f: &mut fmt::Formatter<W>) -> fmt::Result {
+        f.write_str(match self {
+            Hint::Empty => "the input is empty: the recorder wrote nothing",
+            Hint::RawStream => "this seems to be one raw stream of frames: try 'lspcheck frames'",
+            Hint::Log => "this seems to be the log of a session: try 'lspcheck check'",
+            Hint::LineEnds => "the first line ends with CR LF: a log's lines end with LF alone",
+            Hint::ByteOrderMark => "the input begins with a byte order mark: a log has none",
+            Hint::OtherFormat => "a log of a format that this lspcheck doesn't know: see --version",
+            Hint::Compressed => "the input is compressed: unpack it first",
+            Hint::Unknown => "a log begins with the line 'lsp-session 1': see docs/LOG_FORMAT.md",
+        })
+    }
+}
+
+/// Whether the bytes begin so.
+fn begins(front: &[u8], bytes: &[u8]) -> bool
+    ensures { result ≡ begins front.now bytes.now }
+{
+    bytes.starts_with(front)
+}
+
+/// Whether the bytes begin as a file does that gzip, bzip2, xz, Zstandard or zip made.
+fn is_compressed(bytes: &[u8]) -> bool
+    ensures { result ≡ is_compressed bytes.now }
+{
+    begins(b"\x1F\x8B", bytes)
+        || begins(b"BZh", bytes)
+        || begins(b"\xFD7zXZ", bytes)
+        || begins(b"\x28\xB5\x2F\xFD", bytes)
+        || begins(b"PK\x03\x04", bytes)
+}
+
+/// Whether the bytes begin with a field of a header part (LSP 3.17, "Base Protocol").
+fn is_stream(bytes: &[u8]) -> bool
+    ensures { result ≡ is_stream bytes.now }
+{
+    begins(b"Content-", bytes) || begins(b"content-", bytes)
+}
+
+/// What an input seems to be that does not begin as a log does.
+fn log_hint(bytes: &[u8]) -> Hint
+    ensures { result ≡ log_hint bytes.now }
+{
+    if bytes.is_empty() {
+        return Hint::Empty;
+    }
+    if is_stream(bytes) {
+        return Hint::RawStream;
+    }
+    if begins(b"\xEF\xBB\xBF", bytes) {
+        return Hint::ByteOrderMark;
+    }
+    session_hint(bytes)
+}
+
+/// The same of one that is not empty, no stream and has no byte order mark.
+fn session_hint(bytes: &[u8]) -> Hint
+    ensures { result ≡ session_hint bytes.now }
+{
+    if begins(b"lsp-session 1\r", bytes) {
+        return Hint::LineEnds;
+    }
+    if begins(b"lsp-session ", bytes) {
+        return Hint::OtherFormat;
+    }
+    if is_compressed(bytes) {
+        return Hint::Compressed;
+    }
+    Hint::Unknown
+}
+
+/// What an input seems to be, where a run ended so that read it and these are its first bytes.
+pub fn hint_of(ended: &Result<Outcome, RunFault>, bytes: &[u8]) -> Option<Hint>
+    ensures { result ≡ hint_of ended.now bytes.now }
+{
+    match ended {
+        Ok(Outcome::Judged(Verdict::BadLog { number: 0, .. })) => Some(log_hint(bytes)),
+        Ok(Outcome::Stream { .. }) if begins(b"lsp-session ", bytes) => Some(Hint::Log),
+        _ => None,
+    }
+}

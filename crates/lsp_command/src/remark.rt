@@ -1,0 +1,46 @@
+//! What is said on standard error of how a run ended.
+ghost use Rattle.std.specs.Prelude.{◌≡◌, IfOk, IfErr, option_map};
+ghost use Rattle.lsp_verdict.specs.declared.outcome.RunFault.TheVariants as faults;
+ghost use Rattle.lsp_command.specs.Remarks.{remark_of, report_apart};
+
+use crate::task::Task;
+use lsp_judge::{Mode, Outcome, RunFault, report_of, stream_report};
+use std::alloc::Global;
+
+/// The fixed words for how a run ended, without their line end, where there are any.
+pub fn remark_of(ended: &Result<Outcome, RunFault>) -> Option<&'static str>
+    ensures { option_map (λ words. words.now) result ≡ remark_of ended.now }
+{
+    match ended {
+        Ok(Outcome::NoDocument) => Some("no such document"),
+        Ok(Outcome::TooFew) => Some("fewer editor messages"),
+        Ok(_) => None,
+        Err(RunFault::Read) => Some("lspcheck: read fault"),
+        Err(RunFault::Write) => Some("lspcheck: write fault"),
+        Err(RunFault::Memory) => Some("lspcheck: out of memory"),
+    }
+}
+
+/// The report of a fault, where it is not part of what the task writes: `text`, `normal` and `frames
+/// --as canonical` write what was asked for and nothing else.
+///
+/// # Errors
+/// `Memory` where memory was refused, and nothing else.
+pub fn report_apart(
+    alloc: Global,
+    task: Task<'_>,
+    outcome: &Outcome,
+) -> Result<Option<Vec<u8>>, RunFault>
+    ensures report { IfOk result (λ written. option_map (λ bytes. bytes.items) written ≡ report_apart task.entry outcome.now) }
+    ensures fault { IfErr result (λ fault. fault ≡ faults.Memory) }
+{
+    match (outcome, task) {
+        (Outcome::Stream { frame, fault }, Task::Frames(Mode::Canonical)) => {
+            Ok(Some(stream_report(alloc, *frame, *fault)?))
+        }
+        (Outcome::Judged(verdict), Task::Text { .. } | Task::Normal) => {
+            Ok(Some(report_of(alloc, verdict)?))
+        }
+        _ => Ok(None),
+    }
+}

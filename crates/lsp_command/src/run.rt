@@ -1,0 +1,63 @@
+//! Does what the words ask for.
+ghost use Rattle.std.specs.Prelude.{◌≡◌, [], OnOk};
+ghost use Rattle.lsp_verdict.specs.RunIo.{source_failures, sink_failures};
+ghost use Rattle.lsp_command.specs.Ports.{unwritten};
+ghost use Rattle.lsp_command.specs.Tasks.{Answers, RanThrough};
+
+use crate::inlet::Inlet;
+use crate::outlet::Outlet;
+use crate::task::Task;
+use lsp_frame::{Limits, Sink, Source};
+use lsp_judge::{Outcome, RunFault, run_check, run_frames, run_normal, run_show, run_text};
+use std::alloc::Global;
+use std::io::{Read, Write};
+
+/// Does the task over a source and a sink.
+pub fn run_task<R: Source, W: Sink>(
+    alloc: Global,
+    task: Task<'_>,
+    source: &mut R,
+    sink: &mut W,
+    limits: Limits,
+) -> Result<Outcome, RunFault>
+    ensures answers { Answers limits task.entry (record {
+      left_before = R.remaining source.old;
+      left_after = R.remaining source.new;
+      taken_before = W.taken sink.old;
+      taken_after = W.taken sink.new;
+    }) result }
+    ensures source_failures { (R.told source.new).failures ≡ source_failures result (R.told source.old).failures }
+    ensures sink_failures { (W.told sink.new).failures ≡ sink_failures result (W.told sink.old).failures }
+{
+    match task {
+        Task::Check => run_check(alloc, source, sink, limits),
+        Task::Show => run_show(alloc, source, sink, limits),
+        Task::Text { number, uri } => run_text(alloc, source, sink, limits, number.get(), uri),
+        Task::Normal => run_normal(alloc, source, sink, limits),
+        Task::Frames(mode) => run_frames(alloc, source, sink, limits, mode),
+    }
+}
+
+/// Does the task over an input and into an output. What the task wrote is handed on also where it
+/// failed.
+pub fn run_through<R: Read + Drop, W: Write + Drop>(
+    alloc: Global,
+    task: Task<'_>,
+    inlet: &mut Inlet<R>,
+    outlet: &mut Outlet<W>,
+    limits: Limits,
+) -> Result<Outcome, RunFault>
+    ensures ran { RanThrough limits task.entry (record {
+      left_before = ⟦<Inlet<R> as Source>⟧.remaining inlet.old;
+      left_after = ⟦<Inlet<R> as Source>⟧.remaining inlet.new;
+      taken_before = ⟦<Outlet<W> as Sink>⟧.taken outlet.old;
+      taken_after = ⟦<Outlet<W> as Sink>⟧.taken outlet.new;
+    }) result }
+    ensures flushed { OnOk result (unwritten outlet.new ≡ []) }
+{
+    let ended = run_task(alloc, task, inlet, outlet, limits);
+    match outlet.flush() {
+        Err(_) if ended.is_ok() => Err(RunFault::Write),
+        _ => ended,
+    }
+}

@@ -1,0 +1,27 @@
+//! What a command line can ask for.
+use lsp_judge::Mode;
+use std::num::NonZeroU64;
+
+/// What to do with what is read.
+#[derive(Clone, Copy, Debug)]
+pub enum Task<'a> {
+    /// To judge a recorded session.
+    Check,
+    /// To list the events of a recorded session, and to judge it.
+    Show,
+    /// To write the text of the document with this URI, as it is after the editor's message of this
+    /// number.
+    Text { number: NonZeroU64, uri: &'a str },
+    /// To write the normal form of a log.
+    Normal,
+    /// To read one raw stream of frames.
+    Frames(Mode),
+}
+
+/// What the words of a command line ask for.
+#[derive(Drop)]
+pub struct Request<'a> {
+    pub task: Task<'a>,
+    /// The file to read, or standard input.
+    pub file: Option<&'a str>,
+}

@@ -1,0 +1,171 @@
+//! The words of the command line.
+ghost use Rattle.std.specs.Prelude.{◌≡◌, ℕ, List, IfOk, IfSome, Some, codes, option_map};
+ghost use Rattle.clap.specs.Matches.{first_value, found_of};
+ghost use Rattle.clap.specs.declared.parser.matches.Found.{Found};
+ghost use Rattle.lsp_command.specs.Words.{Asks, AsksText, file_of, mode_of};
+
+use crate::task::{Request, Task};
+use clap::error::ErrorKind;
+use clap::{Arg, ArgMatches, Command, Error, value_parser};
+use lsp_judge::Mode;
+use std::alloc::{AllocError, Global};
+use std::num::NonZeroU64;
+
+static MODES: [&str; 3] = ["lengths", "canonical", "kinds"];
+
+/// The version of the program, and the kit that proved it, as `rt version` names it.
+const VERSION: &str = "1.0.0 (rattle-kit-13b logic dac8208d650f15bf)";
+
+/// What the help of the program ends with.
+const MORE: &str = "\
+Examples:
+  lspcheck check session.log                 the verdict on a recorded session
+  lspcheck show session.log | tail           the events before it
+  lspcheck text 12 file:///a.c session.log   what the server should hold then
+  lspcheck frames --as kinds server.bin      what one raw stream is made of
+
+Exit status:
+  0 yes or done        3 read or write fault
+  1 no                 4 out of memory
+  2 bad log or stream  5 no such document, or fewer editor messages
+                       64 words that do not parse
+
+The rules, the lines of a report and how to record a session stand in the pages
+docs/RULES.md, docs/REPORT.md and docs/LOG_FORMAT.md of the repository.";
+
+/// The greatest number of a message that can be asked for: no log has more messages than bytes.
+const MOST_MESSAGES: i64 = 1_099_511_627_776;
+
+/// The argument that names the log.
+fn log_file<'a>(alloc: Global) -> Arg<'a> {
+    Arg::new(alloc, "file")
+        .value_name("FILE")
+        .help("The log; '-', or none, is standard input")
+}
+
+fn check<'a>(alloc: Global) -> Result<Command<'a>, AllocError> {
+    Command::new(alloc, "check")
+        .about("Judges a recorded session, and reports the verdict")
+        .arg(log_file(alloc))
+}
+
+fn show<'a>(alloc: Global) -> Result<Command<'a>, AllocError> {
+    Command::new(alloc, "show")
+        .about("Lists the events of a recorded session, and reports the verdict")
+        .arg(log_file(alloc))
+}
+
+fn text<'a>(alloc: Global) -> Result<Command<'a>, AllocError> {
+    let number = Arg::new(alloc, "number")
+        .value_name("N")
+        .required(true)
+        .value_parser(value_parser!(u64).range(1..=MOST_MESSAGES))
+        .help("The number of a message of the editor, from 1");
+    let uri = Arg::new(alloc, "uri")
+        .value_name("URI")
+        .required(true)
+        .help("The document");
+    Command::new(alloc, "text")
+        .about("Writes the text of a document after a message of the editor")
+        .arg(number)?
+        .arg(uri)?
+        .arg(log_file(alloc))
+}
+
+fn normal<'a>(alloc: Global) -> Result<Command<'a>, AllocError> {
+    Command::new(alloc, "normal")
+        .about("Writes the normal form of a log")
+        .arg(log_file(alloc))
+}
+
+fn frames<'a>(alloc: Global) -> Result<Command<'a>, AllocError> {
+    let mode = Arg::new(alloc, "as")
+        .long("as")
+        .value_name("MODE")
+        .value_parser(MODES.as_slice())
+        .default_value("lengths")
+        .help("What to write for each frame");
+    let file = Arg::new(alloc, "file")
+        .value_name("FILE")
+        .help("The stream; '-', or none, is standard input");
+    Command::new(alloc, "frames")
+        .about("Reads one raw stream of frames")
+        .arg(mode)?
+        .arg(file)
+}
+
+fn command_line<'a>(alloc: Global) -> Result<Command<'a>, AllocError> {
+    Command::new(alloc, "lspcheck")
+        .about("Judges recorded sessions between an editor and a language server")
+        .version(VERSION)
+        .after_help(MORE)
+        .subcommand_required(true)
+        .arg_required_else_help(true)
+        .subcommand(check(alloc)?)?
+        .subcommand(show(alloc)?)?
+        .subcommand(text(alloc)?)?
+        .subcommand(normal(alloc)?)?
+        .subcommand(frames(alloc)?)
+}
+
+/// The mode of this name; the parser of the option lets no other name pass.
+fn mode_of(name: Option<&str>) -> Mode
+    ensures { result ≡ mode_of (option_map (λ s. s.now) name.entry) }
+{
+    match name {
+        Some("canonical") => Mode::Canonical,
+        Some("kinds") => Mode::Kinds,
+        _ => Mode::Lengths,
+    }
+}
+
+/// The task of the command of this name, with its arguments.
+fn task_of<'a>(name: &str, arguments: &ArgMatches<'a>) -> Option<Task<'a>>
+    ensures check { name.now ≡ codes "check" → result ≡ Some Task.Check }
+    ensures show { name.now ≡ codes "show" → result ≡ Some Task.Show }
+    ensures text { name.now ≡ codes "text" → IfSome result (AsksText (found_of arguments.now)) }
+    ensures normal { name.now ≡ codes "normal" → result ≡ Some Task.Normal }
+    ensures frames { name.now ≡ codes "frames"
+        → result ≡ Some (Task.Frames (mode_of (first_value (found_of arguments.now) (codes "as")))) }
+{
+    match name {
+        "check" => Some(Task::Check),
+        "show" => Some(Task::Show),
+        "text" => Some(Task::Text {
+            number: arguments.get_one::<NonZeroU64>("number")?,
+            uri: arguments.get_str("uri")?,
+        }),
+        "normal" => Some(Task::Normal),
+        "frames" => Some(Task::Frames(mode_of(arguments.get_str("as")))),
+        _ => None,
+    }
+}
+
+/// The file of this name, where it names one: `-` is standard input.
+fn file_of<'a>(name: Option<&'a str>) -> Option<&'a str>
+    ensures { option_map (λ s. s.now) result ≡ file_of (option_map (λ s. s.now) name.entry) }
+{
+    match name {
+        Some("-") => None,
+        _ => name,
+    }
+}
+
+/// Reads the words of a command line, the program's name first.
+///
+/// # Errors
+/// `OutOfMemory` where memory was refused; `DisplayHelp` and `DisplayVersion` where the words ask for
+/// these; anything else where they don't parse.
+pub fn request_of<'a>(alloc: Global, words: &'a [String]) -> Result<Request<'a>, Error>
+    ensures { IfOk result (λ request. (name : List ℕ) × (found : Found) × Asks name found request) }
+{
+    let mut command = command_line(alloc)?;
+    let matches = command.try_get_matches_from_mut(words)?;
+    if let Some((name, arguments)) = matches.subcommand()
+        && let Some(task) = task_of(name, arguments)
+    {
+        let file = file_of(arguments.get_str("file"));
+        return Ok(Request { task, file });
+    }
+    Err(command.error(ErrorKind::MissingSubcommand, "a command is required")?)
+}

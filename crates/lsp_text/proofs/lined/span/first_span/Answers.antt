@@ -1,0 +1,35 @@
+use Rattle.std.proofs.Common.{◌≡◌, ℕ, List, [], refl, arith, sym, ap, subst, ◌<◌, length, ◌∙◌}
+use Rattle.std.specs.Str.{chars}
+use Rattle.lsp_text.specs.Spans.{IsCutTo}
+use Rattle.lsp_text.specs.declared.lined.short.LineCounts.{LineCounts}
+use Rattle.lsp_text.proofs.Counting.{units-utf8_text}
+use Rattle.lsp_text.proofs.Positions.{rest_shorter}
+use Rattle.lsp_text.proofs.LineEdits.{end_units}
+use Rattle.lsp_text.proofs.Tables.{counts_from}
+use Rattle.lsp_text.proofs.Spans.{none_cut, cut_next, are_cut_off, span_before}
+use Rattle.lsp_text.proofs.lined.span.first_span.Goals as goal
+use Rattle.lsp_text.proofs.lined.span.first_span.Goals.{else-loop-rest-test, then-loop-rest-test+in-Some+then-line-gt-LONG+then-rest-text}
+
+pub loop-rest-init : goal.loop-rest-init
+loop-rest-init c =
+    subst (λ (x : List LineCounts). IsCutTo c.args.followed c.args.text.now x c.args.text.now) (sym c.new-table.ensures.items) (none_cut c.args.followed c.args.text.now c.utf8.text)
+
+pub loop-rest-preserved : goal.loop-rest-preserved
+loop-rest-preserved c =
+    let f = c.in-Some.line in
+    let h = c.in-Some.ensures in
+    let end = units-utf8_text f.end.now h.end_utf8 in
+    cut_next c.args.followed c.args.text.now c.loop-rest.table.items c.push.new.self.items c.loop-rest.rest.now f c.count.result c.loop-rest.invariant h c.in_ok-push.ensures.items
+    (counts_from f.text.now f.end.now c.count.result h.text_utf8 end c.count.ensures.len c.count.ensures.body c.count.ensures.chars c.count.ensures.utf16)
+
+pub split_at-requires : goal.split_at-requires
+split_at-requires c = (are_cut_off c.args.followed c.args.text.now c.loop-rest.table.items c.loop-rest.rest.now c.loop-rest.invariant).boundary
+
+pub returns : goal.returns
+returns c =
+    let shorter : length c.loop-rest.rest.now < length c.args.text.now =
+    elim c.loop-rest-test.branch [
+      | else-loop-rest-test w ↦ omega (arith, w.loop-rest-test.false)
+      | then-loop-rest-test+in-Some+then-line-gt-LONG+then-rest-text w ↦ omega (arith, w.if-rest-text.true)
+    ] in
+    span_before c.args.followed c.args.text.now c.loop-rest.rest.now c.loop-rest.table.items _ c.loop-rest.invariant refl c.split_at.ensures.front refl (c.loop-rest.invariant.utf8, shorter)

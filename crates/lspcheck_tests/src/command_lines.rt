@@ -1,0 +1,63 @@
+//! Command lines, and what they ask for.
+use lsp_command::{Request, request_of};
+use std::alloc::Global;
+use std::test::*;
+
+/// Words behind the program's name, and behind ` = ` the task and the file, or the status where there
+/// is nothing to run.
+const LINES: &str = r#"check = Check None
+check a.log = Check Some("a.log")
+check - = Check None
+check a b = 64
+show a.log = Show Some("a.log")
+text 1 file:///a = Text { number: 1, uri: "file:///a" } None
+text +3 file:///a a.log = Text { number: 3, uri: "file:///a" } Some("a.log")
+text 003 file:///a = Text { number: 3, uri: "file:///a" } None
+text 1099511627776 u = Text { number: 1099511627776, uri: "u" } None
+text 1099511627777 u = 64
+text 0 u = 64
+text -1 u = 64
+text x u = 64
+text 1 = 64
+normal = Normal None
+normal a.log = Normal Some("a.log")
+normal --as lengths = 64
+frames = Frames(Lengths) None
+frames --as canonical = Frames(Canonical) None
+frames --as kinds a.bin = Frames(Kinds) Some("a.bin")
+frames --as other = 64
+frames --as kinds --as kinds = 64
+other = 64
+help = 0
+--help = 0
+text --help = 0"#;
+
+/// The words of a line, the program's name first.
+fn words_in(alloc: Global, line: &str) -> Result<Vec<String>, Fail> {
+    let mut words = Vec::new(alloc);
+    words.push(String::from_str(alloc, "lspcheck")?)?;
+    for word in line.split_whitespace() {
+        words.push(String::from_str(alloc, word)?)?;
+    }
+    Ok(words)
+}
+
+/// What these words ask for, as text.
+fn asked_by(alloc: Global, line: &str) -> Result<String, Fail> {
+    let words = words_in(alloc, line)?;
+    Ok(match request_of(alloc, words.as_slice()) {
+        Ok(Request { task, file }) => format!(in alloc; "{task:?} {file:?}")?,
+        Err(error) if error.use_stderr() => String::from_str(alloc, "64")?,
+        Err(_) => String::from_str(alloc, "0")?,
+    })
+}
+
+#[test]
+fn command_lines(rt: HostRuntime) -> Result<(), Fail> {
+    for row in LINES.lines() {
+        let (line, wanted) = row.split_once(" = ").ok_or("no answer")?;
+        assert_eq!(rt; asked_by(rt.alloc(), line)?.as_str(), wanted, "{line}");
+    }
+    assert_eq!(rt; asked_by(rt.alloc(), "")?.as_str(), "64");
+    Ok(())
+}

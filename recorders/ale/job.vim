@@ -1,0 +1,87 @@
+" Records what ALE and its language servers say to each other, as logs for lspcheck.
+" Write into vimrc, behind the line that puts ALE on the runtime path: source FOLDER/ale/job.vim
+" (Vim takes new bodies for ALE's functions from a file of this very name: keep it, in a folder ale.)
+" Each server process gets a log of its own, NAME-PID-NUMBER.log, in $LSPCHECK_LOGS or the working
+" folder. The snapshot of a buffer is taken as soon as ALE has sent its text.
+
+runtime autoload/ale/job.vim
+
+let s:folder = empty($LSPCHECK_LOGS) ? getcwd() : $LSPCHECK_LOGS
+let s:most = 1048576
+let s:count = 0
+let s:logs = {}
+let s:line_ends = {'unix': "\n", 'dos': "\r\n", 'mac': "\r"}
+
+function! s:Write(log, bytes) abort
+  call writefile(split(a:bytes, "\n", 1), a:log, 'ab')
+endfunction
+
+" What the editor wrote ('E') or read ('S').
+function! s:Record(log, side, bytes) abort
+  let l:at = 0
+
+  while l:at < strlen(a:bytes)
+    let l:piece = strpart(a:bytes, l:at, s:most)
+    call s:Write(a:log, a:side . ' ' . strlen(l:piece) . "\n" . l:piece . "\n")
+    let l:at += strlen(l:piece)
+  endwhile
+endfunction
+
+" The buffer as it is, where the message told its text, at the version that the message gave it.
+function! s:Snapshot(log, message) abort
+  let l:method = get(a:message, 'method', '')
+
+  if l:method isnot# 'textDocument/didOpen' && l:method isnot# 'textDocument/didChange'
+    return
+  endif
+
+  let l:document = a:message.params.textDocument
+  let l:buffer = bufnr(ale#path#FromFileURI(l:document.uri))
+
+  if l:buffer > 0
+    let l:line_end = s:line_ends[getbufvar(l:buffer, '&fileformat')]
+    let l:text = join(getbufline(l:buffer, 1, '$'), l:line_end)
+    let l:text .= getbufvar(l:buffer, '&endofline') ? l:line_end : ''
+    let l:sizes = [l:document.version, strlen(l:document.uri), strlen(l:text)]
+    call s:Write(a:log, join(['T'] + l:sizes) . "\n" . l:document.uri . "\n" . l:text . "\n")
+  endif
+endfunction
+
+" ALE's own functions, called by reference.
+let s:Start = funcref('ale#job#Start')
+let s:SendRaw = funcref('ale#job#SendRaw')
+
+" Language servers are the jobs whose output is read raw.
+function! ale#job#Start(command, options) abort
+  if get(a:options, 'mode', '') isnot# 'raw' || !has_key(a:options, 'out_cb')
+    return s:Start(a:command, a:options)
+  endif
+
+  let s:count += 1
+  let l:words = type(a:command) is v:t_list ? a:command[-1] : a:command
+  let l:name = matchstr(split(l:words, '&&\|\<exec\>')[-1], '[A-Za-z0-9._/+-]\+')
+  let l:log = s:folder . '/' . fnamemodify(l:name, ':t') . '-' . getpid() . '-' . s:count . '.log'
+  let l:options = copy(a:options)
+  let l:Read = a:options.out_cb
+
+  function! l:options.out_cb(job, message) abort closure
+    call s:Record(l:log, 'S', a:message)
+    call l:Read(a:job, a:message)
+  endfunction
+
+  call s:Write(l:log, "lsp-session 1\n")
+  let l:job_id = s:Start(a:command, l:options)
+  let s:logs[l:job_id] = l:log
+
+  return l:job_id
+endfunction
+
+function! ale#job#SendRaw(job_id, string) abort
+  if !has_key(s:logs, a:job_id)
+    return s:SendRaw(a:job_id, a:string)
+  endif
+
+  call s:Record(s:logs[a:job_id], 'E', a:string)
+  call s:SendRaw(a:job_id, a:string)
+  call s:Snapshot(s:logs[a:job_id], json_decode(matchstr(a:string, '{.*')))
+endfunction

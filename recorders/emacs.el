@@ -1,0 +1,107 @@
+;;; emacs.el --- Records sessions of eglot and lsp-mode as logs for lspcheck  -*- lexical-binding: t; -*-
+
+;; Start Emacs with: emacs -l emacs.el FILE (or `load' it in the init file, before a server starts).
+;; Each server process gets a log of its own, NAME-PID.log, in $LSPCHECK_LOGS or the folder that
+;; Emacs was started in.
+
+(require 'subr-x)
+
+(defvar lspcheck-folder (or (getenv "LSPCHECK_LOGS") default-directory)
+  "Where the logs are written.")
+
+(defconst lspcheck-most 1048576 "The most bytes of one record.")
+
+(defun lspcheck--bytes (string)
+  "STRING as the bytes that a server's pipe has for it."
+  (if (multibyte-string-p string) (encode-coding-string string 'utf-8-emacs-unix) string))
+
+(defun lspcheck--write (process &rest parts)
+  "Write PARTS, which are bytes, behind the log of PROCESS."
+  (let ((file (process-get process 'lspcheck-log)) (coding-system-for-write 'binary)
+        (head "") (write-region-inhibit-fsync t))
+    (unless file
+      (setq file (expand-file-name
+                  (format "%s-%d.log"
+                          (replace-regexp-in-string "[^[:alnum:]._-]" "_" (process-name process))
+                          (process-id process))
+                  lspcheck-folder)
+            head "lsp-session 1\n")
+      (process-put process 'lspcheck-log file))
+    (write-region (apply #'concat head parts) nil file t 'quiet)))
+
+(defun lspcheck--record (process side string)
+  "Record that STRING passed between Emacs and PROCESS: SIDE \"E\" wrote it, or \"S\"."
+  (let ((bytes (lspcheck--bytes string)) (at 0))
+    (while (< at (length bytes))
+      (let ((piece (substring bytes at (min (length bytes) (+ at lspcheck-most)))))
+        (lspcheck--write process (format "%s %d\n" side (length piece)) piece "\n")
+        (setq at (+ at (length piece)))))))
+
+(defun lspcheck--snapshot (process uri version)
+  "Record the whole text of the current buffer, with its line ends, as URI's at VERSION."
+  (when (and process (process-get process 'lspcheck-log))
+    (let* ((dos (eq 1 (coding-system-eol-type buffer-file-coding-system)))
+           (coding (if dos 'utf-8-dos 'utf-8-unix))
+           (text (save-restriction
+                   (widen)
+                   (encode-coding-string (buffer-substring-no-properties (point-min) (point-max))
+                                         coding)))
+           (name (lspcheck--bytes uri)))
+      (lspcheck--write process (format "T %d %d %d\n" version (length name) (length text))
+                       name "\n" text "\n"))))
+
+;; eglot: all that passes goes through jsonrpc.
+
+(defun lspcheck--sending (process string)
+  "Record STRING, where PROCESS is one of jsonrpc's."
+  (when (and (processp process) (eq (process-filter process) 'jsonrpc--process-filter))
+    (lspcheck--record process "E" string)))
+
+(defun lspcheck--filtering (process string)
+  "Record STRING, which the PROCESS of jsonrpc's wrote."
+  (lspcheck--record process "S" string))
+
+(defun lspcheck--eglot-snapshot (&rest _)
+  "Record the buffer, at the version that eglot keeps for it."
+  (when-let ((server (eglot-current-server)))
+    (lspcheck--snapshot (jsonrpc--process server)
+                        (plist-get (eglot--TextDocumentIdentifier) :uri)
+                        eglot--versioned-identifier)))
+
+(with-eval-after-load 'jsonrpc
+  (advice-add 'process-send-string :before #'lspcheck--sending)
+  (advice-add 'jsonrpc--process-filter :before #'lspcheck--filtering))
+
+(with-eval-after-load 'eglot
+  (dolist (sending '(eglot--signal-textDocument/didOpen eglot--signal-textDocument/didChange
+                     eglot--signal-textDocument/didSave))
+    (advice-add sending :after #'lspcheck--eglot-snapshot)))
+
+;; lsp-mode: it makes the filter of a server's process, and sends by one function.
+
+(defun lspcheck--lsp-filter (make &rest arguments)
+  "The filter that MAKE makes of ARGUMENTS, which records what it is given first."
+  (let ((filter (apply make arguments)))
+    (lambda (process string)
+      (lspcheck--record process "S" string)
+      (funcall filter process string))))
+
+(defun lspcheck--lsp-sending (message process)
+  "Record MESSAGE, which lsp-mode sends to PROCESS."
+  (lspcheck--record process "E" message))
+
+(defun lspcheck--lsp-snapshot (&rest _)
+  "Record the buffer for each of its servers, at the version that lsp-mode keeps for it."
+  (dolist (workspace (lsp-workspaces))
+    (let ((process (lsp--workspace-cmd-proc workspace)))
+      (when (processp process)
+        (lspcheck--snapshot process (lsp--buffer-uri) lsp--cur-version)))))
+
+(with-eval-after-load 'lsp-mode
+  (advice-add 'lsp--create-filter-function :around #'lspcheck--lsp-filter)
+  (advice-add 'lsp--send-no-wait :before #'lspcheck--lsp-sending)
+  (dolist (sending '(lsp--text-document-did-open lsp-on-change lsp-on-save))
+    (advice-add sending :after #'lspcheck--lsp-snapshot)))
+
+(provide 'lspcheck)
+;;; emacs.el ends here

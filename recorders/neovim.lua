@@ -1,0 +1,101 @@
+-- Records what Neovim's built-in client and its language servers say to each other, as logs for lspcheck.
+-- Start Neovim with: nvim --cmd 'luafile neovim.lua' FILE (or dofile it at the top of init.lua).
+-- Each server process gets a log of its own, NAME-PID-NUMBER.log, in $LSPCHECK_LOGS or the working folder.
+
+local uv = vim.uv or vim.loop
+local folder = os.getenv("LSPCHECK_LOGS") or "."
+local most = 1048576 -- bytes of one record
+local count, started = 0, nil
+local log_of_pipe = setmetatable({}, { __mode = "k" })
+local log_of_rpc = setmetatable({}, { __mode = "k" })
+
+local function new_log(command)
+  count = count + 1
+  local name = vim.fn.fnamemodify(command, ":t"):gsub("[^%w._-]", "_")
+  local log = assert(io.open(("%s/%s-%d-%d.log"):format(folder, name, uv.os_getpid(), count), "wb"))
+  log:write("lsp-session 1\n")
+  log:flush()
+  return log
+end
+
+-- What the editor wrote ("E") or read ("S").
+local function record(log, side, bytes)
+  for at = 1, #bytes, most do
+    local piece = bytes:sub(at, at + most - 1)
+    log:write(("%s %d\n%s\n"):format(side, #piece, piece))
+  end
+  log:flush()
+end
+
+-- The pipes of a language server are those of the process that `vim.lsp.rpc.start` spawns.
+local start, spawn = vim.lsp.rpc.start, uv.spawn
+vim.lsp.rpc.start = function(...)
+  started = {}
+  local rpc = start(...)
+  if rpc and started.log then
+    log_of_rpc[rpc] = started.log
+  end
+  started = nil
+  return rpc
+end
+uv.spawn = function(command, options, ...)
+  if started and not started.log then
+    started.log = new_log(command)
+    log_of_pipe[options.stdio[1]] = started.log
+    log_of_pipe[options.stdio[2]] = started.log
+  end
+  return spawn(command, options, ...)
+end
+
+local pipe = getmetatable(uv.new_pipe(false)).__index
+local write, read_start = pipe.write, pipe.read_start
+pipe.write = function(self, data, ...)
+  local log = log_of_pipe[self]
+  if log then
+    record(log, "E", type(data) == "table" and table.concat(data) or data)
+  end
+  return write(self, data, ...)
+end
+pipe.read_start = function(self, on_read)
+  local log = log_of_pipe[self]
+  if not log then
+    return read_start(self, on_read)
+  end
+  return read_start(self, function(err, data)
+    if data then
+      record(log, "S", data)
+    end
+    on_read(err, data)
+  end)
+end
+
+local function clients_of(buffer)
+  if vim.lsp.get_clients then
+    return vim.lsp.get_clients({ bufnr = buffer })
+  end
+  return vim.lsp.buf_get_clients(buffer)
+end
+
+-- The buffer as it is, at the version that the client keeps for it: that of its next change, or of its last.
+local line_ends = { unix = "\n", dos = "\r\n", mac = "\r" }
+local function snapshot(buffer)
+  local versions = vim.lsp.util.buf_versions
+  local version = versions and versions[buffer] or vim.api.nvim_buf_get_changedtick(buffer)
+  local line_end, uri = line_ends[vim.bo[buffer].fileformat], vim.uri_from_bufnr(buffer)
+  local text = table.concat(vim.api.nvim_buf_get_lines(buffer, 0, -1, true), line_end)
+  if vim.bo[buffer].endofline then
+    text = text .. line_end
+  end
+  for _, client in pairs(clients_of(buffer)) do
+    local log = log_of_rpc[client.rpc]
+    if log then
+      log:write(("T %d %d %d\n%s\n%s\n"):format(version, #uri, #text, uri, text))
+      log:flush()
+    end
+  end
+end
+vim.api.nvim_create_autocmd({ "BufWritePost", "InsertLeave", "TextChanged" }, {
+  callback = function(event)
+    snapshot(event.buf)
+  end,
+})
