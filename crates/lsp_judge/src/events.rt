@@ -16,7 +16,7 @@ ghost use Rattle.lsp_verdict.specs.Event.{Event, snapshot as shown};
 ghost use Rattle.lsp_judge.specs.Faults.{Names};
 ghost use Rattle.lsp_judge.specs.Rulings.{IsNoAt, IsNoAtSome};
 ghost use Rattle.lsp_judge.specs.Standing.{Follows, Holds, Hears, Refuses};
-ghost use Rattle.lsp_judge.specs.Taking.{HeardAs};
+ghost use Rattle.lsp_judge.specs.Next.{HeardAs};
 
 use crate::fault::Fault;
 use crate::ruling::Ruling;

@@ -6,7 +6,7 @@ use Rattle.std.proofs.Math.Seq.{take-append-add, drop-append-add}
 use Rattle.std.specs.List.{flat_map, splice}
 use Rattle.std.proofs.lemmas.Bool.{cases_lt}
 use Rattle.lsp_types.specs.declared.position.Encoding.TheVariants.{Utf8}
-use Rattle.lsp_text.specs.Lines.{Line, text_of}
+use Rattle.lsp_text.specs.Lines.{Line, open_line, text_of}
 use Rattle.lsp_text.specs.Places.{units}
 use Rattle.lsp_text.proofs.Counting.{units-append}
 use Rattle.lsp_text.proofs.Cuts.{text_of-append}
@@ -224,3 +224,15 @@ pub chars_to : (rs : List (List Line)) (i : ℕ) (at : InRuns) → IsPlaceInRuns
 chars_to rs i at p =
     ap (λ (x : List Line). length (text_of x)) (take_joined rs i at p) ∙ ap length (text_of-append (joined_runs (take at.run rs)) (take at.line (get_or rs at.run [])))
     ∙ length-append (text_of (joined_runs (take at.run rs))) (text_of (take at.line (get_or rs at.run [])))
+
+-- the same lines in other runs
+pub joined_same : (rs fresh : List (List Line)) (n : ℕ) → n < length rs → joined_runs fresh ≡ get_or rs n [] → joined_runs (splice rs n (n + 1) fresh) ≡ joined_runs rs
+joined_same rs fresh n lt is =
+    joined-append (take n rs) (fresh ++ drop (n + 1) rs) ∙ ap (λ (x : List Line). joined_runs (take n rs) ++ x) (joined-append fresh (drop (n + 1) rs) ∙ ap (λ (x : List Line). x ++ joined_runs (drop (n + 1) rs)) is)
+    ∙ sym (joined_at rs n lt)
+
+-- a run, cut at a line
+pub run_apart : (run : List Line) (i : ℕ) (l : Line) → i < length run → l ≡ get_or run i (open_line []) → (take i run ++ l ∷ []) ++ drop (i + 1) run ≡ run
+run_apart run i l lt is =
+    append_assoc (take i run) (l ∷ []) (drop (i + 1) run) ∙ ap (λ (x : Line). take i run ++ x ∷ drop (i + 1) run) is
+    ∙ ap (λ (x : List Line). take i run ++ x) (sym (drop_more run i (open_line []) lt)) ∙ take-append-drop i run

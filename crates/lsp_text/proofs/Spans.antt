@@ -1,6 +1,7 @@
 -- Lines of a text, cut span by span.
 use Rattle.std.proofs.Common.{◌≡◌, ◌<◌, ◌≤◌, ◌+◌, ◌-◌, ℕ, Bool, true, false, cond, List, [], ◌∷◌, ◌++◌, length, take, map, Bor, Option, Some, None, suc, refl, sym, ap, subst, ◌∙◌, arith, append_assoc, length-append}
 use Rattle.std.proofs.lemmas.List.{append-nil, take_at, map-append, length-map, length-take}
+use Rattle.std.proofs.Math.Seq.{take-append-add}
 use Rattle.std.specs.Option.{is_some}
 use Rattle.std.proofs.lemmas.Bool.{false≢true}
 use Rattle.std.specs.Str.{chars, IsUtf8, IsCharBoundary}
@@ -19,7 +20,8 @@ use Rattle.lsp_text.specs.declared.cut.FirstLine.{FirstLine}
 use Rattle.lsp_text.specs.declared.lined.short.LineCounts.{LineCounts}
 use Rattle.lsp_text.specs.declared.lined.span.Span.{Span}
 use Rattle.lsp_text.proofs.Cuts.{HasFirst, lines_of-HasFirst, lines_of-no_end, text_of-append}
-use Rattle.lsp_text.proofs.Counting.{units-utf8_text, scalars-parts}
+use Rattle.lsp_text.proofs.Counting.{units-utf8_text, scalars-parts, length-chars_le}
+use Rattle.lsp_text.proofs.Stripping.{utf8_past}
 use Rattle.lsp_text.proofs.Positions.{lines_of-first, rest_shorter}
 use Rattle.lsp_text.proofs.Tables.{counts_from, scalars-both, cut_by_table}
 use Rattle.lsp_text.proofs.RunPlaces.{pushed_run}
@@ -168,3 +170,41 @@ none_left followed (Some rest) h = absurd (false≢true (sym h))
 -- a span with all of a text
 pub only_span : (followed : Bool) (text : List ℕ) (s : Span) (h : IsSpan followed text s) → is_some s.rest ≡ false → h.lines ≡ lines_before followed (chars text)
 only_span followed text s h none = sym (append-nil h.lines) ∙ ap (λ (x : List Line). h.lines ++ x) (sym (none_left followed s.rest none)) ∙ h.all
+
+-- the parts of a plain text are plain
+plain_part : (a x b : List ℕ) → IsUtf8 a → IsUtf8 x → IsUtf8 b → length (chars (a ++ (x ++ b))) ≡ length (a ++ (x ++ b)) → length (chars x) ≡ length x
+plain_part a x b ua ux ub h =
+    omega (
+      arith,
+      h,
+      ap length (chars-append a (x ++ b) ua),
+      ap length (chars-append x b ux),
+      length-append (chars a) (chars (x ++ b)),
+      length-append (chars x) (chars b),
+      length-append a (x ++ b),
+      length-append x b,
+      length-chars_le a ua,
+      length-chars_le x ux,
+      length-chars_le b ub,
+    )
+
+-- a line that ends within the first bytes of a text is plain where those are
+pub plain_line : (followed : Bool) (text near rest : List ℕ) (table : List LineCounts) (f : FirstLine) (n : ℕ) → IsCutTo followed text table rest → IsFirstLine rest f → IsUtf8 near → near ≡ take n text →
+    length text - length f.rest.now ≤ length near → length (chars near) ≡ length near → length (chars f.text.now) ≡ length f.text.now
+plain_line followed text near rest table f n h first un is within plain =
+    let a = encodes (text_of h.lines) in
+    let ua : IsUtf8 a = (text_of h.lines, (h.scalar, refl)) in
+    let x = f.text.now in
+    let e = f.end.now in
+    let r = f.rest.now in
+    let whole : text ≡ (a ++ (x ++ e)) ++ r = h.bytes ∙ ap (λ (y : List ℕ). a ++ y) first.parts ∙ sym (append_assoc a (x ++ e) r) in
+    let len : length text ≡ length (a ++ (x ++ e)) + length r = ap length whole ∙ length-append (a ++ (x ++ e)) r in
+    let short : length near ≤ n = omega (arith, ap length is, length-take n text) in
+    let k = n - length (a ++ (x ++ e)) in
+    let sum : n ≡ length (a ++ (x ++ e)) + k = omega arith in
+    let cut : near ≡ (a ++ (x ++ e)) ++ take k r = is ∙ ap (take n) whole ∙ ap (λ (m : ℕ). take m ((a ++ (x ++ e)) ++ r)) sum ∙ take-append-add (a ++ (x ++ e)) r k in
+    let front : IsUtf8 (a ++ (x ++ e)) = IsUtf8-append a (x ++ e) ua (IsUtf8-append x e first.text_utf8 first.end_utf8) in
+    let tail : IsUtf8 (take k r) =
+    utf8_past (chars (a ++ (x ++ e))) near (take k r) un (cut ∙ ap (λ (y : List ℕ). y ++ take k r) (sym (encodes-chars (a ++ (x ++ e)) front))) in
+    let parts : near ≡ a ++ (x ++ (e ++ take k r)) = cut ∙ append_assoc a (x ++ e) (take k r) ∙ ap (λ (y : List ℕ). a ++ y) (append_assoc x e (take k r)) in
+    plain_part a x (e ++ take k r) ua first.text_utf8 (IsUtf8-append e (take k r) first.end_utf8 tail) (ap (λ (y : List ℕ). length (chars y)) (sym parts) ∙ plain ∙ ap length parts)

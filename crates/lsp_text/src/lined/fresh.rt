@@ -1,16 +1,19 @@
 //! The runs that a text is cut into, and those that take the place of others where it is put between them.
 
-ghost use Rattle.std.specs.Prelude.{◌≡◌, ◌+◌, ◌<◌, ◌≤◌, ◌++◌, true, length, take, drop, MatchOption, IfSome, IfOk, OnOk};
+ghost use Rattle.std.specs.Prelude.{slice_index_or, [], ◌≡◌, ◌+◌, ◌<◌, ◌≤◌, ◌++◌, true, length, take, drop, MatchOption, IfSome, IfOk, OnOk};
 ghost use Rattle.std.specs.Str.{chars};
-ghost use Rattle.lsp_text.specs.Lines.{has_no_line_end};
+ghost use Rattle.lsp_text.specs.Lines.{has_no_line_end, open_line};
+ghost use Rattle.lsp_text.specs.Places.{units};
 ghost use Rattle.lsp_text.specs.Runs.{joined_runs};
 ghost use Rattle.lsp_text.specs.Spans.{lines_before, IsCutOff};
 
+use super::lent::LentLine;
 use super::pieced::PiecedLine;
 use super::run::SharedRun;
 use super::short::{LentLines, ShortLines};
 use super::span::{LONG, Span, first_span};
 use crate::cut::FirstLine;
+use lsp_types::Encoding;
 use std::alloc::{AllocError, Global};
 
 /// The bytes up to which runs are joined.
@@ -178,4 +181,35 @@ fn push_part(
     let part = ShortLines::copy_of(alloc, &lines.front(to).back(from))?;
     runs.push(SharedRun::of_short(alloc, part, to - from)?)?;
     Ok(())
+}
+
+/// The same lines in runs, of which one has a line alone, in pieces.
+pub(super) fn apart(alloc: Global, run: &SharedRun, i: usize) -> Result<Vec<SharedRun>, AllocError>
+    requires line { i < length run.now }
+    requires end { units Encoding.Utf8 (slice_index_or run.now i (open_line [])).end ≡ length (slice_index_or run.now i (open_line [])).end }
+    ensures { IfOk result (λ runs. joined_runs runs.items ≡ run.now) }
+{
+    let count = run.count();
+    let line = in_pieces(alloc, &run.line(i))?;
+    let mut runs = Vec::new(alloc);
+    push_part(alloc, &mut runs, run, 0, i)?;
+    runs.push(SharedRun::of_long(alloc, line)?)?;
+    push_part(alloc, &mut runs, run, i + 1, count)?;
+    Ok(runs)
+}
+
+/// Whether so many bytes more make a run of short lines too long.
+pub(super) fn is_filled(run: &SharedRun, more: usize) -> bool {
+    run.len().saturating_add(more) > MOST && run.short().is_some()
+}
+
+// A line in pieces.
+fn in_pieces(alloc: Global, line: &LentLine<'_>) -> Result<PiecedLine, AllocError>
+    requires { units Encoding.Utf8 line.now.end ≡ length line.now.end }
+    ensures { IfOk result (λ pieced. pieced ≡ line.now) }
+{
+    let mut whole = String::with_capacity(alloc, line.len())?;
+    line.push_to(&mut whole)?;
+    let (body, end) = whole.as_str().split_at(line.body_len());
+    PiecedLine::new(alloc, body, end)
 }

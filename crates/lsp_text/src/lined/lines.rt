@@ -8,7 +8,7 @@ ghost use Rattle.lsp_text.specs.Places.{units};
 ghost use Rattle.lsp_text.specs.Steps.{raised, line_at, line_bytes, line_number};
 ghost use Rattle.lsp_text.specs.Rewriting.{rewritten, line_after, StandsApart, StaysInLine};
 
-use super::fresh::{between, cut_into};
+use super::fresh::{apart, between, cut_into, is_filled};
 use super::lent::LentLine;
 use super::run::SharedRun;
 use super::runs::{
@@ -210,9 +210,41 @@ impl Lines {
         ensures ok { OnOk result (self.new ≡ rewritten self.old i i (line_after self.old i from to text.now)) }
         ensures err { OnErr result (self.new ≡ self.old) }
     {
+        self.make_room(i, text.len())?;
+        self.edit_run(i, from, to, text, bytes)
+    }
+
+    // The same in the run that the line is in.
+    fn edit_run(
+        &mut self,
+        i: usize,
+        from: usize,
+        to: usize,
+        text: &str,
+        bytes: u64,
+    ) -> Result<(), AllocError>
+        requires stays { StaysInLine self.old i from to text.now }
+        requires bytes { bytes ≡ units Encoding.Utf8 (rewritten self.old i i (line_after self.old i from to text.now)) }
+        ensures ok { OnOk result (self.new ≡ rewritten self.old i i (line_after self.old i from to text.now)) }
+        ensures err { OnErr result (self.new ≡ self.old) }
+    {
         let at = locate(&self.runs, i);
         self.runs[at.run].replace(at.line, from, to, text)?;
         self.bytes = bytes;
+        Ok(())
+    }
+
+    // Gives a line a run of its own, in pieces, where so many bytes more would fill its run of short lines.
+    fn make_room(&mut self, i: usize, more: usize) -> Result<(), AllocError>
+        requires { i < length (lines_of self.old) }
+        ensures { self.new ≡ self.old }
+    {
+        let at = locate(&self.runs, i);
+        if !is_filled(&self.runs[at.run], more) {
+            return Ok(());
+        }
+        let fresh = apart(self.alloc, &self.runs[at.run], at.line)?;
+        put(&mut self.runs, at.run, at.run + 1, fresh)?;
         Ok(())
     }
 

@@ -1,6 +1,6 @@
 //! Short lines in one text, one after another, with a table of their counts.
 
-ghost use Rattle.std.specs.Prelude.{◌≡◌, ◌+◌, ◌-◌, ◌<◌, ◌≤◌, ◌^◌, ◌++◌, [], true, length, take, drop, slice_index_or, slice_set, IfOk, OnOk, OnErr};
+ghost use Rattle.std.specs.Prelude.{◌≡◌, ◌+◌, ◌-◌, ◌<◌, ◌≤◌, ◌^◌, ◌++◌, [], true, length, take, drop, slice_index_or, slice_set, IfOk, OnOk, OnErr, IsTrue};
 ghost use Rattle.std.specs.List.{replace_range, sum_by};
 ghost use Rattle.std.specs.Str.{chars, IsCharBoundary};
 ghost use Rattle.lsp_text.specs.Lines.{open_line, spelled, text_of};
@@ -10,7 +10,7 @@ ghost use Rattle.lsp_text.specs.Tables.{counts_of, len_of, counts_after, cut_by,
 ghost use lib.Utf8.{encodes, scalars};
 
 use super::lent::LentPiece;
-use crate::counts::measure;
+use crate::counts::{Counts, measure};
 use lsp_types::Encoding;
 use std::alloc::{AllocError, Global};
 use std::marker::Model;
@@ -244,21 +244,38 @@ struct ShortLine<'a> {
     counts: LineCounts,
 }
 
-/// The counts of a line whose end has so many bytes.
-pub(super) fn count(text: &str, end: usize) -> LineCounts
-    requires { length text.now + end < 2 ^ 64 }
+/// The counts of a line whose end has so many bytes. A plain one has characters of one byte alone.
+pub(super) fn count(text: &str, end: usize, plain: bool) -> LineCounts
+    requires fits { length text.now + end < 2 ^ 64 }
+    requires plain { IsTrue plain → length (chars text.now) ≡ length text.now }
     ensures len { result.len ≡ length text.now + end }
     ensures body { result.body ≡ units Encoding.Utf8 (chars text.now) }
     ensures chars { result.chars ≡ length (chars text.now) }
     ensures utf16 { result.utf16 ≡ units Encoding.Utf16 (chars text.now) }
 {
-    let counts = measure(text);
+    let counts = count_text(text, plain);
     LineCounts {
         len: text.len() + end,
         body: text.len(),
         chars: counts.chars,
         utf16: counts.utf16,
     }
+}
+
+// The characters and the units of UTF-16 of a text.
+fn count_text(text: &str, plain: bool) -> Counts
+    requires { IsTrue plain → length (chars text.now) ≡ length text.now }
+    ensures chars { result.chars ≡ length (chars text.now) }
+    ensures utf16 { result.utf16 ≡ units Encoding.Utf16 (chars text.now) }
+{
+    if plain {
+        let len = text.len() as u64;
+        return Counts {
+            chars: len,
+            utf16: len,
+        };
+    }
+    measure(text)
 }
 
 // Where line `i` begins.
