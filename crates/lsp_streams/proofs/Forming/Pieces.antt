@@ -10,17 +10,10 @@ use Rattle.std.proofs.lemmas.Bool.{cases_lt}
 use Rattle.std.proofs.lemmas.List.{length-append, length-drop, take-append-le, drop-append-le, take_all, drop_all}
 use Rattle.lsp_frame.specs.Sink.{Wrote, Stopped}
 use Rattle.lsp_frame.specs.Told.{Told}
-use Rattle.lsp_frame.proofs.Writing.{HasPut, wrote_then, stopped_then, stopped_before, four}
+use Rattle.lsp_frame.proofs.Writing.{HasPut, wrote_then, stopped_then, stopped_before}
 use Rattle.lsp_types.specs.declared.side.Side.{Side}
-use Rattle.lsp_log.specs.Log.{chunk, chunk_head, head_line, spelling, with_feed}
+use Rattle.lsp_log.specs.Log.{chunk, spelling}
 use Rattle.lsp_streams.specs.Normal.{cut, chunks}
-
--- ---- one record
-
-pub chunk_due : (side : Side) (front back : List ℕ) → spelling (chunk side (front ++ back)) ≡ four (with_feed (head_line (chunk_head side (length front + length back)))) front back (10 ∷ [])
-chunk_due side front back =
-    ap (λ (n : ℕ). with_feed (head_line (chunk_head side n)) ++ (with_feed (front ++ back) ++ [])) (length-append front back)
-    ∙ ap (λ (w : List ℕ). with_feed (head_line (chunk_head side (length front + length back))) ++ w) (append-nil (with_feed (front ++ back)))
 
 -- ---- the pieces, one after another
 

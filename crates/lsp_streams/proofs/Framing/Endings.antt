@@ -6,7 +6,6 @@ use Rattle.std.proofs.lemmas.List.{length-append, length-replicate}
 use Rattle.lsp_frame.specs.Bounds.{Bounds}
 use Rattle.lsp_frame.specs.Sink.{Wrote, Stopped}
 use Rattle.lsp_frame.specs.Told.{Told, Took}
-use Rattle.lsp_frame.proofs.Telling.{gave_nothing, took_nothing}
 use Rattle.lsp_frame.proofs.Writing.{wrote_then, stopped_then}
 use Rattle.lsp_streams.specs.StreamParts.{RunsThrough}
 use Rattle.lsp_verdict.specs.RunIo.{OfRead, GoesOn, Tells}
@@ -52,19 +51,6 @@ closing_stopped limits mode before after sink_before sink_mid sink_after outcome
 closing_refused : (limits : Bounds) (mode : Mode) (before after sink_before sink_after : Told) (outcome : Outcome) → WroteParts limits mode before after sink_before sink_after outcome → BeganRun limits mode before after sink_before sink_after
 closing_refused limits mode before after sink_before sink_after outcome parts =
     (parts.parts, parts.wrote.took, read_map limits before after _ _ (λ stream. due_on limits mode stream parts.parts parts.parts (closing mode outcome) outcome refl) parts.due)
-
--- nothing was read or written
-pub nothing_ran : (limits : Bounds) (mode : Mode) (source sink : Told) → BeganRun limits mode source source sink sink
-nothing_ran limits mode source sink = (
-  [],
-  took_nothing sink,
-  record {
-    bytes = [];
-    ended = false;
-    read = record { gave = gave_nothing source; no_further = omega arith; end = λ h. absurd (false≢true h) };
-    holds = λ stream goes out outcome run. (out, refl);
-  },
-)
 
 -- the parts were broken off
 pub broken : (limits : Bounds) (mode : Mode) (before after sink_before sink_after : Told) (fault : RunFault) → BrokeOff limits mode before after sink_before sink_after fault → BeganRun limits mode before after sink_before sink_after

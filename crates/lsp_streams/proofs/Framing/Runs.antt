@@ -3,12 +3,13 @@ use Rattle.std.specs.Prelude.{nat_lt}
 use Rattle.std.proofs.Common.{◌≡◌, ℕ, ◌+◌, ◌-◌, ◌≤◌, ◌<◌, List, [], ◌∷◌, ◌++◌, length, take, Bool, true, false, Option, Some, None, Err, refl, sym, ap, subst, ◌∙◌, append_assoc, arith, inl, inr}
 use Rattle.std.specs.Io.KnownBytes.{IsAtEnd}
 use Rattle.std.proofs.lemmas.Bool.{false≢true, lt-ltb, le-ltb}
-use Rattle.std.proofs.lemmas.List.{append-nil, length-append, length-take, take_all, take_at, take-append-le}
+use Rattle.std.proofs.lemmas.List.{append-nil, length-append, nil_from_length, take_all, take_at}
 use Rattle.lsp_frame.specs.Bounds.{Bounds}
 use Rattle.lsp_frame.specs.Frame.{Frames, IsStream}
 use Rattle.lsp_frame.specs.Sink.{Wrote}
 use Rattle.lsp_frame.specs.Told.{Told, Gave, KeepsBytes, after_failure}
 use Rattle.lsp_frame.specs.Decoder.{State, StandsFor, EndsWith, empty, pushed, pushed_at}
+use Rattle.lsp_frame.specs.Pulling.{Pulls}
 use Rattle.lsp_frame.proofs.Frames.{frames_first, frames_more, faulty_more}
 use Rattle.lsp_frame.proofs.Readings.{some_stream}
 use Rattle.lsp_frame.proofs.Steps.{new_stands}
@@ -103,30 +104,28 @@ write_broke limits mode before now sink_before sink_now sink_new d e given given
     found_broke limits mode before now sink_before sink_now sink_new d e given read faults.Memory so_far found same refl so_far.wrote.failures
 write_broke limits mode before now sink_before sink_now sink_new d e given given' read faults.Read so_far found same = absurd found
 
--- the reader gave these bytes more, and then the run stopped
-pub broke_behind : (limits : Bounds) (mode : Mode) (before now after sink_before sink_now : Told) (d : State) (given read : ℕ) (more : List ℕ) → ToldAll limits mode before now sink_before sink_now d given read
-    → Gave now after more → after.failures ≡ now.failures → read + length more ≤ limits.log → BrokeOff limits mode before after sink_before sink_now faults.Memory
-broke_behind limits mode before now after sink_before sink_now d given read more told took no_fault fits =
+-- memory was refused, and the reader gave nothing
+pub memory_broke : (limits : Bounds) (mode : Mode) (before now after sink_before sink_now : Told) (d : State) (given read : ℕ) → ToldAll limits mode before now sink_before sink_now d given read
+    → after ≡ now → BrokeOff limits mode before after sink_before sink_now faults.Memory
+memory_broke limits mode before now after sink_before sink_now d given read told same =
     let so_far = told.so_far in
     let len = so_far.len in
-    record {
-      bytes = so_far.bytes ++ more;
+    let within = so_far.within in
+    subst (λ (t : Told). BrokeOff limits mode before t sink_before sink_now faults.Memory) (sym same)
+    (record {
+      bytes = so_far.bytes;
       contents = so_far.contents;
-      rest = so_far.stands.rest ++ more;
+      rest = so_far.stands.rest;
       written = so_far.parts;
       left = [];
-      read = record {
-        gave = gave_then before now after so_far.bytes more so_far.took took;
-        no_further = omega (arith, len, fits, length-append so_far.bytes more);
-        end = λ h. absurd (false≢true h);
-      };
-      within = omega (arith, len, fits, length-append so_far.bytes more);
-      frames = frames_more limits so_far.bytes so_far.contents so_far.stands.rest more (frames_at d.limits limits so_far.bytes so_far.contents so_far.stands.rest so_far.same_limits so_far.stands.frames);
+      read = record { gave = so_far.took; no_further = omega (arith, len, within); end = λ h. absurd (false≢true h) };
+      within = omega (arith, len, within);
+      frames = frames_at d.limits limits so_far.bytes so_far.contents so_far.stands.rest so_far.same_limits so_far.stands.frames;
       are_parts = subst (λ (w : List ℕ). AreParts mode 1 so_far.contents w) (sym (append-nil so_far.parts)) so_far.are_parts;
       wrote = so_far.wrote.took;
-      source = no_fault ∙ so_far.no_fault;
+      source = so_far.no_fault;
       sink = so_far.wrote.failures;
-    }
+    })
 
 -- a run at its start
 pub nothing_yet : (limits : Bounds) (mode : Mode) (before sink_before : Told) (d : State) → d ≡ empty limits → SoFar limits mode before before sink_before sink_before d 0 0
@@ -268,6 +267,20 @@ end_ran limits mode before now after sink_before sink_now d given read outcome t
       };
     }
 
+pushed_open : (d : State) (piece : List ℕ) → d.fault ≡ None → pushed d piece ≡ record d { kept = []; rest = d.rest ++ piece }
+pushed_open d piece none = ap (λ (f : Option ℕ). pushed_at f d piece) none
+
+-- a pull that gave nothing, at the end of the source
+pub end_pulled : (limits : Bounds) (mode : Mode) (before now after sink_before sink_now : Told) (d e : State) (given read most n : ℕ) (outcome : Outcome) → ToldAll limits mode before now sink_before sink_now d given read
+    → Pulls d e now after most n → n ≡ 0 → IsAtEnd after.bytes → (e.fault ≡ None → outcome ≡ outcome_at (given + 1) (fault_of None false e.rest)) → WroteParts limits mode before after sink_before sink_now outcome
+end_pulled limits mode before now after sink_before sink_now d e given read most n outcome told pulls none end at =
+    let empty_piece : pulls.piece ≡ [] = nil_from_length pulls.piece (pulls.count ∙ none) in
+    let pushed_is : e ≡ record d { kept = []; rest = d.rest ++ pulls.piece } = pulls.pushed ∙ pushed_open d pulls.piece told.ends.0 in
+    let same_rest : e.rest ≡ d.rest = ap (λ (s : State). s.rest) pushed_is ∙ ap (λ (w : List ℕ). d.rest ++ w) empty_piece ∙ append-nil d.rest in
+    let open_still : e.fault ≡ None = ap (λ (s : State). s.fault) pushed_is ∙ told.ends.0 in
+    end_ran limits mode before now after sink_before sink_now d given read outcome told (subst (λ (w : List ℕ). Gave now after w) empty_piece pulls.gave) end pulls.failures
+    (λ closed. at open_still ∙ ap (λ (w : List ℕ). outcome_at (given + 1) (fault_of None false w)) same_rest)
+
 -- a byte past the limit
 pub too_long_ran : (limits : Bounds) (mode : Mode) (before now after sink_before sink_now : Told) (d : State) (given read : ℕ) (byte : List ℕ) → ToldAll limits mode before now sink_before sink_now d given read
     → read ≡ limits.log → length byte ≡ 1 → Gave now after byte → after.failures ≡ now.failures → WroteParts limits mode before after sink_before sink_now (Stream (given + 1) TooLong)
@@ -302,9 +315,6 @@ too_long_ran limits mode before now after sink_before sink_now d given read byte
 
 -- ---- the next piece
 
-pushed_open : (d : State) (piece : List ℕ) → d.fault ≡ None → pushed d piece ≡ record d { kept = []; rest = d.rest ++ piece }
-pushed_open d piece none = ap (λ (f : Option ℕ). pushed_at f d piece) none
-
 push_on : (limits : Bounds) (mode : Mode) (before now after sink_before sink_now : Told) (d e : State) (given read : ℕ) (piece : List ℕ) (told : ToldAll limits mode before now sink_before sink_now d given read)
     → Gave now after piece → after.failures ≡ now.failures → e ≡ pushed d piece → StandsFor e (told.so_far.bytes ++ piece) told.so_far.contents → read + length piece ≤ limits.log
     → SoFar limits mode before after sink_before sink_now e given (read + length piece)
@@ -329,20 +339,10 @@ push_on limits mode before now after sink_before sink_now d e given read piece t
       same_limits = ap (λ (s : State). s.limits) open_rest ∙ so_far.same_limits;
     }
 
--- an empty pull, where some bytes were asked for
-pub empty_pull : (a b : Told) (n : ℕ) (buffer : List ℕ) → n ≡ 0 → Gave a b (take n buffer) → Gave a b []
-empty_pull a b n buffer none took = subst (λ (k : ℕ). Gave a b (take k buffer)) none took
-
--- the front of the buffer that a pull filled is pushed
-pub push_taken : (limits : Bounds) (mode : Mode) (before now after sink_before sink_now : Told) (d e : State) (given read n : ℕ) (buffer tail : List ℕ) (told : ToldAll limits mode before now sink_before sink_now d given read)
-    → n ≤ length buffer → Gave now after (take n buffer) → after.failures ≡ now.failures → e ≡ pushed d (take n (buffer ++ tail)) → StandsFor e (told.so_far.bytes ++ take n (buffer ++ tail)) told.so_far.contents → read + n ≤ limits.log
-    → SoFar limits mode before after sink_before sink_now e given (read + n)
-push_taken limits mode before now after sink_before sink_now d e given read n buffer tail told fits took no_fault is stands within =
-    let same : take n (buffer ++ tail) ≡ take n buffer = take-append-le n buffer tail fits in
-    let len : length (take n buffer) ≡ n = omega (arith, length-take n buffer) in
-    let so_far = push_on limits mode before now after sink_before sink_now d e given read (take n buffer) told took no_fault
-    (subst (λ (w : List ℕ). e ≡ pushed d w) same is)
-    (subst (λ (w : List ℕ). StandsFor e (told.so_far.bytes ++ w) told.so_far.contents) same stands)
-    (omega (arith, len, within))
-    in
-    subst (λ (k : ℕ). SoFar limits mode before after sink_before sink_now e given (read + k)) len so_far
+-- the piece that a pull gave is pushed
+pub pull_taken : (limits : Bounds) (mode : Mode) (before now after sink_before sink_now : Told) (d e : State) (given read most n : ℕ) → ToldAll limits mode before now sink_before sink_now d given read
+    → Pulls d e now after most n → read + n ≤ limits.log → SoFar limits mode before after sink_before sink_now e given (read + n)
+pull_taken limits mode before now after sink_before sink_now d e given read most n told pulls within =
+    let len = pulls.count in
+    subst (λ (k : ℕ). SoFar limits mode before after sink_before sink_now e given (read + k)) len
+    (push_on limits mode before now after sink_before sink_now d e given read pulls.piece told pulls.gave pulls.failures pulls.pushed (pulls.stands told.so_far.bytes told.so_far.contents told.so_far.stands) (omega (arith, len, within)))
