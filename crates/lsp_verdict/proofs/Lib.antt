@@ -1,7 +1,6 @@
 pub mod Below
 pub mod LookBackLemmas
 pub mod PlacedLemmas
-pub mod Proved
 pub mod OneEvent
 pub mod Streams
 pub mod Sessions

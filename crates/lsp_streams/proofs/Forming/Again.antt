@@ -28,8 +28,7 @@ use Rattle.lsp_verdict.specs.Verdict.{Verdict}
 use Rattle.lsp_streams.proofs.Forming.Pieces.{cut_none, cut_some}
 use Rattle.lsp_verdict.proofs.Below.{one_log}
 use Rattle.lsp_verdict.proofs.Outcomes.{cut_joined}
-use Rattle.lsp_verdict.proofs.PlacedLemmas.{one_placed}
-use Rattle.lsp_verdict.proofs.Proved.{stream_laws, cuts_law}
+use Rattle.lsp_verdict.proofs.PlacedLemmas.{cuts_dont_matter, one_placed}
 use Rattle.lsp_verdict.proofs.Sessions.{some_placed}
 use Rattle.lsp_streams.proofs.Framing.Found.{says_within}
 use Rattle.lsp_verdict.proofs.Streams.{no_stream}
@@ -251,7 +250,7 @@ again limits sizes out raws sane written within =
     let whole = frames_placed limits sizes [] [] [] [] raws sane (no_stream limits sizes) (no_stream limits sizes) in
     let same : merged us ≡ merged (frames_of raws) = merged_records limits.chunk raws sizes.chunk_low in
     let some = some_placed limits [] [] us in
-    let events : some.0 ≡ before_fault raws = cuts_law limits us (frames_of raws) some.0 (before_fault raws) same some.1 whole.placed in
+    let events : some.0 ≡ before_fault raws = cuts_dont_matter limits us (frames_of raws) some.0 (before_fault raws) same some.1 whole.placed in
     let short : length (first_line ++ flat_map spelling us) ≤ limits.log = subst (λ (w : List ℕ). length w ≤ limits.log) written within in
     record {
       records = us;
@@ -309,7 +308,7 @@ normal_form_stays limits sizes log out fault normal within =
 pub form_is : (limits : Bounds) → IsInRange limits → (log out : List ℕ) (rs : List Record) (flaw : Option (ℕ × LogCode)) (raws : List Raw) (fault : Option Verdict) → IsLog limits log rs flaw → Placed limits rs raws → IsNormal limits log out fault → out ≡ form_of limits.chunk raws
 form_is limits sizes log out rs flaw raws fault is_log placed w =
     let same = one_log limits sizes log w.records rs w.log_fault flaw w.is_log is_log in
-    w.written ∙ ap (form_of limits.chunk) (one_placed limits (stream_laws limits) [] [] rs w.raws raws (subst (λ (xs : List Record). Placed limits xs w.raws) same.0 w.placed) placed)
+    w.written ∙ ap (form_of limits.chunk) (one_placed limits [] [] rs w.raws raws (subst (λ (xs : List Record). Placed limits xs w.raws) same.0 w.placed) placed)
 
 pub normal_form_keeps_events : NormalFormKeepsEvents
 normal_form_keeps_events limits sizes log out rs flaw raws fault is_log placed normal within =

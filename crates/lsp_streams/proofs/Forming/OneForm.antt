@@ -15,7 +15,6 @@ use Rattle.lsp_verdict.proofs.LookBackLemmas.{first_of-more}
 use Rattle.lsp_streams.proofs.Forming.Forms.{form_stops}
 use Rattle.lsp_verdict.proofs.Outcomes.{placed_front, one_rest}
 use Rattle.lsp_verdict.proofs.PlacedLemmas.{one_placed}
-use Rattle.lsp_verdict.proofs.Proved.{stream_laws}
 use Rattle.lsp_verdict.proofs.Sessions.{some_placed}
 
 -- a fault of the frames among the first records decides
@@ -84,7 +83,7 @@ broken_normal limits sizes log rest rs raws v begins placed breaks =
 pub one_normal_form : OneNormalForm
 one_normal_form limits sizes log out other f g a b =
     let same = one_log limits sizes log a.records b.records a.log_fault b.log_fault a.is_log b.is_log in
-    let raws : a.raws ≡ b.raws = one_placed limits (stream_laws limits) [] [] a.records a.raws b.raws a.placed (subst (λ (rs : List Record). Placed limits rs b.raws) (sym same.0) b.placed) in
+    let raws : a.raws ≡ b.raws = one_placed limits [] [] a.records a.raws b.raws a.placed (subst (λ (rs : List Record). Placed limits rs b.raws) (sym same.0) b.placed) in
     let editor : a.editor ≡ b.editor = one_rest limits (joined Editor a.records) (joined Editor b.records) a.editor b.editor (ap (joined Editor) same.0) a.editor_rest b.editor_rest in
     let server : a.server ≡ b.server = one_rest limits (joined Server a.records) (joined Server b.records) a.server b.server (ap (joined Server) same.0) a.server_rest b.server_rest in (
       a.written ∙ ap (form_of limits.chunk) raws ∙ sym b.written,

@@ -11,7 +11,7 @@ use Rattle.lsp_frame.specs.Sink.{Wrote, Stopped}
 use Rattle.lsp_frame.specs.Told.{Told, Took}
 use Rattle.lsp_frame.specs.Decoder.{State, StandsFor, GivesFrame, Next}
 use Rattle.lsp_frame.proofs.Frames.{is_ok_of, err_not_ok}
-use Rattle.lsp_frame.proofs.Writing.{wrote_then, stopped_then, wrote_nothing}
+use Rattle.lsp_frame.proofs.Writing.{wrote_then, stopped_then}
 use Rattle.lsp_streams.specs.StreamParts.{IsPart, Refuses}
 use Rattle.lsp_streams.specs.StreamSteps.{AreParts, WritesPart, FoundAll, FoundFault, FoundBroken, Finds}
 use Rattle.lsp_verdict.specs.declared.outcome.Mode.{Mode}
