@@ -10,6 +10,7 @@ use Rattle.lsp_verdict.specs.declared.outcome.Outcome.{Outcome}
 use Rattle.lsp_verdict.specs.declared.outcome.Outcome.TheVariants.{Judged}
 use Rattle.lsp_verdict.specs.declared.outcome.RunFault.{RunFault}
 use Rattle.lsp_judge.specs.declared.ruling.Ruling.{Ruling}
+use Rattle.lsp_judge.specs.declared.ruling.Ruling.TheVariants as rulings
 use Rattle.lsp_verdict.specs.declared.verdict.Verdict as code
 use Rattle.lsp_verdict.specs.declared.verdict.Verdict.TheVariants as verdicts
 use Rattle.lsp_verdict.specs.declared.verdict.Who.{Who}
@@ -134,3 +135,9 @@ pub taken_no : {E : Type 0} (limits : Bounds) (records : List Record) (answer : 
 taken_no limits records answer rule number event who says e =
     let same : answer ≡ verdicts.No rule who number event = cc e in
     taken_refused limits records (no rule who number event) (subst (λ (a : code.Verdict). FirstNo limits records (Some (verdict_view a))) same says)
+
+-- no ruling is Yes
+pub no_yes : (ruling : Ruling) (s : Summary) → verdict_in ruling ≡ Some (yes s) → ⊥
+no_yes (rulings.No rule by number event) s e = absurd cc
+no_yes (rulings.BadLog number fault) s e = absurd cc
+no_yes rulings.Memory s e = absurd cc

@@ -55,8 +55,7 @@ module _ (limits : Bounds) (sizes : IsInRange limits) (log : List ℕ) (records 
   pub begins_with : (heard extra : List Event) → first_no limits.document heard ≡ None → IsSession limits records (heard ++ extra) → BeginsWith limits heard log
   begins_with heard extra clean session =
       let front = events_front (heard ++ extra) session in
-      let tail = kept_more limits.document heard (extra ++ front.0) clean in
-      (
+      let tail = kept_more limits.document heard (extra ++ front.0) clean in (
         whole_of.0,
         tail.0,
         (whole_of.1, kept_final limits.document whole_of.1.final.events _ whole_of.0 whole_of.1.final.says ∙ ap (kept_within limits.document) (front.1 ∙ append_assoc heard extra front.0) ∙ tail.1),

@@ -184,8 +184,7 @@ heard_editor : (old : State) (new : decoder.State) (m : session.State) (document
 heard_editor old new m documents c None rs before is same same_limit told h =
     let a = subst (λ (t : Option Turn). Awaits t old rs h.due) is h.awaits in
     let none = told (joined Editor rs) a.0.given before a.0.stands h.follows in
-    let ended = subst (λ (w : Bounds). IsStream w (joined Editor rs) a.0.given new.rest None) same none.ends.1 in
-    (
+    let ended = subst (λ (w : Bounds). IsStream w (joined Editor rs) a.0.given new.rest None) same none.ends.1 in (
       record {
         limits = record { range = h.limits.range; editor = same ∙ h.limits.editor; server = h.limits.server; documents = same_limit ∙ h.limits.documents };
         past = h.past;
@@ -202,8 +201,7 @@ heard_editor old new m documents c (Some (Message by said)) rs before is same sa
     let one = told (joined Editor rs) a.0.given before a.0.stands h.follows in
     let next = due_given Editor old.editor (joined Editor rs) h.due a.0 new one.1.content same one.1.stands in
     let sent = one.1.heard.sent in
-    let raw = content Editor one.1.content in
-    (
+    let raw = content Editor one.1.content in (
       message sent,
       (one.1.heard.reads.by ∙ sym one.0, one.1.heard.says),
       record {
@@ -227,8 +225,7 @@ heard_server : (old : State) (new : decoder.State) (m : session.State) (document
 heard_server old new m documents c None rs before is same same_limit told h =
     let a = subst (λ (t : Option Turn). Awaits t old rs h.due) is h.awaits in
     let none = told (joined Server rs) a.0.given before a.0.stands h.follows in
-    let ended = subst (λ (w : Bounds). IsStream w (joined Server rs) a.0.given new.rest None) same none.ends.1 in
-    (
+    let ended = subst (λ (w : Bounds). IsStream w (joined Server rs) a.0.given new.rest None) same none.ends.1 in (
       record {
         limits = record { range = h.limits.range; editor = h.limits.editor; server = same ∙ h.limits.server; documents = same_limit ∙ h.limits.documents };
         past = h.past;
@@ -245,8 +242,7 @@ heard_server old new m documents c (Some (Message by said)) rs before is same sa
     let one = told (joined Server rs) a.0.given before a.0.stands h.follows in
     let next = due_given Server old.server (joined Server rs) h.due a.0 new one.1.content same one.1.stands in
     let sent = one.1.heard.sent in
-    let raw = content Server one.1.content in
-    (
+    let raw = content Server one.1.content in (
       message sent,
       (one.1.heard.reads.by ∙ sym one.0, one.1.heard.says),
       record {

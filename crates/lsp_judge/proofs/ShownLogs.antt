@@ -89,12 +89,12 @@ module _ (limits : Bounds) (start now old mid new : Told) (heard : List Event) (
   -- one more event and its line
   pub one_shown_more : (e : EventReader) (event : Event) (number : ℕ) → SoFar limits e start now (heard ++ event ∷ []) → number ≡ e.judge.counts.all → Wrote mid new (line_of number event) → Showing limits e start now old new
   one_shown_more e event number so_far counted line =
-    let is = numbered e event number so_far counted in
-    record {
-    heard = heard ++ event ∷ [];
-    so_far = so_far;
-    wrote = subst (Wrote old new) (sym (lines-snoc heard event number is)) (wrote_then old mid new (lines_of heard) (line_of number event) wrote line);
-  }
+      let is = numbered e event number so_far counted in
+      record {
+        heard = heard ++ event ∷ [];
+        so_far = so_far;
+        wrote = subst (Wrote old new) (sym (lines-snoc heard event number is)) (wrote_then old mid new (lines_of heard) (line_of number event) wrote line);
+      }
 
   -- its line was not written
   pub line_failed : (e : EventReader) (event : Event) (number : ℕ) (fault : RunFault) → SoFar limits e start now (heard ++ event ∷ []) → number ≡ e.judge.counts.all → Tells mid new (line_of number event) (Err fault) → ShowedPart limits start now old new fault
@@ -112,13 +112,13 @@ module _ (limits : Bounds) (start now old mid new : Told) (heard : List Event) (
   line_failed e event number faults.Memory so_far counted told =
       let is = numbered e event number so_far counted in
       record {
-    out = lines_of heard;
-    took = subst (λ (t : Told). Took old t (lines_of heard)) (sym told) wrote.took;
-    due = read_map limits start now (BeginsWith limits (heard ++ event ∷ [])) (λ log. BeginsShown limits log (lines_of heard)) (begins_shown limits (heard ++ event ∷ []) (lines_of heard) (line_of number event) (lines-snoc heard event number is))
-        (so_far_begins limits e start now (heard ++ event ∷ []) so_far);
-    source = so_far.at.failures;
-    sink = ap (λ (t : Told). t.failures) told ∙ wrote.failures;
-  }
+        out = lines_of heard;
+        took = subst (λ (t : Told). Took old t (lines_of heard)) (sym told) wrote.took;
+        due = read_map limits start now (BeginsWith limits (heard ++ event ∷ [])) (λ log. BeginsShown limits log (lines_of heard)) (begins_shown limits (heard ++ event ∷ []) (lines_of heard) (line_of number event) (lines-snoc heard event number is))
+            (so_far_begins limits e start now (heard ++ event ∷ []) so_far);
+        source = so_far.at.failures;
+        sink = ap (λ (t : Told). t.failures) told ∙ wrote.failures;
+      }
   line_failed e event number faults.Read so_far counted told = absurd told
 
 module _ (limits : Bounds) (start now old mid : Told) (heard : List Event) (wrote : Wrote old mid (lines_of heard)) where

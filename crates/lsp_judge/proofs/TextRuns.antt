@@ -1,6 +1,6 @@
 -- The text that is held after a message of the editor's, as the events of a log are heard.
 use Rattle.std.proofs.Common.{◌≡◌, ◌+◌, ◌<◌, ◌≤◌, ◌^◌, ℕ, Bool, true, false, List, [], ◌∷◌, ◌++◌, length, drop, Option, Some, None, Result, Ok, Err, refl, sym, ap, subst, ◌∙◌, append_assoc, append-nil, length-append, arith}
-use Rattle.std.specs.Prelude.{is_some, if◌then◌else◌, filter}
+use Rattle.std.specs.Prelude.{is_some, if◌then◌else◌, filter, IfOk}
 use Rattle.std.proofs.lemmas.List.{take-append-drop}
 use Rattle.lsp_frame.specs.Bounds.{Bounds, IsInRange}
 use Rattle.lsp_frame.specs.Told.{Told}
@@ -10,11 +10,14 @@ use Rattle.lsp_docs.specs.State.{capped}
 use Rattle.lsp_verdict.specs.Calls.{calls}
 use Rattle.lsp_verdict.specs.Event.{Event}
 use Rattle.lsp_verdict.specs.Outcome.{IsVerdict, Offends}
-use Rattle.lsp_verdict.specs.RunIo.{OfRead}
+use Rattle.lsp_verdict.specs.RunIo.{OfRead, GaveAtMost}
 use Rattle.lsp_verdict.specs.Given.{verdict_view}
 use Rattle.lsp_verdict.specs.declared.outcome.Outcome.{Outcome}
 use Rattle.lsp_verdict.specs.declared.outcome.Outcome.TheVariants.{Judged}
 use Rattle.lsp_verdict.specs.declared.outcome.RunFault.{RunFault}
+use Rattle.lsp_verdict.specs.declared.outcome.RunFault.TheVariants as faults
+use Rattle.lsp_judge.specs.declared.text_answer.TextAnswer as answer
+use Rattle.lsp_judge.specs.TextAnswers.{answer_view}
 use Rattle.lsp_verdict.specs.declared.verdict.Verdict as code
 use Rattle.lsp_judge.proofs.Answering.{judged_as}
 use Rattle.lsp_verdict.specs.Shown.{refused, TextAnswer, kept_count, kept_within, up_to_editor, held_answer, missing_answer, text_answer}
@@ -22,11 +25,12 @@ use Rattle.lsp_verdict.specs.TextAfter.{AnswersText}
 use Rattle.lsp_verdict.specs.Verdict.{Verdict, first_no, no_at, is_of, count_of}
 use Rattle.lsp_verdict.proofs.Finding.{found}
 use Rattle.lsp_verdict.proofs.Logs.{final_more}
-use Rattle.lsp_verdict.proofs.RunReading.{read_map}
+use Rattle.lsp_verdict.proofs.RunReading.{read_map, read_within}
 use Rattle.lsp_verdict.proofs.TextLogs.{text_missing}
 use Rattle.lsp_verdict.proofs.UpTo.{reached_more, reached_past, reached_now, count-append, count_one}
 use Rattle.lsp_verdict.proofs.Verdicts.{no_found}
-use Rattle.lsp_judge.specs.LogEvents.{EndsAt, BeginsWith, SoFar, Found}
+use Rattle.lsp_judge.specs.LogEvents.{EndsAt, BeginsWith, SoFar, Found, GivesText, failures_of}
+use Rattle.lsp_judge.specs.Standing.{Follows}
 use Rattle.lsp_judge.specs.declared.event_reader.EventReader.{EventReader}
 use Rattle.lsp_judge.proofs.KeptEvents.{kept_clean, kept_no, kept_final}
 use Rattle.lsp_judge.proofs.LogEvents.{so_far_begins, so_far_clean, so_far_few, so_far_range}
@@ -71,8 +75,7 @@ text_ended limits n uri heard v few log (whole, is) = by_first (first_no limits.
         let here = found (no_at limits.document) [] whole.final.events w some in
         let offends : Offends limits whole.records w = record { events = whole.final.events; session = whole.final.session; offends = some } in
         let same : w ≡ v = final_more limits whole.records whole.records [] whole.fault w v (sym (append-nil whole.records)) offends whole.final in
-        let front : here.front ≡ heard = sym (kept_no limits.document here.front here.here here.after w here.none here.at) ∙ ap (kept_within limits.document) (sym here.whole) ∙ within in
-        (
+        let front : here.front ≡ heard = sym (kept_no limits.document here.front here.here here.after w here.none here.at) ∙ ap (kept_within limits.document) (sym here.whole) ∙ within in (
           v,
           whole,
           of_offence limits.document n uri v here.front here.here here.after whole.final.events (subst (λ es. count_of (is_of Editor) es < n) (sym front) few) here.none (here.at ∙ ap Some same) here.whole,
@@ -129,11 +132,18 @@ module _ (limits : Bounds) (e : EventReader) (start now : Told) (n : ℕ) (heard
   pub reads_on : (e.judge.counts.editor ≡ n → ⊥) → Reading limits e start now n
   reads_on unreached = record { heard = heard ++ event ∷ []; so_far = s; few = still_few n heard event few (λ is. unreached (exact_count ∙ is)) }
 
-  pub text_found : (uri : List ℕ) (answer : TextAnswer) → e.judge.counts.editor ≡ n → e.judge.limits ≡ limits → answer ≡ held_answer (held limits.document uri (calls (heard ++ event ∷ []))) → OfRead limits start now (λ log. AnswersText limits log n uri answer)
-  text_found uri answer reached same is =
-      read_map limits start now (BeginsWith limits (heard ++ event ∷ [])) (λ log. AnswersText limits log n uri answer)
-      (λ log begins. subst (AnswersText limits log n uri) (sym is) (text_held limits n uri (heard ++ event ∷ []) (reached_last n heard event few (sym exact_count ∙ reached)) (so_far_clean limits e start now (heard ++ event ∷ []) s) log begins))
-      (so_far_begins limits e start now (heard ++ event ∷ []) s)
+  pub text_found : (uri : List ℕ) (answer : TextAnswer) → e.judge.counts.editor ≡ n
+      → ((events : List Event) → Follows e.judge.messages e.judge.documents e.judge.counts events → answer ≡ held_answer (held e.judge.documents.limit uri (calls events)))
+      → OfRead limits start now (λ log. AnswersText limits log n uri answer) × (now.failures ≡ start.failures)
+  text_found uri answer reached told =
+      let all = heard ++ event ∷ [] in
+      let limit : e.judge.documents.limit ≡ limits.document = s.hears.limits.documents ∙ ap (λ (b : Bounds). b.document) s.alike in
+      let is = told all s.hears.follows ∙ ap (λ l. held_answer (held l uri (calls all))) limit in (
+        read_map limits start now (BeginsWith limits all) (λ log. AnswersText limits log n uri answer)
+            (λ log begins. subst (AnswersText limits log n uri) (sym is) (text_held limits n uri all (reached_last n heard event few (sym exact_count ∙ reached)) (so_far_clean limits e start now all s) log begins))
+            (so_far_begins limits e start now all s),
+        s.at.failures,
+      )
 
 pub text_none : (limits : Bounds) (start now : Told) (n : ℕ) (uri : List ℕ) (heard : List Event) (v : Verdict) (answer : TextAnswer) → count_of (is_of Editor) heard < n → answer ≡ missing_answer v → Found limits start now heard v → OfRead limits start now (λ log. AnswersText limits log n uri answer)
 text_none limits start now n uri heard v answer few is found =
@@ -143,3 +153,21 @@ text_none limits start now n uri heard v answer few is found =
 pub refused_read : (limits : Bounds) (before after : Told) (n : ℕ) (uri : List ℕ) (given v : code.Verdict) → (let outcome : Result Outcome RunFault = Ok (Judged given) in outcome) ≡ Ok (Judged v)
     → OfRead limits before after (λ log. AnswersText limits log n uri (refused (verdict_view given))) → OfRead limits before after (λ log. AnswersText limits log n uri (refused (verdict_view v)))
 refused_read limits before after n uri given v e told = judged_as given v (λ w. OfRead limits before after (λ log. AnswersText limits log n uri (refused (verdict_view w)))) e told
+
+-- ---- what the answer says
+
+pub text_answered : (limits : Bounds) (start now : Told) (n : ℕ) (uri : List ℕ) (r : Result answer.TextAnswer RunFault) → GivesText limits start now n uri r → IfOk r (λ a. OfRead limits start now (λ log. AnswersText limits log n uri (answer_view a)))
+text_answered limits start now n uri (Ok a) g = g.0
+text_answered limits start now n uri (Err fault) g = tt
+
+pub text_failures : (limits : Bounds) (start now : Told) (n : ℕ) (uri : List ℕ) (r : Result answer.TextAnswer RunFault) → GivesText limits start now n uri r → now.failures ≡ failures_of r start.failures
+text_failures limits start now n uri (Ok a) g = g.1
+text_failures limits start now n uri (Err fault) g = g.failures
+
+pub text_within : (limits : Bounds) (start now : Told) (n : ℕ) (uri : List ℕ) (r : Result answer.TextAnswer RunFault) → GivesText limits start now n uri r → GaveAtMost (limits.log + 1) start now
+text_within limits start now n uri (Ok a) g = read_within limits start now _ g.0
+text_within limits start now n uri (Err fault) g = read_within limits start now _ g.of_read
+
+pub text_unwritten : (limits : Bounds) (start now : Told) (n : ℕ) (uri : List ℕ) (r : Result answer.TextAnswer RunFault) → GivesText limits start now n uri r → r ≡ Err faults.Write → ⊥
+text_unwritten limits start now n uri (Ok a) g e = absurd cc
+text_unwritten limits start now n uri (Err fault) g e = g.unwritten (let same : fault ≡ faults.Write = cc e in same)

@@ -5,7 +5,10 @@ use lsp_rpc::{Message, Side};
 #[derive(Drop)]
 pub(crate) enum Heard {
     /// A message, without its params and the value of a result.
-    Message { side: Side, message: Message },
+    Message {
+        side: Side,
+        message: Message,
+    },
     /// A text that the editor showed.
     Snapshot {
         version: i32,

@@ -126,6 +126,8 @@ impl<S: TextStore> Judge<S> {
             → NamesFirst self.old.limits records (spec.no rule who count event) }
         ensures fault { (records : List log.Record) (at : ℕ) (code : LogCode) → Stands self.old records
             → result ≡ Verdict.BadLog at code → (at ≡ number) × (code ≡ fault) × NoneOffends self.old.limits records }
+        // Of a judge that gave nothing yet the fault is given.
+        ensures ungiven { self.old.given ≡ None → result ≡ Verdict.BadLog number fault }
         ensures given { Some (verdict_view result) ≡ is_given self.new.given }
         ensures stays { (ruling : Ruling) → self.old.given ≡ Some ruling → self.new ≡ self.old }
     {
@@ -168,6 +170,8 @@ impl<S: TextStore> Judge<S> {
         ensures kept { (records : List log.Record) (events : List Event) → Stands self.old records
             → AreClean self.old.limits records events
             → IfOk result (λ answer. SaysYes self.old.limits events (verdict_view answer)) }
+        // After Yes the judge is as before.
+        ensures unchanged { (s : Summary) → result ≡ Ok (Verdict.Yes s) → self.new ≡ self.old }
         ensures given { IfOk result (λ answer. IfRefused (verdict_view answer) (is_given self.new.given ≡ Some (verdict_view answer))) }
         // What was given for good is given again, and nothing changes.
         ensures repeats { (ruling : Ruling) → self.old.given ≡ Some ruling → IfOk result (λ answer. Repeats ruling (Some answer)) }

@@ -25,10 +25,6 @@ mod text_answer;
 
 pub use check::run_check;
 pub use judge::Judge;
-pub use show::run_show;
-pub use show_laws::one_shown;
-pub use text::{run_text, text_after};
-pub use text_answer::TextAnswer;
 pub use lsp_frame::{Input, Limits, Output};
 pub use lsp_log::LogCode;
 pub use lsp_streams::{
@@ -41,3 +37,7 @@ pub use lsp_verdict::{
     no_names_the_first, one_session, one_text, one_verdict, only_order_offends, report_of,
     sessions_are_read, some_session, some_verdict, stream_report, yes_means_kept,
 };
+pub use show::run_show;
+pub use show_laws::one_shown;
+pub use text::{run_text, text_after};
+pub use text_answer::TextAnswer;

@@ -107,7 +107,15 @@ pub(crate) fn write_event_line<W: Sink>(
         }
         Heard::Snapshot { version, uri, text } => {
             let version = *version;
-            write_snapshot_line(alloc, writer, line, number, version, uri.as_str(), text.as_str())
+            write_snapshot_line(
+                alloc,
+                writer,
+                line,
+                number,
+                version,
+                uri.as_str(),
+                text.as_str(),
+            )
         }
     }
 }
