@@ -1,4 +1,4 @@
-//! Tests of frames, messages, sessions, texts, documents, logs and keys in order, by their public names alone.
+//! Tests of frames, messages, sessions, texts, documents and logs, by their public names alone.
 //!
 //! They stand apart from the crates that they try, so that each of those is proved once.
 #![tactic(auto)]

@@ -1,48 +1,46 @@
-//! Keys that enter and leave, beside a plain list.
-use lsp_order::Order;
+//! Requests that are asked and answered out of order, beside a plain list.
+use lsp_rpc::Id;
+use lsp_session::Pending;
 use std::test::Fail;
 
-/// Whether the order holds these keys.
-fn holds(order: &Order<u32>, keys: &[u32]) -> bool {
-    if order.len() != keys.len() {
+/// Whether the open requests have these ids.
+fn holds(pending: &Pending, keys: &[i32]) -> bool {
+    if pending.len() != keys.len() {
         return false;
     }
     for (index, key) in keys.iter().enumerate() {
-        if order.at(index) != Some(key) {
+        if !pending
+            .at(index)
+            .is_some_and(|request| request.id == Id::Number(*key))
+        {
             return false;
         }
     }
-    order.at(keys.len()).is_none()
+    pending.at(keys.len()).is_none()
 }
 
-/// In each round three keys enter and two leave, one of them from the middle.
+/// In each round three requests are asked and two answered, one of them from the middle.
 #[test]
-fn keys_keep_their_order(rt: HostRuntime) -> Result<(), Fail> {
-    let mut order = Order::new(rt.alloc());
-    let mut keys: Vec<u32> = Vec::new(rt.alloc());
-    for round in 0..40_u32 {
-        for more in 0..3_u32 {
-            let key = round * 3 + more;
-            if !keys.contains(&key) {
-                order.push(key, key)?;
-                keys.push(key)?;
+fn requests_keep_their_order(rt: HostRuntime) -> Result<(), Fail> {
+    let mut pending = Pending::new(rt.alloc());
+    let mut keys: Vec<i32> = Vec::new(rt.alloc());
+    for key in 0..120 {
+        pending.ask(&Id::Number(key), "m")?;
+        keys.push(key)?;
+        if key % 3 == 2 {
+            for place in [keys.len() / 2, 0] {
+                if let Some(key) = keys.get(place).copied() {
+                    assert!(rt; pending.answer(&Id::Number(key)).is_some());
+                    keys.retain(|other| *other != key);
+                }
             }
+            assert!(rt; holds(&pending, keys.as_slice()));
         }
-        let middle = keys.len() / 2;
-        for place in [middle, 0] {
-            if let Some(key) = keys.get(place).copied() {
-                order.remove(&key);
-                keys.retain(|other| *other != key);
-            }
-        }
-        assert!(rt; holds(&order, keys.as_slice()));
     }
-    order.remove(&1_000);
-    order.pack();
-    assert!(rt; holds(&order, keys.as_slice()));
+    assert!(rt; pending.answer(&Id::Number(1000)).is_none());
     for key in keys.iter() {
-        order.remove(key);
+        assert!(rt; pending.answer(&Id::Number(*key)).is_some());
     }
-    assert!(rt; holds(&order, &[]));
+    assert!(rt; holds(&pending, &[]));
     Ok(())
 }
