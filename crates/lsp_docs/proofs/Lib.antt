@@ -1,5 +1,6 @@
 pub mod Words
 pub mod Queues
+pub mod Ahead
 pub mod HeldSteps
 pub mod DocumentSteps
 pub mod WaitingSteps

@@ -1,5 +1,5 @@
 -- The map of the waiting snapshots beside the queues that it stands for.
-use Rattle.std.proofs.Common.{◌≡◌, ℕ, List, [], ◌∷◌, ◌++◌, map, Option, Some, None, inl, inr, Bool, true, false, cond, refl, sym, ap, ◌∙◌, string_bytes, String, Vec, Global, filter, true≢false}
+use Rattle.std.proofs.Common.{◌≡◌, ℕ, List, [], ◌∷◌, ◌++◌, ◌+◌, length, map, Option, Some, None, inl, inr, Bool, true, false, cond, refl, sym, ap, ◌∙◌, string_bytes, String, Global, filter, true≢false}
 use Rattle.std.proofs.lemmas.Option.{same_Some, none-some}
 use Rattle.std.specs.String.{string_eq}
 use Rattle.std.specs.Map.{lookup, set_value, remove_entry}
@@ -7,9 +7,8 @@ use Rattle.std.specs.Str.{bytes_eq}
 use Rattle.indexmap.specs.IndexMap.{insert_entry}
 use Rattle.lsp_docs.specs.Documents.{Version}
 use Rattle.lsp_docs.specs.State.{Queue, Waits, queue_of, keep_in, without_queue, add_in, total}
-use Rattle.lsp_docs.specs.Kept.{version_of, queues_in, lengths}
-use Rattle.lsp_docs.specs.declared.snapshot.Snapshot.{Snapshot}
-use Rattle.lsp_docs.proofs.Words.{true_or_false, length-map}
+use Rattle.lsp_docs.specs.Kept.{queues_in, lengths}
+use Rattle.lsp_docs.proofs.Words.{true_or_false}
 
 -- a key other than the first entry's finds what it finds in the rest
 pub rest_of : {D : Type 0} (b : Bool) (d : D) (rest x : Option D) → cond b (Some d) rest ≡ x → b ≡ false → rest ≡ x
@@ -95,6 +94,6 @@ module _ {D : Type 0} (versions : D → List Version) where
 abbrev pub made : List Queue → ℕ → Waits
 made queues missed = record { queues = queues; missed = missed }
 
-pub lengths-total : (es : List (String Global × Vec Snapshot Global)) → lengths (map (λ e. e.1) es) ≡ total (queues_in es)
+pub lengths-total : (es : List (String Global × List Version)) → lengths (map (λ e. e.1) es) ≡ total (queues_in es)
 lengths-total [] = refl
-lengths-total (e ∷ es) = rw (lengths-total es, length-map version_of e.1.items) refl
+lengths-total (e ∷ es) = ap (λ n. length e.1 + n) (lengths-total es)

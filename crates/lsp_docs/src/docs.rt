@@ -22,7 +22,7 @@ use crate::fault::{
 };
 use crate::kind::fits_kind;
 use crate::opened::OpenDocuments;
-use crate::snapshot::{Match, any_differs, is_due};
+use crate::snapshot::Match;
 use crate::waiting::Waiting;
 use lsp_frame::Limits;
 use lsp_text::{TextStore, change_all};
@@ -290,7 +290,7 @@ impl<S: TextStore> Docs<S> {
     fn refutes(&self, uri: &str, version: i32, store: &S) -> bool
         ensures { result ≡ list_any (differs (versioned version (S.content store.now))) (queue_of uri.now self.now.waits.queues) }
     {
-        any_differs(self.waiting.of(uri), version, store)
+        self.waiting.refutes(uri, version, store)
     }
 
     /// The rule that a change breaks, whatever text it leads to.
@@ -331,7 +331,7 @@ impl<S: TextStore> Docs<S> {
             (changed_at self.old encoding uri.now (edits_of changes.now)))) }
         ensures err { OnErr result (self.new ≡ self.old) }
     {
-        if changes.len() == 1 && !is_due(self.waiting.of(uri), version) {
+        if changes.len() == 1 && !self.waiting.is_due(uri, version) {
             self.change_held(encoding, uri, version, &changes[0])
         } else {
             self.change_copy(encoding, uri, version, changes)

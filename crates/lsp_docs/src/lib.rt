@@ -12,6 +12,7 @@ mod fault;
 mod kind;
 mod laws;
 mod opened;
+mod queue;
 mod snapshot;
 mod waiting;
 

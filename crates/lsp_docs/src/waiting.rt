@@ -1,18 +1,22 @@
 //! The snapshots that wait for their versions.
 
 ghost use Rattle.std.specs.Prelude.{◌≡◌, ◌+◌, [], length, filter, None, OnOk, OnErr, string_bytes};
+ghost use Rattle.std.specs.List.{list_any};
 ghost use Rattle.std.specs.Map.{lookup};
 ghost use Rattle.std.specs.Str.{chars, bytes_eq};
 ghost use Rattle.lsp_docs.specs.Documents.{versioned};
-ghost use Rattle.lsp_docs.specs.State.{capped, queue_of, keep_in, without_queue, add_in, total, reached, released, shown_to, is_after, is_before};
-ghost use Rattle.lsp_docs.specs.Kept.{version_of, versions, queues_in};
+ghost use Rattle.lsp_docs.specs.State.{capped, queue_of, keep_in, without_queue, add_in, total, reached, released, shown_to, is_after, is_at, is_before};
+ghost use Rattle.lsp_docs.specs.Rules.{differs};
+ghost use Rattle.lsp_docs.specs.Kept.{version_of, queues_in};
 
+use crate::queue::SnapshotQueue;
 use crate::snapshot::Snapshot;
 use indexmap::IndexMap;
+use lsp_text::TextStore;
 use std::alloc::{AllocError, Global};
 use std::marker::Model;
 
-type SnapshotMap = IndexMap<String, Vec<Snapshot>>;
+type SnapshotMap = IndexMap<String, SnapshotQueue>;
 
 /// The snapshots that wait, by URI, and how many were missed.
 #[derive(Drop)]
@@ -41,13 +45,23 @@ impl Waiting {
         }
     }
 
-    /// Those of a URI.
-    pub(crate) fn of(&self, uri: &str) -> &[Snapshot]
-        ensures { versions result.now ≡ queue_of uri.now self.now.queues }
+    /// Whether a snapshot of a URI waits for this version.
+    pub(crate) fn is_due(&self, uri: &str, version: i32) -> bool
+        ensures { result ≡ list_any (is_at version) (queue_of uri.now self.now.queues) }
     {
         match self.snapshots.get(uri) {
-            Some(snapshots) => snapshots.as_slice(),
-            None => &[],
+            Some(queue) => queue.is_due(version),
+            None => false,
+        }
+    }
+
+    /// Whether a snapshot of a URI waits for this version that has another text than the store.
+    pub(crate) fn refutes<S: TextStore>(&self, uri: &str, version: i32, store: &S) -> bool
+        ensures { result ≡ list_any (differs (versioned version (S.content store.now))) (queue_of uri.now self.now.queues) }
+    {
+        match self.snapshots.get(uri) {
+            Some(queue) => queue.any_differs(version, store),
+            None => false,
         }
     }
 
@@ -115,8 +129,7 @@ fn add_first(snapshots: &mut SnapshotMap, uri: &str, snapshot: Snapshot) -> Resu
     ensures err { OnErr result (queues_in snapshots.new.entries ≡ queues_in snapshots.old.entries) }
 {
     let alloc = *snapshots.allocator();
-    let mut waiting = Vec::new(alloc);
-    waiting.push(snapshot)?;
+    let waiting = SnapshotQueue::of(alloc, snapshot)?;
     let key = String::from_str(alloc, uri)?;
     snapshots.insert(key, waiting)?;
     Ok(())
@@ -128,11 +141,7 @@ fn drop_reached(snapshots: &mut SnapshotMap, uri: &str, version: i32) -> u64
     ensures missed { result ≡ length (filter (is_before version) (queue_of uri.now (queues_in snapshots.old.entries))) }
 {
     match snapshots.get_mut(uri) {
-        Some(waiting) => {
-            let missed = count_before(waiting.as_slice(), version);
-            keep_after(waiting, version);
-            missed
-        }
+        Some(waiting) => waiting.reach(version),
         None => 0,
     }
 }
@@ -147,24 +156,4 @@ fn drop_all(snapshots: &mut SnapshotMap, uri: &str) -> u64
         Some(waiting) => waiting.len() as u64,
         None => 0,
     }
-}
-
-/// Drops the snapshots that wait no more at a version.
-fn keep_after(snapshots: &mut Vec<Snapshot>, version: i32)
-    ensures { snapshots.new.items ≡ filter (λ s. is_after version (version_of s)) snapshots.old.items }
-{
-    snapshots.retain(|s| waits_past(s, version));
-}
-
-/// How many are of a lesser version.
-fn count_before(snapshots: &[Snapshot], version: i32) -> u64
-    ensures { result ≡ length (filter (λ s. is_before version (version_of s)) snapshots.now) }
-{
-    snapshots.iter().filter(|s| s.version < version).count() as u64
-}
-
-fn waits_past(snapshot: &Snapshot, version: i32) -> bool
-    ensures { result ≡ is_after version (version_of snapshot.now) }
-{
-    version < snapshot.version
 }

@@ -73,6 +73,10 @@ unfinished_end fault (b ∷ rest) none some = ap (λ (f : Option ℕ). finish_at
 pub rest_slice : (xs items : List ℕ) (start end : ℕ) → xs ≡ items → take (end - start) (drop start xs) ≡ drop start (take end items)
 rest_slice xs items start end same = drop_take start end xs ∙ ap (λ (w : List ℕ). drop start (take end w)) same
 
+-- bytes that stand at the front already
+pub front_stays : (xs : List ℕ) (start end : ℕ) → start ≡ 0 → take (end - start) xs ≡ drop start (take end xs)
+front_stays xs start end none = subst (λ (n : ℕ). take (end - n) xs ≡ drop n (take end xs)) (sym none) (drop_take 0 end xs)
+
 -- the bytes between two places, moved to the front
 pub moved_down : (xs : List ℕ) (start end : ℕ) → start ≤ end → end ≤ length xs → take (end - start) (copy_within xs start end 0) ≡ drop start (take end xs)
 moved_down xs start end from fits =

@@ -111,6 +111,9 @@ fn to_front(buffer: &mut [u8], start: usize, end: usize)
     ensures len { length buffer.new ≡ length buffer.old }
     ensures front { take (end - start) buffer.new ≡ drop start (take end buffer.old) }
 {
+    if start == 0 {
+        return;
+    }
     let rest = end - start;
     if rest <= start {
         let (front, back) = buffer.split_at_mut(start);

@@ -1,14 +1,16 @@
 -- What is answered on a log and on records means what the verdict on it means.
 use Rattle.std.proofs.Common.{◌≡◌, ◌⊎◌, ℕ, ◌+◌, Bool, true, false, List, [], ◌∷◌, Option, Some, None, Result, Ok, inl, inr, refl, sym, ap, subst, ◌∙◌}
 use Rattle.std.specs.Prelude.{IfOk, option_map}
-use Rattle.std.specs.Io.KnownBytes.{IsAtEnd}
+use Rattle.std.proofs.lemmas.Option.{same_Some}
 use Rattle.lsp_frame.specs.Bounds.{Bounds, IsInRange}
-use Rattle.lsp_frame.specs.Sink.{Told, Stopped}
+use Rattle.lsp_frame.specs.Sink.{Stopped}
+use Rattle.lsp_frame.specs.Told.{Told}
 use Rattle.lsp_log.specs.Log.{Record}
 use Rattle.lsp_verdict.specs.declared.outcome.Outcome.{Outcome}
 use Rattle.lsp_verdict.specs.declared.outcome.Outcome.TheVariants.{Judged}
 use Rattle.lsp_verdict.specs.declared.outcome.RunFault.{RunFault}
 use Rattle.lsp_judge.specs.declared.ruling.Ruling.{Ruling}
+use Rattle.lsp_judge.specs.declared.ruling.Ruling.TheVariants as rulings
 use Rattle.lsp_verdict.specs.declared.verdict.Verdict as code
 use Rattle.lsp_verdict.specs.declared.verdict.Verdict.TheVariants as verdicts
 use Rattle.lsp_verdict.specs.declared.verdict.Who.{Who}
@@ -16,15 +18,13 @@ use Rattle.lsp_judge.specs.Answered.{NamesFirst, NamesRest, NoneOffends, AreClea
 use Rattle.lsp_verdict.specs.Event.{Event}
 use Rattle.lsp_verdict.specs.Given.{verdict_view, as_given}
 use Rattle.lsp_verdict.specs.Kept.{AreKept}
-use Rattle.lsp_judge.specs.Logged.{OfMore, Answers}
 use Rattle.lsp_verdict.specs.Outcome.{IsFinal, IsVerdict}
 use Rattle.lsp_verdict.specs.Placed.{IsSession}
-use Rattle.lsp_verdict.specs.RunIo.{OfRead, GaveAtMost, AppendsFront}
+use Rattle.lsp_verdict.specs.RunIo.{OfRead, AppendsFront}
 use Rattle.lsp_judge.specs.Rulings.{verdict_in}
 use Rattle.lsp_judge.specs.Standing.{HasOffence, State, Stands}
 use Rattle.lsp_verdict.specs.Verdict.{Verdict, Summary, yes, no, bad_log, summary, whose, first_no}
 use Rattle.lsp_judge.proofs.Finals.{open_clean}
-use Rattle.lsp_judge.proofs.Logging.{as_some}
 use Rattle.lsp_verdict.proofs.Logs.{some_final, one_verdict}
 use Rattle.lsp_verdict.proofs.Meanings.{are_kept, final_no, final_yes, is_yes_given, kept_means_yes}
 use Rattle.lsp_judge.proofs.Records.{is_open, offence_in}
@@ -33,35 +33,8 @@ use Rattle.lsp_verdict.proofs.Verdicts.{names_first, nothing_offends}
 
 -- ---- the log read
 
-abbrev at_end : Option (List ℕ) → Bool
-at_end None = true
-at_end (Some []) = true
-at_end (Some (b ∷ bs)) = false
-
-end_met : (left : Option (List ℕ)) → at_end left ≡ true → IsAtEnd left
-end_met None e = tt
-end_met (Some []) e = refl
-end_met (Some (b ∷ bs)) e = absurd cc
-
-is_met : (left : Option (List ℕ)) → IsAtEnd left → at_end left ≡ true
-is_met None p = refl
-is_met (Some []) p = refl
-is_met (Some (b ∷ bs)) p = absurd cc
-
--- **what holds of the stream holds of the log read**
-pub as_read : (limits : Bounds) (before after : Told) (P : List ℕ → Type 0) → OfMore limits before after [] P → OfRead limits before.bytes after.bytes P
-as_read limits before after P m = record {
-  bytes = m.piece;
-  ended = at_end after.bytes;
-  read = record { gave = m.read; no_further = m.within; end = end_met after.bytes };
-  holds = λ log goes. subst P (sym goes.1) (m.holds goes.0 (λ end. goes.2 (is_met after.bytes end)));
-}
-
-pub read_map : (limits : Bounds) (before after : Option (List ℕ)) (P Q : List ℕ → Type 0) → ((log : List ℕ) → P log → Q log) → OfRead limits before after P → OfRead limits before after Q
-read_map limits before after P Q f p = record { bytes = p.bytes; ended = p.ended; read = p.read; holds = λ log goes. f log (p.holds log goes) }
-
-pub front_of : (old new : Told) (written due : List ℕ) → Stopped old new written → written ≡ due → AppendsFront old.bytes new.bytes due
-front_of old new written due stopped is = (stopped.front, stopped.back, sym is ∙ stopped.whole, stopped.appends)
+pub front_of : (old new : Told) (written due : List ℕ) → Stopped old new written → written ≡ due → AppendsFront old new due
+front_of old new written due stopped is = (stopped.front, stopped.back, sym is ∙ stopped.whole, stopped.took)
 
 -- the verdict of an outcome
 pub judged_as : (given v : code.Verdict) (P : code.Verdict → Type 0) → (let outcome : Result Outcome RunFault = Ok (Judged given) in outcome) ≡ Ok (Judged v) → P given → P v
@@ -69,14 +42,9 @@ judged_as given v P e p =
     let same : given ≡ v = cc e in
     subst P same p
 
-pub read_verdict : (limits : Bounds) (before after : Told) (given v : code.Verdict) → Answers limits before after [] (verdict_view given)
-    → (let outcome : Result Outcome RunFault = Ok (Judged given) in outcome) ≡ Ok (Judged v) → OfRead limits before.bytes after.bytes (λ log. IsVerdict limits log (verdict_view v))
-read_verdict limits before after given v a e =
-    judged_as given v (λ w. OfRead limits before.bytes after.bytes (λ log. IsVerdict limits log (verdict_view w))) e (as_read limits before after _ a.says)
-
--- no more was read than the limit lets
-pub read_within : (limits : Bounds) (before after : Told) (P : List ℕ → Type 0) → OfMore limits before after [] P → GaveAtMost (limits.log + 1) before.bytes after.bytes
-read_within limits before after P m = (m.piece, m.read, m.within)
+pub read_verdict : (limits : Bounds) (before after : Told) (given v : code.Verdict) → OfRead limits before after (λ log. IsVerdict limits log (verdict_view given))
+    → (let outcome : Result Outcome RunFault = Ok (Judged given) in outcome) ≡ Ok (Judged v) → OfRead limits before after (λ log. IsVerdict limits log (verdict_view v))
+read_verdict limits before after given v says e = judged_as given v (λ w. OfRead limits before after (λ log. IsVerdict limits log (verdict_view w))) e says
 
 -- ---- Yes
 
@@ -140,6 +108,10 @@ open_none s records none stands = λ events session.
 
 -- ---- the records taken
 
+as_some : (o : Option Verdict) (v : Verdict) → Some v ≡ option_map as_given o → (w : Verdict) × (o ≡ Some w) × (v ≡ as_given w)
+as_some None v e = absurd cc
+as_some (Some w) v e = (w, refl, same_Some _ _ e)
+
 -- what is answered on records is the No at their first event that offends, if any
 abbrev pub FirstNo : Bounds → List Record → Option Verdict → Type 0
 FirstNo limits records given = (events : List Event) → IsSession limits records events → given ≡ option_map as_given (first_no limits.document events)
@@ -163,3 +135,9 @@ pub taken_no : {E : Type 0} (limits : Bounds) (records : List Record) (answer : 
 taken_no limits records answer rule number event who says e =
     let same : answer ≡ verdicts.No rule who number event = cc e in
     taken_refused limits records (no rule who number event) (subst (λ (a : code.Verdict). FirstNo limits records (Some (verdict_view a))) same says)
+
+-- no ruling is Yes
+pub no_yes : (ruling : Ruling) (s : Summary) → verdict_in ruling ≡ Some (yes s) → ⊥
+no_yes (rulings.No rule by number event) s e = absurd cc
+no_yes (rulings.BadLog number fault) s e = absurd cc
+no_yes rulings.Memory s e = absurd cc

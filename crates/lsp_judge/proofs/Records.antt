@@ -17,7 +17,6 @@ use Rattle.lsp_verdict.specs.Placed.{Raw, show, Brings, PlacedAfter, IsSession, 
 use Rattle.lsp_judge.specs.Rulings.{IsNoAt, verdict_in}
 use Rattle.lsp_judge.specs.Standing.{Follows, State, IsOpen, HasOffence, Rules, AreLimits, Keeps, StandsBy, Stands}
 use Rattle.lsp_verdict.specs.Drained.{IsDrained}
-use Rattle.lsp_judge.specs.Taking.{Taken, Refused}
 use Rattle.lsp_verdict.specs.Verdict.{Verdict, no, no_at, first_no}
 use Rattle.lsp_judge.specs.declared.ruling.Ruling.{Ruling}
 use Rattle.lsp_judge.specs.declared.ruling.Ruling.TheVariants.{No, BadLog, Memory}
@@ -29,83 +28,6 @@ use Rattle.lsp_verdict.proofs.Sessions.{some_session, same_session}
 use Rattle.lsp_verdict.proofs.Verdicts.{no_found}
 use Rattle.lsp_verdict.proofs.OneRecord.{joined_own, joined_server, joined_editor, joined_shown, session_bytes, session_shown}
 use Rattle.lsp_verdict.proofs.Drained.{drained_along, new_drained}
-
--- ---- steps of a judge
-
--- bytes of the editor's that don't offend
-pub editor_taken : (old new : State) (rs : List Record) (b : List ℕ) → AreLimits old → (open_before : IsOpen old rs) → new.limits ≡ old.limits → new.editor.limits ≡ old.editor.limits → new.server ≡ old.server
-    → Taken Editor new.editor new.messages new.documents new.counts (joined Editor rs) b open_before.events → IsOpen new (rs ++ chunk Editor b ∷ [])
-editor_taken old new rs b limits o same kept other t =
-    let all : new.editor.limits ≡ new.limits = kept ∙ limits.editor ∙ sym same in
-    record {
-      events = o.events ++ t.later;
-      is_session = session_bytes new.limits Editor rs b o.events t.later t.now (subst (λ (w : Bounds). IsSession w rs o.events) (sym same) o.is_session) (subst (λ (w : Bounds). Brings w Editor (joined Editor rs) b t.now) all t.brings) t.reads;
-      follows = t.follows;
-      editor = drained_along new.editor (joined Editor rs ++ b) (joined Editor (rs ++ chunk Editor b ∷ [])) (sym (joined_own Editor rs b)) t.drained;
-      server = drained_along new.server (joined Server rs) (joined Server (rs ++ chunk Editor b ∷ [])) (sym (joined_server rs b)) (subst (λ (d : decoder.State). IsDrained d (joined Server rs)) (sym other) o.server);
-    }
-
--- bytes of the server's that don't offend
-pub server_taken : (old new : State) (rs : List Record) (b : List ℕ) → AreLimits old → (open_before : IsOpen old rs) → new.limits ≡ old.limits → new.server.limits ≡ old.server.limits → new.editor ≡ old.editor
-    → Taken Server new.server new.messages new.documents new.counts (joined Server rs) b open_before.events → IsOpen new (rs ++ chunk Server b ∷ [])
-server_taken old new rs b limits o same kept other t =
-    let all : new.server.limits ≡ new.limits = kept ∙ limits.server ∙ sym same in
-    record {
-      events = o.events ++ t.later;
-      is_session = session_bytes new.limits Server rs b o.events t.later t.now (subst (λ (w : Bounds). IsSession w rs o.events) (sym same) o.is_session) (subst (λ (w : Bounds). Brings w Server (joined Server rs) b t.now) all t.brings) t.reads;
-      follows = t.follows;
-      server = drained_along new.server (joined Server rs ++ b) (joined Server (rs ++ chunk Server b ∷ [])) (sym (joined_own Server rs b)) t.drained;
-      editor = drained_along new.editor (joined Editor rs) (joined Editor (rs ++ chunk Server b ∷ [])) (sym (joined_editor rs b)) (subst (λ (d : decoder.State). IsDrained d (joined Editor rs)) (sym other) o.editor);
-    }
-
--- a snapshot that doesn't offend
-pub shown_taken : (old new : State) (rs : List Record) (n : ℤ) (uri t : List ℕ) → (open_before : IsOpen old rs) → new.limits ≡ old.limits → new.editor ≡ old.editor → new.server ≡ old.server
-    → Follows new.messages new.documents new.counts (open_before.events ++ snapshot uri n (chars t) ∷ []) → IsOpen new (rs ++ shown n uri t ∷ [])
-shown_taken old new rs n uri t o same editor server follows = record {
-  events = o.events ++ snapshot uri n (chars t) ∷ [];
-  is_session = session_shown new.limits rs n uri t o.events (subst (λ (w : Bounds). IsSession w rs o.events) (sym same) o.is_session);
-  follows = follows;
-  editor = drained_along new.editor (joined Editor rs) (joined Editor (rs ++ shown n uri t ∷ [])) (sym (joined_shown Editor rs n uri t)) (subst (λ (d : decoder.State). IsDrained d (joined Editor rs)) (sym editor) o.editor);
-  server = drained_along new.server (joined Server rs) (joined Server (rs ++ shown n uri t ∷ [])) (sym (joined_shown Server rs n uri t)) (subst (λ (d : decoder.State). IsDrained d (joined Server rs)) (sym server) o.server);
-}
-
--- bytes that offend
-pub bytes_rule : (s : State) (rs : List Record) (side : Side) (b : List ℕ) (frames : Bounds) (limit : ℕ) (r : Ruling) → (open_before : IsOpen s rs) → frames ≡ s.limits → limit ≡ s.limits.document
-    → Refused side frames limit (joined side rs) b open_before.events r → Rules s.limits (rs ++ chunk side b ∷ []) r
-bytes_rule s rs side b frames limit (No rule by number at) o same same_limit broken = (
-  broken.verdict,
-  record {
-    events = o.events ++ broken.later;
-    session = session_bytes s.limits side rs b o.events broken.later broken.now o.is_session (subst (λ (w : Bounds). Brings w side (joined side rs) b broken.now) same broken.brings) broken.reads;
-    offends = ap (λ l. first_no l (o.events ++ broken.later)) (sym same_limit) ∙ broken.offends;
-  },
-  some_same broken.given,
-)
-  where
-    some_same : {v w : Verdict} → Some v ≡ Some w → v ≡ w
-    some_same e = cc e
-bytes_rule s rs side b frames limit (BadLog number code) o same same_limit broken = broken
-bytes_rule s rs side b frames limit Memory o same same_limit broken = tt
-
--- a snapshot that offends
-pub shown_rule : (s : State) (rs : List Record) (n : ℤ) (uri t : List ℕ) (limit : ℕ) (r : Ruling) → (open_before : IsOpen s rs) → s.documents.limit ≡ s.limits.document → limit ≡ s.documents.limit
-    → IsNoAt limit open_before.events (snapshot uri n (chars t)) r → Rules s.limits (rs ++ shown n uri t ∷ []) r
-shown_rule s rs n uri t limit (No rule by number at) o same same_limit named = (
-  named.0,
-  record {
-    events = o.events ++ snapshot uri n (chars t) ∷ [];
-    session = session_shown s.limits rs n uri t o.events o.is_session;
-    offends =
-        ap (λ l. first_no l (o.events ++ snapshot uri n (chars t) ∷ [])) (sym same)
-        ∙ ap (λ l. first_no s.documents.limit l) (ap (λ w. w ++ snapshot uri n (chars t) ∷ []) (sym (append-nil o.events)) ∙ append_assoc o.events [] (snapshot uri n (chars t) ∷ []))
-        ∙ no_found s.documents.limit o.events [] [] (snapshot uri n (chars t)) named.0
-        (ap (first_no s.documents.limit) (append-nil o.events) ∙ o.follows.clean)
-        (ap (λ w. no_at s.documents.limit w (snapshot uri n (chars t))) (append-nil o.events) ∙ ap (λ l. no_at l o.events (snapshot uri n (chars t))) (sym same_limit) ∙ named.1);
-  },
-  named.2,
-)
-shown_rule s rs n uri t limit (BadLog number code) o same same_limit named = named
-shown_rule s rs n uri t limit Memory o same same_limit named = tt
 
 -- ---- what is known once an event offends
 
@@ -131,11 +53,11 @@ open_none s rs events limits o session =
 -- ---- a judge that has just begun
 
 pub new_stands : (s : State) → IsInRange s.limits → s.editor ≡ decoder.empty s.limits → decoder.StandsFor s.editor [] [] → s.server ≡ decoder.empty s.limits → decoder.StandsFor s.server [] [] → s.documents.limit ≡ s.limits.document
-    → Follows s.messages s.documents s.counts [] → s.given ≡ None → Stands s []
-new_stands s sizes editor editor_stands server server_stands documents follows given = record {
+    → Follows s.messages s.documents s.counts [] → s.turn ≡ None → s.given ≡ None → Stands s []
+new_stands s sizes editor editor_stands server server_stands documents follows idle given = record {
   limits = record { range = sizes; editor = ap (λ (d : decoder.State). d.limits) editor; server = ap (λ (d : decoder.State). d.limits) server; documents = documents };
   given = subst (λ (o : Option Ruling). StandsBy o s []) (sym given)
-      (record { events = []; is_session = ([], refl, tt); follows = follows; editor = new_drained s.limits sizes s.editor editor editor_stands; server = new_drained s.limits sizes s.server server server_stands });
+      (record { idle = idle; events = []; is_session = ([], refl, tt); follows = follows; editor = new_drained s.limits sizes s.editor editor editor_stands; server = new_drained s.limits sizes s.server server server_stands });
 }
 
 -- ---- a judge that gave a verdict
@@ -170,6 +92,15 @@ kept_limits old new keeps limits = record {
   editor = keeps.editor ∙ limits.editor ∙ sym keeps.limits;
   server = keeps.server ∙ limits.server ∙ sym keeps.limits;
   documents = keeps.documents ∙ limits.documents ∙ ap (λ (b : Bounds). b.document) (sym keeps.limits);
+}
+
+pub keeps_trans : (a b c : State) → Keeps a b → Keeps b c → Keeps a c
+keeps_trans a b c p q = record {
+  limits = q.limits ∙ p.limits;
+  editor = q.editor ∙ p.editor;
+  server = q.server ∙ p.server;
+  documents = q.documents ∙ p.documents;
+  given = q.given ∙ p.given;
 }
 
 pub none_verdict : (old new : State) (rs more : List Record) (events : List Event) → old.given ≡ None → Keeps old new → (AreLimits old → IsOpen old rs → IsOpen new (rs ++ more)) → Stands old rs → IsSession old.limits (rs ++ more) events

@@ -1,147 +1,178 @@
--- What is due for a log is determined, and begins with what its records say.
-use Rattle.std.proofs.Common.{◌≡◌, ◌+◌, ◌-◌, ◌<◌, ◌^◌, ℕ, Bool, true, false, List, [], ◌∷◌, ◌++◌, length, take, Option, Some, None, refl, sym, ap, subst, ◌∙◌, append_assoc, append-nil, length-append, arith}
+-- What is due where a log is shown.
+use Rattle.std.proofs.Common.{◌≡◌, ◌+◌, ◌<◌, ◌^◌, ℕ, List, [], ◌∷◌, ◌++◌, length, Option, Some, None, Result, Ok, Err, refl, sym, ap, subst, ◌∙◌, append_assoc, append-nil, length-append, arith}
 use Rattle.std.specs.Prelude.{unwrap_or}
 use Rattle.std.specs.List.{flat_map, cons_option}
-use Rattle.std.specs.Option.{option_or}
-use Rattle.std.proofs.lemmas.List.{length-take}
+use Rattle.std.proofs.lemmas.List.Concat.{flat_map-append}
 use Rattle.lsp_frame.specs.Bounds.{Bounds, IsInRange}
-use Rattle.lsp_log.specs.Log.{Record, BeginsLog}
-use Rattle.lsp_log.specs.declared.fault.LogCode.{LogCode}
+use Rattle.lsp_frame.specs.Sink.{Wrote, Stopped}
+use Rattle.lsp_frame.specs.Told.{Told, Took, after_failure}
+use Rattle.lsp_frame.proofs.Telling.{took_then}
+use Rattle.lsp_frame.proofs.Writing.{wrote_nothing, wrote_then}
+use Rattle.lsp_verdict.specs.declared.outcome.RunFault.{RunFault}
+use Rattle.lsp_verdict.specs.declared.outcome.RunFault.TheVariants as faults
+use Rattle.lsp_verdict.specs.declared.outcome.Outcome.{Outcome}
+use Rattle.lsp_verdict.specs.declared.outcome.Outcome.TheVariants.{Judged}
+use Rattle.lsp_verdict.specs.declared.verdict.Verdict as code
 use Rattle.lsp_verdict.specs.Event.{Event}
-use Rattle.lsp_verdict.specs.Given.{as_given}
-use Rattle.lsp_verdict.specs.LookBack.{each_from}
-use Rattle.lsp_verdict.specs.Outcome.{IsVerdict, Offends}
-use Rattle.lsp_verdict.specs.Placed.{IsSession}
+use Rattle.lsp_verdict.specs.Given.{verdict_view}
+use Rattle.lsp_verdict.specs.LookBack.{each_of, each_from}
+use Rattle.lsp_verdict.specs.Outcome.{IsVerdict}
 use Rattle.lsp_verdict.specs.Report.{report}
-use Rattle.lsp_judge.specs.Showing.{given_line_at, given_lines_from, given_lines}
-use Rattle.lsp_verdict.specs.Shown.{event_line, line_at, lines_of, kept_count, kept, kept_by, kept_within, show_of}
-use Rattle.lsp_judge.specs.ShownLog.{IsShown, BeginsShown, OneShown}
-use Rattle.lsp_verdict.specs.Verdict.{Verdict, yes, Ending, first_no, no_at, bad_log_of, rest_of, summary, verdict}
-use Rattle.lsp_verdict.proofs.ExactCounts.{events_within, exact, capped_is}
-use Rattle.lsp_verdict.proofs.Finding.{found}
-use Rattle.lsp_verdict.proofs.Logs.{some_verdict, events_first, offence_decides, same_events, one_verdict}
-use Rattle.lsp_verdict.proofs.Sessions.{same_session}
-use Rattle.lsp_judge.proofs.ShownBytes.{take_front, kept_clean, kept_no, kept_more}
-use Rattle.lsp_judge.proofs.Showings.{lines-append}
-
--- ---- the events before the first that offends
-
--- an event offends: it doesn't matter what comes behind
-kept_same : (limit : ℕ) (events later : List Event) (v : Verdict) → first_no limit events ≡ Some v → kept_within limit (events ++ later) ≡ kept_within limit events
-kept_same limit events later v is =
-    let here = found (no_at limit) [] events v is in
-    ap (λ w. kept_within limit (w ++ later)) here.whole
-    ∙ ap (kept_within limit) (append_assoc here.front (here.here ∷ here.after) later)
-    ∙ kept_no limit here.front here.here (here.after ++ later) v here.none here.at
-    ∙ sym (ap (kept_within limit) here.whole ∙ kept_no limit here.front here.here here.after v here.none here.at)
-
--- they stay, however the events go on
-kept_front : (limit : ℕ) (events later : List Event) → (tail : List Event) × (kept_within limit (events ++ later) ≡ kept_within limit events ++ tail)
-kept_front limit events later = by_first (first_no limit events) refl
-  where
-    by_first : (o : Option Verdict) → first_no limit events ≡ o → (tail : List Event) × (kept_within limit (events ++ later) ≡ kept_within limit events ++ tail)
-    by_first None is = let more = kept_more limit events later is in (more.0, more.1 ∙ ap (λ w. w ++ more.0) (sym (kept_clean limit events is)))
-    by_first (Some v) is = ([], kept_same limit events later v is ∙ sym (append-nil (kept_within limit events)))
-
-lines_front : (limit : ℕ) (events later : List Event) → (tail : List ℕ) × (given_lines (kept_within limit (events ++ later)) ≡ given_lines (kept_within limit events) ++ tail)
-lines_front limit events later =
-    let more = kept_front limit events later in
-    (given_lines_from (kept_within limit events) more.0, ap given_lines more.1 ∙ lines-append [] (kept_within limit events) more.0)
-
--- they are those before the verdict's place
-kept_early : (limit : ℕ) (events : List Event) (v : Verdict) → first_no limit events ≡ Some v → kept v events ≡ kept_within limit events
-kept_early limit events v is = sym (ap (λ o. kept_by o events) is)
-
-take_whole : (events : List Event) → take (length events) events ≡ events
-take_whole events = ap (take (length events)) (sym (append-nil events)) ∙ take_front events []
-
-take_before : (events : List Event) → take (length events + 1 - 1) events ≡ events
-take_before events =
-    let n : length events + 1 - 1 ≡ length events = omega arith in
-    ap (λ k. take k events) n ∙ take_whole events
-
-kept_all : (limit : ℕ) (events : List Event) (flaw : Option (ℕ × LogCode)) (editor server : Bool) → kept (unwrap_or (option_or (bad_log_of flaw) (rest_of events editor server)) (yes (summary limit events))) events ≡ events
-kept_all limit events (Some flaw) editor server = take_whole events
-kept_all limit events None true server = take_before events
-kept_all limit events None false true = take_before events
-kept_all limit events None false false = take_whole events
-
-pub kept_final : (limit : ℕ) (events : List Event) (end : Ending) (v : Verdict) → verdict limit events end ≡ v → kept v events ≡ kept_within limit events
-kept_final limit events end v says = by_first (first_no limit events) refl
-  where
-    by_none : (o : Option Verdict) → first_no limit events ≡ o → v ≡ unwrap_or (option_or o (option_or (bad_log_of end.log_fault) (rest_of events end.editor_rest end.server_rest))) (yes (summary limit events))
-    by_none o is = sym says ∙ ap (λ w. unwrap_or (option_or w (option_or (bad_log_of end.log_fault) (rest_of events end.editor_rest end.server_rest))) (yes (summary limit events))) is
-
-    by_first : (o : Option Verdict) → first_no limit events ≡ o → kept v events ≡ kept_within limit events
-    by_first None is = ap (λ w. kept w events) (by_none None is) ∙ kept_all limit events end.log_fault end.editor_rest end.server_rest ∙ sym (kept_clean limit events is)
-    by_first (Some w) is = ap (λ x. kept x events) (by_none (Some w) is) ∙ kept_early limit events w is
-
--- ---- the numbers of events are exact
-
-each_exact : (before events : List Event) → length before + length events < 2 ^ 64 → each_from given_line_at before events ≡ each_from line_at before events
-each_exact before [] small = refl
-each_exact before (e ∷ events) small =
-    let number = capped_is (length before + 1) (omega (arith, small)) in
-    ap (λ n. cons_option (event_line n e) (each_from given_line_at (before ++ e ∷ []) events)) number
-    ∙ ap (cons_option (line_at before e)) (each_exact (before ++ e ∷ []) events (omega (arith, small, length-append before (e ∷ []))))
-
-lines_exact : (events : List Event) → length events < 2 ^ 64 → given_lines events ≡ lines_of events
-lines_exact events small = ap (flat_map (λ line. line)) (each_exact [] events (omega (arith, small)))
-
--- ---- what is due for a log
-
-due_is : (limits : Bounds) → IsInRange limits → (log : List ℕ) (v : Verdict) → (p : IsVerdict limits log v) → show_of v p.final.events ≡ given_lines (kept_within limits.document p.final.events) ++ report v
-due_is limits sizes log v p =
-    let events : List Event = p.final.events in
-    let few = events_within limits log p.records p.fault events p.is_log p.final.session in
-    let small : length (take (kept_count v events) events) < 2 ^ 64 = omega (arith, sizes.log_high, few, length-take (kept_count v events) events) in
-    ap (λ l. l ++ report v) (sym (lines_exact (kept v events) small)) ∙ ap (λ k. given_lines k ++ report v) (kept_final limits.document events _ v p.final.says)
+use Rattle.lsp_verdict.specs.RunIo.{OfRead, Tells, source_failures, sink_failures}
+use Rattle.lsp_verdict.specs.Shown.{event_line, line_at, lines_of, show_of}
+use Rattle.lsp_verdict.specs.Verdict.{Verdict}
+use Rattle.lsp_verdict.proofs.Logs.{same_events, one_verdict}
+use Rattle.lsp_verdict.proofs.LookBackLemmas.{each_from-append, each_of-snoc}
+use Rattle.lsp_verdict.proofs.RunReading.{read_map}
+use Rattle.lsp_judge.specs.Entries.{failures_after}
+use Rattle.lsp_judge.specs.LogEvents.{EndsAt, BeginsWith, SoFar, Found, BrokeOff}
+use Rattle.lsp_judge.specs.ShownLog.{IsShown, BeginsShown, OneShown, ShowedAll, ShowedPart, line_of}
+use Rattle.lsp_judge.specs.declared.event_reader.EventReader.{EventReader}
+use Rattle.lsp_judge.proofs.Answering.{judged_as}
+use Rattle.lsp_judge.proofs.LogEvents.{so_far_begins, so_far_counts}
 
 pub one_shown : OneShown
 one_shown limits sizes log v w out other (p, is) (q, at) =
     let same : v ≡ w = one_verdict limits sizes log v w p q in
     (same, is ∙ ap (show_of v) (same_events limits sizes log v w p q) ∙ ap (λ x. show_of x q.final.events) same ∙ sym at)
 
-module _ (limits : Bounds) (sizes : IsInRange limits) (log : List ℕ) where
-  -- the lines of records with which a log begins begin what is due
-  pub begins_due : (rs : List Record) (rest : List ℕ) (events : List Event) → BeginsLog limits log rs rest → IsSession limits rs events → BeginsShown limits log (given_lines (kept_within limits.document events))
-  begins_due rs rest events begins session =
-      let whole = some_verdict limits log in
-      let later = events_first limits sizes log rest rs events whole.0 begins session whole.1 in
-      let tail = lines_front limits.document events later.0 in
-      let told = report whole.0 in (
-        whole.0,
-        tail.0 ++ told,
-        (
-          whole.1,
-          sym (append_assoc (given_lines (kept_within limits.document events)) tail.0 told)
-              ∙ ap (λ l. l ++ told) (sym tail.1)
-              ∙ ap (λ es. given_lines (kept_within limits.document es) ++ told) (sym later.1)
-              ∙ sym (due_is limits sizes log whole.0 whole.1),
-        ),
-      )
+-- ---- lines
 
-  -- a verdict is given as it is
-  given_due : (lines : List ℕ) (given v : Verdict) → given ≡ as_given v → IsShown limits log v (lines ++ report v) → IsShown limits log given (lines ++ report given)
-  given_due lines given v is shown = subst (λ (w : Verdict). IsShown limits log w (lines ++ report w)) (sym (is ∙ exact limits sizes log v shown.0)) shown
+lines-append : (xs ys : List Event) → lines_of (xs ++ ys) ≡ lines_of xs ++ flat_map (λ shown. shown) (each_from line_at xs ys)
+lines-append xs ys = ap (flat_map (λ shown. shown)) (each_from-append line_at [] xs ys) ∙ flat_map-append (λ shown. shown) (each_of line_at xs) (each_from line_at xs ys)
 
-  -- where an event of them offends, their lines and the report are all that is due
-  pub offence_due : (rs : List Record) (rest : List ℕ) (given v : Verdict) → given ≡ as_given v → BeginsLog limits log rs rest → (p : Offends limits rs v) → IsShown limits log given (given_lines (kept_within limits.document p.events) ++ report given)
-  offence_due rs rest given v is begins p =
-      let whole = offence_decides limits sizes log rest rs v begins p in
-      let later = events_first limits sizes log rest rs p.events v begins p.session whole in
-      given_due (given_lines (kept_within limits.document p.events)) given v is (
-        whole,
-        ap (λ k. given_lines k ++ report v) (sym (kept_same limits.document p.events later.0 v p.offends) ∙ ap (kept_within limits.document) (sym later.1)) ∙ sym (due_is limits sizes log v whole),
-      )
+alone : (o : Option (List ℕ)) → flat_map (λ shown. shown) (cons_option o []) ≡ unwrap_or o []
+alone None = refl
+alone (Some line) = append-nil line
 
-  -- the log ends behind these events
-  pub final_due : (given v : Verdict) (events : List Event) → given ≡ as_given v → (p : IsVerdict limits log v) → IsSession limits p.records events → IsShown limits log given ((given_lines (kept_within limits.document events) ++ []) ++ report given)
-  final_due given v events is p session =
-      let lines = given_lines (kept_within limits.document events) in
-      given_due (lines ++ []) given v is (
-        p,
-        ap (λ l. l ++ report v) (append-nil lines)
-            ∙ ap (λ es. given_lines (kept_within limits.document es) ++ report v) (same_session limits p.records p.records events p.final.events refl session p.final.session)
-            ∙ sym (due_is limits sizes log v p),
-      )
+lines-snoc : (xs : List Event) (x : Event) (number : ℕ) → number ≡ length xs + 1 → lines_of (xs ++ x ∷ []) ≡ lines_of xs ++ line_of number x
+lines-snoc xs x number is =
+    ap (flat_map (λ shown. shown)) (each_of-snoc line_at xs x)
+    ∙ flat_map-append (λ shown. shown) (each_of line_at xs) (cons_option (line_at xs x) [])
+    ∙ ap (λ l. lines_of xs ++ l) (alone (line_at xs x) ∙ ap (λ n. line_of n x) (sym is))
+
+-- ---- a log
+
+ends_shown : (limits : Bounds) (heard : List Event) (v : Verdict) (log : List ℕ) → EndsAt limits log heard v → IsShown limits log v (lines_of heard ++ report v)
+ends_shown limits heard v log (whole, is) = (whole, sym (ap (λ es. lines_of es ++ report v) is))
+
+begins_shown : (limits : Bounds) (heard : List Event) (front left : List ℕ) → lines_of heard ≡ front ++ left → (log : List ℕ) → BeginsWith limits heard log → BeginsShown limits log front
+begins_shown limits heard front left whole log (v, later, (says, is)) =
+    let tail = flat_map (λ shown. shown) (each_from line_at heard later) in (
+      v,
+      left ++ (tail ++ report v),
+      (
+        says,
+        sym (append_assoc front left (tail ++ report v))
+            ∙ ap (λ l. l ++ (tail ++ report v)) (sym whole)
+            ∙ sym (append_assoc (lines_of heard) tail (report v))
+            ∙ ap (λ l. l ++ report v) (sym (lines-append heard later))
+            ∙ sym (ap (λ es. lines_of es ++ report v) is),
+      ),
+    )
+
+-- ---- a run
+
+-- these events of the log were heard, and their lines written
+pub record Showing (limits : Bounds) (e : EventReader) (start now old new : Told) : Type 0 where
+  pub heard : List Event
+  pub so_far : SoFar limits e start now heard
+  pub wrote : Wrote old new (lines_of heard)
+
+pub nothing_shown : (limits : Bounds) (e : EventReader) (start old : Told) → SoFar limits e start start [] → Showing limits e start start old old
+nothing_shown limits e start old so_far = record { heard = []; so_far = so_far; wrote = wrote_nothing old }
+
+module _ (limits : Bounds) (start now old mid new : Told) (heard : List Event) (wrote : Wrote old mid (lines_of heard)) where
+  numbered : (e : EventReader) (event : Event) (number : ℕ) → SoFar limits e start now (heard ++ event ∷ []) → number ≡ e.judge.counts.all → number ≡ length heard + 1
+  numbered e event number so_far counted = counted ∙ so_far_counts limits e start now (heard ++ event ∷ []) so_far ∙ length-append heard (event ∷ [])
+
+  -- one more event and its line
+  pub one_shown_more : (e : EventReader) (event : Event) (number : ℕ) → SoFar limits e start now (heard ++ event ∷ []) → number ≡ e.judge.counts.all → Wrote mid new (line_of number event) → Showing limits e start now old new
+  one_shown_more e event number so_far counted line =
+      let is = numbered e event number so_far counted in
+      record {
+        heard = heard ++ event ∷ [];
+        so_far = so_far;
+        wrote = subst (Wrote old new) (sym (lines-snoc heard event number is)) (wrote_then old mid new (lines_of heard) (line_of number event) wrote line);
+      }
+
+  -- its line was not written
+  pub line_failed : (e : EventReader) (event : Event) (number : ℕ) (fault : RunFault) → SoFar limits e start now (heard ++ event ∷ []) → number ≡ e.judge.counts.all → Tells mid new (line_of number event) (Err fault) → ShowedPart limits start now old new fault
+  line_failed e event number faults.Write so_far counted told =
+      let is = numbered e event number so_far counted in
+      let due : lines_of (heard ++ event ∷ []) ≡ (lines_of heard ++ told.front) ++ told.back = lines-snoc heard event number is ∙ ap (λ l. lines_of heard ++ l) told.whole ∙ sym (append_assoc (lines_of heard) told.front told.back) in
+      record {
+        out = lines_of heard ++ told.front;
+        took = took_then old mid new (lines_of heard) told.front wrote.took told.took;
+        due = read_map limits start now (BeginsWith limits (heard ++ event ∷ [])) (λ log. BeginsShown limits log (lines_of heard ++ told.front)) (begins_shown limits (heard ++ event ∷ []) (lines_of heard ++ told.front) told.back due)
+            (so_far_begins limits e start now (heard ++ event ∷ []) so_far);
+        source = so_far.at.failures;
+        sink = told.failures ∙ ap after_failure wrote.failures;
+      }
+  line_failed e event number faults.Memory so_far counted told =
+      let is = numbered e event number so_far counted in
+      record {
+        out = lines_of heard;
+        took = subst (λ (t : Told). Took old t (lines_of heard)) (sym told) wrote.took;
+        due = read_map limits start now (BeginsWith limits (heard ++ event ∷ [])) (λ log. BeginsShown limits log (lines_of heard)) (begins_shown limits (heard ++ event ∷ []) (lines_of heard) (line_of number event) (lines-snoc heard event number is))
+            (so_far_begins limits e start now (heard ++ event ∷ []) so_far);
+        source = so_far.at.failures;
+        sink = ap (λ (t : Told). t.failures) told ∙ wrote.failures;
+      }
+  line_failed e event number faults.Read so_far counted told = absurd told
+
+module _ (limits : Bounds) (start now old mid : Told) (heard : List Event) (wrote : Wrote old mid (lines_of heard)) where
+  -- the verdict was found
+  pub all_shown : (v : Verdict) → Found limits start now heard v → ShowedAll limits start now old mid v
+  all_shown v found = record {
+    lines = lines_of heard;
+    wrote = wrote;
+    due = read_map limits start now (λ log. EndsAt limits log heard v) (λ log. IsShown limits log v (lines_of heard ++ report v)) (ends_shown limits heard v) found.of_read;
+    failures = found.failures;
+  }
+
+  -- the log was not read to its verdict
+  pub broke_shown : (fault : RunFault) → BrokeOff limits start now heard fault → ShowedPart limits start now old mid fault
+  broke_shown fault broke = record {
+    out = lines_of heard;
+    took = wrote.took;
+    due = read_map limits start now (BeginsWith limits heard) (λ log. BeginsShown limits log (lines_of heard)) (begins_shown limits heard (lines_of heard) [] (sym (append-nil (lines_of heard)))) broke.of_read;
+    source = by_source fault broke.failures broke.unwritten;
+    sink = by_sink fault wrote.failures broke.unwritten;
+  }
+    where
+      by_source : (f : RunFault) → now.failures ≡ failures_after f start.failures → (f ≡ faults.Write → ⊥) → now.failures ≡ source_failures (Err f) start.failures
+      by_source faults.Read e unwritten = e
+      by_source faults.Write e unwritten = e
+      by_source faults.Memory e unwritten = e
+
+      by_sink : (f : RunFault) → mid.failures ≡ old.failures → (f ≡ faults.Write → ⊥) → mid.failures ≡ sink_failures (Err f) old.failures
+      by_sink faults.Read e unwritten = e
+      by_sink faults.Write e unwritten = absurd (unwritten refl)
+      by_sink faults.Memory e unwritten = e
+
+-- ---- the report
+
+pub verdict_read : (limits : Bounds) (start now old new : Told) (given v : code.Verdict) → ShowedAll limits start now old new (verdict_view given)
+    → (let outcome : Result Outcome RunFault = Ok (Judged given) in outcome) ≡ Ok (Judged v) → OfRead limits start now (λ log. IsVerdict limits log (verdict_view v))
+verdict_read limits start now old new given v s e =
+    judged_as given v (λ w. OfRead limits start now (λ log. IsVerdict limits log (verdict_view w))) e (read_map limits start now _ (λ log. IsVerdict limits log (verdict_view given)) (λ log shown. shown.0) s.due)
+
+pub shown_read : (limits : Bounds) (start now old mid new : Told) (given v : code.Verdict) (written : List ℕ) → ShowedAll limits start now old mid (verdict_view given) → written ≡ report (verdict_view given) → Wrote mid new written
+    → (let outcome : Result Outcome RunFault = Ok (Judged given) in outcome) ≡ Ok (Judged v) → (out : List ℕ) × Took old new out × OfRead limits start now (λ log. IsShown limits log (verdict_view v) out)
+shown_read limits start now old mid new given v written s is wrote e =
+    judged_as given v (λ w. (out : List ℕ) × Took old new out × OfRead limits start now (λ log. IsShown limits log (verdict_view w) out)) e
+    (s.lines ++ report (verdict_view given), subst (λ l. Took old new (s.lines ++ l)) is (took_then old mid new s.lines written s.wrote.took wrote.took), s.due)
+
+-- memory was refused for the report
+pub lines_begun : (limits : Bounds) (start now old new : Told) (v : Verdict) → ShowedAll limits start now old new v → (out : List ℕ) × Took old new out × OfRead limits start now (λ log. BeginsShown limits log out)
+lines_begun limits start now old new v s = (s.lines, s.wrote.took, read_map limits start now (λ log. IsShown limits log v (s.lines ++ report v)) (λ log. BeginsShown limits log s.lines) (λ log shown. (v, report v, shown)) s.due)
+
+-- the report was not written
+pub report_begun : (limits : Bounds) (start now old mid new : Told) (v : Verdict) (written : List ℕ) → ShowedAll limits start now old mid v → written ≡ report v → Stopped mid new written → (out : List ℕ) × Took old new out × OfRead limits start now (λ log. BeginsShown limits log out)
+report_begun limits start now old mid new v written s is stopped = (
+  s.lines ++ stopped.front,
+  took_then old mid new s.lines stopped.front s.wrote.took stopped.took,
+  read_map limits start now (λ log. IsShown limits log v (s.lines ++ report v)) (λ log. BeginsShown limits log (s.lines ++ stopped.front))
+      (λ log shown. (v, stopped.back, subst (IsShown limits log v) (ap (λ l. s.lines ++ l) (sym is ∙ stopped.whole) ∙ sym (append_assoc s.lines stopped.front stopped.back)) shown)) s.due,
+)

@@ -1,6 +1,7 @@
 -- What is answered on records and on a log, in plain words.
 use Rattle.std.specs.Prelude.{◌≡◌, ℕ, List, Option, Some, None}
 use Rattle.lsp_frame.specs.Bounds.{Bounds}
+use Rattle.lsp_frame.specs.Told.{Told}
 use Rattle.lsp_types.specs.declared.side.Side.TheVariants.{Editor, Server}
 use Rattle.lsp_log.specs.Log.{Record, IsLog}
 use Rattle.lsp_judge.specs.declared.ruling.Ruling.{Ruling}
@@ -58,7 +59,7 @@ SaysYes limits events given = given ≡ as_given (yes (summary limits.document e
 -- ---- a report
 
 -- the verdict on the log read was found, and a prefix of its report is written
-pub record IsReportCut (limits : Bounds) (before after old new : Option (List ℕ)) : Type 0 where
+pub record IsReportCut (limits : Bounds) (before after old new : Told) : Type 0 where
   pub given : Verdict
   pub says : OfRead limits before after (λ log. IsVerdict limits log given)
   pub writes : AppendsFront old new (report given)

@@ -6,10 +6,6 @@ use Rattle.lsp_session.specs.declared.refusal.Refusal.{Refusal}
 use Rattle.lsp_session.specs.declared.refusal.Refusal.TheVariants as message
 use Rattle.lsp_docs.specs.declared.fault.DocFault.{DocFault}
 use Rattle.lsp_docs.specs.declared.fault.DocFault.TheVariants as call
-use Rattle.lsp_verdict.specs.declared.outcome.RunFault.{RunFault}
-use Rattle.lsp_verdict.specs.declared.outcome.RunFault.TheVariants as run_faults
-use Rattle.lsp_judge.specs.declared.run.JudgeFault.{JudgeFault}
-use Rattle.lsp_judge.specs.declared.run.JudgeFault.TheVariants as log_faults
 use Rattle.lsp_judge.specs.declared.fault.Fault.{Fault}
 use Rattle.lsp_judge.specs.declared.fault.Fault.TheVariants.{Rule, Memory}
 
@@ -29,8 +25,3 @@ of_call call.Memory = Memory
 abbrev pub Names : Option ℕ → Fault → Type 0
 Names rule (Rule n) = rule ≡ Some n
 Names rule Memory = Unit {0}
-
--- the fault of a judged log, as that of a run
-abbrev pub of_run : JudgeFault → RunFault
-of_run log_faults.Read = run_faults.Read
-of_run log_faults.Memory = run_faults.Memory

@@ -2,11 +2,10 @@ pub mod Answered
 pub mod Faults
 pub mod Rulings
 pub mod Standing
-pub mod Taking
-pub mod Showing
-pub mod Logged
-pub mod ShownLog
+pub mod Next
+pub mod Hearing
 pub mod TextAnswers
-pub mod TextRun
-pub mod Until
+pub mod Entries
+pub mod LogEvents
+pub mod ShownLog
 pub mod Apart

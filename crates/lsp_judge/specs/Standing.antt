@@ -11,6 +11,7 @@ use Rattle.lsp_session.specs.State as session
 use Rattle.lsp_docs.specs.State as docs
 use Rattle.lsp_log.specs.Log.{Record}
 use Rattle.lsp_verdict.specs.declared.counts.Counts.{Counts}
+use Rattle.lsp_judge.specs.declared.heard.Turn.{Turn}
 use Rattle.lsp_judge.specs.declared.ruling.Ruling.{Ruling}
 use Rattle.lsp_judge.specs.declared.ruling.Ruling.TheVariants.{No, BadLog, Memory}
 use Rattle.lsp_judge.specs.declared.fault.Fault.{Fault}
@@ -63,10 +64,12 @@ pub record State : Type 0 where
   pub messages : session.State
   pub documents : docs.State
   pub counts : Counts
+  pub turn : Option Turn
   pub given : Option Ruling
 
--- nothing was given: no event of the records offends, and each layer stands for its part of them
+-- nothing was given: no event of the records offends, all were heard, and each layer stands for its part of them
 pub record IsOpen (s : State) (records : List Record) : Type 0 where
+  pub idle : s.turn ≡ None
   pub events : List Event
   pub is_session : IsSession s.limits records events
   pub follows : Follows s.messages s.documents s.counts events

@@ -1,73 +1,34 @@
-//! The contents that a record's bytes make whole.
-ghost use Rattle.std.specs.Prelude.{◌≡◌, ◌<◌, ℕ, List, length, OnOk, IfOk, IfErr, IfSome};
+//! The next event of what a record brings.
+ghost use Rattle.std.specs.Prelude.{◌≡◌, ◌<◌, ◌++◌, ◌∷◌, [], ℕ, List, Some, length, chars, string_bytes, IfOk, IfErr, IfSome};
 ghost use Rattle.lsp_frame.specs.Decoder.{StandsFor};
-ghost use Rattle.lsp_verdict.specs.Event.{Event};
+ghost use Rattle.lsp_verdict.specs.Event.{Event, snapshot};
+ghost use Rattle.lsp_judge.specs.Rulings.{IsNoAt};
 ghost use Rattle.lsp_judge.specs.Standing.{Follows};
-ghost use Rattle.lsp_verdict.specs.Drained.{IsDrained};
-ghost use Rattle.lsp_judge.specs.Taking.{HeardAll, HeardNext, Stopped, StoppedNext, Taken, Refused};
+ghost use Rattle.lsp_judge.specs.Next.{HeardNext, StoppedNext, HeardSnapshot, turn_after};
 
 use crate::events::Events;
+use crate::heard::{Heard, Turn};
 use crate::ruling::Ruling;
 use lsp_frame::Decoder;
-use lsp_rpc::{Message, Side};
+use lsp_rpc::Side;
 use lsp_text::TextStore;
 use lsp_verdict::who_of;
 use std::alloc::Global;
 
-/// Takes bytes of a side, and hears the contents that they make whole.
-pub(crate) fn take_bytes<S: TextStore>(
-    alloc: Global,
-    side: Side,
-    bytes: &[u8],
-    decoder: &mut Decoder,
-    events: &mut Events<S>,
-) -> Result<(), Ruling>
-    ensures limits { decoder.new.limits ≡ decoder.old.limits }
-    ensures document { events.new.docs.limit ≡ events.old.docs.limit }
-    ensures ok { OnOk result ((before : List ℕ) (so_far : List Event) → IsDrained decoder.old before
-        → Follows events.old.session events.old.docs events.old.counts so_far
-        → Taken side decoder.new events.new.session events.new.docs events.new.counts before bytes.now so_far) }
-    ensures no { IfErr result (λ ruling. (before : List ℕ) (so_far : List Event) → IsDrained decoder.old before
-        → Follows events.old.session events.old.docs events.old.counts so_far
-        → Refused side decoder.old.limits events.old.docs.limit before bytes.now so_far ruling) }
-{
-    decoder.push(bytes)?;
-    hear_contents(alloc, side, decoder, events)
-}
-
-/// Hears each content that is whole, up to the first event that offends.
-fn hear_contents<S: TextStore>(
+/// Hears the next content that is whole, if there is one, or gives the No at it. Where there was one,
+/// it is the side's turn again.
+pub(crate) fn next_message<S: TextStore>(
     alloc: Global,
     side: Side,
     decoder: &mut Decoder,
     events: &mut Events<S>,
-) -> Result<(), Ruling>
-    ensures limits { decoder.new.limits ≡ decoder.old.limits }
-    ensures document { events.new.docs.limit ≡ events.old.docs.limit }
-    ensures ok { OnOk result ((bytes : List ℕ) (contents : List (List ℕ)) (so_far : List Event) → StandsFor decoder.old bytes contents
-        → Follows events.old.session events.old.docs events.old.counts so_far
-        → HeardAll side decoder.new events.new.session events.new.docs events.new.counts bytes contents so_far) }
-    ensures no { IfErr result (λ ruling. (bytes : List ℕ) (contents : List (List ℕ)) (so_far : List Event) → StandsFor decoder.old bytes contents
-        → Follows events.old.session events.old.docs events.old.counts so_far
-        → Stopped side decoder.old.limits events.old.docs.limit bytes contents so_far ruling) }
-{
-    while let Some(message) = hear_next(alloc, side, decoder, events)? {
-        drop(message);
-    }
-    Ok(())
-}
-
-/// Hears the next content that is whole, if there is one, or gives the No at it.
-pub(crate) fn hear_next<S: TextStore>(
-    alloc: Global,
-    side: Side,
-    decoder: &mut Decoder,
-    events: &mut Events<S>,
-) -> Result<Option<Message>, Ruling>
+    turn: &mut Option<Turn>,
+) -> Result<Option<Heard>, Ruling>
     ensures limits { decoder.new.limits ≡ decoder.old.limits }
     ensures document { events.new.docs.limit ≡ events.old.docs.limit }
     // A message leaves less to decode, so that a caller's loop ends.
     ensures less { IfOk result (λ answer. IfSome answer (λ _. length decoder.new.rest < length decoder.old.rest)) }
+    ensures turn { IfOk result (λ answer. turn.new ≡ turn_after side turn.old answer) }
     ensures ok { IfOk result (λ answer. (bytes : List ℕ) (contents : List (List ℕ)) (so_far : List Event) → StandsFor decoder.old bytes contents
         → Follows events.old.session events.old.docs events.old.counts so_far
         → HeardNext side decoder.new events.new.session events.new.docs events.new.counts bytes contents so_far answer) }
@@ -80,7 +41,25 @@ pub(crate) fn hear_next<S: TextStore>(
         Ok(None) => Ok(None),
         Ok(Some(content)) => {
             let message = events.message(alloc, side, content)?;
-            Ok(Some(message))
+            *turn = Some(Turn::Bytes(side));
+            Ok(Some(Heard::Message { side, message }))
         }
     }
+}
+
+/// Hears a snapshot, or gives the No at it.
+pub(crate) fn next_snapshot<S: TextStore>(
+    events: &mut Events<S>,
+    version: i32,
+    uri: String,
+    text: String,
+) -> Result<Option<Heard>, Ruling>
+    ensures document { events.new.docs.limit ≡ events.old.docs.limit }
+    ensures ok { IfOk result (λ answer. (so_far : List Event) → Follows events.old.session events.old.docs events.old.counts so_far
+        → HeardSnapshot version uri text events.new.session events.new.docs events.new.counts so_far answer) }
+    ensures no { IfErr result (λ ruling. (so_far : List Event) → Follows events.old.session events.old.docs events.old.counts so_far
+        → IsNoAt events.old.docs.limit so_far (snapshot (string_bytes uri) version (chars (string_bytes text))) ruling) }
+{
+    events.snapshot(uri.as_str(), version, text.as_str())?;
+    Ok(Some(Heard::Snapshot { version, uri, text }))
 }

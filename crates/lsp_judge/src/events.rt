@@ -16,7 +16,7 @@ ghost use Rattle.lsp_verdict.specs.Event.{Event, snapshot as shown};
 ghost use Rattle.lsp_judge.specs.Faults.{Names};
 ghost use Rattle.lsp_judge.specs.Rulings.{IsNoAt, IsNoAtSome};
 ghost use Rattle.lsp_judge.specs.Standing.{Follows, Holds, Hears, Refuses};
-ghost use Rattle.lsp_judge.specs.Taking.{HeardAs};
+ghost use Rattle.lsp_judge.specs.Next.{HeardAs};
 
 use crate::fault::Fault;
 use crate::ruling::Ruling;
@@ -157,6 +157,23 @@ fn change_in(messages: &mut OutlineReader, side: Side, content: &[u8]) -> Option
     }
 }
 
+/// A call whose params its side doesn't read, where the content is one of the common form.
+fn call_in(messages: &mut OutlineReader, side: Side, content: &[u8]) -> Option<Spoken>
+    ensures { (session : SpecSession) → IfSome result (λ spoken. Says session side content.now (message_view spoken.message) (act_view spoken.act)) }
+{
+    messages.read_call(side, content)
+}
+
+/// A message that is read without a tree of values.
+fn common_in(messages: &mut OutlineReader, side: Side, content: &[u8]) -> Option<Spoken>
+    ensures { (session : SpecSession) → IfSome result (λ spoken. Says session side content.now (message_view spoken.message) (act_view spoken.act)) }
+{
+    match change_in(messages, side, content) {
+        Some(spoken) => Some(spoken),
+        None => call_in(messages, side, content),
+    }
+}
+
 /// Reads a content with what it means on its side, the most common ones without a tree of values.
 fn spoken_in(
     alloc: Global,
@@ -168,7 +185,7 @@ fn spoken_in(
     ensures ok { IfOk result (λ spoken. Says session.now side content.now (message_view spoken.message) (act_view spoken.act)) }
     ensures rule { IfErr result (λ fault. (limit : ℕ) (events : List Event) → Refuses side content.now limit events fault) }
 {
-    match change_in(messages, side, content) {
+    match common_in(messages, side, content) {
         Some(spoken) => Ok(spoken),
         None => read_spoken(alloc, session, messages, side, content),
     }

@@ -1,5 +1,5 @@
 //! Judges a recorded session record by record.
-ghost use Rattle.std.specs.Prelude.{◌≡◌, ◌⊎◌, ◌<◌, ◌++◌, ◌∷◌, [], ℕ, List, Option, Some, None, Ok, IfOk, IfErr, OnOk, OnErr, option_map};
+ghost use Rattle.std.specs.Prelude.{◌≡◌, ◌⊎◌, ◌<◌, ◌++◌, ◌∷◌, [], ℕ, List, Option, Some, None, Ok, IfOk, IfSome, IfErr, OnOk, OnErr, option_map};
 ghost use Rattle.lsp_log.specs.Log as log;
 ghost use Rattle.lsp_log.specs.Records.{record_view};
 ghost use Rattle.lsp_judge.specs.Answered.{NamesFirst, NamesRest, NoneOffends, AreClean, SaysYes, Repeats};
@@ -8,25 +8,24 @@ ghost use Rattle.lsp_verdict.specs.Given.{verdict_view, as_given};
 ghost use Rattle.lsp_verdict.specs.Kept.{AreKept};
 ghost use Rattle.lsp_verdict.specs.Outcome.{IsFinal, is_rest};
 ghost use Rattle.lsp_verdict.specs.Placed.{IsSession};
+ghost use Rattle.lsp_judge.specs.Hearing.{IsHearing, HearsNext, Stops, unheard};
 ghost use Rattle.lsp_judge.specs.Rulings.{RestIs, IfRefused};
-ghost use Rattle.lsp_judge.specs.Showing.{ShowsMore, ruling_of, written, done};
 ghost use Rattle.lsp_judge.specs.Standing.{IsOpen, AreLimits, Keeps, Rules, Stands, is_given};
+ghost use Rattle.lsp_judge.specs.TextAnswers.{AnswersHeld};
 ghost use Rattle.lsp_verdict.specs.Counting.{AreCounts};
-ghost use Rattle.lsp_judge.specs.Until.{AnswersBy, IsUntil, RulesBefore, editor_bytes};
 ghost use Rattle.lsp_verdict.specs.Verdict as spec;
 
-use crate::contents::take_bytes;
+use crate::contents::{next_message, next_snapshot};
 use crate::events::Events;
+use crate::heard::{Heard, Turn};
 use crate::ruling::Ruling;
-use crate::showing::{Stop, show_bytes, show_snapshot};
 use crate::summary::summary_of;
 use crate::text_answer::TextAnswer;
-use crate::until::take_until;
-use lsp_frame::{Decoder, Limits, Sink};
+use lsp_frame::{Decoder, Limits, Memory as Refused};
 use lsp_log::{LogCode, Record};
 use lsp_rpc::{Memory, Side};
 use lsp_text::TextStore;
-use lsp_verdict::{RunFault, Summary, Verdict, Who};
+use lsp_verdict::{Summary, Verdict, Who};
 use std::alloc::Global;
 use std::marker::Model;
 
@@ -41,6 +40,8 @@ pub struct Judge<S: TextStore> {
     editor: Decoder,
     server: Decoder,
     events: Events<S>,
+    /// What is still to be heard of the last record.
+    turn: Option<Turn>,
     given: Option<Ruling>,
 }
 
@@ -56,6 +57,7 @@ impl<S: TextStore> Model for Judge<S> {
       messages = j.events.session;
       documents = j.events.docs;
       counts = j.events.counts;
+      turn = j.turn;
       given = j.given;
     } };
 }
@@ -65,6 +67,7 @@ impl<S: TextStore> Judge<S> {
     pub fn new(alloc: Global, limits: Limits) -> Self
         ensures limits { result.limits ≡ limits }
         ensures stands { Stands result [] }
+        ensures ungiven { result.given ≡ None }
     {
         let _document = limits.document();
         Judge {
@@ -73,6 +76,7 @@ impl<S: TextStore> Judge<S> {
             editor: Decoder::new(alloc, limits),
             server: Decoder::new(alloc, limits),
             events: Events::new(alloc, limits),
+            turn: None,
             given: None,
         }
     }
@@ -109,38 +113,6 @@ impl<S: TextStore> Judge<S> {
         }
     }
 
-    /// As `take`, of a judge that gave nothing, and writes a line for each event that the record
-    /// brings, up to the first that offends. The text `line` is used to make them.
-    pub(crate) fn show<W: Sink>(
-        &mut self,
-        next: Record,
-        writer: &mut W,
-        line: &mut String,
-    ) -> Result<Option<Verdict>, RunFault>
-        requires { self.old.given ≡ None }
-        ensures limits { self.new.limits ≡ self.old.limits }
-        ensures stands { OnOk result ((records : List log.Record) → Stands self.old records → Stands self.new (records ++ record_view next ∷ [])) }
-        ensures verdict { IfOk result (λ answer. (records : List log.Record) (events : List Event) → Stands self.old records
-            → IsSession self.old.limits (records ++ record_view next ∷ []) events
-            → option_map verdict_view answer ≡ option_map as_given (spec.first_no self.old.limits.document events)) }
-        ensures given { IfOk result (λ answer. option_map verdict_view answer ≡ is_given self.new.given) }
-        ensures shown { (records : List log.Record) (events all : List Event) → Stands self.old records
-            → IsSession self.old.limits records events → IsSession self.old.limits (records ++ record_view next ∷ []) all
-            → ShowsMore self.old.limits.document events all
-            (record { bytes = W.taken writer.old; failures = W.failures writer.old })
-            (record { bytes = W.taken writer.new; failures = W.failures writer.new })
-            (done result) }
-    {
-        match self.hear_and_write(next, writer, line) {
-            Ok(()) => Ok(None),
-            Err(Stop::Ruled(ruling)) => {
-                self.given = Some(ruling);
-                Ok(Some(ruling.answer()?))
-            }
-            Err(Stop::Failed(fault)) => Err(fault),
-        }
-    }
-
     /// What a fault of the log behind the records makes of the session: the No that was answered
     /// before, and else the fault.
     pub fn bad_log(&mut self, number: u64, fault: LogCode) -> Verdict
@@ -154,6 +126,8 @@ impl<S: TextStore> Judge<S> {
             → NamesFirst self.old.limits records (spec.no rule who count event) }
         ensures fault { (records : List log.Record) (at : ℕ) (code : LogCode) → Stands self.old records
             → result ≡ Verdict.BadLog at code → (at ≡ number) × (code ≡ fault) × NoneOffends self.old.limits records }
+        // Of a judge that gave nothing yet the fault is given.
+        ensures ungiven { self.old.given ≡ None → result ≡ Verdict.BadLog number fault }
         ensures given { Some (verdict_view result) ≡ is_given self.new.given }
         ensures stays { (ruling : Ruling) → self.old.given ≡ Some ruling → self.new ≡ self.old }
     {
@@ -196,6 +170,8 @@ impl<S: TextStore> Judge<S> {
         ensures kept { (records : List log.Record) (events : List Event) → Stands self.old records
             → AreClean self.old.limits records events
             → IfOk result (λ answer. SaysYes self.old.limits events (verdict_view answer)) }
+        // After Yes the judge is as before.
+        ensures unchanged { (s : Summary) → result ≡ Ok (Verdict.Yes s) → self.new ≡ self.old }
         ensures given { IfOk result (λ answer. IfRefused (verdict_view answer) (is_given self.new.given ≡ Some (verdict_view answer))) }
         // What was given for good is given again, and nothing changes.
         ensures repeats { (ruling : Ruling) → self.old.given ≡ Some ruling → IfOk result (λ answer. Repeats ruling (Some answer)) }
@@ -218,6 +194,27 @@ impl<S: TextStore> Judge<S> {
         }
     }
 
+    /// How many events were heard.
+    pub(crate) fn count(&self) -> u64
+        ensures { result ≡ self.now.counts.all }
+    {
+        self.events.counts.all
+    }
+
+    /// How many messages of the editor's were heard.
+    pub(crate) fn editor_count(&self) -> u64
+        ensures { result ≡ self.now.counts.editor }
+    {
+        self.events.counts.editor
+    }
+
+    /// The text that is held of a URI just after the events heard.
+    pub(crate) fn text_of(&self, alloc: Global, uri: &str) -> Result<TextAnswer, Memory>
+        ensures { AnswersHeld self.now uri.now result }
+    {
+        TextAnswer::held(alloc, &self.events.docs, uri)
+    }
+
     /// The No by bytes that are no whole frame, the editor's first.
     fn rest(&self) -> Option<Ruling>
         ensures { self.now.editor.fault ≡ None → self.now.server.fault ≡ None → (events : List Event) → AreCounts self.now.counts events
@@ -232,54 +229,6 @@ impl<S: TextStore> Judge<S> {
         None
     }
 
-    /// Takes the next record up to the editor's message of this number, from 1, and answers for the
-    /// text that is held of a URI just after it: once it came, or an event up to it offends. A judge
-    /// that answered is done with.
-    pub(crate) fn text_by(
-        &mut self,
-        next: Record,
-        number: u64,
-        uri: &str,
-    ) -> Result<Option<TextAnswer>, Memory>
-        requires ungiven { self.old.given ≡ None }
-        requires few { self.old.counts.editor < number }
-        ensures limits { self.new.limits ≡ self.old.limits }
-        ensures answer { IfOk result (λ answer. (records : List log.Record) → Stands self.old records
-            → AnswersBy self.new (records ++ record_view next ∷ []) number uri.now answer) }
-    {
-        let reached = match self.hear_until(next, number) {
-            Ok(reached) => reached,
-            Err(ruling) => return Ok(Some(TextAnswer::missing(ruling.answer()?))),
-        };
-        if !reached {
-            return Ok(None);
-        }
-        Ok(Some(TextAnswer::held(self.alloc, &self.events.docs, uri)?))
-    }
-
-    /// Hears what a record brings, up to the editor's message of this number and up to the first
-    /// event that offends. The answer tells whether that message came.
-    fn hear_until(&mut self, next: Record, number: u64) -> Result<bool, Ruling>
-        requires { self.old.counts.editor < number }
-        ensures keeps { Keeps self.old self.new }
-        ensures ok { IfOk result (λ reached. (records : List log.Record) → AreLimits self.old → IsOpen self.old records
-            → IsUntil self.new (records ++ record_view next ∷ []) number reached) }
-        ensures no { IfErr result (λ ruling. (records : List log.Record) → AreLimits self.old → IsOpen self.old records
-            → RulesBefore self.old.limits (records ++ record_view next ∷ []) number ruling) }
-    {
-        let Some(bytes) = editor_bytes(&next) else {
-            self.hear(next)?;
-            return Ok(false);
-        };
-        take_until(
-            self.alloc,
-            number,
-            bytes,
-            &mut self.editor,
-            &mut self.events,
-        )
-    }
-
     /// Hears what a record brings, up to the first event that offends.
     fn hear(&mut self, next: Record) -> Result<(), Ruling>
         ensures keeps { Keeps self.old self.new }
@@ -288,93 +237,73 @@ impl<S: TextStore> Judge<S> {
         ensures no { IfErr result (λ ruling. (records : List log.Record) → AreLimits self.old → IsOpen self.old records
             → Rules self.old.limits (records ++ record_view next ∷ []) ruling) }
     {
+        self.push(next)?;
+        while let Some(heard) = self.next()? {
+            drop(heard);
+        }
+        Ok(())
+    }
+
+    /// Takes a record, whose events are still to be heard.
+    pub(crate) fn push(&mut self, next: Record) -> Result<(), Refused>
+        ensures keeps { Keeps self.old self.new }
+        ensures ok { OnOk result ((records : List log.Record) (heard : List Event) → self.old.turn ≡ None → IsHearing self.old records heard
+            → IsHearing self.new (records ++ record_view next ∷ []) heard) }
+    {
         match next {
-            Record::Bytes { side, bytes } => match side {
-                Side::Editor => take_bytes(
-                    self.alloc,
-                    side,
-                    bytes.as_slice(),
-                    &mut self.editor,
-                    &mut self.events,
-                ),
-                Side::Server => take_bytes(
-                    self.alloc,
-                    side,
-                    bytes.as_slice(),
-                    &mut self.server,
-                    &mut self.events,
-                ),
-            },
+            Record::Bytes {
+                side: Side::Editor,
+                bytes,
+            } => {
+                self.editor.push(bytes.as_slice())?;
+                self.turn = Some(Turn::Bytes(Side::Editor));
+                Ok(())
+            }
+            Record::Bytes {
+                side: Side::Server,
+                bytes,
+            } => {
+                self.server.push(bytes.as_slice())?;
+                self.turn = Some(Turn::Bytes(Side::Server));
+                Ok(())
+            }
             Record::Snapshot { version, uri, text } => {
-                self.events.snapshot(uri.as_str(), version, text.as_str())
+                self.turn = Some(Turn::Snapshot { version, uri, text });
+                Ok(())
             }
         }
     }
 
-    /// Hears what a record brings, up to the first event that offends, and writes a line for each
-    /// event before that.
-    fn hear_and_write<W: Sink>(
-        &mut self,
-        next: Record,
-        writer: &mut W,
-        line: &mut String,
-    ) -> Result<(), Stop>
+    /// Hears the next event of the records taken, or gives the No at it; none where all were heard.
+    pub(crate) fn next(&mut self) -> Result<Option<Heard>, Ruling>
         ensures keeps { Keeps self.old self.new }
-        ensures ok { OnOk result ((records : List log.Record) → AreLimits self.old → IsOpen self.old records
-            → IsOpen self.new (records ++ record_view next ∷ [])) }
-        ensures no { IfErr result (λ stop. (records : List log.Record) → AreLimits self.old → IsOpen self.old records
-            → Rules self.old.limits (records ++ record_view next ∷ []) (ruling_of stop)) }
-        ensures shown { (records : List log.Record) (events all : List Event) → AreLimits self.old → IsOpen self.old records
-            → IsSession self.old.limits records events → IsSession self.old.limits (records ++ record_view next ∷ []) all
-            → ShowsMore self.old.limits.document events all
-            (record { bytes = W.taken writer.old; failures = W.failures writer.old })
-            (record { bytes = W.taken writer.new; failures = W.failures writer.new })
-            (written result) }
+        // An event leaves less to hear, so that a caller's loop ends.
+        ensures less { IfOk result (λ answer. IfSome answer (λ _. unheard self.new < unheard self.old)) }
+        ensures ok { IfOk result (λ answer. (records : List log.Record) (heard : List Event) → IsHearing self.old records heard
+            → HearsNext self.new records heard answer) }
+        ensures no { IfErr result (λ ruling. (records : List log.Record) (heard : List Event) → IsHearing self.old records heard
+            → Stops self.old.limits records heard ruling) }
     {
-        match next {
-            Record::Bytes { side, bytes } => match side {
-                Side::Editor => show_bytes(
-                    self.alloc,
-                    side,
-                    bytes.as_slice(),
-                    &mut self.editor,
-                    &mut self.events,
-                    writer,
-                    line,
-                ),
-                Side::Server => show_bytes(
-                    self.alloc,
-                    side,
-                    bytes.as_slice(),
-                    &mut self.server,
-                    &mut self.events,
-                    writer,
-                    line,
-                ),
-            },
-            Record::Snapshot { version, uri, text } => show_snapshot(
+        match self.turn.take() {
+            None => Ok(None),
+            Some(Turn::Bytes(Side::Editor)) => next_message(
                 self.alloc,
+                Side::Editor,
+                &mut self.editor,
                 &mut self.events,
-                uri.as_str(),
-                version,
-                text.as_str(),
-                writer,
-                line,
+                &mut self.turn,
             ),
+            Some(Turn::Bytes(Side::Server)) => next_message(
+                self.alloc,
+                Side::Server,
+                &mut self.server,
+                &mut self.events,
+                &mut self.turn,
+            ),
+            Some(Turn::Snapshot { version, uri, text }) => {
+                next_snapshot(&mut self.events, version, uri, text)
+            }
         }
-    }
-}
-
-/// The bytes of a record of the editor's.
-fn editor_bytes(next: &Record) -> Option<&[u8]>
-    ensures { option_map (λ bytes. bytes.now) result ≡ editor_bytes (record_view next.now) }
-{
-    match next {
-        Record::Bytes {
-            side: Side::Editor,
-            bytes,
-        } => Some(bytes.as_slice()),
-        _ => None,
     }
 }
 

@@ -9,19 +9,19 @@
 
 mod check;
 mod contents;
+mod entry;
+mod event_reader;
 mod events;
 mod fault;
+mod heard;
 mod judge;
+mod lines;
 mod ruling;
-mod run;
 mod show;
 mod show_laws;
-mod showing;
 mod summary;
+mod text;
 mod text_answer;
-mod text_run;
-mod until;
-mod view;
 
 pub use check::run_check;
 pub use judge::Judge;
@@ -37,7 +37,7 @@ pub use lsp_verdict::{
     no_names_the_first, one_session, one_text, one_verdict, only_order_offends, report_of,
     sessions_are_read, some_session, some_verdict, stream_report, yes_means_kept,
 };
+pub use show::run_show;
 pub use show_laws::one_shown;
+pub use text::{run_text, text_after};
 pub use text_answer::TextAnswer;
-pub use text_run::{run_text, text_after};
-pub use view::run_show;

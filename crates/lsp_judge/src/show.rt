@@ -1,92 +1,86 @@
-//! The lines that show the events of a session.
-ghost use Rattle.std.specs.Prelude.{◌≡◌, ◌++◌, OnOk, string_bytes, chars};
-ghost use Rattle.lsp_docs.specs.Texts.{byte_len};
-ghost use Rattle.lsp_rpc.specs.View.{message_view};
-ghost use Rattle.lsp_verdict.specs.RunIo.{Tells};
-ghost use Rattle.lsp_verdict.specs.Shown.{message_line, snapshot_line};
+//! Shows a log: a line for each event, and the report.
+ghost use Rattle.std.specs.Prelude.{◌≡◌, ℕ, ◌+◌, List, Ok, IfOk, OnErr};
+ghost use Rattle.lsp_frame.specs.Told.{Took};
+ghost use Rattle.lsp_verdict.specs.Given.{verdict_view};
+ghost use Rattle.lsp_verdict.specs.Outcome.{IsVerdict};
+ghost use Rattle.lsp_verdict.specs.RunIo.{OfRead, GaveAtMost, source_failures, sink_failures};
+ghost use Rattle.lsp_judge.specs.LogEvents.{IsFresh};
+ghost use Rattle.lsp_judge.specs.ShownLog.{Shows, IsShown, BeginsShown};
 
-use lsp_frame::{Sink, put_all};
-use lsp_rpc::{Memory, Message, Side, push_quoted, words_of};
-use lsp_verdict::{RunFault, side_name};
+use crate::event_reader::{EventReader, Next};
+use crate::lines::write_event_line;
+use lsp_frame::{Limits, Sink, Source, put_all};
+use lsp_verdict::{Outcome, RunFault, Verdict, report_of};
 use std::alloc::Global;
-use std::fmt::Write;
 
-/// Makes the text the line of a message: the number of the event, from 1, the side that sent it, and
-/// its words.
-fn fill_message_line(
+/// Reads a log up to the first event that offends, or to its end, and writes a line for each event
+/// before that place, and then the report of the verdict.
+///
+/// The line of a message has its number among all events, from 1, the side that sent it, and its
+/// words; that of a snapshot its number, version, bytes of text and URI.
+///
+/// # Errors
+/// `Read` is answered where the source failed, `Write` where the sink did, and `Memory` where memory
+/// was refused; what was written before stays written.
+pub fn run_show<R: Source, W: Sink>(
     alloc: Global,
-    line: &mut String,
-    event: u64,
-    side: Side,
-    message: &Message,
-) -> Result<(), Memory>
-    ensures { OnOk result (string_bytes line.new ≡ message_line event side (message_view message.now)) }
-{
-    let name = side_name(side);
-    let words = words_of(alloc, message)?;
-    line.clear();
-    writeln!(line, "{event} {name} {words}")?;
-    Ok(())
-}
-
-fn byte_count(text: &str) -> usize
-    ensures { result ≡ byte_len (chars text.now) }
-{
-    text.len()
-}
-
-/// Makes the text the line of a snapshot: the number of the event, from 1, and the snapshot's version,
-/// bytes and URI, which is JSON text.
-fn fill_snapshot_line(
-    alloc: Global,
-    line: &mut String,
-    event: u64,
-    version: i32,
-    uri: &str,
-    text: &str,
-) -> Result<(), Memory>
-    ensures { OnOk result (string_bytes line.new ≡ snapshot_line event uri.now version (chars text.now)) }
-{
-    let bytes = byte_count(text);
-    line.clear();
-    write!(line, "{event} snapshot {version} {bytes} ")?;
-    push_quoted(alloc, line, uri)?;
-    Ok(line.push_str("\n")?)
-}
-
-/// Writes the line of a message. The text is used to make it.
-pub(crate) fn write_message_line<W: Sink>(
-    alloc: Global,
+    reader: &mut R,
     writer: &mut W,
-    line: &mut String,
-    event: u64,
-    side: Side,
-    message: &Message,
-) -> Result<(), RunFault>
-    ensures { Tells
-        (record { bytes = W.taken writer.old; failures = W.failures writer.old })
-        (record { bytes = W.taken writer.new; failures = W.failures writer.new })
-        (message_line event side (message_view message.now)) result }
+    limits: Limits,
+) -> Result<Outcome, RunFault>
+    // The answer is the verdict on the log read, however that goes on where its end was not met.
+    ensures judged { IfOk result (λ outcome. (v : Verdict) × (outcome ≡ Outcome.Judged v)) }
+    ensures verdict { (v : Verdict) → result ≡ Ok (Outcome.Judged v)
+        → OfRead limits (R.told reader.old) (R.told reader.new) (λ log. IsVerdict limits log (verdict_view v)) }
+    // What is due for that log is written, and nothing else.
+    ensures shown { (v : Verdict) → result ≡ Ok (Outcome.Judged v)
+        → (out : List ℕ) × Took (W.told writer.old) (W.told writer.new) out
+        × OfRead limits (R.told reader.old) (R.told reader.new) (λ log. IsShown limits log (verdict_view v) out) }
+
+    // What is written before a fault begins what is due for the log.
+    ensures fault { OnErr result ((out : List ℕ) × Took (W.told writer.old) (W.told writer.new) out
+        × OfRead limits (R.told reader.old) (R.told reader.new) (λ log. BeginsShown limits log out)) }
+    ensures source_failures { (R.told reader.new).failures ≡ source_failures result (R.told reader.old).failures }
+    ensures sink_failures { (W.told writer.new).failures ≡ sink_failures result (W.told writer.old).failures }
+    // At most one byte past the limit is read.
+    ensures limit { GaveAtMost (limits.log + 1) (R.told reader.old) (R.told reader.new) }
 {
-    fill_message_line(alloc, line, event, side, message)?;
-    Ok(put_all(writer, line.as_bytes())?)
+    let verdict = show_log(alloc, reader, writer, limits)?;
+    let report = report_of(alloc, &verdict)?;
+    put_all(writer, report.as_slice())?;
+    Ok(Outcome::Judged(verdict))
 }
 
-/// Writes the line of a snapshot. The text `line` is used to make it.
-pub(crate) fn write_snapshot_line<W: Sink>(
+/// Reads a log up to its verdict, and writes the lines of the events before it.
+fn show_log<R: Source, W: Sink>(
     alloc: Global,
+    reader: &mut R,
     writer: &mut W,
-    line: &mut String,
-    event: u64,
-    version: i32,
-    uri: &str,
-    text: &str,
-) -> Result<(), RunFault>
-    ensures { Tells
-        (record { bytes = W.taken writer.old; failures = W.failures writer.old })
-        (record { bytes = W.taken writer.new; failures = W.failures writer.new })
-        (snapshot_line event uri.now version (chars text.now)) result }
+    limits: Limits,
+) -> Result<Verdict, RunFault>
+    ensures { Shows limits (R.told reader.old) (R.told reader.new) (W.told writer.old) (W.told writer.new) result }
 {
-    fill_snapshot_line(alloc, line, event, version, uri, text)?;
-    Ok(put_all(writer, line.as_bytes())?)
+    let mut events = EventReader::new(alloc, limits);
+    show_events(alloc, &mut events, reader, writer)
+}
+
+/// Hears the events of a log up to its verdict, and writes a line for each.
+fn show_events<R: Source, W: Sink>(
+    alloc: Global,
+    events: &mut EventReader,
+    reader: &mut R,
+    writer: &mut W,
+) -> Result<Verdict, RunFault>
+    requires fresh { IsFresh events.old (R.told reader.old) }
+    ensures { Shows events.old.log.limits (R.told reader.old) (R.told reader.new) (W.told writer.old) (W.told writer.new) result }
+{
+    let mut line = String::new(alloc);
+    loop {
+        match events.next(reader)? {
+            Next::Event(heard) => {
+                write_event_line(alloc, writer, &mut line, events.count(), heard)?;
+            }
+            Next::Verdict(verdict) => return Ok(verdict),
+        }
+    }
 }

@@ -30,6 +30,9 @@ use std::alloc::Global;
 /// How deep values may nest inside the object that a message is.
 const DEPTH: usize = 126;
 
+/// How many bytes are looked at for the name of a call's method.
+const FRONT: usize = 96;
+
 /// Which part of a message a member is.
 #[derive(Clone, Copy)]
 pub(crate) enum Part {
@@ -211,6 +214,12 @@ fn outline_of(
     }
 }
 
+/// Whether the name of the member that only a call has stands near the front, as it mostly does.
+fn begins_as_call(content: &[u8]) -> bool {
+    let front = &content[..content.len().min(FRONT)];
+    front.windows(8).any(|word| word.starts_with(b"\"method\""))
+}
+
 fn is_call(message: &Message) -> bool
     ensures { result ≡ is_call (message_view message.now) }
 {
@@ -296,6 +305,9 @@ impl OutlineReader {
             × (message_view spoken.message ≡ without_params whole)
             × (act_at side whole ≡ Some (act_view spoken.act))) }
     {
+        if !begins_as_call(content) {
+            return None;
+        }
         let message = outline_of(self.alloc, content, &mut self.scratch, Wanted::Calls)?;
         call_in(self.alloc, side, message)
     }

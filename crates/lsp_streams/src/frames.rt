@@ -1,6 +1,6 @@
 //! A run over one raw stream of frames (LSP 3.17, "Base Protocol"): one direction of what passed
 //! between an editor and a server.
-ghost use Rattle.std.specs.Prelude.{◌≡◌, ◌≤◌, ◌<◌, ◌+◌, ◌^◌, ℕ, List, length, None, false, Ok, IfOk, OnErr, vec_len};
+ghost use Rattle.std.specs.Prelude.{◌≡◌, ◌≤◌, ◌<◌, ◌+◌, ◌^◌, ℕ, List, length, None, false, Ok, IfOk, OnErr};
 ghost use Rattle.std.specs.Io.KnownBytes.{IsAtEnd};
 ghost use Rattle.lsp_frame.specs.Bounds.{IsInRange};
 ghost use Rattle.lsp_frame.specs.Decoder.{StandsFor};
@@ -11,20 +11,15 @@ ghost use Rattle.lsp_verdict.specs.RunIo.{OfRead, GaveAtMost, Tells, source_fail
 ghost use Rattle.lsp_streams.specs.StreamRun.{fault_of, closing, IsRun, BeginsRun};
 ghost use Rattle.lsp_streams.specs.StreamSteps.{WritesPart, AreParts, Finds, PartsAnswer};
 
-use lsp_frame::{Decoder, Limits, Sink, Source, WriteFault, put_all, put_number, write_frame};
+use lsp_frame::{
+    Decoder, Limits, PullFault, Sink, Source, WriteFault, put_all, put_number, write_frame,
+};
 use lsp_rpc::{OutlineReader, RpcFault};
 use lsp_verdict::{Mode, Outcome, RunFault, StreamFault, stream_report};
-use std::alloc::{AllocError, Global};
+use std::alloc::Global;
 
 /// How many bytes are asked of the source at once.
-const PIECE: usize = 65_536;
-
-/// The buffer that the source fills, piece after piece.
-fn piece_buffer(alloc: Global) -> Result<Vec<u8>, AllocError>
-    ensures { IfOk result (λ buffer. 0 < vec_len buffer) }
-{
-    vec![in alloc; 0; PIECE]
-}
+const PIECE: u64 = 65_536;
 
 /// Writes the frame's number, the length of its content in bytes, and the end.
 fn write_numbers<W: Sink>(
@@ -152,9 +147,7 @@ fn write_parts<R: Source, W: Sink>(
     writer: &mut W,
     limits: Limits,
     mode: Mode,
-    piece: &mut [u8],
 ) -> Result<Outcome, RunFault>
-    requires { 0 < length piece.old }
     ensures { PartsAnswer limits mode (R.told reader.old) (R.told reader.new)
         (W.told writer.old)
         (W.told writer.new)
@@ -173,9 +166,11 @@ fn write_parts<R: Source, W: Sink>(
             });
         }
         // At the limit one byte more shows whether the stream goes on.
-        let most = (log - read).min(piece.len() as u64).max(1) as usize;
-        let Ok(count) = reader.pull(&mut piece[..most]) else {
-            return Err(RunFault::Read);
+        let most = (log - read).min(PIECE).max(1) as u32;
+        let count = match decoder.pull(reader, most) {
+            Ok(count) => count,
+            Err(PullFault::Read) => return Err(RunFault::Read),
+            Err(PullFault::Memory) => return Err(RunFault::Memory),
         };
         if count == 0 {
             return Ok(outcome_at_end(&decoder, given));
@@ -186,7 +181,6 @@ fn write_parts<R: Source, W: Sink>(
                 fault: StreamFault::TooLong,
             });
         }
-        decoder.push(&piece[..count])?;
         read += count as u64;
     }
 }
@@ -241,8 +235,7 @@ pub fn run_frames<R: Source, W: Sink>(
     // At most one byte past the limit is read.
     ensures limit { GaveAtMost (limits.log + 1) (R.told reader.old) (R.told reader.new) }
 {
-    let mut buffer = piece_buffer(alloc)?;
-    let outcome = write_parts(alloc, reader, writer, limits, mode, buffer.as_mut_slice())?;
+    let outcome = write_parts(alloc, reader, writer, limits, mode)?;
     write_closing(alloc, writer, mode, &outcome)?;
     Ok(outcome)
 }

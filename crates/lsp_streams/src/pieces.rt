@@ -3,13 +3,13 @@ ghost use Rattle.std.specs.Prelude.{◌≡◌, ◌+◌, ◌<◌, ◌++◌, codes
 ghost use Rattle.std.specs.List.{flat_map};
 ghost use Rattle.lsp_frame.specs.Header.{blank_line};
 ghost use Rattle.lsp_frame.specs.Sink.{canonical, Writes};
-ghost use Rattle.lsp_log.specs.Log as log;
-ghost use Rattle.lsp_log.specs.Log.{chunk, chunk_head, head_line, spelling, with_feed};
+ghost use Rattle.lsp_log.specs.Log.{spelling};
 ghost use Rattle.lsp_streams.specs.Normal.{chunks};
 ghost use Rattle.lsp_verdict.specs.RunIo.{Tells};
 
 use itoa::Buffer;
-use lsp_frame::{Sink, WriteFault, put_all, put_number};
+use lsp_frame::{Sink, WriteFault};
+use lsp_log::write_chunk;
 use lsp_rpc::{Memory, Side};
 use lsp_verdict::RunFault;
 use std::alloc::Global;
@@ -97,46 +97,8 @@ fn write_cut<W: Sink>(
         if first + second == 0 {
             return Ok(());
         }
-        put_chunk(writer, side, &front[..first], &back[..second])?;
+        write_chunk(writer, side, &front[..first], &back[..second])?;
         front = &front[first..];
         back = &back[second..];
-    }
-}
-
-/// Writes one record of bytes that stand in two parts.
-fn put_chunk<W: Sink>(
-    writer: &mut W,
-    side: Side,
-    front: &[u8],
-    back: &[u8],
-) -> Result<(), WriteFault>
-    ensures { Writes (W.told writer.old)
-        (W.told writer.new)
-        result (spelling (chunk side (front.now ++ back.now))) }
-{
-    put_head_line(writer, side, front.len() as u64 + back.len() as u64)?;
-    put_all(writer, front)?;
-    put_all(writer, back)?;
-    put_all(writer, b"\n")
-}
-
-/// Writes the first line of a record of so many bytes.
-fn put_head_line<W: Sink>(writer: &mut W, side: Side, len: u64) -> Result<(), WriteFault>
-    ensures { Writes (W.told writer.old)
-        (W.told writer.new)
-        result (with_feed (head_line (chunk_head side len))) }
-{
-    put_all(writer, letter(side))?;
-    put_number(writer, len)?;
-    put_all(writer, b"\n")
-}
-
-/// The word that a side's records begin with, and a space.
-fn letter(side: Side) -> &'static [u8]
-    ensures { result.now ≡ log.letter side }
-{
-    match side {
-        Side::Editor => b"E ",
-        Side::Server => b"S ",
     }
 }

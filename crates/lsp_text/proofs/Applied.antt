@@ -1,11 +1,11 @@
 -- Changes made one after another.
 use Rattle.std.proofs.Common.{◌≡◌, ◌<◌, ◌+◌, ℕ, List, [], ◌∷◌, ◌++◌, length, take, drop, get_or, Result, Ok, Err, refl, sym, ap, subst, ◌∙◌}
-use Rattle.std.proofs.lemmas.List.{at_drop_more, map_more, take-map}
+use Rattle.std.proofs.lemmas.List.{at_drop_more, map_more, map-append, take-append-drop, drop_more}
 use Rattle.lsp_types.specs.declared.position.Encoding.{Encoding}
 use Rattle.lsp_types.specs.declared.change.Change.{Change}
 use Rattle.lsp_text.specs.declared.fault.TextFault.{TextFault}
 use Rattle.lsp_text.specs.declared.fault.TextFault.TheVariants.{Rule, Memory}
-use Rattle.lsp_text.specs.Edits.{Edit, changed, and_then, applied, IsFaultOf, MakesFirst}
+use Rattle.lsp_text.specs.Edits.{Edit, changed, and_then, applied, IsFaultOf, FailsAfter}
 use Rattle.lsp_text.specs.Changes.{edit_of, edits_of}
 
 after_first : (r : Result (List ℕ) ℕ) (limit : ℕ) (enc : Encoding) (xs ys : List Edit) →
@@ -43,17 +43,16 @@ one_more_made limit enc t u v cs n c lt is h step =
       rest = h.rest ∙ next_first limit enc u cs n c lt is ∙ ap (λ r. and_then r (λ x. applied limit enc x (edits_of (drop (n + 1) cs)))) step;
     }
 
-first_fault : (r : Result (List ℕ) ℕ) (f : List ℕ → Result (List ℕ) ℕ) (fault : TextFault) → IsFaultOf r fault → IsFaultOf (and_then r f) fault
-first_fault r f Memory h = tt
-first_fault r f (Rule rule) h = subst (λ x. and_then x f ≡ Err rule) (sym h) refl
-
--- the first change that fails decides
-pub fault_made : (limit : ℕ) (enc : Encoding) (t u : List ℕ) (cs : List Change) (n : ℕ) (c : Change) (fault : TextFault) → n < length cs → c ≡ get_or cs n c → AreMade limit enc t cs n u →
-    IsFaultOf (changed enc u (edit_of c).span (edit_of c).text limit) fault → IsFaultOf (applied limit enc t (edits_of cs)) fault
-fault_made limit enc t u cs n c fault lt is h f =
-    subst (λ r. IsFaultOf r fault) (sym (h.rest ∙ next_first limit enc u cs n c lt is))
-    (first_fault (changed enc u (edit_of c).span (edit_of c).text limit) (λ v. applied limit enc v (edits_of (drop (n + 1) cs))) fault f)
-
-pub makes_first : (limit : ℕ) (enc : Encoding) (t u v : List ℕ) (cs : List Change) (n : ℕ) → AreMade limit enc t cs n u → v ≡ u → MakesFirst limit enc t (edits_of cs) v
-makes_first limit enc t u v cs n h same =
-    record { count = n; made = ap (applied limit enc t) (take-map edit_of n cs) ∙ h.made ∙ ap (λ (x : List ℕ). let all : Result (List ℕ) ℕ = Ok x in all) (sym same) }
+-- the change that fails, on what those before it made
+pub fails_after : (limit : ℕ) (enc : Encoding) (t u v : List ℕ) (cs : List Change) (n : ℕ) (c : Change) (fault : TextFault) → AreMade limit enc t cs n u → n < length cs → c ≡ get_or cs n c → v ≡ u →
+    IsFaultOf (changed enc u (edit_of c).span (edit_of c).text limit) fault → FailsAfter limit enc t (edits_of cs) v fault
+fails_after limit enc t u v cs n c fault h lt is same f =
+    let all : cs ≡ take n cs ++ c ∷ drop (n + 1) cs = sym (take-append-drop n cs) ∙ ap (λ (x : List Change). take n cs ++ x) (drop_more cs n c lt) ∙ ap (λ (x : Change). take n cs ++ x ∷ drop (n + 1) cs) (sym is) in
+    record {
+      before = edits_of (take n cs);
+      edit = edit_of c;
+      after = edits_of (drop (n + 1) cs);
+      changes = ap edits_of all ∙ map-append edit_of (take n cs) (c ∷ drop (n + 1) cs);
+      made = h.made ∙ ap (λ (x : List ℕ). let r : Result (List ℕ) ℕ = Ok x in r) (sym same);
+      failed = subst (λ (x : List ℕ). IsFaultOf (changed enc x (edit_of c).span (edit_of c).text limit) fault) (sym same) f;
+    }

@@ -13,10 +13,6 @@ use Rattle.lsp_types.specs.declared.position.Encoding.TheVariants.{Utf8, Utf16}
 use Rattle.lsp_text.specs.Places.{units, units_of_char, place_in_line}
 use Rattle.lsp_text.specs.Offsets.{IsOffset}
 
--- an iteration's character comes next
-pub units-drop : (enc : Encoding) (cs : List ℕ) (n c : ℕ) → (n < length cs) × (c ≡ get_or cs n c) → units enc (drop n cs) ≡ units_of_char enc c + units enc (drop (n + 1) cs)
-units-drop enc cs n c h = at_drop_more (units enc) cs n c h.0 ∙ ap (λ x. units_of_char enc x + units enc (drop (n + 1) cs)) (sym h.1)
-
 pub units-append : (enc : Encoding) (xs ys : List ℕ) → units enc (xs ++ ys) ≡ units enc xs + units enc ys
 units-append enc [] ys = omega arith
 units-append enc (x ∷ xs) ys = omega (arith, units-append enc xs ys)

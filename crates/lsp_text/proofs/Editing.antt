@@ -221,7 +221,7 @@ offset_le t s h =
     let within = h.boundary.0 in
     omega (arith, units-utf8 l.text, units-append Utf8 l.text l.end)
 
-pub offset_before_end : (t : List ℕ) (s : Spot) → IsIn t s → s.offset ≤ units Utf8 s.line.now.text
+pub offset_before_end : (t : List ℕ) (s : Spot) → IsIn t s → s.offset ≤ units Utf8 s.line.text
 offset_before_end t s h = let within = h.boundary.0 in omega (arith, units-utf8 (line_at s.number t).text, ap (λ (l : Line). units Utf8 l.text) h.line)
 
 -- the bytes of its line from a spot on

@@ -18,5 +18,8 @@ pub mod PieceEdits
 pub mod Spotting
 pub mod Editing
 pub mod HeldText
-pub mod Agreeing
 pub mod Stripping
+pub mod LineEnds
+pub mod RunPlaces
+pub mod Tables
+pub mod Spans

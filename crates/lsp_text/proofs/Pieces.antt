@@ -129,7 +129,7 @@ offset_in_part enc text pre x post column bytes left offset h o =
     (ap (λ (y : List ℕ). place_in_line enc y column) whole ∙ place_of_part enc text pre x post column bytes left h
     ∙ ap (option_map (λ (j : ℕ). length pre + j)) (ap (λ (y : List ℕ). place_in_line enc y left) (sym same) ∙ o.place))
 
-replaced_bytes : (a x c s : List ℕ) (i j : ℕ) → i ≤ length x → j ≤ length x → replace_range (a ++ (x ++ c)) (length a + i) (length a + j) s ≡ a ++ (replace_range x i j s ++ c)
+pub replaced_bytes : (a x c s : List ℕ) (i j : ℕ) → i ≤ length x → j ≤ length x → replace_range (a ++ (x ++ c)) (length a + i) (length a + j) s ≡ a ++ (replace_range x i j s ++ c)
 replaced_bytes a x c s i j li lj =
     ap (λ (y : List ℕ). (y ++ s) ++ drop (length a + j) (a ++ (x ++ c))) (take-append-add a (x ++ c) i)
     ∙ ap (λ (y : List ℕ). ((a ++ take i (x ++ c)) ++ s) ++ y) (drop-append-add a (x ++ c) j)

@@ -44,10 +44,6 @@ text_of-lines_of t =
 chars-parts : (bs t e r : List ℕ) → bs ≡ (t ++ e) ++ r → IsUtf8 t → IsUtf8 e → chars bs ≡ (chars t ++ chars e) ++ chars r
 chars-parts bs t e r is ut ue = ap chars is ∙ chars-append (t ++ e) r (IsUtf8-append t e ut ue) ∙ ap (λ x. x ++ chars r) (chars-append t e ut)
 
--- the line that stands first
-pub the_line : FirstLine → Line
-the_line f = record { text = chars f.text.now; end = chars f.end.now }
-
 pub lines_of-first : (bs : List ℕ) (f : FirstLine) → IsFirstLine bs f →
     lines_of (chars bs) ≡ record { text = chars f.text.now; end = chars f.end.now } ∷ lines_of (chars f.rest.now)
 lines_of-first bs f h =

@@ -2,6 +2,7 @@
 use Rattle.std.proofs.Common.{◌≡◌, ◌<◌, ◌≤◌, ◌+◌, ◌-◌, ℕ, true, List, [], ◌∷◌, ◌++◌, length, take, drop, Some, refl, sym, ap, subst, ◌∙◌, arith, length-append}
 use Rattle.std.proofs.lemmas.List.{append-nil, drop_more, drop_all, take_at, drop_at, take-append-le, length-take-le, take_all}
 use Rattle.std.specs.Option.{option_map}
+use Rattle.std.specs.List.{slice_range}
 use Rattle.std.specs.Str.{chars, IsUtf8, IsCharBoundary}
 use Rattle.std.proofs.lemmas.Str.{encodes-append, chars-encodes, IsUtf8-take, IsUtf8-drop, IsCharBoundary-at_seam, IsCharBoundary-end}
 use lib.Utf8.{encodes, scalars}
@@ -29,15 +30,20 @@ some_line t = let h = lines_of-HasFirst t in omega (arith, ap length h.are)
 pub line_number_lt : (t : List ℕ) (p : Position) → line_number t p < length (lines_of t)
 line_number_lt t p = let some = some_line t in omega arith
 
-pub line_before-none : (t : List ℕ) (i : ℕ) → i ≡ 0 → line_before t i ≡ []
-line_before-none t i e = ap (line_before t) e
-
 pub line_before-some : (t : List ℕ) (i : ℕ) → 0 < i → i < length (lines_of t) → line_before t i ≡ spelled (line_at (i - 1) t)
 line_before-some t i some lt =
     let ls = lines_of t in
     let n : i - (i - 1) ≡ 1 = omega arith in
     let here : drop (i - 1) ls ≡ line_at (i - 1) t ∷ drop (i - 1 + 1) ls = drop_more ls (i - 1) (open_line []) (omega arith) in
     ap (λ x. text_of (take x (drop (i - 1) ls))) n ∙ ap (λ (x : List Line). text_of (take 1 x)) here ∙ append-nil (spelled (line_at (i - 1) t))
+
+-- the text of one line
+pub one_line : (t : List ℕ) (i : ℕ) → i < length (lines_of t) → text_of (slice_range (lines_of t) i (i + 1)) ≡ spelled (line_at i t)
+one_line t i lt =
+    let ls = lines_of t in
+    let n : i + 1 - i ≡ 1 = omega arith in
+    let here : drop i ls ≡ line_at i t ∷ drop (i + 1) ls = drop_more ls i (open_line []) lt in
+    ap (λ x. text_of (take x (drop i ls))) n ∙ ap (λ (x : List Line). text_of (take 1 x)) here ∙ append-nil (spelled (line_at i t))
 
 last_from : (front : List Line) (l : Line) → drop (length (front ++ l ∷ []) - 1) (front ++ l ∷ []) ≡ l ∷ []
 last_from front l = drop_at front (l ∷ []) (length (front ++ l ∷ []) - 1) (omega (arith, length-append front (l ∷ [])))
@@ -57,7 +63,7 @@ last_has_no_end t i e =
     ap (λ (l : Line). l.end) same
 
 -- a byte of a line, no later than where its end begins
-pub is_in : (t : List ℕ) (s : Spot) → s.number < length (lines_of t) → s.line.now ≡ line_at s.number t → scalars (spelled s.line.now) ≡ true → IsCharBoundary (encodes s.line.now.text) s.offset → IsIn t s
+pub is_in : (t : List ℕ) (s : Spot) → s.number < length (lines_of t) → s.line ≡ line_at s.number t → scalars (spelled s.line) ≡ true → IsCharBoundary (encodes s.line.text) s.offset → IsIn t s
 is_in t s within is fine at =
     let l = line_at s.number t in
     let o = s.offset in
@@ -93,8 +99,8 @@ front_chars t s h =
     let l = line_at s.number t in ap chars (ap (take s.offset) (encodes-append l.text l.end) ∙ take-append-le s.offset (encodes l.text) (encodes l.end) h.boundary.0)
 
 -- a position past the last line
-pub spot_past : (enc : Encoding) (t : List ℕ) (p : Position) (s : Spot) → s.number ≡ line_number t p → length (lines_of t) ≤ p.line → s.line.now ≡ line_at s.number t → scalars (spelled s.line.now) ≡ true →
-    s.offset ≡ units Utf8 (spelled s.line.now) → IsSpot enc t p s
+pub spot_past : (enc : Encoding) (t : List ℕ) (p : Position) (s : Spot) → s.number ≡ line_number t p → length (lines_of t) ≤ p.line → s.line ≡ line_at s.number t → scalars (spelled s.line) ≡ true →
+    s.offset ≡ units Utf8 (spelled s.line) → IsSpot enc t p s
 spot_past enc t p s number past is fine offset =
     let ls = lines_of t in
     let i = s.number in
@@ -107,7 +113,7 @@ spot_past enc t p s number past is fine offset =
     let all : text_of ls ≡ text_of (take i ls) ++ spelled l =
     text_of-lines_of t ∙ text_about t i (omega arith) ∙ ap (λ x. text_of (take i ls) ++ (spelled l ++ x)) back ∙ ap (λ x. text_of (take i ls) ++ x) (append-nil (spelled l)) in
     let count : s.offset ≡ length (encodes (spelled l)) = offset ∙ ap (λ (x : Line). units Utf8 (spelled x)) is ∙ units-utf8 (spelled l) in
-    let at : IsCharBoundary (encodes s.line.now.text) s.offset =
+    let at : IsCharBoundary (encodes s.line.text) s.offset =
     subst (λ (x : Line). IsCharBoundary (encodes x.text) s.offset) (sym is)
     (subst (λ (x : List ℕ). IsCharBoundary (encodes x) s.offset) bare (subst (λ (n : ℕ). IsCharBoundary (encodes (spelled l)) n) (sym count) (IsCharBoundary-end (encodes (spelled l))))) in
     let scalar : scalars (spelled l) ≡ true = subst (λ (x : Line). scalars (spelled x) ≡ true) is fine in
@@ -127,8 +133,8 @@ place_in_its_line enc t p line lt e =
     ap (place_at enc ls p) (slice_get-drop ls p.line l (drop (p.line + 1) ls) (subst (λ (x : ℕ). drop x ls ≡ l ∷ drop (x + 1) ls) e (drop_more ls line (open_line []) lt)))
     ∙ ap (λ (x : ℕ). option_map (λ (k : ℕ). length (text_of (take x ls)) + k) (place_in_line enc l.text p.column)) (sym e)
 
-pub spot_at : (enc : Encoding) (t : List ℕ) (p : Position) (s : Spot) → s.number ≡ line_number t p → p.line < length (lines_of t) → s.line.now ≡ line_at s.number t → scalars (spelled s.line.now) ≡ true →
-    IsOffset enc (encodes s.line.now.text) p.column s.offset → IsSpot enc t p s
+pub spot_at : (enc : Encoding) (t : List ℕ) (p : Position) (s : Spot) → s.number ≡ line_number t p → p.line < length (lines_of t) → s.line ≡ line_at s.number t → scalars (spelled s.line) ≡ true →
+    IsOffset enc (encodes s.line.text) p.column s.offset → IsSpot enc t p s
 spot_at enc t p s number lt is fine at =
     let ls = lines_of t in
     let i = s.number in

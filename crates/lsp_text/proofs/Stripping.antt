@@ -1,9 +1,9 @@
 -- A text without another that it begins or ends with.
-use Rattle.std.proofs.Common.{◌≡◌, ◌<◌, ◌+◌, ◌-◌, ℕ, List, ◌++◌, Option, Some, None, MatchOption, IfSome, Bor, length, take, drop, get_or, sym, ap, subst, ◌∙◌, append_assoc}
+use Rattle.std.proofs.Common.{◌≡◌, ◌<◌, ◌+◌, ◌-◌, ℕ, List, [], ◌∷◌, refl, ◌++◌, Option, Some, None, MatchOption, IfSome, Bor, length, take, drop, get_or, sym, ap, subst, ◌∙◌, append_assoc}
 use Rattle.std.specs.Str.{IsUtf8}
 use Rattle.std.specs.Str.Pattern.{FindsTextPrefix, FindsTextSuffix, StripsPrefix, StripsSuffix}
-use Rattle.std.proofs.lemmas.Str.{IsUtf8-drop, IsUtf8-take, encodes-append}
-use lib.Utf8.{encodes}
+use Rattle.std.proofs.lemmas.Str.{IsUtf8-drop, IsUtf8-take, IsUtf8-past_char, encodes-append}
+use lib.Utf8.{encode, encodes}
 use Rattle.lsp_text.specs.Lines.{Line}
 use Rattle.lsp_text.specs.Pieces.{BeginsOtherwise, bodies}
 use Rattle.lsp_text.proofs.Pieces.{bodies_from}
@@ -43,3 +43,9 @@ more_behind text rest before held after all parts h ends =
 pub bodies_bytes_from : (ps : List Line) (i j : ℕ) (p : Line) → j ≡ i + 1 → i < length ps → p ≡ get_or ps i p → encodes (bodies (drop i ps)) ≡ encodes p.text ++ encodes (bodies (drop j ps))
 bodies_bytes_from ps i j p next lt is =
     ap encodes (bodies_from ps i p lt is) ∙ encodes-append p.text (bodies (drop (i + 1) ps)) ∙ ap (λ (n : ℕ). encodes p.text ++ encodes (bodies (drop n ps))) (sym next)
+
+-- what comes after characters in a text
+pub utf8_past : (cs bs rest : List ℕ) → IsUtf8 bs → bs ≡ encodes cs ++ rest → IsUtf8 rest
+utf8_past [] bs rest u is = subst IsUtf8 is u
+utf8_past (c ∷ cs) bs rest u is =
+    utf8_past cs (encodes cs ++ rest) rest (IsUtf8-past_char bs (encodes cs ++ rest) c u (is ∙ append_assoc (encode c) (encodes cs) rest)) refl

@@ -50,15 +50,19 @@ abbrev pub applied : ℕ → Encoding → List ℕ → List Edit → Result (Lis
 applied limit enc t [] = Ok t
 applied limit enc t (c ∷ cs) = and_then (changed enc t c.span c.text limit) (λ u. applied limit enc u cs)
 
--- some of the changes, from the first on, make this text
-pub record MakesFirst (limit : ℕ) (enc : Encoding) (t : List ℕ) (cs : List Edit) (u : List ℕ) : Type 0 where
-  pub count : ℕ
-  pub made : applied limit enc t (take count cs) ≡ Ok u
-
 -- the fault is that rule, or that memory was refused
 abbrev pub IsFaultOf : Result (List ℕ) ℕ → TextFault → Type 0
 IsFaultOf r (Rule rule) = r ≡ Err rule
 IsFaultOf r Memory = Unit {0}
+
+-- one of the changes fails so on the text that those before it make, and that text is left
+pub record FailsAfter (limit : ℕ) (enc : Encoding) (t : List ℕ) (cs : List Edit) (u : List ℕ) (fault : TextFault) : Type 0 where
+  pub before : List Edit
+  pub edit : Edit
+  pub after : List Edit
+  pub changes : cs ≡ before ++ edit ∷ after
+  pub made : applied limit enc t before ≡ Ok u
+  pub failed : IsFaultOf (changed enc u edit.span edit.text limit) fault
 
 -- the place, or 605 where there is none
 abbrev pub IsPlaceOr605 : Option ℕ → Result Place TextFault → Type 0

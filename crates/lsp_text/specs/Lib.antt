@@ -8,9 +8,16 @@ pub mod Offsets
 pub mod CountedLine
 pub mod Pieces
 pub mod PiecedLine
+pub mod LentPiece
+pub mod LentLine
+pub mod Runs
+pub mod Tables
+pub mod Tabled
+pub mod LentLines
+pub mod Spans
+pub mod Held
 pub mod HeldLines
 pub mod Rewriting
-pub mod Agreeing
 pub mod Steps
 pub mod Spots
 pub mod Counted

@@ -64,6 +64,10 @@ PlacesAreDenoted = (enc : Encoding) (t : List ℕ) (p : Position) (k : ℕ) → 
 abbrev pub OnePlaceAtMost : Type 0
 OnePlaceAtMost = (enc : Encoding) (t : List ℕ) (p : Position) (k m : ℕ) → Denotes enc t p k → Denotes enc t p m → k ≡ m
 
+-- no position denotes the place between a CR and a LF
+abbrev pub NoneInsideLineEnd : Type 0
+NoneInsideLineEnd = (enc : Encoding) (before after : List ℕ) (p : Position) → Denotes enc (before ++ 13 ∷ 10 ∷ after) p (length before + 1) → ⊥
+
 -- where columns count characters, each position denotes a place
 abbrev pub CharactersDenote : Type 0
 CharactersDenote = (t : List ℕ) (p : Position) → (k : ℕ) × Denotes Utf32 t p k

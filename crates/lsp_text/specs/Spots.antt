@@ -22,7 +22,7 @@ rest_of t s = drop s.offset (line_utf8 t s.number)
 -- it cuts its line, not after where the line's end begins
 pub record IsIn (t : List ℕ) (s : Spot) : Type 0 where
   pub within : s.number < length (lines_of t)
-  pub line : s.line.now ≡ line_at s.number t
+  pub line : s.line ≡ line_at s.number t
   pub text : chars (front_of t s) ++ chars (rest_of t s) ≡ spelled (line_at s.number t)
   pub boundary : IsCharBoundary (encodes (line_at s.number t).text) s.offset
   pub len : length (front_of t s) ≡ s.offset
@@ -52,4 +52,4 @@ middle_text t first second s = ((line_before t first.number ++ chars (front_of t
 pub record LeavesLine (first second : Spot) (text : List ℕ) : Type 0 where
   pub line : first.number ≡ second.number
   pub whole : has_no_line_end (chars text) ≡ true
-  pub some : 0 < first.offset + length text + (units Utf8 second.line.now.text - second.offset)
+  pub some : 0 < first.offset + length text + (units Utf8 second.line.text - second.offset)

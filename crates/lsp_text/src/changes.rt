@@ -2,7 +2,7 @@
 
 ghost use Rattle.std.specs.Prelude.{◌≡◌, Ok, OnOk, OnErr, IfErr};
 ghost use Rattle.std.specs.Str.{chars};
-ghost use Rattle.lsp_text.specs.Edits.{changed, applied, IsFaultOf, MakesFirst};
+ghost use Rattle.lsp_text.specs.Edits.{changed, applied, IsFaultOf, FailsAfter};
 ghost use Rattle.lsp_text.specs.Changes.{edits_of};
 
 use crate::fault::TextFault;
@@ -38,7 +38,7 @@ pub fn change_all<S: TextStore>(
 ) -> Result<(), TextFault>
     ensures ok { OnOk result (applied limit encoding (S.content store.old) (edits_of changes.now) ≡ Ok (S.content store.new)) }
     ensures fault { IfErr result (IsFaultOf (applied limit encoding (S.content store.old) (edits_of changes.now))) }
-    ensures err { OnErr result (MakesFirst limit encoding (S.content store.old) (edits_of changes.now) (S.content store.new)) }
+    ensures err { IfErr result (FailsAfter limit encoding (S.content store.old) (edits_of changes.now) (S.content store.new)) }
 {
     for made in changes {
         change(store, encoding, made.span, made.text.as_str(), limit)?;

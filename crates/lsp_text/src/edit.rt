@@ -1,9 +1,9 @@
 //! Edits of kept lines, which see held bytes by `Lines::read` alone.
 
-ghost use Rattle.std.specs.Prelude.{◌≡◌, ◌<◌, ◌≤◌, ◌+◌, ◌*◌, ◌^◌, ◌↔◌, ◌++◌, Ok, None, length, take, drop, MatchOption, IfOk, OnOk, OnErr, IfErr, IsTrue, true};
+ghost use Rattle.std.specs.Prelude.{◌≡◌, ◌<◌, ◌≤◌, ◌+◌, ◌*◌, ◌^◌, ◌↔◌, ◌++◌, Ok, None, length, take, drop, slice_range, MatchOption, IfOk, OnOk, OnErr, IfErr, IsTrue, true};
 ghost use Rattle.std.specs.Str.{chars};
 ghost use Rattle.std.specs.String.{string_bytes};
-ghost use Rattle.lsp_text.specs.Lines.{lines_of};
+ghost use Rattle.lsp_text.specs.Lines.{lines_of, text_of};
 ghost use Rattle.lsp_text.specs.Places.{units, place_of};
 ghost use Rattle.lsp_text.specs.Edits.{replaced, IsFaultOf};
 ghost use Rattle.lsp_text.specs.Steps.{raised, RisesWithin, line_bytes, line_number, touched};
@@ -89,7 +89,7 @@ fn find_second<'a>(
     ensures counted { RisesWithin steps.old steps.new 0 (line_bytes lines.now (line_number lines.now span.second)) }
 {
     if span.second == span.first {
-        return Some(*first);
+        return Some(first.again());
     }
     find(lines, encoding, span.second, steps)
 }
@@ -102,9 +102,21 @@ fn bytes_outside(lines: &Lines, first: &Spot<'_>, second: &Spot<'_>) -> u64
     requires order { place_from lines.now first.now ≤ place_from lines.now second.now }
     ensures { result ≡ units Encoding.Utf8 (take (place_from lines.now first.now) lines.now) + units Encoding.Utf8 (drop (place_from lines.now second.now) lines.now) }
 {
-    let cut = lines.bytes_in(first.number, second.number);
+    let cut = bytes_across(lines, first, second);
     let after = second.line.len() - second.offset;
     lines.byte_len() - cut + first.offset as u64 + after as u64
+}
+
+/// The bytes of the lines from the first spot's to the second's.
+fn bytes_across(lines: &Lines, first: &Spot<'_>, second: &Spot<'_>) -> u64
+    requires second { IsIn lines.now second.now }
+    requires lines { first.now.number ≤ second.now.number }
+    ensures { result ≡ units Encoding.Utf8 (text_of (slice_range (lines_of lines.now) first.now.number (second.now.number + 1))) }
+{
+    if first.number == second.number {
+        return second.line.len() as u64;
+    }
+    lines.bytes_in(first.number, second.number)
 }
 
 /// The bytes of a text and of an insertion, where they are within the limit.

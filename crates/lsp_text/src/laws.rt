@@ -1,7 +1,7 @@
 //! Laws of the definitions. Each function has no code: its contract is the law.
 
 ghost use Rattle.lsp_text.specs.Lines.{LinesAreTheCut, LinesOfJoined};
-ghost use Rattle.lsp_text.specs.Places.{PlacesAreDenoted, OnePlaceAtMost, CharactersDenote};
+ghost use Rattle.lsp_text.specs.Places.{PlacesAreDenoted, OnePlaceAtMost, NoneInsideLineEnd, CharactersDenote};
 
 /// Every text has exactly one cut into lines, as LSP 3.17, "Text Documents", has them: each line but the
 /// last ends with CR LF, LF or CR, none has a line end inside, and no CR before a LF ends a line by itself.
@@ -23,6 +23,11 @@ pub fn places_are_denoted()
 /// A position of an encoding denotes at most one place.
 pub fn positions_denote_one_place()
     ensures { OnePlaceAtMost }
+{}
+
+/// No position denotes the place inside a CR LF, which is one line end.
+pub fn line_ends_are_whole()
+    ensures { NoneInsideLineEnd }
 {}
 
 /// Where columns count characters (UTF-32), each position denotes a place.

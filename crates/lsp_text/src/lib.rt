@@ -23,7 +23,7 @@ pub use changes::{change, change_all};
 pub use counts::{Counts, measure};
 pub use fault::TextFault;
 pub use laws::{
-    characters_denote, lines_are_the_cut, lines_of_joined, places_are_denoted,
+    characters_denote, line_ends_are_whole, lines_are_the_cut, lines_of_joined, places_are_denoted,
     positions_denote_one_place,
 };
 pub use lined::Lined;

@@ -1,9 +1,14 @@
 //! A text as its lines, each with its counts.
 
 mod counted;
-mod held;
+mod fresh;
+pub(crate) mod lent;
 pub(crate) mod lines;
-pub(crate) mod pieced;
+mod pieced;
+mod run;
+mod runs;
+mod short;
+mod span;
 
 ghost use Rattle.std.specs.Prelude.{◌≡◌, ◌+◌, ◌*◌, ◌↔◌, length, IfOk, OnOk, OnErr, IfErr, IsTrue, Ok};
 ghost use Rattle.std.specs.Str.{chars};
@@ -62,7 +67,7 @@ impl TextStore for Lined {
     fn resolve(&self, encoding: Encoding, position: Position) -> Result<Place, TextFault> {
         let number = self.lines.number_of(position);
         let line = self.lines.peek(number);
-        match Spot::in_line(&self.lines, number, line, encoding, position) {
+        match Spot::in_line(&self.lines, number, line.again(), encoding, position) {
             None => Err(TextFault::Rule(INSIDE_CHARACTER)),
             Some(spot) => Ok(Place {
                 chars: self.lines.chars_before(number) + line.chars_before(spot.offset),

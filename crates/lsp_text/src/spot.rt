@@ -4,15 +4,15 @@ ghost use Rattle.std.specs.Prelude.{◌≡◌, ◌<◌, ◌≤◌, ◌⊎◌, �
 ghost use Rattle.lsp_text.specs.Places.{place_of};
 ghost use Rattle.lsp_text.specs.Steps.{line_at, line_number};
 
+use crate::lined::lent::LentLine;
 use crate::lined::lines::Lines;
-use crate::lined::pieced::PiecedLine;
 use lsp_types::{Encoding, Position};
 
 /// A place in a line that is lent: how many of its bytes stand before it.
-#[derive(Clone, Copy)]
+#[derive(Drop)]
 pub(crate) struct Spot<'a> {
     pub(crate) number: usize,
-    pub(crate) line: &'a PiecedLine,
+    pub(crate) line: LentLine<'a>,
     pub(crate) offset: usize,
 }
 
@@ -23,19 +23,20 @@ impl<'a> Spot<'a> {
     pub(crate) fn in_line(
         lines: &Lines,
         number: usize,
-        line: &'a PiecedLine,
+        line: LentLine<'a>,
         encoding: Encoding,
         position: Position,
     ) -> Option<Spot<'a>>
         requires number { number ≡ line_number lines.now position }
-        requires line { line.now ≡ line_at number lines.now }
+        requires line { line ≡ line_at number lines.now }
         ensures { MatchOption result (place_of encoding lines.now position ≡ None) (IsSpot encoding lines.now position) }
     {
         if lines.len() <= position.line as usize {
+            let offset = line.len();
             return Some(Spot {
                 number,
                 line,
-                offset: line.len(),
+                offset,
             });
         }
         let offset = line.offset_of(encoding, position.column)?;
@@ -44,6 +45,17 @@ impl<'a> Spot<'a> {
             line,
             offset,
         })
+    }
+
+    /// The same spot once more.
+    pub(crate) fn again(&self) -> Spot<'a>
+        ensures { result ≡ self.now }
+    {
+        Spot {
+            number: self.number,
+            line: self.line.again(),
+            offset: self.offset,
+        }
     }
 
     /// Whether it comes before another spot of the same text.

@@ -15,7 +15,6 @@ use Rattle.lsp_verdict.specs.Placed.{Raw, content, broken, show, Brings, new_fau
 use Rattle.lsp_verdict.specs.Verdict.{is_of, is_snapshot}
 use Rattle.lsp_verdict.proofs.Below.{one_stream, some_stream}
 use Rattle.lsp_verdict.proofs.PlacedLemmas.{join_brings}
-use Rattle.lsp_verdict.proofs.Proved.{stream_laws}
 use Rattle.lsp_verdict.proofs.Streams.{no_stream}
 
 -- ---- the events of a side, before they are read
@@ -85,14 +84,14 @@ joined_bring limits side editor server [] raws p =
     subst (λ (w : List Raw). Brings limits side (sent_by side editor server) [] (filter (is_own side) w)) (sym p) (nothing_brought limits side (sent_by side editor server))
 joined_bring limits Editor editor server (chunk Editor b ∷ rs) raws (now, later, whole, brings, placed) =
     subst (λ (w : List Raw). Brings limits Editor editor (b ++ joined Editor rs) w) (own_first Editor raws now later whole (brought_own limits Editor Editor editor b now refl brings))
-    (join_brings limits (stream_laws limits) Editor editor b (joined Editor rs) now (filter (is_own Editor) later) brings (joined_bring limits Editor (editor ++ b) server rs later placed))
+    (join_brings limits Editor editor b (joined Editor rs) now (filter (is_own Editor) later) brings (joined_bring limits Editor (editor ++ b) server rs later placed))
 joined_bring limits Server editor server (chunk Editor b ∷ rs) raws (now, later, whole, brings, placed) =
     subst (λ (w : List Raw). Brings limits Server server (joined Server rs) w) (own_later Server raws now later whole (brought_other limits Server Editor editor b now refl brings)) (joined_bring limits Server (editor ++ b) server rs later placed)
 joined_bring limits Editor editor server (chunk Server b ∷ rs) raws (now, later, whole, brings, placed) =
     subst (λ (w : List Raw). Brings limits Editor editor (joined Editor rs) w) (own_later Editor raws now later whole (brought_other limits Editor Server server b now refl brings)) (joined_bring limits Editor editor (server ++ b) rs later placed)
 joined_bring limits Server editor server (chunk Server b ∷ rs) raws (now, later, whole, brings, placed) =
     subst (λ (w : List Raw). Brings limits Server server (b ++ joined Server rs) w) (own_first Server raws now later whole (brought_own limits Server Server server b now refl brings))
-    (join_brings limits (stream_laws limits) Server server b (joined Server rs) now (filter (is_own Server) later) brings (joined_bring limits Server editor (server ++ b) rs later placed))
+    (join_brings limits Server server b (joined Server rs) now (filter (is_own Server) later) brings (joined_bring limits Server editor (server ++ b) rs later placed))
 joined_bring limits side editor server (shown number uri text ∷ rs) raws (later, whole, placed) =
     subst (λ (w : List Raw). Brings limits side (sent_by side editor server) (joined side rs) (filter (is_own side) w)) (sym whole) (joined_bring limits side editor server rs later placed)
 

@@ -1,45 +1,16 @@
 -- A log has a verdict, and one only.
-use Rattle.std.proofs.Common.{◌≡◌, ◌⊎◌, ℕ, List, [], ◌∷◌, ◌++◌, Bool, true, Option, inl, inr, refl, sym, ap, subst, ◌∙◌, append_assoc}
-use Rattle.std.specs.Prelude.{IsTrue}
-use Rattle.std.specs.List.{flat_map, AllByRecursion}
-use Rattle.std.proofs.lemmas.List.{append_cancel_left}
+use Rattle.std.proofs.Common.{◌≡◌, ℕ, List, ◌++◌, Option, refl, sym, ap, subst}
 use Rattle.lsp_frame.specs.Bounds.{Bounds, IsInRange}
 use Rattle.lsp_types.specs.declared.side.Side.TheVariants.{Editor, Server}
 use Rattle.lsp_log.specs.declared.fault.LogCode.{LogCode}
-use Rattle.lsp_log.specs.Log.{Record, Fits, head_of, spelling, first_line, BeginsLog}
+use Rattle.lsp_log.specs.Log.{Record}
 use Rattle.lsp_verdict.specs.Laws.{OneVerdict, SomeVerdict, SomeFinal, EventsFirst, OffenceDecides, merged}
 use Rattle.lsp_verdict.specs.Placed.{IsSession, joined}
 use Rattle.lsp_verdict.specs.Outcome.{IsFinal, IsVerdict, Offends, ending}
 use Rattle.lsp_verdict.specs.Verdict.{Verdict, verdict}
-use Rattle.lsp_verdict.proofs.Below.{range_writable, spelling_one, one_log, some_log, some_stream, records_come_first}
+use Rattle.lsp_verdict.proofs.Below.{one_log, some_log, some_stream, records_come_first}
 use Rattle.lsp_verdict.proofs.Outcomes.{cuts_leave_verdict, offends_final, session_front}
 use Rattle.lsp_verdict.proofs.Sessions.{same_session, some_session}
-
-is_true : {b : Bool} → IsTrue b → b ≡ true
-is_true e = e
-
--- one list of records begins the other
-abbrev pub Begin : List Record → List Record → Type 0
-Begin rs us = ((more : List Record) × (us ≡ rs ++ more)) ⊎ ((more : List Record) × (rs ≡ us ++ more))
-
-begin_next : (r : Record) (rs us : List Record) → Begin rs us → Begin (r ∷ rs) (r ∷ us)
-begin_next r rs us (inl (more, e)) = inl (more, ap (λ w. r ∷ w) e)
-begin_next r rs us (inr (more, e)) = inr (more, ap (λ w. r ∷ w) e)
-
-spellings : (limits : Bounds) → IsInRange limits → (rs us : List Record) (xs ys : List ℕ) → AllByRecursion (Fits limits) rs → AllByRecursion (Fits limits) us
-    → flat_map spelling rs ++ xs ≡ flat_map spelling us ++ ys → Begin rs us
-spellings limits sizes [] us xs ys p q e = inl (us, refl)
-spellings limits sizes (r ∷ rs) [] xs ys p q e = inr (r ∷ rs, refl)
-spellings limits sizes (r ∷ rs) (u ∷ us) xs ys p q e =
-    let heads = spelling_one r u (flat_map spelling rs ++ xs) (flat_map spelling us ++ ys) (range_writable limits sizes (head_of r) (is_true p.0.range)) (range_writable limits sizes (head_of u) (is_true q.0.range))
-    (sym (append_assoc (spelling r) (flat_map spelling rs) xs) ∙ e ∙ append_assoc (spelling u) (flat_map spelling us) ys) in
-    subst (λ (w : Record). Begin (r ∷ rs) (w ∷ us)) heads.0 (begin_next r rs us (spellings limits sizes rs us xs ys p.1 q.1 heads.1))
-
-pub both_begin : (limits : Bounds) → IsInRange limits → (log : List ℕ) (rs us : List Record) (xs ys : List ℕ) → BeginsLog limits log rs xs → BeginsLog limits log us ys → Begin rs us
-both_begin limits sizes log rs us xs ys p q =
-    spellings limits sizes rs us xs ys p.fits q.fits
-    (append_cancel_left first_line _ _
-    (sym (append_assoc first_line (flat_map spelling rs) xs) ∙ sym p.whole ∙ q.whole ∙ append_assoc first_line (flat_map spelling us) ys))
 
 pub final_more : (limits : Bounds) (rs us more : List Record) (flaw : Option (ℕ × LogCode)) (v w : Verdict) → us ≡ rs ++ more → Offends limits rs v → IsFinal limits us flaw w → v ≡ w
 final_more limits rs us more flaw v w whole p q = offends_final limits rs more flaw v w p (subst (λ (x : List Record). IsFinal limits x flaw w) whole q)

@@ -18,7 +18,6 @@ use Rattle.lsp_verdict.proofs.Below.{one_stream}
 use Rattle.lsp_verdict.proofs.LookBackLemmas.{first_of-more}
 use Rattle.lsp_verdict.proofs.OneEvent.{one_list}
 use Rattle.lsp_verdict.proofs.PlacedLemmas.{one_brings}
-use Rattle.lsp_verdict.proofs.Proved.{stream_laws}
 use Rattle.lsp_verdict.proofs.Sessions.{same_session}
 
 -- ---- the bytes of a side don't depend on the cuts
@@ -74,11 +73,11 @@ pub placed_front : (limits : Bounds) (editor server : List ℕ) (rs more : List 
 placed_front limits editor server [] more raws all p q = (all, ap (λ w. w ++ all) (sym p))
 placed_front limits editor server (chunk Editor b ∷ rs) more raws all p q =
     let rest = placed_front limits (editor ++ b) server rs more p.1 q.1 p.4 q.4 in
-    let same = one_brings limits (stream_laws limits) Editor editor b q.0 p.0 q.3 p.3 in
+    let same = one_brings limits Editor editor b q.0 p.0 q.3 p.3 in
     (rest.0, q.2 ∙ ap (λ w. w ++ q.1) same ∙ ap (λ w. p.0 ++ w) rest.1 ∙ sym (append_assoc p.0 p.1 rest.0) ∙ ap (λ w. w ++ rest.0) (sym p.2))
 placed_front limits editor server (chunk Server b ∷ rs) more raws all p q =
     let rest = placed_front limits editor (server ++ b) rs more p.1 q.1 p.4 q.4 in
-    let same = one_brings limits (stream_laws limits) Server server b q.0 p.0 q.3 p.3 in
+    let same = one_brings limits Server server b q.0 p.0 q.3 p.3 in
     (rest.0, q.2 ∙ ap (λ w. w ++ q.1) same ∙ ap (λ w. p.0 ++ w) rest.1 ∙ sym (append_assoc p.0 p.1 rest.0) ∙ ap (λ w. w ++ rest.0) (sym p.2))
 placed_front limits editor server (shown n uri t ∷ rs) more raws all p q =
     let rest = placed_front limits editor server rs more p.0 q.0 p.2 q.2 in

@@ -9,7 +9,7 @@ use Rattle.lsp_verdict.specs.Placed.{Raw, show, PlacedAfter, Reads, IsSession}
 use Rattle.lsp_verdict.specs.Laws.{merged, OneSession, SomeSession}
 use Rattle.lsp_verdict.proofs.OneEvent.{one_list, some_list}
 use Rattle.lsp_verdict.proofs.Streams.{some_brings}
-use Rattle.lsp_verdict.proofs.Proved.{cuts_law}
+use Rattle.lsp_verdict.proofs.PlacedLemmas.{cuts_dont_matter}
 
 pub some_placed : (limits : Bounds) → (editor server : List ℕ) (rs : List Record) → (raws : List Raw) × PlacedAfter limits editor server rs raws
 some_placed limits editor server [] = ([], refl)
@@ -35,7 +35,7 @@ some_session limits rs =
 -- and records that differ only by how bytes are cut have the same
 pub same_session : (limits : Bounds) (rs us : List Record) (es fs : List Event) → merged rs ≡ merged us → IsSession limits rs es → IsSession limits us fs → es ≡ fs
 same_session limits rs us es fs cut p q =
-    let raws : p.0 ≡ q.0 = cuts_law limits rs us p.0 q.0 cut p.1 q.1 in
+    let raws : p.0 ≡ q.0 = cuts_dont_matter limits rs us p.0 q.0 cut p.1 q.1 in
     one_list q.0 es fs (subst (λ (w : List Raw). AllZip Reads w es) raws p.2) q.2
 
 pub one_session : OneSession

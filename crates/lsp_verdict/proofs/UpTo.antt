@@ -2,7 +2,7 @@
 use Rattle.std.proofs.Common.{◌≡◌, ◌<◌, ◌+◌, ◌==◌, ◌&&◌, ℕ, Bool, true, false, List, [], ◌∷◌, ◌++◌, length, Option, Some, None, refl, sym, ap, ◌∙◌, append_assoc, length-append, arith}
 use Rattle.std.specs.Prelude.{if◌then◌else◌}
 use Rattle.std.specs.Option.{option_or}
-use Rattle.std.proofs.lemmas.Bool.{eqb-true, eq-eqb}
+use Rattle.std.proofs.lemmas.Bool.{eqb-true, eq-eqb, and_parts}
 use Rattle.std.proofs.lemmas.List.Elements.{filter-append}
 use Rattle.std.proofs.lemmas.Option.{same_Some}
 use Rattle.lsp_types.specs.declared.side.Side.TheVariants.{Editor}
@@ -52,10 +52,6 @@ pub record IsNth (n : ℕ) (events upto : List Event) : Type 0 where
   pub upto_is : upto ≡ front ++ here ∷ []
   pub own : is_of Editor here ≡ true
   pub count : count_of (is_of Editor) front + 1 ≡ n
-
-and_parts : (a b : Bool) → (a && b) ≡ true → (a ≡ true) × (b ≡ true)
-and_parts true b e = (refl, e)
-and_parts false b e = absurd cc
 
 end_some : (b : Bool) (u w : List Event) → end_at b u ≡ Some w → (b ≡ true) × (w ≡ u)
 unfolding end_at

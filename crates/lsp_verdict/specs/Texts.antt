@@ -1,7 +1,9 @@
--- The fixed texts of the rules, and of the faults of a log.
+-- The fixed texts of the rules, and of the faults of a log and of a run.
 use Rattle.std.specs.Prelude.{ℕ, List, [], ◌∷◌, ◌==◌, if◌then◌else◌, codes}
 use Rattle.lsp_log.specs.declared.fault.LogCode.{LogCode}
 use Rattle.lsp_log.specs.declared.fault.LogCode.TheVariants.{L1, L2, L3, L4, L5, L6}
+use Rattle.lsp_verdict.specs.declared.outcome.RunFault.{RunFault}
+use Rattle.lsp_verdict.specs.declared.outcome.RunFault.TheVariants.{Read, Write, Memory}
 
 -- ---- rules
 
@@ -81,3 +83,10 @@ code_text L3 = codes "size out of range"
 code_text L4 = codes "record cut short or its line end missing"
 code_text L5 = codes "snapshot is not UTF-8"
 code_text L6 = codes "log too long"
+
+-- ---- faults of a run
+
+abbrev pub fault_text : RunFault → List ℕ
+fault_text Read = codes "read fault"
+fault_text Write = codes "write fault"
+fault_text Memory = codes "out of memory"

@@ -3,7 +3,8 @@ use crate::verdict::Verdict;
 use lsp_frame::WriteFault;
 use lsp_rpc::Memory;
 use std::alloc::AllocError;
-use thiserror::Error;
+use std::error::Error;
+use std::fmt;
 
 /// What a run writes for the frames of a stream.
 #[derive(Clone, Copy, Debug, PartialEq, Eq)]
@@ -42,18 +43,32 @@ pub enum Outcome {
 }
 
 /// Why a run stopped before its end.
-#[derive(Clone, Copy, Debug, PartialEq, Eq, Error)]
+#[derive(Clone, Copy, Debug, PartialEq, Eq)]
 pub enum RunFault {
     /// The source failed.
-    #[error("read fault")]
     Read,
     /// The sink failed.
-    #[error("write fault")]
     Write,
     /// Memory was refused.
-    #[error("out of memory")]
     Memory,
 }
+
+impl fmt::Display for RunFault {
+    ghost use Rattle.std.specs.Prelude.{Some};
+    ghost use Rattle.lsp_verdict.specs.Texts.{fault_text};
+
+    ghost output = { λ fault. Some (fault_text fault) };
+
+    fn fmt<W: fmt::Write>(&self, f: &mut fmt::Formatter<W>) -> fmt::Result {
+        f.write_str(match self {
+            Self::Read => "read fault",
+            Self::Write => "write fault",
+            Self::Memory => "out of memory",
+        })
+    }
+}
+
+impl Error for RunFault {}
 
 impl From<lsp_frame::Memory> for RunFault {
     ghost use Rattle.std.specs.Prelude.{◌≡◌};

@@ -1,15 +1,14 @@
 //! A line with its counts.
 
-ghost use Rattle.std.specs.Prelude.{◌≡◌, ◌+◌, ◌<◌, ◌≤◌, ◌^◌, length, None, MatchOption, IfOk, OnOk, OnErr};
+ghost use Rattle.std.specs.Prelude.{◌≡◌, ◌+◌, ◌<◌, ◌≤◌, ◌^◌, length, IfOk, OnOk, OnErr};
 ghost use Rattle.std.specs.List.{replace_range};
 ghost use Rattle.std.specs.Str.{chars, IsCharBoundary};
 ghost use Rattle.lsp_text.specs.Lines.{spelled};
-ghost use Rattle.lsp_text.specs.Places.{units, place_in_line};
-ghost use Rattle.lsp_text.specs.Offsets.{IsOffset};
+ghost use Rattle.lsp_text.specs.Places.{units};
 ghost use Rattle.lsp_text.specs.Rewriting.{with_text};
 ghost use lib.Utf8.{encodes};
 
-use crate::columns::offset_in_counted;
+use super::lent::LentPiece;
 use crate::counts::measure;
 use lsp_types::Encoding;
 use std::alloc::{AllocError, Global};
@@ -71,6 +70,18 @@ impl CountedLine {
 }
 
 impl CountedLine {
+    /// The line, lent.
+    pub(super) fn lend(&self) -> LentPiece<'_>
+        ensures { result ≡ self.now }
+    {
+        LentPiece {
+            text: self.text.as_str(),
+            body: self.body,
+            chars: self.chars,
+            utf16: self.utf16,
+        }
+    }
+
     /// The line and its end.
     pub(super) fn as_str(&self) -> &str
         ensures { chars result.now ≡ spelled self.now }
@@ -117,14 +128,6 @@ impl CountedLine {
         ensures { result ≡ units Encoding.Utf8 (spelled self.now) }
     {
         self.text.as_str().len()
-    }
-
-    /// The bytes of the line before a column, or `None` where the column lies inside a character.
-    pub(super) fn offset_of(&self, encoding: Encoding, column: u32) -> Option<usize>
-        ensures { MatchOption result (place_in_line encoding self.now.text column ≡ None) (IsOffset encoding (encodes self.now.text) column) }
-    {
-        let width = self.width(encoding);
-        offset_in_counted(self.body(), width, self.chars, encoding, column)
     }
 
     /// Puts a text in the place of the bytes from `from` up to `to`, which lie before the line's end.

@@ -7,21 +7,22 @@ ghost use Rattle.lsp_text.specs.Lines.{lines_of, text_of};
 ghost use Rattle.lsp_text.specs.Places.{units};
 ghost use Rattle.lsp_text.specs.Steps.{raised, line_at, line_bytes, line_number};
 ghost use Rattle.lsp_text.specs.Rewriting.{rewritten, line_after, StandsApart, StaysInLine};
-ghost use Rattle.lsp_text.specs.Agreeing.{IsRewriteTo};
 
-use super::held::{
-    HeldLine, agree_behind, agree_in_front, bytes_of, chars_of, copies, cut, cut_before, joined,
-    put, spell,
+use super::fresh::{apart, between, cut_into, is_filled};
+use super::lent::LentLine;
+use super::run::SharedRun;
+use super::runs::{
+    bytes_between, chars_of, count_after, count_in, joined, locate, put, share_all, spell,
 };
-use super::pieced::PiecedLine;
 use lsp_types::{Encoding, Position};
 use std::alloc::{AllocError, Global};
 use std::marker::Model;
 
-/// The lines of a text, and its bytes.
+/// The lines of a text, in runs, and how many lines and bytes there are.
 pub(crate) struct Lines {
     alloc: Global,
-    items: Vec<HeldLine>,
+    runs: Vec<SharedRun>,
+    count: usize,
     bytes: u64,
 }
 
@@ -32,8 +33,9 @@ impl Model for Lines {
 
     ghost use Rattle.lsp_text.specs.HeldLines.{AreHeld};
     ghost use Rattle.lsp_text.specs.Lines.{text_of};
+    ghost use Rattle.lsp_text.specs.Runs.{joined_runs};
 
-    ghost view = { λ a. text_of a.items.items };
+    ghost view = { λ a. text_of (joined_runs a.runs.items) };
 
     ghost invariant = { AreHeld };
 }
@@ -42,7 +44,8 @@ impl Drop for Lines {
     fn drop(self) {
         let Lines {
             alloc: _,
-            items: _,
+            runs: _,
+            count: _,
             bytes: _,
         } = self;
     }
@@ -53,9 +56,15 @@ impl Lines {
     pub(super) fn of(alloc: Global, text: &str) -> Result<Lines, AllocError>
         ensures { IfOk result (λ lines. lines ≡ chars text.now) }
     {
+        let mut runs = Vec::new(alloc);
+        cut_into(alloc, &mut runs, text, false)?;
+        let Some(count) = count_in(&runs) else {
+            return Err(AllocError);
+        };
         Ok(Lines {
             alloc,
-            items: cut(alloc, text)?,
+            runs,
+            count,
             bytes: text.len() as u64,
         })
     }
@@ -66,7 +75,8 @@ impl Lines {
     {
         Ok(Lines {
             alloc,
-            items: copies(alloc, &self.items)?,
+            runs: share_all(alloc, &self.runs)?,
+            count: self.count,
             bytes: self.bytes,
         })
     }
@@ -75,7 +85,7 @@ impl Lines {
     pub(crate) fn len(&self) -> usize
         ensures { result ≡ length (lines_of self.now) }
     {
-        self.items.len()
+        self.count
     }
 
     /// The allocator that they grow in.
@@ -87,7 +97,7 @@ impl Lines {
     pub(crate) fn number_of(&self, position: Position) -> usize
         ensures { result ≡ line_number self.now position }
     {
-        (position.line as usize).min(self.items.len() - 1)
+        (position.line as usize).min(self.count - 1)
     }
 
     /// The bytes of the lines from `first` to `last`.
@@ -96,26 +106,32 @@ impl Lines {
         requires within { last < length (lines_of self.now) }
         ensures { result ≡ units Encoding.Utf8 (text_of (slice_range (lines_of self.now) first (last + 1))) }
     {
-        bytes_of(&self.items[first..last + 1])
+        let a = locate(&self.runs, first);
+        let b = locate(&self.runs, last);
+        let before = self.runs[a.run].start_of(a.line);
+        let through = self.runs[b.run].start_of(b.line + 1);
+        bytes_between(&self.runs, a.run, b.run) + through as u64 - before as u64
     }
 
     /// Lends a line and its end, and counts their bytes.
-    pub(crate) fn read(&self, i: usize, steps: &mut Steps) -> &PiecedLine
+    pub(crate) fn read(&self, i: usize, steps: &mut Steps) -> LentLine<'_>
         requires { i < length (lines_of self.now) }
-        ensures value { result.now ≡ line_at i self.now }
+        ensures value { result ≡ line_at i self.now }
         ensures counted { steps.new ≡ raised steps.old (line_bytes self.now i) }
     {
-        let line = self.items[i].get();
+        let at = locate(&self.runs, i);
+        let line = self.runs[at.run].line(at.line);
         steps.add(line.len());
         line
     }
 
     /// Lends a line and its end, uncounted.
-    pub(super) fn peek(&self, i: usize) -> &PiecedLine
+    pub(super) fn peek(&self, i: usize) -> LentLine<'_>
         requires { i < length (lines_of self.now) }
-        ensures { result.now ≡ line_at i self.now }
+        ensures { result ≡ line_at i self.now }
     {
-        self.items[i].get()
+        let at = locate(&self.runs, i);
+        self.runs[at.run].line(at.line)
     }
 
     /// The characters of the lines before one.
@@ -124,21 +140,22 @@ impl Lines {
         ensures value { result ≡ length (text_of (take i (lines_of self.now))) }
         ensures room { length self.now < 2 ^ 64 }
     {
-        chars_of(&self.items[..i])
+        let at = locate(&self.runs, i);
+        chars_of(&self.runs[..at.run]) + self.runs[at.run].chars_before(at.line)
     }
 
     /// Whether the lines spell a text.
     pub(super) fn spell(&self, text: &str) -> bool
         ensures { IsTrue result ↔ (self.now ≡ chars text.now) }
     {
-        spell(&self.items, text)
+        spell(&self.runs, text)
     }
 
     /// The text of the lines, in a `String` of its own.
     pub(super) fn to_text(&self, alloc: Global) -> Result<String, AllocError>
         ensures { IfOk result (λ text. chars (string_bytes text) ≡ self.now) }
     {
-        joined(alloc, &self.items, self.bytes as usize)
+        joined(alloc, &self.runs, self.bytes as usize)
     }
 
     /// Puts a text in the place of the lines from `first` to `last`; the whole has `bytes` bytes then.
@@ -156,36 +173,27 @@ impl Lines {
         ensures ok { OnOk result (self.new ≡ rewritten self.old first last (chars text.now)) }
         ensures err { OnErr result (self.new ≡ self.old) }
     {
-        let fresh = cut_before(self.alloc, text, last + 1 < self.items.len())?;
-        put(&mut self.items, first, last + 1, fresh)?;
+        let followed = self.count - last > 1;
+        let a = locate(&self.runs, first);
+        let b = locate(&self.runs, last);
+        let (front, back) = (&self.runs[a.run], &self.runs[b.run]);
+        let fresh = between(self.alloc, front, a.line, text, followed, back, b.line + 1)?;
+        let Some(count) = count_after(self.count, &self.runs, a.run, b.run + 1, &fresh) else {
+            return Err(AllocError);
+        };
+        put(&mut self.runs, a.run, b.run + 1, fresh)?;
+        self.count = count;
         self.bytes = bytes;
         Ok(())
     }
 
-    /// Makes these the lines of a text, and keeps those in front and behind that it has too.
+    /// Makes these the lines of a text.
     pub(super) fn renew(&mut self, text: &str) -> Result<(), AllocError>
         ensures ok { OnOk result (self.new ≡ chars text.now) }
         ensures err { OnErr result (self.new ≡ self.old) }
     {
-        let rewrite = self.rewrite_to(text);
-        self.rewrite(rewrite.first, rewrite.last, rewrite.text, text.len() as u64)
-    }
-
-    // The rewrite that leaves a text. Of the lines in front and behind that are the text's too, those next to the
-    // others are rewritten with them, so that no line end is joined or split.
-    fn rewrite_to<'a>(&self, text: &'a str) -> Rewrite<'a>
-        ensures { IsRewriteTo self.now (chars text.now) result }
-    {
-        let most = self.items.len() - 1;
-        let front = agree_in_front(&self.items, most, text);
-        let back = agree_behind(&self.items, front.line, front.rest);
-        let kept = front.rest.len() - back.wider.len();
-        let (middle, _) = front.wider.split_at(front.wider.len() - kept);
-        Rewrite {
-            first: front.line.saturating_sub(1),
-            last: most.min(back.line),
-            text: middle,
-        }
+        *self = Lines::of(self.alloc, text)?;
+        Ok(())
     }
 
     /// Puts a text in the place of some bytes of a line; the whole has `bytes` bytes then.
@@ -202,8 +210,41 @@ impl Lines {
         ensures ok { OnOk result (self.new ≡ rewritten self.old i i (line_after self.old i from to text.now)) }
         ensures err { OnErr result (self.new ≡ self.old) }
     {
-        self.items[i].replace(self.alloc, from, to, text)?;
+        self.make_room(i, text.len())?;
+        self.edit_run(i, from, to, text, bytes)
+    }
+
+    // The same in the run that the line is in.
+    fn edit_run(
+        &mut self,
+        i: usize,
+        from: usize,
+        to: usize,
+        text: &str,
+        bytes: u64,
+    ) -> Result<(), AllocError>
+        requires stays { StaysInLine self.old i from to text.now }
+        requires bytes { bytes ≡ units Encoding.Utf8 (rewritten self.old i i (line_after self.old i from to text.now)) }
+        ensures ok { OnOk result (self.new ≡ rewritten self.old i i (line_after self.old i from to text.now)) }
+        ensures err { OnErr result (self.new ≡ self.old) }
+    {
+        let at = locate(&self.runs, i);
+        self.runs[at.run].replace(at.line, from, to, text)?;
         self.bytes = bytes;
+        Ok(())
+    }
+
+    // Gives a line a run of its own, in pieces, where so many bytes more would fill its run of short lines.
+    fn make_room(&mut self, i: usize, more: usize) -> Result<(), AllocError>
+        requires { i < length (lines_of self.old) }
+        ensures { self.new ≡ self.old }
+    {
+        let at = locate(&self.runs, i);
+        if !is_filled(&self.runs[at.run], more) {
+            return Ok(());
+        }
+        let fresh = apart(self.alloc, &self.runs[at.run], at.line)?;
+        put(&mut self.runs, at.run, at.run + 1, fresh)?;
         Ok(())
     }
 
@@ -213,14 +254,6 @@ impl Lines {
     {
         self.bytes
     }
-}
-
-/// Lines from one to another, and the text that is to take their place.
-#[derive(Clone, Copy)]
-struct Rewrite<'a> {
-    first: usize,
-    last: usize,
-    text: &'a str,
 }
 
 /// The bytes lent to edits, and those that they inserted.

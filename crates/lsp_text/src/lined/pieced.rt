@@ -12,7 +12,7 @@ ghost use Rattle.lsp_text.specs.Pieces.{bodies, piece_at, pieces_in, bytes_in, B
 ghost use lib.Utf8.{encodes, scalars};
 
 use super::counted::CountedLine;
-use crate::counts::measure;
+use super::lent::LentLine;
 use lsp_types::Encoding;
 use std::alloc::{AllocError, Global};
 use std::marker::Model;
@@ -25,7 +25,7 @@ const MOST: usize = 8192;
 
 /// A line with its end, of which a long one is kept in pieces.
 #[derive(Drop)]
-pub(crate) struct PiecedLine {
+pub(super) struct PiecedLine {
     // What comes before the last piece, in a long line.
     front: Option<Box<Front>>,
     // The last piece, with the line's end.
@@ -83,15 +83,19 @@ impl PiecedLine {
         Ok(PiecedLine { front, last })
     }
 
-    /// The bytes of the line without its end.
-    pub(crate) fn body_len(&self) -> usize
-        ensures { result ≡ units Encoding.Utf8 self.now.text }
+    /// The line, lent.
+    pub(super) fn lend(&self) -> LentLine<'_>
+        ensures { result ≡ self.now }
     {
-        bytes(&self.front) + self.last.body_len()
+        LentLine {
+            front: pieces(&self.front),
+            bytes: bytes(&self.front),
+            last: self.last.lend(),
+        }
     }
 
     /// The bytes of the line and its end.
-    pub(crate) fn len(&self) -> usize
+    pub(super) fn len(&self) -> usize
         ensures value { result ≡ units Encoding.Utf8 (spelled self.now) }
         ensures scalar { scalars (spelled self.now) ≡ true }
     {
@@ -105,72 +109,13 @@ impl PiecedLine {
         chars_in(pieces(&self.front)) + self.last.count()
     }
 
-    /// The characters of the line before a byte.
-    pub(super) fn chars_before(&self, offset: usize) -> u64
-        requires before_end { offset ≤ units Encoding.Utf8 self.now.text }
-        requires boundary { IsCharBoundary (encodes self.now.text) offset }
-        ensures { result ≡ length (chars (take offset (encodes self.now.text))) }
-    {
-        let front = pieces(&self.front);
-        let found = find(front, Encoding::Utf8, offset as u64);
-        let (before, _) = piece(front, &self.last, found.index)
-            .body()
-            .split_at(found.left as usize);
-        chars_in(&front[..found.index]) + measure(before).chars
-    }
-
-    /// The bytes of the line before a column, or `None` where the column lies inside a character.
-    pub(crate) fn offset_of(&self, encoding: Encoding, column: u32) -> Option<usize>
-        ensures scalar { scalars (spelled self.now) ≡ true }
-        ensures place { MatchOption result (place_in_line encoding self.now.text column ≡ None) (IsOffset encoding (encodes self.now.text) column) }
-    {
-        let front = pieces(&self.front);
-        let found = find(front, encoding, column as u64);
-        let piece = piece(front, &self.last, found.index);
-        let offset = piece.offset_of(encoding, found.left as u32)?;
-        Some(found.bytes + offset)
-    }
-
     /// Writes the line and its end behind a text.
-    pub(crate) fn push_to(&self, out: &mut String) -> Result<(), AllocError>
+    pub(super) fn push_to(&self, out: &mut String) -> Result<(), AllocError>
         ensures scalar { scalars (spelled self.now) ≡ true }
         ensures bytes { OnOk result (string_bytes out.new ≡ string_bytes out.old ++ encodes (spelled self.now)) }
     {
         push_bodies(pieces(&self.front), out)?;
         out.push_str(self.last.as_str())
-    }
-
-    /// Writes the bytes of the line before one of them behind a text.
-    pub(crate) fn push_before(&self, offset: usize, out: &mut String) -> Result<(), AllocError>
-        requires before_end { offset ≤ units Encoding.Utf8 self.now.text }
-        requires boundary { IsCharBoundary (encodes self.now.text) offset }
-        ensures { OnOk result (string_bytes out.new ≡ string_bytes out.old ++ take offset (encodes (spelled self.now))) }
-    {
-        let front = pieces(&self.front);
-        let found = find(front, Encoding::Utf8, offset as u64);
-        push_bodies(&front[..found.index], out)?;
-        let (before, _) = piece(front, &self.last, found.index)
-            .body()
-            .split_at(found.left as usize);
-        out.push_str(before)
-    }
-
-    /// Writes the bytes of the line and its end from one on behind a text.
-    pub(crate) fn push_after(&self, offset: usize, out: &mut String) -> Result<(), AllocError>
-        requires before_end { offset ≤ units Encoding.Utf8 self.now.text }
-        requires boundary { IsCharBoundary (encodes self.now.text) offset }
-        ensures { OnOk result (string_bytes out.new ≡ string_bytes out.old ++ drop offset (encodes (spelled self.now))) }
-    {
-        let front = pieces(&self.front);
-        let found = find(front, Encoding::Utf8, offset as u64);
-        if found.index < front.len() {
-            let (_, after) = front[found.index].body().split_at(found.left as usize);
-            out.push_str(after)?;
-            push_bodies(&front[found.index + 1..], out)?;
-            return out.push_str(self.last.as_str());
-        }
-        let (_, after) = self.last.as_str().split_at(found.left as usize);
-        out.push_str(after)
     }
 
     /// What comes after the line and its end in a text that begins with them.
@@ -238,11 +183,12 @@ impl PiecedLine {
         ensures ok { OnOk result (self.new ≡ with_text self.old (chars (replace_range (encodes self.old.text) from to text.now))) }
         ensures err { OnErr result (self.new ≡ self.old) }
     {
-        let room = self.len().saturating_add(text.len());
+        let line = self.lend();
+        let room = line.len().saturating_add(text.len());
         let mut joined = String::with_capacity(alloc, room)?;
-        self.push_before(from, &mut joined)?;
+        line.push_before(from, &mut joined)?;
         joined.push_str(text)?;
-        self.push_after(to, &mut joined)?;
+        line.push_after(to, &mut joined)?;
         let end = self.last.len() - self.last.body_len();
         let whole = joined.as_str();
         let (body, end) = whole.split_at(whole.len() - end);
@@ -313,14 +259,14 @@ fn replace_in(
 
 /// The piece in which a column falls, the bytes before that piece, and the column in it.
 #[derive(Clone, Copy)]
-struct Found {
-    index: usize,
-    bytes: usize,
-    left: u64,
+pub(super) struct Found {
+    pub(super) index: usize,
+    pub(super) bytes: usize,
+    pub(super) left: u64,
 }
 
 // The piece in which a column falls, or the one behind these.
-fn find(pieces: &[CountedLine], encoding: Encoding, column: u64) -> Found
+pub(super) fn find(pieces: &[CountedLine], encoding: Encoding, column: u64) -> Found
     requires { units Encoding.Utf8 (bodies pieces.now) < 2 ^ 64 }
     ensures { IsFound pieces.now encoding column result }
 {
@@ -350,7 +296,7 @@ fn piece<'a>(pieces: &'a [CountedLine], last: &'a CountedLine, index: usize) -> 
 }
 
 // The characters of pieces.
-fn chars_in(pieces: &[CountedLine]) -> u64
+pub(super) fn chars_in(pieces: &[CountedLine]) -> u64
     requires { length (bodies pieces.now) < 2 ^ 64 }
     ensures { result ≡ length (bodies pieces.now) }
 {
@@ -362,7 +308,7 @@ fn chars_in(pieces: &[CountedLine]) -> u64
 }
 
 // Writes pieces behind a text.
-fn push_bodies(pieces: &[CountedLine], out: &mut String) -> Result<(), AllocError>
+pub(super) fn push_bodies(pieces: &[CountedLine], out: &mut String) -> Result<(), AllocError>
     ensures { OnOk result (string_bytes out.new ≡ string_bytes out.old ++ encodes (bodies pieces.now)) }
 {
     for piece in pieces {

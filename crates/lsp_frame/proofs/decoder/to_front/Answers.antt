@@ -1,6 +1,6 @@
 use Rattle.std.proofs.Common.{◌≡◌, ◌-◌, ◌++◌, ◌∙◌, length, take, drop, ap, arith, append_assoc, length-take, length-drop}
 use Rattle.std.proofs.lemmas.List.{take_at}
-use Rattle.lsp_frame.proofs.Steps.{drop_take, moved_down}
+use Rattle.lsp_frame.proofs.Steps.{drop_take, front_stays, moved_down}
 use Rattle.lsp_frame.proofs.decoder.to_front.Goals as goal
 
 pub returns-then-rest-start-clause-front : goal.returns-then-rest-start-clause-front
@@ -18,3 +18,6 @@ returns-then-rest-start-clause-front c =
 
 pub returns-else-rest-start-clause-front : goal.returns-else-rest-start-clause-front
 returns-else-rest-start-clause-front c = rw c.copy_within.ensures.after (moved_down c.args.buffer.now c.args.start c.args.end c.requires.0 c.requires.1)
+
+pub returns-then-start-eq0-clause-front : goal.returns-then-start-eq0-clause-front
+returns-then-start-eq0-clause-front c = front_stays c.args.buffer.now c.args.start c.args.end c.if-start-eq0.true

@@ -1,21 +1,11 @@
-use Rattle.std.proofs.Common.{[], arith}
 use Rattle.std.proofs.lemmas.Result.{err_from_is_err_and}
-use Rattle.lsp_frame.proofs.Telling.{gave_nothing}
 use Rattle.lsp_verdict.proofs.RunReading.{read_within}
-use Rattle.lsp_streams.proofs.StreamEndings.{ran, nothing_ran, closing_cut, broken, done_at_end}
+use Rattle.lsp_streams.proofs.Framing.Endings.{ran, closing_cut, broken, done_at_end}
 use Rattle.lsp_streams.proofs.frames.run_frames.Goals as goal
-
-pub returns-in_err-buffer-clause-fault : goal.returns-in_err-buffer-clause-fault
-returns-in_err-buffer-clause-fault g c =
-    let p = err_from_is_err_and c.from_residual.result c.from_residual.ensures.1 in
-    rw p.1 (nothing_ran _ _ _ _)
-
-pub returns-in_err-buffer-clause-limit : goal.returns-in_err-buffer-clause-limit
-returns-in_err-buffer-clause-limit g c = ([], gave_nothing _, omega arith)
 
 pub returns-in_err-outcome-clause-fault : goal.returns-in_err-outcome-clause-fault
 returns-in_err-outcome-clause-fault g c =
-    let p = err_from_is_err_and c.from_residual-in_err-outcome.result c.from_residual-in_err-outcome.ensures.1 in
+    let p = err_from_is_err_and c.from_residual.result c.from_residual.ensures.1 in
     rw p.1 (broken _ _ _ _ _ _ _ c.in_err-outcome.ensures)
 
 pub returns-in_err-outcome-clause-limit : goal.returns-in_err-outcome-clause-limit

@@ -1,6 +1,6 @@
 use Rattle.std.proofs.Common.{arith, ◌∙◌}
 use Rattle.std.proofs.lemmas.Result.{err_from_is_err_and}
-use Rattle.lsp_streams.proofs.StreamFound.{at_end, at_fault, one_more, one_broken, one_refused, frame_step}
+use Rattle.lsp_streams.proofs.Framing.Found.{at_end, at_fault, one_more, one_broken, one_refused, frame_step}
 use Rattle.lsp_streams.proofs.frames.write_found.Goals as goal
 
 pub returns-in-Err-clause-answer : goal.returns-in-Err-clause-answer

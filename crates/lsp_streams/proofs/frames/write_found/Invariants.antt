@@ -1,7 +1,7 @@
 use Rattle.std.proofs.Common.{◌≡◌, ℕ, List, ◌+◌, ◌≤◌, length}
 use Rattle.lsp_frame.specs.Decoder.{StandsFor}
 use Rattle.lsp_streams.specs.StreamSteps.{AreParts}
-use Rattle.lsp_streams.proofs.StreamFound.{FoundSoFar}
+use Rattle.lsp_streams.proofs.Framing.Found.{FoundSoFar}
 use Rattle.lsp_streams.proofs.frames.write_found.Given as goal
 
 abbrev pub invariant-loop-fault : goal.invariant-loop-fault

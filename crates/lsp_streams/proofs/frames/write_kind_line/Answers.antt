@@ -1,14 +1,9 @@
-use Rattle.std.specs.Prelude.{codes, ◌++◌, ℕ, List, Result, Ok, Err}
+use Rattle.std.specs.Prelude.{codes, ◌++◌}
 use Rattle.std.proofs.lemmas.Result.{err_from_is_err_and}
-use Rattle.lsp_frame.proofs.Writing.{stopped_before, stopped_then, wrote_then}
-use Rattle.lsp_frame.specs.Sink.{Wrote, Writes}
-use Rattle.lsp_frame.specs.Told.{Told}
+use Rattle.lsp_frame.proofs.Writing.{stopped_before, stopped_then}
+use Rattle.lsp_log.proofs.Written.{writes_then}
 use Rattle.lsp_streams.specs.StreamParts.{numbers}
 use Rattle.lsp_streams.proofs.frames.write_kind_line.Goals as goal
-
-writes_behind : {X E : Type 0} (a b c : Told) (r : Result X E) (x y : List ℕ) → Wrote a b x → Writes b c r y → Writes a c r (x ++ y)
-writes_behind a b c (Ok v) x y p q = wrote_then a b c x y p q
-writes_behind a b c (Err e) x y p q = stopped_then a b c x y p q
 
 pub returns-in_err-write_numbers : goal.returns-in_err-write_numbers
 returns-in_err-write_numbers g c =
@@ -22,5 +17,5 @@ returns-in_err-put_all g c =
 
 pub returns : goal.returns
 returns g c =
-    writes_behind _ _ _ c.put_all-2.result (numbers c.args.frame c.args.content.now (codes " ")) (c.args.words.now ++ codes "\n") c.in_ok-write_numbers.ensures
-    (writes_behind _ _ _ c.put_all-2.result c.args.words.now (codes "\n") c.in_ok-put_all.ensures c.put_all-2.ensures)
+    writes_then _ _ _ c.put_all-2.result (numbers c.args.frame c.args.content.now (codes " ")) (c.args.words.now ++ codes "\n") c.in_ok-write_numbers.ensures
+    (writes_then _ _ _ c.put_all-2.result c.args.words.now (codes "\n") c.in_ok-put_all.ensures c.put_all-2.ensures)

@@ -1,4 +1,4 @@
-use Rattle.lsp_streams.proofs.NormalForms.{no_is}
+use Rattle.lsp_streams.proofs.Forming.Forms.{no_is}
 use Rattle.lsp_streams.proofs.normal.no_next.Goals as goal
 
 pub returns : goal.returns

@@ -2,7 +2,7 @@ use Rattle.std.proofs.Common.{[], arith}
 use Rattle.std.proofs.lemmas.Result.{err_from_is_err_and}
 use Rattle.lsp_frame.proofs.Telling.{gave_nothing}
 use Rattle.lsp_verdict.proofs.RunReading.{read_within}
-use Rattle.lsp_streams.proofs.NormalLogs.{nothing_read, head_cut}
+use Rattle.lsp_streams.proofs.Forming.Logs.{nothing_read, head_cut}
 use Rattle.lsp_streams.proofs.normal.run_normal.Goals as goal
 
 pub loop-streams-init : goal.loop-streams-init

@@ -1,7 +1,7 @@
 use Rattle.std.proofs.Common.{ap, ◌∙◌, ◌++◌}
 use Rattle.std.proofs.lemmas.Result.{err_from_is_err_and}
 use Rattle.lsp_frame.specs.Decoder.{State}
-use Rattle.lsp_streams.proofs.NormalBringing.{brought, none_brought}
+use Rattle.lsp_streams.proofs.Forming.Bringing.{brought, none_brought}
 use Rattle.lsp_streams.proofs.normal.write_bytes.Goals as goal
 use Rattle.lsp_verdict.proofs.Drained.{pushed_limits}
 

@@ -1,7 +1,7 @@
 use Rattle.std.proofs.Common.{◌∙◌}
 use Rattle.std.proofs.lemmas.Result.{err_from_is_err_and}
-use Rattle.lsp_streams.proofs.NormalContents.{one_written, all_written, fault_met, part_written_of}
-use Rattle.lsp_streams.proofs.StreamFound.{frame_step}
+use Rattle.lsp_streams.proofs.Forming.Contents.{one_written, all_written, fault_met, part_written_of}
+use Rattle.lsp_streams.proofs.Framing.Found.{frame_step}
 use Rattle.lsp_streams.proofs.normal.write_contents.Goals as goal
 
 pub returns-in-Err-clause-answer : goal.returns-in-Err-clause-answer

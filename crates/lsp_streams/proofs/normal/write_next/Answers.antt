@@ -1,5 +1,5 @@
 use Rattle.lsp_log.specs.Records.{record_view}
-use Rattle.lsp_streams.proofs.NormalLogs.{has_record, record_answers, end_answers, bad_answers, read_answers, memory_answers, next_fits}
+use Rattle.lsp_streams.proofs.Forming.Logs.{has_record, record_answers, end_answers, bad_answers, read_answers, memory_answers, next_fits}
 use Rattle.lsp_streams.proofs.normal.write_next.Goals as goal
 
 pub write-requires : goal.write-requires

@@ -1,4 +1,4 @@
-use Rattle.lsp_streams.proofs.NormalAgain as proved
+use Rattle.lsp_streams.proofs.Forming.Again as proved
 use Rattle.lsp_streams.proofs.normal_laws.normal_form_keeps_events.Goals as goal
 
 pub returns : goal.returns

@@ -1,4 +1,4 @@
-use Rattle.lsp_streams.proofs.NormalVerdict as proved
+use Rattle.lsp_streams.proofs.Forming.Verdicts as proved
 use Rattle.lsp_streams.proofs.normal_laws.normal_form_keeps_verdict.Goals as goal
 
 pub returns : goal.returns

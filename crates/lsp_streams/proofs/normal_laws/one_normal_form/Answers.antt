@@ -1,4 +1,4 @@
-use Rattle.lsp_streams.proofs.NormalOne as proved
+use Rattle.lsp_streams.proofs.Forming.OneForm as proved
 use Rattle.lsp_streams.proofs.normal_laws.one_normal_form.Goals as goal
 
 pub returns : goal.returns

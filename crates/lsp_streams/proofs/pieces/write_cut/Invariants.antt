@@ -1,6 +1,6 @@
 use Rattle.std.proofs.Common.{◌+◌, ◌++◌, length}
 use Rattle.lsp_frame.proofs.Writing.{HasPut}
-use Rattle.lsp_streams.proofs.NormalPieces.{due}
+use Rattle.lsp_streams.proofs.Forming.Pieces.{due}
 use Rattle.lsp_streams.proofs.pieces.write_cut.Given as goal
 
 abbrev pub invariant-loop-front : goal.invariant-loop-front

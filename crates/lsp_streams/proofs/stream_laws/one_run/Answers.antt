@@ -1,4 +1,4 @@
-use Rattle.lsp_streams.proofs.StreamOutputs.{one_run_lem}
+use Rattle.lsp_streams.proofs.Framing.Outputs.{one_run_lem}
 use Rattle.lsp_streams.proofs.stream_laws.one_run.Goals as goal
 
 pub returns : goal.returns

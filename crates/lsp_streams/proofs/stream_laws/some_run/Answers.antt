@@ -1,4 +1,4 @@
-use Rattle.lsp_streams.proofs.StreamOutputs.{some_run_lem}
+use Rattle.lsp_streams.proofs.Framing.Outputs.{some_run_lem}
 use Rattle.lsp_streams.proofs.stream_laws.some_run.Goals as goal
 
 pub returns : goal.returns

@@ -26,13 +26,13 @@ returns-clause-value c =
     let second = c.args.second.now in
     let text = c.args.text.now in
     let before = line_before t first.number in
-    let front : take first.offset (encodes (spelled first.line.now)) ≡ front_of t first = ap (λ (l : Line). take first.offset (encodes (spelled l))) c.requires.first.line in
-    let rest : drop second.offset (encodes (spelled second.line.now)) ≡ rest_of t second = ap (λ (l : Line). drop second.offset (encodes (spelled l))) c.requires.second.line in
+    let front : take first.offset (encodes (spelled first.line)) ≡ front_of t first = ap (λ (l : Line). take first.offset (encodes (spelled l))) c.requires.first.line in
+    let rest : drop second.offset (encodes (spelled second.line)) ≡ rest_of t second = ap (λ (l : Line). drop second.offset (encodes (spelled l))) c.requires.second.line in
     let bytes : string_bytes c.push_after.new.out ≡ ((encodes before ++ front_of t first) ++ text) ++ rest_of t second =
     c.in_ok-push_after.ensures ∙ ap (λ (x : List ℕ). string_bytes c.push_str.new.self ++ x) rest
     ∙ ap (λ (x : List ℕ). x ++ rest_of t second)
     (c.in_ok-push_str.ensures.bytes
     ∙ ap (λ (x : List ℕ). x ++ text)
-    (c.in_ok-push_before.ensures ∙ ap (λ (x : List ℕ). x ++ take first.offset (encodes (spelled first.line.now))) c.in_ok-middle.ensures.value ∙ ap (λ (x : List ℕ). encodes before ++ x) front)) in
+    (c.in_ok-push_before.ensures ∙ ap (λ (x : List ℕ). x ++ take first.offset (encodes (spelled first.line))) c.in_ok-middle.ensures.value ∙ ap (λ (x : List ℕ). encodes before ++ x) front)) in
     ap chars bytes ∙ chars_joined (encodes before) (front_of t first) text (rest_of t second) (before, (c.in_ok-middle.ensures.scalar, refl)) c.requires.first.before_utf8 c.utf8.text
     ∙ ap (λ (x : List ℕ). ((x ++ chars (front_of t first)) ++ chars text) ++ chars (rest_of t second)) (chars-encodes before c.in_ok-middle.ensures.scalar)

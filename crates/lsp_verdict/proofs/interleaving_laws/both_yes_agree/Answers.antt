@@ -1,4 +1,4 @@
-use Rattle.lsp_verdict.proofs.Interleavings as proved
+use Rattle.lsp_verdict.proofs.Interleaving.Both as proved
 use Rattle.lsp_verdict.proofs.interleaving_laws.both_yes_agree.Goals as goal
 
 pub returns : goal.returns

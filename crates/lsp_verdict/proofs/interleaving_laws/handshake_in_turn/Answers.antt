@@ -1,4 +1,4 @@
-use Rattle.lsp_verdict.proofs.InterleavingStages as proved
+use Rattle.lsp_verdict.proofs.Interleaving.Stages as proved
 use Rattle.lsp_verdict.proofs.interleaving_laws.handshake_in_turn.Goals as goal
 
 pub returns : goal.returns

@@ -1,4 +1,4 @@
-use Rattle.lsp_verdict.proofs.Interleavings as proved
+use Rattle.lsp_verdict.proofs.Interleaving.Both as proved
 use Rattle.lsp_verdict.proofs.interleaving_laws.only_order_offends.Goals as goal
 
 pub returns : goal.returns

@@ -3,7 +3,7 @@ use Rattle.lsp_verdict.specs.Event.{Event}
 use Rattle.lsp_verdict.specs.Given.{summary_view, as_given}
 use Rattle.lsp_judge.specs.Standing.{State, Follows}
 use Rattle.lsp_verdict.specs.Verdict.{yes, summary}
-use Rattle.lsp_judge.proofs.Answering.{ok_at, records_kept, records_refused, records_clean}
+use Rattle.lsp_judge.proofs.Answering.{ok_at, no_yes, records_kept, records_refused, records_clean}
 use Rattle.lsp_judge.proofs.Finals.{given_final, rest_final, yes_final}
 use Rattle.lsp_judge.proofs.Tails.{if_ok}
 use Rattle.lsp_judge.proofs.judge.Judge.finish.Goals as goal
@@ -51,3 +51,6 @@ returns-in-Ok-clause-yes g c = λ records s stands e.
 pub returns-in-Ok-clause-kept : goal.returns-in-Ok-clause-kept
 returns-in-Ok-clause-kept g c = λ records events stands clean.
     records_clean _ records events _ clean (λ v. returns-in-Ok-clause-verdict g c records v stands)
+
+pub returns-in-Some-rest-clause-unchanged : goal.returns-in-Some-rest-clause-unchanged
+returns-in-Some-rest-clause-unchanged g c = λ s e. absurd (no_yes c.in-Some-rest.ruling _ (ok_at c.answer-in-Some-rest.result _ _ e c.answer-in-Some-rest.ensures.ok))

@@ -1,5 +1,5 @@
 use Rattle.std.proofs.Common.{◌∙◌}
-use Rattle.lsp_streams.proofs.NormalRecords.{none_formed}
+use Rattle.lsp_streams.proofs.Forming.Records.{none_formed}
 use Rattle.lsp_streams.proofs.normal.Streams.new.Goals as goal
 
 pub returns : goal.returns

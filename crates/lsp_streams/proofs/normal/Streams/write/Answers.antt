@@ -3,7 +3,7 @@ use Rattle.std.specs.Prelude.{string_bytes}
 use Rattle.std.proofs.lemmas.Result.{err_from_is_err_and}
 use Rattle.lsp_types.specs.declared.side.Side.TheVariants.{Editor, Server}
 use Rattle.lsp_verdict.specs.Placed.{joined}
-use Rattle.lsp_streams.proofs.NormalRecords.{editor_formed, server_formed, shown_formed, shown_part}
+use Rattle.lsp_streams.proofs.Forming.Records.{editor_formed, server_formed, shown_formed, shown_part}
 use Rattle.lsp_streams.proofs.normal.Streams.write.Goals as goal
 
 pub returns-in-Editor : goal.returns-in-Editor

@@ -7,7 +7,7 @@ use Rattle.lsp_text.proofs.spot.Spot.in_line.Goals as goal
 
 pub returns-then-len-position : goal.returns-then-len-position
 returns-then-len-position c =
-    spot_past c.args.encoding c.args.lines.now c.args.position _ c.requires.number (omega (arith, c.len.ensures, c.if-len-position.true)) c.requires.line c.len-then-len-position.ensures.scalar c.len-then-len-position.ensures.value
+    spot_past c.args.encoding c.args.lines.now c.args.position _ c.requires.number (omega (arith, c.len.ensures, c.if-len-position.true)) c.requires.line c.len-offset.ensures.scalar c.len-offset.ensures.value
 
 pub returns-in_err-offset : goal.returns-in_err-offset
 returns-in_err-offset c =

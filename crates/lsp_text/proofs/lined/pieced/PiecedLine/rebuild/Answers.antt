@@ -16,8 +16,10 @@ remade c =
     let line = c.args.self.now in
     let joined : c.as_str-whole.result.now ≡ replace_range (encodes (spelled line)) c.args.from c.args.to c.args.text.now =
     c.as_str-whole.ensures.value ∙ c.in_ok-push_after.ensures
-    ∙ ap (λ (x : List ℕ). x ++ drop c.args.to (encodes (spelled line)))
-    (c.in_ok-push_str.ensures.bytes ∙ ap (λ (x : List ℕ). x ++ c.args.text.now) (c.in_ok-push_before.ensures ∙ ap (λ (x : List ℕ). x ++ take c.args.from (encodes (spelled line))) c.in_ok-joined.ensures.bytes)) in
+    ∙ ap (λ (x : List ℕ). x ++ drop c.args.to (encodes (spelled c.lend-line.result)))
+    (c.in_ok-push_str.ensures.bytes
+    ∙ ap (λ (x : List ℕ). x ++ c.args.text.now) (c.in_ok-push_before.ensures ∙ ap (λ (x : List ℕ). x ++ take c.args.from (encodes (spelled c.lend-line.result))) c.in_ok-joined.ensures.bytes))
+    ∙ ap (λ (l : Line). replace_range (encodes (spelled l)) c.args.from c.args.to c.args.text.now) c.lend-line.ensures in
     is_remade line c.args.from c.args.to c.args.text.now c.as_str-whole.result.now (c.len-2.result - c.body_len.result) (subst (λ (l : Line). scalars (spelled l) ≡ true) c.self.view_is c.self.invariant.scalar) c.utf8.text c.requires.order
     c.requires.from_boundary c.requires.to_boundary joined
     (omega (arith, c.len-2.ensures, units-append Utf8 last.text last.end, ap (λ (l : Line). units Utf8 l.end) c.self.view_is))

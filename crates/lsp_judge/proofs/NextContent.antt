@@ -1,0 +1,84 @@
+-- The next content of a side.
+use Rattle.std.proofs.Common.{◌≡◌, ◌<◌, ℕ, List, [], ◌∷◌, ◌++◌, length, Some, None, Ok, Err, inl, inr, refl, sym, ap, subst, append_assoc, append-nil, arith}
+use Rattle.std.specs.List.{AllZip}
+use Rattle.std.proofs.lemmas.List.{length-append}
+use Rattle.lsp_frame.specs.Bounds.{Bounds}
+use Rattle.lsp_frame.specs.Decoder as decoder
+use Rattle.lsp_frame.specs.Frame.{Frames, IsStream}
+use Rattle.lsp_frame.specs.Header.{blank_line}
+use Rattle.lsp_rpc.specs.Message.{Message}
+use Rattle.lsp_types.specs.declared.side.Side.{Side}
+use Rattle.lsp_session.specs.State as session
+use Rattle.lsp_docs.specs.State as docs
+use Rattle.lsp_verdict.specs.Contents.{ReadsAs}
+use Rattle.lsp_verdict.specs.Event.{Event, message, fault}
+use Rattle.lsp_verdict.specs.Given.{as_given}
+use Rattle.lsp_judge.specs.Rulings.{verdict_in, IsNoAt, IsNoAtSome}
+use Rattle.lsp_judge.specs.Standing.{Follows}
+use Rattle.lsp_verdict.specs.Counting.{AreCounts}
+use Rattle.lsp_judge.specs.Next.{HeardAs, HeardOne, HeardNone, IsNext, StoppedNext}
+use Rattle.lsp_verdict.specs.Verdict.{first_no, no_next, who_of}
+use Rattle.lsp_verdict.specs.declared.counts.Counts.{Counts}
+use Rattle.lsp_judge.specs.declared.ruling.Ruling.{Ruling}
+use Rattle.lsp_judge.specs.declared.ruling.Ruling.TheVariants.{No, BadLog, Memory}
+use Rattle.lsp_verdict.specs.declared.verdict.Who.{Who}
+use Rattle.lsp_judge.proofs.Following.{ruled}
+
+-- a frame is no empty list of bytes
+pub shorter : (old new : decoder.State) (content : List ℕ) → decoder.Next old new (Ok (Some content)) → length new.rest < length old.rest
+shorter old new content next =
+    let gives : decoder.GivesFrame old new content = next.step in
+    let ends = gives.is_frame.part.ends in
+    omega (arith, ap length gives.rest, length-append gives.frame new.rest, ap length gives.is_frame.whole, length-append gives.is_frame.header content, ap length ends.1, length-append ends.0 blank_line)
+
+pub same_limits : (old new : decoder.State) (content : List ℕ) → decoder.Next old new (Ok (Some content)) → new.limits ≡ old.limits
+same_limits old new content next =
+    let gives : decoder.GivesFrame old new content = next.step in
+    ap (λ (s : decoder.State). s.limits) gives.same
+
+-- ---- the next content
+
+module _ (side : Side) (bytes : List ℕ) (contents : List (List ℕ)) (events : List Event) where
+  -- there is none
+  pub none_next : (old new : decoder.State) (m : session.State) (documents : docs.State) (c : Counts) → decoder.StandsFor old bytes contents → Follows m documents c events → decoder.Next old new (Ok None)
+      → HeardNone new m documents c bytes contents events
+  none_next old new m documents c stands follows next =
+      let told = next.stands bytes contents stands in
+      record { stands = told.0; ends = told.1; follows = follows }
+
+  -- it is heard
+  pub one_next : (old new : decoder.State) (m : session.State) (documents : docs.State) (c : Counts) (content : List ℕ) (said : Message) → decoder.StandsFor old bytes contents → decoder.Next old new (Ok (Some content))
+      → HeardAs side content said m documents c events → HeardOne side new m documents c bytes contents events said
+  one_next old new m documents c content said stands next heard = record { content = content; stands = next.stands bytes contents stands; heard = heard }
+
+  stopped_next : (limits : Bounds) (limit : ℕ) (event : Event) (r : Ruling) → first_no limit events ≡ None → IsNext side limits bytes contents event → IsNoAt limit events event r → StoppedNext side limits limit bytes contents events r
+  stopped_next limits limit event (No rule by number at) clean next named = record { event = event; clean = clean; next = next; named = named }
+  stopped_next limits limit event (BadLog number code) clean next named = named
+  stopped_next limits limit event Memory clean next named = tt
+
+  -- the frames have a fault
+  pub fault_next : (old new : decoder.State) (m : session.State) (documents : docs.State) (c : Counts) (rule : ℕ) (by : Who) (r : Ruling) → decoder.StandsFor old bytes contents → Follows m documents c events
+      → decoder.Next old new (Err rule) → by ≡ who_of side → ((so_far : List Event) → AreCounts c so_far → verdict_in r ≡ Some (as_given (no_next rule by so_far)))
+      → StoppedNext side old.limits documents.limit bytes contents events r
+  fault_next old new m documents c rule by r stands follows next is told =
+      let gives : decoder.GivesFault old new rule = next.step in
+      let stream = (next.stands bytes contents stands).1 in
+      let kept : new.limits ≡ old.limits = ap (λ (s : decoder.State). s.limits) gives.same in
+      stopped_next old.limits documents.limit (fault side rule) r follows.clean
+      (inr (rule, refl, (stream.0, subst (λ (w : Bounds). IsStream w bytes contents stream.0 (Some rule)) kept stream.1)))
+      (ruled documents.limit events (fault side rule) rule by r refl (sym is) (told events follows.counted))
+
+  -- it offends
+  pub content_next : (old new : decoder.State) (m : session.State) (documents : docs.State) (c : Counts) (content : List ℕ) (r : Ruling) → decoder.StandsFor old bytes contents → Follows m documents c events
+      → decoder.Next old new (Ok (Some content)) → IsNoAtSome documents.limit events (ReadsAs side content) r
+      → StoppedNext side old.limits documents.limit bytes contents events r
+  content_next old new m documents c content (No rule by number at) stands follows next one =
+      let given = next.stands bytes contents stands in
+      record {
+        event = one.0;
+        clean = follows.clean;
+        next = inl (content, one.1, (given.rest, subst (λ (w : Bounds). Frames w bytes (contents ++ content ∷ []) given.rest) (same_limits old new content next) given.frames));
+        named = one.2;
+      }
+  content_next old new m documents c content (BadLog number code) stands follows next one = one
+  content_next old new m documents c content Memory stands follows next one = tt

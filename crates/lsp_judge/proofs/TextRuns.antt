@@ -1,0 +1,173 @@
+-- The text that is held after a message of the editor's, as the events of a log are heard.
+use Rattle.std.proofs.Common.{◌≡◌, ◌+◌, ◌<◌, ◌≤◌, ◌^◌, ℕ, Bool, true, false, List, [], ◌∷◌, ◌++◌, length, drop, Option, Some, None, Result, Ok, Err, refl, sym, ap, subst, ◌∙◌, append_assoc, append-nil, length-append, arith}
+use Rattle.std.specs.Prelude.{is_some, if◌then◌else◌, filter, IfOk}
+use Rattle.std.proofs.lemmas.List.{take-append-drop}
+use Rattle.lsp_frame.specs.Bounds.{Bounds, IsInRange}
+use Rattle.lsp_frame.specs.Told.{Told}
+use Rattle.lsp_types.specs.declared.side.Side.TheVariants.{Editor}
+use Rattle.lsp_docs.specs.Documents.{held}
+use Rattle.lsp_docs.specs.State.{capped}
+use Rattle.lsp_verdict.specs.Calls.{calls}
+use Rattle.lsp_verdict.specs.Event.{Event}
+use Rattle.lsp_verdict.specs.Outcome.{IsVerdict, Offends}
+use Rattle.lsp_verdict.specs.RunIo.{OfRead, GaveAtMost}
+use Rattle.lsp_verdict.specs.Given.{verdict_view}
+use Rattle.lsp_verdict.specs.declared.outcome.Outcome.{Outcome}
+use Rattle.lsp_verdict.specs.declared.outcome.Outcome.TheVariants.{Judged}
+use Rattle.lsp_verdict.specs.declared.outcome.RunFault.{RunFault}
+use Rattle.lsp_verdict.specs.declared.outcome.RunFault.TheVariants as faults
+use Rattle.lsp_judge.specs.declared.text_answer.TextAnswer as answer
+use Rattle.lsp_judge.specs.TextAnswers.{answer_view}
+use Rattle.lsp_verdict.specs.declared.verdict.Verdict as code
+use Rattle.lsp_judge.proofs.Answering.{judged_as}
+use Rattle.lsp_verdict.specs.Shown.{refused, TextAnswer, kept_count, kept_within, up_to_editor, held_answer, missing_answer, text_answer}
+use Rattle.lsp_verdict.specs.TextAfter.{AnswersText}
+use Rattle.lsp_verdict.specs.Verdict.{Verdict, first_no, no_at, is_of, count_of}
+use Rattle.lsp_verdict.proofs.Finding.{found}
+use Rattle.lsp_verdict.proofs.Logs.{final_more}
+use Rattle.lsp_verdict.proofs.RunReading.{read_map, read_within}
+use Rattle.lsp_verdict.proofs.TextLogs.{text_missing}
+use Rattle.lsp_verdict.proofs.UpTo.{reached_more, reached_past, reached_now, count-append, count_one}
+use Rattle.lsp_verdict.proofs.Verdicts.{no_found}
+use Rattle.lsp_judge.specs.LogEvents.{EndsAt, BeginsWith, SoFar, Found, GivesText, failures_of}
+use Rattle.lsp_judge.specs.Standing.{Follows}
+use Rattle.lsp_judge.specs.declared.event_reader.EventReader.{EventReader}
+use Rattle.lsp_judge.proofs.KeptEvents.{kept_clean, kept_no, kept_final}
+use Rattle.lsp_judge.proofs.LogEvents.{so_far_begins, so_far_clean, so_far_few, so_far_range}
+
+-- ---- the message came
+
+of_held : (limit : ℕ) (uri : List ℕ) (v : Verdict) (upto : List Event) (o : Option (List Event)) → o ≡ Some upto → first_no limit upto ≡ None → held_answer (held limit uri (calls upto)) ≡ text_answer limit uri v o
+of_held limit uri v upto o reached clean =
+    sym (ap (λ w. if is_some w then missing_answer v else held_answer (held limit uri (calls upto))) clean) ∙ sym (ap (text_answer limit uri v) reached)
+
+-- **the events heard are those up to it**
+text_held : (limits : Bounds) (n : ℕ) (uri : List ℕ) (heard : List Event) → up_to_editor n [] heard ≡ Some heard → first_no limits.document heard ≡ None → (log : List ℕ) → BeginsWith limits heard log → AnswersText limits log n uri (held_answer (held limits.document uri (calls heard)))
+text_held limits n uri heard reached clean log (v, later, (whole, is)) =
+    let events = whole.final.events in
+    let rest = drop (kept_count v events) events in
+    let cut : events ≡ heard ++ (later ++ rest) = sym (take-append-drop (kept_count v events) events) ∙ ap (λ w. w ++ rest) is ∙ append_assoc heard later rest in
+    (v, whole, of_held limits.document uri v heard _ (ap (up_to_editor n []) cut ∙ reached_more n heard (later ++ rest) heard reached) clean)
+
+-- ---- the verdict came before it
+
+of_offence : (limit n : ℕ) (uri : List ℕ) (v : Verdict) (before : List Event) (e : Event) (after events : List Event) → count_of (is_of Editor) before < n → first_no limit before ≡ None → no_at limit before e ≡ Some v → events ≡ before ++ e ∷ after
+    → missing_answer v ≡ text_answer limit uri v (up_to_editor n [] events)
+of_offence limit n uri v before e after events few clean offends cut = by_reached (up_to_editor n [] events) (sym (ap (up_to_editor n []) cut))
+  where
+    by_reached : (o : Option (List Event)) → up_to_editor n [] (before ++ e ∷ after) ≡ o → missing_answer v ≡ text_answer limit uri v o
+    by_reached None is = refl
+    by_reached (Some upto) is =
+        let past = reached_past n before e after upto few is in
+        sym (ap (λ w. if is_some w then missing_answer v else held_answer (held limit uri (calls upto))) (ap (first_no limit) past.1 ∙ no_found limit [] before past.0 e v clean offends))
+
+text_ended : (limits : Bounds) (n : ℕ) (uri : List ℕ) (heard : List Event) (v : Verdict) → count_of (is_of Editor) heard < n → (log : List ℕ) → EndsAt limits log heard v → AnswersText limits log n uri (missing_answer v)
+text_ended limits n uri heard v few log (whole, is) = by_first (first_no limits.document whole.final.events) refl
+  where
+    within : kept_within limits.document whole.final.events ≡ heard
+    within = sym (kept_final limits.document whole.final.events _ v whole.final.says) ∙ is
+
+    by_first : (o : Option Verdict) → first_no limits.document whole.final.events ≡ o → AnswersText limits log n uri (missing_answer v)
+    by_first None none =
+        let all : whole.final.events ≡ heard = sym (kept_clean limits.document whole.final.events none) ∙ within in
+        text_missing limits log n uri v whole (subst (λ es. count_of (is_of Editor) es < n) (sym all) few)
+    by_first (Some w) some =
+        let here = found (no_at limits.document) [] whole.final.events w some in
+        let offends : Offends limits whole.records w = record { events = whole.final.events; session = whole.final.session; offends = some } in
+        let same : w ≡ v = final_more limits whole.records whole.records [] whole.fault w v (sym (append-nil whole.records)) offends whole.final in
+        let front : here.front ≡ heard = sym (kept_no limits.document here.front here.here here.after w here.none here.at) ∙ ap (kept_within limits.document) (sym here.whole) ∙ within in (
+          v,
+          whole,
+          of_offence limits.document n uri v here.front here.here here.after whole.final.events (subst (λ es. count_of (is_of Editor) es < n) (sym front) few) here.none (here.at ∙ ap Some same) here.whole,
+        )
+
+-- ---- a run
+
+-- these events of the log were heard, among which are fewer messages of the editor's
+pub record Reading (limits : Bounds) (e : EventReader) (start now : Told) (n : ℕ) : Type 0 where
+  pub heard : List Event
+  pub so_far : SoFar limits e start now heard
+  pub few : count_of (is_of Editor) heard < n
+
+pub nothing_read : (limits : Bounds) (e : EventReader) (start : Told) (n : ℕ) → SoFar limits e start start [] → 0 < n → Reading limits e start start n
+nothing_read limits e start n so_far positive = record { heard = []; so_far = so_far; few = positive }
+
+count_other : (xs : List Event) (e : Event) → is_of Editor e ≡ false → count_of (is_of Editor) (xs ++ e ∷ []) ≡ count_of (is_of Editor) xs
+count_other xs e other =
+    let none : count_of (is_of Editor) (e ∷ []) ≡ 0 = ap (λ b. length (if b then e ∷ [] else [])) other in
+    let all = count-append (is_of Editor) xs (e ∷ []) in
+    omega (arith, none, all)
+
+-- the message is the last event, or has still to come
+reached_last : (n : ℕ) (xs : List Event) (e : Event) → count_of (is_of Editor) xs < n → count_of (is_of Editor) (xs ++ e ∷ []) ≡ n → up_to_editor n [] (xs ++ e ∷ []) ≡ Some (xs ++ e ∷ [])
+reached_last n xs e few reached = by_own (is_of Editor e) refl
+  where
+    by_own : (b : Bool) → is_of Editor e ≡ b → up_to_editor n [] (xs ++ e ∷ []) ≡ Some (xs ++ e ∷ [])
+    by_own true own = reached_now n xs e (sym (count_one xs e own) ∙ reached) own
+    by_own false other = absurd (omega (arith, few, reached, count_other xs e other))
+
+still_few : (n : ℕ) (xs : List Event) (e : Event) → count_of (is_of Editor) xs < n → (count_of (is_of Editor) (xs ++ e ∷ []) ≡ n → ⊥) → count_of (is_of Editor) (xs ++ e ∷ []) < n
+still_few n xs e few unreached = by_own (is_of Editor e) refl
+  where
+    by_own : (b : Bool) → is_of Editor e ≡ b → count_of (is_of Editor) (xs ++ e ∷ []) < n
+    by_own true own = omega (arith, few, unreached, count_one xs e own)
+    by_own false other = omega (arith, few, count_other xs e other)
+
+module _ (limits : Bounds) (e : EventReader) (start now : Told) (n : ℕ) (heard : List Event) (event : Event) (few : count_of (is_of Editor) heard < n) (s : SoFar limits e start now (heard ++ event ∷ [])) where
+  exact_count : e.judge.counts.editor ≡ count_of (is_of Editor) (heard ++ event ∷ [])
+  exact_count =
+      let all = heard ++ event ∷ [] in
+      let few_all = so_far_few limits e start now all s in
+      let sizes = so_far_range limits e start now all s in
+      omega (arith, s.hears.follows.counted.editor, few_all, sizes.log_high, count_within all)
+    where
+      count_within : (xs : List Event) → count_of (is_of Editor) xs ≤ length xs
+      count_within [] = omega arith
+      count_within (x ∷ xs) = by_own (is_of Editor x) (count_within xs)
+        where
+          by_own : (b : Bool) → count_of (is_of Editor) xs ≤ length xs → length (if b then x ∷ filter (is_of Editor) xs else filter (is_of Editor) xs) ≤ length (x ∷ xs)
+          by_own true p = omega (arith, p)
+          by_own false p = omega (arith, p)
+
+  pub reads_on : (e.judge.counts.editor ≡ n → ⊥) → Reading limits e start now n
+  reads_on unreached = record { heard = heard ++ event ∷ []; so_far = s; few = still_few n heard event few (λ is. unreached (exact_count ∙ is)) }
+
+  pub text_found : (uri : List ℕ) (answer : TextAnswer) → e.judge.counts.editor ≡ n
+      → ((events : List Event) → Follows e.judge.messages e.judge.documents e.judge.counts events → answer ≡ held_answer (held e.judge.documents.limit uri (calls events)))
+      → OfRead limits start now (λ log. AnswersText limits log n uri answer) × (now.failures ≡ start.failures)
+  text_found uri answer reached told =
+      let all = heard ++ event ∷ [] in
+      let limit : e.judge.documents.limit ≡ limits.document = s.hears.limits.documents ∙ ap (λ (b : Bounds). b.document) s.alike in
+      let is = told all s.hears.follows ∙ ap (λ l. held_answer (held l uri (calls all))) limit in (
+        read_map limits start now (BeginsWith limits all) (λ log. AnswersText limits log n uri answer)
+            (λ log begins. subst (AnswersText limits log n uri) (sym is) (text_held limits n uri all (reached_last n heard event few (sym exact_count ∙ reached)) (so_far_clean limits e start now all s) log begins))
+            (so_far_begins limits e start now all s),
+        s.at.failures,
+      )
+
+pub text_none : (limits : Bounds) (start now : Told) (n : ℕ) (uri : List ℕ) (heard : List Event) (v : Verdict) (answer : TextAnswer) → count_of (is_of Editor) heard < n → answer ≡ missing_answer v → Found limits start now heard v → OfRead limits start now (λ log. AnswersText limits log n uri answer)
+text_none limits start now n uri heard v answer few is found =
+    read_map limits start now (λ log. EndsAt limits log heard v) (λ log. AnswersText limits log n uri answer) (λ log ends. subst (AnswersText limits log n uri) (sym is) (text_ended limits n uri heard v few log ends)) found.of_read
+
+-- the verdict of an outcome
+pub refused_read : (limits : Bounds) (before after : Told) (n : ℕ) (uri : List ℕ) (given v : code.Verdict) → (let outcome : Result Outcome RunFault = Ok (Judged given) in outcome) ≡ Ok (Judged v)
+    → OfRead limits before after (λ log. AnswersText limits log n uri (refused (verdict_view given))) → OfRead limits before after (λ log. AnswersText limits log n uri (refused (verdict_view v)))
+refused_read limits before after n uri given v e told = judged_as given v (λ w. OfRead limits before after (λ log. AnswersText limits log n uri (refused (verdict_view w)))) e told
+
+-- ---- what the answer says
+
+pub text_answered : (limits : Bounds) (start now : Told) (n : ℕ) (uri : List ℕ) (r : Result answer.TextAnswer RunFault) → GivesText limits start now n uri r → IfOk r (λ a. OfRead limits start now (λ log. AnswersText limits log n uri (answer_view a)))
+text_answered limits start now n uri (Ok a) g = g.0
+text_answered limits start now n uri (Err fault) g = tt
+
+pub text_failures : (limits : Bounds) (start now : Told) (n : ℕ) (uri : List ℕ) (r : Result answer.TextAnswer RunFault) → GivesText limits start now n uri r → now.failures ≡ failures_of r start.failures
+text_failures limits start now n uri (Ok a) g = g.1
+text_failures limits start now n uri (Err fault) g = g.failures
+
+pub text_within : (limits : Bounds) (start now : Told) (n : ℕ) (uri : List ℕ) (r : Result answer.TextAnswer RunFault) → GivesText limits start now n uri r → GaveAtMost (limits.log + 1) start now
+text_within limits start now n uri (Ok a) g = read_within limits start now _ g.0
+text_within limits start now n uri (Err fault) g = read_within limits start now _ g.of_read
+
+pub text_unwritten : (limits : Bounds) (start now : Told) (n : ℕ) (uri : List ℕ) (r : Result answer.TextAnswer RunFault) → GivesText limits start now n uri r → r ≡ Err faults.Write → ⊥
+text_unwritten limits start now n uri (Ok a) g e = absurd cc
+text_unwritten limits start now n uri (Err fault) g e = g.unwritten (let same : fault ≡ faults.Write = cc e in same)

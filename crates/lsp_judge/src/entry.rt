@@ -1,0 +1,48 @@
+//! What a log has next.
+ghost use Rattle.std.specs.Prelude.{◌≡◌, ◌<◌, List, IfOk};
+ghost use Rattle.lsp_frame.specs.Told.{Told};
+ghost use Rattle.lsp_log.specs.Log as logs;
+ghost use Rattle.lsp_log.specs.Reader.{ahead};
+ghost use Rattle.lsp_judge.specs.Entries.{IsAt, EntryIs, IfRecord};
+
+use lsp_frame::Source;
+use lsp_log::{LogCode, LogFault, LogReader, Record};
+use lsp_verdict::RunFault;
+
+/// The next entry of a log.
+#[derive(Drop)]
+pub(crate) enum Entry {
+    /// A record.
+    Record(Record),
+    /// The log ends here, without a fault.
+    End,
+    /// The log has this fault.
+    Bad {
+        /// The number of the record, from 1; 0 for the first line.
+        number: u64,
+        fault: LogCode,
+    },
+}
+
+/// Reads the next entry of a log.
+///
+/// # Errors
+/// `Read` where the source failed, and `Memory` where memory was refused for a record.
+pub(crate) fn next_entry<R: Source>(log: &mut LogReader, reader: &mut R) -> Result<Entry, RunFault>
+    ensures limits { log.new.limits ≡ log.old.limits }
+    // A record leaves less to give, so that a caller's loop ends.
+    ensures less { IfOk result (λ entry. IfRecord entry (ahead log.new < ahead log.old)) }
+    ensures answer { (start : Told) (records : List logs.Record) → IsAt log.old start (R.told reader.old) records
+        → EntryIs log.new log.old.limits start (R.told reader.new) records result }
+{
+    match log.next(reader) {
+        Ok(Some(record)) => Ok(Entry::Record(record)),
+        Ok(None) => Ok(Entry::End),
+        Err(LogFault::Bad { number, code }) => Ok(Entry::Bad {
+            number,
+            fault: code,
+        }),
+        Err(LogFault::Read) => Err(RunFault::Read),
+        Err(LogFault::Memory) => Err(RunFault::Memory),
+    }
+}

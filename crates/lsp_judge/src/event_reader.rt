@@ -1,0 +1,135 @@
+//! The events of a log, heard one by one up to its verdict.
+ghost use Rattle.std.specs.Prelude.{◌≡◌, ◌<◌, ◌≤◌, ℕ, List, [], None, Ok};
+ghost use Rattle.lsp_frame.specs.Bounds.{Bounds};
+ghost use Rattle.lsp_frame.specs.Told.{Told};
+ghost use Rattle.lsp_log.specs.Reader.{ahead};
+ghost use Rattle.lsp_verdict.specs.Event.{Event};
+ghost use Rattle.lsp_judge.specs.LogEvents.{SoFar, IsFresh, IsIdle, Pulls, PullsHere, TakesEntry, GivesVerdict};
+ghost use Rattle.lsp_judge.specs.TextAnswers.{AnswersHeld};
+
+use crate::entry::{Entry, next_entry};
+use crate::heard::Heard;
+use crate::judge::Judge;
+use crate::text_answer::TextAnswer;
+use lsp_frame::{Limits, Source};
+use lsp_log::LogReader;
+use lsp_rpc::Memory;
+use lsp_text::Lined;
+use lsp_verdict::{RunFault, Verdict};
+use std::alloc::Global;
+
+/// Reads the events of a log one by one, up to its verdict.
+#[derive(Drop)]
+pub(crate) struct EventReader {
+    log: LogReader,
+    judge: Judge<Lined>,
+}
+
+/// What a log has next.
+#[derive(Drop)]
+pub(crate) enum Next {
+    /// An event that doesn't offend.
+    Event(Heard),
+    /// The verdict on the log.
+    Verdict(Verdict),
+}
+
+impl EventReader {
+    /// A reader that heard nothing.
+    pub(crate) fn new(alloc: Global, limits: Limits) -> EventReader
+        ensures limits { result.log.limits ≡ limits }
+        ensures fresh { (start : Told) → IsFresh result start }
+    {
+        EventReader {
+            log: LogReader::new(alloc, limits),
+            judge: Judge::new(alloc, limits),
+        }
+    }
+
+    /// Hears the next event of the log, or gives its verdict, behind which there is none.
+    ///
+    /// # Errors
+    /// `Read` where the source failed, and `Memory` where memory was refused.
+    pub(crate) fn next<R: Source>(&mut self, reader: &mut R) -> Result<Next, RunFault>
+        requires ungiven { self.old.judge.given ≡ None }
+        ensures answer { (limits : Bounds) (start : Told) (heard : List Event) → SoFar limits self.old start (R.told reader.old) heard
+            → Pulls limits self.new start (R.told reader.new) heard result }
+    {
+        loop {
+            if let Some(next) = self.hear()? {
+                return Ok(next);
+            }
+            if let Some(next) = self.take_entry(reader)? {
+                return Ok(next);
+            }
+        }
+    }
+
+    /// Hears all events of the log, and gives its verdict.
+    pub(crate) fn verdict<R: Source>(&mut self, reader: &mut R) -> Result<Verdict, RunFault>
+        requires fresh { IsFresh self.old (R.told reader.old) }
+        ensures answer { GivesVerdict self.old.log.limits (R.told reader.old) (R.told reader.new) result }
+    {
+        loop {
+            match self.next(reader)? {
+                Next::Event(heard) => drop(heard),
+                Next::Verdict(verdict) => return Ok(verdict),
+            }
+        }
+    }
+
+    /// Hears the next event of the records read, or gives the verdict where it offends.
+    fn hear(&mut self) -> Result<Option<Next>, RunFault>
+        ensures log { self.new.log ≡ self.old.log }
+        ensures given { self.new.judge.given ≡ self.old.judge.given }
+        ensures answer { (limits : Bounds) (start now : Told) (heard : List Event) → SoFar limits self.old start now heard
+            → PullsHere limits self.new start now heard result }
+    {
+        match self.judge.next() {
+            Ok(Some(heard)) => Ok(Some(Next::Event(heard))),
+            Ok(None) => Ok(None),
+            Err(ruling) => Ok(Some(Next::Verdict(ruling.answer()?))),
+        }
+    }
+
+    /// Takes the next record of the log, or gives the verdict at its end.
+    fn take_entry<R: Source>(&mut self, reader: &mut R) -> Result<Option<Next>, RunFault>
+        requires ungiven { self.old.judge.given ≡ None }
+        ensures given { result ≡ Ok None → self.new.judge.given ≡ self.old.judge.given }
+        ensures less { result ≡ Ok None → ahead self.new.log < ahead self.old.log }
+        ensures answer { (limits : Bounds) (start : Told) (heard : List Event) → IsIdle limits self.old start (R.told reader.old) heard
+            → TakesEntry limits self.new start (R.told reader.new) heard result }
+    {
+        match next_entry(&mut self.log, reader)? {
+            Entry::Record(record) => {
+                self.judge.push(record)?;
+                Ok(None)
+            }
+            Entry::End => Ok(Some(Next::Verdict(self.judge.finish()?))),
+            Entry::Bad { number, fault } => {
+                Ok(Some(Next::Verdict(self.judge.bad_log(number, fault))))
+            }
+        }
+    }
+
+    /// How many events were heard.
+    pub(crate) fn count(&self) -> u64
+        ensures { result ≡ self.now.judge.counts.all }
+    {
+        self.judge.count()
+    }
+
+    /// How many messages of the editor's were heard.
+    pub(crate) fn editor_count(&self) -> u64
+        ensures { result ≡ self.now.judge.counts.editor }
+    {
+        self.judge.editor_count()
+    }
+
+    /// The text that is held of a URI just after the events heard.
+    pub(crate) fn text_of(&self, alloc: Global, uri: &str) -> Result<TextAnswer, Memory>
+        ensures { AnswersHeld self.now.judge uri.now result }
+    {
+        self.judge.text_of(alloc, uri)
+    }
+}

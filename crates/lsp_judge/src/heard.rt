@@ -1,0 +1,31 @@
+//! Events that were heard, and what is still to be heard of a record.
+use lsp_rpc::{Message, Side};
+
+/// An event that was heard and doesn't offend.
+#[derive(Drop)]
+pub(crate) enum Heard {
+    /// A message, without its params and the value of a result.
+    Message {
+        side: Side,
+        message: Message,
+    },
+    /// A text that the editor showed.
+    Snapshot {
+        version: i32,
+        uri: String,
+        text: String,
+    },
+}
+
+/// What a record brings that was not heard yet.
+#[derive(Drop)]
+pub(crate) enum Turn {
+    /// Contents of this side, which its decoder holds.
+    Bytes(Side),
+    /// A snapshot.
+    Snapshot {
+        version: i32,
+        uri: String,
+        text: String,
+    },
+}

@@ -1,0 +1,115 @@
+//! The text that is held after a message of the editor's.
+ghost use Rattle.std.specs.Prelude.{◌≡◌, ◌⊎◌, ◌<◌, ◌+◌, ℕ, List, None, Ok, Err, IfOk};
+ghost use Rattle.lsp_frame.specs.Told.{Took};
+ghost use lib.Utf8.{encodes};
+ghost use Rattle.lsp_verdict.specs.Given.{verdict_view};
+ghost use Rattle.lsp_verdict.specs.RunIo.{OfRead, GaveAtMost, AppendsFront, source_failures, sink_failures};
+ghost use Rattle.lsp_verdict.specs.Shown.{text_is, no_document, too_few, refused};
+ghost use Rattle.lsp_verdict.specs.TextAfter.{AnswersText};
+ghost use Rattle.lsp_judge.specs.TextAnswers.{answer_view};
+ghost use Rattle.lsp_judge.specs.LogEvents.{IsFresh, GivesText, failures_of};
+
+use crate::event_reader::{EventReader, Next};
+use crate::text_answer::TextAnswer;
+use lsp_frame::{Limits, Sink, Source, put_all};
+use lsp_verdict::{Outcome, RunFault, StreamFault, Verdict};
+use std::alloc::Global;
+
+/// Reads a log up to the editor's message of this number, from 1, and answers with the text that the
+/// server holds of a URI just after it.
+///
+/// Where that message does not come, or an event up to it offends, the log is read up to its verdict.
+///
+/// # Errors
+/// `Read` where the source failed, `Memory` where memory was refused; `Write` is none of its answers.
+pub fn text_after<R: Source>(
+    alloc: Global,
+    reader: &mut R,
+    limits: Limits,
+    number: u64,
+    uri: &str,
+) -> Result<TextAnswer, RunFault>
+    requires { 0 < number }
+    // The answer is that of the log read, however it goes on where its end was not met.
+    ensures answer { IfOk result (λ answer. OfRead limits (R.told reader.old) (R.told reader.new)
+        (λ log. AnswersText limits log number uri.now (answer_view answer))) }
+    ensures no_write_fault { result ≡ Err RunFault.Write → ⊥ }
+    ensures source_failures { (R.told reader.new).failures ≡ failures_of result (R.told reader.old).failures }
+    // At most one byte past the limit is read.
+    ensures limit { GaveAtMost (limits.log + 1) (R.told reader.old) (R.told reader.new) }
+{
+    let mut events = EventReader::new(alloc, limits);
+    text_by(alloc, &mut events, reader, number, uri)
+}
+
+/// Hears the events of a log up to the editor's message of this number, and answers for the text that
+/// is held just after it.
+fn text_by<R: Source>(
+    alloc: Global,
+    events: &mut EventReader,
+    reader: &mut R,
+    number: u64,
+    uri: &str,
+) -> Result<TextAnswer, RunFault>
+    requires positive { 0 < number }
+    requires fresh { IsFresh events.old (R.told reader.old) }
+    ensures { GivesText events.old.log.limits (R.told reader.old) (R.told reader.new) number uri.now result }
+{
+    loop {
+        match events.next(reader)? {
+            Next::Event(heard) => drop(heard),
+            Next::Verdict(verdict) => return Ok(TextAnswer::missing(verdict)),
+        }
+        if events.editor_count() == number {
+            return Ok(events.text_of(alloc, uri)?);
+        }
+    }
+}
+
+/// Reads a log as [`text_after`] does, and writes the text and nothing else.
+///
+/// # Errors
+/// `Read` where the source failed, `Write` where the sink did, and `Memory` where memory was refused.
+pub fn run_text<R: Source, W: Sink>(
+    alloc: Global,
+    reader: &mut R,
+    writer: &mut W,
+    limits: Limits,
+    number: u64,
+    uri: &str,
+) -> Result<Outcome, RunFault>
+    requires { 0 < number }
+    // The text of the log read is written, however that goes on where its end was not met.
+    ensures text { result ≡ Ok Outcome.Done → (text : List ℕ) × Took (W.told writer.old) (W.told writer.new) (encodes text)
+        × OfRead limits (R.told reader.old) (R.told reader.new) (λ log. AnswersText limits log number uri.now (text_is text)) }
+    // Nothing else is written, and another outcome tells why the log has no text.
+    ensures silent { IfOk result (λ outcome. (outcome ≡ Outcome.Done) ⊎ (W.told writer.new ≡ W.told writer.old)) }
+    ensures no_document { result ≡ Ok Outcome.NoDocument
+        → OfRead limits (R.told reader.old) (R.told reader.new) (λ log. AnswersText limits log number uri.now no_document) }
+    ensures too_few { result ≡ Ok Outcome.TooFew
+        → OfRead limits (R.told reader.old) (R.told reader.new) (λ log. AnswersText limits log number uri.now too_few) }
+    ensures refused { (v : Verdict) → result ≡ Ok (Outcome.Judged v)
+        → OfRead limits (R.told reader.old) (R.told reader.new) (λ log. AnswersText limits log number uri.now (refused (verdict_view v))) }
+    ensures no_stream { (frame : ℕ) (fault : StreamFault) → result ≡ Ok (Outcome.Stream frame fault) → ⊥ }
+
+    // After a read fault or for want of memory nothing is written, after a write fault a prefix of the
+    // text.
+    ensures read_fault { result ≡ Err RunFault.Read → W.told writer.new ≡ W.told writer.old }
+    ensures memory { result ≡ Err RunFault.Memory → W.told writer.new ≡ W.told writer.old }
+    ensures write_fault { result ≡ Err RunFault.Write → (text : List ℕ) × AppendsFront (W.told writer.old) (W.told writer.new) (encodes text)
+        × OfRead limits (R.told reader.old) (R.told reader.new) (λ log. AnswersText limits log number uri.now (text_is text)) }
+    ensures source_failures { (R.told reader.new).failures ≡ source_failures result (R.told reader.old).failures }
+    ensures sink_failures { (W.told writer.new).failures ≡ sink_failures result (W.told writer.old).failures }
+    // At most one byte past the limit is read.
+    ensures limit { GaveAtMost (limits.log + 1) (R.told reader.old) (R.told reader.new) }
+{
+    match text_after(alloc, reader, limits, number, uri)? {
+        TextAnswer::Text(text) => {
+            put_all(writer, text.as_bytes())?;
+            Ok(Outcome::Done)
+        }
+        TextAnswer::NoDocument => Ok(Outcome::NoDocument),
+        TextAnswer::TooFew => Ok(Outcome::TooFew),
+        TextAnswer::Refused(verdict) => Ok(Outcome::Judged(verdict)),
+    }
+}

@@ -1,0 +1,96 @@
+-- A log has one normal form.
+use Rattle.std.specs.Option.{option_or}
+use Rattle.std.proofs.Common.{◌≡◌, ℕ, List, [], ◌++◌, Option, Some, refl, sym, ap, subst, ◌∙◌}
+use Rattle.lsp_frame.specs.Bounds.{Bounds, IsInRange}
+use Rattle.lsp_types.specs.declared.side.Side.TheVariants.{Editor, Server}
+use Rattle.lsp_log.specs.Log.{Record, BeginsLog}
+use Rattle.lsp_log.specs.declared.fault.LogCode.{LogCode}
+use Rattle.lsp_streams.specs.Normal.{form_of, no_at, first_broken, fault_of, rest_of, IsNormal}
+use Rattle.lsp_streams.specs.NormalLaws.{SomeNormalForm, OneNormalForm}
+use Rattle.lsp_verdict.specs.Outcome.{ending}
+use Rattle.lsp_verdict.specs.Placed.{Raw, Placed, joined}
+use Rattle.lsp_verdict.specs.Verdict.{Verdict, Ending, bad_log_of}
+use Rattle.lsp_verdict.proofs.Below.{one_log, some_log, some_stream, records_come_first}
+use Rattle.lsp_verdict.proofs.LookBackLemmas.{first_of-more}
+use Rattle.lsp_streams.proofs.Forming.Forms.{form_stops}
+use Rattle.lsp_verdict.proofs.Outcomes.{placed_front, one_rest}
+use Rattle.lsp_verdict.proofs.PlacedLemmas.{one_placed}
+use Rattle.lsp_verdict.proofs.Sessions.{some_placed}
+
+-- a fault of the frames among the first records decides
+pub record Decides (size : ℕ) (raws all : List Raw) (v : Verdict) : Type 0 where
+  pub form : form_of size all ≡ form_of size raws
+  pub breaks : first_broken all ≡ Some v
+
+pub decides : (limits : Bounds) (rs us others : List Record) (raws all : List Raw) (v : Verdict) → us ≡ rs ++ others → Placed limits rs raws → Placed limits us all → first_broken raws ≡ Some v → Decides limits.chunk raws all v
+decides limits rs us others raws all v cut placed whole breaks =
+    let later = placed_front limits [] [] rs others raws all placed (subst (λ (xs : List Record). Placed limits xs all) cut whole) in
+    record {
+      form = ap (form_of limits.chunk) later.1 ∙ form_stops limits.chunk raws later.0 v breaks;
+      breaks = ap first_broken later.1 ∙ first_of-more no_at raws later.0 v breaks;
+    }
+
+pub broken_is : (raws : List Raw) (end : Ending) (v : Verdict) → first_broken raws ≡ Some v → fault_of raws end ≡ Some v
+broken_is raws end v breaks = ap (λ (o : Option Verdict). option_or o (option_or (bad_log_of end.log_fault) (rest_of raws end.editor_rest end.server_rest))) breaks
+
+-- ---- each log has a normal form
+
+pub some_normal_form : SomeNormalForm
+some_normal_form limits log =
+    let whole = some_log limits log in
+    let placed = some_placed limits [] [] whole.0 in
+    let editor = some_stream limits (joined Editor whole.0) in
+    let server = some_stream limits (joined Server whole.0) in (
+      form_of limits.chunk placed.0,
+      fault_of placed.0 (ending whole.1 editor.1 server.1),
+      record {
+        records = whole.0;
+        log_fault = whole.1;
+        raws = placed.0;
+        editor = editor.1;
+        server = server.1;
+        is_log = whole.2;
+        placed = placed.1;
+        editor_rest = (editor.0, editor.2, editor.3);
+        server_rest = (server.0, server.2, server.3);
+        ends = refl;
+        written = refl;
+      },
+    )
+
+-- a fault of the frames among the events of its first records ends it, whatever follows
+pub broken_normal : (limits : Bounds) → IsInRange limits → (log rest : List ℕ) (rs : List Record) (raws : List Raw) (v : Verdict) → BeginsLog limits log rs rest → Placed limits rs raws → first_broken raws ≡ Some v → IsNormal limits log (form_of limits.chunk raws) (Some v)
+broken_normal limits sizes log rest rs raws v begins placed breaks =
+    let w = (some_normal_form limits log).2 in
+    let cut = records_come_first limits sizes log rest rs w.records w.log_fault begins w.is_log in
+    let d = decides limits rs w.records cut.0 raws w.raws v cut.1 placed w.placed breaks in
+    record {
+      records = w.records;
+      log_fault = w.log_fault;
+      raws = w.raws;
+      editor = w.editor;
+      server = w.server;
+      is_log = w.is_log;
+      placed = w.placed;
+      editor_rest = w.editor_rest;
+      server_rest = w.server_rest;
+      ends = broken_is w.raws (ending w.log_fault w.editor w.server) v d.breaks;
+      written = sym d.form;
+    }
+
+-- ---- and one only
+
+pub one_normal_form : OneNormalForm
+one_normal_form limits sizes log out other f g a b =
+    let same = one_log limits sizes log a.records b.records a.log_fault b.log_fault a.is_log b.is_log in
+    let raws : a.raws ≡ b.raws = one_placed limits [] [] a.records a.raws b.raws a.placed (subst (λ (rs : List Record). Placed limits rs b.raws) (sym same.0) b.placed) in
+    let editor : a.editor ≡ b.editor = one_rest limits (joined Editor a.records) (joined Editor b.records) a.editor b.editor (ap (joined Editor) same.0) a.editor_rest b.editor_rest in
+    let server : a.server ≡ b.server = one_rest limits (joined Server a.records) (joined Server b.records) a.server b.server (ap (joined Server) same.0) a.server_rest b.server_rest in (
+      a.written ∙ ap (form_of limits.chunk) raws ∙ sym b.written,
+      sym a.ends
+          ∙ ap (λ (rs : List Raw). fault_of rs (ending a.log_fault a.editor a.server)) raws
+          ∙ ap (λ (e : Option (ℕ × LogCode)). fault_of b.raws (ending e a.editor a.server)) same.1
+          ∙ ap (λ (r : List ℕ). fault_of b.raws (ending b.log_fault r a.server)) editor
+          ∙ ap (λ (r : List ℕ). fault_of b.raws (ending b.log_fault b.editor r)) server
+          ∙ b.ends,
+    )

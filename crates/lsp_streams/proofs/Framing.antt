@@ -1,0 +1,7 @@
+-- A run over one raw stream: what is due for it, and what is written.
+pub mod Parts
+pub mod Found
+pub mod Due
+pub mod Runs
+pub mod Endings
+pub mod Outputs
