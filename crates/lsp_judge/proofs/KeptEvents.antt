@@ -48,9 +48,6 @@ kept_more limit events extra clean = by_first (first_no limit (events ++ extra))
               ∙ kept_no limit (events ++ here.front) here.here here.after v front here.at,
         )
 
-clean_front : (limit : ℕ) (events later : List Event) → first_no limit (events ++ later) ≡ None → first_no limit events ≡ None
-clean_front limit events later clean = (or_none_parts (first_no limit events) _ (sym (first_of-append (no_at limit) events later) ∙ clean)).0
-
 -- they are those before the verdict's place
 kept_early : (limit : ℕ) (events : List Event) (v : Verdict) → first_no limit events ≡ Some v → kept v events ≡ kept_within limit events
 kept_early limit events v is = sym (ap (λ o. kept_by o events) is)

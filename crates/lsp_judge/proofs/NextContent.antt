@@ -24,13 +24,6 @@ use Rattle.lsp_judge.specs.declared.ruling.Ruling.TheVariants.{No, BadLog, Memor
 use Rattle.lsp_verdict.specs.declared.verdict.Who.{Who}
 use Rattle.lsp_judge.proofs.Following.{ruled}
 
--- a frame is no empty list of bytes
-pub shorter : (old new : decoder.State) (content : List ℕ) → decoder.Next old new (Ok (Some content)) → length new.rest < length old.rest
-shorter old new content next =
-    let gives : decoder.GivesFrame old new content = next.step in
-    let ends = gives.is_frame.part.ends in
-    omega (arith, ap length gives.rest, length-append gives.frame new.rest, ap length gives.is_frame.whole, length-append gives.is_frame.header content, ap length ends.1, length-append ends.0 blank_line)
-
 pub same_limits : (old new : decoder.State) (content : List ℕ) → decoder.Next old new (Ok (Some content)) → new.limits ≡ old.limits
 same_limits old new content next =
     let gives : decoder.GivesFrame old new content = next.step in

@@ -306,10 +306,6 @@ heard_snapshot old m documents c version uri text now_turn answer rs before is n
     subst (λ (t : Option Turn). HearsNext (record old { messages = m; documents = documents; counts = c; turn = t }) rs before answer) (sym none)
     (heard_snapshot_at old m documents c version uri text answer rs before is same_limit told h)
 
--- nothing is due
-pub heard_all : (old : State) (rs : List Record) (before : List Event) → old.turn ≡ None → IsHearing old rs before → HearsNext old rs before None
-heard_all old rs before idle h = (h, idle)
-
 -- ---- an event offends
 
 module _ (limits : Bounds) (rs : List Record) (past due : List Raw) (before : List Event) (placed : Placed limits rs (past ++ due)) (read : AllZip Reads past before) where

@@ -13,11 +13,6 @@ verdict_in (No rule who number event) = Some (no rule who number event)
 verdict_in (BadLog number code) = Some (bad_log number code)
 verdict_in Memory = None
 
--- an answer, as a verdict, if it is one
-abbrev pub answered : Result Verdict memory.Memory → Option Verdict
-answered (Ok v) = Some v
-answered (Err refused) = None
-
 -- the ruling is the No at this event, unless memory ran out
 abbrev pub IsNoAt : ℕ → List Event → Event → Ruling → Type 0
 IsNoAt limit before event (No rule who number at) = (v : Verdict) × (no_at limit before event ≡ Some v) × (no rule who number at ≡ as_given v)
