@@ -160,7 +160,27 @@ fn snapshots<S: TextStore>(rt: &impl Abort, alloc: Global) -> Result<(), Fail> {
         (Show(5, "b"), Waits, a, (2, 3)),
         (whole(6, "b"), Done, Some((6, "b")), (0, 3)),
     ];
-    follow::<S>(rt, alloc, "a version that is passed over", PROFILE, &passed)
+    follow::<S>(rt, alloc, "a version that is passed over", PROFILE, &passed)?;
+    let c = Some((4, "c"));
+    let later_first = [
+        (Open(3, "a"), Done, a, (0, 0)),
+        (Show(9, "z"), Waits, a, (1, 1)),
+        (Show(5, "b"), Waits, a, (2, 2)),
+        (whole(4, "c"), Done, c, (2, 2)),
+        (whole(5, "c"), Rule(702), c, (2, 2)),
+        (whole(5, "b"), Done, b, (1, 1)),
+        (Show(7, "y"), Waits, b, (2, 2)),
+        (whole(8, "x"), Done, Some((8, "x")), (1, 2)),
+        (whole(9, "y"), Rule(702), Some((8, "x")), (1, 2)),
+        (whole(9, "z"), Done, Some((9, "z")), (0, 1)),
+    ];
+    follow::<S>(
+        rt,
+        alloc,
+        "a later version shown first",
+        PROFILE,
+        &later_first,
+    )
 }
 
 fn edits<S: TextStore>(rt: &impl Abort, alloc: Global) -> Result<(), Fail> {
@@ -269,6 +289,41 @@ fn sessions_over_plain_texts(rt: HostRuntime) -> Result<(), Fail> {
 #[test]
 fn sessions_over_lined_texts(rt: HostRuntime) -> Result<(), Fail> {
     all_sessions::<Lined>(&rt, rt.alloc())
+}
+
+fn are_open(docs: &Docs<Plain>, uris: &[&str]) -> bool {
+    if docs.len() != uris.len() {
+        return false;
+    }
+    for (index, uri) in uris.iter().enumerate() {
+        if docs.at(index) != Some(*uri) {
+            return false;
+        }
+    }
+    docs.at(uris.len()).is_none()
+}
+
+/// Four of six are closed, so that more than half of the places are empty.
+#[test]
+fn documents_keep_the_order_of_opening(rt: HostRuntime) -> Result<(), Fail> {
+    let mut docs: Docs<Plain> = Docs::new(rt.alloc(), Limits::profile());
+    for uri in ["a", "b", "c", "d", "e", "f"] {
+        docs.did_open(uri, 1, uri)?;
+    }
+    for uri in ["b", "d"] {
+        docs.did_close(uri)?;
+    }
+    assert!(rt; are_open(&docs, &["a", "c", "e", "f"]));
+    for uri in ["a", "c"] {
+        docs.did_close(uri)?;
+    }
+    docs.did_open("b", 2, "again")?;
+    assert!(rt; are_open(&docs, &["e", "f", "b"]));
+    docs.did_close("f")?;
+    docs.pack();
+    assert!(rt; are_open(&docs, &["e", "b"]));
+    assert!(rt; docs.version_of("b") == Some(2) && docs.version_of("f").is_none());
+    Ok(())
 }
 
 /// A copy for each change would begin to count its steps anew.
