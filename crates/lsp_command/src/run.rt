@@ -21,10 +21,10 @@ pub fn run_task<R: Source, W: Sink>(
     limits: Limits,
 ) -> Result<Outcome, RunFault>
     ensures answers { Answers limits task.entry (record {
-      left_before = R.remaining source.old;
-      left_after = R.remaining source.new;
-      taken_before = W.taken sink.old;
-      taken_after = W.taken sink.new;
+      source_before = R.told source.old;
+      source_after = R.told source.new;
+      sink_before = W.told sink.old;
+      sink_after = W.told sink.new;
     }) result }
     ensures source_failures { (R.told source.new).failures ≡ source_failures result (R.told source.old).failures }
     ensures sink_failures { (W.told sink.new).failures ≡ sink_failures result (W.told sink.old).failures }
@@ -48,10 +48,10 @@ pub fn run_through<R: Read + Drop, W: Write + Drop>(
     limits: Limits,
 ) -> Result<Outcome, RunFault>
     ensures ran { RanThrough limits task.entry (record {
-      left_before = ⟦<Inlet<R> as Source>⟧.remaining inlet.old;
-      left_after = ⟦<Inlet<R> as Source>⟧.remaining inlet.new;
-      taken_before = ⟦<Outlet<W> as Sink>⟧.taken outlet.old;
-      taken_after = ⟦<Outlet<W> as Sink>⟧.taken outlet.new;
+      source_before = ⟦<Inlet<R> as Source>⟧.told inlet.old;
+      source_after = ⟦<Inlet<R> as Source>⟧.told inlet.new;
+      sink_before = ⟦<Outlet<W> as Sink>⟧.told outlet.old;
+      sink_after = ⟦<Outlet<W> as Sink>⟧.told outlet.new;
     }) result }
     ensures flushed { OnOk result (unwritten outlet.new ≡ []) }
 {
