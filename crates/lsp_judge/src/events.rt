@@ -52,6 +52,16 @@ impl<S: TextStore> Events<S> {
         }
     }
 
+    /// Makes ready for a walk over all open documents and requests.
+    pub(crate) fn pack(&mut self)
+        ensures session { self.new.session ≡ self.old.session }
+        ensures docs { self.new.docs ≡ self.old.docs }
+        ensures counts { self.new.counts ≡ self.old.counts }
+    {
+        self.session.pack();
+        self.docs.pack();
+    }
+
     /// Hears what a content of a side says: the message that is the next event, but for its params and
     /// the value of a result, or the No at it.
     pub(crate) fn message(

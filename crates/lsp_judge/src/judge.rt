@@ -185,7 +185,7 @@ impl<S: TextStore> Judge<S> {
             self.given = Some(ruling);
             return ruling.answer();
         }
-        match summary_of(self.alloc, &self.events) {
+        match summary_of(self.alloc, &mut self.events) {
             Ok(summary) => Ok(Verdict::Yes(summary)),
             Err(refused) => {
                 self.given = Some(Ruling::Memory);

@@ -21,7 +21,7 @@ returns-in-Some-rest-clause-verdict g c =
 pub returns-in-Ok-clause-verdict : goal.returns-in-Ok-clause-verdict
 returns-in-Ok-clause-verdict g c = λ records v stands final.
     let given = ap (λ (s : State). s.given) (sym c.self.view_is) ∙ c.in_default.is in
-    let sums = subst (λ (s : State). (events : List Event) → Follows s.messages s.documents s.counts events → yes (summary_view c.in-Ok.summary) ≡ as_given (yes (summary s.documents.limit events))) c.self.view_is c.in-Ok.ensures in
+    let sums = subst (λ (s : State). (events : List Event) → Follows s.messages s.documents s.counts events → yes (summary_view c.in-Ok.summary) ≡ as_given (yes (summary s.documents.limit events))) c.self.view_is c.in-Ok.ensures.summary in
     yes_final c.args.self.now records _ v given c.in_default-rest.ensures sums stands final
 
 pub returns-in-Some-clause-yes : goal.returns-in-Some-clause-yes
