@@ -1,4 +1,4 @@
-use Rattle.std.proofs.Common.{ap, subst, ◌∙◌}
+use Rattle.std.proofs.Common.{Ok, subst, ◌∙◌}
 use Rattle.std.proofs.lemmas.Result.{err_from_is_err_and}
 use Rattle.lsp_frame.specs.Bounds.{Bounds}
 use Rattle.lsp_verdict.specs.Entries as entries
@@ -16,13 +16,15 @@ returns-clause-less g c = λ more. for_record _ _ (c.write_entry.ensures.more mo
 
 pub returns-clause-answer : goal.returns-clause-answer
 returns-clause-answer g c = λ limits source sink so_far.
-    let here = c.in_ok-entry.ensures.answer source so_far.records so_far.at in
-    c.write_entry.ensures.answer limits _ source _ sink so_far.records (c.in_ok-entry.ensures.limits ∙ so_far.limits_are) so_far.formed
-    (subst (λ (b : Bounds). EntryIs _ b source _ so_far.records _) so_far.limits_are here)
+    let now = g.R.Source.told c.next_entry.new.reader in
+    let here = subst (λ (b : Bounds). EntryIs c.next_entry.new.log b source now so_far.records (Ok c.in_ok-entry.entry)) so_far.limits_are (c.in_ok-entry.ensures.answer source so_far.records so_far.at) in
+    c.write_entry.ensures.answer limits c.next_entry.new.log source now sink so_far.records (c.in_ok-entry.ensures.limits ∙ so_far.limits_are) so_far.formed here
 
 pub returns-in_err-entry-clause-answer : goal.returns-in_err-entry-clause-answer
 returns-in_err-entry-clause-answer g c =
     let p = err_from_is_err_and c.from_residual.result c.from_residual.ensures.1 in
     rw (p.1, p.2) (λ limits source sink so_far.
-    broke_answers limits _ source _ sink _ so_far.records so_far.formed _
-    (subst (λ (b : Bounds). entries.BrokeOff b source _ so_far.records _) so_far.limits_are (c.in_err-entry.ensures.answer source so_far.records so_far.at)))
+    let now = g.R.Source.told c.next_entry.new.reader in
+    let fault = c.in_err-entry.field-0.0 in
+    broke_answers limits c.args.streams.now source now sink _ so_far.records so_far.formed fault
+    (subst (λ (b : Bounds). entries.BrokeOff b source now so_far.records fault) so_far.limits_are (c.in_err-entry.ensures.answer source so_far.records so_far.at)))
