@@ -5,7 +5,6 @@ pub mod Following
 pub mod NextContent
 pub mod Records
 pub mod Pulling
-pub mod Entries
 pub mod KeptEvents
 pub mod Answering
 pub mod LogEvents

@@ -27,8 +27,8 @@ use Rattle.lsp_verdict.proofs.Outcomes.{session_front, offends_final}
 use Rattle.lsp_verdict.proofs.RunReading.{read_map}
 use Rattle.lsp_verdict.proofs.Sessions.{same_session}
 use Rattle.lsp_verdict.proofs.Verdicts.{no_found}
-use Rattle.lsp_judge.specs.Entries as entries
-use Rattle.lsp_judge.specs.Entries.{IsAt, HasRecords, HasFirst, failures_after}
+use Rattle.lsp_verdict.specs.Entries as entries
+use Rattle.lsp_verdict.specs.Entries.{IsAt, HasRecords, HasFirst}
 use Rattle.lsp_judge.specs.Hearing.{IsHeard, IsHearing, OffendsAfter, Stops}
 use Rattle.lsp_judge.specs.LogEvents.{EndsAt, BeginsWith, SoFar, Found, BrokeOff, IsIdle}
 use Rattle.lsp_judge.specs.Rulings.{verdict_in}
@@ -37,7 +37,7 @@ use Rattle.lsp_judge.specs.Standing.{Keeps, IsOpen, Stands, StandsBy}
 use Rattle.lsp_judge.specs.declared.event_reader.EventReader.{EventReader}
 use Rattle.lsp_judge.specs.declared.ruling.Ruling.{Ruling}
 use Rattle.lsp_judge.specs.declared.ruling.Ruling.TheVariants as rulings
-use Rattle.lsp_judge.proofs.Entries.{is_first, at_start}
+use Rattle.lsp_verdict.proofs.Entries.{is_first, at_start}
 use Rattle.lsp_judge.proofs.KeptEvents.{kept_clean, kept_no, kept_more, kept_final}
 use Rattle.lsp_judge.proofs.Pulling.{open_hearing, hearing_open, hearing_session}
 

@@ -18,13 +18,12 @@ use Rattle.lsp_verdict.specs.Given.{verdict_view}
 use Rattle.lsp_verdict.specs.LookBack.{each_of, each_from}
 use Rattle.lsp_verdict.specs.Outcome.{IsVerdict}
 use Rattle.lsp_verdict.specs.Report.{report}
-use Rattle.lsp_verdict.specs.RunIo.{OfRead, Tells, source_failures, sink_failures}
+use Rattle.lsp_verdict.specs.RunIo.{OfRead, Tells, failures_after, source_failures, sink_failures}
 use Rattle.lsp_verdict.specs.Shown.{event_line, line_at, lines_of, show_of}
 use Rattle.lsp_verdict.specs.Verdict.{Verdict}
 use Rattle.lsp_verdict.proofs.Logs.{same_events, one_verdict}
 use Rattle.lsp_verdict.proofs.LookBackLemmas.{each_from-append, each_of-snoc}
 use Rattle.lsp_verdict.proofs.RunReading.{read_map}
-use Rattle.lsp_judge.specs.Entries.{failures_after}
 use Rattle.lsp_judge.specs.LogEvents.{EndsAt, BeginsWith, SoFar, Found, BrokeOff}
 use Rattle.lsp_judge.specs.ShownLog.{IsShown, BeginsShown, OneShown, ShowedAll, ShowedPart, line_of}
 use Rattle.lsp_judge.specs.declared.event_reader.EventReader.{EventReader}

@@ -5,7 +5,6 @@ pub mod Standing
 pub mod Next
 pub mod Hearing
 pub mod TextAnswers
-pub mod Entries
 pub mod LogEvents
 pub mod ShownLog
 pub mod Apart

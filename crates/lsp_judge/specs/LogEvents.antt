@@ -3,10 +3,11 @@ use Rattle.std.specs.Prelude.{◌≡◌, ℕ, List, [], ◌∷◌, ◌++◌, Opt
 use Rattle.lsp_frame.specs.Bounds.{Bounds}
 use Rattle.lsp_frame.specs.Told.{Told}
 use Rattle.lsp_log.specs.Log.{Record}
+use Rattle.lsp_verdict.specs.Entries.{IsAt}
 use Rattle.lsp_verdict.specs.Event.{Event}
 use Rattle.lsp_verdict.specs.Given.{verdict_view}
 use Rattle.lsp_verdict.specs.Outcome.{IsVerdict}
-use Rattle.lsp_verdict.specs.RunIo.{OfRead}
+use Rattle.lsp_verdict.specs.RunIo.{OfRead, failures_after}
 use Rattle.lsp_verdict.specs.Shown.{kept}
 use Rattle.lsp_verdict.specs.Verdict.{Verdict}
 use Rattle.lsp_verdict.specs.declared.outcome.RunFault.{RunFault}
@@ -15,7 +16,6 @@ use Rattle.lsp_verdict.specs.declared.outcome.RunFault.TheVariants as faults
 use Rattle.lsp_verdict.specs.TextAfter.{AnswersText}
 use Rattle.lsp_judge.specs.TextAnswers.{answer_view}
 use Rattle.lsp_judge.specs.declared.text_answer.TextAnswer.{TextAnswer}
-use Rattle.lsp_judge.specs.Entries.{IsAt, failures_after}
 use Rattle.lsp_judge.specs.Hearing.{IsHeard, IsHearing}
 use Rattle.lsp_judge.specs.declared.event_reader.EventReader.{EventReader}
 use Rattle.lsp_judge.specs.declared.event_reader.Next.{Next}

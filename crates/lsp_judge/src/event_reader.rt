@@ -7,7 +7,6 @@ ghost use Rattle.lsp_verdict.specs.Event.{Event};
 ghost use Rattle.lsp_judge.specs.LogEvents.{SoFar, IsFresh, IsIdle, Pulls, PullsHere, TakesEntry, GivesVerdict};
 ghost use Rattle.lsp_judge.specs.TextAnswers.{AnswersHeld};
 
-use crate::entry::{Entry, next_entry};
 use crate::heard::Heard;
 use crate::judge::Judge;
 use crate::text_answer::TextAnswer;
@@ -15,7 +14,7 @@ use lsp_frame::{Limits, Source};
 use lsp_log::LogReader;
 use lsp_rpc::Memory;
 use lsp_text::Lined;
-use lsp_verdict::{RunFault, Verdict};
+use lsp_verdict::{Entry, RunFault, Verdict, next_entry};
 use std::alloc::Global;
 
 /// Reads the events of a log one by one, up to its verdict.

@@ -9,7 +9,6 @@
 
 mod check;
 mod contents;
-mod entry;
 mod event_reader;
 mod events;
 mod fault;

@@ -2,18 +2,21 @@
 use Rattle.std.specs.Prelude.{◌≡◌, ℕ, List, ◌++◌, chars, map, option_map, Option, Some, None, Result, Ok, Err}
 use Rattle.std.specs.Io.KnownBytes.{IsAtEnd}
 use Rattle.std.specs.List.{flat_map}
-use Rattle.lsp_frame.specs.Bounds.{Bounds}
+use Rattle.lsp_frame.specs.Bounds.{Bounds, IsInRange, profile}
 use Rattle.lsp_frame.specs.Decoder as decoder
 use Rattle.lsp_frame.specs.Frame.{Frames}
 use Rattle.lsp_frame.specs.Sink.{Wrote}
-use Rattle.lsp_frame.specs.Told.{Told, Gave, Took}
+use Rattle.lsp_frame.specs.Told.{Told, Took}
 use Rattle.lsp_types.specs.declared.side.Side.{Side}
 use Rattle.lsp_types.specs.declared.side.Side.TheVariants.{Editor, Server}
-use Rattle.lsp_log.specs.Log.{Record, spelling}
+use Rattle.lsp_log.specs.Log.{Record, Fits, spelling}
 use Rattle.lsp_log.specs.Reader as reader
-use Rattle.lsp_log.specs.Reader.{kept_by}
+use Rattle.lsp_log.specs.Records.{record_view}
 use Rattle.lsp_verdict.specs.declared.counts.Counts.{Counts}
 use Rattle.lsp_streams.specs.declared.normal.Streams.{Streams}
+use Rattle.lsp_verdict.specs.Entries.{IsAt}
+use Rattle.lsp_verdict.specs.declared.entry.Entry.{Entry}
+use Rattle.lsp_verdict.specs.declared.entry.Entry.TheVariants as entries
 use Rattle.lsp_verdict.specs.declared.outcome.Outcome.{Outcome}
 use Rattle.lsp_verdict.specs.declared.outcome.Outcome.TheVariants.{Done, Judged, Stream, NoDocument, TooFew}
 use Rattle.lsp_verdict.specs.declared.outcome.RunFault.{RunFault}
@@ -136,6 +139,7 @@ BringsRecords limits side d counts old new sent more before (Err fault) = Brough
 -- the events of the records are written, and none of them is a fault of the frames
 pub record Formed (limits : Bounds) (s : Streams) (old new : Told) (records : List Record) : Type 0 where
   pub raws : List Raw
+  pub range : IsInRange limits
   pub placed : Placed limits records raws
   pub sound : first_broken raws ≡ None
   pub counted : Counted s.counts raws
@@ -178,22 +182,23 @@ pub record EndsWhole (limits : Bounds) (records : List Record) (raws : List Raw)
 -- ---- a run
 
 -- the reader of a log gave no end
-pub record IsReading (r : reader.State) : Type 0 where
-  pub unread : kept_by r ≡ None
-  pub bytes : List ℕ
+pub record IsReading (r : reader.State) (now : Told) : Type 0 where
+  pub start : Told
   pub records : List Record
-  pub stands : reader.StandsFor r bytes records
+  pub at : IsAt r start now records
 
 -- the records that were read so far are written
 pub record SoFar (limits : Bounds) (r : reader.State) (s : Streams) (before now sink_before sink_now : Told) : Type 0 where
-  pub bytes : List ℕ
   pub records : List Record
-  pub read : Gave before now bytes
-  pub no_fault : now.failures ≡ before.failures
+  pub at : IsAt r before now records
   pub limits_are : r.limits ≡ limits
-  pub unread : kept_by r ≡ None
-  pub stands : reader.StandsFor r bytes records
   pub formed : Formed limits s sink_before sink_now records
+
+-- a record that may stand in every log
+abbrev pub FitsRecord : Entry → Type 0
+FitsRecord (entries.Record next) = Fits profile (record_view next)
+FitsRecord entries.End = Unit {0}
+FitsRecord (entries.Bad number fault) = Unit {0}
 
 -- the normal form of the log is written, and the outcome carries its fault
 abbrev pub WroteNormal : Bounds → Told → Told → Told → Told → Outcome → Type 0

@@ -7,20 +7,21 @@ ghost use Rattle.lsp_frame.specs.Sink.{Wrote};
 ghost use Rattle.lsp_frame.specs.Told.{Told, Took};
 ghost use Rattle.lsp_log.specs.Log as log;
 ghost use Rattle.lsp_log.specs.Log.{Fits, first_line};
-ghost use Rattle.lsp_log.specs.Reader.{ahead};
+ghost use Rattle.lsp_log.specs.Reader.{State, ahead};
 ghost use Rattle.lsp_log.specs.Records.{record_view};
 ghost use Rattle.lsp_streams.specs.Normal as normal;
 ghost use Rattle.lsp_streams.specs.Normal.{first_broken, EndsNormal, BeginsNormal};
-ghost use Rattle.lsp_streams.specs.NormalSteps.{Counted, CarriesCapped, GivesContents, BringsRecords, Formed, FormsRecord, EndsWhole, IsReading, SoFar, StepAnswers};
+ghost use Rattle.lsp_streams.specs.NormalSteps.{Counted, CarriesCapped, GivesContents, BringsRecords, Formed, FormsRecord, EndsWhole, IsReading, FitsRecord, SoFar, StepAnswers};
+ghost use Rattle.lsp_verdict.specs.Entries.{EntryIs, IsRecord};
 ghost use Rattle.lsp_verdict.specs.Placed.{Raw};
 ghost use Rattle.lsp_verdict.specs.RunIo.{OfRead, GaveAtMost, source_failures, sink_failures};
 ghost use Rattle.lsp_verdict.specs.Drained.{IsDrained};
 
 use crate::pieces::Pieces;
 use lsp_frame::{Decoder, Limits, Sink, Source};
-use lsp_log::{LogFault, LogReader, Record, write_head, write_record};
+use lsp_log::{LogReader, Record, write_head, write_record};
 use lsp_rpc::Side;
-use lsp_verdict::{Counts, Outcome, RunFault, Verdict, Who, who_of};
+use lsp_verdict::{Counts, Entry, Outcome, RunFault, Verdict, Who, next_entry, who_of};
 use std::alloc::Global;
 
 /// The frames of both sides, and how many events there were, none of which is a fault of the frames.
@@ -45,19 +46,40 @@ impl Streams {
         }
     }
 
+    /// Writes the events that an entry brings, or gives the outcome.
+    fn write_entry<W: Sink>(
+        &mut self,
+        writer: &mut W,
+        entry: Entry,
+    ) -> Result<Option<Outcome>, RunFault>
+        requires { FitsRecord entry }
+        ensures more { result ≡ Ok None → IsRecord entry }
+        ensures answer { (limits : Bounds) (r : State) (source now sink : Told) (records : List log.Record) → r.limits ≡ limits
+            → Formed limits self.old sink (W.told writer.old) records → EntryIs r limits source now records (Ok entry)
+            → StepAnswers limits r self.new source now sink (W.told writer.new) result }
+    {
+        match entry {
+            Entry::Record(record) => self.write(writer, &record),
+            Entry::End => Ok(Some(self.finish())),
+            Entry::Bad { number, fault } => {
+                Ok(Some(Outcome::Judged(Verdict::BadLog { number, fault })))
+            }
+        }
+    }
+
     /// Writes the events that a record brings, or gives the outcome at a fault of the frames.
     fn write<W: Sink>(
         &mut self,
         writer: &mut W,
-        entry: &Record,
+        record: &Record,
     ) -> Result<Option<Outcome>, RunFault>
-        requires { Fits profile (record_view entry.now) }
+        requires { Fits profile (record_view record.now) }
         ensures { (limits : Bounds) (start : Told) (records : List log.Record)
             → Formed limits self.old start (W.told writer.old) records
             → FormsRecord limits self.new start (W.told writer.new)
-            (records ++ record_view entry.now ∷ []) result }
+            (records ++ record_view record.now ∷ []) result }
     {
-        match entry {
+        match record {
             Record::Bytes { side, bytes } => match side {
                 Side::Editor => write_bytes(
                     writer,
@@ -77,7 +99,7 @@ impl Streams {
                 ),
             },
             Record::Snapshot { .. } => {
-                write_record(writer, entry)?;
+                write_record(writer, record)?;
                 self.counts.add(Who::Snapshot);
                 Ok(None)
             }
@@ -159,14 +181,14 @@ fn write_contents<W: Sink>(
     }
 }
 
-/// Writes the events of the next record, or gives the outcome.
+/// Writes the events of the next entry, or gives the outcome.
 fn write_next<R: Source, W: Sink>(
     reader: &mut R,
     writer: &mut W,
     log: &mut LogReader,
     streams: &mut Streams,
 ) -> Result<Option<Outcome>, RunFault>
-    requires { IsReading log.old }
+    requires { IsReading log.old (R.told reader.old) }
     ensures less { result ≡ Ok None → ahead log.new < ahead log.old }
     ensures answer { (limits : Bounds) (source sink : Told)
         → SoFar limits log.old streams.old
@@ -177,16 +199,8 @@ fn write_next<R: Source, W: Sink>(
         sink (W.told writer.new)
         result }
 {
-    match log.next(reader) {
-        Ok(Some(entry)) => streams.write(writer, &entry),
-        Ok(None) => Ok(Some(streams.finish())),
-        Err(LogFault::Bad { number, code }) => Ok(Some(Outcome::Judged(Verdict::BadLog {
-            number,
-            fault: code,
-        }))),
-        Err(LogFault::Read) => Err(RunFault::Read),
-        Err(LogFault::Memory) => Err(RunFault::Memory),
-    }
+    let entry = next_entry(log, reader)?;
+    streams.write_entry(writer, entry)
 }
 
 /// Writes the normal form of a log: its first line, and for each of its events the records of it.

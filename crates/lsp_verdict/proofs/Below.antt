@@ -6,4 +6,3 @@ pub use Rattle.lsp_session.proofs.LawLemmas.{answers_a_request, answers_no_other
 pub use Rattle.lsp_docs.proofs.Bindings.{bound-agrees}
 pub use Rattle.lsp_log.proofs.OneLog.{one_log, records_come_first}
 pub use Rattle.lsp_log.proofs.SomeLog.{some_log}
-pub use Rattle.lsp_log.proofs.Reading.{take_more}

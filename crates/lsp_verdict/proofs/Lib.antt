@@ -23,3 +23,4 @@ pub mod Drained
 pub mod OneRecord
 pub mod RunReading
 pub mod JoinedStreams
+pub mod Entries

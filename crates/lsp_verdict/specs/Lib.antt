@@ -18,3 +18,4 @@ pub mod TextAfter
 pub mod Interleaving
 pub mod Counting
 pub mod Drained
+pub mod Entries

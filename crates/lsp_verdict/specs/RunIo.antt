@@ -57,11 +57,14 @@ TellsSome old new bytes (Err faults.Read) = ⊥
 -- ---- failures
 
 -- a source has failed once more after a read fault, and no more after anything else
+abbrev pub failures_after : RunFault → ℕ → ℕ
+failures_after faults.Read before = after_failure before
+failures_after faults.Write before = before
+failures_after faults.Memory before = before
+
 abbrev pub source_failures : Result Outcome RunFault → ℕ → ℕ
-source_failures (Err faults.Read) before = after_failure before
-source_failures (Err faults.Write) before = before
-source_failures (Err faults.Memory) before = before
 source_failures (Ok outcome) before = before
+source_failures (Err fault) before = failures_after fault before
 
 -- a sink has failed once more after a write fault, and no more after anything else
 abbrev pub sink_failures : Result Outcome RunFault → ℕ → ℕ

@@ -1,11 +1,13 @@
 //! What a recorded session is, and what the verdict on it means: its events, which of them offends,
 //! and the reports of what is found.
 //!
-//! Nothing is read or judged here. The definitions say which events the records of a log bring, which
-//! of them offends by which rule, and so which verdict a log has; the laws say what the verdicts mean.
+//! Nothing is judged here. The definitions say which events the records of a log bring, which of them
+//! offends by which rule, and so which verdict a log has; the laws say what the verdicts mean. All
+//! runs over a log read it by `next_entry`.
 #![tactic(auto)]
 
 mod counts;
+mod entry;
 mod interleaving_laws;
 mod laws;
 mod names;
@@ -15,6 +17,7 @@ mod texts;
 mod verdict;
 
 pub use counts::Counts;
+pub use entry::{Entry, next_entry};
 pub use interleaving_laws::{
     both_yes_agree, handshake_in_turn, only_order_offends, sessions_are_read,
 };

@@ -7,7 +7,8 @@ use Rattle.lsp_frame.specs.Bounds.{Bounds, IsInRange}
 use Rattle.lsp_types.specs.declared.side.Side.{Side}
 use Rattle.lsp_types.specs.declared.side.Side.TheVariants.{Editor, Server}
 use Rattle.lsp_docs.specs.State.{capped}
-use Rattle.lsp_log.specs.Log.{Record, BeginsLog, IsLog}
+use Rattle.lsp_log.specs.Log.{Record, IsLog}
+use Rattle.lsp_log.specs.declared.fault.LogCode.{LogCode}
 use Rattle.lsp_verdict.specs.declared.outcome.Outcome.{Outcome}
 use Rattle.lsp_verdict.specs.declared.outcome.Outcome.TheVariants.{Done, Judged, Stream, NoDocument, TooFew}
 use Rattle.lsp_verdict.specs.Given.{as_given}
@@ -15,7 +16,7 @@ use Rattle.lsp_verdict.specs.LookBack.{first_from}
 use Rattle.lsp_verdict.specs.Outcome.{ending}
 use Rattle.lsp_verdict.specs.Placed.{Raw, content, broken, show, Placed}
 use Rattle.lsp_verdict.specs.Verdict.{Verdict, no, who_of}
-use Rattle.lsp_verdict.proofs.EventCounts.{count_few, raws_few}
+use Rattle.lsp_verdict.proofs.EventCounts.{count_few}
 use Rattle.lsp_verdict.proofs.ExactCounts.{capped_is, raws_within}
 use Rattle.lsp_streams.specs.Normal.{is_of, no_next, no_at, first_broken, rest_of, fault_of, Carries}
 use Rattle.lsp_streams.specs.NormalSteps.{CarriesCapped}
@@ -36,9 +37,9 @@ broken_from before (show number uri text ∷ raws) v small e =
     broken_from (before ++ show number uri text ∷ []) raws v (omega (arith, small, length-append before (show number uri text ∷ []))) e
 
 -- at a fault of the frames
-pub broken_exact : (limits : Bounds) → IsInRange limits → (log : List ℕ) (records : List Record) (rest : List ℕ) (raws : List Raw) (v : Verdict) → BeginsLog limits log records rest → Placed limits records raws → first_broken raws ≡ Some v → as_given v ≡ v
-broken_exact limits sizes log records rest raws v begins placed e =
-    broken_from [] raws v (omega (arith, sizes.log_high, raws_few limits log records rest raws begins placed)) e
+pub broken_exact : (limits : Bounds) → IsInRange limits → (log : List ℕ) (records : List Record) (fault : Option (ℕ × LogCode)) (raws : List Raw) (v : Verdict) → IsLog limits log records fault → Placed limits records raws → first_broken raws ≡ Some v → as_given v ≡ v
+broken_exact limits sizes log records fault raws v is_log placed e =
+    broken_from [] raws v (omega (arith, sizes.log_high, raws_within limits log records fault raws is_log placed)) e
 
 rest_exact : (raws : List Raw) (editor server : Bool) → length raws + 1 < 2 ^ 64 → option_map as_given (rest_of raws editor server) ≡ rest_of raws editor server
 rest_exact raws true server small = ap Some (next_exact 107 Editor raws small)

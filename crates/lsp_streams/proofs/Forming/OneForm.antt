@@ -1,18 +1,21 @@
 -- A log has one normal form.
 use Rattle.std.specs.Option.{option_or}
-use Rattle.std.proofs.Common.{◌≡◌, ℕ, List, [], ◌++◌, Option, Some, refl, sym, ap, subst, ◌∙◌}
+use Rattle.std.proofs.Common.{◌≡◌, ℕ, List, [], ◌++◌, Option, Some, refl, sym, ap, subst, ◌∙◌, append_assoc}
 use Rattle.lsp_frame.specs.Bounds.{Bounds, IsInRange}
 use Rattle.lsp_types.specs.declared.side.Side.TheVariants.{Editor, Server}
-use Rattle.lsp_log.specs.Log.{Record, BeginsLog}
+use Rattle.lsp_log.specs.Log.{Record}
 use Rattle.lsp_log.specs.declared.fault.LogCode.{LogCode}
-use Rattle.lsp_streams.specs.Normal.{form_of, no_at, first_broken, fault_of, rest_of, IsNormal}
+use Rattle.lsp_streams.specs.Normal.{form_of, no_at, first_broken, fault_of, rest_of, IsNormal, BeginsNormal}
 use Rattle.lsp_streams.specs.NormalLaws.{SomeNormalForm, OneNormalForm}
+use Rattle.lsp_verdict.specs.Entries.{HasFirst}
+use Rattle.lsp_verdict.specs.Given.{as_given}
 use Rattle.lsp_verdict.specs.Outcome.{ending}
 use Rattle.lsp_verdict.specs.Placed.{Raw, Placed, joined}
 use Rattle.lsp_verdict.specs.Verdict.{Verdict, Ending, bad_log_of}
-use Rattle.lsp_verdict.proofs.Below.{one_log, some_log, some_stream, records_come_first}
+use Rattle.lsp_verdict.proofs.Below.{one_log, some_log, some_stream}
 use Rattle.lsp_verdict.proofs.LookBackLemmas.{first_of-more}
-use Rattle.lsp_streams.proofs.Forming.Forms.{form_stops}
+use Rattle.lsp_streams.proofs.Forming.Counts.{broken_exact}
+use Rattle.lsp_streams.proofs.Forming.Forms.{form_begins, form_stops}
 use Rattle.lsp_verdict.proofs.Outcomes.{placed_front, one_rest}
 use Rattle.lsp_verdict.proofs.PlacedLemmas.{one_placed}
 use Rattle.lsp_verdict.proofs.Sessions.{some_placed}
@@ -58,25 +61,41 @@ some_normal_form limits log =
       },
     )
 
--- a fault of the frames among the events of its first records ends it, whatever follows
-pub broken_normal : (limits : Bounds) → IsInRange limits → (log rest : List ℕ) (rs : List Record) (raws : List Raw) (v : Verdict) → BeginsLog limits log rs rest → Placed limits rs raws → first_broken raws ≡ Some v → IsNormal limits log (form_of limits.chunk raws) (Some v)
-broken_normal limits sizes log rest rs raws v begins placed breaks =
-    let w = (some_normal_form limits log).2 in
-    let cut = records_come_first limits sizes log rest rs w.records w.log_fault begins w.is_log in
-    let d = decides limits rs w.records cut.0 raws w.raws v cut.1 placed w.placed breaks in
-    record {
-      records = w.records;
-      log_fault = w.log_fault;
-      raws = w.raws;
-      editor = w.editor;
-      server = w.server;
-      is_log = w.is_log;
-      placed = w.placed;
-      editor_rest = w.editor_rest;
-      server_rest = w.server_rest;
-      ends = broken_is w.raws (ending w.log_fault w.editor w.server) v d.breaks;
-      written = sym d.form;
-    }
+-- ---- the first records of a log
+
+module _ (limits : Bounds) (sizes : IsInRange limits) (log : List ℕ) (rs : List Record) (has : HasFirst limits rs log) (raws : List Raw) (placed : Placed limits rs raws) where
+  all : (whole : List Raw) × Placed limits (rs ++ has.0) whole
+  all = some_placed limits [] [] (rs ++ has.0)
+
+  -- a fault of the frames among their events ends the normal form, whatever follows
+  pub broken_normal : (v : Verdict) → first_broken raws ≡ Some v → IsNormal limits log (form_of limits.chunk raws) (Some v) × (as_given v ≡ v)
+  broken_normal v breaks =
+      let d = decides limits rs (rs ++ has.0) has.0 raws all.0 v refl placed all.1 breaks in
+      let editor = some_stream limits (joined Editor (rs ++ has.0)) in
+      let server = some_stream limits (joined Server (rs ++ has.0)) in (
+        record {
+          records = rs ++ has.0;
+          log_fault = has.1;
+          raws = all.0;
+          editor = editor.1;
+          server = server.1;
+          is_log = has.2;
+          placed = all.1;
+          editor_rest = (editor.0, editor.2, editor.3);
+          server_rest = (server.0, server.2, server.3);
+          ends = broken_is all.0 (ending has.1 editor.1 server.1) v d.breaks;
+          written = sym d.form;
+        },
+        broken_exact limits sizes log (rs ++ has.0) has.1 all.0 v has.2 all.1 d.breaks,
+      )
+
+  -- what is written for them stands first in the normal form
+  pub due_first : (front back : List ℕ) → form_of limits.chunk raws ≡ front ++ back → BeginsNormal limits log front
+  due_first front back whole out fault normal =
+      let same = one_log limits sizes log normal.records (rs ++ has.0) normal.log_fault has.1 normal.is_log has.2 in
+      let later = placed_front limits [] [] rs has.0 raws normal.raws placed (subst (λ (xs : List Record). Placed limits xs normal.raws) same.0 normal.placed) in
+      let begins = form_begins limits.chunk raws later.0 in
+      (back ++ begins.0, normal.written ∙ ap (form_of limits.chunk) later.1 ∙ begins.1 ∙ ap (λ (w : List ℕ). w ++ begins.0) whole ∙ append_assoc front back begins.0)
 
 -- ---- and one only
 

@@ -81,6 +81,7 @@ pub editor_formed : (limits : Bounds) (s t : Streams) (start mid new : Told) (rs
     → t.editor.limits ≡ s.editor.limits → t.server ≡ s.server → t.pieces ≡ s.pieces → BringsRecords limits Editor t.editor t.counts mid new (joined Editor rs) bytes f.raws result → FormsRecord limits t start new (rs ++ chunk Editor bytes ∷ []) result
 editor_formed limits s t start mid new rs bytes (Ok None) f same other size b = record {
   raws = f.raws ++ b.now;
+  range = f.range;
   placed = placed_more limits Editor rs bytes f.raws b.now f.placed b.brings;
   sound = b.sound;
   counted = b.counted;
@@ -98,6 +99,7 @@ pub server_formed : (limits : Bounds) (s t : Streams) (start mid new : Told) (rs
     → t.server.limits ≡ s.server.limits → t.editor ≡ s.editor → t.pieces ≡ s.pieces → BringsRecords limits Server t.server t.counts mid new (joined Server rs) bytes f.raws result → FormsRecord limits t start new (rs ++ chunk Server bytes ∷ []) result
 server_formed limits s t start mid new rs bytes (Ok None) f same other size b = record {
   raws = f.raws ++ b.now;
+  range = f.range;
   placed = placed_more limits Server rs bytes f.raws b.now f.placed b.brings;
   sound = b.sound;
   counted = b.counted;
@@ -122,6 +124,7 @@ shown_formed limits s t start mid new rs n uri text f editor server size adds wr
     let raw : Raw = show n uri text in
     record {
       raws = f.raws ++ raw ∷ [];
+      range = f.range;
       placed = placed_shown limits rs n uri text f.raws f.placed;
       sound = shown_sound raw f.raws refl f.sound;
       counted = subst (λ (es : List Event). AreCounts t.counts es) (sym (map-append mark f.raws (raw ∷ []))) (adds (map mark f.raws) (mark raw) f.counted refl);
@@ -148,6 +151,7 @@ pub none_formed : (limits : Bounds) (s : Streams) (start now : Told) → IsInRan
     → AreCounts s.counts [] → s.pieces ≡ limits.chunk → Wrote start now first_line → Formed limits s start now []
 none_formed limits s start now sizes editor server editor_stands server_stands counted size wrote = record {
   raws = [];
+  range = sizes;
   placed = refl;
   sound = refl;
   counted = counted;

@@ -8,6 +8,11 @@ use Rattle.lsp_streams.proofs.normal.run_normal.Goals as goal
 pub loop-streams-init : goal.loop-streams-init
 loop-streams-init g c = nothing_read c.args.limits _ _ _ _ _ c.new-log.ensures.value c.new-log.ensures.stands (c.new-streams.ensures _ _ c.in_ok-write_head.ensures)
 
+pub write_next-requires : goal.write_next-requires
+write_next-requires g c =
+    let so_far = c.loop-streams.invariant in
+    record { start = _; records = so_far.records; at = so_far.at }
+
 pub returns-in_err-write_head-clause-fault : goal.returns-in_err-write_head-clause-fault
 returns-in_err-write_head-clause-fault g c =
     let p = err_from_is_err_and c.from_residual.result c.from_residual.ensures.1 in

@@ -1,41 +1,30 @@
-use Rattle.lsp_log.specs.Records.{record_view}
-use Rattle.lsp_streams.proofs.Forming.Logs.{has_record, record_answers, end_answers, bad_answers, read_answers, memory_answers, next_fits}
+use Rattle.std.proofs.Common.{Ok, subst, ◌∙◌}
+use Rattle.std.proofs.lemmas.Result.{err_from_is_err_and}
+use Rattle.lsp_frame.specs.Bounds.{Bounds}
+use Rattle.lsp_verdict.specs.Entries as entries
+use Rattle.lsp_verdict.specs.Entries.{EntryIs}
+use Rattle.lsp_verdict.proofs.Entries.{for_record}
+use Rattle.lsp_streams.proofs.Forming.Logs.{broke_answers, next_fits}
 use Rattle.lsp_streams.proofs.normal.write_next.Goals as goal
 
-pub write-requires : goal.write-requires
-write-requires g c =
-    let next = c.in-Ok-Some.ensures in
-    let got = rw c.in-Ok-Some.field-0-is at (next.gives c.requires.unread c.requires.bytes c.requires.records c.requires.stands) in
-    let free = rw c.in-Ok-Some.field-0-is at next.keeps in
-    next_fits _ _ _ _ c.in-Ok-Some.entry c.requires free got
+pub write_entry-requires : goal.write_entry-requires
+write_entry-requires g c =
+    next_fits _ _ _ _ _ _ (c.in_ok-entry.ensures.answer c.requires.start c.requires.records c.requires.at)
 
-pub returns-in-Ok-Some-clause-answer : goal.returns-in-Ok-Some-clause-answer
-returns-in-Ok-Some-clause-answer g c = λ limits source sink so_far.
-    let next = c.in-Ok-Some.ensures in
-    let got = rw c.in-Ok-Some.field-0-is at (next.gives so_far.unread so_far.bytes so_far.records so_far.stands) in
-    let free = rw c.in-Ok-Some.field-0-is at next.keeps in
-    record_answers limits _ _ source _ sink _ so_far.records (record_view c.in-Ok-Some.entry) _ (has_record limits _ _ _ source _ _ sink _ c.in-Ok-Some.entry so_far next.limits free got) (c.write.ensures limits sink so_far.records so_far.formed)
+pub returns-clause-less : goal.returns-clause-less
+returns-clause-less g c = λ more. for_record _ _ (c.write_entry.ensures.more more) c.in_ok-entry.ensures.less
 
-pub returns-in-Ok-None-clause-answer : goal.returns-in-Ok-None-clause-answer
-returns-in-Ok-None-clause-answer g c = λ limits source sink so_far.
-    let next = c.in-Ok-None.ensures in
-    let got = rw c.in-Ok-None.field-0-is at (next.gives so_far.unread so_far.bytes so_far.records so_far.stands) in
-    end_answers limits _ _ _ source _ _ sink _ _ so_far next.limits got (c.finish.ensures limits sink _ so_far.records so_far.formed)
+pub returns-clause-answer : goal.returns-clause-answer
+returns-clause-answer g c = λ limits source sink so_far.
+    let now = g.R.Source.told c.next_entry.new.reader in
+    let here = subst (λ (b : Bounds). EntryIs c.next_entry.new.log b source now so_far.records (Ok c.in_ok-entry.entry)) so_far.limits_are (c.in_ok-entry.ensures.answer source so_far.records so_far.at) in
+    c.write_entry.ensures.answer limits c.next_entry.new.log source now sink so_far.records (c.in_ok-entry.ensures.limits ∙ so_far.limits_are) so_far.formed here
 
-pub returns-in-Err-Bad-clause-answer : goal.returns-in-Err-Bad-clause-answer
-returns-in-Err-Bad-clause-answer g c = λ limits source sink so_far.
-    let next = c.in-Err-Bad.ensures in
-    let got = rw c.in-Err-Bad.field-0-is at (next.gives so_far.unread so_far.bytes so_far.records so_far.stands) in
-    bad_answers limits _ _ _ source _ _ sink _ c.in-Err-Bad.number c.in-Err-Bad.code so_far next.limits got
-
-pub returns-in-Err-Read-clause-answer : goal.returns-in-Err-Read-clause-answer
-returns-in-Err-Read-clause-answer g c = λ limits source sink so_far.
-    let next = c.in-Err-Read.ensures in
-    let got = rw c.in-Err-Read.field-0-is at (next.gives so_far.unread so_far.bytes so_far.records so_far.stands) in
-    read_answers limits _ _ _ source _ _ sink _ so_far next.limits got
-
-pub returns-in-Err-Memory-clause-answer : goal.returns-in-Err-Memory-clause-answer
-returns-in-Err-Memory-clause-answer g c = λ limits source sink so_far.
-    let next = c.in-Err-Memory.ensures in
-    let got = rw c.in-Err-Memory.field-0-is at (next.gives so_far.unread so_far.bytes so_far.records so_far.stands) in
-    memory_answers limits _ _ _ source _ _ sink _ so_far next.limits got
+pub returns-in_err-entry-clause-answer : goal.returns-in_err-entry-clause-answer
+returns-in_err-entry-clause-answer g c =
+    let p = err_from_is_err_and c.from_residual.result c.from_residual.ensures.1 in
+    rw (p.1, p.2) (λ limits source sink so_far.
+    let now = g.R.Source.told c.next_entry.new.reader in
+    let fault = c.in_err-entry.field-0.0 in
+    broke_answers limits c.args.streams.now source now sink _ so_far.records so_far.formed fault
+    (subst (λ (b : Bounds). entries.BrokeOff b source now so_far.records fault) so_far.limits_are (c.in_err-entry.ensures.answer source so_far.records so_far.at)))

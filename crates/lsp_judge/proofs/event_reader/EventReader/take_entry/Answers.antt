@@ -25,7 +25,7 @@ returns-in_err-finish-in-End-clause-answer g c =
     let from = c.from_residual-in_err-finish-in-End in
     let p = err_from_is_err_and from.result from.ensures.1 in
     rw (p.1, p.2) (λ limits start heard i.
-    entry_refused limits _ start _ _ heard i _ None i.0.same (rw c.in-End.is at (c.in_ok-record.ensures.answer start i.0.records i.0.at)))
+    entry_refused limits _ start _ _ heard i _ None i.0.same (rw c.in-End.is at (c.in_ok-record.ensures.answer start i.0.records i.0.at)).0)
 
 pub returns-in_ok-push-in-Record-clause-answer : goal.returns-in_ok-push-in-Record-clause-answer
 returns-in_ok-push-in-Record-clause-answer g c = λ limits start heard i.
@@ -35,7 +35,7 @@ returns-in_ok-push-in-Record-clause-answer g c = λ limits start heard i.
 
 pub returns-in_ok-finish-in-End-clause-answer : goal.returns-in_ok-finish-in-End-clause-answer
 returns-in_ok-finish-in-End-clause-answer g c = λ limits start heard i.
-    entry_end limits _ start _ _ heard i _ None _ i.0.same (rw c.in-End.is at (c.in_ok-record.ensures.answer start i.0.records i.0.at)) c.in_ok-finish-in-End.ensures.verdict
+    entry_end limits _ start _ _ heard i _ None _ i.0.same (rw c.in-End.is at (c.in_ok-record.ensures.answer start i.0.records i.0.at)).0 c.in_ok-finish-in-End.ensures.verdict
 
 pub returns-in-Bad-clause-answer : goal.returns-in-Bad-clause-answer
 returns-in-Bad-clause-answer g c = λ limits start heard i.

@@ -3,15 +3,15 @@ ghost use Rattle.std.specs.Prelude.{◌≡◌, ◌<◌, List, IfOk};
 ghost use Rattle.lsp_frame.specs.Told.{Told};
 ghost use Rattle.lsp_log.specs.Log as logs;
 ghost use Rattle.lsp_log.specs.Reader.{ahead};
-ghost use Rattle.lsp_judge.specs.Entries.{IsAt, EntryIs, IfRecord};
+ghost use Rattle.lsp_verdict.specs.Entries.{IsAt, EntryIs, IfRecord};
 
+use crate::outcome::RunFault;
 use lsp_frame::Source;
 use lsp_log::{LogCode, LogFault, LogReader, Record};
-use lsp_verdict::RunFault;
 
 /// The next entry of a log.
 #[derive(Drop)]
-pub(crate) enum Entry {
+pub enum Entry {
     /// A record.
     Record(Record),
     /// The log ends here, without a fault.
@@ -20,6 +20,7 @@ pub(crate) enum Entry {
     Bad {
         /// The number of the record, from 1; 0 for the first line.
         number: u64,
+        /// What is wrong there.
         fault: LogCode,
     },
 }
@@ -28,7 +29,7 @@ pub(crate) enum Entry {
 ///
 /// # Errors
 /// `Read` where the source failed, and `Memory` where memory was refused for a record.
-pub(crate) fn next_entry<R: Source>(log: &mut LogReader, reader: &mut R) -> Result<Entry, RunFault>
+pub fn next_entry<R: Source>(log: &mut LogReader, reader: &mut R) -> Result<Entry, RunFault>
     ensures limits { log.new.limits ≡ log.old.limits }
     // A record leaves less to give, so that a caller's loop ends.
     ensures less { IfOk result (λ entry. IfRecord entry (ahead log.new < ahead log.old)) }

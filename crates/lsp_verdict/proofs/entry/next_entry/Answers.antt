@@ -1,5 +1,5 @@
-use Rattle.lsp_judge.proofs.Entries.{record_next, end_next, bad_next, read_broke, memory_broke}
-use Rattle.lsp_judge.proofs.entry.next_entry.Goals as goal
+use Rattle.lsp_verdict.proofs.Entries.{record_next, end_next, bad_next, read_broke, memory_broke}
+use Rattle.lsp_verdict.proofs.entry.next_entry.Goals as goal
 
 pub returns-in-Ok-Some-clause-answer : goal.returns-in-Ok-Some-clause-answer
 returns-in-Ok-Some-clause-answer g c = λ start records a.

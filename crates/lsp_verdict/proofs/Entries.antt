@@ -1,25 +1,26 @@
 -- What a log has next.
-use Rattle.std.proofs.Common.{◌≡◌, ℕ, ◌+◌, ◌-◌, ◌≤◌, List, [], ◌∷◌, ◌++◌, Bool, true, false, Option, Some, None, Result, Ok, Err, refl, sym, ap, subst, ◌∙◌, append_assoc, append-nil, length, take, arith}
+use Rattle.std.proofs.Common.{◌≡◌, ℕ, ◌+◌, ◌≤◌, List, [], ◌∷◌, ◌++◌, Bool, true, false, Option, Some, None, Result, Ok, Err, inl, inr, refl, sym, ap, subst, ◌∙◌, append_assoc, append-nil, length, arith}
 use Rattle.std.specs.Io.KnownBytes.{IsAtEnd}
-use Rattle.std.specs.List.{flat_map}
-use Rattle.lsp_frame.specs.Bounds.{Bounds}
+use Rattle.lsp_frame.specs.Bounds.{Bounds, IsInRange}
 use Rattle.lsp_frame.specs.Told.{Told, Gave}
 use Rattle.lsp_frame.proofs.Telling.{gave_nothing, gave_then}
-use Rattle.lsp_log.specs.Log.{Record, spelling, first_line, BeginsLog, IsLog}
+use Rattle.lsp_log.specs.Log.{Record, IsLog}
 use Rattle.lsp_log.specs.Reader as reader
-use Rattle.lsp_log.specs.Reader.{empty, kept_by, kept_in, StandsFor, StandsAt, Reads, MayFollow, Given}
+use Rattle.lsp_log.specs.Reader.{empty, kept_by, StandsFor, Begins, MayFollow, Given}
 use Rattle.lsp_log.specs.Records.{record_view}
 use Rattle.lsp_log.specs.declared.fault.LogCode.{LogCode}
 use Rattle.lsp_log.specs.declared.fault.LogFault.{LogFault}
 use Rattle.lsp_log.specs.declared.fault.LogFault.TheVariants as log_faults
-use Rattle.lsp_log.specs.declared.reader.Progress.{Progress}
-use Rattle.lsp_log.specs.declared.reader.Progress.TheVariants as progress
 use Rattle.lsp_log.specs.declared.record.Record as code
-use Rattle.lsp_verdict.specs.RunIo.{OfRead}
+use Rattle.lsp_log.proofs.Callers.{begins_open}
+use Rattle.lsp_log.proofs.Reading.{is_open}
+use Rattle.lsp_verdict.specs.RunIo.{OfRead, failures_after}
+use Rattle.lsp_verdict.specs.declared.entry.Entry.{Entry}
+use Rattle.lsp_verdict.specs.declared.entry.Entry.TheVariants as entry
 use Rattle.lsp_verdict.specs.declared.outcome.RunFault.{RunFault}
 use Rattle.lsp_verdict.specs.declared.outcome.RunFault.TheVariants as faults
-use Rattle.lsp_verdict.proofs.Below.{take_more, some_log, records_come_first}
-use Rattle.lsp_judge.specs.Entries.{IsAt, HasRecords, HasFirst, failures_after, BrokeOff}
+use Rattle.lsp_verdict.proofs.Below.{some_log, records_come_first}
+use Rattle.lsp_verdict.specs.Entries.{IsAt, HasRecords, HasFirst, BrokeOff, IsRecord, IfRecord}
 
 -- ---- the log read
 
@@ -49,44 +50,31 @@ of_bytes limits start now bytes P gave within holds = record {
 
 -- ---- records with which a log begins
 
-begins_log : (s : reader.State) (bytes : List ℕ) (rs : List Record) (more : List ℕ) → Reads s bytes rs → (rest : List ℕ) × BeginsLog s.limits (bytes ++ more) rs rest
-begins_log s bytes rs more st =
-    let tail : List ℕ = take (s.limits.log - length bytes) more in
-    let within : length bytes ≤ s.limits.log = omega (arith, st.left) in (
-      s.tape.rest ++ tail,
-      record {
-        whole = take_more s.limits.log bytes more within ∙ ap (λ (w : List ℕ). w ++ tail) st.whole ∙ append_assoc (first_line ++ flat_map spelling rs) s.tape.rest tail ∙ append_assoc first_line (flat_map spelling rs) (s.tape.rest ++ tail);
-        fits = st.fits;
-      },
-    )
+-- whatever follows the bytes read
+begins_first : (limits : Bounds) → IsInRange limits → (bytes more : List ℕ) (rs : List Record) → Begins limits bytes rs → HasFirst limits rs (bytes ++ more)
+begins_first limits sizes bytes more rs (inl none) =
+    let log = some_log limits (bytes ++ more) in
+    (log.0, log.1, subst (λ w. IsLog limits (bytes ++ more) w log.1) (ap (λ (w : List Record). w ++ log.0) (sym none)) log.2)
+begins_first limits sizes bytes more rs (inr begins) =
+    let log = some_log limits (bytes ++ more) in
+    let front = begins more in
+    let cut = records_come_first limits sizes (bytes ++ more) front.0 rs log.0 log.1 front.1 log.2 in
+    (cut.0, log.1, subst (λ w. IsLog limits (bytes ++ more) w log.1) cut.1 log.2)
 
-first_at : (p : Progress) (s : reader.State) (bytes : List ℕ) (rs : List Record) (more : List ℕ) → kept_in p ≡ None → StandsFor s bytes rs → StandsAt p s bytes rs → HasFirst s.limits rs (bytes ++ more)
-first_at progress.FirstLine s bytes rs more free whole st =
-    let log = some_log s.limits (bytes ++ more) in
-    (log.0, log.1, subst (λ w. IsLog s.limits (bytes ++ more) w log.1) (ap (λ (w : List Record). w ++ log.0) (sym st.none)) log.2)
-first_at progress.Records s bytes rs more free whole st =
-    let log = some_log s.limits (bytes ++ more) in
-    let begins = begins_log s bytes rs more st in
-    let cut = records_come_first s.limits whole.0 (bytes ++ more) begins.0 rs log.0 log.1 begins.1 log.2 in
-    (cut.0, log.1, subst (λ w. IsLog s.limits (bytes ++ more) w log.1) cut.1 log.2)
-first_at (progress.Over end) s bytes rs more free whole st = absurd cc
+first_at : (r : reader.State) (start now : Told) (records : List Record) → (a : IsAt r start now records) → (more : List ℕ) → HasFirst r.limits records (a.bytes ++ more)
+first_at r start now records a more = begins_first r.limits a.stands.0 a.bytes more records (begins_open r a.bytes records a.unread a.stands)
 
-pub has_first : (r : reader.State) (limits : Bounds) (start now : Told) (records : List Record) → r.limits ≡ limits → (a : IsAt r start now records) → length a.bytes ≤ limits.log + 1 → OfRead limits start now (HasFirst limits records)
-has_first r limits start now records same a within =
-    of_bytes limits start now a.bytes (HasFirst limits records) a.gave within
-    (λ more follows. subst (λ (b : Bounds). HasFirst b records (a.bytes ++ more)) same (first_at r.progress r a.bytes records more a.unread a.stands a.stands.1))
-
-read_within : (p : Progress) (s : reader.State) (bytes : List ℕ) (rs : List Record) → kept_in p ≡ None → StandsAt p s bytes rs → length bytes ≤ s.limits.log
-read_within progress.FirstLine s bytes rs free st = omega (arith, st.left)
-read_within progress.Records s bytes rs free st = omega (arith, st.left)
-read_within (progress.Over end) s bytes rs free st = absurd cc
-
--- so does every log that goes on from there
+-- a log that goes on from there begins with these records
 pub is_first : (r : reader.State) (limits : Bounds) (start now : Told) (records : List Record) → r.limits ≡ limits → IsAt r start now records → OfRead limits start now (HasFirst limits records)
 is_first r limits start now records same a =
-    let within = read_within r.progress r a.bytes records a.unread a.stands.1 in
-    let logs : r.limits.log ≡ limits.log = ap (λ (b : Bounds). b.log) same in
-    has_first r limits start now records same a (omega (arith, within, logs))
+    let within : length a.bytes ≤ r.limits.log + 1 = omega (arith, (is_open r a.bytes records a.unread a.stands).left) in
+    subst (λ (b : Bounds). OfRead b start now (HasFirst b records)) same
+    (of_bytes r.limits start now a.bytes (HasFirst r.limits records) a.gave within (λ more follows. first_at r start now records a more))
+
+pub for_record : (e : Entry) (P : Type 0) → IsRecord e → IfRecord e P → P
+for_record (entry.Record next) P is holds = holds
+for_record entry.End P is holds = absurd is
+for_record (entry.Bad number fault) P is holds = absurd is
 
 -- ---- nothing was read yet
 
@@ -110,13 +98,16 @@ module _ (r s : reader.State) (start mid now : Told) (records : List Record) (a 
       of_bytes r.limits start now (a.bytes ++ got.piece) P (gave_then start mid now a.bytes got.piece a.gave got.read)
       (subst (λ (b : Bounds). length (a.bytes ++ got.piece) ≤ b.log + 1) same got.within) holds
 
-  pub end_next : Given s mid now (Ok None) a.bytes records → HasRecords r.limits start now records None
-  end_next got = record {
+  end_read : Given s mid now (Ok None) a.bytes records → HasRecords r.limits start now records None
+  end_read got = record {
     of_read = read_all (Ok None) (λ log. IsLog r.limits log records None) got (λ more follows.
         let whole : (a.bytes ++ got.piece) ++ more ≡ a.bytes ++ got.piece = ap (λ (w : List ℕ). (a.bytes ++ got.piece) ++ w) (follows got.tells.0) ∙ append-nil (a.bytes ++ got.piece) in
         subst (λ (w : List ℕ). IsLog r.limits w records None) (sym whole) (subst (λ (b : Bounds). IsLog b (a.bytes ++ got.piece) records None) same got.tells.1));
     failures = got.tells.2 ∙ a.failures;
   }
+
+  pub end_next : Given s mid now (Ok None) a.bytes records → HasRecords r.limits start now records None × IsAtEnd now.bytes
+  end_next got = (end_read got, got.tells.0)
 
   pub bad_next : (number : ℕ) (fault : LogCode) → Given s mid now (Err (log_faults.Bad number fault)) a.bytes records → HasRecords r.limits start now records (Some (number, fault))
   bad_next number fault got = record {
@@ -129,7 +120,7 @@ module _ (r s : reader.State) (start mid now : Told) (records : List Record) (a 
   broke : (result : Result (Option code.Record) LogFault) (fault : RunFault) → (got : Given s mid now result a.bytes records) → now.failures ≡ failures_after fault start.failures → (fault ≡ faults.Write → ⊥) → BrokeOff r.limits start now records fault
   broke result fault got failures unwritten = record {
     of_read = read_all result (HasFirst r.limits records) got (λ more follows.
-        subst (HasFirst r.limits records) (sym (append_assoc a.bytes got.piece more)) (first_at r.progress r a.bytes records (got.piece ++ more) a.unread a.stands a.stands.1));
+        subst (HasFirst r.limits records) (sym (append_assoc a.bytes got.piece more)) (first_at r start mid records a (got.piece ++ more)));
     failures = failures;
     unwritten = unwritten;
   }

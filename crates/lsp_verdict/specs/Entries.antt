@@ -2,17 +2,17 @@
 use Rattle.std.specs.Prelude.{◌≡◌, ℕ, List, [], ◌∷◌, ◌++◌, Option, Some, None, Result, Ok, Err}
 use Rattle.std.specs.Io.KnownBytes.{IsAtEnd}
 use Rattle.lsp_frame.specs.Bounds.{Bounds}
-use Rattle.lsp_frame.specs.Told.{Told, Gave, after_failure}
+use Rattle.lsp_frame.specs.Told.{Told, Gave}
 use Rattle.lsp_log.specs.Log.{Record, IsLog}
 use Rattle.lsp_log.specs.Reader as reader
 use Rattle.lsp_log.specs.Reader.{kept_by, StandsFor}
 use Rattle.lsp_log.specs.Records.{record_view}
 use Rattle.lsp_log.specs.declared.fault.LogCode.{LogCode}
-use Rattle.lsp_verdict.specs.RunIo.{OfRead}
+use Rattle.lsp_verdict.specs.RunIo.{OfRead, failures_after}
 use Rattle.lsp_verdict.specs.declared.outcome.RunFault.{RunFault}
 use Rattle.lsp_verdict.specs.declared.outcome.RunFault.TheVariants as faults
-use Rattle.lsp_judge.specs.declared.entry.Entry.{Entry}
-use Rattle.lsp_judge.specs.declared.entry.Entry.TheVariants as entry
+use Rattle.lsp_verdict.specs.declared.entry.Entry.{Entry}
+use Rattle.lsp_verdict.specs.declared.entry.Entry.TheVariants as entry
 
 -- of the bytes that the source gave since the start, the reader of a log gave these records, and no end
 pub record IsAt (r : reader.State) (start now : Told) (records : List Record) : Type 0 where
@@ -31,12 +31,6 @@ pub record HasRecords (limits : Bounds) (start now : Told) (records : List Recor
 abbrev pub HasFirst : Bounds → List Record → List ℕ → Type 0
 HasFirst limits records log = (more : List Record) × (fault : Option (ℕ × LogCode)) × IsLog limits log (records ++ more) fault
 
--- a source has failed once more after a read fault, and no more after anything else
-abbrev pub failures_after : RunFault → ℕ → ℕ
-failures_after faults.Read before = after_failure before
-failures_after faults.Write before = before
-failures_after faults.Memory before = before
-
 -- reading broke off behind these records, and nothing was written
 pub record BrokeOff (limits : Bounds) (start now : Told) (records : List Record) (fault : RunFault) : Type 0 where
   pub of_read : OfRead limits start now (HasFirst limits records)
@@ -45,9 +39,14 @@ pub record BrokeOff (limits : Bounds) (start now : Told) (records : List Record)
 
 abbrev pub EntryIs : reader.State → Bounds → Told → Told → List Record → Result Entry RunFault → Type 0
 EntryIs r limits start now records (Ok (entry.Record next)) = IsAt r start now (records ++ record_view next ∷ [])
-EntryIs r limits start now records (Ok entry.End) = HasRecords limits start now records None
+EntryIs r limits start now records (Ok entry.End) = HasRecords limits start now records None × IsAtEnd now.bytes
 EntryIs r limits start now records (Ok (entry.Bad number fault)) = HasRecords limits start now records (Some (number, fault))
 EntryIs r limits start now records (Err fault) = BrokeOff limits start now records fault
+
+abbrev pub IsRecord : Entry → Type 0
+IsRecord (entry.Record next) = Unit {0}
+IsRecord entry.End = ⊥
+IsRecord (entry.Bad number fault) = ⊥
 
 -- what holds of an entry that is a record
 abbrev pub IfRecord : Entry → Type 0 → Type 0
