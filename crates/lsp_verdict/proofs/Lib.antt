@@ -23,3 +23,5 @@ pub mod Drained
 pub mod OneRecord
 pub mod RunReading
 pub mod JoinedStreams
+pub mod OpenAtEnd
+pub mod Completing

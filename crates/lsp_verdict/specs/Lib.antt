@@ -18,3 +18,6 @@ pub mod TextAfter
 pub mod Interleaving
 pub mod Counting
 pub mod Drained
+pub mod Complete
+pub mod BroughtToEnd
+pub mod CompleteLaws

@@ -5,6 +5,8 @@
 //! of them offends by which rule, and so which verdict a log has; the laws say what the verdicts mean.
 #![tactic(auto)]
 
+mod complete_laws;
+mod completeness;
 mod counts;
 mod interleaving_laws;
 mod laws;
@@ -14,6 +16,11 @@ mod report;
 mod texts;
 mod verdict;
 
+pub use complete_laws::{
+    complete_means_ended, complete_means_fault, ended_means_complete, lack_is_named,
+    one_complete_verdict, some_complete_verdict,
+};
+pub use completeness::Completeness;
 pub use counts::Counts;
 pub use interleaving_laws::{
     both_yes_agree, handshake_in_turn, only_order_offends, sessions_are_read,
