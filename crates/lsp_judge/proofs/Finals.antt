@@ -1,5 +1,5 @@
 -- The verdict on the records of a judge.
-use Rattle.std.proofs.Common.{◌≡◌, ◌<◌, ◌^◌, ℕ, Bool, true, false, List, [], Option, Some, None, refl, sym, ap, subst, ◌∙◌, append-nil, arith}
+use Rattle.std.proofs.Common.{◌≡◌, ◌<◌, ◌^◌, ℕ, Bool, true, false, true≢false, is_some, List, [], Option, Some, None, refl, sym, ap, subst, ◌∙◌, append-nil, arith}
 use Rattle.std.specs.Prelude.{option_map, unwrap_or}
 use Rattle.std.specs.Option.{option_or}
 use Rattle.std.proofs.lemmas.Option.{same_Some}
@@ -165,8 +165,14 @@ ungiven_by (Some old) ruling told = let same = told old refl in absurd cc
 
 -- ---- what lacks
 
-pub lacks_none : (events : List Event) → None ≡ incomplete (sent_in events) → RestIs None (lack_of events)
-lacks_none events is = ap (option_map (λ rule. no_next rule who.Editor events)) (sym is)
-
 pub lacks_some : (events : List Event) (rule : ℕ) (ruling : Ruling) → Some rule ≡ incomplete (sent_in events) → verdict_in ruling ≡ Some (as_given (no_next rule who.Editor events)) → RestIs (Some ruling) (lack_of events)
 lacks_some events rule ruling is named = (no_next rule who.Editor events, ap (option_map (λ r. no_next r who.Editor events)) (sym is), named)
+
+-- a rest of bytes comes first
+pub rested : (ruling : Option Ruling) (rest lack : Option Verdict) → is_some ruling ≡ true → RestIs ruling rest → if_none rest lack ≡ None
+rested None rest lack e is = absurd (true≢false (sym e))
+rested (Some ruling) rest lack e is = ap (λ o. if_none o lack) is.1
+
+pub unrested : (ruling named : Option Ruling) (rest lack : Option Verdict) → is_some ruling ≡ false → RestIs ruling rest → RestIs named lack → RestIs named (if_none rest lack)
+unrested None named rest lack e is names = subst (RestIs named) (sym (ap (λ o. if_none o lack) is)) names
+unrested (Some ruling) named rest lack e is names = absurd (true≢false e)
