@@ -4,9 +4,7 @@ use crate::logs::{Log, split_word};
 use crate::readers::{Broken, Pieces};
 use crate::sessions;
 use lsp_command::{Task, report_apart, run_task};
-use lsp_judge::{
-    Completeness, Input, Limits, Mode, Outcome, Output, RunFault, Verdict, run_check,
-};
+use lsp_judge::{Completeness, Input, Limits, Mode, Outcome, Output, RunFault, Verdict, run_check};
 use std::alloc::Global;
 use std::num::NonZeroU64;
 use std::process::Abort;
