@@ -33,8 +33,9 @@ SHUTDOWN = editor('{"jsonrpc":"2.0","id":2,"method":"shutdown","params":null}')
 STOPPED = server('{"jsonrpc":"2.0","id":2,"result":null}')
 EXIT = editor('{"jsonrpc":"2.0","method":"exit"}')
 
-# A whole session, which keeps the rules.
-WHOLE = HEAD + INITIALIZE + ANSWER + INITIALIZED + OPEN + SNAPSHOT + SHUTDOWN + STOPPED + EXIT
+# A session whose editor was killed, and a whole one; both keep the rules.
+KILLED = HEAD + INITIALIZE + ANSWER + INITIALIZED + OPEN + SNAPSHOT + SHUTDOWN + STOPPED
+WHOLE = KILLED + EXIT
 
 WHOLE_REPORT = b"""yes
 messages 5 2
@@ -56,6 +57,11 @@ WHOLE_LINES = b"""1 editor request 1 "initialize"
 # The same with an exit too many.
 EXITS = WHOLE + EXIT
 EXITS_REPORT = b"no 406 editor 6 event 9\neditor message after exit\n"
+
+# The same without the answer to shutdown. What it lacks, and what the one of the killed editor lacks.
+UNANSWERED = HEAD + INITIALIZE + ANSWER + INITIALIZED + OPEN + SNAPSHOT + SHUTDOWN + EXIT
+UNANSWERED_REPORT = b"no 303 editor 6 event 8\nrequest is not answered\n"
+KILLED_REPORT = b"no 407 editor 5 event 8\nexit is missing\n"
 
 # A rest that is no whole frame.
 REST = HEAD + b"E 3\nabc\n"

@@ -8,13 +8,14 @@ use Rattle.lsp_frame.specs.Told.{Told, KeepsBytes, Took}
 use Rattle.lsp_judge.specs.Answered.{IsReportCut}
 use Rattle.lsp_verdict.specs.Given.{verdict_view}
 use Rattle.lsp_streams.specs.Normal.{EndsNormal, BeginsNormal}
-use Rattle.lsp_verdict.specs.Outcome.{IsVerdict}
+use Rattle.lsp_verdict.specs.Complete.{IsVerdictBy}
 use Rattle.lsp_verdict.specs.Report.{report}
 use Rattle.lsp_verdict.specs.RunIo.{OfRead, AppendsFront}
 use Rattle.lsp_verdict.specs.Shown.{text_is, no_document, too_few, refused}
 use Rattle.lsp_judge.specs.ShownLog.{IsShown, BeginsShown}
 use Rattle.lsp_streams.specs.StreamRun.{IsRun, BeginsRun}
 use Rattle.lsp_verdict.specs.TextAfter.{AnswersText}
+use Rattle.lsp_verdict.specs.declared.completeness.Completeness.{Completeness}
 use Rattle.lsp_verdict.specs.declared.outcome.Mode.{Mode}
 use Rattle.lsp_verdict.specs.declared.outcome.Outcome.{Outcome}
 use Rattle.lsp_verdict.specs.declared.outcome.Outcome.TheVariants as outcomes
@@ -45,15 +46,15 @@ Wrote p out = Took p.sink_before p.sink_after out
 abbrev pub IsSilent : Ports → Type 0
 IsSilent p = p.sink_after ≡ p.sink_before
 
--- `check`: the verdict on the log read, and its report
-pub record Checked (limits : Bounds) (p : Ports) (result : Result Outcome RunFault) : Type 0 where
+-- `check`: the verdict on the log read, whose session has to be complete or not, and its report
+pub record Checked (completeness : Completeness) (limits : Bounds) (p : Ports) (result : Result Outcome RunFault) : Type 0 where
   pub judged : IfOk result (λ outcome. (v : Verdict) × (outcome ≡ outcomes.Judged v))
-  pub verdict : (v : Verdict) → result ≡ Ok (outcomes.Judged v) → Read limits p (λ log. IsVerdict limits log (verdict_view v))
+  pub verdict : (v : Verdict) → result ≡ Ok (outcomes.Judged v) → Read limits p (λ log. IsVerdictBy completeness limits log (verdict_view v))
   pub report : (v : Verdict) → result ≡ Ok (outcomes.Judged v) → Wrote p (report (verdict_view v))
   pub ended : (s : Summary) → result ≡ Ok (outcomes.Judged (verdicts.Yes s)) → IsAtEnd p.source_after.bytes
   pub read_fault : result ≡ Err faults.Read → IsSilent p
   pub memory : result ≡ Err faults.Memory → IsSilent p
-  pub write_fault : result ≡ Err faults.Write → IsReportCut limits p.source_before p.source_after p.sink_before p.sink_after
+  pub write_fault : result ≡ Err faults.Write → IsReportCut completeness limits p.source_before p.source_after p.sink_before p.sink_after
 
 -- `show`: the verdict on the log read, the lines of the events before its place, and its report
 pub record Showed (limits : Bounds) (p : Ports) (result : Result Outcome RunFault) : Type 0 where
@@ -90,7 +91,7 @@ pub record Framed (limits : Bounds) (p : Ports) (mode : Mode) (result : Result O
 
 -- **each task is the run of its name**, with its arguments, on this input and into this output
 abbrev pub Answers : Bounds → Task → Ports → Result Outcome RunFault → Type 0
-Answers limits Check p result = Checked limits p result
+Answers limits (Check completeness) p result = Checked completeness limits p result
 Answers limits Show p result = Showed limits p result
 Answers limits (Text number uri) p result = ToldText limits p (non_zero_u64_get number) uri.now result
 Answers limits Normal p result = Normalized limits p result

@@ -1,10 +1,12 @@
 -- What the words of a command line ask for, read off what the parser found in them.
-use Rattle.std.specs.Prelude.{◌≡◌, ℕ, ◌==◌, List, Option, Some, None, IfSome, codes, option_and_then, option_map, if◌then◌else◌}
+use Rattle.std.specs.Prelude.{◌≡◌, ℕ, ◌==◌, Bool, true, false, List, Option, Some, None, IfSome, codes, option_and_then, option_map, if◌then◌else◌}
 use Rattle.std.specs.Str.{bytes_eq}
 use Rattle.std.specs.Str.Parse.{digits_value, without_leading_plus}
 use Rattle.std.specs.Int.NonZero.{non_zero_u64_get}
 use Rattle.clap.specs.Matches.{first_value, one_text}
 use Rattle.clap.specs.declared.parser.matches.Found.{Found}
+use Rattle.lsp_verdict.specs.declared.completeness.Completeness.{Completeness}
+use Rattle.lsp_verdict.specs.declared.completeness.Completeness.TheVariants.{Ignored, Required}
 use Rattle.lsp_verdict.specs.declared.outcome.Mode.{Mode}
 use Rattle.lsp_verdict.specs.declared.outcome.Mode.TheVariants.{Lengths, Canonical, Kinds}
 use Rattle.lsp_command.specs.declared.task.Request.{Request}
@@ -26,19 +28,33 @@ abbrev pub mode_of : Option (List ℕ) → Mode
 mode_of (Some name) = mode_named name
 mode_of None = Lengths
 
+abbrev pub completeness_of : Bool → Completeness
+completeness_of true = Required
+completeness_of false = Ignored
+
+-- a flag with this value is set, or is not; one without a value is not
+pub record IsFlag (value : Option (List ℕ)) (set : Bool) : Type 0 where
+  pub given : value ≡ Some (codes "true") → set ≡ true
+  pub refused : value ≡ Some (codes "false") → set ≡ false
+  pub absent : value ≡ None → set ≡ false
+
+-- the verdict on a log, whose session has to be complete where the option for it is set
+abbrev pub AsksCheck : Found → Option Task → Type 0
+AsksCheck found asked = (set : Bool) × IsFlag (one_text found (codes "complete")) set × (asked ≡ Some (tasks.Check (completeness_of set)))
+
 -- the text of a URI after the editor's message of a number, both as the words give them
 abbrev pub AsksText : Found → Task → Type 0
 AsksText found (tasks.Text number uri) = (first_value found (codes "uri") ≡ Some uri.now)
     × ((digits : List ℕ) × (one_text found (codes "number") ≡ Some digits)
     × (non_zero_u64_get number ≡ digits_value 10 (without_leading_plus digits)))
-AsksText found tasks.Check = ⊥
+AsksText found (tasks.Check completeness) = ⊥
 AsksText found tasks.Show = ⊥
 AsksText found tasks.Normal = ⊥
 AsksText found (tasks.Frames mode) = ⊥
 
 -- **what the command of a name asks for**, with what was found of its arguments
 pub record HasTask (name : List ℕ) (found : Found) (asked : Option Task) : Type 0 where
-  pub check : name ≡ codes "check" → asked ≡ Some tasks.Check
+  pub check : name ≡ codes "check" → AsksCheck found asked
   pub show : name ≡ codes "show" → asked ≡ Some tasks.Show
   pub text : name ≡ codes "text" → IfSome asked (AsksText found)
   pub normal : name ≡ codes "normal" → asked ≡ Some tasks.Normal

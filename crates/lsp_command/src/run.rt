@@ -8,7 +8,10 @@ use crate::inlet::Inlet;
 use crate::outlet::Outlet;
 use crate::task::Task;
 use lsp_frame::{Limits, Sink, Source};
-use lsp_judge::{Outcome, RunFault, run_check, run_frames, run_normal, run_show, run_text};
+use lsp_judge::{
+    Completeness, Outcome, RunFault, run_check, run_check_complete, run_frames, run_normal,
+    run_show, run_text,
+};
 use std::alloc::Global;
 use std::io::{Read, Write};
 
@@ -30,7 +33,8 @@ pub fn run_task<R: Source, W: Sink>(
     ensures sink_failures { (W.told sink.new).failures ≡ sink_failures result (W.told sink.old).failures }
 {
     match task {
-        Task::Check => run_check(alloc, source, sink, limits),
+        Task::Check(Completeness::Ignored) => run_check(alloc, source, sink, limits),
+        Task::Check(Completeness::Required) => run_check_complete(alloc, source, sink, limits),
         Task::Show => run_show(alloc, source, sink, limits),
         Task::Text { number, uri } => run_text(alloc, source, sink, limits, number.get(), uri),
         Task::Normal => run_normal(alloc, source, sink, limits),

@@ -1,12 +1,12 @@
 //! What a command line can ask for.
-use lsp_judge::Mode;
+use lsp_judge::{Completeness, Mode};
 use std::num::NonZeroU64;
 
 /// What to do with what is read.
 #[derive(Clone, Copy, Debug)]
 pub enum Task<'a> {
-    /// To judge a recorded session.
-    Check,
+    /// To judge a recorded session, which has to be complete or not.
+    Check(Completeness),
     /// To list the events of a recorded session, and to judge it.
     Show,
     /// To write the text of the document with this URI, as it is after the editor's message of this

@@ -2,12 +2,12 @@
 ghost use Rattle.std.specs.Prelude.{◌≡◌, ℕ, List, IfOk, IfSome, Some, codes, option_map};
 ghost use Rattle.clap.specs.Matches.{first_value, found_of};
 ghost use Rattle.clap.specs.declared.parser.matches.Found.{Found};
-ghost use Rattle.lsp_command.specs.Words.{Asks, AsksText, file_of, mode_of};
+ghost use Rattle.lsp_command.specs.Words.{Asks, AsksCheck, AsksText, completeness_of, file_of, mode_of};
 
 use crate::task::{Request, Task};
 use clap::error::ErrorKind;
-use clap::{Arg, ArgMatches, Command, Error, value_parser};
-use lsp_judge::Mode;
+use clap::{Arg, ArgAction, ArgMatches, Command, Error, value_parser};
+use lsp_judge::{Completeness, Mode};
 use std::alloc::{AllocError, Global};
 use std::num::NonZeroU64;
 
@@ -44,8 +44,13 @@ fn log_file<'a>(alloc: Global) -> Arg<'a> {
 }
 
 fn check<'a>(alloc: Global) -> Result<Command<'a>, AllocError> {
+    let complete = Arg::new(alloc, "complete")
+        .long("complete")
+        .action(ArgAction::SetTrue)
+        .help("Wants an answer to each request of the editor, and exit at the end");
     Command::new(alloc, "check")
         .about("Judges a recorded session, and reports the verdict")
+        .arg(complete)?
         .arg(log_file(alloc))
 }
 
@@ -119,9 +124,20 @@ fn mode_of(name: Option<&str>) -> Mode
     }
 }
 
+/// Whether a session has to be complete, where the option for it is set or not.
+fn completeness_of(set: bool) -> Completeness
+    ensures { result ≡ completeness_of set }
+{
+    if set {
+        Completeness::Required
+    } else {
+        Completeness::Ignored
+    }
+}
+
 /// The task of the command of this name, with its arguments.
 fn task_of<'a>(name: &str, arguments: &ArgMatches<'a>) -> Option<Task<'a>>
-    ensures check { name.now ≡ codes "check" → result ≡ Some Task.Check }
+    ensures check { name.now ≡ codes "check" → AsksCheck (found_of arguments.now) result }
     ensures show { name.now ≡ codes "show" → result ≡ Some Task.Show }
     ensures text { name.now ≡ codes "text" → IfSome result (AsksText (found_of arguments.now)) }
     ensures normal { name.now ≡ codes "normal" → result ≡ Some Task.Normal }
@@ -129,7 +145,7 @@ fn task_of<'a>(name: &str, arguments: &ArgMatches<'a>) -> Option<Task<'a>>
         → result ≡ Some (Task.Frames (mode_of (first_value (found_of arguments.now) (codes "as")))) }
 {
     match name {
-        "check" => Some(Task::Check),
+        "check" => Some(Task::Check(completeness_of(arguments.get_flag("complete")))),
         "show" => Some(Task::Show),
         "text" => Some(Task::Text {
             number: arguments.get_one::<NonZeroU64>("number")?,

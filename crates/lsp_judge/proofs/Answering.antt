@@ -14,7 +14,10 @@ use Rattle.lsp_judge.specs.declared.ruling.Ruling.TheVariants as rulings
 use Rattle.lsp_verdict.specs.declared.verdict.Verdict as code
 use Rattle.lsp_verdict.specs.declared.verdict.Verdict.TheVariants as verdicts
 use Rattle.lsp_verdict.specs.declared.verdict.Who.{Who}
-use Rattle.lsp_judge.specs.Answered.{NamesFirst, NamesRest, NoneOffends, AreClean, IsClean, SaysYes}
+use Rattle.lsp_verdict.specs.declared.completeness.Completeness.{Completeness}
+use Rattle.lsp_judge.specs.Answered.{NamesFirst, NamesRest, NamesShort, NoneOffends, AreClean, IsClean, SaysYes}
+use Rattle.lsp_verdict.specs.BroughtToEnd.{AreComplete, IsBroughtToEnd}
+use Rattle.lsp_verdict.specs.Complete.{IsCompleteFinal, IsCompleteVerdict, IsVerdictBy}
 use Rattle.lsp_verdict.specs.Event.{Event}
 use Rattle.lsp_verdict.specs.Given.{verdict_view, as_given}
 use Rattle.lsp_verdict.specs.Kept.{AreKept}
@@ -25,6 +28,7 @@ use Rattle.lsp_judge.specs.Rulings.{verdict_in}
 use Rattle.lsp_judge.specs.Standing.{HasOffence, State, Stands}
 use Rattle.lsp_verdict.specs.Verdict.{Verdict, Summary, yes, no, bad_log, summary, whose, first_no}
 use Rattle.lsp_judge.proofs.Finals.{open_clean}
+use Rattle.lsp_verdict.proofs.Completing.{some_complete_final, are_complete, complete_no, complete_yes, one_complete_verdict}
 use Rattle.lsp_verdict.proofs.Logs.{some_final, one_verdict}
 use Rattle.lsp_verdict.proofs.Meanings.{are_kept, final_no, final_yes, is_yes_given, kept_means_yes}
 use Rattle.lsp_judge.proofs.Records.{is_open, offence_in}
@@ -42,15 +46,21 @@ judged_as given v P e p =
     let same : given ≡ v = cc e in
     subst P same p
 
-pub read_verdict : (limits : Bounds) (before after : Told) (given v : code.Verdict) → OfRead limits before after (λ log. IsVerdict limits log (verdict_view given))
-    → (let outcome : Result Outcome RunFault = Ok (Judged given) in outcome) ≡ Ok (Judged v) → OfRead limits before after (λ log. IsVerdict limits log (verdict_view v))
-read_verdict limits before after given v says e = judged_as given v (λ w. OfRead limits before after (λ log. IsVerdict limits log (verdict_view w))) e says
+pub read_verdict : (completeness : Completeness) (limits : Bounds) (before after : Told) (given v : code.Verdict) → OfRead limits before after (λ log. IsVerdictBy completeness limits log (verdict_view given))
+    → (let outcome : Result Outcome RunFault = Ok (Judged given) in outcome) ≡ Ok (Judged v) → OfRead limits before after (λ log. IsVerdictBy completeness limits log (verdict_view v))
+read_verdict completeness limits before after given v says e = judged_as given v (λ w. OfRead limits before after (λ log. IsVerdictBy completeness limits log (verdict_view w))) e says
 
 -- ---- Yes
 
 pub clean_yes : (limits : Bounds) → IsInRange limits → (given : Verdict) (log : List ℕ) → IsVerdict limits log given → (events : List Event) → IsClean limits log events → given ≡ yes (summary limits.document events)
 clean_yes limits sizes given log says events (records, is_log, c) =
     one_verdict limits sizes log given (yes (summary limits.document events)) says (kept_means_yes limits log records events is_log c.session c.clean c.editor c.server)
+
+pub clean_complete : (limits : Bounds) → IsInRange limits → (given : Verdict) (log : List ℕ) → IsCompleteVerdict limits log given → (events : List Event) → IsClean limits log events → IsBroughtToEnd events → given ≡ yes (summary limits.document events)
+clean_complete limits sizes given log says events (records, is_log, c) ended =
+    let final = complete_yes limits records events c.session c.clean c.editor c.server ended in
+    let whole : IsVerdict limits log final.plain = record { records = records; fault = None; is_log = is_log; final = final.final } in
+    one_complete_verdict limits sizes log given (yes (summary limits.document events)) says (record { plain = final.plain; whole = whole; says = final.says })
 
 -- ---- records
 
@@ -90,6 +100,33 @@ records_refused limits records rule who number event says =
 
 pub records_clean : (limits : Bounds) (records : List Record) (events : List Event) (given : Verdict) → AreClean limits records events → Finals limits records given → SaysYes limits events given
 records_clean limits records events given c says = says (yes (summary limits.document events)) (final_yes limits records events c.session c.clean c.editor c.server)
+
+-- where the session has to be complete
+abbrev pub CompleteFinals : Bounds → List Record → Verdict → Type 0
+CompleteFinals limits records given = (v : Verdict) → IsCompleteFinal limits records None v → given ≡ as_given v
+
+pub records_complete : (limits : Bounds) → IsInRange limits → (records : List Record) (s : Summary) → CompleteFinals limits records (yes s) → AreComplete limits records
+records_complete limits sizes records s says =
+    let final = some_complete_final limits records None in
+    let t = is_yes_given final.0 s (says final.0 final.1) in
+    are_complete limits sizes records None t.0 (subst (IsCompleteFinal limits records None) t.1 final.1)
+
+pub records_short : (limits : Bounds) → IsInRange limits → (records : List Record) (rule : ℕ) (who : Who) (number event : ℕ) → CompleteFinals limits records (no rule who number event)
+    → (NamesFirst limits records (no rule who number event) ⊎ NamesRest limits records (no rule who number event)) ⊎ NamesShort limits records (no rule who number event)
+records_short limits sizes records rule who number event says =
+    let final = some_complete_final limits records None in
+    let is = says final.0 final.1 in
+    let w = no_given final.0 rule who number event is in
+    let last : IsCompleteFinal limits records None (no rule who w.0 w.1) = subst (IsCompleteFinal limits records None) w.2 final.1 in
+    let given : no rule who number event ≡ as_given (no rule who w.0 w.1) = is ∙ ap as_given w.2 in
+    elim (complete_no limits sizes records None rule who w.0 w.1 last) [
+      | inl (inl names) ↦ inl (inl (record { events = last.final.events; session = last.final.session; verdict = no rule who w.0 w.1; names = names; is = given }))
+      | inl (inr rest) ↦ inl (inr (record { events = last.final.events; session = last.final.session; verdict = no rule who w.0 w.1; names = rest; is = given }))
+      | inr short ↦ inr (record { verdict = no rule who w.0 w.1; short = short; is = given })
+    ]
+
+pub records_ended : (limits : Bounds) (records : List Record) (events : List Event) (given : Verdict) → AreClean limits records events → IsBroughtToEnd events → CompleteFinals limits records given → SaysYes limits events given
+records_ended limits records events given c ended says = says (yes (summary limits.document events)) (complete_yes limits records events c.session c.clean c.editor c.server ended)
 
 pub names_of : (limits : Bounds) (records : List Record) (given : Verdict) → HasOffence limits records given → NamesFirst limits records given
 names_of limits records given (v, offends, is) =

@@ -10,16 +10,21 @@ use Rattle.lsp_log.specs.Records.{record_view}
 use Rattle.lsp_log.specs.declared.fault.LogCode.{LogCode}
 use Rattle.lsp_log.specs.declared.record.Record as record_code
 use Rattle.lsp_docs.specs.State.{capped}
+use Rattle.lsp_verdict.specs.Complete.{IsCompleteFinal, IsCompleteVerdict, IsFinalBy, IsVerdictBy, completed}
 use Rattle.lsp_verdict.specs.Event.{Event}
 use Rattle.lsp_verdict.specs.Given.{verdict_view, as_given}
 use Rattle.lsp_verdict.specs.Outcome.{IsFinal, IsVerdict, Offends}
 use Rattle.lsp_verdict.specs.Placed.{Placed, IsSession}
 use Rattle.lsp_verdict.specs.RunIo.{OfRead}
 use Rattle.lsp_verdict.specs.Shown.{kept, kept_within}
-use Rattle.lsp_verdict.specs.Verdict.{Verdict, no, first_no, no_at}
+use Rattle.lsp_verdict.specs.Verdict.{Verdict, Summary, yes, no, first_no, no_at}
+use Rattle.lsp_verdict.specs.declared.completeness.Completeness.{Completeness}
+use Rattle.lsp_verdict.specs.declared.completeness.Completeness.TheVariants.{Ignored, Required}
 use Rattle.lsp_verdict.specs.declared.outcome.RunFault.{RunFault}
 use Rattle.lsp_verdict.specs.declared.outcome.RunFault.TheVariants as faults
 use Rattle.lsp_verdict.specs.declared.verdict.Verdict as code
+use Rattle.lsp_verdict.specs.declared.verdict.Who.{Who}
+use Rattle.lsp_verdict.proofs.Completing.{completed_other, complete_exact}
 use Rattle.lsp_verdict.proofs.ExactCounts.{events_within, exact}
 use Rattle.lsp_verdict.proofs.Logs.{some_final}
 use Rattle.lsp_verdict.proofs.OneEvent.{some_list, lists_join}
@@ -30,13 +35,14 @@ use Rattle.lsp_verdict.proofs.Verdicts.{no_found}
 use Rattle.lsp_verdict.specs.Entries as entries
 use Rattle.lsp_verdict.specs.Entries.{IsAt, HasRecords, HasFirst}
 use Rattle.lsp_judge.specs.Hearing.{IsHeard, IsHearing, OffendsAfter, Stops}
-use Rattle.lsp_judge.specs.LogEvents.{EndsAt, BeginsWith, SoFar, Found, BrokeOff, IsIdle}
+use Rattle.lsp_judge.specs.LogEvents.{EndsAt, EndsBy, BeginsWith, SoFar, Found, BrokeOff, IsIdle}
 use Rattle.lsp_judge.specs.Rulings.{verdict_in}
 use Rattle.lsp_judge.specs.Standing as judge
-use Rattle.lsp_judge.specs.Standing.{Keeps, IsOpen, Stands, StandsBy}
+use Rattle.lsp_judge.specs.Standing.{Keeps, IsOpen, Stands, StandsBy, is_given}
 use Rattle.lsp_judge.specs.declared.event_reader.EventReader.{EventReader}
 use Rattle.lsp_judge.specs.declared.ruling.Ruling.{Ruling}
 use Rattle.lsp_judge.specs.declared.ruling.Ruling.TheVariants as rulings
+use Rattle.lsp_judge.proofs.Answering.{no_yes}
 use Rattle.lsp_verdict.proofs.Entries.{is_first, at_start}
 use Rattle.lsp_judge.proofs.KeptEvents.{kept_clean, kept_no, kept_more, kept_final}
 use Rattle.lsp_judge.proofs.Pulling.{open_hearing, hearing_open, hearing_session}
@@ -95,6 +101,48 @@ ends_clean limits sizes log records flaw is_log heard given clean session says =
       kept_final limits.document final.1.events _ final.0 final.1.says ∙ ap (kept_within limits.document) events ∙ kept_clean limits.document heard clean,
     )
 
+-- ---- whether or not the session has to be complete
+
+-- another verdict than Yes is the same
+ends_by : (completeness : Completeness) (limits : Bounds) (log : List ℕ) (heard : List Event) (v : Verdict) → ((s : Summary) → v ≡ yes s → ⊥) → EndsAt limits log heard v → EndsBy completeness limits log heard v
+ends_by Ignored limits log heard v is_other ends = ends
+ends_by Required limits log heard v is_other ends = (v, ends, completed_other ends.0.final.events v is_other)
+
+ends_final : (completeness : Completeness) (limits : Bounds) → IsInRange limits → (log : List ℕ) (records : List Record) (flaw : Option (ℕ × LogCode)) → IsLog limits log records flaw → (heard : List Event) (given : Verdict)
+    → first_no limits.document heard ≡ None → IsSession limits records heard → ((v : Verdict) → IsFinalBy completeness limits records flaw v → given ≡ as_given v) → EndsBy completeness limits log heard given
+ends_final Ignored limits sizes log records flaw is_log heard given clean session says = ends_clean limits sizes log records flaw is_log heard given clean session says
+ends_final Required limits sizes log records flaw is_log heard given clean session says =
+    let final = some_final limits records flaw in
+    let whole : IsVerdict limits log final.0 = record { records = records; fault = flaw; is_log = is_log; final = final.1 } in
+    let complete : IsCompleteVerdict limits log (completed final.1.events final.0) = record { plain = final.0; whole = whole; says = refl } in
+    let named : given ≡ completed final.1.events final.0 = says _ (record { plain = final.0; final = final.1; says = refl }) ∙ complete_exact limits sizes log _ complete in
+    let events : final.1.events ≡ heard = same_session limits records records final.1.events heard refl final.1.session session in (
+      final.0,
+      (
+        whole,
+        kept_final limits.document final.1.events _ final.0 final.1.says ∙ ap (kept_within limits.document) events ∙ kept_clean limits.document heard clean,
+      ),
+      sym named,
+    )
+
+ends_verdict : (completeness : Completeness) (limits : Bounds) (log : List ℕ) (heard : List Event) (v : Verdict) → EndsBy completeness limits log heard v → IsVerdictBy completeness limits log v
+ends_verdict Ignored limits log heard v ends = ends.0
+ends_verdict Required limits log heard v ends = record { plain = ends.0; whole = ends.1.0; says = ends.2 }
+
+-- what a judge gives for good is no Yes
+given_other : (given : Option Ruling) (v : Verdict) → Some v ≡ is_given given → (s : Summary) → v ≡ yes s → ⊥
+given_other None v is s e = let same : Some v ≡ None = is in absurd cc
+given_other (Some ruling) v is s e = no_yes ruling s (sym is ∙ ap Some e)
+
+-- so a fault of the log is given whether or not the session has to be complete
+pub fault_says : (completeness : Completeness) (s : judge.State) (fault : Option (ℕ × LogCode)) (given : Option Ruling) (v : Verdict) → Some v ≡ is_given given
+    → ((records : List Record) (w : Verdict) → Stands s records → IsFinal s.limits records fault w → v ≡ as_given w)
+    → (records : List Record) (w : Verdict) → Stands s records → IsFinalBy completeness s.limits records fault w → v ≡ as_given w
+fault_says Ignored s fault given v is says = says
+fault_says Required s fault given v is says = λ records w stands p.
+    let named = says records p.plain stands p.final in
+    named ∙ ap as_given (sym (completed_other p.final.events p.plain (λ t e. given_other given v is _ (named ∙ ap as_given e))) ∙ p.says)
+
 -- ---- what is known of the log read
 
 session_of : (s : judge.State) (rs : List Record) (heard : List Event) → IsHearing s rs heard → (extra : List Event) × IsSession s.limits rs (heard ++ extra)
@@ -139,9 +187,11 @@ module _ (limits : Bounds) (e : EventReader) (start now : Told) (heard : List Ev
 
   -- ---- the next event offends
 
-  pub found_no : (v : Verdict) → OffendsAfter limits s.records heard v → Found limits start now heard v
-  found_no v o = record {
-    of_read = read_map limits start now (HasFirst limits s.records) (λ log. EndsAt limits log heard v) (λ log has. ends_no limits range log s.records has.0 has.1 has.2 heard v o) first;
+  pub found_no : (completeness : Completeness) (rule : ℕ) (by : Who) (number event : ℕ) → OffendsAfter limits s.records heard (no rule by number event) → Found completeness limits start now heard (no rule by number event)
+  found_no completeness rule by number event o = record {
+    of_read = read_map limits start now (HasFirst limits s.records) (λ log. EndsBy completeness limits log heard (no rule by number event))
+        (λ log has. ends_by completeness limits log heard (no rule by number event) (λ t e. absurd cc) (ends_no limits range log s.records has.0 has.1 has.2 heard (no rule by number event) o))
+        first;
     failures = s.at.failures;
   }
 
@@ -150,12 +200,13 @@ module _ (limits : Bounds) (e : EventReader) (start now : Told) (heard : List Ev
   refused = record { of_read = so_far_begins; failures = s.at.failures; unwritten = λ same. absurd cc }
 
 -- a ruling of the judge
-pub ruled : (limits : Bounds) (e : EventReader) (start now : Told) (heard : List Event) (s : SoFar limits e start now heard) (ruling : Ruling) (v : code.Verdict) → verdict_in ruling ≡ Some (verdict_view v) → Stops e.judge.limits s.records heard ruling → Found limits start now heard (verdict_view v)
-ruled limits e start now heard s (rulings.No rule who number event) v is o =
+pub ruled : (completeness : Completeness) (limits : Bounds) (e : EventReader) (start now : Told) (heard : List Event) (s : SoFar limits e start now heard) (ruling : Ruling) (v : code.Verdict) → verdict_in ruling ≡ Some (verdict_view v) → Stops e.judge.limits s.records heard ruling
+    → Found completeness limits start now heard (verdict_view v)
+ruled completeness limits e start now heard s (rulings.No rule who number event) v is o =
     let named : no rule who number event ≡ verdict_view v = cc is in
-    found_no limits e start now heard s (verdict_view v) (subst (OffendsAfter limits s.records heard) named (subst (λ (b : Bounds). OffendsAfter b s.records heard (no rule who number event)) s.alike o))
-ruled limits e start now heard s (rulings.BadLog number fault) v is o = absurd o
-ruled limits e start now heard s rulings.Memory v is o = absurd cc
+    subst (Found completeness limits start now heard) named (found_no limits e start now heard s completeness rule who number event (subst (λ (b : Bounds). OffendsAfter b s.records heard (no rule who number event)) s.alike o))
+ruled completeness limits e start now heard s (rulings.BadLog number fault) v is o = absurd o
+ruled completeness limits e start now heard s rulings.Memory v is o = absurd cc
 
 -- ---- the log ends
 
@@ -166,14 +217,14 @@ module _ (limits : Bounds) (e : EventReader) (start mid now : Told) (heard : Lis
     given = subst (λ (o : Option Ruling). StandsBy o e.judge i.0.records) (sym i.0.ungiven) (hearing_open e.judge i.0.records heard i.1 i.0.hears);
   }
 
-  pub found_end : (fault : Option (ℕ × LogCode)) (v : Verdict) → HasRecords limits start now i.0.records fault → ((records : List Record) (w : Verdict) → Stands e.judge records → IsFinal e.judge.limits records fault w → v ≡ as_given w)
-      → Found limits start now heard v
-  found_end fault v has says =
+  pub found_end : (completeness : Completeness) (fault : Option (ℕ × LogCode)) (v : Verdict) → HasRecords limits start now i.0.records fault
+      → ((records : List Record) (w : Verdict) → Stands e.judge records → IsFinalBy completeness e.judge.limits records fault w → v ≡ as_given w) → Found completeness limits start now heard v
+  found_end completeness fault v has says =
       let session = subst (λ (b : Bounds). IsSession b i.0.records heard) i.0.alike (hearing_session e.judge i.0.records heard i.1 i.0.hears) in
       record {
-        of_read = read_map limits start now (λ log. IsLog limits log i.0.records fault) (λ log. EndsAt limits log heard v)
-            (λ log is_log. ends_clean limits (so_far_range limits e start mid heard i.0) log i.0.records fault is_log heard v (so_far_clean limits e start mid heard i.0) session
-            (λ w final. says i.0.records w idle_stands (subst (λ (b : Bounds). IsFinal b i.0.records fault w) (sym i.0.alike) final)))
+        of_read = read_map limits start now (λ log. IsLog limits log i.0.records fault) (λ log. EndsBy completeness limits log heard v)
+            (λ log is_log. ends_final completeness limits (so_far_range limits e start mid heard i.0) log i.0.records fault is_log heard v (so_far_clean limits e start mid heard i.0) session
+            (λ w final. says i.0.records w idle_stands (subst (λ (b : Bounds). IsFinalBy completeness b i.0.records fault w) (sym i.0.alike) final)))
             has.of_read;
         failures = has.failures;
       }
@@ -210,9 +261,9 @@ module _ (limits : Bounds) (e : EventReader) (start mid now : Told) (heard : Lis
   })
 
   -- by the limits that the reader of the log has
-  pub entry_end : (own : Bounds) (fault : Option (ℕ × LogCode)) (v : Verdict) → own ≡ limits → HasRecords own start now i.0.records fault → ((records : List Record) (w : Verdict) → Stands e.judge records → IsFinal e.judge.limits records fault w → v ≡ as_given w)
-      → Found limits start now heard v
-  entry_end own fault v same has says = found_end fault v (subst (λ (b : Bounds). HasRecords b start now i.0.records fault) same has) says
+  pub entry_end : (completeness : Completeness) (own : Bounds) (fault : Option (ℕ × LogCode)) (v : Verdict) → own ≡ limits → HasRecords own start now i.0.records fault
+      → ((records : List Record) (w : Verdict) → Stands e.judge records → IsFinalBy completeness e.judge.limits records fault w → v ≡ as_given w) → Found completeness limits start now heard v
+  entry_end completeness own fault v same has says = found_end completeness fault v (subst (λ (b : Bounds). HasRecords b start now i.0.records fault) same has) says
 
   pub entry_broke : (own : Bounds) (fault : RunFault) → own ≡ limits → entries.BrokeOff own start now i.0.records fault → BrokeOff limits start now heard fault
   entry_broke own fault same broke = broke_off fault (subst (λ (b : Bounds). entries.BrokeOff b start now i.0.records fault) same broke)
@@ -262,9 +313,10 @@ takes_record limits old new start mid now heard next i same at keeps hears = rec
 -- ---- loops
 
 -- some events of the log were heard
-pub record Following (limits : Bounds) (e : EventReader) (start now : Told) : Type 0 where
+pub record Following (completeness : Completeness) (limits : Bounds) (e : EventReader) (start now : Told) : Type 0 where
   pub heard : List Event
   pub so_far : SoFar limits e start now heard
+  pub wanted : e.completeness ≡ completeness
 
 -- one event more leaves fewer to come
 pub fewer : (limits : Bounds) (e f : EventReader) (start mid now : Told) (heard : List Event) (event : Event) → SoFar limits e start mid heard → SoFar limits f start now (heard ++ event ∷ [])
@@ -287,8 +339,12 @@ broke_early limits start now heard fault broke = record {
 }
 
 -- the verdict that was found is that of the log
-pub verdict_found : (limits : Bounds) (start now : Told) (heard : List Event) (v : Verdict) → Found limits start now heard v → OfRead limits start now (λ log. IsVerdict limits log v) × (now.failures ≡ start.failures)
-verdict_found limits start now heard v found = (read_map limits start now (λ log. EndsAt limits log heard v) (λ log. IsVerdict limits log v) (λ log ends. ends.0) found.of_read, found.failures)
+pub verdict_found : (own completeness : Completeness) (limits : Bounds) (start now : Told) (heard : List Event) (v : Verdict) → own ≡ completeness → Found own limits start now heard v
+    → OfRead limits start now (λ log. IsVerdictBy completeness limits log v) × (now.failures ≡ start.failures)
+verdict_found own completeness limits start now heard v same found = (
+  read_map limits start now (λ log. EndsBy own limits log heard v) (λ log. IsVerdictBy completeness limits log v) (λ log ends. subst (λ c. IsVerdictBy c limits log v) same (ends_verdict own limits log heard v ends)) found.of_read,
+  found.failures,
+)
 
 pub fresh_along : (limits : Bounds) (e : EventReader) (start : Told) → e.log.limits ≡ limits → SoFar limits e start start [] → SoFar e.log.limits e start start []
 fresh_along limits e start same so_far = subst (λ (b : Bounds). SoFar b e start start []) (sym same) so_far

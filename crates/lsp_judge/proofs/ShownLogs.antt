@@ -8,6 +8,8 @@ use Rattle.lsp_frame.specs.Sink.{Wrote, Stopped}
 use Rattle.lsp_frame.specs.Told.{Told, Took, after_failure}
 use Rattle.lsp_frame.proofs.Telling.{took_then}
 use Rattle.lsp_frame.proofs.Writing.{wrote_nothing, wrote_then}
+use Rattle.lsp_verdict.specs.declared.completeness.Completeness.{Completeness}
+use Rattle.lsp_verdict.specs.declared.completeness.Completeness.TheVariants.{Ignored}
 use Rattle.lsp_verdict.specs.declared.outcome.RunFault.{RunFault}
 use Rattle.lsp_verdict.specs.declared.outcome.RunFault.TheVariants as faults
 use Rattle.lsp_verdict.specs.declared.outcome.Outcome.{Outcome}
@@ -24,7 +26,7 @@ use Rattle.lsp_verdict.specs.Verdict.{Verdict}
 use Rattle.lsp_verdict.proofs.Logs.{same_events, one_verdict}
 use Rattle.lsp_verdict.proofs.LookBackLemmas.{each_from-append, each_of-snoc}
 use Rattle.lsp_verdict.proofs.RunReading.{read_map}
-use Rattle.lsp_judge.specs.LogEvents.{EndsAt, BeginsWith, SoFar, Found, BrokeOff}
+use Rattle.lsp_judge.specs.LogEvents.{EndsAt, EndsBy, BeginsWith, SoFar, Found, BrokeOff}
 use Rattle.lsp_judge.specs.ShownLog.{IsShown, BeginsShown, OneShown, ShowedAll, ShowedPart, line_of}
 use Rattle.lsp_judge.specs.declared.event_reader.EventReader.{EventReader}
 use Rattle.lsp_judge.proofs.Answering.{judged_as}
@@ -76,22 +78,24 @@ begins_shown limits heard front left whole log (v, later, (says, is)) =
 pub record Showing (limits : Bounds) (e : EventReader) (start now old new : Told) : Type 0 where
   pub heard : List Event
   pub so_far : SoFar limits e start now heard
+  pub ignored : e.completeness ≡ Ignored
   pub wrote : Wrote old new (lines_of heard)
 
-pub nothing_shown : (limits : Bounds) (e : EventReader) (start old : Told) → SoFar limits e start start [] → Showing limits e start start old old
-nothing_shown limits e start old so_far = record { heard = []; so_far = so_far; wrote = wrote_nothing old }
+pub nothing_shown : (limits : Bounds) (e : EventReader) (start old : Told) → SoFar limits e start start [] → e.completeness ≡ Ignored → Showing limits e start start old old
+nothing_shown limits e start old so_far ignored = record { heard = []; so_far = so_far; ignored = ignored; wrote = wrote_nothing old }
 
 module _ (limits : Bounds) (start now old mid new : Told) (heard : List Event) (wrote : Wrote old mid (lines_of heard)) where
   numbered : (e : EventReader) (event : Event) (number : ℕ) → SoFar limits e start now (heard ++ event ∷ []) → number ≡ e.judge.counts.all → number ≡ length heard + 1
   numbered e event number so_far counted = counted ∙ so_far_counts limits e start now (heard ++ event ∷ []) so_far ∙ length-append heard (event ∷ [])
 
   -- one more event and its line
-  pub one_shown_more : (e : EventReader) (event : Event) (number : ℕ) → SoFar limits e start now (heard ++ event ∷ []) → number ≡ e.judge.counts.all → Wrote mid new (line_of number event) → Showing limits e start now old new
-  one_shown_more e event number so_far counted line =
+  pub one_shown_more : (e : EventReader) (event : Event) (number : ℕ) → SoFar limits e start now (heard ++ event ∷ []) → e.completeness ≡ Ignored → number ≡ e.judge.counts.all → Wrote mid new (line_of number event) → Showing limits e start now old new
+  one_shown_more e event number so_far ignored counted line =
       let is = numbered e event number so_far counted in
       record {
         heard = heard ++ event ∷ [];
         so_far = so_far;
+        ignored = ignored;
         wrote = subst (Wrote old new) (sym (lines-snoc heard event number is)) (wrote_then old mid new (lines_of heard) (line_of number event) wrote line);
       }
 
@@ -122,11 +126,11 @@ module _ (limits : Bounds) (start now old mid new : Told) (heard : List Event) (
 
 module _ (limits : Bounds) (start now old mid : Told) (heard : List Event) (wrote : Wrote old mid (lines_of heard)) where
   -- the verdict was found
-  pub all_shown : (v : Verdict) → Found limits start now heard v → ShowedAll limits start now old mid v
-  all_shown v found = record {
+  pub all_shown : (completeness : Completeness) (v : Verdict) → completeness ≡ Ignored → Found completeness limits start now heard v → ShowedAll limits start now old mid v
+  all_shown completeness v ignored found = record {
     lines = lines_of heard;
     wrote = wrote;
-    due = read_map limits start now (λ log. EndsAt limits log heard v) (λ log. IsShown limits log v (lines_of heard ++ report v)) (ends_shown limits heard v) found.of_read;
+    due = read_map limits start now (λ log. EndsBy completeness limits log heard v) (λ log. IsShown limits log v (lines_of heard ++ report v)) (λ log ends. ends_shown limits heard v log (subst (λ c. EndsBy c limits log heard v) ignored ends)) found.of_read;
     failures = found.failures;
   }
 

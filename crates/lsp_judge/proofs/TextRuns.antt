@@ -12,6 +12,8 @@ use Rattle.lsp_verdict.specs.Event.{Event}
 use Rattle.lsp_verdict.specs.Outcome.{IsVerdict, Offends}
 use Rattle.lsp_verdict.specs.RunIo.{OfRead, GaveAtMost}
 use Rattle.lsp_verdict.specs.Given.{verdict_view}
+use Rattle.lsp_verdict.specs.declared.completeness.Completeness.{Completeness}
+use Rattle.lsp_verdict.specs.declared.completeness.Completeness.TheVariants.{Ignored}
 use Rattle.lsp_verdict.specs.declared.outcome.Outcome.{Outcome}
 use Rattle.lsp_verdict.specs.declared.outcome.Outcome.TheVariants.{Judged}
 use Rattle.lsp_verdict.specs.declared.outcome.RunFault.{RunFault}
@@ -29,7 +31,7 @@ use Rattle.lsp_verdict.proofs.RunReading.{read_map, read_within}
 use Rattle.lsp_verdict.proofs.TextLogs.{text_missing}
 use Rattle.lsp_verdict.proofs.UpTo.{reached_more, reached_past, reached_now, count-append, count_one}
 use Rattle.lsp_verdict.proofs.Verdicts.{no_found}
-use Rattle.lsp_judge.specs.LogEvents.{EndsAt, BeginsWith, SoFar, Found, GivesText, failures_of}
+use Rattle.lsp_judge.specs.LogEvents.{EndsAt, EndsBy, BeginsWith, SoFar, Found, GivesText, failures_of}
 use Rattle.lsp_judge.specs.Standing.{Follows}
 use Rattle.lsp_judge.specs.declared.event_reader.EventReader.{EventReader}
 use Rattle.lsp_judge.proofs.KeptEvents.{kept_clean, kept_no, kept_final}
@@ -87,10 +89,11 @@ text_ended limits n uri heard v few log (whole, is) = by_first (first_no limits.
 pub record Reading (limits : Bounds) (e : EventReader) (start now : Told) (n : ℕ) : Type 0 where
   pub heard : List Event
   pub so_far : SoFar limits e start now heard
+  pub ignored : e.completeness ≡ Ignored
   pub few : count_of (is_of Editor) heard < n
 
-pub nothing_read : (limits : Bounds) (e : EventReader) (start : Told) (n : ℕ) → SoFar limits e start start [] → 0 < n → Reading limits e start start n
-nothing_read limits e start n so_far positive = record { heard = []; so_far = so_far; few = positive }
+pub nothing_read : (limits : Bounds) (e : EventReader) (start : Told) (n : ℕ) → SoFar limits e start start [] → e.completeness ≡ Ignored → 0 < n → Reading limits e start start n
+nothing_read limits e start n so_far ignored positive = record { heard = []; so_far = so_far; ignored = ignored; few = positive }
 
 count_other : (xs : List Event) (e : Event) → is_of Editor e ≡ false → count_of (is_of Editor) (xs ++ e ∷ []) ≡ count_of (is_of Editor) xs
 count_other xs e other =
@@ -129,8 +132,8 @@ module _ (limits : Bounds) (e : EventReader) (start now : Told) (n : ℕ) (heard
           by_own true p = omega (arith, p)
           by_own false p = omega (arith, p)
 
-  pub reads_on : (e.judge.counts.editor ≡ n → ⊥) → Reading limits e start now n
-  reads_on unreached = record { heard = heard ++ event ∷ []; so_far = s; few = still_few n heard event few (λ is. unreached (exact_count ∙ is)) }
+  pub reads_on : e.completeness ≡ Ignored → (e.judge.counts.editor ≡ n → ⊥) → Reading limits e start now n
+  reads_on ignored unreached = record { heard = heard ++ event ∷ []; so_far = s; ignored = ignored; few = still_few n heard event few (λ is. unreached (exact_count ∙ is)) }
 
   pub text_found : (uri : List ℕ) (answer : TextAnswer) → e.judge.counts.editor ≡ n
       → ((events : List Event) → Follows e.judge.messages e.judge.documents e.judge.counts events → answer ≡ held_answer (held e.judge.documents.limit uri (calls events)))
@@ -145,9 +148,11 @@ module _ (limits : Bounds) (e : EventReader) (start now : Told) (n : ℕ) (heard
         s.at.failures,
       )
 
-pub text_none : (limits : Bounds) (start now : Told) (n : ℕ) (uri : List ℕ) (heard : List Event) (v : Verdict) (answer : TextAnswer) → count_of (is_of Editor) heard < n → answer ≡ missing_answer v → Found limits start now heard v → OfRead limits start now (λ log. AnswersText limits log n uri answer)
-text_none limits start now n uri heard v answer few is found =
-    read_map limits start now (λ log. EndsAt limits log heard v) (λ log. AnswersText limits log n uri answer) (λ log ends. subst (AnswersText limits log n uri) (sym is) (text_ended limits n uri heard v few log ends)) found.of_read
+pub text_none : (completeness : Completeness) (limits : Bounds) (start now : Told) (n : ℕ) (uri : List ℕ) (heard : List Event) (v : Verdict) (answer : TextAnswer) → completeness ≡ Ignored → count_of (is_of Editor) heard < n → answer ≡ missing_answer v → Found completeness limits start now heard v
+    → OfRead limits start now (λ log. AnswersText limits log n uri answer)
+text_none completeness limits start now n uri heard v answer ignored few is found =
+    read_map limits start now (λ log. EndsBy completeness limits log heard v) (λ log. AnswersText limits log n uri answer)
+    (λ log ends. subst (AnswersText limits log n uri) (sym is) (text_ended limits n uri heard v few log (subst (λ c. EndsBy c limits log heard v) ignored ends))) found.of_read
 
 -- the verdict of an outcome
 pub refused_read : (limits : Bounds) (before after : Told) (n : ℕ) (uri : List ℕ) (given v : code.Verdict) → (let outcome : Result Outcome RunFault = Ok (Judged given) in outcome) ≡ Ok (Judged v)

@@ -5,12 +5,14 @@ use Rattle.lsp_frame.specs.Told.{Told}
 use Rattle.lsp_types.specs.declared.side.Side.TheVariants.{Editor, Server}
 use Rattle.lsp_log.specs.Log.{Record, IsLog}
 use Rattle.lsp_judge.specs.declared.ruling.Ruling.{Ruling}
+use Rattle.lsp_verdict.specs.declared.completeness.Completeness.{Completeness}
 use Rattle.lsp_verdict.specs.declared.verdict.Verdict as code
+use Rattle.lsp_verdict.specs.BroughtToEnd.{AreCutShort}
+use Rattle.lsp_verdict.specs.Complete.{IsVerdictBy}
 use Rattle.lsp_verdict.specs.Event.{Event}
 use Rattle.lsp_verdict.specs.Given.{verdict_view, as_given}
 use Rattle.lsp_verdict.specs.Headline.{Names, HasRest107}
 use Rattle.lsp_verdict.specs.Kept.{NothingOffends, AreFrames}
-use Rattle.lsp_verdict.specs.Outcome.{IsVerdict}
 use Rattle.lsp_verdict.specs.Placed.{IsSession, joined}
 use Rattle.lsp_verdict.specs.Report.{report}
 use Rattle.lsp_judge.specs.Rulings.{verdict_in}
@@ -33,6 +35,12 @@ pub record NamesRest (limits : Bounds) (records : List Record) (given : Verdict)
   pub session : IsSession limits records events
   pub verdict : Verdict
   pub names : HasRest107 limits records None events verdict
+  pub is : given ≡ as_given verdict
+
+-- the records are kept, and what is given is the No by what their session lacks to be complete
+pub record NamesShort (limits : Bounds) (records : List Record) (given : Verdict) : Type 0 where
+  pub verdict : Verdict
+  pub short : AreCutShort limits records verdict
   pub is : given ≡ as_given verdict
 
 -- no event of the records offends
@@ -59,9 +67,9 @@ SaysYes limits events given = given ≡ as_given (yes (summary limits.document e
 -- ---- a report
 
 -- the verdict on the log read was found, and a prefix of its report is written
-pub record IsReportCut (limits : Bounds) (before after old new : Told) : Type 0 where
+pub record IsReportCut (completeness : Completeness) (limits : Bounds) (before after old new : Told) : Type 0 where
   pub given : Verdict
-  pub says : OfRead limits before after (λ log. IsVerdict limits log given)
+  pub says : OfRead limits before after (λ log. IsVerdictBy completeness limits log given)
   pub writes : AppendsFront old new (report given)
 
 -- ---- given for good

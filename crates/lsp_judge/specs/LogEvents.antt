@@ -4,12 +4,15 @@ use Rattle.lsp_frame.specs.Bounds.{Bounds}
 use Rattle.lsp_frame.specs.Told.{Told}
 use Rattle.lsp_log.specs.Log.{Record}
 use Rattle.lsp_verdict.specs.Entries.{IsAt}
+use Rattle.lsp_verdict.specs.Complete.{IsVerdictBy, completed}
 use Rattle.lsp_verdict.specs.Event.{Event}
 use Rattle.lsp_verdict.specs.Given.{verdict_view}
 use Rattle.lsp_verdict.specs.Outcome.{IsVerdict}
 use Rattle.lsp_verdict.specs.RunIo.{OfRead, failures_after}
 use Rattle.lsp_verdict.specs.Shown.{kept}
 use Rattle.lsp_verdict.specs.Verdict.{Verdict}
+use Rattle.lsp_verdict.specs.declared.completeness.Completeness.{Completeness}
+use Rattle.lsp_verdict.specs.declared.completeness.Completeness.TheVariants.{Ignored, Required}
 use Rattle.lsp_verdict.specs.declared.outcome.RunFault.{RunFault}
 use Rattle.lsp_verdict.specs.declared.verdict.Verdict as code
 use Rattle.lsp_verdict.specs.declared.outcome.RunFault.TheVariants as faults
@@ -26,6 +29,11 @@ use Rattle.lsp_judge.specs.declared.event_reader.Next.TheVariants as next
 -- **this is the verdict on the log, and these are the events before its place**
 abbrev pub EndsAt : Bounds → List ℕ → List Event → Verdict → Type 0
 EndsAt limits log heard v = (whole : IsVerdict limits log v) × (kept v whole.final.events ≡ heard)
+
+-- **where the session has to be complete, this is the verdict on the log**, and these are the events before the place of the verdict that it has else
+abbrev pub EndsBy : Completeness → Bounds → List ℕ → List Event → Verdict → Type 0
+EndsBy Ignored limits log heard v = EndsAt limits log heard v
+EndsBy Required limits log heard v = (plain : Verdict) × (ends : EndsAt limits log heard plain) × (completed ends.0.final.events plain ≡ v)
 
 -- the events before the place of the log's verdict begin with these
 abbrev pub BeginsWith : Bounds → List Event → List ℕ → Type 0
@@ -47,8 +55,8 @@ abbrev pub IsFresh : EventReader → Told → Type 0
 IsFresh e now = SoFar e.log.limits e now now []
 
 -- the verdict was found behind these events
-pub record Found (limits : Bounds) (start now : Told) (heard : List Event) (v : Verdict) : Type 0 where
-  pub of_read : OfRead limits start now (λ log. EndsAt limits log heard v)
+pub record Found (completeness : Completeness) (limits : Bounds) (start now : Told) (heard : List Event) (v : Verdict) : Type 0 where
+  pub of_read : OfRead limits start now (λ log. EndsBy completeness limits log heard v)
   pub failures : now.failures ≡ start.failures
 
 -- reading broke off behind these events
@@ -60,7 +68,7 @@ pub record BrokeOff (limits : Bounds) (start now : Told) (heard : List Event) (f
 -- one more event was heard, or the verdict was found
 abbrev pub Gives : Bounds → EventReader → Told → Told → List Event → Next → Type 0
 Gives limits e start now heard (next.Event given) = (event : Event) × IsHeard event given × SoFar limits e start now (heard ++ event ∷ [])
-Gives limits e start now heard (next.Verdict v) = Found limits start now heard (verdict_view v)
+Gives limits e start now heard (next.Verdict v) = Found e.completeness limits start now heard (verdict_view v)
 
 abbrev pub Pulls : Bounds → EventReader → Told → Told → List Event → Result Next RunFault → Type 0
 Pulls limits e start now heard (Ok given) = Gives limits e start now heard given
@@ -85,9 +93,9 @@ TakesEntry limits e start now heard (Err fault) = BrokeOff limits start now hear
 -- ---- runs
 
 -- the verdict on the log read, or why there is none
-abbrev pub GivesVerdict : Bounds → Told → Told → Result code.Verdict RunFault → Type 0
-GivesVerdict limits start now (Ok v) = OfRead limits start now (λ log. IsVerdict limits log (verdict_view v)) × (now.failures ≡ start.failures)
-GivesVerdict limits start now (Err fault) = BrokeOff limits start now [] fault
+abbrev pub GivesVerdict : Completeness → Bounds → Told → Told → Result code.Verdict RunFault → Type 0
+GivesVerdict completeness limits start now (Ok v) = OfRead limits start now (λ log. IsVerdictBy completeness limits log (verdict_view v)) × (now.failures ≡ start.failures)
+GivesVerdict completeness limits start now (Err fault) = BrokeOff limits start now [] fault
 
 -- the answer for a text on the log read, or why there is none
 abbrev pub GivesText : Bounds → Told → Told → ℕ → List ℕ → Result TextAnswer RunFault → Type 0

@@ -25,10 +25,15 @@ IsNoAtSome limit before IsSuch (No rule who number at) = (event : Event) × IsSu
 IsNoAtSome limit before IsSuch (BadLog number code) = ⊥
 IsNoAtSome limit before IsSuch Memory = Unit {0}
 
--- the ruling is the refusal that a rest makes, and there is none where there is no rest
+-- the ruling is this refusal, and there is none where there is none
 abbrev pub RestIs : Option Ruling → Option Verdict → Type 0
 RestIs None refusal = refusal ≡ None
 RestIs (Some ruling) refusal = (v : Verdict) × (refusal ≡ Some v) × (verdict_in ruling ≡ Some (as_given v))
+
+-- the second, where there is no first
+abbrev pub if_none : Option Verdict → Option Verdict → Option Verdict
+if_none None second = second
+if_none (Some first) second = None
 
 -- what holds of a verdict that is no Yes
 abbrev pub IfRefused : Verdict → Type 0 → Type 0

@@ -1,10 +1,15 @@
 //! The events of a log, heard one by one up to its verdict.
-ghost use Rattle.std.specs.Prelude.{◌≡◌, ◌<◌, ◌≤◌, ℕ, List, [], None, Ok};
+ghost use Rattle.std.specs.Prelude.{◌≡◌, ◌<◌, ◌≤◌, ℕ, List, [], None, Ok, IfOk};
 ghost use Rattle.lsp_frame.specs.Bounds.{Bounds};
 ghost use Rattle.lsp_frame.specs.Told.{Told};
+ghost use Rattle.lsp_log.specs.Log.{Record};
 ghost use Rattle.lsp_log.specs.Reader.{ahead};
+ghost use Rattle.lsp_verdict.specs.Complete.{IsFinalBy};
 ghost use Rattle.lsp_verdict.specs.Event.{Event};
+ghost use Rattle.lsp_verdict.specs.Given.{verdict_view, as_given};
+ghost use Rattle.lsp_verdict.specs.Verdict as spec;
 ghost use Rattle.lsp_judge.specs.LogEvents.{SoFar, IsFresh, IsIdle, Pulls, PullsHere, TakesEntry, GivesVerdict};
+ghost use Rattle.lsp_judge.specs.Standing.{Stands};
 ghost use Rattle.lsp_judge.specs.TextAnswers.{AnswersHeld};
 
 use crate::heard::Heard;
@@ -14,7 +19,7 @@ use lsp_frame::{Limits, Source};
 use lsp_log::LogReader;
 use lsp_rpc::Memory;
 use lsp_text::Lined;
-use lsp_verdict::{Entry, RunFault, Verdict, next_entry};
+use lsp_verdict::{Completeness, Entry, RunFault, Verdict, next_entry};
 use std::alloc::Global;
 
 /// Reads the events of a log one by one, up to its verdict.
@@ -22,6 +27,7 @@ use std::alloc::Global;
 pub(crate) struct EventReader {
     log: LogReader,
     judge: Judge<Lined>,
+    completeness: Completeness,
 }
 
 /// What a log has next.
@@ -35,13 +41,15 @@ pub(crate) enum Next {
 
 impl EventReader {
     /// A reader that heard nothing.
-    pub(crate) fn new(alloc: Global, limits: Limits) -> EventReader
+    pub(crate) fn new(alloc: Global, limits: Limits, completeness: Completeness) -> EventReader
         ensures limits { result.log.limits ≡ limits }
+        ensures completeness { result.completeness ≡ completeness }
         ensures fresh { (start : Told) → IsFresh result start }
     {
         EventReader {
             log: LogReader::new(alloc, limits),
             judge: Judge::new(alloc, limits),
+            completeness,
         }
     }
 
@@ -51,6 +59,7 @@ impl EventReader {
     /// `Read` where the source failed, and `Memory` where memory was refused.
     pub(crate) fn next<R: Source>(&mut self, reader: &mut R) -> Result<Next, RunFault>
         requires ungiven { self.old.judge.given ≡ None }
+        ensures completeness { self.new.completeness ≡ self.old.completeness }
         ensures answer { (limits : Bounds) (start : Told) (heard : List Event) → SoFar limits self.old start (R.told reader.old) heard
             → Pulls limits self.new start (R.told reader.new) heard result }
     {
@@ -67,7 +76,7 @@ impl EventReader {
     /// Hears all events of the log, and gives its verdict.
     pub(crate) fn verdict<R: Source>(&mut self, reader: &mut R) -> Result<Verdict, RunFault>
         requires fresh { IsFresh self.old (R.told reader.old) }
-        ensures answer { GivesVerdict self.old.log.limits (R.told reader.old) (R.told reader.new) result }
+        ensures answer { GivesVerdict self.old.completeness self.old.log.limits (R.told reader.old) (R.told reader.new) result }
     {
         loop {
             match self.next(reader)? {
@@ -80,6 +89,7 @@ impl EventReader {
     /// Hears the next event of the records read, or gives the verdict where it offends.
     fn hear(&mut self) -> Result<Option<Next>, RunFault>
         ensures log { self.new.log ≡ self.old.log }
+        ensures completeness { self.new.completeness ≡ self.old.completeness }
         ensures given { self.new.judge.given ≡ self.old.judge.given }
         ensures answer { (limits : Bounds) (start now : Told) (heard : List Event) → SoFar limits self.old start now heard
             → PullsHere limits self.new start now heard result }
@@ -94,6 +104,7 @@ impl EventReader {
     /// Takes the next record of the log, or gives the verdict at its end.
     fn take_entry<R: Source>(&mut self, reader: &mut R) -> Result<Option<Next>, RunFault>
         requires ungiven { self.old.judge.given ≡ None }
+        ensures completeness { self.new.completeness ≡ self.old.completeness }
         ensures given { result ≡ Ok None → self.new.judge.given ≡ self.old.judge.given }
         ensures less { result ≡ Ok None → ahead self.new.log < ahead self.old.log }
         ensures answer { (limits : Bounds) (start : Told) (heard : List Event) → IsIdle limits self.old start (R.told reader.old) heard
@@ -104,7 +115,10 @@ impl EventReader {
                 self.judge.push(record)?;
                 Ok(None)
             }
-            Entry::End => Ok(Some(Next::Verdict(self.judge.finish()?))),
+            Entry::End => {
+                let verdict = finish(&mut self.judge, self.completeness)?;
+                Ok(Some(Next::Verdict(verdict)))
+            }
             Entry::Bad { number, fault } => {
                 Ok(Some(Next::Verdict(self.judge.bad_log(number, fault))))
             }
@@ -130,5 +144,16 @@ impl EventReader {
         ensures { AnswersHeld self.now.judge uri.now result }
     {
         self.judge.text_of(alloc, uri)
+    }
+}
+
+/// The verdict on the records that a judge took, of a log without a fault.
+fn finish(judge: &mut Judge<Lined>, completeness: Completeness) -> Result<Verdict, Memory>
+    ensures verdict { IfOk result (λ answer. (records : List Record) (v : spec.Verdict) → Stands judge.old records
+        → IsFinalBy completeness judge.old.limits records None v → verdict_view answer ≡ as_given v) }
+{
+    match completeness {
+        Completeness::Ignored => judge.finish(),
+        Completeness::Required => judge.finish_complete(),
     }
 }

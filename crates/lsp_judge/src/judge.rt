@@ -2,15 +2,17 @@
 ghost use Rattle.std.specs.Prelude.{◌≡◌, ◌⊎◌, ◌<◌, ◌++◌, ◌∷◌, [], ℕ, List, Option, Some, None, Ok, IfOk, IfSome, IfErr, OnOk, OnErr, option_map};
 ghost use Rattle.lsp_log.specs.Log as log;
 ghost use Rattle.lsp_log.specs.Records.{record_view};
-ghost use Rattle.lsp_judge.specs.Answered.{NamesFirst, NamesRest, NoneOffends, AreClean, SaysYes, Repeats};
+ghost use Rattle.lsp_judge.specs.Answered.{NamesFirst, NamesRest, NamesShort, NoneOffends, AreClean, SaysYes, Repeats};
+ghost use Rattle.lsp_verdict.specs.BroughtToEnd.{AreComplete, IsBroughtToEnd};
+ghost use Rattle.lsp_verdict.specs.Complete.{IsCompleteFinal, lack_of};
 ghost use Rattle.lsp_verdict.specs.Event.{Event};
 ghost use Rattle.lsp_verdict.specs.Given.{verdict_view, as_given};
 ghost use Rattle.lsp_verdict.specs.Kept.{AreKept};
 ghost use Rattle.lsp_verdict.specs.Outcome.{IsFinal, is_rest};
 ghost use Rattle.lsp_verdict.specs.Placed.{IsSession};
 ghost use Rattle.lsp_judge.specs.Hearing.{IsHearing, HearsNext, Stops, unheard};
-ghost use Rattle.lsp_judge.specs.Rulings.{RestIs, IfRefused};
-ghost use Rattle.lsp_judge.specs.Standing.{IsOpen, AreLimits, Keeps, Rules, Stands, is_given};
+ghost use Rattle.lsp_judge.specs.Rulings.{RestIs, IfRefused, if_none};
+ghost use Rattle.lsp_judge.specs.Standing.{Follows, IsOpen, AreLimits, Keeps, Rules, Stands, is_given};
 ghost use Rattle.lsp_judge.specs.TextAnswers.{AnswersHeld};
 ghost use Rattle.lsp_verdict.specs.Counting.{AreCounts};
 ghost use Rattle.lsp_verdict.specs.Verdict as spec;
@@ -194,6 +196,42 @@ impl<S: TextStore> Judge<S> {
         }
     }
 
+    /// The verdict on the records taken, of a log without a fault whose session has to be complete:
+    /// that of [`Judge::finish`], but in the place of Yes No by 303 where a request of the editor's has
+    /// no answer (JSON-RPC 2.0, section 4), else by 407 where the editor did not send `exit` (LSP 3.17,
+    /// "Exit Notification").
+    pub fn finish_complete(&mut self) -> Result<Verdict, Memory>
+        ensures limits { self.new.limits ≡ self.old.limits }
+        ensures verdict { IfOk result (λ answer. (records : List log.Record) (v : spec.Verdict) → Stands self.old records
+            → IsCompleteFinal self.old.limits records None v → verdict_view answer ≡ as_given v) }
+        // Yes means that the records are kept and the session was brought to its end, and a No names
+        // the first event that offends, or the stream that ends inside a frame, or what the session of
+        // records that are kept lacks.
+        ensures yes { (records : List log.Record) (s : Summary) → Stands self.old records
+            → result ≡ Ok (Verdict.Yes s) → AreComplete self.old.limits records }
+        ensures no { (records : List log.Record) (rule number event : ℕ) (who : Who) → Stands self.old records
+            → result ≡ Ok (Verdict.No rule who number event)
+            → (NamesFirst self.old.limits records (spec.no rule who number event)
+            ⊎ NamesRest self.old.limits records (spec.no rule who number event))
+            ⊎ NamesShort self.old.limits records (spec.no rule who number event) }
+        ensures kept { (records : List log.Record) (events : List Event) → Stands self.old records
+            → AreClean self.old.limits records events → IsBroughtToEnd events
+            → IfOk result (λ answer. SaysYes self.old.limits events (verdict_view answer)) }
+        // After Yes the judge is as before.
+        ensures unchanged { (s : Summary) → result ≡ Ok (Verdict.Yes s) → self.new ≡ self.old }
+        ensures given { IfOk result (λ answer. IfRefused (verdict_view answer) (is_given self.new.given ≡ Some (verdict_view answer))) }
+        // What was given for good is given again, and nothing changes.
+        ensures repeats { (ruling : Ruling) → self.old.given ≡ Some ruling → IfOk result (λ answer. Repeats ruling (Some answer)) }
+        ensures stays { (ruling : Ruling) → self.old.given ≡ Some ruling → self.new ≡ self.old }
+        ensures memory { OnErr result (self.new.given ≡ Some Ruling.Memory) }
+    {
+        if let Some(ruling) = self.lack() {
+            self.given = Some(ruling);
+            return ruling.answer();
+        }
+        self.finish()
+    }
+
     /// How many events were heard.
     pub(crate) fn count(&self) -> u64
         ensures { result ≡ self.now.counts.all }
@@ -227,6 +265,30 @@ impl<S: TextStore> Judge<S> {
             return Some(Ruling::no_next(&self.events.counts, 107, Who::Server));
         }
         None
+    }
+
+    /// The No by what the session lacks to be complete, where nothing else refuses it.
+    fn lack(&self) -> Option<Ruling>
+        ensures given { (ruling : Ruling) → self.now.given ≡ Some ruling → result ≡ None }
+        ensures lack { self.now.given ≡ None → self.now.editor.fault ≡ None → self.now.server.fault ≡ None → (events : List Event) → Follows self.now.messages self.now.documents self.now.counts events
+            → RestIs result (if_none (spec.rest_of events (is_rest self.now.editor.rest) (is_rest self.now.server.rest)) (lack_of events)) }
+    {
+        if self.given.is_some() {
+            return None;
+        }
+        if self.rest().is_some() {
+            return None;
+        }
+        self.missing()
+    }
+
+    /// The No by a request of the editor's that has no answer, else by an `exit` that was not sent.
+    fn missing(&self) -> Option<Ruling>
+        ensures { (events : List Event) → Follows self.now.messages self.now.documents self.now.counts events
+            → RestIs result (lack_of events) }
+    {
+        let rule = self.events.session.incomplete()?;
+        Some(Ruling::no_next(&self.events.counts, rule, Who::Editor))
     }
 
     /// Hears what a record brings, up to the first event that offends.

@@ -10,7 +10,7 @@ ghost use Rattle.lsp_judge.specs.ShownLog.{Shows, IsShown, BeginsShown};
 use crate::event_reader::{EventReader, Next};
 use crate::lines::write_event_line;
 use lsp_frame::{Limits, Sink, Source, put_all};
-use lsp_verdict::{Outcome, RunFault, Verdict, report_of};
+use lsp_verdict::{Completeness, Outcome, RunFault, Verdict, report_of};
 use std::alloc::Global;
 
 /// Reads a log up to the first event that offends, or to its end, and writes a line for each event
@@ -60,7 +60,7 @@ fn show_log<R: Source, W: Sink>(
 ) -> Result<Verdict, RunFault>
     ensures { Shows limits (R.told reader.old) (R.told reader.new) (W.told writer.old) (W.told writer.new) result }
 {
-    let mut events = EventReader::new(alloc, limits);
+    let mut events = EventReader::new(alloc, limits, Completeness::Ignored);
     show_events(alloc, &mut events, reader, writer)
 }
 
@@ -72,6 +72,7 @@ fn show_events<R: Source, W: Sink>(
     writer: &mut W,
 ) -> Result<Verdict, RunFault>
     requires fresh { IsFresh events.old (R.told reader.old) }
+    requires ignored { events.old.completeness ≡ Completeness.Ignored }
     ensures { Shows events.old.log.limits (R.told reader.old) (R.told reader.new) (W.told writer.old) (W.told writer.new) result }
 {
     let mut line = String::new(alloc);

@@ -12,7 +12,7 @@ ghost use Rattle.lsp_judge.specs.LogEvents.{IsFresh, GivesText, failures_of};
 use crate::event_reader::{EventReader, Next};
 use crate::text_answer::TextAnswer;
 use lsp_frame::{Limits, Sink, Source, put_all};
-use lsp_verdict::{Outcome, RunFault, StreamFault, Verdict};
+use lsp_verdict::{Completeness, Outcome, RunFault, StreamFault, Verdict};
 use std::alloc::Global;
 
 /// Reads a log up to the editor's message of this number, from 1, and answers with the text that the
@@ -38,7 +38,7 @@ pub fn text_after<R: Source>(
     // At most one byte past the limit is read.
     ensures limit { GaveAtMost (limits.log + 1) (R.told reader.old) (R.told reader.new) }
 {
-    let mut events = EventReader::new(alloc, limits);
+    let mut events = EventReader::new(alloc, limits, Completeness::Ignored);
     text_by(alloc, &mut events, reader, number, uri)
 }
 
@@ -53,6 +53,7 @@ fn text_by<R: Source>(
 ) -> Result<TextAnswer, RunFault>
     requires positive { 0 < number }
     requires fresh { IsFresh events.old (R.told reader.old) }
+    requires ignored { events.old.completeness ≡ Completeness.Ignored }
     ensures { GivesText events.old.log.limits (R.told reader.old) (R.told reader.new) number uri.now result }
 {
     loop {

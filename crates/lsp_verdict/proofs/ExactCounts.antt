@@ -49,7 +49,7 @@ events_within limits log records flaw events is_log session = omega (arith, raws
 
 -- ---- verdicts
 
-no_exact : (events : List Event) (rule : ℕ) (who : Who) → length events + 1 < 2 ^ 64 → as_given (no_next rule who events) ≡ no_next rule who events
+pub no_exact : (events : List Event) (rule : ℕ) (who : Who) → length events + 1 < 2 ^ 64 → as_given (no_next rule who events) ≡ no_next rule who events
 no_exact events rule who small =
     let number = capped_is (count_of (belongs_to who) events + 1) (omega (arith, small, count_few (belongs_to who) events)) in
     let event = capped_is (length events + 1) small in

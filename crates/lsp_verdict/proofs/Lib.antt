@@ -24,3 +24,5 @@ pub mod OneRecord
 pub mod RunReading
 pub mod JoinedStreams
 pub mod Entries
+pub mod OpenAtEnd
+pub mod Completing

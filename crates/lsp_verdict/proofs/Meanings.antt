@@ -147,7 +147,7 @@ IsNo (bad_log number code) = ⊥
 pub by_says_no : (before : List Event) (e : Event) (rule : ℕ) → IsNo (no_by before e rule)
 by_says_no before e rule = tt
 
-rest_says_no : (es : List Event) (editor server : Bool) (v : Verdict) → rest_of es editor server ≡ Some v → IsNo v
+pub rest_says_no : (es : List Event) (editor server : Bool) (v : Verdict) → rest_of es editor server ≡ Some v → IsNo v
 rest_says_no es true server v e = let same : no_next 107 who.Editor es ≡ v = cc e in subst IsNo same tt
 rest_says_no es false true v e = let same : no_next 107 who.Server es ≡ v = cc e in subst IsNo same tt
 rest_says_no es false false v e = let same : None ≡ Some v = e in absurd cc

@@ -19,3 +19,6 @@ pub mod Interleaving
 pub mod Counting
 pub mod Drained
 pub mod Entries
+pub mod Complete
+pub mod BroughtToEnd
+pub mod CompleteLaws

@@ -6,6 +6,8 @@
 //! runs over a log read it by `next_entry`.
 #![tactic(auto)]
 
+mod complete_laws;
+mod completeness;
 mod counts;
 mod entry;
 mod interleaving_laws;
@@ -16,6 +18,11 @@ mod report;
 mod texts;
 mod verdict;
 
+pub use complete_laws::{
+    complete_means_ended, complete_means_fault, ended_means_complete, lack_is_named,
+    one_complete_verdict, some_complete_verdict,
+};
+pub use completeness::Completeness;
 pub use counts::Counts;
 pub use entry::{Entry, next_entry};
 pub use interleaving_laws::{

@@ -5,11 +5,18 @@ use std::test::*;
 
 /// Words behind the program's name, and behind ` = ` the task and the file, or the status where there
 /// is nothing to run.
-const LINES: &str = r#"check = Check None
-check a.log = Check Some("a.log")
-check - = Check None
+const LINES: &str = r#"check = Check(Ignored) None
+check a.log = Check(Ignored) Some("a.log")
+check - = Check(Ignored) None
+check --complete = Check(Required) None
+check --complete a.log = Check(Required) Some("a.log")
+check a.log --complete = Check(Required) Some("a.log")
+check -- --complete = Check(Ignored) Some("--complete")
+check --complete --complete = 64
+check --complete=true = 64
 check a b = 64
 show a.log = Show Some("a.log")
+show --complete = 64
 text 1 file:///a = Text { number: 1, uri: "file:///a" } None
 text +3 file:///a a.log = Text { number: 3, uri: "file:///a" } Some("a.log")
 text 003 file:///a = Text { number: 3, uri: "file:///a" } None

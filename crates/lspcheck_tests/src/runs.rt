@@ -4,7 +4,7 @@ use crate::logs::{Log, split_word};
 use crate::readers::{Broken, Pieces};
 use crate::sessions;
 use lsp_command::{Task, report_apart, run_task};
-use lsp_judge::{Input, Limits, Mode, Outcome, Output, RunFault, Verdict, run_check};
+use lsp_judge::{Completeness, Input, Limits, Mode, Outcome, Output, RunFault, Verdict, run_check};
 use std::alloc::Global;
 use std::num::NonZeroU64;
 use std::process::Abort;
@@ -103,7 +103,8 @@ fn push_wanted(wanted: &mut Vec<u8>, word: &str, rest: &str, log: &[u8]) -> Resu
 /// The task of a line that asks for a run, and the word for how it has to end.
 fn run_of<'a>(word: &str, rest: &'a str) -> Result<Option<(Task<'a>, &'a str)>, Fail> {
     let task = match word {
-        "=" => Task::Check,
+        "=" => Task::Check(Completeness::Ignored),
+        "complete" => Task::Check(Completeness::Required),
         "show" => Task::Show,
         "normal" => Task::Normal,
         "frames" => Task::Frames(Mode::Lengths),
@@ -244,6 +245,11 @@ fn a_verdict_before_a_failure_of_the_reader(rt: HostRuntime) -> Result<(), Fail>
         b"no 401 editor 1 event 1\neditor message before initialize\n".as_slice()
     );
     Ok(())
+}
+
+#[test]
+fn sessions_that_have_to_be_complete(rt: HostRuntime) -> Result<(), Fail> {
+    check_sessions(&rt, rt.alloc(), sessions::COMPLETE, Limits::profile())
 }
 
 #[test]

@@ -1,7 +1,7 @@
 //! Worked sessions: the lines of a log, then what a run over it has to write (`>` a line, `|` bytes
 //! without an end, `KEEP` the log's own bytes) and to report apart from that (`!` a line), and then
-//! the run and how it ends: `=` stands for `check`. The lines behind a run add to the same log, until
-//! one begins a new log.
+//! the run and how it ends: `=` stands for `check` and `complete` for `check --complete`. The lines
+//! behind a run add to the same log, until one begins a new log.
 
 /// A session from the handshake to the exit, and the same in records of one byte; behind `:` stands
 /// how many bytes the log has.
@@ -499,6 +499,89 @@ E CHG 2 / REP 0 0 0 0 "x"
 pub(super) const TOO_EARLY: &str = "HEAD
 E REQ 7
 + XXXXXXXXXXXXXXXXXXXXXXXXXXXXXXXXXXXXXXXXXXXXXXXXXXXXXXXXXXXXXXXX";
+
+/// Sessions that have to be complete: what they lack at their end is named last, requests without an
+/// answer first.
+pub(super) const COMPLETE: &str = r#"HEAD
+> no 407 editor 1 event 1
+> exit is missing
+complete no
+START
+E OPEN 1 "ab"
+T 1 "ab"
+E SH
+E EX
+> no 303 editor 6 event 8
+> request is not answered
+complete no
+START
+E OPEN 1 "ab"
+T 1 "ab"
+E SH
+S RES 2
+> no 407 editor 5 event 8
+> exit is missing
+complete no
+E EX
+> yes
+> messages 5 2
+> snapshots 1 unmatched 0
+> encoding utf-16 sync incremental
+> document 1 2 "file:///a"
+complete yes
+E EX
+> no 406 editor 6 event 9
+> editor message after exit
+complete no
+START
+E REQ 7
+E CANCEL 7
+> no 303 editor 5 event 6
+> request is not answered
+complete no
+S ERR 7 -32800
+> no 407 editor 5 event 7
+> exit is missing
+complete no
+S REQ 7
+> no 407 editor 5 event 8
+> exit is missing
+complete no
+E EX
+> yes
+> messages 5 3
+> snapshots 0 unmatched 0
+> encoding utf-16 sync incremental
+> request server 7 "textDocument/hover"
+complete yes
+HEAD
+E EX
+> yes
+> messages 1 0
+> snapshots 0 unmatched 0
+> encoding - sync -
+complete yes
+HEAD
+E I 1
+E EX
+> no 303 editor 3 event 3
+> request is not answered
+complete no
+HEAD
++ E 3\nabc\n
+> no 107 editor 1 event 1
+> stream ends inside a frame
+complete no
+HEAD
+E REQ 7
+> no 401 editor 1 event 1
+> editor message before initialize
+complete no
+HEAD
++ E 0\n
+> bad log L3 record 1
+> size out of range
+complete bad-log"#;
 
 /// The events of a session, and a session whose first event offends.
 pub(super) const EVENTS: &str = r#"START

@@ -1,15 +1,30 @@
 use Rattle.lsp_command.proofs.run.run_task.Goals as goal
 
-pub returns-in-Check-clause-answers : goal.returns-in-Check-clause-answers
-returns-in-Check-clause-answers g c = rw c.in-Check.is (record {
-  judged = c.run_check.ensures.judged;
-  verdict = c.run_check.ensures.verdict;
-  report = c.run_check.ensures.report;
-  ended = c.run_check.ensures.ended;
-  read_fault = c.run_check.ensures.read_fault;
-  memory = c.run_check.ensures.memory;
-  write_fault = c.run_check.ensures.write_fault;
-})
+pub returns-in-Check-Ignored-clause-answers : goal.returns-in-Check-Ignored-clause-answers
+returns-in-Check-Ignored-clause-answers g c =
+    let ignored = rw c.in-Check-Ignored.is at c.in-Check-Ignored.field-0-is in
+    rw (c.in-Check-Ignored.is, ignored) (record {
+      judged = c.run_check.ensures.judged;
+      verdict = c.run_check.ensures.verdict;
+      report = c.run_check.ensures.report;
+      ended = c.run_check.ensures.ended;
+      read_fault = c.run_check.ensures.read_fault;
+      memory = c.run_check.ensures.memory;
+      write_fault = c.run_check.ensures.write_fault;
+    })
+
+pub returns-in-Check-Required-clause-answers : goal.returns-in-Check-Required-clause-answers
+returns-in-Check-Required-clause-answers g c =
+    let required = rw c.in-Check-Required.is at c.in-Check-Required.field-0-is in
+    rw (c.in-Check-Required.is, required) (record {
+      judged = c.run_check_complete.ensures.judged;
+      verdict = c.run_check_complete.ensures.verdict;
+      report = c.run_check_complete.ensures.report;
+      ended = c.run_check_complete.ensures.ended;
+      read_fault = c.run_check_complete.ensures.read_fault;
+      memory = c.run_check_complete.ensures.memory;
+      write_fault = c.run_check_complete.ensures.write_fault;
+    })
 
 pub returns-in-Text-clause-answers : goal.returns-in-Text-clause-answers
 returns-in-Text-clause-answers g c = rw (c.in-Text.is, ← c.get.ensures.value) (record {

@@ -1,6 +1,6 @@
-use Rattle.std.proofs.Common.{◌≡◌, ◌∙◌, IfSome, Some, sym, ap, option_map}
+use Rattle.std.proofs.Common.{◌≡◌, ◌∙◌, IfSome, Some, sym, ap, subst, option_map}
 use Rattle.clap.specs.Matches.{found_of}
-use Rattle.lsp_command.specs.Words.{file_of}
+use Rattle.lsp_command.specs.Words.{AsksCheck, file_of}
 use Rattle.lsp_command.proofs.words.request_of.Goals as goal
 
 pub returns : goal.returns
@@ -10,7 +10,7 @@ returns c =
       found_of c.in-Some.arguments.now,
       record {
         task = record {
-          check = λ e. sym is ∙ c.task_of.ensures.check e;
+          check = λ e. subst (AsksCheck (found_of c.in-Some.arguments.now)) is (c.task_of.ensures.check e);
           show = λ e. sym is ∙ c.task_of.ensures.show e;
           text = λ e. c.in-Some-task_of.ensures.text e;
           normal = λ e. sym is ∙ c.task_of.ensures.normal e;

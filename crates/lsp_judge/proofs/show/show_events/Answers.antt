@@ -1,10 +1,11 @@
+use Rattle.std.proofs.Common.{◌∙◌}
 use Rattle.std.proofs.lemmas.Result.{err_from_is_err_and}
 use Rattle.lsp_judge.proofs.LogEvents.{fewer}
 use Rattle.lsp_judge.proofs.ShownLogs.{nothing_shown, one_shown_more, line_failed, all_shown, broke_shown}
 use Rattle.lsp_judge.proofs.show.show_events.Goals as goal
 
 pub loop-line-init : goal.loop-line-init
-loop-line-init g c = nothing_shown _ _ _ _ c.requires.fresh
+loop-line-init g c = nothing_shown _ _ _ _ c.requires.fresh c.requires.ignored
 
 pub returns-in_err-heard : goal.returns-in_err-heard
 returns-in_err-heard g c =
@@ -22,7 +23,7 @@ pub loop-line-preserved : goal.loop-line-preserved
 loop-line-preserved g c =
     let here = c.loop-line.invariant in
     let told = rw c.in-Event.is at (c.in_ok-heard.ensures.answer _ _ here.heard here.so_far) in
-    one_shown_more _ _ _ _ _ _ here.heard here.wrote _ told.0 _ told.2 c.count.ensures (c.in_ok-write_event_line-in-Event.ensures told.0 told.1)
+    one_shown_more _ _ _ _ _ _ here.heard here.wrote _ told.0 _ told.2 (c.in_ok-heard.ensures.completeness ∙ here.ignored) c.count.ensures (c.in_ok-write_event_line-in-Event.ensures told.0 told.1)
 
 pub returns-in_err-write_event_line-in-Event : goal.returns-in_err-write_event_line-in-Event
 returns-in_err-write_event_line-in-Event g c =
@@ -35,4 +36,4 @@ returns-in_err-write_event_line-in-Event g c =
 pub returns-in-Verdict : goal.returns-in-Verdict
 returns-in-Verdict g c =
     let here = c.loop-line.invariant in
-    all_shown _ _ _ _ _ here.heard here.wrote _ (rw c.in-Verdict.is at (c.in_ok-heard.ensures.answer _ _ here.heard here.so_far))
+    all_shown _ _ _ _ _ here.heard here.wrote _ _ (c.in_ok-heard.ensures.completeness ∙ here.ignored) (rw c.in-Verdict.is at (c.in_ok-heard.ensures.answer _ _ here.heard here.so_far))

@@ -2,7 +2,7 @@ use Rattle.lsp_judge.proofs.TextRuns.{text_answered, text_failures, text_within,
 use Rattle.lsp_judge.proofs.text.text_after.Goals as goal
 
 pub text_by-requires : goal.text_by-requires
-text_by-requires g c = record { positive = c.requires; fresh = c.new-events.ensures.fresh _ }
+text_by-requires g c = record { positive = c.requires; fresh = c.new-events.ensures.fresh _; ignored = c.new-events.ensures.completeness }
 
 pub returns-clause-answer : goal.returns-clause-answer
 returns-clause-answer g c = text_answered _ _ _ c.args.number c.args.uri.now _ (rw c.new-events.ensures.limits at c.text_by.ensures)

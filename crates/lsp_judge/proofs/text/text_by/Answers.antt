@@ -5,7 +5,7 @@ use Rattle.lsp_judge.proofs.TextRuns.{nothing_read, reads_on, text_found, text_n
 use Rattle.lsp_judge.proofs.text.text_by.Goals as goal
 
 pub loop-heard-init : goal.loop-heard-init
-loop-heard-init g c = nothing_read _ _ _ _ c.requires.fresh c.requires.positive
+loop-heard-init g c = nothing_read _ _ _ _ c.requires.fresh c.requires.ignored c.requires.positive
 
 pub returns-in_err-heard : goal.returns-in_err-heard
 returns-in_err-heard g c =
@@ -17,7 +17,7 @@ pub returns-in-Verdict : goal.returns-in-Verdict
 returns-in-Verdict g c =
     let here = c.loop-heard.invariant in
     let found = rw c.in-Verdict.is at (c.in_ok-heard.ensures.answer _ _ here.heard here.so_far) in
-    (text_none _ _ _ c.args.number c.args.uri.now here.heard _ _ here.few c.missing.ensures found, found.failures)
+    (text_none _ _ _ _ c.args.number c.args.uri.now here.heard _ _ (c.in_ok-heard.ensures.completeness ∙ here.ignored) here.few c.missing.ensures found, found.failures)
 
 pub loop-heard-smaller : goal.loop-heard-smaller
 loop-heard-smaller g c =
@@ -29,7 +29,7 @@ pub loop-heard-preserved : goal.loop-heard-preserved
 loop-heard-preserved g c =
     let here = c.loop-heard.invariant in
     let told = rw c.in-Event.is at (c.in_ok-heard.ensures.answer _ _ here.heard here.so_far) in
-    reads_on _ _ _ _ _ here.heard told.0 here.few told.2 (λ e. c.if-editor_count-number.false (c.editor_count.ensures ∙ e))
+    reads_on _ _ _ _ _ here.heard told.0 here.few told.2 (c.in_ok-heard.ensures.completeness ∙ here.ignored) (λ e. c.if-editor_count-number.false (c.editor_count.ensures ∙ e))
 
 pub returns-in_err-text_of : goal.returns-in_err-text_of
 returns-in_err-text_of g c =

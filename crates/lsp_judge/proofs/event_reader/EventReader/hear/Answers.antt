@@ -22,4 +22,4 @@ returns-in-Ok-None-clause-answer c = λ limits start now heard so_far.
 
 pub returns-in_ok-answer-in-Err-clause-answer : goal.returns-in_ok-answer-in-Err-clause-answer
 returns-in_ok-answer-in-Err-clause-answer c = λ limits start now heard so_far.
-    ruled limits _ start now heard so_far c.in-Err.ruling _ c.in_ok-answer-in-Err.ensures.ok (c.in-Err.ensures.no so_far.records heard so_far.hears)
+    ruled _ limits _ start now heard so_far c.in-Err.ruling _ c.in_ok-answer-in-Err.ensures.ok (c.in-Err.ensures.no so_far.records heard so_far.hears)

@@ -9,6 +9,7 @@ use Rattle.lsp_judge.proofs.event_reader.EventReader.next.Given as goal
 abbrev pub invariant-loop-next : goal.invariant-loop-next
 invariant-loop-next g l = record {
   ungiven : l.self.judge.given ≡ None;
+  completeness : l.self.completeness ≡ l.fn.self.completeness;
   so_far : (limits : Bounds) (start : Told) (heard : List Event) → SoFar limits l.fn.self start (g.R.Source.told l.fn.reader) heard → SoFar limits l.self start (g.R.Source.told l.reader) heard;
 }
 

@@ -1,7 +1,7 @@
 use Rattle.std.proofs.Common.{Some, None, sym, ◌∙◌}
 use Rattle.std.proofs.lemmas.Result.{err_from_is_err_and}
 use Rattle.lsp_log.specs.Records.{record_view}
-use Rattle.lsp_judge.proofs.LogEvents.{entry_end, entry_broke, entry_refused, broke_record, takes_record}
+use Rattle.lsp_judge.proofs.LogEvents.{entry_end, entry_broke, entry_refused, broke_record, takes_record, fault_says}
 use Rattle.lsp_judge.proofs.event_reader.EventReader.take_entry.Goals as goal
 
 pub bad_log-requires : goal.bad_log-requires
@@ -20,9 +20,9 @@ returns-in_err-push-in-Record-clause-answer g c =
     let at = rw c.in-Record.is at (c.in_ok-record.ensures.answer start i.0.records i.0.at) in
     broke_record limits _ start _ _ heard i _ _ (c.in_ok-record.ensures.limits ∙ i.0.same) at)
 
-pub returns-in_err-finish-in-End-clause-answer : goal.returns-in_err-finish-in-End-clause-answer
-returns-in_err-finish-in-End-clause-answer g c =
-    let from = c.from_residual-in_err-finish-in-End in
+pub returns-in_err-verdict-in-End-clause-answer : goal.returns-in_err-verdict-in-End-clause-answer
+returns-in_err-verdict-in-End-clause-answer g c =
+    let from = c.from_residual-in_err-verdict-in-End in
     let p = err_from_is_err_and from.result from.ensures.1 in
     rw (p.1, p.2) (λ limits start heard i.
     entry_refused limits _ start _ _ heard i _ None i.0.same (rw c.in-End.is at (c.in_ok-record.ensures.answer start i.0.records i.0.at)).0)
@@ -33,10 +33,11 @@ returns-in_ok-push-in-Record-clause-answer g c = λ limits start heard i.
     let pushed = c.in_ok-push-in-Record.ensures in
     takes_record limits _ _ start _ _ heard (record_view c.in-Record.record) i c.in_ok-record.ensures.limits at pushed.keeps pushed.ok
 
-pub returns-in_ok-finish-in-End-clause-answer : goal.returns-in_ok-finish-in-End-clause-answer
-returns-in_ok-finish-in-End-clause-answer g c = λ limits start heard i.
-    entry_end limits _ start _ _ heard i _ None _ i.0.same (rw c.in-End.is at (c.in_ok-record.ensures.answer start i.0.records i.0.at)).0 c.in_ok-finish-in-End.ensures.verdict
+pub returns-in_ok-verdict-in-End-clause-answer : goal.returns-in_ok-verdict-in-End-clause-answer
+returns-in_ok-verdict-in-End-clause-answer g c = λ limits start heard i.
+    entry_end limits _ start _ _ heard i _ _ None _ i.0.same (rw c.in-End.is at (c.in_ok-record.ensures.answer start i.0.records i.0.at)).0 c.in_ok-verdict-in-End.ensures.verdict
 
 pub returns-in-Bad-clause-answer : goal.returns-in-Bad-clause-answer
 returns-in-Bad-clause-answer g c = λ limits start heard i.
-    entry_end limits _ start _ _ heard i _ (Some (c.in-Bad.number, c.in-Bad.fault)) _ i.0.same (rw c.in-Bad.is at (c.in_ok-record.ensures.answer start i.0.records i.0.at)) c.bad_log.ensures.verdict
+    let at = rw c.in-Bad.is at (c.in_ok-record.ensures.answer start i.0.records i.0.at) in
+    entry_end limits _ start _ _ heard i _ _ (Some (c.in-Bad.number, c.in-Bad.fault)) _ i.0.same at (fault_says _ _ _ _ _ c.bad_log.ensures.given c.bad_log.ensures.verdict)

@@ -1,0 +1,75 @@
+-- What a complete session is, in plain words.
+use Rattle.std.specs.Prelude.{◌≡◌, ◌⊎◌, ℕ, List, ◌∷◌, ◌++◌, length, true, is_some}
+use Rattle.lsp_frame.specs.Bounds.{Bounds}
+use Rattle.lsp_rpc.specs.Act.{exit}
+use Rattle.lsp_types.specs.declared.side.Side.TheVariants.{Editor}
+use Rattle.lsp_session.specs.Sent.{Sent, request_of}
+use Rattle.lsp_log.specs.Log.{Record}
+use Rattle.lsp_verdict.specs.declared.verdict.Who.TheVariants as who
+use Rattle.lsp_verdict.specs.Event.{Event, sent_in}
+use Rattle.lsp_verdict.specs.Kept.{Answers, AreKept, IsKept}
+use Rattle.lsp_verdict.specs.Verdict.{Verdict, no_next}
+
+-- ---- requests and their answers
+
+-- the message at place i is a request of the editor's, places counted from 0
+pub record IsAskedAt (messages : List Sent) (i : ℕ) : Type 0 where
+  pub before : List Sent
+  pub asked : Sent
+  pub after : List Sent
+  pub whole : messages ≡ before ++ asked ∷ after
+  pub at : length before ≡ i
+  pub by : asked.side ≡ Editor
+  pub asks : is_some (request_of asked.message) ≡ true
+
+-- **Each request of the editor's is answered.**
+abbrev pub AllAnswered : List Sent → Type 0
+AllAnswered messages = (i : ℕ) → IsAskedAt messages i → (j : ℕ) × Answers messages i j
+
+-- a request of the editor's has no answer
+abbrev pub HasUnanswered : List Sent → Type 0
+HasUnanswered messages = (i : ℕ) × IsAskedAt messages i × ((j : ℕ) → Answers messages i j → ⊥)
+
+-- ---- the end
+
+-- **The editor sent `exit`.**
+pub record HasExit (messages : List Sent) : Type 0 where
+  pub before : List Sent
+  pub sent : Sent
+  pub after : List Sent
+  pub whole : messages ≡ before ++ sent ∷ after
+  pub by : sent.side ≡ Editor
+  pub exits : sent.act ≡ exit
+
+-- **the session was brought to its end**
+pub record IsBroughtToEnd (events : List Event) : Type 0 where
+  pub answered : AllAnswered (sent_in events)
+  pub exited : HasExit (sent_in events)
+
+-- 303 names that a request of the editor's has no answer; where each has one, 407 that `exit` was not sent
+abbrev pub NamesLack : List Event → Verdict → Type 0
+NamesLack events v =
+    (HasUnanswered (sent_in events) × (v ≡ no_next 303 who.Editor events))
+    ⊎ (AllAnswered (sent_in events) × (HasExit (sent_in events) → ⊥) × (v ≡ no_next 407 who.Editor events))
+
+-- ---- records and logs
+
+-- **What Yes says of records whose session has to be complete**: they are kept, and the session was brought to its end.
+pub record AreComplete (limits : Bounds) (records : List Record) : Type 0 where
+  pub kept : AreKept limits records
+  pub ended : IsBroughtToEnd kept.events
+
+-- **And of a log.**
+pub record IsComplete (limits : Bounds) (log : List ℕ) : Type 0 where
+  pub kept : IsKept limits log
+  pub ended : IsBroughtToEnd kept.kept.events
+
+-- the records are kept, and what their session lacks is named
+pub record AreCutShort (limits : Bounds) (records : List Record) (v : Verdict) : Type 0 where
+  pub kept : AreKept limits records
+  pub names : NamesLack kept.events v
+
+-- the log is kept, and what its session lacks is named
+pub record IsCutShort (limits : Bounds) (log : List ℕ) (v : Verdict) : Type 0 where
+  pub kept : IsKept limits log
+  pub names : NamesLack kept.kept.events v
