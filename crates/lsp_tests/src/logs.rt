@@ -28,6 +28,29 @@ impl Read for Pieces<'_> {
     }
 }
 
+/// A reader that gives these bytes, then others over and over without an end, and counts what it gives.
+#[derive(Drop)]
+struct Endless<'a> {
+    rest: &'a [u8],
+    again: &'a [u8],
+    given: u64,
+}
+
+impl Read for Endless<'_> {
+    ghost use Rattle.std.specs.Prelude.{None};
+
+    ghost remaining = { λ _. None };
+
+    fn read(&mut self, buf: &mut [u8]) -> io::Result<usize> {
+        if self.rest.is_empty() {
+            self.rest = self.again;
+        }
+        let count = self.rest.read(buf)?;
+        self.given = self.given.wrapping_add(count as u64);
+        Ok(count)
+    }
+}
+
 /// The number of records of a log, by a reader that gives `most` bytes a call.
 fn count(alloc: Global, limits: Limits, bytes: &[u8], most: usize) -> Result<u64, LogFault> {
     let mut input = Input::new(Pieces {
@@ -110,6 +133,49 @@ fn small_limits_decide(rt: HostRuntime) {
             assert_eq!(rt; count(rt.alloc(), *limits, bytes, most), *end);
         }
     }
+}
+
+/// How a log without an end ends, the same also when asked again, and how many bytes of it are read.
+fn end_of(alloc: Global, limits: Limits, first: &[u8], again: &[u8]) -> Option<(LogFault, u64)> {
+    let mut endless = Endless {
+        rest: first,
+        again,
+        given: 0,
+    };
+    let fault = {
+        let mut input = Input::new(&mut endless);
+        let mut reader = LogReader::new(alloc, limits);
+        let mut end = None;
+        for _ in 0..limits.log() {
+            if let Err(fault) = reader.next(&mut input) {
+                end = Some(fault);
+                break;
+            }
+        }
+        let fault = end?;
+        if reader.next(&mut input).err() != Some(fault) {
+            return None;
+        }
+        fault
+    };
+    Some((fault, endless.given))
+}
+
+#[test]
+fn a_log_without_end_is_read_one_byte_past_the_limit(rt: HostRuntime) -> Result<(), Fail> {
+    let limits = Limits::new(64, 8, 4, 0, 4096).ok_or("limits")?;
+    let logs: [(&[u8], &[u8], u64, LogCode); 4] = [
+        (b"", b"X", 0, LogCode::L1),
+        (b"lsp-session 1\n", b"X", 1, LogCode::L2),
+        (b"lsp-session 1\n", b"E 1\n{\n", 681, LogCode::L6),
+        (b"lsp-session 1\n", b"T 1 1 0\na\n\n", 372, LogCode::L6),
+    ];
+    for (first, again, number, code) in logs {
+        let (fault, given) = end_of(rt.alloc(), limits, first, again).ok_or("no fault")?;
+        assert!(rt; fault == LogFault::Bad { number, code }, "record {number}");
+        assert!(rt; given <= 4097, "{given} bytes");
+    }
+    Ok(())
 }
 
 #[test]

@@ -170,6 +170,15 @@ impl Log {
         self.push("\n")
     }
 
+    /// A frame whose header part has a field of so many letters.
+    fn long_header(&mut self, letters: usize) -> Result<(), Fail> {
+        self.push("Content-Length: 2\r\nX: ")?;
+        for _ in 0..letters {
+            self.push("a")?;
+        }
+        self.push("\r\n\r\n{}")
+    }
+
     /// A log that begins with this.
     fn begin(&mut self, head: &str) -> Result<(), Fail> {
         self.bytes.clear();
@@ -187,13 +196,19 @@ impl Log {
     /// Adds what a line says. A new log begins by `EMPTY`, by `HEAD` with its first line, by `START`
     /// with that and the handshake. `E` adds a message of the editor, `S` of the server, `T` a
     /// snapshot, `+` bytes as they are; `:` says how many bytes there are. From `CUT` on, records of bytes
-    /// have so many bytes at most.
+    /// have so many bytes at most. `F` adds a frame outside of any record, `LONG` one whose
+    /// header part has a field of so many letters.
     pub(super) fn add(&mut self, word: &str, rest: &str) -> Result<(), Fail> {
         match word {
             "EMPTY" => self.begin(""),
             "HEAD" => self.begin("lsp-session 1\n"),
             "START" => self.start(),
             "E" | "S" => self.frame(word, rest),
+            "F" => {
+                let frame = frame_of(self.alloc, rest)?;
+                self.push(frame.as_str())
+            }
+            "LONG" => self.long_header(rest.parse()?),
             "T" => self.snapshot(rest),
             "CUT" => {
                 self.most = rest.parse()?;

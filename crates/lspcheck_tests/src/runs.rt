@@ -1,5 +1,6 @@
 //! Worked sessions through the runs over a log: all that is written, what is reported apart from it,
 //! and how the run ends.
+use crate::faults::{Trial, check_faults};
 use crate::logs::{Log, split_word};
 use crate::readers::{Broken, Pieces};
 use crate::sessions;
@@ -106,7 +107,9 @@ fn run_of<'a>(word: &str, rest: &'a str) -> Result<Option<(Task<'a>, &'a str)>, 
         "=" => Task::Check,
         "show" => Task::Show,
         "normal" => Task::Normal,
-        "frames" => Task::Frames(Mode::Lengths),
+        "lengths" => Task::Frames(Mode::Lengths),
+        "kinds" => Task::Frames(Mode::Kinds),
+        "canonical" => Task::Frames(Mode::Canonical),
         "text" => {
             let (number, rest) = split_word(rest);
             let (uri, end) = split_word(rest);
@@ -118,7 +121,8 @@ fn run_of<'a>(word: &str, rest: &'a str) -> Result<Option<(Task<'a>, &'a str)>, 
     Ok(Some((task, rest)))
 }
 
-/// Runs over a log by readers that give a byte, a few or many a call.
+/// Runs over a log by readers that give a byte, a few or many a call, then by one that fails at each
+/// call, and into a writer that fails at each.
 fn check_log(
     rt: &impl Abort,
     alloc: Global,
@@ -131,6 +135,18 @@ fn check_log(
         let told = told_by(alloc, task, limits, Pieces::new(log, most))?;
         assert_eq!(rt; told.as_slice(), wanted, "{task:?} by {most}");
     }
+    let bytes = log;
+    let told = check_faults(
+        rt,
+        Trial {
+            alloc,
+            limits,
+            task,
+            bytes,
+        },
+    );
+    assert!(rt; wanted.starts_with(told.written.as_slice()), "{task:?}");
+    assert!(rt; wanted.ends_with(told.ended.as_bytes()), "{task:?}");
     Ok(())
 }
 
