@@ -10,7 +10,9 @@ use std::test::*;
 
 /// The first line, and a snapshot of no document, over and over: with 4,096 bytes 371 of them are whole.
 const HEAD: &[u8] = b"lsp-session 1\n";
+
 const SNAPSHOT: &[u8] = b"T 1 1 0\na\n\n";
+
 const WHOLE: u64 = 371;
 
 const REPORT: &str = "bad log L6 record 372\nlog too long\n";
@@ -18,6 +20,7 @@ const REPORT: &str = "bad log L6 record 372\nlog too long\n";
 /// A frame of 97 bytes, over and over: 42 of them are whole.
 const FRAME: &[u8] =
     b"Content-Length: 75\r\n\r\n{\"jsonrpc\":\"2.0\",\"id\":1,\"method\":\"initialize\",\"params\":{\"capabilities\":{}}}";
+
 const WHOLE_FRAMES: u64 = 42;
 
 /// Runs over a reader without an end.
