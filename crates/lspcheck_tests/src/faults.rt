@@ -12,12 +12,11 @@ const PIECE: usize = 16;
 
 const TAKEN: usize = 7;
 
-/// A task over a log or a stream.
+/// A log or a stream, and its limits.
 #[derive(Clone, Copy)]
 pub(super) struct Trial<'a> {
     pub(super) alloc: Global,
     pub(super) limits: Limits,
-    pub(super) task: Task<'a>,
     pub(super) bytes: &'a [u8],
 }
 
@@ -32,7 +31,13 @@ pub(super) struct Told {
 
 /// The run by a reader that fails behind so many calls, into a writer that fails or takes nothing
 /// behind so many.
-fn run_with(trial: Trial<'_>, reads: u64, writes: u64, takes_nothing: bool) -> Told {
+fn run_with(
+    trial: Trial<'_>,
+    task: Task<'_>,
+    reads: u64,
+    writes: u64,
+    takes_nothing: bool,
+) -> Told {
     let mut reader = Pieces::new(trial.bytes, PIECE);
     reader.calls_left = reads;
     let mut writer = Sparing {
@@ -44,13 +49,7 @@ fn run_with(trial: Trial<'_>, reads: u64, writes: u64, takes_nothing: bool) -> T
     let ended = {
         let mut source = Input::new(&mut reader);
         let mut sink = Output::new(&mut writer);
-        run_task(
-            trial.alloc,
-            trial.task,
-            &mut source,
-            &mut sink,
-            trial.limits,
-        )
+        run_task(trial.alloc, task, &mut source, &mut sink, trial.limits)
     };
     Told {
         writes_left: writer.calls_left,
@@ -62,11 +61,10 @@ fn run_with(trial: Trial<'_>, reads: u64, writes: u64, takes_nothing: bool) -> T
 
 /// A read fault at each call that the run makes of its reader. What was written then is a part of what
 /// is due, and nothing where the task is to judge.
-fn fail_reads(rt: &impl Abort, trial: Trial<'_>, due: &[u8], calls: u64) {
-    let task = trial.task;
+fn fail_reads(rt: &impl Abort, trial: Trial<'_>, task: Task<'_>, due: &[u8], calls: u64) {
     let is_check = matches!(task, Task::Check);
     for reads in 0..calls {
-        let told = run_with(trial, reads, u64::MAX, false);
+        let told = run_with(trial, task, reads, u64::MAX, false);
         let written = told.written.as_slice();
         let is_part = due.starts_with(written) && (written.is_empty() || !is_check);
         assert_eq!(rt; told.ended, "read-fault", "{task:?} behind {reads}");
@@ -76,10 +74,16 @@ fn fail_reads(rt: &impl Abort, trial: Trial<'_>, due: &[u8], calls: u64) {
 
 /// A write fault at each call that the run makes of its writer. What was written then is a part of what
 /// is due.
-fn fail_writes(rt: &impl Abort, trial: Trial<'_>, due: &[u8], calls: u64, takes_nothing: bool) {
-    let task = trial.task;
+fn fail_writes(
+    rt: &impl Abort,
+    trial: Trial<'_>,
+    task: Task<'_>,
+    due: &[u8],
+    calls: u64,
+    takes_nothing: bool,
+) {
     for writes in 0..calls {
-        let told = run_with(trial, u64::MAX, writes, takes_nothing);
+        let told = run_with(trial, task, u64::MAX, writes, takes_nothing);
         let written = told.written.as_slice();
         let is_part = due.starts_with(written) && writes <= written.len() as u64;
         assert_eq!(rt; told.ended, "write-fault", "{task:?} behind {writes}");
@@ -89,12 +93,12 @@ fn fail_writes(rt: &impl Abort, trial: Trial<'_>, due: &[u8], calls: u64, takes_
 
 /// Fails each call of the reader in turn, and each of the writer. Gives what the run tells where none
 /// fails.
-pub(super) fn check_faults(rt: &impl Abort, trial: Trial<'_>) -> Told {
-    let whole = run_with(trial, u64::MAX, u64::MAX, false);
+pub(super) fn check_faults(rt: &impl Abort, trial: Trial<'_>, task: Task<'_>) -> Told {
+    let whole = run_with(trial, task, u64::MAX, u64::MAX, false);
     let due = whole.written.as_slice();
-    fail_reads(rt, trial, due, u64::MAX - whole.reads_left);
+    fail_reads(rt, trial, task, due, u64::MAX - whole.reads_left);
     let writes = u64::MAX - whole.writes_left;
-    fail_writes(rt, trial, due, writes, false);
-    fail_writes(rt, trial, due, writes, true);
+    fail_writes(rt, trial, task, due, writes, false);
+    fail_writes(rt, trial, task, due, writes, true);
     whole
 }

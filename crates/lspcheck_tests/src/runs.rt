@@ -135,16 +135,12 @@ fn check_log(
         let told = told_by(alloc, task, limits, Pieces::new(log, most))?;
         assert_eq!(rt; told.as_slice(), wanted, "{task:?} by {most}");
     }
-    let bytes = log;
-    let told = check_faults(
-        rt,
-        Trial {
-            alloc,
-            limits,
-            task,
-            bytes,
-        },
-    );
+    let trial = Trial {
+        alloc,
+        limits,
+        bytes: log,
+    };
+    let told = check_faults(rt, trial, task);
     assert!(rt; wanted.starts_with(told.written.as_slice()), "{task:?}");
     assert!(rt; wanted.ends_with(told.ended.as_bytes()), "{task:?}");
     Ok(())
