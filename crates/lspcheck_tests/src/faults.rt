@@ -12,93 +12,119 @@ const PIECE: usize = 16;
 
 const TAKEN: usize = 7;
 
-/// A log or a stream, and its limits.
+/// How many calls a reader and a writer have left before they fail, and whether the writer then takes
+/// nothing in place of failing.
 #[derive(Clone, Copy)]
-pub(super) struct Trial<'a> {
-    pub(super) alloc: Global,
-    pub(super) limits: Limits,
-    pub(super) bytes: &'a [u8],
+struct Left {
+    reads: u64,
+    writes: u64,
+    takes_nothing: bool,
 }
 
-/// What a run wrote, the word for how it ended, and how many calls its reader and its writer had left.
+/// What a run wrote, the word for how it ended, and what its reader and its writer had left then.
 #[derive(Drop)]
 pub(super) struct Told {
     pub(super) written: Vec<u8>,
     pub(super) ended: &'static str,
-    reads_left: u64,
-    writes_left: u64,
+    left: Left,
 }
 
-/// The run by a reader that fails behind so many calls, into a writer that fails or takes nothing
-/// behind so many.
-fn run_with(
-    trial: Trial<'_>,
-    task: Task<'_>,
-    reads: u64,
-    writes: u64,
-    takes_nothing: bool,
-) -> Told {
-    let mut reader = Pieces::new(trial.bytes, PIECE);
-    reader.calls_left = reads;
+/// The run over these bytes by a reader and into a writer that have so many calls left.
+fn run_with(alloc: Global, limits: Limits, task: Task<'_>, bytes: &[u8], left: Left) -> Told {
+    let mut reader = Pieces::new(bytes, PIECE);
+    reader.calls_left = left.reads;
     let mut writer = Sparing {
-        bytes: Vec::new(trial.alloc),
+        bytes: Vec::new(alloc),
         most: TAKEN,
-        calls_left: writes,
-        takes_nothing,
+        calls_left: left.writes,
+        takes_nothing: left.takes_nothing,
     };
     let ended = {
         let mut source = Input::new(&mut reader);
         let mut sink = Output::new(&mut writer);
-        run_task(trial.alloc, task, &mut source, &mut sink, trial.limits)
+        run_task(alloc, task, &mut source, &mut sink, limits)
+    };
+    let left = Left {
+        reads: reader.calls_left,
+        writes: writer.calls_left,
+        takes_nothing: left.takes_nothing,
     };
     Told {
-        writes_left: writer.calls_left,
         written: writer.bytes,
         ended: word_of(&ended),
-        reads_left: reader.calls_left,
+        left,
     }
 }
 
-/// A read fault at each call that the run makes of its reader. What was written then is a part of what
-/// is due, and nothing where the task is to judge.
-fn fail_reads(rt: &impl Abort, trial: Trial<'_>, task: Task<'_>, due: &[u8], calls: u64) {
+/// Whether a run ended with this fault, and wrote a part of what is due.
+fn is_cut(told: &Told, due: &Told, fault: &str) -> bool {
+    told.ended == fault && due.written.as_slice().starts_with(told.written.as_slice())
+}
+
+/// A read fault at each call that the run makes of its reader. A run that is to judge has written
+/// nothing then.
+fn fail_reads(
+    rt: &impl Abort,
+    alloc: Global,
+    limits: Limits,
+    task: Task<'_>,
+    bytes: &[u8],
+    due: &Told,
+) {
     let is_check = matches!(task, Task::Check);
-    for reads in 0..calls {
-        let told = run_with(trial, task, reads, u64::MAX, false);
-        let written = told.written.as_slice();
-        let is_part = due.starts_with(written) && (written.is_empty() || !is_check);
-        assert_eq!(rt; told.ended, "read-fault", "{task:?} behind {reads}");
-        assert!(rt; is_part, "{task:?} behind {reads}");
+    for reads in 0..u64::MAX - due.left.reads {
+        let left = Left {
+            reads,
+            writes: u64::MAX,
+            takes_nothing: false,
+        };
+        let told = run_with(alloc, limits, task, bytes, left);
+        let is_cut = is_cut(&told, due, "read-fault");
+        let is_silent = told.written.is_empty() || !is_check;
+        assert!(rt; is_cut && is_silent, "{task:?} behind {reads} reads");
     }
 }
 
-/// A write fault at each call that the run makes of its writer. What was written then is a part of what
-/// is due.
+/// A write fault at each call that the run makes of its writer.
 fn fail_writes(
     rt: &impl Abort,
-    trial: Trial<'_>,
+    alloc: Global,
+    limits: Limits,
     task: Task<'_>,
-    due: &[u8],
-    calls: u64,
-    takes_nothing: bool,
+    bytes: &[u8],
+    due: &Told,
 ) {
-    for writes in 0..calls {
-        let told = run_with(trial, task, u64::MAX, writes, takes_nothing);
-        let written = told.written.as_slice();
-        let is_part = due.starts_with(written) && writes <= written.len() as u64;
-        assert_eq!(rt; told.ended, "write-fault", "{task:?} behind {writes}");
-        assert!(rt; is_part, "{task:?} behind {writes}");
+    for writes in 0..u64::MAX - due.left.writes {
+        for takes_nothing in [false, true] {
+            let left = Left {
+                reads: u64::MAX,
+                writes,
+                takes_nothing,
+            };
+            let told = run_with(alloc, limits, task, bytes, left);
+            let is_cut = is_cut(&told, due, "write-fault");
+            let is_all = writes <= told.written.len() as u64;
+            assert!(rt; is_cut && is_all, "{task:?} behind {writes} writes");
+        }
     }
 }
 
 /// Fails each call of the reader in turn, and each of the writer. Gives what the run tells where none
 /// fails.
-pub(super) fn check_faults(rt: &impl Abort, trial: Trial<'_>, task: Task<'_>) -> Told {
-    let whole = run_with(trial, task, u64::MAX, u64::MAX, false);
-    let due = whole.written.as_slice();
-    fail_reads(rt, trial, task, due, u64::MAX - whole.reads_left);
-    let writes = u64::MAX - whole.writes_left;
-    fail_writes(rt, trial, task, due, writes, false);
-    fail_writes(rt, trial, task, due, writes, true);
-    whole
+pub(super) fn check_faults(
+    rt: &impl Abort,
+    alloc: Global,
+    limits: Limits,
+    task: Task<'_>,
+    bytes: &[u8],
+) -> Told {
+    let left = Left {
+        reads: u64::MAX,
+        writes: u64::MAX,
+        takes_nothing: false,
+    };
+    let due = run_with(alloc, limits, task, bytes, left);
+    fail_reads(rt, alloc, limits, task, bytes, &due);
+    fail_writes(rt, alloc, limits, task, bytes, &due);
+    due
 }

@@ -1,6 +1,6 @@
 //! Worked sessions through the runs over a log: all that is written, what is reported apart from it,
 //! and how the run ends.
-use crate::faults::{Trial, check_faults};
+use crate::faults::check_faults;
 use crate::logs::{Log, split_word};
 use crate::readers::{Broken, Pieces};
 use crate::sessions;
@@ -135,12 +135,7 @@ fn check_log(
         let told = told_by(alloc, task, limits, Pieces::new(log, most))?;
         assert_eq!(rt; told.as_slice(), wanted, "{task:?} by {most}");
     }
-    let trial = Trial {
-        alloc,
-        limits,
-        bytes: log,
-    };
-    let told = check_faults(rt, trial, task);
+    let told = check_faults(rt, alloc, limits, task, log);
     assert!(rt; wanted.starts_with(told.written.as_slice()), "{task:?}");
     assert!(rt; wanted.ends_with(told.ended.as_bytes()), "{task:?}");
     Ok(())
