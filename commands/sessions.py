@@ -37,6 +37,10 @@ EXIT = editor('{"jsonrpc":"2.0","method":"exit"}')
 KILLED = HEAD + INITIALIZE + ANSWER + INITIALIZED + OPEN + SNAPSHOT + SHUTDOWN + STOPPED
 WHOLE = KILLED + EXIT
 
+# The same in format 2.
+HEAD_TWO = b"lsp-session 2\n"
+UPGRADED = HEAD_TWO + WHOLE[len(HEAD):]
+
 WHOLE_REPORT = b"""yes
 messages 5 2
 snapshots 1 unmatched 0
@@ -103,6 +107,7 @@ NO_LOGS = {
     b"": b"is empty",
     b"Content-Length: 2\r\n\r\n{}": b"lspcheck frames",
     b"lsp-session 1\r\nE 1\r\n": b"CR LF",
+    b"lsp-session 2\r\nE 1\r\n": b"CR LF",
     b"\xef\xbb\xbflsp-session 1\n": b"byte order mark",
     b"\x1f\x8b\x08\x00\x00\x00\x00\x00": b"compressed",
     b"\x28\xb5\x2f\xfd\x00": b"compressed",

@@ -13,7 +13,7 @@ local function new_log(command)
   count = count + 1
   local name = vim.fn.fnamemodify(command, ":t"):gsub("[^%w._-]", "_")
   local log = assert(io.open(("%s/%s-%d-%d.log"):format(folder, name, uv.os_getpid(), count), "wb"))
-  log:write("lsp-session 1\n")
+  log:write("lsp-session 2\n")
   log:flush()
   return log
 end

@@ -26,9 +26,13 @@ has_mark bytes = begins (239 ∷ 187 ∷ 191 ∷ []) bytes
 abbrev pub is_stream : List ℕ → Bool
 is_stream bytes = begins (codes "Content-") bytes || begins (codes "content-") bytes
 
+-- the first line of a log, and CR LF behind it
+abbrev pub has_line_ends : List ℕ → Bool
+has_line_ends bytes = begins (codes "lsp-session 1" ++ 13 ∷ []) bytes || begins (codes "lsp-session 2" ++ 13 ∷ []) bytes
+
 abbrev pub session_hint : List ℕ → Hint
 session_hint bytes =
-    if begins (codes "lsp-session 1" ++ 13 ∷ []) bytes then hints.LineEnds
+    if has_line_ends bytes then hints.LineEnds
     else if begins (codes "lsp-session ") bytes then hints.OtherFormat
     else if is_compressed bytes then hints.Compressed
     else hints.Unknown

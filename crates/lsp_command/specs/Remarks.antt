@@ -8,8 +8,10 @@ use Rattle.lsp_verdict.specs.declared.outcome.Outcome.{Outcome}
 use Rattle.lsp_verdict.specs.declared.outcome.Outcome.TheVariants.{Done, Judged, Stream, NoDocument, TooFew}
 use Rattle.lsp_verdict.specs.declared.outcome.RunFault.{RunFault}
 use Rattle.lsp_verdict.specs.declared.outcome.RunFault.TheVariants.{Read, Write, Memory}
+use Rattle.lsp_verdict.specs.declared.verdict.Verdict.{Verdict}
+use Rattle.lsp_verdict.specs.declared.verdict.Verdict.TheVariants.{Yes}
 use Rattle.lsp_command.specs.declared.task.Task.{Task}
-use Rattle.lsp_command.specs.declared.task.Task.TheVariants.{Text, Normal, Frames}
+use Rattle.lsp_command.specs.declared.task.Task.TheVariants.{Text, Normal, Upgrade, Frames}
 
 -- the fixed words for how a run ended
 abbrev pub remark_of : Result Outcome RunFault → Option (List ℕ)
@@ -22,9 +24,15 @@ remark_of (Err Read) = Some (codes "lspcheck: read fault")
 remark_of (Err Write) = Some (codes "lspcheck: write fault")
 remark_of (Err Memory) = Some (codes "lspcheck: out of memory")
 
--- the report that stands apart from what was asked for: that of a verdict in `text` and `normal`, that of a stream in `frames --as canonical`
+-- the report of a verdict that is no Yes
+abbrev pub report_refused : Verdict → Option (List ℕ)
+report_refused (Yes s) = None
+report_refused v = Some (report (verdict_view v))
+
+-- the report that stands apart from what was asked for: that of a verdict in `text` and `normal`, of one that is no Yes in `upgrade`, and that of a stream in `frames --as canonical`
 abbrev pub report_apart : Task → Outcome → Option (List ℕ)
 report_apart (Text number uri) (Judged v) = Some (report (verdict_view v))
 report_apart Normal (Judged v) = Some (report (verdict_view v))
+report_apart Upgrade (Judged v) = report_refused v
 report_apart (Frames Canonical) (Stream frame fault) = Some (stream_report frame fault)
 report_apart task outcome = None

@@ -15,6 +15,7 @@ use Rattle.lsp_verdict.specs.Shown.{text_is, no_document, too_few, refused}
 use Rattle.lsp_judge.specs.ShownLog.{IsShown, BeginsShown}
 use Rattle.lsp_streams.specs.StreamRun.{IsRun, BeginsRun}
 use Rattle.lsp_verdict.specs.TextAfter.{AnswersText}
+use Rattle.lsp_verdict.specs.Upgraded.{IsUpgraded, BeginsUpgraded}
 use Rattle.lsp_verdict.specs.declared.completeness.Completeness.{Completeness}
 use Rattle.lsp_verdict.specs.declared.outcome.Mode.{Mode}
 use Rattle.lsp_verdict.specs.declared.outcome.Outcome.{Outcome}
@@ -25,7 +26,7 @@ use Rattle.lsp_verdict.specs.declared.verdict.Summary.{Summary}
 use Rattle.lsp_verdict.specs.declared.verdict.Verdict.{Verdict}
 use Rattle.lsp_verdict.specs.declared.verdict.Verdict.TheVariants as verdicts
 use Rattle.lsp_command.specs.declared.task.Task.{Task}
-use Rattle.lsp_command.specs.declared.task.Task.TheVariants.{Check, Show, Text, Normal, Frames}
+use Rattle.lsp_command.specs.declared.task.Task.TheVariants.{Check, Show, Text, Normal, Upgrade, Frames}
 
 -- what a source and a sink tell before a run and after it
 pub record Ports : Type 0 where
@@ -83,6 +84,14 @@ pub record Normalized (limits : Bounds) (p : Ports) (result : Result Outcome Run
   pub done : result ≡ Ok outcomes.Done → IsAtEnd p.source_after.bytes
   pub fault : OnErr result ((out : List ℕ) × Wrote p out × Read limits p (λ log. BeginsNormal limits log out))
 
+-- `upgrade`: the verdict on the log read, and what upgrade writes of it, or after a fault what begins it
+pub record Upgraded (limits : Bounds) (p : Ports) (result : Result Outcome RunFault) : Type 0 where
+  pub judged : IfOk result (λ outcome. (v : Verdict) × (outcome ≡ outcomes.Judged v))
+  pub written : (v : Verdict) → result ≡ Ok (outcomes.Judged v)
+      → (out : List ℕ) × Wrote p out × Read limits p (λ log. IsUpgraded limits log (verdict_view v) out)
+  pub ended : (s : Summary) → result ≡ Ok (outcomes.Judged (verdicts.Yes s)) → IsAtEnd p.source_after.bytes
+  pub fault : OnErr result ((out : List ℕ) × Wrote p out × Read limits p (λ log. BeginsUpgraded limits log out))
+
 -- `frames`: what is due in the mode for the stream read, or after a fault what begins it
 pub record Framed (limits : Bounds) (p : Ports) (mode : Mode) (result : Result Outcome RunFault) : Type 0 where
   pub written : IfOk result (λ outcome. (out : List ℕ) × Wrote p out × Read limits p (λ stream. IsRun limits mode stream out outcome))
@@ -95,6 +104,7 @@ Answers limits (Check completeness) p result = Checked completeness limits p res
 Answers limits Show p result = Showed limits p result
 Answers limits (Text number uri) p result = ToldText limits p (non_zero_u64_get number) uri.now result
 Answers limits Normal p result = Normalized limits p result
+Answers limits Upgrade p result = Upgraded limits p result
 Answers limits (Frames mode) p result = Framed limits p mode result
 
 -- what a task answered is the answer, or it ended well and what it wrote could not be handed on: a write fault

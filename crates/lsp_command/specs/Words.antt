@@ -50,6 +50,7 @@ AsksText found (tasks.Text number uri) = (first_value found (codes "uri") ≡ So
 AsksText found (tasks.Check completeness) = ⊥
 AsksText found tasks.Show = ⊥
 AsksText found tasks.Normal = ⊥
+AsksText found tasks.Upgrade = ⊥
 AsksText found (tasks.Frames mode) = ⊥
 
 -- **what the command of a name asks for**, with what was found of its arguments
@@ -58,6 +59,7 @@ pub record HasTask (name : List ℕ) (found : Found) (asked : Option Task) : Typ
   pub show : name ≡ codes "show" → asked ≡ Some tasks.Show
   pub text : name ≡ codes "text" → IfSome asked (AsksText found)
   pub normal : name ≡ codes "normal" → asked ≡ Some tasks.Normal
+  pub upgrade : name ≡ codes "upgrade" → asked ≡ Some tasks.Upgrade
   pub frames : name ≡ codes "frames" → asked ≡ Some (tasks.Frames (mode_of (first_value found (codes "as"))))
 
 -- what the words ask for: the task of a command, and the file that its words name

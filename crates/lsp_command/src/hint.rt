@@ -1,6 +1,6 @@
 //! What an input seems to be that is not what the command reads.
 ghost use Rattle.std.specs.Prelude.{◌≡◌};
-ghost use Rattle.lsp_command.specs.Hints.{begins, is_compressed, is_stream, log_hint, session_hint, hint_of};
+ghost use Rattle.lsp_command.specs.Hints.{begins, has_line_ends, is_compressed, is_stream, log_hint, session_hint, hint_of};
 
 use lsp_judge::{Outcome, RunFault, Verdict};
 use std::fmt;
@@ -36,7 +36,7 @@ impl fmt::Display for Hint {
             Hint::ByteOrderMark => "the input begins with a byte order mark: a log has none",
             Hint::OtherFormat => "a log of a format that this lspcheck doesn't know: see --version",
             Hint::Compressed => "the input is compressed: unpack it first",
-            Hint::Unknown => "a log begins with the line 'lsp-session 1': see docs/LOG_FORMAT.md",
+            Hint::Unknown => "a log begins with the line 'lsp-session 2': see docs/LOG_FORMAT.md",
         })
     }
 }
@@ -66,6 +66,13 @@ fn is_stream(bytes: &[u8]) -> bool
     begins(b"Content-", bytes) || begins(b"content-", bytes)
 }
 
+/// Whether the bytes begin with the first line of a log, and CR LF behind it.
+fn has_line_ends(bytes: &[u8]) -> bool
+    ensures { result ≡ has_line_ends bytes.now }
+{
+    begins(b"lsp-session 1\r", bytes) || begins(b"lsp-session 2\r", bytes)
+}
+
 /// What an input seems to be that does not begin as a log does.
 fn log_hint(bytes: &[u8]) -> Hint
     ensures { result ≡ log_hint bytes.now }
@@ -86,7 +93,7 @@ fn log_hint(bytes: &[u8]) -> Hint
 fn session_hint(bytes: &[u8]) -> Hint
     ensures { result ≡ session_hint bytes.now }
 {
-    if begins(b"lsp-session 1\r", bytes) {
+    if has_line_ends(bytes) {
         return Hint::LineEnds;
     }
     if begins(b"lsp-session ", bytes) {

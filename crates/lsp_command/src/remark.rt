@@ -4,7 +4,7 @@ ghost use Rattle.lsp_verdict.specs.declared.outcome.RunFault.TheVariants as faul
 ghost use Rattle.lsp_command.specs.Remarks.{remark_of, report_apart};
 
 use crate::task::Task;
-use lsp_judge::{Mode, Outcome, RunFault, report_of, stream_report};
+use lsp_judge::{Mode, Outcome, RunFault, Verdict, report_of, stream_report};
 use std::alloc::Global;
 
 /// The fixed words for how a run ended, without their line end, where there are any.
@@ -21,8 +21,9 @@ pub fn remark_of(ended: &Result<Outcome, RunFault>) -> Option<&'static str>
     }
 }
 
-/// The report of a fault, where it is not part of what the task writes: `text`, `normal` and `frames
-/// --as canonical` write what was asked for and nothing else.
+/// The report of a fault, where it is not part of what the task writes: `text`, `normal`, `upgrade`
+/// and `frames --as canonical` write what was asked for and nothing else. Yes is no fault of a log
+/// that was upgraded.
 ///
 /// # Errors
 /// `Memory` where memory was refused, and nothing else.
@@ -38,7 +39,8 @@ pub fn report_apart(
         (Outcome::Stream { frame, fault }, Task::Frames(Mode::Canonical)) => {
             Ok(Some(stream_report(alloc, *frame, *fault)?))
         }
-        (Outcome::Judged(verdict), Task::Text { .. } | Task::Normal) => {
+        (Outcome::Judged(Verdict::Yes(_)), Task::Upgrade) => Ok(None),
+        (Outcome::Judged(verdict), Task::Text { .. } | Task::Normal | Task::Upgrade) => {
             Ok(Some(report_of(alloc, verdict)?))
         }
         _ => Ok(None),

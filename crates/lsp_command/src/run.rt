@@ -10,7 +10,7 @@ use crate::task::Task;
 use lsp_frame::{Limits, Sink, Source};
 use lsp_judge::{
     Completeness, Outcome, RunFault, run_check, run_check_complete, run_frames, run_normal,
-    run_show, run_text,
+    run_show, run_text, run_upgrade,
 };
 use std::alloc::Global;
 use std::io::{Read, Write};
@@ -38,6 +38,7 @@ pub fn run_task<R: Source, W: Sink>(
         Task::Show => run_show(alloc, source, sink, limits),
         Task::Text { number, uri } => run_text(alloc, source, sink, limits, number.get(), uri),
         Task::Normal => run_normal(alloc, source, sink, limits),
+        Task::Upgrade => run_upgrade(alloc, source, sink, limits),
         Task::Frames(mode) => run_frames(alloc, source, sink, limits, mode),
     }
 }

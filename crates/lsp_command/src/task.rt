@@ -14,6 +14,8 @@ pub enum Task<'a> {
     Text { number: NonZeroU64, uri: &'a str },
     /// To write the normal form of a log.
     Normal,
+    /// To write a log again in format 2.
+    Upgrade,
     /// To read one raw stream of frames.
     Frames(Mode),
 }

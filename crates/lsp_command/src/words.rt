@@ -47,7 +47,7 @@ fn check<'a>(alloc: Global) -> Result<Command<'a>, AllocError> {
     let complete = Arg::new(alloc, "complete")
         .long("complete")
         .action(ArgAction::SetTrue)
-        .help("Wants an answer to each request of the editor, and exit at the end");
+        .help("Yes only where each request of the editor is answered and exit was sent");
     Command::new(alloc, "check")
         .about("Judges a recorded session, and reports the verdict")
         .arg(complete)?
@@ -83,6 +83,12 @@ fn normal<'a>(alloc: Global) -> Result<Command<'a>, AllocError> {
         .arg(log_file(alloc))
 }
 
+fn upgrade<'a>(alloc: Global) -> Result<Command<'a>, AllocError> {
+    Command::new(alloc, "upgrade")
+        .about("Writes a log again in format 2")
+        .arg(log_file(alloc))
+}
+
 fn frames<'a>(alloc: Global) -> Result<Command<'a>, AllocError> {
     let mode = Arg::new(alloc, "as")
         .long("as")
@@ -110,6 +116,7 @@ fn command_line<'a>(alloc: Global) -> Result<Command<'a>, AllocError> {
         .subcommand(show(alloc)?)?
         .subcommand(text(alloc)?)?
         .subcommand(normal(alloc)?)?
+        .subcommand(upgrade(alloc)?)?
         .subcommand(frames(alloc)?)
 }
 
@@ -141,6 +148,7 @@ fn task_of<'a>(name: &str, arguments: &ArgMatches<'a>) -> Option<Task<'a>>
     ensures show { name.now ≡ codes "show" → result ≡ Some Task.Show }
     ensures text { name.now ≡ codes "text" → IfSome result (AsksText (found_of arguments.now)) }
     ensures normal { name.now ≡ codes "normal" → result ≡ Some Task.Normal }
+    ensures upgrade { name.now ≡ codes "upgrade" → result ≡ Some Task.Upgrade }
     ensures frames { name.now ≡ codes "frames"
         → result ≡ Some (Task.Frames (mode_of (first_value (found_of arguments.now) (codes "as")))) }
 {
@@ -152,6 +160,7 @@ fn task_of<'a>(name: &str, arguments: &ArgMatches<'a>) -> Option<Task<'a>>
             uri: arguments.get_str("uri")?,
         }),
         "normal" => Some(Task::Normal),
+        "upgrade" => Some(Task::Upgrade),
         "frames" => Some(Task::Frames(mode_of(arguments.get_str("as")))),
         _ => None,
     }

@@ -1,15 +1,14 @@
 -- Snapshots of which none is below a least version.
-use Rattle.std.proofs.Common.{◌≡◌, ℕ, Bool, true, false, ◌||◌, ◌&&◌, List, [], ◌∷◌, ◌++◌, filter, take, refl, sym, ap, ◌∙◌, inl, inr, true≢false, arith, zero, suc, Some}
+use Rattle.std.proofs.Common.{◌≡◌, ℕ, Bool, true, false, ◌||◌, List, [], ◌∷◌, ◌++◌, filter, take, refl, sym, ap, ◌∙◌, inl, inr, true≢false, arith, zero, suc, Some}
 use Rattle.std.proofs.lemmas.Int.{ints}
 use Rattle.std.specs.Prelude.{ℤ, int_lt, slice_get}
 use Rattle.std.proofs.lemmas.Option.{none-some, same_Some}
 use Rattle.std.specs.List.{list_any}
 use Rattle.std.specs.Ordering.{int_eq}
 use Rattle.lsp_docs.specs.Texts.{Text}
-use Rattle.lsp_docs.specs.Documents.{Version, versioned}
-use Rattle.lsp_docs.specs.Kept.{versions}
+use Rattle.lsp_docs.specs.Documents.{Version, versioned, is_after, is_at, is_before}
+use Rattle.lsp_docs.specs.Stored.{versions}
 use Rattle.lsp_docs.specs.Rules.{differs}
-use Rattle.lsp_docs.specs.State.{is_after, is_at, is_before}
 use Rattle.lsp_docs.specs.declared.snapshot.Snapshot.{Snapshot}
 use Rattle.lsp_docs.proofs.Words.{true_or_false, int_is}
 

@@ -8,6 +8,7 @@ use Rattle.std.proofs.lemmas.Bool.{or_parts}
 use Rattle.std.proofs.lemmas.List.Folds.{list_any-append}
 use Rattle.std.proofs.lemmas.Option.{same_Some, none-some}
 use Rattle.lsp_docs.specs.Texts.{Text}
+use Rattle.lsp_docs.specs.Terms.{Terms}
 use Rattle.lsp_docs.specs.Calls.{Bytes, Call, opens, changes, closes, saves, shows, is_close}
 use Rattle.lsp_docs.specs.Documents.{Version, opening, held_since, held}
 use Rattle.lsp_docs.specs.Rules.{call_rule, AreAcceptedFrom, AreAccepted}
@@ -83,34 +84,34 @@ standing-at uri (c ∷ after) i e =
           }
     ]
 
-since_none : (limit : ℕ) (uri : Bytes) (after : List Call) (o : Option Version) → (is_some o && not (list_any (is_close uri) after)) ≡ false → held_since limit uri after o ≡ None
-since_none limit uri after None h = refl
-since_none limit uri after (Some v) h =
+since_none : (terms : Terms) (uri : Bytes) (after : List Call) (o : Option Version) → (is_some o && not (list_any (is_close uri) after)) ≡ false → held_since terms uri after o ≡ None
+since_none terms uri after None h = refl
+since_none terms uri after (Some v) h =
     elim (true_or_false (list_any (is_close uri) after)) [
       | inl p ↦ rw p refl
       | inr p ↦ absurd (true≢false (sym (ap (λ b. not b) p) ∙ h))
     ]
 
 -- where no opening stands, nothing is held
-standing-none : (limit : ℕ) (uri : Bytes) (calls : List Call) → standing uri calls ≡ None → held limit uri calls ≡ None
-standing-none limit uri [] e = refl
-standing-none limit uri (c ∷ after) e =
+standing-none : (terms : Terms) (uri : Bytes) (calls : List Call) → standing uri calls ≡ None → held terms uri calls ≡ None
+standing-none terms uri [] e = refl
+standing-none terms uri (c ∷ after) e =
     elim (true_or_false (is_some (opening uri c) && not (list_any (is_close uri) after))) [
       | inl p ↦ absurd (none-some 0 (sym e ∙ ap (λ b. if b then Some 0 else option_map (λ j. j + 1) (standing uri after)) p))
       | inr p ↦
           let rest = unmapped (standing uri after) (sym (ap (λ b. if b then Some 0 else option_map (λ j. j + 1) (standing uri after)) p) ∙ e) in
-          ap (λ o. option_or o (held limit uri after)) (since_none limit uri after (opening uri c) p) ∙ standing-none limit uri after rest
+          ap (λ o. option_or o (held terms uri after)) (since_none terms uri after (opening uri c) p) ∙ standing-none terms uri after rest
     ]
   where
     unmapped : (o : Option ℕ) → option_map (λ j. j + 1) o ≡ None → o ≡ None
     unmapped None e = refl
     unmapped (Some j) e = absurd (none-some (j + 1) (sym e))
 
-pub held-standing : (limit : ℕ) (uri : Bytes) (calls : List Call) (v : Version) → held limit uri calls ≡ Some v → (i : ℕ) × (standing uri calls ≡ Some i)
-held-standing limit uri calls v h = go (standing uri calls) refl
+pub held-standing : (terms : Terms) (uri : Bytes) (calls : List Call) (v : Version) → held terms uri calls ≡ Some v → (i : ℕ) × (standing uri calls ≡ Some i)
+held-standing terms uri calls v h = go (standing uri calls) refl
   where
     go : (o : Option ℕ) → standing uri calls ≡ o → (i : ℕ) × (standing uri calls ≡ Some i)
-    go None e = absurd (none-some v (sym (standing-none limit uri calls e) ∙ h))
+    go None e = absurd (none-some v (sym (standing-none terms uri calls e) ∙ h))
     go (Some i) e = (i, e)
 
 -- ---- no close before the next opening
@@ -133,26 +134,26 @@ not_opening None h = refl
 not_opening (Some v) h = absurd (true≢false h)
 
 -- a close of what is not open is refused
-not_closing : (limit : ℕ) (uri : Bytes) (calls : List Call) (c : Call) → held limit uri calls ≡ None → call_rule limit calls c ≡ None → is_close uri c ≡ false
-not_closing limit uri calls (opens u n t) none e = refl
-not_closing limit uri calls (changes enc k u n cs) none e = refl
-not_closing limit uri calls (closes u) none e =
+not_closing : (terms : Terms) (uri : Bytes) (calls : List Call) (c : Call) → held terms uri calls ≡ None → call_rule terms calls c ≡ None → is_close uri c ≡ false
+not_closing terms uri calls (opens u n t) none e = refl
+not_closing terms uri calls (changes enc k u n cs) none e = refl
+not_closing terms uri calls (closes u) none e =
     elim (true_or_false (bytes_eq uri u)) [
-      | inl p ↦ absurd (let rule : ℕ = 602 in none-some rule (sym e ∙ ap (λ o. if is_some o then None else Some 602) (ap (λ x. held limit x calls) (sym (uri_is uri u p)) ∙ none)))
+      | inl p ↦ absurd (let rule : ℕ = 602 in none-some rule (sym e ∙ ap (λ o. if is_some o then None else Some 602) (ap (λ x. held terms x calls) (sym (uri_is uri u p)) ∙ none)))
       | inr p ↦ p
     ]
-not_closing limit uri calls (saves u t) none e = refl
-not_closing limit uri calls (shows u n t) none e = refl
+not_closing terms uri calls (saves u t) none e = refl
+not_closing terms uri calls (shows u n t) none e = refl
 
-none-closes : (limit : ℕ) (uri : Bytes) (calls m : List Call) → AreAcceptedFrom limit calls m → held limit uri calls ≡ None → list_any (λ c. is_some (opening uri c)) m ≡ false
+none-closes : (terms : Terms) (uri : Bytes) (calls m : List Call) → AreAcceptedFrom terms calls m → held terms uri calls ≡ None → list_any (λ c. is_some (opening uri c)) m ≡ false
     → list_any (is_close uri) m ≡ false
-none-closes limit uri calls [] h none opened = refl
-none-closes limit uri calls (c ∷ m) h none opened =
+none-closes terms uri calls [] h none opened = refl
+none-closes terms uri calls (c ∷ m) h none opened =
     let parts = or_parts (is_some (opening uri c)) (list_any (λ d. is_some (opening uri d)) m) opened in
-    let close = not_closing limit uri calls c none h.0 in
-    let still : held limit uri (calls ++ c ∷ []) ≡ None = held-snoc limit uri calls c
-    ∙ (ap (λ x. next_held limit uri x c) none ∙ (ap (λ b. if b then None else option_or None (opening uri c)) close ∙ not_opening (opening uri c) parts.0)) in
-    rw close (none-closes limit uri (calls ++ c ∷ []) m h.1 still parts.1)
+    let close = not_closing terms uri calls c none h.0 in
+    let still : held terms uri (calls ++ c ∷ []) ≡ None = held-snoc terms uri calls c
+    ∙ (ap (λ x. next_held terms uri x c) none ∙ (ap (λ b. if b then None else option_or None (opening uri c)) close ∙ not_opening (opening uri c) parts.0)) in
+    rw close (none-closes terms uri (calls ++ c ∷ []) m h.1 still parts.1)
 
 -- ---- between a snapshot and a prefix of one opening no close stands
 
@@ -185,10 +186,10 @@ stood uri xs front rest mid o s e less still = go (cuts xs (o ∷ rest) front s 
     go (later m p q) = inside m p q
 
 -- the opening comes behind the snapshot
-comes : (limit : ℕ) (uri : Bytes) (xs front rest mid after : List Call) (o s : Call) (k : ℕ) → xs ++ o ∷ rest ≡ front ++ s ∷ mid → length xs ≡ length front + 1 + k
-    → AreAcceptedFrom limit (front ++ s ∷ []) mid → held limit uri (front ++ s ∷ []) ≡ None → next_opening uri (mid ++ after) ≡ Some k
+comes : (terms : Terms) (uri : Bytes) (xs front rest mid after : List Call) (o s : Call) (k : ℕ) → xs ++ o ∷ rest ≡ front ++ s ∷ mid → length xs ≡ length front + 1 + k
+    → AreAcceptedFrom terms (front ++ s ∷ []) mid → held terms uri (front ++ s ∷ []) ≡ None → next_opening uri (mid ++ after) ≡ Some k
     → is_some (opening uri o) ≡ true → list_any (is_close uri) rest ≡ false → list_any (is_close uri) mid ≡ false
-comes limit uri xs front rest mid after o s k e n h none next is still = go (cuts xs (o ∷ rest) front s mid e)
+comes terms uri xs front rest mid after o s k e n h none next is still = go (cuts xs (o ∷ rest) front s mid e)
   where
     go : Cuts xs (o ∷ rest) front s mid → list_any (is_close uri) mid ≡ false
     go (later m p q) =
@@ -198,24 +199,24 @@ comes limit uri xs front rest mid after o s k e n h none next is still = go (cut
         let long : length xs ≡ length (front ++ s ∷ m) = ap length p in
         let at : length m ≡ k = omega (arith, long, length-append front (s ∷ m), n) in
         let all : next_opening uri (m ++ (o ∷ rest ++ after)) ≡ Some k = ap (next_opening uri) (sym (append_assoc m (o ∷ rest) after) ∙ ap (λ l. l ++ after) (sym q)) ∙ next in
-        let first = none-closes limit uri (front ++ s ∷ []) m (accepted-split limit (front ++ s ∷ []) m (o ∷ rest) (subst (AreAcceptedFrom limit (front ++ s ∷ [])) q h)).0 none
+        let first = none-closes terms uri (front ++ s ∷ []) m (accepted-split terms (front ++ s ∷ []) m (o ∷ rest) (subst (AreAcceptedFrom terms (front ++ s ∷ [])) q h)).0 none
         (none-opens uri m (o ∷ rest ++ after) k all at) in
         ap (list_any (is_close uri)) q ∙ (list_any-append (is_close uri) m (o ∷ rest) ∙ rw (first, opening_closes uri o is) still)
 
-shown_none : (limit : ℕ) (uri : Bytes) (front : List Call) (u : Bytes) (n : ℤ) (t : Text) → held limit uri front ≡ None → held limit uri (front ++ shows u n t ∷ []) ≡ None
-shown_none limit uri front u n t none = held-snoc limit uri front (shows u n t) ∙ ap (λ h. next_held limit uri h (shows u n t)) none
+shown_none : (terms : Terms) (uri : Bytes) (front : List Call) (u : Bytes) (n : ℤ) (t : Text) → held terms uri front ≡ None → held terms uri (front ++ shows u n t ∷ []) ≡ None
+shown_none terms uri front u n t none = held-snoc terms uri front (shows u n t) ∙ ap (λ h. next_held terms uri h (shows u n t)) none
 
-module _ (limit : ℕ) (uri : Bytes) (n : ℤ) (t : Text) where
+module _ (terms : Terms) (uri : Bytes) (n : ℤ) (t : Text) where
   abbrev s : Call
   s = shows uri n t
 
   -- a snapshot inside the prefix
-  pub behind : (front mid after : List Call) (v : Version) → AreAccepted limit (front ++ s ∷ mid) → held limit uri (front ++ s ∷ mid) ≡ Some v
+  pub behind : (front mid after : List Call) (v : Version) → AreAccepted terms (front ++ s ∷ mid) → held terms uri (front ++ s ∷ mid) ≡ Some v
       → binding uri front (mid ++ after) ≡ standing uri (front ++ s ∷ mid) → list_any (is_close uri) mid ≡ false
   behind front mid after v h now same = go (standing uri front) refl
     where
       there : (i : ℕ) × (standing uri (front ++ s ∷ mid) ≡ Some i)
-      there = held-standing limit uri (front ++ s ∷ mid) v now
+      there = held-standing terms uri (front ++ s ∷ mid) v now
 
       at : StandsAt uri (front ++ s ∷ mid) there.0
       at = standing-at uri (front ++ s ∷ mid) there.0 there.1
@@ -230,15 +231,15 @@ module _ (limit : ℕ) (uri : Bytes) (n : ℤ) (t : Text) where
       go None e =
           let next = mapped (λ i. length front + 1 + i) (next_opening uri (mid ++ after)) there.0
           (sym (ap (λ o. option_or o (option_map (λ i. length front + 1 + i) (next_opening uri (mid ++ after)))) e) ∙ (same ∙ there.1)) in
-          comes limit uri at.before front at.after mid after at.call s next.0 (sym at.whole) (at.place ∙ sym next.2) (accepted-split limit [] front (s ∷ mid) h).1.1
-          (shown_none limit uri front uri n t (standing-none limit uri front e)) next.1 at.is_opening at.still_open
+          comes terms uri at.before front at.after mid after at.call s next.0 (sym at.whole) (at.place ∙ sym next.2) (accepted-split terms [] front (s ∷ mid) h).1.1
+          (shown_none terms uri front uri n t (standing-none terms uri front e)) next.1 at.is_opening at.still_open
 
   -- a snapshot behind the prefix
-  pub ahead : (before mid back : List Call) (v : Version) → held limit uri before ≡ Some v → binding uri (before ++ mid) back ≡ standing uri before → list_any (is_close uri) mid ≡ false
+  pub ahead : (before mid back : List Call) (v : Version) → held terms uri before ≡ Some v → binding uri (before ++ mid) back ≡ standing uri before → list_any (is_close uri) mid ≡ false
   ahead before mid back v now same = go (standing uri (before ++ mid)) refl
     where
       there : (i : ℕ) × (standing uri before ≡ Some i)
-      there = held-standing limit uri before v now
+      there = held-standing terms uri before v now
 
       at : StandsAt uri before there.0
       at = standing-at uri before there.0 there.1
@@ -266,19 +267,19 @@ module _ (limit : ℕ) (uri : Bytes) (n : ℤ) (t : Text) where
           absurd (omega (arith, next.2, length-append before mid, less))
 
 -- **After any calls, a held text is that of each snapshot that belongs to its opening and version.**
-pub bound-agrees : (limit : ℕ) (before after front back : List Call) (uri : Bytes) (n : ℤ) (t : Text) (v : Version) → AreAccepted limit (before ++ after) → before ++ after ≡ front ++ shows uri n t ∷ back
-    → binding uri front back ≡ standing uri before → held limit uri before ≡ Some v → v.number ≡ n → v.text ≡ t
-bound-agrees limit before after front back uri n t v h e same now number = go (cuts before after front (shows uri n t) back e)
+pub bound-agrees : (terms : Terms) (before after front back : List Call) (uri : Bytes) (n : ℤ) (t : Text) (v : Version) → AreAccepted terms (before ++ after) → before ++ after ≡ front ++ shows uri n t ∷ back
+    → binding uri front back ≡ standing uri before → held terms uri before ≡ Some v → v.number ≡ n → v.text ≡ t
+bound-agrees terms before after front back uri n t v h e same now number = go (cuts before after front (shows uri n t) back e)
   where
     go : Cuts before after front (shows uri n t) back → v.text ≡ t
     go (earlier mid p q) =
-        let accepted = subst (AreAccepted limit) p (accepted-split limit [] before after h).0 in
-        let held_here = ap (held limit uri) (sym p) ∙ now in
-        let open_still = behind limit uri n t front mid after v accepted held_here (ap (binding uri front) (sym q) ∙ (same ∙ ap (standing uri) p)) in
-        agrees-behind limit front mid uri n t accepted open_still v held_here number
+        let accepted = subst (AreAccepted terms) p (accepted-split terms [] before after h).0 in
+        let held_here = ap (held terms uri) (sym p) ∙ now in
+        let open_still = behind terms uri n t front mid after v accepted held_here (ap (binding uri front) (sym q) ∙ (same ∙ ap (standing uri) p)) in
+        agrees-behind terms front mid uri n t accepted open_still v held_here number
     go (later mid p q) =
-        let open_still = ahead limit uri n t before mid back v now (ap (λ l. binding uri l back) (sym p) ∙ same) in
+        let open_still = ahead terms uri n t before mid back v now (ap (λ l. binding uri l back) (sym p) ∙ same) in
         let cut : before ++ after ≡ (before ++ mid ++ shows uri n t ∷ []) ++ back =
         ap (λ l. before ++ l) q ∙ (sym (append_assoc before mid (shows uri n t ∷ back)) ∙ sym (append_assoc (before ++ mid) (shows uri n t ∷ []) back)) in
-        let accepted = (accepted-split limit [] (before ++ mid ++ shows uri n t ∷ []) back (subst (AreAccepted limit) cut h)).0 in
-        agrees-before limit before mid uri n t v accepted open_still now number
+        let accepted = (accepted-split terms [] (before ++ mid ++ shows uri n t ∷ []) back (subst (AreAccepted terms) cut h)).0 in
+        agrees-before terms before mid uri n t v accepted open_still now number

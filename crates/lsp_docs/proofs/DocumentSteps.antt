@@ -1,5 +1,5 @@
 -- What one more call does to the list of the open documents.
-use Rattle.std.proofs.Common.{◌≡◌, ℕ, Bool, true, false, List, [], ◌∷◌, ◌++◌, map, filter, refl, sym, ap, ◌∙◌, Option, Some, None, inl, inr, append_assoc, append-nil, subst, Ok, true≢false}
+use Rattle.std.proofs.Common.{◌≡◌, Bool, true, false, List, [], ◌∷◌, ◌++◌, map, filter, refl, sym, ap, ◌∙◌, Option, Some, None, inl, inr, append_assoc, append-nil, subst, Ok, true≢false}
 use Rattle.std.specs.Prelude.{if◌then◌else◌, ℤ, not}
 use Rattle.std.specs.Str.{bytes_eq}
 use Rattle.std.specs.Option.{option_or}
@@ -7,6 +7,7 @@ use Rattle.std.proofs.lemmas.Option.{none-some, same_Some}
 use Rattle.lsp_types.specs.declared.position.Encoding.{Encoding}
 use Rattle.lsp_types.specs.declared.change.SyncKind.{SyncKind}
 use Rattle.lsp_docs.specs.Texts.{Text}
+use Rattle.lsp_docs.specs.Terms.{Terms}
 use Rattle.lsp_text.specs.Edits.{Edit, applied}
 use Rattle.lsp_docs.specs.Calls.{Bytes, Call, opens, changes, closes, saves, shows, is_close}
 use Rattle.lsp_docs.specs.Documents.{Version, versioned, revised, held_since, held, Held, as_held, held_entry, documents}
@@ -17,35 +18,35 @@ use Rattle.lsp_docs.proofs.HeldSteps.{since, held_since-snoc}
 abbrev pub stays : Call → Held → Bool
 stays c h = not (is_close h.uri c)
 
-abbrev pub revised_held : ℕ → Call → Held → Held
-revised_held limit c h = record { uri = h.uri; version = revised limit h.uri h.version c }
+abbrev pub revised_held : Terms → Call → Held → Held
+revised_held terms c h = record { uri = h.uri; version = revised terms h.uri h.version c }
 
-as_since : (limit : ℕ) (u : Bytes) (o : Option Version) (c : Call)
-    → as_held u (since limit u o (is_close u c) c) ≡ map (revised_held limit c) (filter (stays c) (as_held u o))
-as_since limit u None c = elim (true_or_false (is_close u c)) [ inl p ↦ rw p refl | inr p ↦ rw p refl ]
-as_since limit u (Some v) c = elim (true_or_false (is_close u c)) [ inl p ↦ rw p refl | inr p ↦ rw p refl ]
+as_since : (terms : Terms) (u : Bytes) (o : Option Version) (c : Call)
+    → as_held u (since terms u o (is_close u c) c) ≡ map (revised_held terms c) (filter (stays c) (as_held u o))
+as_since terms u None c = elim (true_or_false (is_close u c)) [ inl p ↦ rw p refl | inr p ↦ rw p refl ]
+as_since terms u (Some v) c = elim (true_or_false (is_close u c)) [ inl p ↦ rw p refl | inr p ↦ rw p refl ]
 
-held_entry-push : (limit : ℕ) (c : Call) (later : List Call) (m : Call)
-    → held_entry limit c (later ++ m ∷ []) ≡ map (revised_held limit m) (filter (stays m) (held_entry limit c later))
-held_entry-push limit (opens u n t) later m =
-    ap (as_held u) (held_since-snoc limit u later m (Some (versioned n t))) ∙ as_since limit u (held_since limit u later (Some (versioned n t))) m
-held_entry-push limit (changes enc k u n cs) later m = refl
-held_entry-push limit (closes u) later m = refl
-held_entry-push limit (saves u t) later m = refl
-held_entry-push limit (shows u n t) later m = refl
+held_entry-push : (terms : Terms) (c : Call) (later : List Call) (m : Call)
+    → held_entry terms c (later ++ m ∷ []) ≡ map (revised_held terms m) (filter (stays m) (held_entry terms c later))
+held_entry-push terms (opens u n t) later m =
+    ap (as_held u) (held_since-snoc terms u later m (Some (versioned n t))) ∙ as_since terms u (held_since terms u later (Some (versioned n t))) m
+held_entry-push terms (changes enc k u n cs) later m = refl
+held_entry-push terms (closes u) later m = refl
+held_entry-push terms (saves u t) later m = refl
+held_entry-push terms (shows u n t) later m = refl
 
-abbrev pub after_call : ℕ → Call → List Held → List Held
-after_call limit m hs = map (revised_held limit m) (filter (stays m) hs)
+abbrev pub after_call : Terms → Call → List Held → List Held
+after_call terms m hs = map (revised_held terms m) (filter (stays m) hs)
 
-after_call-append : (limit : ℕ) (m : Call) (xs ys : List Held) → after_call limit m (xs ++ ys) ≡ after_call limit m xs ++ after_call limit m ys
-after_call-append limit m xs ys = ap (map (revised_held limit m)) (filter-append (stays m) xs ys) ∙ map-append (revised_held limit m) (filter (stays m) xs) (filter (stays m) ys)
+after_call-append : (terms : Terms) (m : Call) (xs ys : List Held) → after_call terms m (xs ++ ys) ≡ after_call terms m xs ++ after_call terms m ys
+after_call-append terms m xs ys = ap (map (revised_held terms m)) (filter-append (stays m) xs ys) ∙ map-append (revised_held terms m) (filter (stays m) xs) (filter (stays m) ys)
 
 -- **One more call** closes, changes and opens
-pub documents-push : (limit : ℕ) (calls : List Call) (m : Call) → documents limit (calls ++ m ∷ []) ≡ after_call limit m (documents limit calls) ++ held_entry limit m []
-documents-push limit [] m = append-nil (held_entry limit m [])
-documents-push limit (c ∷ calls) m =
-    rw (held_entry-push limit c calls m, documents-push limit calls m, after_call-append limit m (held_entry limit c calls) (documents limit calls))
-    (sym (append_assoc (after_call limit m (held_entry limit c calls)) (after_call limit m (documents limit calls)) (held_entry limit m [])))
+pub documents-push : (terms : Terms) (calls : List Call) (m : Call) → documents terms (calls ++ m ∷ []) ≡ after_call terms m (documents terms calls) ++ held_entry terms m []
+documents-push terms [] m = append-nil (held_entry terms m [])
+documents-push terms (c ∷ calls) m =
+    rw (held_entry-push terms c calls m, documents-push terms calls m, after_call-append terms m (held_entry terms c calls) (documents terms calls))
+    (sym (append_assoc (after_call terms m (held_entry terms c calls)) (after_call terms m (documents terms calls)) (held_entry terms m [])))
 
 -- ---- what is held of a URI stands in the list
 
@@ -53,19 +54,19 @@ held_in-as : (uri u : Bytes) (o : Option Version) (rest : List Held) → held_in
 held_in-as uri u None rest = elim (true_or_false (bytes_eq uri u)) [ inl p ↦ rw p refl | inr p ↦ rw p refl ]
 held_in-as uri u (Some v) rest = elim (true_or_false (bytes_eq uri u)) [ inl p ↦ rw p refl | inr p ↦ rw p refl ]
 
-pub held-documents : (limit : ℕ) (uri : Bytes) (calls : List Call) → held limit uri calls ≡ held_in uri (documents limit calls)
-held-documents limit uri [] = refl
-held-documents limit uri (opens u n t ∷ calls) =
-    let rest = held-documents limit uri calls in
-    let o = held_since limit u calls (Some (versioned n t)) in
+pub held-documents : (terms : Terms) (uri : Bytes) (calls : List Call) → held terms uri calls ≡ held_in uri (documents terms calls)
+held-documents terms uri [] = refl
+held-documents terms uri (opens u n t ∷ calls) =
+    let rest = held-documents terms uri calls in
+    let o = held_since terms u calls (Some (versioned n t)) in
     elim (true_or_false (bytes_eq uri u)) [
-      | inl p ↦ rw (held_in-as uri u o (documents limit calls), p, rest, uri_is uri u p) refl
-      | inr p ↦ rw (held_in-as uri u o (documents limit calls), p, rest) refl
+      | inl p ↦ rw (held_in-as uri u o (documents terms calls), p, rest, uri_is uri u p) refl
+      | inr p ↦ rw (held_in-as uri u o (documents terms calls), p, rest) refl
     ]
-held-documents limit uri (changes enc k u n cs ∷ calls) = held-documents limit uri calls
-held-documents limit uri (closes u ∷ calls) = held-documents limit uri calls
-held-documents limit uri (saves u t ∷ calls) = held-documents limit uri calls
-held-documents limit uri (shows u n t ∷ calls) = held-documents limit uri calls
+held-documents terms uri (changes enc k u n cs ∷ calls) = held-documents terms uri calls
+held-documents terms uri (closes u ∷ calls) = held-documents terms uri calls
+held-documents terms uri (saves u t ∷ calls) = held-documents terms uri calls
+held-documents terms uri (shows u n t ∷ calls) = held-documents terms uri calls
 
 -- ---- each URI is open once
 
@@ -75,17 +76,17 @@ IsDistinct (h ∷ hs) = (held_in h.uri hs ≡ None) × IsDistinct hs
 
 -- what each kind of call does, where each URI is open once
 
-pub all_stay : (limit : ℕ) (u : Bytes) (n : ℤ) (t : Text) (hs : List Held) → after_call limit (opens u n t) hs ≡ hs
-all_stay limit u n t [] = refl
-all_stay limit u n t (h ∷ hs) = ap (λ l. h ∷ l) (all_stay limit u n t hs)
+pub all_stay : (terms : Terms) (u : Bytes) (n : ℤ) (t : Text) (hs : List Held) → after_call terms (opens u n t) hs ≡ hs
+all_stay terms u n t [] = refl
+all_stay terms u n t (h ∷ hs) = ap (λ l. h ∷ l) (all_stay terms u n t hs)
 
-pub all_saved : (limit : ℕ) (u : Bytes) (t : Option Text) (hs : List Held) → after_call limit (saves u t) hs ≡ hs
-all_saved limit u t [] = refl
-all_saved limit u t (h ∷ hs) = ap (λ l. h ∷ l) (all_saved limit u t hs)
+pub all_saved : (terms : Terms) (u : Bytes) (t : Option Text) (hs : List Held) → after_call terms (saves u t) hs ≡ hs
+all_saved terms u t [] = refl
+all_saved terms u t (h ∷ hs) = ap (λ l. h ∷ l) (all_saved terms u t hs)
 
-pub all_shown : (limit : ℕ) (u : Bytes) (n : ℤ) (t : Text) (hs : List Held) → after_call limit (shows u n t) hs ≡ hs
-all_shown limit u n t [] = refl
-all_shown limit u n t (h ∷ hs) = ap (λ l. h ∷ l) (all_shown limit u n t hs)
+pub all_shown : (terms : Terms) (u : Bytes) (n : ℤ) (t : Text) (hs : List Held) → after_call terms (shows u n t) hs ≡ hs
+all_shown terms u n t [] = refl
+all_shown terms u n t (h ∷ hs) = ap (λ l. h ∷ l) (all_shown terms u n t hs)
 
 pub not_here : (b : Bool) (v : Version) (rest : Option Version) → (if b then Some v else rest) ≡ None → (b ≡ false) × (rest ≡ None)
 not_here true v rest h = absurd (none-some v (sym h))
@@ -99,29 +100,29 @@ pub there : {A : Type 0} (b : Bool) (x y : A) (rest : Option A) → (if b then S
 there true x y rest h p = absurd (true≢false p)
 there false x y rest h p = h
 
-pub closed_none : (limit : ℕ) (u : Bytes) (hs : List Held) → held_in u hs ≡ None → after_call limit (closes u) hs ≡ hs
-closed_none limit u [] e = refl
-closed_none limit u (h ∷ hs) e =
+pub closed_none : (terms : Terms) (u : Bytes) (hs : List Held) → held_in u hs ≡ None → after_call terms (closes u) hs ≡ hs
+closed_none terms u [] e = refl
+closed_none terms u (h ∷ hs) e =
     let parts = not_here (bytes_eq u h.uri) h.version (held_in u hs) e in
-    rw (uri_flip h.uri u ∙ parts.0) (ap (λ l. h ∷ l) (closed_none limit u hs parts.1))
+    rw (uri_flip h.uri u ∙ parts.0) (ap (λ l. h ∷ l) (closed_none terms u hs parts.1))
 
-pub closed_is : (limit : ℕ) (u : Bytes) (hs : List Held) → IsDistinct hs → after_call limit (closes u) hs ≡ without u hs
-closed_is limit u [] d = refl
-closed_is limit u (h ∷ hs) d =
+pub closed_is : (terms : Terms) (u : Bytes) (hs : List Held) → IsDistinct hs → after_call terms (closes u) hs ≡ without u hs
+closed_is terms u [] d = refl
+closed_is terms u (h ∷ hs) d =
     elim (true_or_false (bytes_eq u h.uri)) [
-      | inl p ↦ rw (uri_flip h.uri u, p) (closed_none limit u hs (subst (λ x. held_in x hs ≡ None) (sym (uri_is u h.uri p)) d.0))
-      | inr p ↦ rw (uri_flip h.uri u, p) (ap (λ l. h ∷ l) (closed_is limit u hs d.1))
+      | inl p ↦ rw (uri_flip h.uri u, p) (closed_none terms u hs (subst (λ x. held_in x hs ≡ None) (sym (uri_is u h.uri p)) d.0))
+      | inr p ↦ rw (uri_flip h.uri u, p) (ap (λ l. h ∷ l) (closed_is terms u hs d.1))
     ]
 
-module _ (limit : ℕ) (enc : Encoding) (k : SyncKind) (u : Bytes) (n : ℤ) (cs : List Edit) where
-  pub changed_none : (hs : List Held) → held_in u hs ≡ None → after_call limit (changes enc k u n cs) hs ≡ hs
+module _ (terms : Terms) (enc : Encoding) (k : SyncKind) (u : Bytes) (n : ℤ) (cs : List Edit) where
+  pub changed_none : (hs : List Held) → held_in u hs ≡ None → after_call terms (changes enc k u n cs) hs ≡ hs
   changed_none [] e = refl
   changed_none (h ∷ hs) e =
       let parts = not_here (bytes_eq u h.uri) h.version (held_in u hs) e in
       rw (uri_flip h.uri u ∙ parts.0) (ap (λ l. h ∷ l) (changed_none hs parts.1))
 
-  pub changed_is : (v : Version) (t : Text) → applied limit enc v.text cs ≡ Ok t → (hs : List Held) → IsDistinct hs → held_in u hs ≡ Some v
-      → after_call limit (changes enc k u n cs) hs ≡ set_in u (versioned n t) hs
+  pub changed_is : (v : Version) (t : Text) → applied terms.limit enc v.text cs ≡ Ok t → (hs : List Held) → IsDistinct hs → held_in u hs ≡ Some v
+      → after_call terms (changes enc k u n cs) hs ≡ set_in u (versioned n t) hs
   changed_is v t made [] d e = absurd (none-some v e)
   changed_is v t made (h ∷ hs) d e =
       elim (true_or_false (bytes_eq u h.uri)) [

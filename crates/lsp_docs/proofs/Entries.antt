@@ -1,6 +1,6 @@
 -- The documents by URI beside the list that they stand for.
-use Rattle.std.proofs.Common.{◌≡◌, List, [], ◌∷◌, ◌++◌, map, filter, length, Option, Some, None, option_map, is_some, inl, inr, Bool, true, false, not, ◌||◌, cond, refl, sym, ap, ◌∙◌, subst, suc, append-nil, append_assoc, string_bytes, String, Global, Bor, true≢false}
-use Rattle.std.specs.Prelude.{if◌then◌else◌, slice_get}
+use Rattle.std.proofs.Common.{◌≡◌, ℕ, ◌≤◌, List, [], ◌∷◌, ◌++◌, map, filter, length, Option, Some, None, option_map, is_some, inl, inr, Bool, true, false, not, ◌||◌, refl, sym, ap, ◌∙◌, subst, suc, append-nil, append_assoc, string_bytes, String, Global, Bor, true≢false}
+use Rattle.std.specs.Prelude.{if◌then◌else◌}
 use Rattle.std.proofs.lemmas.Option.{none-some}
 use Rattle.std.specs.List.{list_any}
 use Rattle.std.specs.Option.{option_copied}
@@ -9,8 +9,9 @@ use Rattle.std.specs.Map.{lookup, KeepsOthers}
 use Rattle.std.specs.Str.{bytes_eq}
 use Rattle.lsp_docs.specs.Calls.{Bytes}
 use Rattle.lsp_docs.specs.Documents.{Version, Held, as_held}
-use Rattle.lsp_docs.specs.State.{held_in, set_in, without}
-use Rattle.lsp_docs.specs.Opened.{held_by, listed, AllHeld, UrisDiffer, AreHeld}
+use Rattle.lsp_docs.specs.Kept.{last_of}
+use Rattle.lsp_docs.specs.State.{Kept, held_in, kept_in, set_in, without, KeepsSame, KeepsOn, KeepsNone}
+use Rattle.lsp_docs.specs.Opened.{held_by, kept_of, or_nothing, listed, AllHeld, UrisDiffer, AreHeld}
 use Rattle.lsp_docs.proofs.Words.{true_or_false, uri_is, uri_same, uri_flip}
 
 pub copied-map : {D R : Type 0} (f : D → R) (r : Option (Bor D)) → option_map (λ x. f x.now) r ≡ option_map f (option_copied r)
@@ -28,11 +29,11 @@ right_false false b h = h
 -- ---- one URI is changed
 
 -- this is held of the URI, and of the others what was
-abbrev pub PutsUnder : Bytes → Option Version → (Bytes → Option Version) → (Bytes → Option Version) → Type 0
+abbrev pub PutsUnder : {R : Type 0} → Bytes → Option R → (Bytes → Option R) → (Bytes → Option R) → Type 0
 PutsUnder uri w held next = (u : Bytes) → next u ≡ (if bytes_eq uri u then w else held u)
 
 -- what the map's own words say of a change
-pub puts : {D : Type 0} (f : D → Version) (uri : Bytes) (w : Option D) (es new : List (String Global × D)) → lookup (λ key. bytes_eq uri (string_bytes key)) new ≡ w
+pub puts : {D R : Type 0} (f : D → R) (uri : Bytes) (w : Option D) (es new : List (String Global × D)) → lookup (λ key. bytes_eq uri (string_bytes key)) new ≡ w
     → KeepsOthers string_eq (λ key. bytes_eq uri (string_bytes key)) es new → PutsUnder uri (option_map f w) (held_by f es) (held_by f new)
 unfolding KeepsOthers
 puts f uri w es new at keeps u =
@@ -45,19 +46,100 @@ puts f uri w es new at keeps u =
     ]
 
 -- the same under a key that bears the URI
-pub puts-key : {D : Type 0} (f : D → Version) (key : String Global) (uri : Bytes) → string_bytes key ≡ uri → (w : Option D) (es new : List (String Global × D))
+pub puts-key : {D R : Type 0} (f : D → R) (key : String Global) (uri : Bytes) → string_bytes key ≡ uri → (w : Option D) (es new : List (String Global × D))
     → lookup (λ k. bytes_eq (string_bytes key) (string_bytes k)) new ≡ w → KeepsOthers string_eq (λ k. bytes_eq (string_bytes key) (string_bytes k)) es new
     → PutsUnder uri (option_map f w) (held_by f es) (held_by f new)
 puts-key f key uri own w es new at keeps = subst (λ b. PutsUnder b (option_map f w) (held_by f es) (held_by f new)) own (puts f (string_bytes key) w es new at keeps)
 
 -- put and taken away again, nothing is changed
-pub puts-undone : (uri : Bytes) (w : Option Version) (held next last : Bytes → Option Version) → held uri ≡ None → PutsUnder uri w held next → PutsUnder uri None next last → held ≡ last
+pub puts-undone : {R : Type 0} (uri : Bytes) (w : Option R) (held next last : Bytes → Option R) → held uri ≡ None → PutsUnder uri w held next → PutsUnder uri None next last → held ≡ last
 puts-undone uri w held next last none first second = λ i u. same u i
   where
     same : (u : Bytes) → held u ≡ last u
     same u = elim (true_or_false (bytes_eq uri u)) [
       | inl p ↦ ap held (sym (uri_is uri u p)) ∙ (none ∙ sym (second u ∙ ap (λ b. if b then None else next u) p))
       | inr p ↦ sym (second u ∙ (ap (λ b. if b then None else next u) p ∙ (first u ∙ ap (λ b. if b then w else held u) p)))
+    ]
+
+-- ---- what is kept
+
+pub unmapped : {D R : Type 0} (f : D → R) (o : Option D) → option_map f o ≡ None → o ≡ None
+unmapped f None e = refl
+unmapped f (Some d) e = absurd (none-some (f d) (sym e))
+
+-- of a URI that is not held nothing is kept
+pub kept-absent : {D : Type 0} (f : D → Version) (g : D → List Version) (uri : Bytes) (es : List (String Global × D)) → held_by f es uri ≡ None → held_by g es uri ≡ None
+kept-absent f g uri es none = ap (option_map g) (unmapped f (lookup (λ key. bytes_eq uri (string_bytes key)) es) none)
+
+looked_up : (uri : Bytes) (uris : List Bytes) (held : Bytes → Option (List Version)) → kept_in uri (kept_of uris held) ≡ (if list_any (bytes_eq uri) uris then or_nothing (held uri) else [])
+looked_up uri [] held = refl
+looked_up uri (u ∷ uris) held =
+    elim (true_or_false (bytes_eq uri u)) [
+      | inl p ↦ rw p (ap (λ x. or_nothing (held x)) (sym (uri_is uri u p)))
+      | inr p ↦ rw p (looked_up uri uris held)
+    ]
+
+-- what is kept of each URI is what the map has of it
+pub kept_in-of : {D : Type 0} (f : D → Version) (g : D → List Version) (es : List (String Global × D)) (uris : List Bytes) → AreHeld uris (held_by f es)
+    → (uri : Bytes) → kept_in uri (kept_of uris (held_by g es)) ≡ or_nothing (held_by g es uri)
+kept_in-of f g es uris h uri =
+    looked_up uri uris (held_by g es)
+    ∙ elim (true_or_false (list_any (bytes_eq uri) uris)) [
+      | inl p ↦ rw p refl
+      | inr p ↦ rw p (sym (ap or_nothing (kept-absent f g uri es (h.others uri p))))
+    ]
+
+-- what is kept of each URI where this is put under one
+pub kept-under : (uri : Bytes) (o : Option (List Version)) (held next : Bytes → Option (List Version)) → PutsUnder uri o held next
+    → (u : Bytes) → or_nothing (next u) ≡ (if bytes_eq uri u then or_nothing o else or_nothing (held u))
+kept-under uri o held next put u =
+    ap or_nothing (put u) ∙ elim (true_or_false (bytes_eq uri u)) [ inl p ↦ rw p refl | inr p ↦ rw p refl ]
+
+-- where the same is kept of the one URI, the same is kept of all
+pub kept-unchanged : (uri : Bytes) (o : Option (List Version)) (held next : Bytes → Option (List Version)) → PutsUnder uri o held next → or_nothing (held uri) ≡ or_nothing o
+    → (u : Bytes) → or_nothing (next u) ≡ or_nothing (held u)
+kept-unchanged uri o held next put same u =
+    kept-under uri o held next put u
+    ∙ elim (true_or_false (bytes_eq uri u)) [
+      | inl p ↦ rw p (sym same ∙ ap (λ x. or_nothing (held x)) (uri_is uri u p))
+      | inr p ↦ rw p refl
+    ]
+
+module _ {D : Type 0} (f : D → Version) (g : D → List Version) (uri : Bytes) (es new : List (String Global × D)) (uris more : List Bytes)
+    (before : AreHeld uris (held_by f es)) (after : AreHeld more (held_by f new)) where
+  was : (u : Bytes) → kept_in u (kept_of uris (held_by g es)) ≡ or_nothing (held_by g es u)
+  was u = kept_in-of f g es uris before u
+
+  now : (u : Bytes) → kept_in u (kept_of more (held_by g new)) ≡ or_nothing (held_by g new u)
+  now u = kept_in-of f g new more after u
+
+  pub keeps-same : (o : Option (List Version)) → PutsUnder uri o (held_by g es) (held_by g new) → or_nothing (held_by g es uri) ≡ or_nothing o
+      → KeepsSame (kept_of uris (held_by g es)) (kept_of more (held_by g new))
+  keeps-same o put same u = now u ∙ (kept-unchanged uri o (held_by g es) (held_by g new) put same u ∙ sym (was u))
+
+  pub keeps-no : PutsUnder uri None (held_by g es) (held_by g new) → KeepsNone uri (kept_of uris (held_by g es)) (kept_of more (held_by g new))
+  keeps-no put u = now u ∙ (kept-under uri None (held_by g es) (held_by g new) put u ∙ ap (λ l. if bytes_eq uri u then [] else l) (sym (was u)))
+
+  -- the held version joins those that are kept of the URI
+  pub keeps-on : (most : ℕ) (h : Option Version) (v : Version) (ws : List Version) → PutsUnder uri (Some ws) (held_by g es) (held_by g new) → h ≡ Some v
+      → (length (or_nothing (held_by g es uri)) ≤ most → ws ≡ last_of most (or_nothing (held_by g es uri) ++ v ∷ []))
+      → KeepsOn most uri h (kept_of uris (held_by g es)) (kept_of more (held_by g new))
+  keeps-on most h v ws put is joins few u =
+      now u
+      ∙ (kept-under uri (Some ws) (held_by g es) (held_by g new) put u
+      ∙ elim (true_or_false (bytes_eq uri u)) [
+        | inl p ↦
+            let here : kept_in u (kept_of uris (held_by g es)) ≡ or_nothing (held_by g es uri) = was u ∙ ap (λ x. or_nothing (held_by g es x)) (sym (uri_is uri u p)) in
+            rw (p, is, here) (joins (subst (λ l. length l ≤ most) (was uri) few))
+        | inr p ↦ rw p (sym (was u))
+      ])
+
+-- of a URI that is not open nothing is kept
+pub kept-nothing : (uri : Bytes) (ks : List Kept) → kept_in uri ks ≡ [] → KeepsNone uri ks ks
+kept-nothing uri ks nothing u =
+    elim (true_or_false (bytes_eq uri u)) [
+      | inl p ↦ rw p (ap (λ x. kept_in x ks) (sym (uri_is uri u p)) ∙ nothing)
+      | inr p ↦ rw p refl
     ]
 
 -- ---- the list
@@ -290,7 +372,7 @@ without-absent uri (d ∷ hs) h =
       | inr p ↦ rw p (ap (λ l. d ∷ l) (without-absent uri hs (rw p at h)))
     ]
 
-pub puts-same : (uri : Bytes) (v : Version) (held next : Bytes → Option Version) → held uri ≡ Some v → PutsUnder uri (Some v) held next → next ≡ held
+pub puts-same : {R : Type 0} (uri : Bytes) (v : R) (held next : Bytes → Option R) → held uri ≡ Some v → PutsUnder uri (Some v) held next → next ≡ held
 puts-same uri v held next there put = λ i u. same u i
   where
     same : (u : Bytes) → next u ≡ held u

@@ -10,6 +10,8 @@ pub mod Stepping
 pub mod Entries
 pub mod Faults
 pub mod Accepted
+pub mod Rising
+pub mod Past
 pub mod Agreeing
 pub mod Bindings
 pub mod Setters

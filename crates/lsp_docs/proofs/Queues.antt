@@ -7,7 +7,7 @@ use Rattle.std.specs.Str.{bytes_eq}
 use Rattle.indexmap.specs.IndexMap.{insert_entry}
 use Rattle.lsp_docs.specs.Documents.{Version}
 use Rattle.lsp_docs.specs.State.{Queue, Waits, queue_of, keep_in, without_queue, add_in, total}
-use Rattle.lsp_docs.specs.Kept.{queues_in, lengths}
+use Rattle.lsp_docs.specs.Stored.{queues_in, lengths}
 use Rattle.lsp_docs.proofs.Words.{true_or_false}
 
 -- a key other than the first entry's finds what it finds in the rest

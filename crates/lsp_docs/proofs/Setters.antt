@@ -1,6 +1,6 @@
 -- A snapshot is compared exactly where a call sets its version for its opening.
 use Rattle.std.proofs.Common.{◌≡◌, ℕ, ◌+◌, ◌⊎◌, Bool, true, false, ◌&&◌, ◌||◌, List, [], ◌∷◌, ◌++◌, length, refl, sym, ap, ◌∙◌, subst, Option, Some, None, inl, inr, append_assoc, append-nil, true≢false, arith, length-append}
-use Rattle.std.specs.Prelude.{ℤ, int_lt, not, is_some, if◌then◌else◌, option_map}
+use Rattle.std.specs.Prelude.{ℤ, not, is_some, if◌then◌else◌, option_map}
 use Rattle.std.specs.List.{list_any}
 use Rattle.std.specs.Option.{option_or}
 use Rattle.std.specs.Ordering.{int_eq}
@@ -10,16 +10,21 @@ use Rattle.std.proofs.lemmas.Cmp.{int_eq_equiv}
 use Rattle.std.proofs.lemmas.List.Folds.{list_any-append}
 use Rattle.std.proofs.lemmas.Option.{same_Some, none-some}
 use Rattle.lsp_docs.specs.Texts.{Text}
+use Rattle.lsp_docs.specs.Terms.{Terms}
 use Rattle.lsp_text.specs.Edits.{applied}
-use Rattle.lsp_docs.specs.Calls.{Bytes, Call, opens, changes, closes, saves, shows, is_close, is_change}
-use Rattle.lsp_docs.specs.Documents.{Version, versioned, opening, text_or, held}
-use Rattle.lsp_docs.specs.Snapshots.{holds_number, sets, comes_to, is_compared}
+use Rattle.lsp_docs.specs.Calls.{Bytes, Call, opens, changes, closes, saves, shows, is_close}
+use Rattle.lsp_docs.specs.Documents.{Version, versioned, is_at, opening, text_or, held}
+use Rattle.lsp_docs.specs.Kept.{past, kept}
+use Rattle.lsp_docs.specs.Snapshots.{holds_number, has_number, sets, comes_to, is_compared}
 use Rattle.lsp_docs.specs.Rules.{show_rule, call_rule, AreAcceptedFrom, AreAccepted}
 use Rattle.lsp_docs.specs.Binding.{standing, next_opening, binding, IsSet}
 use Rattle.lsp_docs.proofs.Words.{true_or_false, both_parts, either, int_is, unchanged, uri_is}
 use Rattle.lsp_docs.proofs.HeldSteps.{next_held, held-snoc}
 use Rattle.lsp_docs.proofs.WaitingSteps.{none_row, no_some, change_parts}
 use Rattle.lsp_docs.proofs.Accepted.{accepted-split, risen}
+use Rattle.lsp_docs.proofs.Rising.{Among, among-any, among-drop, among-below, among-last, any-among}
+use Rattle.lsp_docs.proofs.Past.{WasHeld, past-held, past-rises-to, was-held}
+use Rattle.lsp_docs.proofs.Agreeing.{shown-late}
 use Rattle.lsp_docs.proofs.Unmatched.{set_opens}
 use Rattle.lsp_docs.proofs.Bindings.{mapped, Cuts, earlier, later, cuts, held-standing, any_behind, behind, ahead}
 
@@ -165,92 +170,92 @@ binding-stands uri front m rest u n t i open_still at = go (standing uri front) 
 
 -- ---- a call that sets a version
 
-record HeldAt (limit : ℕ) (uri : Bytes) (calls : List Call) (n : ℤ) : Type 0 where
+record HeldAt (terms : Terms) (uri : Bytes) (calls : List Call) (n : ℤ) : Type 0 where
   version : Version
-  is : held limit uri calls ≡ Some version
+  is : held terms uri calls ≡ Some version
   number : version.number ≡ n
 
-set-held : (limit : ℕ) (uri : Bytes) (n : ℤ) (calls : List Call) (c : Call) → call_rule limit calls c ≡ None → sets uri n c ≡ true → HeldAt limit uri (calls ++ c ∷ []) n
-set-held limit uri n calls (opens u m t) e h =
+set-held : (terms : Terms) (uri : Bytes) (n : ℤ) (calls : List Call) (c : Call) → call_rule terms calls c ≡ None → sets uri n c ≡ true → HeldAt terms uri (calls ++ c ∷ []) n
+set-held terms uri n calls (opens u m t) e h =
     let parts = both_parts (bytes_eq uri u) (int_eq m n) h in
-    let none = no_some (held limit u calls) (none_row (is_some (held limit u calls)) 601 _ e).0 in
-    let here : held limit uri calls ≡ None = ap (λ x. held limit x calls) (uri_is uri u parts.0) ∙ none in
-    record { version = versioned m t; is = held-snoc limit uri calls (opens u m t) ∙ (ap (λ x. next_held limit uri x (opens u m t)) here ∙ rw (parts.0) refl); number = int_is m n parts.1 }
-set-held limit uri n calls (changes enc k u m cs) e h =
+    let none = no_some (held terms u calls) (none_row (is_some (held terms u calls)) 601 _ e).0 in
+    let here : held terms uri calls ≡ None = ap (λ x. held terms x calls) (uri_is uri u parts.0) ∙ none in
+    record { version = versioned m t; is = held-snoc terms uri calls (opens u m t) ∙ (ap (λ x. next_held terms uri x (opens u m t)) here ∙ rw (parts.0) refl); number = int_is m n parts.1 }
+set-held terms uri n calls (changes enc k u m cs) e h =
     let both = both_parts (bytes_eq uri u) (int_eq m n) h in
-    let parts = change_parts limit _ enc k m cs (held limit u calls) e in
-    let here : held limit uri calls ≡ Some parts.old = ap (λ x. held limit x calls) (uri_is uri u both.0) ∙ parts.is in
-    let new : Version = versioned m (text_or parts.old.text (applied limit enc parts.old.text cs)) in
-    let changed : next_held limit uri (Some parts.old) (changes enc k u m cs) ≡ Some new = rw (both.0) refl in
-    record { version = new; is = held-snoc limit uri calls (changes enc k u m cs) ∙ (ap (λ x. next_held limit uri x (changes enc k u m cs)) here ∙ changed); number = int_is m n both.1 }
-set-held limit uri n calls (closes u) e h = absurd (true≢false (sym h))
-set-held limit uri n calls (saves u t) e h = absurd (true≢false (sym h))
-set-held limit uri n calls (shows u m t) e h = absurd (true≢false (sym h))
+    let parts = change_parts terms _ enc k m cs (held terms u calls) e in
+    let here : held terms uri calls ≡ Some parts.old = ap (λ x. held terms x calls) (uri_is uri u both.0) ∙ parts.is in
+    let new : Version = versioned m (text_or parts.old.text (applied terms.limit enc parts.old.text cs)) in
+    let changed : next_held terms uri (Some parts.old) (changes enc k u m cs) ≡ Some new = rw (both.0) refl in
+    record { version = new; is = held-snoc terms uri calls (changes enc k u m cs) ∙ (ap (λ x. next_held terms uri x (changes enc k u m cs)) here ∙ changed); number = int_is m n both.1 }
+set-held terms uri n calls (closes u) e h = absurd (true≢false (sym h))
+set-held terms uri n calls (saves u t) e h = absurd (true≢false (sym h))
+set-held terms uri n calls (shows u m t) e h = absurd (true≢false (sym h))
 
 plain : (s : Option ℕ) → option_or s None ≡ s
 plain None = refl
 plain (Some i) = refl
 
 -- a call that does not set the version that is held after it leaves what is held, and closes and opens nothing
-left : (limit : ℕ) (uri : Bytes) (calls : List Call) (c : Call) (w : Version) → call_rule limit calls c ≡ None → next_held limit uri (held limit uri calls) c ≡ Some w → sets uri w.number c ≡ false
-    → (held limit uri calls ≡ Some w) × (is_close uri c ≡ false) × (is_some (opening uri c) ≡ false)
-left limit uri calls (opens u m t) w e now other =
+left : (terms : Terms) (uri : Bytes) (calls : List Call) (c : Call) (w : Version) → call_rule terms calls c ≡ None → next_held terms uri (held terms uri calls) c ≡ Some w → sets uri w.number c ≡ false
+    → (held terms uri calls ≡ Some w) × (is_close uri c ≡ false) × (is_some (opening uri c) ≡ false)
+left terms uri calls (opens u m t) w e now other =
     elim (true_or_false (bytes_eq uri u)) [
       | inl p ↦
-          let none = no_some (held limit u calls) (none_row (is_some (held limit u calls)) 601 _ e).0 in
-          let here : held limit uri calls ≡ None = ap (λ x. held limit x calls) (uri_is uri u p) ∙ none in
-          let new : next_held limit uri None (opens u m t) ≡ Some (versioned m t) = rw p refl in
-          let same = same_Some (versioned m t) w (sym (ap (λ x. next_held limit uri x (opens u m t)) here ∙ new) ∙ now) in
+          let none = no_some (held terms u calls) (none_row (is_some (held terms u calls)) 601 _ e).0 in
+          let here : held terms uri calls ≡ None = ap (λ x. held terms x calls) (uri_is uri u p) ∙ none in
+          let new : next_held terms uri None (opens u m t) ≡ Some (versioned m t) = rw p refl in
+          let same = same_Some (versioned m t) w (sym (ap (λ x. next_held terms uri x (opens u m t)) here ∙ new) ∙ now) in
           let number : m ≡ w.number = ap (λ (x : Version). x.number) same in
           absurd (true≢false (sym (rw (p, number) (int_eq_equiv.refl w.number)) ∙ other))
       | inr p ↦
-          let rest : next_held limit uri (held limit uri calls) (opens u m t) ≡ held limit uri calls = rw p (unchanged (held limit uri calls)) in
+          let rest : next_held terms uri (held terms uri calls) (opens u m t) ≡ held terms uri calls = rw p (unchanged (held terms uri calls)) in
           (sym rest ∙ now, refl, rw p refl)
     ]
-left limit uri calls (changes enc k u m cs) w e now other =
+left terms uri calls (changes enc k u m cs) w e now other =
     elim (true_or_false (bytes_eq uri u)) [
       | inl p ↦
-          let parts = change_parts limit _ enc k m cs (held limit u calls) e in
-          let here : held limit uri calls ≡ Some parts.old = ap (λ x. held limit x calls) (uri_is uri u p) ∙ parts.is in
-          let new : Version = versioned m (text_or parts.old.text (applied limit enc parts.old.text cs)) in
-          let changed : next_held limit uri (Some parts.old) (changes enc k u m cs) ≡ Some new = rw p refl in
-          let same = same_Some new w (sym (ap (λ x. next_held limit uri x (changes enc k u m cs)) here ∙ changed) ∙ now) in
+          let parts = change_parts terms _ enc k m cs (held terms u calls) e in
+          let here : held terms uri calls ≡ Some parts.old = ap (λ x. held terms x calls) (uri_is uri u p) ∙ parts.is in
+          let new : Version = versioned m (text_or parts.old.text (applied terms.limit enc parts.old.text cs)) in
+          let changed : next_held terms uri (Some parts.old) (changes enc k u m cs) ≡ Some new = rw p refl in
+          let same = same_Some new w (sym (ap (λ x. next_held terms uri x (changes enc k u m cs)) here ∙ changed) ∙ now) in
           let number : m ≡ w.number = ap (λ (x : Version). x.number) same in
           absurd (true≢false (sym (rw (p, number) (int_eq_equiv.refl w.number)) ∙ other))
       | inr p ↦
-          let rest : next_held limit uri (held limit uri calls) (changes enc k u m cs) ≡ held limit uri calls = rw p (unchanged (held limit uri calls)) in
+          let rest : next_held terms uri (held terms uri calls) (changes enc k u m cs) ≡ held terms uri calls = rw p (unchanged (held terms uri calls)) in
           (sym rest ∙ now, refl, refl)
     ]
-left limit uri calls (closes u) w e now other =
+left terms uri calls (closes u) w e now other =
     elim (true_or_false (bytes_eq uri u)) [
-      | inl p ↦ absurd (none-some w (sym (ap (λ b. if b then None else option_or (option_map (λ v. v) (held limit uri calls)) None) p) ∙ now))
+      | inl p ↦ absurd (none-some w (sym (ap (λ b. if b then None else option_or (option_map (λ v. v) (held terms uri calls)) None) p) ∙ now))
       | inr p ↦
-          let rest : next_held limit uri (held limit uri calls) (closes u) ≡ held limit uri calls = rw p (unchanged (held limit uri calls)) in
+          let rest : next_held terms uri (held terms uri calls) (closes u) ≡ held terms uri calls = rw p (unchanged (held terms uri calls)) in
           (sym rest ∙ now, p, refl)
     ]
-left limit uri calls (saves u t) w e now other = (sym (unchanged (held limit uri calls)) ∙ now, refl, refl)
-left limit uri calls (shows u n t) w e now other = (sym (unchanged (held limit uri calls)) ∙ now, refl, refl)
+left terms uri calls (saves u t) w e now other = (sym (unchanged (held terms uri calls)) ∙ now, refl, refl)
+left terms uri calls (shows u n t) w e now other = (sym (unchanged (held terms uri calls)) ∙ now, refl, refl)
 
 -- what is held after the calls was set by one of them, and its opening has stood since
-set-before : (limit : ℕ) (uri : Bytes) (calls more : List Call) → AreAcceptedFrom limit calls more
-    → ((v : Version) (i : ℕ) → held limit uri calls ≡ Some v → standing uri calls ≡ Some i → IsSet uri v.number calls i)
-    → (v : Version) (i : ℕ) → held limit uri (calls ++ more) ≡ Some v → standing uri (calls ++ more) ≡ Some i → IsSet uri v.number (calls ++ more) i
-set-before limit uri calls [] h so_far v i now at =
-    subst (λ l. IsSet uri v.number l i) (sym (append-nil calls)) (so_far v i (ap (held limit uri) (sym (append-nil calls)) ∙ now) (ap (standing uri) (sym (append-nil calls)) ∙ at))
-set-before limit uri calls (c ∷ more) h so_far v i now at =
+set-before : (terms : Terms) (uri : Bytes) (calls more : List Call) → AreAcceptedFrom terms calls more
+    → ((v : Version) (i : ℕ) → held terms uri calls ≡ Some v → standing uri calls ≡ Some i → IsSet uri v.number calls i)
+    → (v : Version) (i : ℕ) → held terms uri (calls ++ more) ≡ Some v → standing uri (calls ++ more) ≡ Some i → IsSet uri v.number (calls ++ more) i
+set-before terms uri calls [] h so_far v i now at =
+    subst (λ l. IsSet uri v.number l i) (sym (append-nil calls)) (so_far v i (ap (held terms uri) (sym (append-nil calls)) ∙ now) (ap (standing uri) (sym (append-nil calls)) ∙ at))
+set-before terms uri calls (c ∷ more) h so_far v i now at =
     let cut = append_assoc calls (c ∷ []) more in
     subst (λ l. IsSet uri v.number l i) cut
-    (set-before limit uri (calls ++ c ∷ []) more h.1 (λ w j held_now stands. step w j held_now stands) v i (ap (held limit uri) cut ∙ now) (ap (standing uri) cut ∙ at))
+    (set-before terms uri (calls ++ c ∷ []) more h.1 (λ w j held_now stands. step w j held_now stands) v i (ap (held terms uri) cut ∙ now) (ap (standing uri) cut ∙ at))
   where
     set_here : (w : Version) (j : ℕ) → standing uri (calls ++ c ∷ []) ≡ Some j → sets uri w.number c ≡ true → IsSet uri w.number (calls ++ c ∷ []) j
     set_here w j stands p = record { before = calls; call = c; after = []; whole = refl; comes = p; stands = stands }
 
-    step : (w : Version) (j : ℕ) → held limit uri (calls ++ c ∷ []) ≡ Some w → standing uri (calls ++ c ∷ []) ≡ Some j → IsSet uri w.number (calls ++ c ∷ []) j
+    step : (w : Version) (j : ℕ) → held terms uri (calls ++ c ∷ []) ≡ Some w → standing uri (calls ++ c ∷ []) ≡ Some j → IsSet uri w.number (calls ++ c ∷ []) j
     step w j held_now stands =
         elim (true_or_false (sets uri w.number c)) [
           | inl p ↦ set_here w j stands p
           | inr p ↦
-              let kept = left limit uri calls c w h.0 (sym (held-snoc limit uri calls c) ∙ held_now) p in
+              let kept = left terms uri calls c w h.0 (sym (held-snoc terms uri calls c) ∙ held_now) p in
               let before = standing-one uri calls c (standing uri calls) false kept.1 refl kept.2 in
               let was = so_far w j kept.0 (sym (plain (standing uri calls)) ∙ (sym before ∙ stands)) in
               record {
@@ -296,15 +301,15 @@ comes_at uri n (c ∷ calls) h =
           }
     ]
 
+or_true : (b : Bool) → (b || true) ≡ true
+or_true true = refl
+or_true false = refl
+
 comes_there : (uri : Bytes) (n : ℤ) (mid : List Call) (c : Call) (after : List Call) → list_any (is_close uri) mid ≡ false → sets uri n c ≡ true → comes_to uri n (mid ++ c ∷ after) ≡ true
 comes_there uri n [] c after h p = rw p refl
 comes_there uri n (d ∷ mid) c after h p =
     let closing = or_parts (is_close uri d) (list_any (is_close uri) mid) h in
     rw (closing.0, comes_there uri n mid c after closing.1 p) (or_true (sets uri n d))
-  where
-    or_true : (b : Bool) → (b || true) ≡ true
-    or_true true = refl
-    or_true false = refl
 
 holds-number : (n : ℤ) (o : Option Version) → holds_number n o ≡ true → (v : Version) × (o ≡ Some v) × (v.number ≡ n)
 holds-number n None h = absurd (true≢false (sym h))
@@ -316,29 +321,44 @@ or_false_parts false true h e = true≢false h
 or_false_parts false false h (inl e) = true≢false (sym e)
 or_false_parts false false h (inr e) = true≢false (sym e)
 
-module _ (limit : ℕ) (front back : List Call) (uri : Bytes) (n : ℤ) (t : Text) (h : AreAccepted limit (front ++ shows uri n t ∷ back)) where
+module _ (terms : Terms) (front back : List Call) (uri : Bytes) (n : ℤ) (t : Text) (h : AreAccepted terms (front ++ shows uri n t ∷ back)) where
   abbrev s : Call
   s = shows uri n t
 
   abbrev HasSetter : Type 0
   HasSetter = (place : ℕ) × (binding uri front back ≡ Some place) × IsSet uri n (front ++ s ∷ back) place
 
-  held_there : holds_number n (held limit uri front) ≡ true → HasSetter
-  held_there p =
-      let now = holds-number n (held limit uri front) p in
-      let at = held-standing limit uri front now.0 now.1 in
-      let was = set-before limit uri [] front (accepted-split limit [] front (s ∷ back) h).0 (λ v i e. absurd (none-some v e)) now.0 at.0 now.1 at.1 in (
+  -- the version was held after a prefix of the calls, with no close behind it
+  held_then : (v : Version) → WasHeld terms uri front v → v.number ≡ n → HasSetter
+  held_then v so_far number =
+      let at = held-standing terms uri so_far.before v so_far.is in
+      let accepted = (accepted-split terms [] so_far.before so_far.more (subst (AreAccepted terms) so_far.whole (accepted-split terms [] front (s ∷ back) h).0)).0 in
+      let was = set-before terms uri [] so_far.before accepted (λ w i e. absurd (none-some w e)) v at.0 so_far.is at.1 in
+      let stands : standing uri front ≡ Some at.0 = ap (standing uri) so_far.whole ∙ standing-kept uri so_far.before so_far.more at.0 so_far.still_open at.1 in (
         at.0,
-        ap (λ o. option_or o (option_map (λ i. length front + 1 + i) (next_opening uri back))) at.1,
+        ap (λ o. option_or o (option_map (λ i. length front + 1 + i) (next_opening uri back))) stands,
         record {
           before = was.before;
           call = was.call;
-          after = was.after ++ s ∷ back;
-          whole = ap (λ l. l ++ s ∷ back) was.whole ∙ append_assoc was.before (was.call ∷ was.after) (s ∷ back);
-          comes = ap (λ x. sets uri x was.call) (sym now.2) ∙ was.comes;
+          after = was.after ++ (so_far.more ++ s ∷ back);
+          whole = ap (λ l. l ++ s ∷ back) so_far.whole
+              ∙ (append_assoc so_far.before so_far.more (s ∷ back)
+              ∙ (ap (λ l. l ++ (so_far.more ++ s ∷ back)) was.whole ∙ append_assoc was.before (was.call ∷ was.after) (so_far.more ++ s ∷ back)));
+          comes = ap (λ x. sets uri x was.call) (sym number) ∙ was.comes;
           stands = was.stands;
         },
       )
+
+  held_there : has_number n (kept terms uri front) (held terms uri front) ≡ true → HasSetter
+  held_there p =
+      elim (either (list_any (is_at n) (kept terms uri front)) (holds_number n (held terms uri front)) p) [
+        | inl q ↦
+            let one = any-among (is_at n) (kept terms uri front) q in
+            held_then one.version (past-held terms uri front one.version (among-drop one.version _ (past terms uri front) one.among)) (int_is one.version.number n one.passes)
+        | inr q ↦
+            let now = holds-number n (held terms uri front) q in
+            held_then now.0 (record { before = front; more = []; whole = sym (append-nil front); is = now.1; still_open = refl }) now.2
+      ]
 
   comes_later : comes_to uri n back ≡ true → HasSetter
   comes_later p =
@@ -347,17 +367,17 @@ module _ (limit : ℕ) (front back : List Call) (uri : Bytes) (n : ℤ) (t : Tex
       let parts : back ≡ m ++ at.after = at.whole ∙ sym (append_assoc at.before (at.call ∷ []) at.after) in
       let still : list_any (is_close uri) m ≡ false = list_any-append (is_close uri) at.before (at.call ∷ []) ∙ rw (at.still_open, set_opens uri n at.call at.comes) refl in
       let cut : front ++ s ∷ back ≡ (front ++ s ∷ at.before) ++ (at.call ∷ at.after) = ap (λ l. front ++ s ∷ l) at.whole ∙ sym (append_assoc front (s ∷ at.before) (at.call ∷ at.after)) in
-      let accepted = (accepted-split limit [] (front ++ s ∷ at.before) (at.call ∷ at.after) (subst (AreAccepted limit) cut h)).1.0 in
-      let now = set-held limit uri n (front ++ s ∷ at.before) at.call accepted at.comes in
-      let stands = held-standing limit uri ((front ++ s ∷ at.before) ++ at.call ∷ []) now.version now.is in
+      let accepted = (accepted-split terms [] (front ++ s ∷ at.before) (at.call ∷ at.after) (subst (AreAccepted terms) cut h)).1.0 in
+      let now = set-held terms uri n (front ++ s ∷ at.before) at.call accepted at.comes in
+      let stands = held-standing terms uri ((front ++ s ∷ at.before) ++ at.call ∷ []) now.version now.is in
       let place : standing uri (front ++ s ∷ m) ≡ Some stands.0 = ap (standing uri) (sym (append_assoc front (s ∷ at.before) (at.call ∷ []))) ∙ stands.1 in (
         stands.0,
         ap (binding uri front) parts ∙ binding-stands uri front m at.after uri n t stands.0 still place,
         record { before = front ++ s ∷ at.before; call = at.call; after = at.after; whole = cut; comes = at.comes; stands = stands.1 },
       )
 
-  pub has-setter : is_compared limit front uri n back ≡ true → HasSetter
-  has-setter p = elim (either (holds_number n (held limit uri front)) (comes_to uri n back) p) [ inl q ↦ held_there q | inr q ↦ comes_later q ]
+  pub has-setter : is_compared terms front uri n back ≡ true → HasSetter
+  has-setter p = elim (either (has_number n (kept terms uri front) (held terms uri front)) (comes_to uri n back) p) [ inl q ↦ held_there q | inr q ↦ comes_later q ]
 
   -- ---- a setter brings a comparison
 
@@ -365,36 +385,44 @@ module _ (limit : ℕ) (front back : List Call) (uri : Bytes) (n : ℤ) (t : Tex
       → standing uri ((front ++ s ∷ mid) ++ c ∷ []) ≡ Some place → comes_to uri n back ≡ true
   set_behind place mid c after q p bound stands =
       let cut : front ++ s ∷ back ≡ (front ++ s ∷ mid) ++ (c ∷ after) = ap (λ l. front ++ s ∷ l) q ∙ sym (append_assoc front (s ∷ mid) (c ∷ after)) in
-      let parts = accepted-split limit [] (front ++ s ∷ mid) (c ∷ after) (subst (AreAccepted limit) cut h) in
-      let now = set-held limit uri n (front ++ s ∷ mid) c parts.1.0 p in
+      let parts = accepted-split terms [] (front ++ s ∷ mid) (c ∷ after) (subst (AreAccepted terms) cut h) in
+      let now = set-held terms uri n (front ++ s ∷ mid) c parts.1.0 p in
       let join : (front ++ s ∷ mid) ++ c ∷ [] ≡ front ++ s ∷ (mid ++ c ∷ []) = append_assoc front (s ∷ mid) (c ∷ []) in
       let ends : (front ++ s ∷ mid) ++ (c ∷ after) ≡ ((front ++ s ∷ mid) ++ c ∷ []) ++ after = sym (append_assoc (front ++ s ∷ mid) (c ∷ []) after) in
-      let accepted = subst (AreAccepted limit) join (accepted-split limit [] ((front ++ s ∷ mid) ++ c ∷ []) after (subst (AreAccepted limit) (cut ∙ ends) h)).0 in
+      let accepted = subst (AreAccepted terms) join (accepted-split terms [] ((front ++ s ∷ mid) ++ c ∷ []) after (subst (AreAccepted terms) (cut ∙ ends) h)).0 in
       let same : binding uri front ((mid ++ c ∷ []) ++ after) ≡ standing uri (front ++ s ∷ (mid ++ c ∷ [])) =
       ap (binding uri front) (append_assoc mid (c ∷ []) after ∙ sym q) ∙ (bound ∙ (sym stands ∙ ap (standing uri) join)) in
-      let still = behind limit uri n t front (mid ++ c ∷ []) after now.version accepted (ap (held limit uri) (sym join) ∙ now.is) same in
+      let still = behind terms uri n t front (mid ++ c ∷ []) after now.version accepted (ap (held terms uri) (sym join) ∙ now.is) same in
       ap (comes_to uri n) q ∙ comes_there uri n mid c after (any_behind uri mid (c ∷ []) still).0 p
 
   set_ahead : (place : ℕ) (before mid : List Call) (c : Call) → front ≡ (before ++ c ∷ []) ++ mid → sets uri n c ≡ true → binding uri front back ≡ Some place
-      → standing uri (before ++ c ∷ []) ≡ Some place → holds_number n (held limit uri front) ≡ true
+      → standing uri (before ++ c ∷ []) ≡ Some place → has_number n (kept terms uri front) (held terms uri front) ≡ true
   set_ahead place before mid c q p bound stands =
-      let parts = accepted-split limit [] front (s ∷ back) h in
-      let own = accepted-split limit [] (before ++ c ∷ []) mid (subst (AreAccepted limit) q parts.0) in
-      let now = set-held limit uri n before c (accepted-split limit [] before (c ∷ []) own.0).1.0 p in
-      let still = ahead limit uri n t (before ++ c ∷ []) mid back now.version now.is (ap (λ l. binding uri l back) (sym q) ∙ (bound ∙ sym stands)) in
-      let r = risen limit uri (before ++ c ∷ []) mid now.version own.1 still now.is in
-      let here : held limit uri front ≡ Some r.version = ap (held limit uri) q ∙ r.held in
-      let rule : show_rule n t (Some r.version) ≡ None = subst (λ o. show_rule n t o ≡ None) here parts.1.0 in
-      elim (true_or_false (list_any (is_change uri) mid)) [
-        | inl x ↦
-            let late = (none_row (int_lt n r.version.number) 701 _ rule).0 in
-            absurd (true≢false (sym (r.rises x) ∙ (ap (λ m. int_lt m r.version.number) now.number ∙ late)))
-        | inr x ↦
-            let number : r.version.number ≡ n = ap (λ (v : Version). v.number) (sym (r.stays x)) ∙ now.number in
-            ap (holds_number n) here ∙ (ap (λ m. int_eq m n) number ∙ int_eq_equiv.refl n)
+      let parts = accepted-split terms [] front (s ∷ back) h in
+      let own = accepted-split terms [] (before ++ c ∷ []) mid (subst (AreAccepted terms) q parts.0) in
+      let now = set-held terms uri n before c (accepted-split terms [] before (c ∷ []) own.0).1.0 p in
+      let still = ahead terms uri n t (before ++ c ∷ []) mid back now.version now.is (ap (λ l. binding uri l back) (sym q) ∙ (bound ∙ sym stands)) in
+      let r = risen terms uri (before ++ c ∷ []) mid now.version own.1 still now.is in
+      let here : held terms uri front ≡ Some r.version = ap (held terms uri) q ∙ r.held in
+      let ks = kept terms uri front in
+      let rule : show_rule n t ks (Some r.version) ≡ None = subst (λ o. show_rule n t ks o ≡ None) here parts.1.0 in
+      elim (subst (λ l. (held terms uri l ≡ Some now.version) ⊎ Among now.version (past terms uri l)) (sym q) (was-held terms uri (before ++ c ∷ []) mid now.version own.1 still (inl now.is))) [
+        | inl same ↦ has_held ks (held terms uri front) (ap (holds_number n) same ∙ (ap (λ m. int_eq m n) now.number ∙ int_eq_equiv.refl n))
+        | inr m ↦
+            let rising = past-rises-to terms uri front r.version parts.0 here in
+            elim (among-last terms.kept (past terms uri front) (r.version ∷ []) now.version rising m) [
+              | inl k ↦ has_kept ks (held terms uri front) (among-any (is_at n) now.version ks k (ap (λ m. int_eq m n) now.number ∙ int_eq_equiv.refl n))
+              | inr below ↦ absurd (shown-late n t ks r.version rule now.version below (among-below (past terms uri front) now.version r.version rising m) now.number)
+            ]
       ]
+    where
+      has_held : (ks : List Version) (o : Option Version) → holds_number n o ≡ true → has_number n ks o ≡ true
+      has_held ks o e = ap (λ b. list_any (is_at n) ks || b) e ∙ or_true (list_any (is_at n) ks)
 
-  pub no-setter : is_compared limit front uri n back ≡ false → (place : ℕ) → binding uri front back ≡ Some place → IsSet uri n (front ++ s ∷ back) place → ⊥
+      has_kept : (ks : List Version) (o : Option Version) → list_any (is_at n) ks ≡ true → has_number n ks o ≡ true
+      has_kept ks o e = ap (λ b. b || holds_number n o) e
+
+  pub no-setter : is_compared terms front uri n back ≡ false → (place : ℕ) → binding uri front back ≡ Some place → IsSet uri n (front ++ s ∷ back) place → ⊥
   no-setter none place bound set = go (cuts set.before (set.call ∷ set.after) front s back (sym set.whole))
     where
       inside : (mid : List Call) → front ≡ set.before ++ mid → set.call ∷ set.after ≡ mid ++ s ∷ back → ⊥
@@ -404,10 +432,10 @@ module _ (limit : ℕ) (front back : List Call) (uri : Bytes) (n : ℤ) (t : Tex
       inside (x ∷ mid) p q =
           let same : set.call ≡ x = cc q in
           let cut : front ≡ (set.before ++ set.call ∷ []) ++ mid = p ∙ (ap (λ c. set.before ++ c ∷ mid) (sym same) ∙ sym (append_assoc set.before (set.call ∷ []) mid)) in
-          or_false_parts (holds_number n (held limit uri front)) (comes_to uri n back) none (inl (set_ahead place set.before mid set.call cut set.comes bound set.stands))
+          or_false_parts (has_number n (kept terms uri front) (held terms uri front)) (comes_to uri n back) none (inl (set_ahead place set.before mid set.call cut set.comes bound set.stands))
 
       go : Cuts set.before (set.call ∷ set.after) front s back → ⊥
       go (earlier mid p q) =
-          or_false_parts (holds_number n (held limit uri front)) (comes_to uri n back) none
+          or_false_parts (has_number n (kept terms uri front) (held terms uri front)) (comes_to uri n back) none
           (inr (set_behind place mid set.call set.after q set.comes bound (ap (λ l. standing uri (l ++ set.call ∷ [])) (sym p) ∙ set.stands)))
       go (later mid p q) = inside mid p q

@@ -1,9 +1,8 @@
 -- What stands for a list of calls, from one accepted call to the next.
-use Rattle.std.proofs.Common.{◌≡◌, ℕ, Bool, true, false, ◌&&◌, List, [], ◌∷◌, ◌++◌, refl, sym, ap, ◌∙◌, Option, Some, None, inl, inr, append-nil, subst, Result, Ok, true≢false, arith}
-use Rattle.std.proofs.lemmas.Int.{ints}
+use Rattle.std.proofs.Common.{◌≡◌, ℕ, ◌≤◌, Bool, true, false, ◌&&◌, List, [], ◌∷◌, ◌++◌, length, refl, sym, ap, ◌∙◌, Option, Some, None, inl, inr, append-nil, subst, Result, Ok, arith, true≢false}
 use Rattle.std.proofs.lemmas.Bool.{or_parts}
 use Rattle.std.proofs.lemmas.Bool.Decides.{Decides-int_eq}
-use Rattle.std.specs.Prelude.{if◌then◌else◌, ℤ, not, is_some, int_lt, nat_lt}
+use Rattle.std.specs.Prelude.{if◌then◌else◌, ℤ, not, is_some, int_lt, nat_lt, option_to_list}
 use Rattle.std.specs.Str.{bytes_eq}
 use Rattle.std.specs.Ordering.{int_eq}
 use Rattle.std.specs.List.{list_any}
@@ -13,78 +12,147 @@ use Rattle.lsp_types.specs.declared.change.SyncKind.{SyncKind}
 use Rattle.lsp_docs.specs.declared.fault.DocFault.{DocFault}
 use Rattle.lsp_docs.specs.declared.fault.DocFault.TheVariants.{Rule, Memory}
 use Rattle.lsp_docs.specs.Texts.{Text, byte_len}
+use Rattle.lsp_docs.specs.Terms.{Terms}
 use Rattle.lsp_text.specs.Edits.{Edit, applied}
-use Rattle.lsp_docs.specs.Calls.{Bytes, Call, opens, changes, closes, saves, shows, uri_of}
-use Rattle.lsp_docs.specs.Documents.{Version, versioned, held, Held, documents}
-use Rattle.lsp_docs.specs.Snapshots.{is_ahead, holds_number}
+use Rattle.lsp_docs.specs.Calls.{Bytes, Call, opens, changes, closes, saves, shows, uri_of, is_close, is_change}
+use Rattle.lsp_docs.specs.Documents.{Version, versioned, held, Held, documents, is_at}
+use Rattle.lsp_docs.specs.Kept.{past, last_of, kept}
+use Rattle.lsp_docs.specs.Snapshots.{is_ahead, has_number, shown_entry}
+use Rattle.lsp_docs.specs.Missed.{missed_at}
 use Rattle.lsp_docs.specs.Rules.{rule_of, call_rule, version_rule, text_rule, differs, fits_kind, change_rule}
-use Rattle.lsp_docs.specs.State.{State, Waits, held_in, set_in, without, queue_of, without_queue, reached, released, shown_to, Stands, rule_at, text_in, changed_at, early_rule, is_at}
+use Rattle.lsp_docs.specs.State.{State, Waits, held_in, set_in, without, queue_of, without_queue, reached, released, missed_one, shown_to, Kept, kept_in, KeepsSame, KeepsOn, KeepsNone, Stands, rule_at, text_in, changed_at, early_rule}
 use Rattle.lsp_docs.specs.Fault.{Names}
 use Rattle.lsp_docs.specs.Answer.{answer_of}
+use Rattle.lsp_docs.specs.declared.snapshot.Match.{Match}
 use Rattle.lsp_docs.specs.declared.snapshot.Match.TheVariants as answers
-use Rattle.lsp_docs.proofs.Words.{true_or_false, unchanged}
+use Rattle.lsp_docs.proofs.Words.{true_or_false, uri_is, uri_flip, unchanged}
 use Rattle.lsp_docs.proofs.HeldSteps.{held-snoc}
 use Rattle.lsp_docs.proofs.DocumentSteps.{documents-push, held-documents, all_stay, all_saved, all_shown, closed_is, changed_is}
 use Rattle.lsp_docs.proofs.WaitingSteps.{change_parts, none_row}
-use Rattle.lsp_docs.proofs.Standing.{accepted-push, documents-distinct, waits-opened, waits-changed, waits-closed, waits-kept, waits-shown}
+use Rattle.lsp_docs.proofs.Standing.{accepted-push, documents-distinct, waits-opened, waits-changed, waits-closed, waits-kept, waits-shown, waits-missed}
+use Rattle.lsp_docs.proofs.Rising.{last-few, last-none, last-empty, last-snoc}
+use Rattle.lsp_docs.proofs.Past.{past-same, past-changed, past-closed, reached-number}
 
 -- ---- readers
 
-pub held-stands : (s : State) (calls : List Call) (u : Bytes) → Stands s calls → held_in u s.documents ≡ held s.limit u calls
-held-stands s calls u h = ap (held_in u) h.documents ∙ sym (held-documents s.limit u calls)
+pub held-stands : (s : State) (calls : List Call) (u : Bytes) → Stands s calls → held_in u s.documents ≡ held s.terms u calls
+held-stands s calls u h = ap (held_in u) h.documents ∙ sym (held-documents s.terms u calls)
 
-pub rule-stands : (s : State) (calls : List Call) (c : Call) → Stands s calls → rule_at s c ≡ call_rule s.limit calls c
+pub rule-stands : (s : State) (calls : List Call) (c : Call) → Stands s calls → rule_at s c ≡ call_rule s.terms calls c
 rule-stands s calls c h =
-    ap (λ o. rule_of s.limit o (queue_of (uri_of c) s.waits.queues) c) (held-stands s calls (uri_of c) h)
-    ∙ ap (λ l. rule_of s.limit (held s.limit (uri_of c) calls) l c) (h.waits.queues (uri_of c))
+    ap (λ o. rule_of s.terms o (kept_in (uri_of c) s.kept) (queue_of (uri_of c) s.waits.queues) c) (held-stands s calls (uri_of c) h)
+    ∙ (ap (λ ks. rule_of s.terms (held s.terms (uri_of c) calls) ks (queue_of (uri_of c) s.waits.queues) c) (h.kept (uri_of c))
+    ∙ ap (λ l. rule_of s.terms (held s.terms (uri_of c) calls) (kept s.terms (uri_of c) calls) l c) (h.waits.queues (uri_of c)))
 
-pub names-stands : (s : State) (calls : List Call) (c : Call) (f : DocFault) → Stands s calls → Names (rule_at s c) f → Names (call_rule s.limit calls c) f
+pub names-stands : (s : State) (calls : List Call) (c : Call) (f : DocFault) → Stands s calls → Names (rule_at s c) f → Names (call_rule s.terms calls c) f
 names-stands s calls c f h n = subst (λ r. Names r f) (rule-stands s calls c h) n
+
+pub answer-stands : (s : State) (calls : List Call) (u : Bytes) (n : ℤ) → Stands s calls → answer_of n (kept_in u s.kept) (held_in u s.documents) ≡ answer_of n (kept s.terms u calls) (held s.terms u calls)
+answer-stands s calls u n h = ap (answer_of n (kept_in u s.kept)) (held-stands s calls u h) ∙ ap (λ ks. answer_of n ks (held s.terms u calls)) (h.kept u)
 
 -- ---- steps
 
-abbrev pub stated : ℕ → List Held → Waits → State
-stated limit hs w = record { limit = limit; documents = hs; waits = w }
+abbrev pub terms_in : ℕ → ℕ → Terms
+terms_in limit kept = record { limit = limit; kept = kept }
 
-pub Stands-opened : (s : State) (calls : List Call) (u : Bytes) (n : ℤ) (t : Text) → rule_at s (opens u n t) ≡ None → Stands s calls
-    → Stands (stated s.limit (s.documents ++ record { uri = u; version = versioned n t } ∷ []) (reached u n s.waits)) (calls ++ opens u n t ∷ [])
-Stands-opened s calls u n t e h =
+abbrev pub stated : Terms → List Held → List Kept → Waits → State
+stated terms hs ks w = record { terms = terms; documents = hs; kept = ks; waits = w }
+
+-- a call that neither closes nor changes a document leaves what is kept of it
+kept-same : (s : State) (calls : List Call) (c : Call) (ks : List Kept) → ((uri : Bytes) → is_close uri c ≡ false) → ((uri : Bytes) → is_change uri c ≡ false)
+    → KeepsSame s.kept ks → Stands s calls → (uri : Bytes) → kept_in uri ks ≡ kept s.terms uri (calls ++ c ∷ [])
+kept-same s calls c ks p q same h uri = same uri ∙ (h.kept uri ∙ ap (last_of s.terms.kept) (sym (past-same s.terms uri calls c (p uri) (q uri))))
+
+-- the held version of the changed document is kept from now on
+kept-changed : (s : State) (calls : List Call) (enc : Encoding) (k : SyncKind) (u : Bytes) (n : ℤ) (cs : List Edit) (v : Version) (ks : List Kept)
+    → held_in u s.documents ≡ Some v → KeepsOn s.terms.kept u (held_in u s.documents) s.kept ks → Stands s calls
+    → (uri : Bytes) → kept_in uri ks ≡ kept s.terms uri (calls ++ changes enc k u n cs ∷ [])
+kept-changed s calls enc k u n cs v ks there keeps h uri =
+    keeps few uri
+    ∙ elim (true_or_false (bytes_eq u uri)) [
+      | inl p ↦
+          let now : held s.terms uri calls ≡ Some v = ap (λ x. held s.terms x calls) (sym (uri_is u uri p)) ∙ (sym (held-stands s calls u h) ∙ there) in
+          rw p (ap (λ o. last_of most (kept_in uri s.kept ++ option_to_list o)) there
+          ∙ (ap (λ l. last_of most (l ++ v ∷ [])) (h.kept uri)
+          ∙ (last-snoc most (past s.terms uri calls) v
+          ∙ ap (last_of most) (sym (past-changed s.terms uri calls c v (uri_flip uri u ∙ p) now)))))
+      | inr p ↦ rw p (h.kept uri ∙ ap (last_of most) (sym (past-same s.terms uri calls c refl (uri_flip uri u ∙ p))))
+    ]
+  where
+    most : ℕ
+    most = s.terms.kept
+
+    c : Call
+    c = changes enc k u n cs
+
+    few : length (kept_in u s.kept) ≤ most
+    few = subst (λ l. length l ≤ most) (sym (h.kept u)) (last-few most (past s.terms u calls))
+
+-- nothing is kept of a closed document
+kept-closed : (s : State) (calls : List Call) (u : Bytes) (ks : List Kept) → KeepsNone u s.kept ks → Stands s calls → (uri : Bytes) → kept_in uri ks ≡ kept s.terms uri (calls ++ closes u ∷ [])
+kept-closed s calls u ks drops h uri =
+    drops uri
+    ∙ elim (true_or_false (bytes_eq u uri)) [
+      | inl p ↦ rw p (sym (ap (last_of s.terms.kept) (past-closed s.terms uri calls (closes u) (uri_flip uri u ∙ p)) ∙ last-empty s.terms.kept))
+      | inr p ↦ rw p (h.kept uri ∙ ap (last_of s.terms.kept) (sym (past-same s.terms uri calls (closes u) (uri_flip uri u ∙ p) refl)))
+    ]
+
+-- nothing is ever kept: the old versions are those that are kept on
+pub keeps-none : (most : ℕ) (u : Bytes) (h : Option Version) (ks : List Kept) → most ≡ 0 → KeepsOn most u h ks ks
+keeps-none most u h ks none few uri =
+    elim (true_or_false (bytes_eq u uri)) [
+      | inl p ↦
+          let empty : kept_in uri ks ≡ [] = ap (λ x. kept_in x ks) (sym (uri_is u uri p)) ∙ is_empty (kept_in u ks) most few none in
+          rw p (empty ∙ (sym (last-none (kept_in uri ks ++ option_to_list h)) ∙ ap (λ m. last_of m (kept_in uri ks ++ option_to_list h)) (sym none)))
+      | inr p ↦ rw p refl
+    ]
+  where
+    is_empty : (vs : List Version) (most : ℕ) → length vs ≤ most → most ≡ 0 → vs ≡ []
+    is_empty [] most few none = refl
+    is_empty (v ∷ vs) most few none = absurd (omega (arith, few, none))
+
+pub Stands-opened : (s : State) (calls : List Call) (u : Bytes) (n : ℤ) (t : Text) (ks : List Kept) → rule_at s (opens u n t) ≡ None → KeepsSame s.kept ks → Stands s calls
+    → Stands (stated s.terms (s.documents ++ record { uri = u; version = versioned n t } ∷ []) ks (reached u n s.waits)) (calls ++ opens u n t ∷ [])
+Stands-opened s calls u n t ks e same h =
     let c = opens u n t in
     let rule = sym (rule-stands s calls c h) ∙ e in
     let new : Held = record { uri = u; version = versioned n t } in
     record {
-      accepted = accepted-push s.limit calls c h.accepted rule;
-      documents = ap (λ l. l ++ new ∷ []) (h.documents ∙ sym (all_stay s.limit u n t (documents s.limit calls))) ∙ sym (documents-push s.limit calls c);
-      waits = waits-opened s.limit s.waits calls u n t h.waits rule;
+      accepted = accepted-push s.terms calls c h.accepted rule;
+      documents = ap (λ l. l ++ new ∷ []) (h.documents ∙ sym (all_stay s.terms u n t (documents s.terms calls))) ∙ sym (documents-push s.terms calls c);
+      kept = kept-same s calls c ks (λ x. refl) (λ x. refl) same h;
+      waits = waits-opened s.terms s.waits calls u n t h.waits rule;
     }
 
-pub Stands-changed : (s : State) (calls : List Call) (enc : Encoding) (k : SyncKind) (u : Bytes) (n : ℤ) (cs : List Edit) (t : Text) → rule_at s (changes enc k u n cs) ≡ None
-    → changed_at s enc u cs ≡ Ok t → Stands s calls
-    → Stands (stated s.limit (set_in u (versioned n t) s.documents) (reached u n s.waits)) (calls ++ changes enc k u n cs ∷ [])
-Stands-changed s calls enc k u n cs t e made h =
+pub Stands-changed : (s : State) (calls : List Call) (enc : Encoding) (k : SyncKind) (u : Bytes) (n : ℤ) (cs : List Edit) (t : Text) (ks : List Kept)
+    → rule_at s (changes enc k u n cs) ≡ None → changed_at s enc u cs ≡ Ok t → KeepsOn s.terms.kept u (held_in u s.documents) s.kept ks → Stands s calls
+    → Stands (stated s.terms (set_in u (versioned n t) s.documents) ks (reached u n s.waits)) (calls ++ changes enc k u n cs ∷ [])
+Stands-changed s calls enc k u n cs t ks e made keeps h =
     let c = changes enc k u n cs in
     let rule = sym (rule-stands s calls c h) ∙ e in
-    let parts = change_parts s.limit (queue_of u s.waits.queues) enc k n cs (held_in u s.documents) e in
-    let text : applied s.limit enc parts.old.text cs ≡ Ok t = ap (λ o. applied s.limit enc (text_in o) cs) (sym parts.is) ∙ made in
-    let there : held_in u (documents s.limit calls) ≡ Some parts.old = sym (ap (held_in u) h.documents) ∙ parts.is in
+    let parts = change_parts s.terms (queue_of u s.waits.queues) enc k n cs (held_in u s.documents) e in
+    let text : applied s.terms.limit enc parts.old.text cs ≡ Ok t = ap (λ o. applied s.terms.limit enc (text_in o) cs) (sym parts.is) ∙ made in
+    let there : held_in u (documents s.terms calls) ≡ Some parts.old = sym (ap (held_in u) h.documents) ∙ parts.is in
     record {
-      accepted = accepted-push s.limit calls c h.accepted rule;
+      accepted = accepted-push s.terms calls c h.accepted rule;
       documents = ap (set_in u (versioned n t)) h.documents
-          ∙ (sym (changed_is s.limit enc k u n cs parts.old t text (documents s.limit calls) (documents-distinct s.limit calls h.accepted) there)
-          ∙ (sym (append-nil _) ∙ sym (documents-push s.limit calls c)));
-      waits = waits-changed s.limit s.waits calls enc k u n cs h.waits rule;
+          ∙ (sym (changed_is s.terms enc k u n cs parts.old t text (documents s.terms calls) (documents-distinct s.terms calls h.accepted) there)
+          ∙ (sym (append-nil _) ∙ sym (documents-push s.terms calls c)));
+      kept = kept-changed s calls enc k u n cs parts.old ks parts.is keeps h;
+      waits = waits-changed s.terms s.waits calls enc k u n cs h.waits rule;
     }
 
-pub Stands-closed : (s : State) (calls : List Call) (u : Bytes) → rule_at s (closes u) ≡ None → queue_of u (without_queue u s.waits.queues) ≡ [] → Stands s calls
-    → Stands (stated s.limit (without u s.documents) (released u s.waits)) (calls ++ closes u ∷ [])
-Stands-closed s calls u e gone h =
+pub Stands-closed : (s : State) (calls : List Call) (u : Bytes) (ks : List Kept) → rule_at s (closes u) ≡ None → queue_of u (without_queue u s.waits.queues) ≡ [] → KeepsNone u s.kept ks → Stands s calls
+    → Stands (stated s.terms (without u s.documents) ks (released u s.waits)) (calls ++ closes u ∷ [])
+Stands-closed s calls u ks e gone drops h =
     let c = closes u in
     let rule = sym (rule-stands s calls c h) ∙ e in
     record {
-      accepted = accepted-push s.limit calls c h.accepted rule;
+      accepted = accepted-push s.terms calls c h.accepted rule;
       documents = ap (without u) h.documents
-          ∙ (sym (closed_is s.limit u (documents s.limit calls) (documents-distinct s.limit calls h.accepted)) ∙ (sym (append-nil _) ∙ sym (documents-push s.limit calls c)));
-      waits = waits-closed s.limit s.waits calls u h.waits rule gone;
+          ∙ (sym (closed_is s.terms u (documents s.terms calls) (documents-distinct s.terms calls h.accepted)) ∙ (sym (append-nil _) ∙ sym (documents-push s.terms calls c)));
+      kept = kept-closed s calls u ks drops h;
+      waits = waits-closed s.terms s.waits calls u h.waits rule gone;
     }
 
 pub Stands-saved : (s : State) (calls : List Call) (u : Bytes) (t : Option Text) → rule_at s (saves u t) ≡ None → Stands s calls → Stands s (calls ++ saves u t ∷ [])
@@ -92,75 +160,100 @@ Stands-saved s calls u t e h =
     let c = saves u t in
     let rule = sym (rule-stands s calls c h) ∙ e in
     record {
-      accepted = accepted-push s.limit calls c h.accepted rule;
-      documents = h.documents ∙ (sym (all_saved s.limit u t (documents s.limit calls)) ∙ (sym (append-nil _) ∙ sym (documents-push s.limit calls c)));
-      waits = waits-kept s.limit s.waits calls c h.waits rule refl (λ x. refl) (λ x. refl);
+      accepted = accepted-push s.terms calls c h.accepted rule;
+      documents = h.documents ∙ (sym (all_saved s.terms u t (documents s.terms calls)) ∙ (sym (append-nil _) ∙ sym (documents-push s.terms calls c)));
+      kept = kept-same s calls c s.kept (λ x. refl) (λ x. refl) (λ x. refl) h;
+      waits = waits-kept s.terms s.waits calls c h.waits rule refl refl (λ x. refl) (λ x. refl);
     }
 
-pub held-shown : (limit : ℕ) (calls : List Call) (u : Bytes) (n : ℤ) (t : Text) → held limit u (calls ++ shows u n t ∷ []) ≡ held limit u calls
-held-shown limit calls u n t = held-snoc limit u calls (shows u n t) ∙ unchanged (held limit u calls)
+pub held-shown : (terms : Terms) (calls : List Call) (u : Bytes) (n : ℤ) (t : Text) → held terms u (calls ++ shows u n t ∷ []) ≡ held terms u calls
+held-shown terms calls u n t = held-snoc terms u calls (shows u n t) ∙ unchanged (held terms u calls)
 
-documents-shown : (s : State) (calls : List Call) (u : Bytes) (n : ℤ) (t : Text) → Stands s calls → s.documents ≡ documents s.limit (calls ++ shows u n t ∷ [])
-documents-shown s calls u n t h = h.documents ∙ (sym (all_shown s.limit u n t (documents s.limit calls)) ∙ (sym (append-nil _) ∙ sym (documents-push s.limit calls (shows u n t))))
+documents-shown : (s : State) (calls : List Call) (u : Bytes) (n : ℤ) (t : Text) → Stands s calls → s.documents ≡ documents s.terms (calls ++ shows u n t ∷ [])
+documents-shown s calls u n t h = h.documents ∙ (sym (all_shown s.terms u n t (documents s.terms calls)) ∙ (sym (append-nil _) ∙ sym (documents-push s.terms calls (shows u n t))))
 
-not_less : (a b : ℤ) → int_eq a b ≡ true → int_lt a b ≡ false
-not_less a b h = grind (arith, ints)
+-- ---- answers
 
-less : (a b : ℤ) → int_lt b a ≡ false → int_eq a b ≡ false → int_lt a b ≡ true
-less a b h k = grind (arith, ints)
+abbrev answered : Bool → Bool → Match
+answered f a = if f then answers.Equal else (if a then answers.Waits else answers.Missed)
 
-pub not_ahead : (n : ℤ) (o : Option Version) → holds_number n o ≡ true → is_ahead n o ≡ false
-not_ahead n None h = absurd (true≢false (sym h))
-not_ahead n (Some v) h = not_less v.number n h
+is_equal : (f a : Bool) → answered f a ≡ answers.Equal → f ≡ true
+is_equal true a e = refl
+is_equal false true e = let clash : answers.Waits ≡ answers.Equal = e in absurd cc
+is_equal false false e = let clash : answers.Missed ≡ answers.Equal = e in absurd cc
 
-pub ahead : (n : ℤ) (t : Text) (o : Option Version) (limit : ℕ) (ws : List Version) (u : Bytes) → rule_of limit o ws (shows u n t) ≡ None → holds_number n o ≡ false → is_ahead n o ≡ true
-ahead n t None limit ws u e h = refl
-ahead n t (Some v) limit ws u e h = less v.number n (none_row (int_lt n v.number) 701 _ e).0 h
+is_waiting : (f a : Bool) → answered f a ≡ answers.Waits → (f ≡ false) × (a ≡ true)
+is_waiting true a e = let clash : answers.Equal ≡ answers.Waits = e in absurd cc
+is_waiting false true e = (refl, refl)
+is_waiting false false e = let clash : answers.Missed ≡ answers.Waits = e in absurd cc
 
-answer_equal : (b : Bool) → (if b then answers.Equal else answers.Waits) ≡ answers.Equal → b ≡ true
-answer_equal true e = refl
-answer_equal false e = let clash : answers.Waits ≡ answers.Equal = e in absurd cc
+is_passed : (f a : Bool) → answered f a ≡ answers.Missed → (f ≡ false) × (a ≡ false)
+is_passed true a e = let clash : answers.Equal ≡ answers.Missed = e in absurd cc
+is_passed false true e = let clash : answers.Waits ≡ answers.Missed = e in absurd cc
+is_passed false false e = (refl, refl)
 
-answer_waits : (b : Bool) → (if b then answers.Equal else answers.Waits) ≡ answers.Waits → b ≡ false
-answer_waits true e = let clash : answers.Equal ≡ answers.Waits = e in absurd cc
-answer_waits false e = refl
+pub equal-holds : (n : ℤ) (ks : List Version) (o : Option Version) → answer_of n ks o ≡ answers.Equal → has_number n ks o ≡ true
+equal-holds n ks o e = is_equal (has_number n ks o) (is_ahead n o) e
 
-pub equal-holds : (n : ℤ) (o : Option Version) → answer_of n o ≡ answers.Equal → holds_number n o ≡ true
-equal-holds n o e = answer_equal (holds_number n o) e
+pub waits-ahead : (n : ℤ) (ks : List Version) (o : Option Version) → answer_of n ks o ≡ answers.Waits → (has_number n ks o ≡ false) × (is_ahead n o ≡ true)
+waits-ahead n ks o e = is_waiting (has_number n ks o) (is_ahead n o) e
 
-pub waits-ahead : (n : ℤ) (o : Option Version) → answer_of n o ≡ answers.Waits → holds_number n o ≡ false
-waits-ahead n o e = answer_waits (holds_number n o) e
+pub missed-passed : (n : ℤ) (ks : List Version) (o : Option Version) → answer_of n ks o ≡ answers.Missed → (has_number n ks o ≡ false) × (is_ahead n o ≡ false)
+missed-passed n ks o e = is_passed (has_number n ks o) (is_ahead n o) e
 
-pub Stands-equal : (s : State) (calls : List Call) (u : Bytes) (n : ℤ) (t : Text) → rule_at s (shows u n t) ≡ None → holds_number n (held_in u s.documents) ≡ true → Stands s calls
-    → Stands s (calls ++ shows u n t ∷ [])
-Stands-equal s calls u n t e equal h =
-    let c = shows u n t in
-    let rule = sym (rule-stands s calls c h) ∙ e in
-    let now : is_ahead n (held s.limit u (calls ++ c ∷ [])) ≡ false = ap (is_ahead n) (held-shown s.limit calls u n t ∙ sym (held-stands s calls u h)) ∙ not_ahead n (held_in u s.documents) equal in
-    record {
-      accepted = accepted-push s.limit calls c h.accepted rule;
-      documents = documents-shown s calls u n t h;
-      waits = waits-kept s.limit s.waits calls c h.waits rule (ap (λ b. if b && true then record { uri = u; version = versioned n t } ∷ [] else []) now) (λ x. refl) (λ x. refl);
-    }
+module _ (s : State) (calls : List Call) (u : Bytes) (n : ℤ) (t : Text) (e : rule_at s (shows u n t) ≡ None) (h : Stands s calls) where
+  abbrev c : Call
+  c = shows u n t
 
-pub Stands-shown : (s : State) (calls : List Call) (u : Bytes) (n : ℤ) (t : Text) → rule_at s (shows u n t) ≡ None → holds_number n (held_in u s.documents) ≡ false → Stands s calls
-    → Stands (stated s.limit s.documents (shown_to u (versioned n t) s.waits)) (calls ++ shows u n t ∷ [])
-Stands-shown s calls u n t e other h =
-    let c = shows u n t in
-    let rule = sym (rule-stands s calls c h) ∙ e in
-    let now : is_ahead n (held s.limit u (calls ++ c ∷ [])) ≡ true = ap (is_ahead n) (held-shown s.limit calls u n t ∙ sym (held-stands s calls u h))
-    ∙ ahead n t (held_in u s.documents) s.limit (queue_of u s.waits.queues) u e other in
-    record {
-      accepted = accepted-push s.limit calls c h.accepted rule;
-      documents = documents-shown s calls u n t h;
-      waits = waits-shown s.limit s.waits calls u n t h.waits rule (ap (λ b. if b && true then record { uri = u; version = versioned n t } ∷ [] else []) now);
-    }
+  rule : call_rule s.terms calls c ≡ None
+  rule = sym (rule-stands s calls c h) ∙ e
+
+  ahead_now : (b : Bool) → is_ahead n (held_in u s.documents) ≡ b → is_ahead n (held s.terms u (calls ++ c ∷ [])) ≡ b
+  ahead_now b p = ap (is_ahead n) (held-shown s.terms calls u n t ∙ sym (held-stands s calls u h)) ∙ p
+
+  has_now : (b : Bool) → has_number n (kept_in u s.kept) (held_in u s.documents) ≡ b → has_number n (kept s.terms u calls) (held s.terms u calls) ≡ b
+  has_now b p = ap (λ ks. has_number n ks (held s.terms u calls)) (sym (h.kept u)) ∙ (ap (has_number n (kept_in u s.kept)) (sym (held-stands s calls u h)) ∙ p)
+
+  missed_now : (a f : Bool) → is_ahead n (held_in u s.documents) ≡ a → has_number n (kept_in u s.kept) (held_in u s.documents) ≡ f → missed_at s.terms calls c ≡ (if not a && not f then 1 else 0)
+  missed_now a f p q = rw (has_now f q, ap (is_ahead n) (sym (held-stands s calls u h)) ∙ p) refl
+
+  entry_now : (a : Bool) → is_ahead n (held_in u s.documents) ≡ a → shown_entry s.terms (calls ++ c ∷ []) c [] ≡ (if a && true then record { uri = u; version = versioned n t } ∷ [] else [])
+  entry_now a p = ap (λ b. if b && true then record { uri = u; version = versioned n t } ∷ [] else []) (ahead_now a p)
+
+  pub Stands-equal : has_number n (kept_in u s.kept) (held_in u s.documents) ≡ true → Stands s (calls ++ c ∷ [])
+  Stands-equal equal =
+      let behind : is_ahead n (held_in u s.documents) ≡ false =
+      ap (is_ahead n) (held-stands s calls u h) ∙ reached-number s.terms u calls n h.accepted (has_now true equal) in
+      record {
+        accepted = accepted-push s.terms calls c h.accepted rule;
+        documents = documents-shown s calls u n t h;
+        kept = kept-same s calls c s.kept (λ x. refl) (λ x. refl) (λ x. refl) h;
+        waits = waits-kept s.terms s.waits calls c h.waits rule (entry_now false behind) (missed_now false true behind equal) (λ x. refl) (λ x. refl);
+      }
+
+  pub Stands-shown : has_number n (kept_in u s.kept) (held_in u s.documents) ≡ false → is_ahead n (held_in u s.documents) ≡ true
+      → Stands (stated s.terms s.documents s.kept (shown_to u (versioned n t) s.waits)) (calls ++ c ∷ [])
+  Stands-shown other before = record {
+    accepted = accepted-push s.terms calls c h.accepted rule;
+    documents = documents-shown s calls u n t h;
+    kept = kept-same s calls c s.kept (λ x. refl) (λ x. refl) (λ x. refl) h;
+    waits = waits-shown s.terms s.waits calls u n t h.waits rule (entry_now true before) (missed_now true false before other);
+  }
+
+  pub Stands-missed : has_number n (kept_in u s.kept) (held_in u s.documents) ≡ false → is_ahead n (held_in u s.documents) ≡ false
+      → Stands (stated s.terms s.documents s.kept (missed_one s.waits)) (calls ++ c ∷ [])
+  Stands-missed other behind = record {
+    accepted = accepted-push s.terms calls c h.accepted rule;
+    documents = documents-shown s calls u n t h;
+    kept = kept-same s calls c s.kept (λ x. refl) (λ x. refl) (λ x. refl) h;
+    waits = waits-missed s.terms s.waits calls u n t h.waits rule (entry_now false behind) (missed_now false false behind other);
+  }
 
 -- ---- rules of a change
 
-pub early-rule : (limit : ℕ) (ws : List Version) (enc : Encoding) (k : SyncKind) (n : ℤ) (cs : List Edit) (o : Option Version) (r : ℕ) → early_rule k n cs o ≡ Some r → change_rule limit ws enc k n cs o ≡ Some r
-early-rule limit ws enc k n cs None r e = e
-early-rule limit ws enc k n cs (Some v) r e =
+pub early-rule : (terms : Terms) (ws : List Version) (enc : Encoding) (k : SyncKind) (n : ℤ) (cs : List Edit) (o : Option Version) (r : ℕ) → early_rule k n cs o ≡ Some r → change_rule terms ws enc k n cs o ≡ Some r
+early-rule terms ws enc k n cs None r e = e
+early-rule terms ws enc k n cs (Some v) r e =
     elim (true_or_false (not (int_lt v.number n))) [
       | inl p ↦ rw p (early_first (not (int_lt v.number n)) _ r e p)
       | inr p ↦ elim (true_or_false (not (fits_kind k cs))) [
@@ -184,29 +277,29 @@ early-rule limit ws enc k n cs (Some v) r e =
     early_none false true r e p q = absurd (true≢false q)
 
 -- a change that no early rule refuses is judged by its text
-pub late-rule : (limit : ℕ) (ws : List Version) (enc : Encoding) (k : SyncKind) (n : ℤ) (cs : List Edit) (o : Option Version) → early_rule k n cs o ≡ None
-    → (is_some o ≡ true) × (change_rule limit ws enc k n cs o ≡ text_rule ws n (applied limit enc (text_in o) cs))
-late-rule limit ws enc k n cs None e = absurd (let r : ℕ = 602 in none-some r (sym e))
-late-rule limit ws enc k n cs (Some v) e =
+pub late-rule : (terms : Terms) (ws : List Version) (enc : Encoding) (k : SyncKind) (n : ℤ) (cs : List Edit) (o : Option Version) → early_rule k n cs o ≡ None
+    → (is_some o ≡ true) × (change_rule terms ws enc k n cs o ≡ text_rule ws n (applied terms.limit enc (text_in o) cs))
+late-rule terms ws enc k n cs None e = absurd (let r : ℕ = 602 in none-some r (sym e))
+late-rule terms ws enc k n cs (Some v) e =
     let first = none_row (not (int_lt v.number n)) 603 _ e in
     let second = none_row (not (fits_kind k cs)) 604 _ first.1 in
     (refl, rw (first.0, second.0) refl)
 
 -- ---- rules of an opening
 
-pub open-early : (limit : ℕ) (o : Option Version) (ws : List Version) (u : Bytes) (n : ℤ) (t : Text) (f : DocFault)
-    → Names (if is_some o then Some 601 else (if nat_lt limit (byte_len t) then Some 607 else None)) f → Names (rule_of limit o ws (opens u n t)) f
-open-early limit o ws u n t Memory h = tt
-open-early limit o ws u n t (Rule r) h = go (is_some o) (nat_lt limit (byte_len t)) h
+pub open-early : (terms : Terms) (o : Option Version) (ks ws : List Version) (u : Bytes) (n : ℤ) (t : Text) (f : DocFault)
+    → Names (if is_some o then Some 601 else (if nat_lt terms.limit (byte_len t) then Some 607 else None)) f → Names (rule_of terms o ks ws (opens u n t)) f
+open-early terms o ks ws u n t Memory h = tt
+open-early terms o ks ws u n t (Rule r) h = go (is_some o) (nat_lt terms.limit (byte_len t)) h
   where
     go : (a b : Bool) → (if a then Some 601 else (if b then Some 607 else None)) ≡ Some r → (if a then Some 601 else (if b then Some 607 else version_rule ws (versioned n t))) ≡ Some r
     go true b e = e
     go false true e = e
     go false false e = absurd (none-some r e)
 
-pub open-late : (limit : ℕ) (o : Option Version) (ws : List Version) (u : Bytes) (n : ℤ) (t : Text) → o ≡ None → nat_lt limit (byte_len t) ≡ false
-    → rule_of limit o ws (opens u n t) ≡ version_rule ws (versioned n t)
-open-late limit o ws u n t p q = rw (p, q) refl
+pub open-late : (terms : Terms) (o : Option Version) (ks ws : List Version) (u : Bytes) (n : ℤ) (t : Text) → o ≡ None → nat_lt terms.limit (byte_len t) ≡ false
+    → rule_of terms o ks ws (opens u n t) ≡ version_rule ws (versioned n t)
+open-late terms o ks ws u n t p q = rw (p, q) refl
 
 pub version-refuted : (ws : List Version) (v : Version) → list_any (differs v) ws ≡ true → version_rule ws v ≡ Some 702
 version-refuted ws v p = rw p refl
@@ -216,26 +309,26 @@ version-agrees ws v p = rw p refl
 
 -- ---- rules of a close, a save and a snapshot
 
-pub close-none : (limit : ℕ) (o : Option Version) (ws : List Version) (u : Bytes) → is_some o ≡ false → rule_of limit o ws (closes u) ≡ Some 602
-close-none limit o ws u p = rw p refl
+pub close-none : (terms : Terms) (o : Option Version) (ks ws : List Version) (u : Bytes) → is_some o ≡ false → rule_of terms o ks ws (closes u) ≡ Some 602
+close-none terms o ks ws u p = rw p refl
 
-pub close-some : (limit : ℕ) (o : Option Version) (ws : List Version) (u : Bytes) → is_some o ≡ true → rule_of limit o ws (closes u) ≡ None
-close-some limit o ws u p = rw p refl
+pub close-some : (terms : Terms) (o : Option Version) (ks ws : List Version) (u : Bytes) → is_some o ≡ true → rule_of terms o ks ws (closes u) ≡ None
+close-some terms o ks ws u p = rw p refl
 
-pub save-differs : (limit : ℕ) (o : Option Version) (ws : List Version) (u : Bytes) (v : Version) (t : Text) → o ≡ Some v → bytes_eq v.text t ≡ false → rule_of limit o ws (saves u (Some t)) ≡ Some 608
-save-differs limit o ws u v t is p = rw (is, p) refl
+pub save-differs : (terms : Terms) (o : Option Version) (ks ws : List Version) (u : Bytes) (v : Version) (t : Text) → o ≡ Some v → bytes_eq v.text t ≡ false → rule_of terms o ks ws (saves u (Some t)) ≡ Some 608
+save-differs terms o ks ws u v t is p = rw (is, p) refl
 
-pub save-same : (limit : ℕ) (o : Option Version) (ws : List Version) (u : Bytes) (v : Version) (t : Text) → o ≡ Some v → bytes_eq v.text t ≡ true → rule_of limit o ws (saves u (Some t)) ≡ None
-save-same limit o ws u v t is p = rw (is, p) refl
+pub save-same : (terms : Terms) (o : Option Version) (ks ws : List Version) (u : Bytes) (v : Version) (t : Text) → o ≡ Some v → bytes_eq v.text t ≡ true → rule_of terms o ks ws (saves u (Some t)) ≡ None
+save-same terms o ks ws u v t is p = rw (is, p) refl
 
-pub save-no-text : (limit : ℕ) (o : Option Version) (ws : List Version) (u : Bytes) → rule_of limit o ws (saves u None) ≡ None
-save-no-text limit None ws u = refl
-save-no-text limit (Some v) ws u = refl
+pub save-no-text : (terms : Terms) (o : Option Version) (ks ws : List Version) (u : Bytes) → rule_of terms o ks ws (saves u None) ≡ None
+save-no-text terms None ks ws u = refl
+save-no-text terms (Some v) ks ws u = refl
 
-pub save-closed : (limit : ℕ) (o : Option Version) (ws : List Version) (u : Bytes) (t : Option Text) → o ≡ None → rule_of limit o ws (saves u t) ≡ None
-save-closed limit None ws u None e = refl
-save-closed limit None ws u (Some t) e = refl
-save-closed limit (Some v) ws u t e = absurd (none-some v (sym e))
+pub save-closed : (terms : Terms) (o : Option Version) (ks ws : List Version) (u : Bytes) (t : Option Text) → o ≡ None → rule_of terms o ks ws (saves u t) ≡ None
+save-closed terms None ks ws u None e = refl
+save-closed terms None ks ws u (Some t) e = refl
+save-closed terms (Some v) ks ws u t e = absurd (none-some v (sym e))
 
 eq_flip : (a b : ℤ) → int_eq a b ≡ int_eq b a
 eq_flip a b =

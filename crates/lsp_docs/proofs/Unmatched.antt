@@ -1,5 +1,5 @@
 -- The snapshots that were never compared: those that wait, and those that were missed.
-use Rattle.std.proofs.Common.{◌≡◌, ℕ, ◌+◌, Bool, true, false, ◌&&◌, ◌||◌, ◌⊎◌, List, [], ◌∷◌, ◌++◌, filter, length, length-append, refl, sym, ap, ◌∙◌, subst, None, inl, inr, append_assoc, append-nil, true≢false, arith}
+use Rattle.std.proofs.Common.{◌≡◌, ◌+◌, Bool, true, false, ◌&&◌, ◌||◌, ◌⊎◌, List, [], ◌∷◌, ◌++◌, filter, length, length-append, refl, sym, ap, ◌∙◌, subst, None, inl, inr, append_assoc, append-nil, true≢false, arith}
 use Rattle.std.specs.Prelude.{ℤ, int_lt, not, is_some, if◌then◌else◌}
 use Rattle.std.specs.List.{list_any}
 use Rattle.std.specs.Ordering.{int_eq}
@@ -7,16 +7,19 @@ use Rattle.std.specs.Str.{bytes_eq}
 use Rattle.std.proofs.lemmas.Bool.{or_parts}
 use Rattle.std.proofs.lemmas.Int.{ints}
 use Rattle.lsp_docs.specs.Texts.{Text}
+use Rattle.lsp_docs.specs.Terms.{Terms}
 use Rattle.lsp_docs.specs.Calls.{Bytes, Call, opens, changes, closes, saves, shows, is_close}
 use Rattle.lsp_docs.specs.Documents.{versioned, held}
-use Rattle.lsp_docs.specs.Snapshots.{Shown, is_ahead, shown_entry, waiting_in, waiting, versions_of, holds_number, sets, comes_to, is_compared, unmatched_entry, unmatched_in, unmatched}
+use Rattle.lsp_docs.specs.Kept.{kept}
+use Rattle.lsp_docs.specs.Snapshots.{Shown, is_ahead, shown_entry, waiting_in, waiting, has_number, sets, comes_to, is_compared, unmatched_entry, unmatched_in, unmatched}
 use Rattle.lsp_docs.specs.Rules.{call_rule, AreAcceptedFrom, AreAccepted}
-use Rattle.lsp_docs.specs.Missed.{ends_waiting, missed}
+use Rattle.lsp_docs.specs.Missed.{ends_waiting, missed_at, missed}
 use Rattle.lsp_docs.proofs.Words.{true_or_false, both_parts, either, int_is, filter-append, uri_is, uri_flip}
 use Rattle.lsp_docs.proofs.HeldSteps.{next_held, held-snoc}
 use Rattle.lsp_docs.proofs.WaitingSteps.{still, still_at, ahead-step, and_false, or_false, none_row, no_some, change_parts, waiting-push, missed-push}
 use Rattle.lsp_docs.proofs.Standing.{accepted-push}
-use Rattle.lsp_docs.proofs.Stepping.{held-shown, not_ahead, ahead}
+use Rattle.lsp_docs.proofs.Past.{reached-number}
+use Rattle.lsp_docs.proofs.Stepping.{held-shown}
 
 -- the call brings the snapshot's URI to its version
 abbrev meets : Call → Shown → Bool
@@ -63,24 +66,24 @@ first_of_both : (x cl : Bool) → cl ≡ false → (x && not cl) ≡ false → x
 first_of_both true cl p h = absurd (true≢false (sym (ap (λ b. true && not b) p) ∙ h))
 first_of_both false cl p h = refl
 
-module _ (limit : ℕ) (uri : Bytes) (n : ℤ) where
+module _ (terms : Terms) (uri : Bytes) (n : ℤ) where
   -- the version is held or passed
   abbrev IsReached : List Call → Type 0
-  IsReached calls = is_ahead n (held limit uri calls) ≡ false
+  IsReached calls = is_ahead n (held terms uri calls) ≡ false
 
-  reached-kept : (calls : List Call) (c : Call) → call_rule limit calls c ≡ None → is_close uri c ≡ false → IsReached calls → IsReached (calls ++ c ∷ [])
+  reached-kept : (calls : List Call) (c : Call) → call_rule terms calls c ≡ None → is_close uri c ≡ false → IsReached calls → IsReached (calls ++ c ∷ [])
   reached-kept calls c e open_still h =
-      ap (is_ahead n) (held-snoc limit uri calls c)
-      ∙ first_of_both (is_ahead n (next_held limit uri (held limit uri calls) c)) (is_close uri c) open_still
-      (ahead-step limit uri n calls c e ∙ ap (λ b. b && still_at c uri n) h)
+      ap (is_ahead n) (held-snoc terms uri calls c)
+      ∙ first_of_both (is_ahead n (next_held terms uri (held terms uri calls) c)) (is_close uri c) open_still
+      (ahead-step terms uri n calls c e ∙ ap (λ b. b && still_at c uri n) h)
 
-  reached-set : (calls : List Call) (c : Call) → call_rule limit calls c ≡ None → sets uri n c ≡ true → IsReached (calls ++ c ∷ [])
+  reached-set : (calls : List Call) (c : Call) → call_rule terms calls c ≡ None → sets uri n c ≡ true → IsReached (calls ++ c ∷ [])
   reached-set calls c e h =
-      ap (is_ahead n) (held-snoc limit uri calls c)
-      ∙ first_of_both (is_ahead n (next_held limit uri (held limit uri calls) c)) (is_close uri c) (set_opens uri n c h)
-      (ahead-step limit uri n calls c e ∙ (ap (λ b. is_ahead n (held limit uri calls) && b) (set_ends uri n c h) ∙ and_false (is_ahead n (held limit uri calls))))
+      ap (is_ahead n) (held-snoc terms uri calls c)
+      ∙ first_of_both (is_ahead n (next_held terms uri (held terms uri calls) c)) (is_close uri c) (set_opens uri n c h)
+      (ahead-step terms uri n calls c e ∙ (ap (λ b. is_ahead n (held terms uri calls) && b) (set_ends uri n c h) ∙ and_false (is_ahead n (held terms uri calls))))
 
-  reached-on : (calls more : List Call) → AreAcceptedFrom limit calls more → list_any (is_close uri) more ≡ false → IsReached calls → IsReached (calls ++ more)
+  reached-on : (calls more : List Call) → AreAcceptedFrom terms calls more → list_any (is_close uri) more ≡ false → IsReached calls → IsReached (calls ++ more)
   reached-on calls [] h open_still r = subst IsReached (sym (append-nil calls)) r
   reached-on calls (c ∷ more) h open_still r =
       let closing = or_parts (is_close uri c) (list_any (is_close uri) more) open_still in
@@ -90,7 +93,7 @@ module _ (limit : ℕ) (uri : Bytes) (n : ℤ) where
   come true cl x h p = inl refl
   come false cl x h p = inr (sym (ap (λ b. not b && x) p) ∙ h)
 
-  reached-come : (calls more : List Call) → AreAcceptedFrom limit calls more → list_any (is_close uri) more ≡ false → comes_to uri n more ≡ true → IsReached (calls ++ more)
+  reached-come : (calls more : List Call) → AreAcceptedFrom terms calls more → list_any (is_close uri) more ≡ false → comes_to uri n more ≡ true → IsReached (calls ++ more)
   reached-come calls [] h open_still r = absurd (true≢false (sym r))
   reached-come calls (c ∷ more) h open_still r =
       let closing = or_parts (is_close uri c) (list_any (is_close uri) more) open_still in
@@ -101,26 +104,26 @@ module _ (limit : ℕ) (uri : Bytes) (n : ℤ) where
       ])
 
   -- a snapshot that was compared waits no more
-  compared-reached : (before after : List Call) (t : Text) → AreAcceptedFrom limit before (shows uri n t ∷ after) → list_any (is_close uri) after ≡ false
-      → is_compared limit before uri n after ≡ true → IsReached (before ++ shows uri n t ∷ after)
-  compared-reached before after t h open_still is =
+  compared-reached : (before after : List Call) (t : Text) → AreAccepted terms before → AreAcceptedFrom terms before (shows uri n t ∷ after) → list_any (is_close uri) after ≡ false
+      → is_compared terms before uri n after ≡ true → IsReached (before ++ shows uri n t ∷ after)
+  compared-reached before after t done h open_still is =
       let s = shows uri n t in
       subst IsReached (append_assoc before (s ∷ []) after)
-      (elim (either (holds_number n (held limit uri before)) (comes_to uri n after) is) [
-        | inl p ↦ reached-on (before ++ s ∷ []) after h.1 open_still (ap (is_ahead n) (held-shown limit before uri n t) ∙ not_ahead n (held limit uri before) p)
+      (elim (either (has_number n (kept terms uri before) (held terms uri before)) (comes_to uri n after) is) [
+        | inl p ↦ reached-on (before ++ s ∷ []) after h.1 open_still (ap (is_ahead n) (held-shown terms before uri n t) ∙ reached-number terms uri before n done p)
         | inr p ↦ reached-come (before ++ s ∷ []) after h.1 open_still p
       ])
 
   -- and a call comes only to a version that was ahead
-  sets-ahead : (calls : List Call) (c : Call) → call_rule limit calls c ≡ None → sets uri n c ≡ true → is_ahead n (held limit uri calls) ≡ true
+  sets-ahead : (calls : List Call) (c : Call) → call_rule terms calls c ≡ None → sets uri n c ≡ true → is_ahead n (held terms uri calls) ≡ true
   sets-ahead calls (opens u m t) e h =
       let parts = both_parts (bytes_eq uri u) (int_eq m n) h in
-      let none = no_some (held limit u calls) (none_row (is_some (held limit u calls)) 601 _ e).0 in
-      ap (λ x. is_ahead n (held limit x calls)) (uri_is uri u parts.0) ∙ ap (is_ahead n) none
+      let none = no_some (held terms u calls) (none_row (is_some (held terms u calls)) 601 _ e).0 in
+      ap (λ x. is_ahead n (held terms x calls)) (uri_is uri u parts.0) ∙ ap (is_ahead n) none
   sets-ahead calls (changes enc k u m cs) e h =
       let both = both_parts (bytes_eq uri u) (int_eq m n) h in
-      let parts = change_parts limit _ enc k m cs (held limit u calls) e in
-      ap (λ x. is_ahead n (held limit x calls)) (uri_is uri u both.0) ∙ (ap (is_ahead n) parts.is ∙ (ap (int_lt parts.old.number) (sym (int_is m n both.1)) ∙ parts.rises))
+      let parts = change_parts terms _ enc k m cs (held terms u calls) e in
+      ap (λ x. is_ahead n (held terms x calls)) (uri_is uri u both.0) ∙ (ap (is_ahead n) parts.is ∙ (ap (int_lt parts.old.number) (sym (int_is m n both.1)) ∙ parts.rises))
   sets-ahead calls (closes u) e h = absurd (true≢false (sym h))
   sets-ahead calls (saves u t) e h = absurd (true≢false (sym h))
   sets-ahead calls (shows u m t) e h = absurd (true≢false (sym h))
@@ -146,32 +149,32 @@ not_both : (a : Bool) → (a ≡ true → a ≡ false) → a ≡ false
 not_both true f = f refl
 not_both false f = refl
 
-entry-push : (limit : ℕ) (before after : List Call) (d c : Call) → AreAcceptedFrom limit before (d ∷ after) → call_rule limit (before ++ d ∷ after) c ≡ None
-    → unmatched_entry limit before d (after ++ c ∷ []) + length (filter (meets c) (shown_entry limit (before ++ d ∷ after) d after)) ≡ unmatched_entry limit before d after
-entry-push limit before after (opens u n t) c h e = refl
-entry-push limit before after (changes enc k u n cs) c h e = refl
-entry-push limit before after (closes u) c h e = refl
-entry-push limit before after (saves u t) c h e = refl
-entry-push limit before after (shows u n t) c h e =
+entry-push : (terms : Terms) (before after : List Call) (d c : Call) → AreAccepted terms before → AreAcceptedFrom terms before (d ∷ after) → call_rule terms (before ++ d ∷ after) c ≡ None
+    → unmatched_entry terms before d (after ++ c ∷ []) + length (filter (meets c) (shown_entry terms (before ++ d ∷ after) d after)) ≡ unmatched_entry terms before d after
+entry-push terms before after (opens u n t) c done h e = refl
+entry-push terms before after (changes enc k u n cs) c done h e = refl
+entry-push terms before after (closes u) c done h e = refl
+entry-push terms before after (saves u t) c done h e = refl
+entry-push terms before after (shows u n t) c done h e =
     let all = before ++ shows u n t ∷ after in
     let s : Shown = record { uri = u; version = versioned n t } in
-    let held_now = holds_number n (held limit u before) in
-    ap (λ b. (if held_now || b then 0 else 1) + length (filter (meets c) (shown_entry limit all (shows u n t) after))) (comes_to-snoc u n after c)
-    ∙ entry_lem held_now (comes_to u n after) (is_ahead n (held limit u all)) (list_any (is_close u) after) (sets u n c) s (meets c) refl
-    (λ y. sets-ahead limit u n all c e y) (λ open_still is. compared-reached limit u n before after t h open_still is)
+    let held_now = has_number n (kept terms u before) (held terms u before) in
+    ap (λ b. (if held_now || b then 0 else 1) + length (filter (meets c) (shown_entry terms all (shows u n t) after))) (comes_to-snoc u n after c)
+    ∙ entry_lem held_now (comes_to u n after) (is_ahead n (held terms u all)) (list_any (is_close u) after) (sets u n c) s (meets c) refl
+    (λ y. sets-ahead terms u n all c e y) (λ open_still is. compared-reached terms u n before after t done h open_still is)
 
-unmatched_in-push : (limit : ℕ) (before after : List Call) (c : Call) → AreAcceptedFrom limit before after → call_rule limit (before ++ after) c ≡ None
-    → unmatched_in limit before (after ++ c ∷ []) + length (filter (meets c) (waiting_in limit (before ++ after) after)) ≡ unmatched_in limit before after + unmatched_entry limit (before ++ after) c []
-unmatched_in-push limit before [] c h e = rw (append-nil before) (omega arith)
-unmatched_in-push limit before (d ∷ after) c h e =
+unmatched_in-push : (terms : Terms) (before after : List Call) (c : Call) → AreAccepted terms before → AreAcceptedFrom terms before after → call_rule terms (before ++ after) c ≡ None
+    → unmatched_in terms before (after ++ c ∷ []) + length (filter (meets c) (waiting_in terms (before ++ after) after)) ≡ unmatched_in terms before after + unmatched_entry terms (before ++ after) c []
+unmatched_in-push terms before [] c done h e = rw (append-nil before) (omega arith)
+unmatched_in-push terms before (d ∷ after) c done h e =
     let all = before ++ d ∷ after in
     let same : (before ++ d ∷ []) ++ after ≡ all = append_assoc before (d ∷ []) after in
-    let rest = unmatched_in-push limit (before ++ d ∷ []) after c h.1 (ap (λ l. call_rule limit l c) same ∙ e) in
-    let rest_all = subst (λ l. unmatched_in limit (before ++ d ∷ []) (after ++ c ∷ []) + length (filter (meets c) (waiting_in limit l after))
-    ≡ unmatched_in limit (before ++ d ∷ []) after + unmatched_entry limit l c []) same rest in
-    let one = entry-push limit before after d c h e in
-    let one_list = shown_entry limit all d after in
-    let rest_list = waiting_in limit all after in
+    let rest = unmatched_in-push terms (before ++ d ∷ []) after c (accepted-push terms before d done h.0) h.1 (ap (λ l. call_rule terms l c) same ∙ e) in
+    let rest_all = subst (λ l. unmatched_in terms (before ++ d ∷ []) (after ++ c ∷ []) + length (filter (meets c) (waiting_in terms l after))
+    ≡ unmatched_in terms (before ++ d ∷ []) after + unmatched_entry terms l c []) same rest in
+    let one = entry-push terms before after d c done h e in
+    let one_list = shown_entry terms all d after in
+    let rest_list = waiting_in terms all after in
     let split : length (filter (meets c) (one_list ++ rest_list)) ≡ length (filter (meets c) one_list) + length (filter (meets c) rest_list) =
     ap length (filter-append (meets c) one_list rest_list) ∙ length-append (filter (meets c) one_list) (filter (meets c) rest_list) in
     omega (arith, rest_all, one, split)
@@ -219,37 +222,41 @@ thirds c (s ∷ ws) =
 
 -- ---- all calls
 
-new-entry : (limit : ℕ) (calls : List Call) (c : Call) → call_rule limit calls c ≡ None → length (shown_entry limit (calls ++ c ∷ []) c []) ≡ unmatched_entry limit calls c []
-new-entry limit calls (opens u n t) e = refl
-new-entry limit calls (changes enc k u n cs) e = refl
-new-entry limit calls (closes u) e = refl
-new-entry limit calls (saves u t) e = refl
-new-entry limit calls (shows u n t) e =
-    let s : Shown = record { uri = u; version = versioned n t } in
-    let now = ap (is_ahead n) (held-shown limit calls u n t) in
-    elim (true_or_false (holds_number n (held limit u calls))) [
-      | inl p ↦ rw (now ∙ not_ahead n (held limit u calls) p, p) refl
-      | inr p ↦ rw (now ∙ ahead n t (held limit u calls) limit (versions_of u (waiting limit calls)) u e p, p) refl
-    ]
+counted : (f a : Bool) (s : Shown) → (f ≡ true → a ≡ false) → length (if a && true then s ∷ [] else []) + (if not a && not f then 1 else 0) ≡ (if f || false then 0 else 1)
+counted true true s h = absurd (true≢false (h refl))
+counted true false s h = refl
+counted false true s h = refl
+counted false false s h = refl
 
-split-push : (limit : ℕ) (calls : List Call) (c : Call) → AreAccepted limit calls → call_rule limit calls c ≡ None → unmatched limit calls ≡ length (waiting limit calls) + missed limit calls
-    → unmatched limit (calls ++ c ∷ []) ≡ length (waiting limit (calls ++ c ∷ [])) + missed limit (calls ++ c ∷ [])
-split-push limit calls c h e so_far =
-    let pushed = unmatched_in-push limit [] calls c h e in
-    let waits_now : length (waiting limit (calls ++ c ∷ [])) ≡ length (filter (still c) (waiting limit calls)) + length (shown_entry limit (calls ++ c ∷ []) c []) =
-    ap length (waiting-push limit calls c e) ∙ length-append (filter (still c) (waiting limit calls)) (shown_entry limit (calls ++ c ∷ []) c []) in
-    let missed_now = missed-push limit calls c in
-    let parts = thirds c (waiting limit calls) in
-    let new = new-entry limit calls c e in
+new-entry : (terms : Terms) (calls : List Call) (c : Call) → AreAccepted terms calls → length (shown_entry terms (calls ++ c ∷ []) c []) + missed_at terms calls c ≡ unmatched_entry terms calls c []
+new-entry terms calls (opens u n t) h = refl
+new-entry terms calls (changes enc k u n cs) h = refl
+new-entry terms calls (closes u) h = refl
+new-entry terms calls (saves u t) h = refl
+new-entry terms calls (shows u n t) h =
+    let s : Shown = record { uri = u; version = versioned n t } in
+    let c = shows u n t in
+    ap (λ o. length (if is_ahead n o && true then s ∷ [] else []) + missed_at terms calls c) (held-shown terms calls u n t)
+    ∙ counted (has_number n (kept terms u calls) (held terms u calls)) (is_ahead n (held terms u calls)) s (λ p. reached-number terms u calls n h p)
+
+split-push : (terms : Terms) (calls : List Call) (c : Call) → AreAccepted terms calls → call_rule terms calls c ≡ None → unmatched terms calls ≡ length (waiting terms calls) + missed terms calls
+    → unmatched terms (calls ++ c ∷ []) ≡ length (waiting terms (calls ++ c ∷ [])) + missed terms (calls ++ c ∷ [])
+split-push terms calls c h e so_far =
+    let pushed = unmatched_in-push terms [] calls c tt h e in
+    let waits_now : length (waiting terms (calls ++ c ∷ [])) ≡ length (filter (still c) (waiting terms calls)) + length (shown_entry terms (calls ++ c ∷ []) c []) =
+    ap length (waiting-push terms calls c e) ∙ length-append (filter (still c) (waiting terms calls)) (shown_entry terms (calls ++ c ∷ []) c []) in
+    let missed_now = missed-push terms calls c in
+    let parts = thirds c (waiting terms calls) in
+    let new = new-entry terms calls c h in
     omega (arith, pushed, waits_now, missed_now, parts, new, so_far)
 
-split-from : (limit : ℕ) (before after : List Call) → AreAccepted limit before → AreAcceptedFrom limit before after → unmatched limit before ≡ length (waiting limit before) + missed limit before
-    → unmatched limit (before ++ after) ≡ length (waiting limit (before ++ after)) + missed limit (before ++ after)
-split-from limit before [] done h so_far = subst (λ l. unmatched limit l ≡ length (waiting limit l) + missed limit l) (sym (append-nil before)) so_far
-split-from limit before (c ∷ after) done h so_far =
-    subst (λ l. unmatched limit l ≡ length (waiting limit l) + missed limit l) (append_assoc before (c ∷ []) after)
-    (split-from limit (before ++ c ∷ []) after (accepted-push limit before c done h.0) h.1 (split-push limit before c done h.0 so_far))
+split-from : (terms : Terms) (before after : List Call) → AreAccepted terms before → AreAcceptedFrom terms before after → unmatched terms before ≡ length (waiting terms before) + missed terms before
+    → unmatched terms (before ++ after) ≡ length (waiting terms (before ++ after)) + missed terms (before ++ after)
+split-from terms before [] done h so_far = subst (λ l. unmatched terms l ≡ length (waiting terms l) + missed terms l) (sym (append-nil before)) so_far
+split-from terms before (c ∷ after) done h so_far =
+    subst (λ l. unmatched terms l ≡ length (waiting terms l) + missed terms l) (append_assoc before (c ∷ []) after)
+    (split-from terms (before ++ c ∷ []) after (accepted-push terms before c done h.0) h.1 (split-push terms before c done h.0 so_far))
 
 -- **The snapshots that were never compared are those that wait and those that were missed.**
-pub unmatched-parts : (limit : ℕ) (calls : List Call) → AreAccepted limit calls → unmatched limit calls ≡ length (waiting limit calls) + missed limit calls
-unmatched-parts limit calls h = split-from limit [] calls tt h refl
+pub unmatched-parts : (terms : Terms) (calls : List Call) → AreAccepted terms calls → unmatched terms calls ≡ length (waiting terms calls) + missed terms calls
+unmatched-parts terms calls h = split-from terms [] calls tt h refl

@@ -9,12 +9,13 @@ use Rattle.std.proofs.lemmas.List.Folds.{list_any-append}
 use Rattle.lsp_types.specs.declared.position.Encoding.{Encoding}
 use Rattle.lsp_types.specs.declared.change.SyncKind.{SyncKind}
 use Rattle.lsp_docs.specs.Texts.{Text}
+use Rattle.lsp_docs.specs.Terms.{Terms}
 use Rattle.lsp_text.specs.Edits.{Edit, applied}
 use Rattle.lsp_docs.specs.Calls.{Bytes, Call, opens, changes, closes, saves, shows, is_close}
 use Rattle.lsp_docs.specs.Documents.{Version, versioned, revised, held}
 use Rattle.lsp_docs.specs.Snapshots.{Shown, is_ahead, waits, shown_entry, waiting_in, waiting, is_of, versions_of}
 use Rattle.lsp_docs.specs.Rules.{fits_kind, version_rule, text_rule, change_rule, call_rule}
-use Rattle.lsp_docs.specs.Missed.{ends_waiting, missed_from, missed}
+use Rattle.lsp_docs.specs.Missed.{ends_waiting, missed_at, missed_from, missed}
 use Rattle.lsp_docs.proofs.Words.{true_or_false, filter-append, map-append, uri_is, uri_flip, lt_trans}
 use Rattle.lsp_docs.proofs.HeldSteps.{next_held, held-snoc}
 
@@ -44,25 +45,25 @@ no_some None h = refl
 no_some (Some v) h = absurd (true≢false h)
 
 -- what an accepted change says
-pub record Changes (limit : ℕ) (ws : List Version) (enc : Encoding) (m : ℤ) (cs : List Edit) (h : Option Version) : Type 0 where
+pub record Changes (terms : Terms) (ws : List Version) (enc : Encoding) (m : ℤ) (cs : List Edit) (h : Option Version) : Type 0 where
   pub old : Version
   pub text : Text
   pub is : h ≡ Some old
   pub rises : int_lt old.number m ≡ true
-  pub made : applied limit enc old.text cs ≡ Ok text
+  pub made : applied terms.limit enc old.text cs ≡ Ok text
   pub agrees : version_rule ws (versioned m text) ≡ None
 
-text_made : (limit : ℕ) (ws : List Version) (m : ℤ) (r : Result Text ℕ) → text_rule ws m r ≡ None → (t : Text) × (r ≡ Ok t) × (version_rule ws (versioned m t) ≡ None)
-text_made limit ws m (Ok t) h = (t, refl, h)
-text_made limit ws m (Err rule) h = absurd (none-some rule (sym h))
+text_made : (terms : Terms) (ws : List Version) (m : ℤ) (r : Result Text ℕ) → text_rule ws m r ≡ None → (t : Text) × (r ≡ Ok t) × (version_rule ws (versioned m t) ≡ None)
+text_made terms ws m (Ok t) h = (t, refl, h)
+text_made terms ws m (Err rule) h = absurd (none-some rule (sym h))
 
-pub change_parts : (limit : ℕ) (ws : List Version) (enc : Encoding) (k : SyncKind) (m : ℤ) (cs : List Edit) (h : Option Version)
-    → change_rule limit ws enc k m cs h ≡ None → Changes limit ws enc m cs h
-change_parts limit ws enc k m cs None e = absurd (let n : ℕ = 602 in none-some n (sym e))
-change_parts limit ws enc k m cs (Some v) e =
+pub change_parts : (terms : Terms) (ws : List Version) (enc : Encoding) (k : SyncKind) (m : ℤ) (cs : List Edit) (h : Option Version)
+    → change_rule terms ws enc k m cs h ≡ None → Changes terms ws enc m cs h
+change_parts terms ws enc k m cs None e = absurd (let n : ℕ = 602 in none-some n (sym e))
+change_parts terms ws enc k m cs (Some v) e =
     let first = none_row (not (int_lt v.number m)) 603 _ e in
     let second = none_row (not (fits_kind k cs)) 604 _ first.1 in
-    let made = text_made limit ws m (applied limit enc v.text cs) second.1 in
+    let made = text_made terms ws m (applied terms.limit enc v.text cs) second.1 in
     record { old = v; text = made.0; is = refl; rises = not_false (int_lt v.number m) first.0; made = made.1; agrees = made.2 }
 
 -- ---- one more call, for one snapshot
@@ -90,39 +91,39 @@ lesser a m n h =
       | inr p ↦ rw (p, and_false (int_lt a n)) refl
     ]
 
-module _ (limit : ℕ) (uri : Bytes) (n : ℤ) where
-  same_ahead : (c : Call) → ((v : Version) → revised limit uri v c ≡ v) → (o : Option Version) → is_ahead n (option_or (option_map (λ v. revised limit uri v c) o) None) ≡ is_ahead n o
+module _ (terms : Terms) (uri : Bytes) (n : ℤ) where
+  same_ahead : (c : Call) → ((v : Version) → revised terms uri v c ≡ v) → (o : Option Version) → is_ahead n (option_or (option_map (λ v. revised terms uri v c) o) None) ≡ is_ahead n o
   same_ahead c same None = refl
   same_ahead c same (Some v) = ap (λ w. int_lt w.number n) (same v)
 
-  pub ahead-step : (calls : List Call) (c : Call) → call_rule limit calls c ≡ None
-      → (is_ahead n (next_held limit uri (held limit uri calls) c) && not (is_close uri c)) ≡ (is_ahead n (held limit uri calls) && still_at c uri n)
+  pub ahead-step : (calls : List Call) (c : Call) → call_rule terms calls c ≡ None
+      → (is_ahead n (next_held terms uri (held terms uri calls) c) && not (is_close uri c)) ≡ (is_ahead n (held terms uri calls) && still_at c uri n)
   ahead-step calls (opens u m t) e =
-      let none = no_some (held limit u calls) (none_row (is_some (held limit u calls)) 601 _ e).0 in
+      let none = no_some (held terms u calls) (none_row (is_some (held terms u calls)) 601 _ e).0 in
       elim (true_or_false (bytes_eq uri u)) [
-        | inl p ↦ rw (ap (λ x. held limit x calls) (uri_is uri u p) ∙ none, uri_flip u uri, p) (and_true (int_lt m n))
-        | inr p ↦ rw (uri_flip u uri, p) (ap (λ b. b && true) (same_ahead (opens u m t) (λ v. refl) (held limit uri calls)))
+        | inl p ↦ rw (ap (λ x. held terms x calls) (uri_is uri u p) ∙ none, uri_flip u uri, p) (and_true (int_lt m n))
+        | inr p ↦ rw (uri_flip u uri, p) (ap (λ b. b && true) (same_ahead (opens u m t) (λ v. refl) (held terms uri calls)))
       ]
   ahead-step calls (changes enc k u m cs) e =
-      let parts = change_parts limit _ enc k m cs (held limit u calls) e in
+      let parts = change_parts terms _ enc k m cs (held terms u calls) e in
       elim (true_or_false (bytes_eq uri u)) [
-        | inl p ↦ rw (ap (λ x. held limit x calls) (uri_is uri u p) ∙ parts.is, uri_flip u uri, p) (and_true (int_lt m n) ∙ lesser parts.old.number m n parts.rises)
-        | inr p ↦ ap (λ b. b && true) (same_ahead (changes enc k u m cs) (λ v. rw p refl) (held limit uri calls))
-            ∙ sym (ap (λ b. is_ahead n (held limit uri calls) && (not b || int_lt m n)) (uri_flip u uri ∙ p))
+        | inl p ↦ rw (ap (λ x. held terms x calls) (uri_is uri u p) ∙ parts.is, uri_flip u uri, p) (and_true (int_lt m n) ∙ lesser parts.old.number m n parts.rises)
+        | inr p ↦ ap (λ b. b && true) (same_ahead (changes enc k u m cs) (λ v. rw p refl) (held terms uri calls))
+            ∙ sym (ap (λ b. is_ahead n (held terms uri calls) && (not b || int_lt m n)) (uri_flip u uri ∙ p))
       ]
   ahead-step calls (closes u) e =
       elim (true_or_false (bytes_eq uri u)) [
-        | inl p ↦ rw (uri_flip u uri, p) (sym (and_false (is_ahead n (held limit uri calls))))
-        | inr p ↦ rw (uri_flip u uri, p) (ap (λ b. b && true) (same_ahead (closes u) (λ v. refl) (held limit uri calls)))
+        | inl p ↦ rw (uri_flip u uri, p) (sym (and_false (is_ahead n (held terms uri calls))))
+        | inr p ↦ rw (uri_flip u uri, p) (ap (λ b. b && true) (same_ahead (closes u) (λ v. refl) (held terms uri calls)))
       ]
-  ahead-step calls (saves u t) e = ap (λ b. b && true) (same_ahead (saves u t) (λ v. refl) (held limit uri calls))
-  ahead-step calls (shows u m t) e = ap (λ b. b && true) (same_ahead (shows u m t) (λ v. refl) (held limit uri calls))
+  ahead-step calls (saves u t) e = ap (λ b. b && true) (same_ahead (saves u t) (λ v. refl) (held terms uri calls))
+  ahead-step calls (shows u m t) e = ap (λ b. b && true) (same_ahead (shows u m t) (λ v. refl) (held terms uri calls))
 
-  pub waits-push : (calls after : List Call) (c : Call) → call_rule limit calls c ≡ None
-      → waits limit (calls ++ c ∷ []) uri n (after ++ c ∷ []) ≡ (waits limit calls uri n after && still_at c uri n)
+  pub waits-push : (calls after : List Call) (c : Call) → call_rule terms calls c ≡ None
+      → waits terms (calls ++ c ∷ []) uri n (after ++ c ∷ []) ≡ (waits terms calls uri n after && still_at c uri n)
   waits-push calls after c e =
-      rw (held-snoc limit uri calls c, list_any-append (is_close uri) after (c ∷ []))
-      (shuffle (is_ahead n (held limit uri calls)) (is_ahead n (next_held limit uri (held limit uri calls) c)) (list_any (is_close uri) after) (is_close uri c) (still_at c uri n) (ahead-step calls c e))
+      rw (held-snoc terms uri calls c, list_any-append (is_close uri) after (c ∷ []))
+      (shuffle (is_ahead n (held terms uri calls)) (is_ahead n (next_held terms uri (held terms uri calls) c)) (list_any (is_close uri) after) (is_close uri c) (still_at c uri n) (ahead-step calls c e))
 
 -- ---- all snapshots
 
@@ -130,36 +131,41 @@ entry_is : (a : Bool) (x : Shown) (p : Shown → Bool) → (if a && p x then x �
 entry_is false x p = refl
 entry_is true x p = elim (true_or_false (p x)) [ inl h ↦ rw h refl | inr h ↦ rw h refl ]
 
-shown_entry-push : (limit : ℕ) (calls after : List Call) (c d : Call) → call_rule limit calls c ≡ None
-    → shown_entry limit (calls ++ c ∷ []) d (after ++ c ∷ []) ≡ filter (still c) (shown_entry limit calls d after)
-shown_entry-push limit calls after c (opens u n t) e = refl
-shown_entry-push limit calls after c (changes enc k u n cs) e = refl
-shown_entry-push limit calls after c (closes u) e = refl
-shown_entry-push limit calls after c (saves u t) e = refl
-shown_entry-push limit calls after c (shows u n t) e =
+shown_entry-push : (terms : Terms) (calls after : List Call) (c d : Call) → call_rule terms calls c ≡ None
+    → shown_entry terms (calls ++ c ∷ []) d (after ++ c ∷ []) ≡ filter (still c) (shown_entry terms calls d after)
+shown_entry-push terms calls after c (opens u n t) e = refl
+shown_entry-push terms calls after c (changes enc k u n cs) e = refl
+shown_entry-push terms calls after c (closes u) e = refl
+shown_entry-push terms calls after c (saves u t) e = refl
+shown_entry-push terms calls after c (shows u n t) e =
     let x : Shown = record { uri = u; version = versioned n t } in
-    ap (λ b. if b then x ∷ [] else []) (waits-push limit u n calls after c e) ∙ entry_is (waits limit calls u n after) x (still c)
+    ap (λ b. if b then x ∷ [] else []) (waits-push terms u n calls after c e) ∙ entry_is (waits terms calls u n after) x (still c)
 
-waiting_in-push : (limit : ℕ) (calls after : List Call) (c : Call) → call_rule limit calls c ≡ None
-    → waiting_in limit (calls ++ c ∷ []) (after ++ c ∷ []) ≡ filter (still c) (waiting_in limit calls after) ++ shown_entry limit (calls ++ c ∷ []) c []
-waiting_in-push limit calls [] c e = append-nil (shown_entry limit (calls ++ c ∷ []) c [])
-waiting_in-push limit calls (d ∷ after) c e =
-    rw (shown_entry-push limit calls after c d e, waiting_in-push limit calls after c e, filter-append (still c) (shown_entry limit calls d after) (waiting_in limit calls after))
-    (sym (append_assoc (filter (still c) (shown_entry limit calls d after)) _ _))
+waiting_in-push : (terms : Terms) (calls after : List Call) (c : Call) → call_rule terms calls c ≡ None
+    → waiting_in terms (calls ++ c ∷ []) (after ++ c ∷ []) ≡ filter (still c) (waiting_in terms calls after) ++ shown_entry terms (calls ++ c ∷ []) c []
+waiting_in-push terms calls [] c e = append-nil (shown_entry terms (calls ++ c ∷ []) c [])
+waiting_in-push terms calls (d ∷ after) c e =
+    rw (shown_entry-push terms calls after c d e, waiting_in-push terms calls after c e, filter-append (still c) (shown_entry terms calls d after) (waiting_in terms calls after))
+    (sym (append_assoc (filter (still c) (shown_entry terms calls d after)) _ _))
 
 -- **One more call** ends the waiting of some snapshots, and one may come
-pub waiting-push : (limit : ℕ) (calls : List Call) (c : Call) → call_rule limit calls c ≡ None
-    → waiting limit (calls ++ c ∷ []) ≡ filter (still c) (waiting limit calls) ++ shown_entry limit (calls ++ c ∷ []) c []
-waiting-push limit calls c e = waiting_in-push limit calls calls c e
+pub waiting-push : (terms : Terms) (calls : List Call) (c : Call) → call_rule terms calls c ≡ None
+    → waiting terms (calls ++ c ∷ []) ≡ filter (still c) (waiting terms calls) ++ shown_entry terms (calls ++ c ∷ []) c []
+waiting-push terms calls c e = waiting_in-push terms calls calls c e
 
-missed_from-push : (limit : ℕ) (before after : List Call) (c : Call)
-    → missed_from limit before (after ++ c ∷ []) ≡ missed_from limit before after + length (filter (ends_waiting c) (waiting limit (before ++ after)))
-missed_from-push limit before [] c = rw (append-nil before) (omega arith)
-missed_from-push limit before (d ∷ after) c =
-    rw (missed_from-push limit (before ++ d ∷ []) after c, append_assoc before (d ∷ []) after) (omega arith)
+missed_from-push : (terms : Terms) (before after : List Call) (c : Call)
+    → missed_from terms before (after ++ c ∷ []) ≡ missed_from terms before after + (missed_at terms (before ++ after) c + length (filter (ends_waiting c) (waiting terms (before ++ after))))
+missed_from-push terms before [] c = rw (append-nil before) (omega arith)
+missed_from-push terms before (d ∷ after) c =
+    rw (missed_from-push terms (before ++ d ∷ []) after c, append_assoc before (d ∷ []) after) (omega arith)
 
-pub missed-push : (limit : ℕ) (calls : List Call) (c : Call) → missed limit (calls ++ c ∷ []) ≡ missed limit calls + length (filter (ends_waiting c) (waiting limit calls))
-missed-push limit calls c = missed_from-push limit [] calls c
+pub missed-push : (terms : Terms) (calls : List Call) (c : Call) → missed terms (calls ++ c ∷ []) ≡ missed terms calls + (missed_at terms calls c + length (filter (ends_waiting c) (waiting terms calls)))
+missed-push terms calls c = missed_from-push terms [] calls c
+
+-- a call that is no missed snapshot
+pub missed-quiet : (terms : Terms) (calls : List Call) (c : Call) → missed_at terms calls c ≡ 0
+    → missed terms (calls ++ c ∷ []) ≡ missed terms calls + length (filter (ends_waiting c) (waiting terms calls))
+missed-quiet terms calls c e = let pushed = missed-push terms calls c in omega (arith, pushed, e)
 
 -- ---- those of one URI
 

@@ -1,8 +1,10 @@
 -- What is held of each document, read off the calls that were made.
-use Rattle.std.specs.Prelude.{ℕ, ℤ, List, [], ◌∷◌, ◌++◌, if◌then◌else◌, Option, Some, None, Result, Ok, Err}
+use Rattle.std.specs.Prelude.{ℕ, ℤ, int_lt, Bool, List, [], ◌∷◌, ◌++◌, if◌then◌else◌, Option, Some, None, Result, Ok, Err}
 use Rattle.std.specs.List.{list_any}
 use Rattle.std.specs.Option.{option_or}
+use Rattle.std.specs.Ordering.{int_eq}
 use Rattle.std.specs.Str.{bytes_eq}
+use Rattle.lsp_docs.specs.Terms.{Terms}
 use Rattle.lsp_docs.specs.Texts.{Text}
 use Rattle.lsp_text.specs.Edits.{applied}
 use Rattle.lsp_docs.specs.Calls.{Bytes, Call, opens, changes, is_close}
@@ -15,6 +17,15 @@ pub record Version : Type 0 where
 abbrev pub versioned : ℤ → Text → Version
 versioned number text = record { number = number; text = text }
 
+abbrev pub is_after : ℤ → Version → Bool
+is_after number v = int_lt number v.number
+
+abbrev pub is_before : ℤ → Version → Bool
+is_before number v = int_lt v.number number
+
+abbrev pub is_at : ℤ → Version → Bool
+is_at number v = int_eq v.number number
+
 -- a call that opens this URI, and with what
 abbrev pub opening : Bytes → Call → Option Version
 opening uri (opens u number text) = if bytes_eq uri u then Some (versioned number text) else None
@@ -26,23 +37,23 @@ text_or old (Ok t) = t
 text_or old (Err rule) = old
 
 -- a document after a call: where the call changes it, at the new version, with the new text
-abbrev pub revised : ℕ → Bytes → Version → Call → Version
-revised limit uri v (changes enc kind u number cs) = if bytes_eq uri u then versioned number (text_or v.text (applied limit enc v.text cs)) else v
-revised limit uri v _ = v
+abbrev pub revised : Terms → Bytes → Version → Call → Version
+revised terms uri v (changes enc kind u number cs) = if bytes_eq uri u then versioned number (text_or v.text (applied terms.limit enc v.text cs)) else v
+revised terms uri v _ = v
 
-abbrev pub revised_by : ℕ → Bytes → Version → List Call → Version
-revised_by limit uri v [] = v
-revised_by limit uri v (c ∷ cs) = revised_by limit uri (revised limit uri v c) cs
+abbrev pub revised_by : Terms → Bytes → Version → List Call → Version
+revised_by terms uri v [] = v
+revised_by terms uri v (c ∷ cs) = revised_by terms uri (revised terms uri v c) cs
 
 -- what an opening has come to after these calls, unless one of them closes it
-abbrev pub held_since : ℕ → Bytes → List Call → Option Version → Option Version
-held_since limit uri after None = None
-held_since limit uri after (Some v) = if list_any (is_close uri) after then None else Some (revised_by limit uri v after)
+abbrev pub held_since : Terms → Bytes → List Call → Option Version → Option Version
+held_since terms uri after None = None
+held_since terms uri after (Some v) = if list_any (is_close uri) after then None else Some (revised_by terms uri v after)
 
 -- what is held of this URI after the calls: its opening that no close stands behind, with all later changes
-abbrev pub held : ℕ → Bytes → List Call → Option Version
-held limit uri [] = None
-held limit uri (c ∷ after) = option_or (held_since limit uri after (opening uri c)) (held limit uri after)
+abbrev pub held : Terms → Bytes → List Call → Option Version
+held terms uri [] = None
+held terms uri (c ∷ after) = option_or (held_since terms uri after (opening uri c)) (held terms uri after)
 
 -- an open document
 pub record Held : Type 0 where
@@ -53,11 +64,11 @@ abbrev pub as_held : Bytes → Option Version → List Held
 as_held uri None = []
 as_held uri (Some v) = record { uri = uri; version = v } ∷ []
 
-abbrev pub held_entry : ℕ → Call → List Call → List Held
-held_entry limit (opens uri number t) after = as_held uri (held_since limit uri after (Some (versioned number t)))
-held_entry limit _ after = []
+abbrev pub held_entry : Terms → Call → List Call → List Held
+held_entry terms (opens uri number t) after = as_held uri (held_since terms uri after (Some (versioned number t)))
+held_entry terms _ after = []
 
 -- the open documents, in order of opening
-abbrev pub documents : ℕ → List Call → List Held
-documents limit [] = []
-documents limit (c ∷ after) = held_entry limit c after ++ documents limit after
+abbrev pub documents : Terms → List Call → List Held
+documents terms [] = []
+documents terms (c ∷ after) = held_entry terms c after ++ documents terms after

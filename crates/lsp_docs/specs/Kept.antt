@@ -1,31 +1,26 @@
--- Snapshots, apart from where their texts lie in memory.
-use Rattle.std.specs.Prelude.{◌≡◌, ℕ, ℤ, ◌+◌, false, FitsSigned, List, [], ◌∷◌, map, length, string_bytes, String}
-use Rattle.std.specs.Global.{Global}
-use Rattle.std.specs.Int.{w32}
+-- The versions that an opening held before the present one, and which of them are kept.
+use Rattle.std.specs.Prelude.{ℕ, ◌-◌, List, [], ◌∷◌, ◌++◌, drop, length, ◌&&◌, not, if◌then◌else◌, option_to_list}
 use Rattle.std.specs.List.{list_any}
-use Rattle.std.specs.Str.{chars}
-use Rattle.lsp_docs.specs.Documents.{Version, versioned}
-use Rattle.lsp_docs.specs.State.{Queue, is_before}
-use Rattle.lsp_docs.specs.declared.snapshot.Snapshot.{Snapshot}
+use Rattle.lsp_docs.specs.Terms.{Terms}
+use Rattle.lsp_docs.specs.Calls.{Bytes, Call, is_close, is_change}
+use Rattle.lsp_docs.specs.Documents.{Version, held}
 
-abbrev pub version_of : Snapshot → Version
-version_of s = versioned s.version (chars (string_bytes s.text))
+-- the version that a `didChange` of the URI replaced, where no `didClose` stands behind it
+abbrev pub past_entry : Terms → Bytes → List Call → Call → List Call → List Version
+past_entry terms uri before c after = if is_change uri c && not (list_any (is_close uri) after) then option_to_list (held terms uri before) else []
 
-abbrev pub versions : List Snapshot → List Version
-versions ss = map version_of ss
+abbrev pub past_in : Terms → Bytes → List Call → List Call → List Version
+past_in terms uri before [] = []
+past_in terms uri before (c ∷ after) = past_entry terms uri before c after ++ past_in terms uri (before ++ c ∷ []) after
 
-abbrev pub queue_at : String Global × List Version → Queue
-queue_at e = record { uri = string_bytes e.0; versions = e.1 }
+-- the versions that the standing opening of this URI held before the present one, oldest first
+abbrev pub past : Terms → Bytes → List Call → List Version
+past terms uri calls = past_in terms uri [] calls
 
--- the map of the snapshots, as queues
-abbrev pub queues_in : List (String Global × List Version) → List Queue
-queues_in es = map queue_at es
+-- the last so many
+abbrev pub last_of : ℕ → List Version → List Version
+last_of n vs = drop (length vs - n) vs
 
-abbrev pub lengths : List (List Version) → ℕ
-lengths [] = 0
-lengths (v ∷ vs) = length v + lengths vs
-
--- a number of the program, which none of the versions is below
-pub record IsLeast (least : ℤ) (vs : List Version) : Type 0 where
-  pub fits : FitsSigned w32 least
-  pub none_below : list_any (is_before least) vs ≡ false
+-- those of them that are kept: the last ones, as many as the terms say
+abbrev pub kept : Terms → Bytes → List Call → List Version
+kept terms uri calls = last_of terms.kept (past terms uri calls)

@@ -1,13 +1,15 @@
 pub mod Texts
+pub mod Terms
 pub mod Calls
 pub mod Documents
+pub mod Kept
 pub mod Snapshots
 pub mod Rules
 pub mod Missed
 pub mod State
 pub mod Fault
 pub mod Opened
-pub mod Kept
+pub mod Stored
 pub mod Answer
 pub mod Binding
 pub mod Laws

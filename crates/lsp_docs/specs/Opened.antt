@@ -1,5 +1,5 @@
 -- The open documents as they are kept: the URIs in order of opening, beside what is held of each.
-use Rattle.std.specs.Prelude.{◌≡◌, ℕ, ℤ, List, [], ◌∷◌, ◌++◌, Bool, true, false, Option, None, is_some, string_bytes, String, Result, Ok}
+use Rattle.std.specs.Prelude.{◌≡◌, ℕ, ℤ, List, [], ◌∷◌, ◌++◌, map, true, false, Option, Some, None, is_some, string_bytes, String, Result, Ok}
 use Rattle.std.specs.Global.{Global}
 use Rattle.std.specs.List.{list_any}
 use Rattle.std.specs.Map.{lookup}
@@ -8,11 +8,24 @@ use Rattle.std.specs.Str.{bytes_eq}
 use Rattle.lsp_docs.specs.Texts.{Text}
 use Rattle.lsp_docs.specs.Calls.{Bytes}
 use Rattle.lsp_docs.specs.Documents.{Version, versioned, Held, as_held}
-use Rattle.lsp_docs.specs.State.{set_in}
+use Rattle.lsp_docs.specs.State.{Kept, set_in}
 
--- what a map holds of a URI
-abbrev pub held_by : {D : Type 0} → (D → Version) → List (String Global × D) → Bytes → Option Version
-held_by version es uri = option_map version (lookup (λ key. bytes_eq uri (string_bytes key)) es)
+-- the open documents in order of opening, and the versions that are kept of each URI
+pub record Opened : Type 0 where
+  pub held : List Held
+  pub kept : List Kept
+
+-- what a map has of a URI
+abbrev pub held_by : {D R : Type 0} → (D → R) → List (String Global × D) → Bytes → Option R
+held_by view es uri = option_map view (lookup (λ key. bytes_eq uri (string_bytes key)) es)
+
+abbrev pub or_nothing : Option (List Version) → List Version
+or_nothing None = []
+or_nothing (Some vs) = vs
+
+-- what is kept of these URIs
+abbrev pub kept_of : List Bytes → (Bytes → Option (List Version)) → List Kept
+kept_of uris held = map (λ uri. record { uri = uri; versions = or_nothing (held uri) }) uris
 
 -- the documents of these URIs
 abbrev pub listed : List Bytes → (Bytes → Option Version) → List Held

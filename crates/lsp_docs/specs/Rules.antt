@@ -1,15 +1,17 @@
 -- The rules of documents and snapshots: which one a call breaks, and which calls are accepted.
-use Rattle.std.specs.Prelude.{◌≡◌, ℕ, ℤ, int_lt, List, [], ◌∷◌, ◌++◌, Bool, true, false, ◌&&◌, not, if◌then◌else◌, Option, Some, None, is_some, is_none, Result, Ok, Err, nat_lt}
+use Rattle.std.specs.Prelude.{◌≡◌, ℕ, ℤ, int_lt, List, [], ◌∷◌, ◌++◌, Bool, true, false, ◌&&◌, ◌||◌, not, if◌then◌else◌, Option, Some, None, is_some, is_none, Result, Ok, Err, nat_lt}
 use Rattle.std.specs.List.{list_any, list_all}
 use Rattle.std.specs.Ordering.{int_eq}
 use Rattle.std.specs.Str.{bytes_eq}
 use Rattle.lsp_types.specs.declared.position.Encoding.{Encoding}
 use Rattle.lsp_types.specs.declared.change.SyncKind.{SyncKind}
 use Rattle.lsp_types.specs.declared.change.SyncKind.TheVariants.{Nothing, Full, Incremental}
+use Rattle.lsp_docs.specs.Terms.{Terms}
 use Rattle.lsp_docs.specs.Texts.{Text, byte_len}
 use Rattle.lsp_text.specs.Edits.{Edit, applied}
 use Rattle.lsp_docs.specs.Calls.{Call, opens, changes, closes, saves, shows, uri_of}
-use Rattle.lsp_docs.specs.Documents.{Version, versioned, held}
+use Rattle.lsp_docs.specs.Documents.{Version, versioned, is_after, held}
+use Rattle.lsp_docs.specs.Kept.{kept}
 use Rattle.lsp_docs.specs.Snapshots.{waiting, versions_of}
 
 -- the rule of the first row whose test holds
@@ -37,13 +39,13 @@ text_rule waits number (Err rule) = Some rule
 text_rule waits number (Ok t) = version_rule waits (versioned number t)
 
 -- `didChange`: 602 not open; 603 the version does not rise; 604 not of the agreed kind; 605 to 607 a change is refused; 702
-abbrev pub change_rule : ℕ → List Version → Encoding → SyncKind → ℤ → List Edit → Option Version → Option ℕ
-change_rule limit waits enc kind number cs None = Some 602
-change_rule limit waits enc kind number cs (Some v) =
+abbrev pub change_rule : Terms → List Version → Encoding → SyncKind → ℤ → List Edit → Option Version → Option ℕ
+change_rule terms waits enc kind number cs None = Some 602
+change_rule terms waits enc kind number cs (Some v) =
     first_row (
     (not (int_lt v.number number), Some 603)
     ∷ (not (fits_kind kind cs), Some 604)
-    ∷ (true, text_rule waits number (applied limit enc v.text cs))
+    ∷ (true, text_rule waits number (applied terms.limit enc v.text cs))
     ∷ [])
 
 -- `didSave`: 608 the document is open, and the saved text is another than the held one
@@ -51,36 +53,36 @@ abbrev pub save_rule : Option Text → Option Version → Option ℕ
 save_rule (Some t) (Some v) = if bytes_eq v.text t then None else Some 608
 save_rule _ _ = None
 
--- a snapshot: 701 a greater version is held; 702 its version is held, with another text
-abbrev pub show_rule : ℤ → Text → Option Version → Option ℕ
-show_rule number t None = None
-show_rule number t (Some v) =
+-- a snapshot: 701 its version is below each kept one and the held one; 702 a kept one or the held one is of its version, with another text
+abbrev pub show_rule : ℤ → Text → List Version → Option Version → Option ℕ
+show_rule number t kept None = None
+show_rule number t kept (Some v) =
     first_row (
-    (int_lt number v.number, Some 701)
-    ∷ (int_eq v.number number && not (bytes_eq v.text t), Some 702)
+    (list_all (is_after number) kept && int_lt number v.number, Some 701)
+    ∷ (list_any (λ w. differs w (versioned number t)) kept || differs v (versioned number t), Some 702)
     ∷ [])
 
--- the least rule that a call breaks, where this is held of its URI and these snapshots of it wait
-abbrev pub rule_of : ℕ → Option Version → List Version → Call → Option ℕ
-rule_of limit h waits (opens uri number t) =
+-- the least rule that a call breaks, where this is held of its URI, these versions are kept and these snapshots wait
+abbrev pub rule_of : Terms → Option Version → List Version → List Version → Call → Option ℕ
+rule_of terms h kept waits (opens uri number t) =
     first_row (
     (is_some h, Some 601)
-    ∷ (nat_lt limit (byte_len t), Some 607)
+    ∷ (nat_lt terms.limit (byte_len t), Some 607)
     ∷ (true, version_rule waits (versioned number t))
     ∷ [])
-rule_of limit h waits (changes enc kind uri number cs) = change_rule limit waits enc kind number cs h
-rule_of limit h waits (closes uri) = if is_some h then None else Some 602
-rule_of limit h waits (saves uri t) = save_rule t h
-rule_of limit h waits (shows uri number t) = show_rule number t h
+rule_of terms h kept waits (changes enc kind uri number cs) = change_rule terms waits enc kind number cs h
+rule_of terms h kept waits (closes uri) = if is_some h then None else Some 602
+rule_of terms h kept waits (saves uri t) = save_rule t h
+rule_of terms h kept waits (shows uri number t) = show_rule number t kept h
 
 -- the least rule that a call breaks after these calls, or none
-abbrev pub call_rule : ℕ → List Call → Call → Option ℕ
-call_rule limit before c = rule_of limit (held limit (uri_of c) before) (versions_of (uri_of c) (waiting limit before)) c
+abbrev pub call_rule : Terms → List Call → Call → Option ℕ
+call_rule terms before c = rule_of terms (held terms (uri_of c) before) (kept terms (uri_of c) before) (versions_of (uri_of c) (waiting terms before)) c
 
-abbrev pub AreAcceptedFrom : ℕ → List Call → List Call → Type 0
-AreAcceptedFrom limit before [] = Unit {0}
-AreAcceptedFrom limit before (c ∷ after) = (call_rule limit before c ≡ None) × AreAcceptedFrom limit (before ++ c ∷ []) after
+abbrev pub AreAcceptedFrom : Terms → List Call → List Call → Type 0
+AreAcceptedFrom terms before [] = Unit {0}
+AreAcceptedFrom terms before (c ∷ after) = (call_rule terms before c ≡ None) × AreAcceptedFrom terms (before ++ c ∷ []) after
 
 -- no call breaks a rule after those before it
-abbrev pub AreAccepted : ℕ → List Call → Type 0
-AreAccepted limit calls = AreAcceptedFrom limit [] calls
+abbrev pub AreAccepted : Terms → List Call → Type 0
+AreAccepted terms calls = AreAcceptedFrom terms [] calls

@@ -1,13 +1,14 @@
 -- What documents hold, and the calls that this stands for.
-use Rattle.std.specs.Prelude.{◌≡◌, ℕ, ℤ, ◌+◌, ◌-◌, ◌^◌, min, int_lt, List, [], ◌∷◌, ◌++◌, filter, length, Bool, if◌then◌else◌, not, Option, Some, None, Result, Ok}
-use Rattle.std.specs.Ordering.{int_eq}
+use Rattle.std.specs.Prelude.{◌≡◌, ℕ, ℤ, ◌+◌, ◌-◌, ◌^◌, ◌≤◌, min, int_lt, List, [], ◌∷◌, ◌++◌, filter, length, Bool, if◌then◌else◌, not, Option, Some, None, option_to_list, Result, Ok}
 use Rattle.std.specs.Str.{bytes_eq}
 use Rattle.lsp_types.specs.declared.position.Encoding.{Encoding}
 use Rattle.lsp_types.specs.declared.change.SyncKind.{SyncKind}
+use Rattle.lsp_docs.specs.Terms.{Terms}
 use Rattle.lsp_docs.specs.Texts.{Text}
 use Rattle.lsp_text.specs.Edits.{Edit, applied}
 use Rattle.lsp_docs.specs.Calls.{Bytes, Call, uri_of}
-use Rattle.lsp_docs.specs.Documents.{Version, versioned, Held, documents}
+use Rattle.lsp_docs.specs.Documents.{Version, versioned, is_after, is_before, Held, documents}
+use Rattle.lsp_docs.specs.Kept.{kept, last_of}
 use Rattle.lsp_docs.specs.Snapshots.{waiting, versions_of}
 use Rattle.lsp_docs.specs.Rules.{rule_of, first_row, fits_kind, AreAccepted}
 use Rattle.lsp_docs.specs.Missed.{missed}
@@ -22,9 +23,15 @@ pub record Waits : Type 0 where
   pub queues : List Queue
   pub missed : ℕ
 
+-- the versions that are kept of one URI
+pub record Kept : Type 0 where
+  pub uri : Bytes
+  pub versions : List Version
+
 pub record State : Type 0 where
-  pub limit : ℕ
+  pub terms : Terms
   pub documents : List Held
+  pub kept : List Kept
   pub waits : Waits
 
 -- a count, as far as 64 bits tell it
@@ -46,6 +53,24 @@ set_in uri v (h ∷ hs) = if bytes_eq uri h.uri then record { uri = h.uri; versi
 abbrev pub without : Bytes → List Held → List Held
 without uri [] = []
 without uri (h ∷ hs) = if bytes_eq uri h.uri then hs else h ∷ without uri hs
+
+-- ---- kept versions
+
+abbrev pub kept_in : Bytes → List Kept → List Version
+kept_in uri [] = []
+kept_in uri (k ∷ ks) = if bytes_eq uri k.uri then k.versions else kept_in uri ks
+
+-- the same is kept of each URI
+abbrev pub KeepsSame : List Kept → List Kept → Type 0
+KeepsSame old new = (u : Bytes) → kept_in u new ≡ kept_in u old
+
+-- the held version of the URI joins the last so many that are kept of it, where no more than so many were
+abbrev pub KeepsOn : ℕ → Bytes → Option Version → List Kept → List Kept → Type 0
+KeepsOn most uri h old new = length (kept_in uri old) ≤ most → (u : Bytes) → kept_in u new ≡ (if bytes_eq uri u then last_of most (kept_in u old ++ option_to_list h) else kept_in u old)
+
+-- nothing is kept of the URI
+abbrev pub KeepsNone : Bytes → List Kept → List Kept → Type 0
+KeepsNone uri old new = (u : Bytes) → kept_in u new ≡ (if bytes_eq uri u then [] else kept_in u old)
 
 -- ---- snapshots
 
@@ -73,15 +98,6 @@ abbrev pub total : List Queue → ℕ
 total [] = 0
 total (n ∷ ns) = length n.versions + total ns
 
-abbrev pub is_after : ℤ → Version → Bool
-is_after number v = int_lt number v.number
-
-abbrev pub is_before : ℤ → Version → Bool
-is_before number v = int_lt v.number number
-
-abbrev pub is_at : ℤ → Version → Bool
-is_at number v = int_eq v.number number
-
 -- the URI comes to this version: the snapshots of a greater one wait on, those of a lesser one are missed
 abbrev pub reached : Bytes → ℤ → Waits → Waits
 reached uri number w = record {
@@ -96,14 +112,18 @@ released uri w = record {
   missed = capped (w.missed + length (queue_of uri w.queues));
 }
 
+-- one more snapshot was passed over before it was shown
+abbrev pub missed_one : Waits → Waits
+missed_one w = record { queues = w.queues; missed = capped (w.missed + 1) }
+
 -- one more snapshot waits
 abbrev pub shown_to : Bytes → Version → Waits → Waits
 shown_to uri v w = record { queues = add_in uri v w.queues; missed = w.missed }
 
 -- ---- changes
 
-abbrev pub with_held : List Held → State → State
-with_held hs s = record { limit = s.limit; documents = hs; waits = s.waits }
+abbrev pub with_held : List Held → List Kept → State → State
+with_held hs ks s = record { terms = s.terms; documents = hs; kept = ks; waits = s.waits }
 
 abbrev pub text_in : Option Version → Text
 text_in None = []
@@ -111,13 +131,15 @@ text_in (Some v) = v.text
 
 -- what the changes make of the held text
 abbrev pub changed_at : State → Encoding → Bytes → List Edit → Result Text ℕ
-changed_at s enc uri cs = applied s.limit enc (text_in (held_in uri s.documents)) cs
+changed_at s enc uri cs = applied s.terms.limit enc (text_in (held_in uri s.documents)) cs
 
--- the URI has come to this version, with the text that the changes made
+-- the URI has come to this version, with the text that the changes made, and its held version is kept
 pub record IsChanged (old new : State) (uri : Bytes) (number : ℤ) (r : Result Text ℕ) : Type 0 where
   pub text : Text
   pub made : r ≡ Ok text
-  pub is : new ≡ with_held (set_in uri (versioned number text) old.documents) old
+  pub kept : List Kept
+  pub is : new ≡ with_held (set_in uri (versioned number text) old.documents) kept old
+  pub keeps : KeepsOn old.terms.kept uri (held_in uri old.documents) old.kept kept
 
 -- the rules of a change that don't look at its text
 abbrev pub early_rule : SyncKind → ℤ → List Edit → Option Version → Option ℕ
@@ -127,17 +149,18 @@ early_rule kind number cs (Some v) = first_row ((not (int_lt v.number number), S
 -- ---- standing for a list of calls
 
 -- the snapshots that wait are those that the definitions give for these calls
-pub record AreWaits (limit : ℕ) (w : Waits) (calls : List Call) : Type 0 where
-  pub queues : (uri : Bytes) → queue_of uri w.queues ≡ versions_of uri (waiting limit calls)
-  pub count : total w.queues ≡ length (waiting limit calls)
-  pub missed : w.missed ≡ capped (missed limit calls)
+pub record AreWaits (terms : Terms) (w : Waits) (calls : List Call) : Type 0 where
+  pub queues : (uri : Bytes) → queue_of uri w.queues ≡ versions_of uri (waiting terms calls)
+  pub count : total w.queues ≡ length (waiting terms calls)
+  pub missed : w.missed ≡ capped (missed terms calls)
 
 -- the state is what the definitions give for these calls, each of which was accepted
 pub record Stands (s : State) (calls : List Call) : Type 0 where
-  pub accepted : AreAccepted s.limit calls
-  pub documents : s.documents ≡ documents s.limit calls
-  pub waits : AreWaits s.limit s.waits calls
+  pub accepted : AreAccepted s.terms calls
+  pub documents : s.documents ≡ documents s.terms calls
+  pub kept : (uri : Bytes) → kept_in uri s.kept ≡ kept s.terms uri calls
+  pub waits : AreWaits s.terms s.waits calls
 
 -- the rule that a call breaks, read off the state
 abbrev pub rule_at : State → Call → Option ℕ
-rule_at s c = rule_of s.limit (held_in (uri_of c) s.documents) (queue_of (uri_of c) s.waits.queues) c
+rule_at s c = rule_of s.terms (held_in (uri_of c) s.documents) (kept_in (uri_of c) s.kept) (queue_of (uri_of c) s.waits.queues) c

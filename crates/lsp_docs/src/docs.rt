@@ -5,26 +5,30 @@ ghost use Rattle.std.specs.List.{list_any};
 ghost use Rattle.std.specs.Str.{chars};
 ghost use Rattle.lsp_docs.specs.declared.fault.DocFault.TheVariants.{Rule};
 ghost use Rattle.lsp_docs.specs.Texts.{byte_len};
+ghost use Rattle.lsp_docs.specs.Terms.{terms_of, kept_of as kept_by};
 ghost use Rattle.lsp_docs.specs.Calls.{Call, opens, changes as changes_by, closes, saves, shows};
 ghost use Rattle.lsp_docs.specs.Documents.{versioned, held, documents};
+ghost use Rattle.lsp_docs.specs.Kept.{kept};
+ghost use Rattle.lsp_docs.specs.Opened.{or_nothing};
 ghost use Rattle.lsp_docs.specs.Snapshots.{waiting, unmatched};
 ghost use Rattle.lsp_docs.specs.Rules.{differs, show_rule, text_rule, call_rule};
-ghost use Rattle.lsp_docs.specs.State.{capped, held_in, queue_of, set_in, changed_at, early_rule, IsChanged, with_held, Stands};
+ghost use Rattle.lsp_docs.specs.State.{capped, held_in, kept_in, queue_of, set_in, changed_at, early_rule, IsChanged, with_held, Stands};
 ghost use Rattle.lsp_docs.specs.Fault.{Names, IsRule, Breaks};
-ghost use Rattle.lsp_docs.specs.Kept.{version_of};
+ghost use Rattle.lsp_docs.specs.Stored.{version_of};
 ghost use Rattle.lsp_text.specs.Changes.{edits_of, edit_of};
 ghost use Rattle.lsp_docs.specs.Answer.{answer_of};
 
-use crate::document::{Document, has_text};
+use crate::document::Document;
 use crate::fault::{
     ALREADY_OPEN, DocFault, NOT_OPEN, OVER_LIMIT, SAVED_TEXT_DIFFERS, SNAPSHOT_DIFFERS,
     VERSION_STAYS, WRONG_KIND,
 };
 use crate::kind::fits_kind;
 use crate::opened::OpenDocuments;
+use crate::revision::has_text;
 use crate::snapshot::Match;
 use crate::waiting::Waiting;
-use lsp_frame::Limits;
+use lsp_frame::{Format, Limits};
 use lsp_text::{TextStore, change_all};
 use lsp_types::{Change, Encoding, SyncKind};
 use std::alloc::Global;
@@ -37,6 +41,7 @@ use std::marker::Model;
 #[derive(Drop)]
 pub struct Docs<S: TextStore> {
     limit: u64,
+    kept: usize,
     documents: OpenDocuments<S>,
     waiting: Waiting,
 }
@@ -47,20 +52,32 @@ impl<S: TextStore> Model for Docs<S> {
     ghost Value = { State };
 
     ghost view = { λ d. record {
-      limit = d.limit;
-      documents = d.documents;
+      terms = record { limit = d.limit; kept = d.kept };
+      documents = d.documents.held;
+      kept = d.documents.kept;
       waits = d.waiting;
     } };
 }
 
 impl<S: TextStore> Docs<S> {
-    /// No document is open. A text has at most `limits.document()` bytes of UTF-8.
+    /// No document is open. A text has at most `limits.document()` bytes of UTF-8, and no version
+    /// before the present one is kept, as in format 1.
     pub fn new(alloc: Global, limits: Limits) -> Self
-        ensures limit { result.limit ≡ limits.document }
+        ensures terms { result.terms ≡ terms_of limits Format.One }
+        ensures stands { Stands result [] }
+    {
+        Docs::of_format(alloc, limits, Format::One)
+    }
+
+    /// No document is open. A text has at most `limits.document()` bytes of UTF-8, and as many
+    /// versions before the present one are kept as in the logs of this format.
+    pub fn of_format(alloc: Global, limits: Limits, format: Format) -> Self
+        ensures terms { result.terms ≡ terms_of limits format }
         ensures stands { Stands result [] }
     {
         Docs {
             limit: limits.document(),
+            kept: kept_of(format),
             documents: OpenDocuments::new(alloc),
             waiting: Waiting::new(alloc),
         }
@@ -68,7 +85,7 @@ impl<S: TextStore> Docs<S> {
 
     /// How many documents are open.
     pub fn len(&self) -> usize
-        ensures { (calls : List Call) → Stands self.now calls → result ≡ length (documents self.now.limit calls) }
+        ensures { (calls : List Call) → Stands self.now calls → result ≡ length (documents self.now.terms calls) }
     {
         self.documents.len()
     }
@@ -76,7 +93,7 @@ impl<S: TextStore> Docs<S> {
     /// The URI of the document at this place in order of opening, from 0.
     pub fn at(&self, index: usize) -> Option<&str>
         ensures { (calls : List Call) → Stands self.now calls
-            → option_map (λ uri. uri.now) result ≡ slice_get (map (λ h. h.uri) (documents self.now.limit calls)) index }
+            → option_map (λ uri. uri.now) result ≡ slice_get (map (λ h. h.uri) (documents self.now.terms calls)) index }
     {
         self.documents.at(index)
     }
@@ -92,10 +109,10 @@ impl<S: TextStore> Docs<S> {
     /// The version that the server holds of a URI, if it is open.
     pub fn version_of(&self, uri: &str) -> Option<i32>
         ensures { (calls : List Call) → Stands self.now calls
-            → result ≡ option_map (λ v. v.number) (held self.now.limit uri.now calls) }
+            → result ≡ option_map (λ v. v.number) (held self.now.terms uri.now calls) }
     {
         match self.get(uri) {
-            Some(document) => Some(document.version),
+            Some(document) => Some(document.held.version),
             None => None,
         }
     }
@@ -103,24 +120,24 @@ impl<S: TextStore> Docs<S> {
     /// The text that the server holds of a URI, if it is open.
     pub fn store_of(&self, uri: &str) -> Option<&S>
         ensures { (calls : List Call) → Stands self.now calls
-            → option_map (λ store. S.content store.now) result ≡ option_map (λ v. v.text) (held self.now.limit uri.now calls) }
+            → option_map (λ store. S.content store.now) result ≡ option_map (λ v. v.text) (held self.now.terms uri.now calls) }
     {
         match self.get(uri) {
-            Some(document) => Some(&document.store),
+            Some(document) => Some(&document.held.store),
             None => None,
         }
     }
 
     /// How many snapshots may still be compared, at most 2^64 - 1.
     pub fn waiting(&self) -> u64
-        ensures { (calls : List Call) → Stands self.now calls → result ≡ capped (length (waiting self.now.limit calls)) }
+        ensures { (calls : List Call) → Stands self.now calls → result ≡ capped (length (waiting self.now.terms calls)) }
     {
         self.waiting.len()
     }
 
     /// How many snapshots were never compared so far, those that wait included, at most 2^64 - 1.
     pub fn unmatched(&self) -> u64
-        ensures { (calls : List Call) → Stands self.now calls → result ≡ capped (unmatched self.now.limit calls) }
+        ensures { (calls : List Call) → Stands self.now calls → result ≡ capped (unmatched self.now.terms calls) }
     {
         self.waiting.unmatched()
     }
@@ -133,10 +150,10 @@ impl<S: TextStore> Docs<S> {
         ensures stands { OnOk result ((calls : List Call) → Stands self.old calls
             → Stands self.new (calls ++ opens uri.now version (chars text.now) ∷ [])) }
         ensures accepted { OnOk result ((calls : List Call) → Stands self.old calls
-            → call_rule self.old.limit calls (opens uri.now version (chars text.now)) ≡ None) }
-        ensures limit { self.new.limit ≡ self.old.limit }
+            → call_rule self.old.terms calls (opens uri.now version (chars text.now)) ≡ None) }
+        ensures terms { self.new.terms ≡ self.old.terms }
         ensures rule { IfErr result (λ fault. (calls : List Call) → Stands self.old calls
-            → Names (call_rule self.old.limit calls (opens uri.now version (chars text.now))) fault) }
+            → Names (call_rule self.old.terms calls (opens uri.now version (chars text.now))) fault) }
         ensures err { OnErr result (self.new ≡ self.old) }
     {
         let store = self.new_store(uri, text)?;
@@ -166,10 +183,10 @@ impl<S: TextStore> Docs<S> {
         ensures stands { OnOk result ((calls : List Call) → Stands self.old calls
             → Stands self.new (calls ++ changes_by encoding kind uri.now version (edits_of changes.now) ∷ [])) }
         ensures accepted { OnOk result ((calls : List Call) → Stands self.old calls
-            → call_rule self.old.limit calls (changes_by encoding kind uri.now version (edits_of changes.now)) ≡ None) }
-        ensures limit { self.new.limit ≡ self.old.limit }
+            → call_rule self.old.terms calls (changes_by encoding kind uri.now version (edits_of changes.now)) ≡ None) }
+        ensures terms { self.new.terms ≡ self.old.terms }
         ensures rule { IfErr result (λ fault. (calls : List Call) → Stands self.old calls
-            → Names (call_rule self.old.limit calls (changes_by encoding kind uri.now version (edits_of changes.now))) fault) }
+            → Names (call_rule self.old.terms calls (changes_by encoding kind uri.now version (edits_of changes.now))) fault) }
         ensures err { OnErr result (self.new ≡ self.old) }
     {
         if let Some(rule) = self.change_rule(kind, uri, version, changes) {
@@ -187,10 +204,10 @@ impl<S: TextStore> Docs<S> {
         ensures stands { OnOk result ((calls : List Call) → Stands self.old calls
             → Stands self.new (calls ++ closes uri.now ∷ [])) }
         ensures accepted { OnOk result ((calls : List Call) → Stands self.old calls
-            → call_rule self.old.limit calls (closes uri.now) ≡ None) }
-        ensures limit { self.new.limit ≡ self.old.limit }
+            → call_rule self.old.terms calls (closes uri.now) ≡ None) }
+        ensures terms { self.new.terms ≡ self.old.terms }
         ensures rule { IfErr result (λ fault. (calls : List Call) → Stands self.old calls
-            → Names (call_rule self.old.limit calls (closes uri.now)) fault) }
+            → Names (call_rule self.old.terms calls (closes uri.now)) fault) }
         ensures rule_only { IfErr result IsRule }
         ensures err { OnErr result (self.new ≡ self.old) }
     {
@@ -208,9 +225,9 @@ impl<S: TextStore> Docs<S> {
         ensures stands { OnOk result ((calls : List Call) → Stands self.now calls
             → Stands self.now (calls ++ saves uri.now (option_map (λ t. chars t.now) text.entry) ∷ [])) }
         ensures accepted { OnOk result ((calls : List Call) → Stands self.now calls
-            → call_rule self.now.limit calls (saves uri.now (option_map (λ t. chars t.now) text.entry)) ≡ None) }
+            → call_rule self.now.terms calls (saves uri.now (option_map (λ t. chars t.now) text.entry)) ≡ None) }
         ensures rule { IfErr result (λ fault. (calls : List Call) → Stands self.now calls
-            → Names (call_rule self.now.limit calls (saves uri.now (option_map (λ t. chars t.now) text.entry))) fault) }
+            → Names (call_rule self.now.terms calls (saves uri.now (option_map (λ t. chars t.now) text.entry))) fault) }
         ensures rule_only { IfErr result IsRule }
     {
         let Some(text) = text else {
@@ -219,26 +236,28 @@ impl<S: TextStore> Docs<S> {
         let Some(document) = self.get(uri) else {
             return Ok(());
         };
-        if has_text(&document.store, text) {
+        if has_text(&document.held.store, text) {
             Ok(())
         } else {
             Err(DocFault::Rule(SAVED_TEXT_DIFFERS))
         }
     }
 
-    /// Takes a snapshot: it is compared at once where its version is held, and else waits for it.
+    /// Takes a snapshot: it is compared at once where its version is held or kept, and waits for a version that is still
+    /// to come. One whose version lies between kept ones is missed.
     ///
-    /// Refused by 701 where a greater version is held, and by 702 where its version is held with another text.
+    /// Refused by 701 where its version is below the held one and each kept one, and by 702 where its version is held or
+    /// kept with another text.
     pub fn snapshot(&mut self, uri: &str, version: i32, text: &str) -> Result<Match, DocFault>
         ensures stands { OnOk result ((calls : List Call) → Stands self.old calls
             → Stands self.new (calls ++ shows uri.now version (chars text.now) ∷ [])) }
         ensures accepted { OnOk result ((calls : List Call) → Stands self.old calls
-            → call_rule self.old.limit calls (shows uri.now version (chars text.now)) ≡ None) }
+            → call_rule self.old.terms calls (shows uri.now version (chars text.now)) ≡ None) }
         ensures answer { IfOk result (λ answer. (calls : List Call) → Stands self.old calls
-            → answer ≡ answer_of version (held self.old.limit uri.now calls)) }
-        ensures limit { self.new.limit ≡ self.old.limit }
+            → answer ≡ answer_of version (kept self.old.terms uri.now calls) (held self.old.terms uri.now calls)) }
+        ensures terms { self.new.terms ≡ self.old.terms }
         ensures rule { IfErr result (λ fault. (calls : List Call) → Stands self.old calls
-            → Names (call_rule self.old.limit calls (shows uri.now version (chars text.now))) fault) }
+            → Names (call_rule self.old.terms calls (shows uri.now version (chars text.now))) fault) }
         ensures err { OnErr result (self.new ≡ self.old) }
     {
         match self.judge(uri, version, text)? {
@@ -247,14 +266,18 @@ impl<S: TextStore> Docs<S> {
                 self.waiting.add(uri, version, text)?;
                 Ok(Match::Waits)
             }
+            Match::Missed => {
+                self.waiting.miss();
+                Ok(Match::Missed)
+            }
         }
     }
 
-    /// Judges a snapshot by what is held of its URI.
+    /// Judges a snapshot by what is held and kept of its URI.
     fn judge(&self, uri: &str, version: i32, text: &str) -> Result<Match, DocFault>
-        ensures answer { IfOk result (λ answer. answer ≡ answer_of version (held_in uri.now self.now.documents)) }
-        ensures allowed { OnOk result (show_rule version (chars text.now) (held_in uri.now self.now.documents) ≡ None) }
-        ensures rule { IfErr result (Names (show_rule version (chars text.now) (held_in uri.now self.now.documents))) }
+        ensures answer { IfOk result (λ answer. answer ≡ answer_of version (kept_in uri.now self.now.kept) (held_in uri.now self.now.documents)) }
+        ensures allowed { OnOk result (show_rule version (chars text.now) (kept_in uri.now self.now.kept) (held_in uri.now self.now.documents) ≡ None) }
+        ensures rule { IfErr result (Names (show_rule version (chars text.now) (kept_in uri.now self.now.kept) (held_in uri.now self.now.documents))) }
     {
         match self.get(uri) {
             Some(document) => document.judge(version, text),
@@ -263,7 +286,8 @@ impl<S: TextStore> Docs<S> {
     }
 
     fn get(&self, uri: &str) -> Option<&Document<S>>
-        ensures { option_map (λ d. versioned d.now.version (S.content d.now.store)) result ≡ held_in uri.now self.now.documents }
+        ensures held { option_map (λ d. versioned d.now.held.version (S.content d.now.held.store)) result ≡ held_in uri.now self.now.documents }
+        ensures kept { or_nothing (option_map (λ d. d.now.kept) result) ≡ kept_in uri.now self.now.kept }
     {
         self.documents.get(uri)
     }
@@ -272,9 +296,9 @@ impl<S: TextStore> Docs<S> {
     fn new_store(&self, uri: &str, text: &str) -> Result<S, DocFault>
         ensures store { IfOk result (λ store. S.content store ≡ chars text.now) }
         ensures new { OnOk result (held_in uri.now self.now.documents ≡ None) }
-        ensures fits { OnOk result (nat_lt self.now.limit (byte_len (chars text.now)) ≡ false) }
+        ensures fits { OnOk result (nat_lt self.now.terms.limit (byte_len (chars text.now)) ≡ false) }
         ensures rule { IfErr result (Names (if is_some (held_in uri.now self.now.documents) then Some 601
-            else (if nat_lt self.now.limit (byte_len (chars text.now)) then Some 607 else None))) }
+            else (if nat_lt self.now.terms.limit (byte_len (chars text.now)) then Some 607 else None))) }
     {
         if self.get(uri).is_some() {
             return Err(DocFault::Rule(ALREADY_OPEN));
@@ -306,7 +330,7 @@ impl<S: TextStore> Docs<S> {
         let Some(document) = self.get(uri) else {
             return Some(NOT_OPEN);
         };
-        if version <= document.version {
+        if version <= document.held.version {
             Some(VERSION_STAYS)
         } else if !fits_kind(kind, changes) {
             Some(WRONG_KIND)
@@ -331,14 +355,14 @@ impl<S: TextStore> Docs<S> {
             (changed_at self.old encoding uri.now (edits_of changes.now)))) }
         ensures err { OnErr result (self.new ≡ self.old) }
     {
-        if changes.len() == 1 && !self.waiting.is_due(uri, version) {
+        if self.kept == 0 && changes.len() == 1 && !self.waiting.is_due(uri, version) {
             self.change_held(encoding, uri, version, &changes[0])
         } else {
             self.change_copy(encoding, uri, version, changes)
         }
     }
 
-    /// Makes one change in the held store, which a refused change leaves as it is.
+    /// Makes one change in the held store, which a refused change leaves as it is, where no version is kept.
     fn change_held(
         &mut self,
         encoding: Encoding,
@@ -346,7 +370,8 @@ impl<S: TextStore> Docs<S> {
         version: i32,
         change: &Change,
     ) -> Result<(), DocFault>
-        requires { is_some (held_in uri.now self.old.documents) ≡ true }
+        requires open { is_some (held_in uri.now self.old.documents) ≡ true }
+        requires none { self.old.terms.kept ≡ 0 }
         ensures ok { OnOk result (IsChanged self.old self.new uri.now version (changed_at self.old encoding uri.now (edit_of change.now ∷ []))) }
         ensures fault { IfErr result (Breaks (changed_at self.old encoding uri.now (edit_of change.now ∷ []))) }
         ensures err { OnErr result (self.new ≡ self.old) }
@@ -375,7 +400,7 @@ impl<S: TextStore> Docs<S> {
         if self.refutes(uri, version, &changed) {
             return Err(DocFault::Rule(SNAPSHOT_DIFFERS));
         }
-        self.documents.set(uri, version, changed);
+        self.documents.revise(self.kept, uri, version, changed)?;
         Ok(())
     }
 
@@ -391,8 +416,18 @@ impl<S: TextStore> Docs<S> {
         ensures fault { IfErr result (Breaks (changed_at self.now encoding uri.now (edits_of changes.now))) }
     {
         let document = self.get(uri).unwrap();
-        let mut store = document.store.copy(self.documents.alloc())?;
+        let mut store = document.held.store.copy(self.documents.alloc())?;
         change_all(&mut store, encoding, changes, self.limit)?;
         Ok(store)
+    }
+}
+
+/// How many versions before the present one a format keeps.
+fn kept_of(format: Format) -> usize
+    ensures { result ≡ kept_by format }
+{
+    match format {
+        Format::One => 0,
+        Format::Two => 16,
     }
 }

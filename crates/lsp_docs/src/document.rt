@@ -1,72 +1,91 @@
 //! One open document.
 
-ghost use Rattle.std.specs.Prelude.{◌≡◌, None, Some, Ok, [], ◌∷◌, IfErr, IfOk, OnOk, OnErr};
-ghost use Rattle.std.specs.Str.{chars, bytes_eq};
-ghost use Rattle.lsp_text.specs.Edits.{applied};
+ghost use Rattle.std.specs.Prelude.{◌≡◌, ◌≤◌, None, Some, [], ◌++◌, ◌∷◌, length, IfErr, IfOk, OnOk, OnErr};
+ghost use Rattle.std.specs.Str.{chars};
 ghost use Rattle.lsp_docs.specs.Documents.{versioned};
+ghost use Rattle.lsp_docs.specs.Kept.{last_of};
 ghost use Rattle.lsp_docs.specs.Rules.{show_rule};
 ghost use Rattle.lsp_docs.specs.Answer.{answer_of};
-ghost use Rattle.lsp_docs.specs.Fault.{Breaks, Names};
-ghost use Rattle.lsp_text.specs.Changes.{edit_of};
+ghost use Rattle.lsp_docs.specs.Fault.{Names};
 
 use crate::fault::{DocFault, LATE_SNAPSHOT, SNAPSHOT_DIFFERS};
+use crate::history::History;
+use crate::revision::Revision;
 use crate::snapshot::Match;
-use lsp_text::{TextStore, change};
-use lsp_types::{Change, Encoding};
+use lsp_text::TextStore;
+use std::alloc::{AllocError, Global};
 
-/// A text at its version.
+/// The version that is held of a document, and those that are kept of what was held before.
 #[derive(Drop)]
 pub(crate) struct Document<S: TextStore> {
-    pub(crate) version: i32,
-    pub(crate) store: S,
+    pub(crate) held: Revision<S>,
+    pub(crate) kept: History<S>,
 }
 
 impl<S: TextStore> Document<S> {
-    /// Makes one change, and holds the version if it was made.
-    pub(crate) fn change(
-        &mut self,
-        limit: u64,
-        encoding: Encoding,
-        version: i32,
-        edit: &Change,
-    ) -> Result<(), DocFault>
-        ensures ok { OnOk result (applied limit encoding (S.content self.old.store) (edit_of edit.now ∷ []) ≡ Ok (S.content self.new.store)) }
-        ensures version { OnOk result (self.new.version ≡ version) }
-        ensures fault { IfErr result (Breaks (applied limit encoding (S.content self.old.store) (edit_of edit.now ∷ []))) }
-        ensures err { OnErr result ((self.new.version ≡ self.old.version) × (S.content self.new.store ≡ S.content self.old.store)) }
+    /// A document that is opened with this version.
+    pub(crate) fn new(alloc: Global, version: i32, store: S) -> Self
+        ensures version { result.held.version ≡ version }
+        ensures store { S.content result.held.store ≡ S.content store }
+        ensures kept { result.kept ≡ [] }
     {
-        change(
-            &mut self.store,
-            encoding,
-            edit.span,
-            edit.text.as_str(),
-            limit,
-        )?;
-        self.version = version;
-        Ok(())
-    }
-
-    /// Judges a snapshot by what is held: it is late, or equal, or differs, or its version is still to come.
-    pub(crate) fn judge(&self, version: i32, text: &str) -> Result<Match, DocFault>
-        ensures answer { IfOk result (λ answer. answer ≡ answer_of version (Some (versioned self.now.version (S.content self.now.store)))) }
-        ensures allowed { OnOk result (show_rule version (chars text.now) (Some (versioned self.now.version (S.content self.now.store))) ≡ None) }
-        ensures rule { IfErr result (Names (show_rule version (chars text.now) (Some (versioned self.now.version (S.content self.now.store))))) }
-    {
-        if version < self.version {
-            Err(DocFault::Rule(LATE_SNAPSHOT))
-        } else if self.version < version {
-            Ok(Match::Waits)
-        } else if has_text(&self.store, text) {
-            Ok(Match::Equal)
-        } else {
-            Err(DocFault::Rule(SNAPSHOT_DIFFERS))
+        Document {
+            held: Revision { version, store },
+            kept: History::new(alloc),
         }
     }
-}
 
-/// Whether a store holds this text.
-pub(crate) fn has_text<S: TextStore>(store: &S, text: &str) -> bool
-    ensures { result ≡ bytes_eq (S.content store.now) (chars text.now) }
-{
-    store.equals(text)
+    /// Puts a version in the place of the held one, which is kept as the last of at most so many.
+    pub(crate) fn revise(&mut self, most: usize, version: i32, store: S) -> Result<(), AllocError>
+        ensures version { OnOk result (self.new.held.version ≡ version) }
+        ensures store { OnOk result (S.content self.new.held.store ≡ S.content store) }
+        ensures kept { OnOk result (length self.old.kept ≤ most
+            → self.new.kept ≡ last_of most (self.old.kept ++ versioned self.old.held.version (S.content self.old.held.store) ∷ [])) }
+        ensures err { OnErr result (self.new ≡ self.old) }
+    {
+        let next = Revision { version, store };
+        if most == 0 {
+            self.held = next;
+            return Ok(());
+        }
+        self.kept.revise(most, &mut self.held, next)
+    }
+
+    /// Judges a snapshot by what is held and kept.
+    pub(crate) fn judge(&self, version: i32, text: &str) -> Result<Match, DocFault>
+        ensures answer { IfOk result (λ answer. answer ≡ answer_of version self.now.kept (Some (versioned self.now.held.version (S.content self.now.held.store)))) }
+        ensures allowed { OnOk result (show_rule version (chars text.now) self.now.kept (Some (versioned self.now.held.version (S.content self.now.held.store))) ≡ None) }
+        ensures rule { IfErr result (Names (show_rule version (chars text.now) self.now.kept (Some (versioned self.now.held.version (S.content self.now.held.store))))) }
+    {
+        match self.rule(version, text) {
+            Some(rule) => Err(DocFault::Rule(rule)),
+            None => Ok(self.answer(version)),
+        }
+    }
+
+    /// The rule that a snapshot breaks.
+    fn rule(&self, version: i32, text: &str) -> Option<u16>
+        ensures { result ≡ show_rule version (chars text.now) self.now.kept (Some (versioned self.now.held.version (S.content self.now.held.store))) }
+    {
+        if self.kept.is_after(version) && version < self.held.version {
+            Some(LATE_SNAPSHOT)
+        } else if self.kept.any_differs(version, text) || self.held.differs(version, text) {
+            Some(SNAPSHOT_DIFFERS)
+        } else {
+            None
+        }
+    }
+
+    /// What a snapshot that breaks no rule comes to.
+    fn answer(&self, version: i32) -> Match
+        ensures { result ≡ answer_of version self.now.kept (Some (versioned self.now.held.version (S.content self.now.held.store))) }
+    {
+        if self.kept.has(version) || self.held.version == version {
+            Match::Equal
+        } else if self.held.version < version {
+            Match::Waits
+        } else {
+            Match::Missed
+        }
+    }
 }

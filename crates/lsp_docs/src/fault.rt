@@ -26,7 +26,7 @@ pub(crate) const OVER_LIMIT: u16 = 607;
 /// `didSave` with a text that is not the held one.
 pub(crate) const SAVED_TEXT_DIFFERS: u16 = 608;
 
-/// A snapshot of a lesser version than the held one.
+/// A snapshot of a lesser version than the held one and each kept one.
 pub(crate) const LATE_SNAPSHOT: u16 = 701;
 
 /// A snapshot of another text than the one held at its version.

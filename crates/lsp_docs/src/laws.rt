@@ -1,6 +1,6 @@
 //! Laws of the definitions, over any list of accepted calls. Each function has no code: its contract is the law.
 
-ghost use Rattle.lsp_docs.specs.Laws.{VersionsRise, SnapshotsAgree, HeldIsShown, SettersCompare, DocumentsAreHeld};
+ghost use Rattle.lsp_docs.specs.Laws.{VersionsRise, SnapshotsAgree, HeldIsShown, SettersCompare, DocumentsAreHeld, KeptVersionsRise, NothingKept};
 
 /// The versions of each opening strictly rise with its changes (LSP 3.17, "DidChangeTextDocument Notification").
 pub fn versions_rise()
@@ -25,4 +25,14 @@ pub fn documents_are_held()
 /// A snapshot is compared exactly where its opening comes to its version, before the snapshot or behind it.
 pub fn setters_compare()
     ensures { SettersCompare }
+{}
+
+/// The versions that are kept of an opening strictly rise, and lie below the held one.
+pub fn kept_versions_rise()
+    ensures { KeptVersionsRise }
+{}
+
+/// Where no version is kept, each snapshot below the held version is refused as late.
+pub fn nothing_kept()
+    ensures { NothingKept }
 {}

@@ -2,23 +2,26 @@
 //!
 //! [`Docs`] follows `didOpen`, `didChange`, `didClose` and `didSave` (LSP 3.17, "Text Document Synchronization") over any
 //! store of texts. A snapshot is a URI, a version and a text: it is compared with what is held at that version, at once or
-//! when the version comes, and otherwise counted as unmatched. A call that breaks a rule is refused with the rule's number
+//! when the version comes, or with a kept version, and otherwise counted as unmatched. A call that breaks a rule is refused with the rule's number
 //! and changes nothing.
 #![tactic(auto)]
 
 mod docs;
 mod document;
 mod fault;
+mod history;
 mod kind;
 mod laws;
 mod opened;
 mod queue;
+mod revision;
 mod snapshot;
 mod waiting;
 
 pub use docs::Docs;
 pub use fault::DocFault;
 pub use laws::{
-    documents_are_held, held_is_shown, setters_compare, snapshots_agree, versions_rise,
+    documents_are_held, held_is_shown, kept_versions_rise, nothing_kept, setters_compare,
+    snapshots_agree, versions_rise,
 };
 pub use snapshot::Match;

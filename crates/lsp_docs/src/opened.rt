@@ -1,12 +1,12 @@
 //! The documents that are open, in order of opening.
 
-ghost use Rattle.std.specs.Prelude.{◌≡◌, [], ◌++◌, ◌∷◌, None, true, length, map, slice_get, is_some, IfErr, OnOk, OnErr, option_map};
+ghost use Rattle.std.specs.Prelude.{◌≡◌, [], ◌++◌, ◌∷◌, None, true, false, length, map, slice_get, is_some, IfErr, OnOk, OnErr, option_map};
 ghost use Rattle.lsp_text.specs.Changes.{edit_of};
 ghost use Rattle.lsp_text.specs.Edits.{applied};
 ghost use Rattle.lsp_docs.specs.Documents.{versioned};
 ghost use Rattle.lsp_docs.specs.Fault.{Breaks};
-ghost use Rattle.lsp_docs.specs.Opened.{IsSet};
-ghost use Rattle.lsp_docs.specs.State.{held_in, set_in, text_in, without};
+ghost use Rattle.lsp_docs.specs.Opened.{IsSet, or_nothing};
+ghost use Rattle.lsp_docs.specs.State.{KeepsNone, KeepsOn, KeepsSame, held_in, kept_in, set_in, text_in, without};
 
 use crate::document::Document;
 use crate::fault::DocFault;
@@ -17,7 +17,7 @@ use lsp_types::{Change, Encoding};
 use std::alloc::{AllocError, Global};
 use std::marker::Model;
 
-/// The open documents. Contracts see their list, in order of opening.
+/// The open documents. Contracts see their list, in order of opening, and what is kept of each URI.
 #[derive(Drop)]
 pub(crate) struct OpenDocuments<S: TextStore> {
     /// The URIs in order of opening, since a map that keeps an order moves all entries behind one
@@ -27,21 +27,24 @@ pub(crate) struct OpenDocuments<S: TextStore> {
 }
 
 impl<S: TextStore> Model for OpenDocuments<S> {
-    ghost use Rattle.std.specs.Prelude.{List, map, string_bytes};
-    ghost use Rattle.lsp_docs.specs.Documents.{Held, versioned};
-    ghost use Rattle.lsp_docs.specs.Opened.{held_by, listed, AreHeld};
+    ghost use Rattle.std.specs.Prelude.{map, string_bytes};
+    ghost use Rattle.lsp_docs.specs.Documents.{versioned};
+    ghost use Rattle.lsp_docs.specs.Opened.{Opened, held_by, kept_of, listed, AreHeld};
 
-    ghost Value = { List Held };
+    ghost Value = { Opened };
 
-    ghost view = { λ d. listed (map string_bytes d.order) (held_by (λ e. versioned e.version (S.content e.store)) d.documents.entries) };
+    ghost view = { λ d. record {
+      held = listed (map string_bytes d.order) (held_by (λ e. versioned e.held.version (S.content e.held.store)) d.documents.entries);
+      kept = kept_of (map string_bytes d.order) (held_by (λ e. e.kept) d.documents.entries);
+    } };
 
-    ghost invariant = { λ d. AreHeld (map string_bytes d.order) (held_by (λ e. versioned e.version (S.content e.store)) d.documents.entries) };
+    ghost invariant = { λ d. AreHeld (map string_bytes d.order) (held_by (λ e. versioned e.held.version (S.content e.held.store)) d.documents.entries) };
 }
 
 impl<S: TextStore> OpenDocuments<S> {
     /// No document is open.
     pub(crate) fn new(alloc: Global) -> Self
-        ensures { result ≡ [] }
+        ensures { result ≡ record { held = []; kept = [] } }
     {
         OpenDocuments {
             order: Order::new(alloc),
@@ -55,14 +58,14 @@ impl<S: TextStore> OpenDocuments<S> {
 
     /// How many are open.
     pub(crate) fn len(&self) -> usize
-        ensures { result ≡ length self.now }
+        ensures { result ≡ length self.now.held }
     {
         self.order.len()
     }
 
     /// The URI at this place in order of opening, from 0.
     pub(crate) fn at(&self, index: usize) -> Option<&str>
-        ensures { option_map (λ uri. uri.now) result ≡ slice_get (map (λ h. h.uri) self.now) index }
+        ensures { option_map (λ uri. uri.now) result ≡ slice_get (map (λ h. h.uri) self.now.held) index }
     {
         let uri = self.order.at(index)?;
         Some(uri.as_str())
@@ -77,23 +80,26 @@ impl<S: TextStore> OpenDocuments<S> {
     }
 
     pub(crate) fn get(&self, uri: &str) -> Option<&Document<S>>
-        ensures { option_map (λ d. versioned d.now.version (S.content d.now.store)) result ≡ held_in uri.now self.now }
+        ensures held { option_map (λ d. versioned d.now.held.version (S.content d.now.held.store)) result ≡ held_in uri.now self.now.held }
+        ensures kept { or_nothing (option_map (λ d. d.now.kept) result) ≡ kept_in uri.now self.now.kept }
     {
         self.documents.get(uri)
     }
 
     /// Adds a document that is not open.
     pub(crate) fn insert(&mut self, uri: &str, version: i32, store: S) -> Result<(), AllocError>
-        requires { held_in uri.now self.old ≡ None }
-        ensures ok { OnOk result (self.new ≡ self.old
+        requires { held_in uri.now self.old.held ≡ None }
+        ensures held { OnOk result (self.new.held ≡ self.old.held
             ++ (record { uri = uri.now; version = versioned version (S.content store) }) ∷ []) }
+        ensures kept { OnOk result (KeepsSame self.old.kept self.new.kept) }
         ensures err { OnErr result (self.new ≡ self.old) }
     {
         let alloc = *self.documents.allocator();
         let last = String::from_str(alloc, uri)?;
         let same = String::from_str(alloc, uri)?;
         let key = String::from_str(alloc, uri)?;
-        self.documents.insert(key, Document { version, store })?;
+        self.documents
+            .insert(key, Document::new(alloc, version, store))?;
         if let Err(refused) = self.order.push(last, same) {
             let _ = self.documents.swap_remove(uri);
             return Err(refused);
@@ -103,8 +109,10 @@ impl<S: TextStore> OpenDocuments<S> {
 
     /// Takes a document out, and tells whether it was open.
     pub(crate) fn remove(&mut self, uri: &str) -> bool
-        ensures found { result ≡ is_some (held_in uri.now self.old) }
-        ensures left { self.new ≡ without uri.now self.old }
+        ensures found { result ≡ is_some (held_in uri.now self.old.held) }
+        ensures absent { result ≡ false → self.new ≡ self.old }
+        ensures held { self.new.held ≡ without uri.now self.old.held }
+        ensures kept { KeepsNone uri.now self.old.kept self.new.kept }
     {
         let Some((key, _)) = self.documents.swap_remove_entry(uri) else {
             return false;
@@ -113,15 +121,23 @@ impl<S: TextStore> OpenDocuments<S> {
         true
     }
 
-    /// Puts a version in the place of the held one.
-    pub(crate) fn set(&mut self, uri: &str, version: i32, store: S)
-        requires { is_some (held_in uri.now self.old) ≡ true }
-        ensures { self.new ≡ set_in uri.now (versioned version (S.content store)) self.old }
+    /// Puts a version in the place of the held one, which is kept as the last of at most so many.
+    pub(crate) fn revise(
+        &mut self,
+        most: usize,
+        uri: &str,
+        version: i32,
+        store: S,
+    ) -> Result<(), AllocError>
+        requires { is_some (held_in uri.now self.old.held) ≡ true }
+        ensures held { OnOk result (self.new.held ≡ set_in uri.now (versioned version (S.content store)) self.old.held) }
+        ensures kept { OnOk result (KeepsOn most uri.now (held_in uri.now self.old.held) self.old.kept self.new.kept) }
+        ensures err { OnErr result (self.new ≡ self.old) }
     {
         let Some(document) = self.documents.get_mut(uri) else {
-            return;
+            return Ok(());
         };
-        *document = Document { version, store };
+        document.revise(most, version, store)
     }
 
     /// Makes one change in the held store, which a refused change leaves as it is.
@@ -133,15 +149,16 @@ impl<S: TextStore> OpenDocuments<S> {
         version: i32,
         change: &Change,
     ) -> Result<(), DocFault>
-        requires { is_some (held_in uri.now self.old) ≡ true }
-        ensures ok { OnOk result (IsSet self.old self.new uri.now version
-            (applied limit encoding (text_in (held_in uri.now self.old)) (edit_of change.now ∷ []))) }
-        ensures fault { IfErr result (Breaks (applied limit encoding (text_in (held_in uri.now self.old)) (edit_of change.now ∷ []))) }
+        requires { is_some (held_in uri.now self.old.held) ≡ true }
+        ensures ok { OnOk result (IsSet self.old.held self.new.held uri.now version
+            (applied limit encoding (text_in (held_in uri.now self.old.held)) (edit_of change.now ∷ []))) }
+        ensures kept { self.new.kept ≡ self.old.kept }
+        ensures fault { IfErr result (Breaks (applied limit encoding (text_in (held_in uri.now self.old.held)) (edit_of change.now ∷ []))) }
         ensures err { OnErr result (self.new ≡ self.old) }
     {
         let Some(document) = self.documents.get_mut(uri) else {
             return Ok(());
         };
-        document.change(limit, encoding, version, change)
+        document.held.change(limit, encoding, version, change)
     }
 }

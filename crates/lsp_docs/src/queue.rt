@@ -2,10 +2,9 @@
 
 ghost use Rattle.std.specs.Prelude.{◌≡◌, [], ◌++◌, ◌∷◌, length, filter, false, int_lt, IfOk, OnOk, OnErr};
 ghost use Rattle.std.specs.List.{list_any};
-ghost use Rattle.lsp_docs.specs.Documents.{versioned};
-ghost use Rattle.lsp_docs.specs.Kept.{version_of, versions, IsLeast};
+ghost use Rattle.lsp_docs.specs.Documents.{versioned, is_after, is_at, is_before};
+ghost use Rattle.lsp_docs.specs.Stored.{version_of, versions, IsLeast};
 ghost use Rattle.lsp_docs.specs.Rules.{differs};
-ghost use Rattle.lsp_docs.specs.State.{is_after, is_at, is_before};
 
 use crate::snapshot::{Snapshot, any_differs, is_due};
 use lsp_text::TextStore;
@@ -23,7 +22,7 @@ pub(crate) struct SnapshotQueue {
 impl Model for SnapshotQueue {
     ghost use Rattle.std.specs.Prelude.{List};
     ghost use Rattle.lsp_docs.specs.Documents.{Version};
-    ghost use Rattle.lsp_docs.specs.Kept.{versions, IsLeast};
+    ghost use Rattle.lsp_docs.specs.Stored.{versions, IsLeast};
 
     ghost Value = { List Version };
 

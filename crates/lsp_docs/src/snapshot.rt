@@ -2,20 +2,21 @@
 
 ghost use Rattle.std.specs.Prelude.{◌≡◌};
 ghost use Rattle.std.specs.List.{list_any};
-ghost use Rattle.lsp_docs.specs.Documents.{versioned};
+ghost use Rattle.lsp_docs.specs.Documents.{versioned, is_at};
 ghost use Rattle.lsp_docs.specs.Rules.{differs};
-ghost use Rattle.lsp_docs.specs.State.{is_at};
-ghost use Rattle.lsp_docs.specs.Kept.{version_of};
+ghost use Rattle.lsp_docs.specs.Stored.{version_of};
 
 use lsp_text::TextStore;
 
 /// What a snapshot comes to where it stands.
 #[derive(Clone, Copy, Debug, PartialEq, Eq)]
 pub enum Match {
-    /// It was compared, and its text is the held one.
+    /// It was compared, and its text is the one held at its version.
     Equal,
     /// Its version is still to come.
     Waits,
+    /// Its version was passed over: it lies between kept ones, and is never compared.
+    Missed,
 }
 
 /// A text that its document is to have at a version.

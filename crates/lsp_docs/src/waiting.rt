@@ -4,10 +4,10 @@ ghost use Rattle.std.specs.Prelude.{◌≡◌, ◌+◌, [], length, filter, None
 ghost use Rattle.std.specs.List.{list_any};
 ghost use Rattle.std.specs.Map.{lookup};
 ghost use Rattle.std.specs.Str.{chars, bytes_eq};
-ghost use Rattle.lsp_docs.specs.Documents.{versioned};
-ghost use Rattle.lsp_docs.specs.State.{capped, queue_of, keep_in, without_queue, add_in, total, reached, released, shown_to, is_after, is_at, is_before};
+ghost use Rattle.lsp_docs.specs.Documents.{versioned, is_after, is_at, is_before};
+ghost use Rattle.lsp_docs.specs.State.{capped, queue_of, keep_in, without_queue, add_in, total, reached, released, missed_one, shown_to};
 ghost use Rattle.lsp_docs.specs.Rules.{differs};
-ghost use Rattle.lsp_docs.specs.Kept.{version_of, queues_in};
+ghost use Rattle.lsp_docs.specs.Stored.{version_of, queues_in};
 
 use crate::queue::SnapshotQueue;
 use crate::snapshot::Snapshot;
@@ -30,7 +30,7 @@ impl Model for Waiting {
 
     ghost Value = { Waits };
 
-    ghost use Rattle.lsp_docs.specs.Kept.{queues_in};
+    ghost use Rattle.lsp_docs.specs.Stored.{queues_in};
 
     ghost view = { λ w. record { queues = queues_in w.snapshots.entries; missed = w.missed } };
 }
@@ -89,6 +89,13 @@ impl Waiting {
     {
         let missed = drop_all(&mut self.snapshots, uri);
         self.missed = self.missed.saturating_add(missed);
+    }
+
+    /// Counts a snapshot that was passed over before it was shown.
+    pub(crate) fn miss(&mut self)
+        ensures { self.new ≡ missed_one self.old }
+    {
+        self.missed = self.missed.saturating_add(1);
     }
 
     /// How many wait.

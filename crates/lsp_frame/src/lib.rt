@@ -11,6 +11,7 @@
 mod bytes;
 mod decoder;
 mod field;
+mod format;
 mod header;
 mod io;
 mod laws;
@@ -22,6 +23,7 @@ mod write;
 
 pub use bytes::{after_byte, all_digits};
 pub use decoder::{Decoder, FrameFault, PullFault};
+pub use format::Format;
 pub use io::{Failed, Input, Output, Sink, Source};
 pub use laws::{
     canonical_is_frame, canonical_is_read, contents_stay, fault_stays, frames_come_first,

@@ -5,10 +5,12 @@ use Rattle.std.specs.Option.{option_or}
 use Rattle.std.proofs.lemmas.Option.{same_Some}
 use Rattle.lsp_frame.specs.Bounds.{Bounds}
 use Rattle.lsp_frame.specs.Decoder as decoder
+use Rattle.lsp_frame.specs.declared.format.Format.{Format}
 use Rattle.lsp_frame.specs.Frame.{IsStream}
 use Rattle.lsp_types.specs.declared.side.Side.TheVariants.{Editor, Server}
 use Rattle.lsp_session.specs.Incomplete.{incomplete}
 use Rattle.lsp_docs.specs.State.{capped}
+use Rattle.lsp_docs.specs.Terms.{Terms, terms_of}
 use Rattle.lsp_log.specs.declared.fault.LogCode.{LogCode}
 use Rattle.lsp_log.specs.Log.{Record}
 use Rattle.lsp_verdict.specs.Complete.{IsCompleteFinal, completed, lack_of}
@@ -33,11 +35,11 @@ use Rattle.lsp_verdict.proofs.Sessions.{same_session}
 use Rattle.lsp_verdict.proofs.ExactCounts.{capped_is}
 
 -- an offence is the verdict
-pub offence_final : (limits : Bounds) (rs : List Record) (given v : Verdict) (flaw : Option (ℕ × LogCode)) → HasOffence limits rs given → IsFinal limits rs flaw v → given ≡ as_given v
-offence_final limits rs given v flaw (w, offends, is) final = is ∙ ap as_given (final_more limits rs rs [] flaw w v (sym (append-nil rs)) offends final)
+pub offence_final : (limits : Bounds) (format : Format) (rs : List Record) (given v : Verdict) (flaw : Option (ℕ × LogCode)) → HasOffence limits format rs given → IsFinal limits format rs flaw v → given ≡ as_given v
+offence_final limits format rs given v flaw (w, offends, is) final = is ∙ ap as_given (final_more limits format rs rs [] flaw w v (sym (append-nil rs)) offends final)
 
-pub given_final : (s : State) (rs : List Record) (ruling : Ruling) (given v : Verdict) (flaw : Option (ℕ × LogCode)) → s.given ≡ Some ruling → verdict_in ruling ≡ Some given → Stands s rs → IsFinal s.limits rs flaw v → given ≡ as_given v
-given_final s rs ruling given v flaw e is stands final = offence_final s.limits rs given v flaw (offence_in s rs ruling given e is stands) final
+pub given_final : (s : State) (rs : List Record) (ruling : Ruling) (given v : Verdict) (flaw : Option (ℕ × LogCode)) → s.given ≡ Some ruling → verdict_in ruling ≡ Some given → Stands s rs → IsFinal s.limits s.format rs flaw v → given ≡ as_given v
+given_final s rs ruling given v flaw e is stands final = offence_final s.limits s.format rs given v flaw (offence_in s rs ruling given e is stands) final
 
 -- what is left of a side's bytes is what its decoder holds
 rest_held : (limits : Bounds) (d : decoder.State) (bytes left : List ℕ) → d.limits ≡ limits → IsDrained d bytes → HasRest limits bytes left → left ≡ d.rest
@@ -45,36 +47,36 @@ rest_held limits d bytes left same drained rest =
     (one_stream limits bytes rest.0 drained.contents left d.rest rest.1 None rest.2 (subst (λ (b : Bounds). IsStream b bytes drained.contents d.rest None) same drained.ends.1)).rest
 
 -- the verdict on the records of an open judge
-final_is : (s : State) (rs : List Record) (flaw : Option (ℕ × LogCode)) (v : Verdict) → AreLimits s → (o : IsOpen s rs) → IsFinal s.limits rs flaw v → v ≡ verdict s.limits.document o.events (ending flaw s.editor.rest s.server.rest)
+final_is : (s : State) (rs : List Record) (flaw : Option (ℕ × LogCode)) (v : Verdict) → AreLimits s → (o : IsOpen s rs) → IsFinal s.limits s.format rs flaw v → v ≡ verdict (terms_of s.limits s.format) o.events (ending flaw s.editor.rest s.server.rest)
 final_is s rs flaw v limits o final =
     let events = same_session s.limits rs rs final.events o.events refl final.session o.is_session in
     let editor = rest_held s.limits s.editor (joined Editor rs) final.editor limits.editor o.editor final.editor_rest in
     let server = rest_held s.limits s.server (joined Server rs) final.server limits.server o.server final.server_rest in
     sym final.says
-    ∙ ap (λ es. verdict s.limits.document es (ending flaw final.editor final.server)) events
-    ∙ ap (λ x. verdict s.limits.document o.events (ending flaw x final.server)) editor
-    ∙ ap (λ x. verdict s.limits.document o.events (ending flaw s.editor.rest x)) server
+    ∙ ap (λ es. verdict (terms_of s.limits s.format) es (ending flaw final.editor final.server)) events
+    ∙ ap (λ x. verdict (terms_of s.limits s.format) o.events (ending flaw x final.server)) editor
+    ∙ ap (λ x. verdict (terms_of s.limits s.format) o.events (ending flaw s.editor.rest x)) server
 
-pub open_clean : (s : State) (rs : List Record) → AreLimits s → (o : IsOpen s rs) → first_no s.limits.document o.events ≡ None
+pub open_clean : (s : State) (rs : List Record) → AreLimits s → (o : IsOpen s rs) → first_no (terms_of s.limits s.format) o.events ≡ None
 open_clean s rs limits o = ap (λ l. first_no l o.events) (sym limits.documents) ∙ o.follows.clean
 
 -- nothing offends and the log has no fault: the rest decides
-by_rest : (limit : ℕ) (es : List Event) (editor server : List ℕ) → first_no limit es ≡ None → verdict limit es (ending None editor server) ≡ unwrap_or (rest_of es (is_rest editor) (is_rest server)) (yes (summary limit es))
-by_rest limit es editor server clean = ap (λ o. unwrap_or (option_or o (rest_of es (is_rest editor) (is_rest server))) (yes (summary limit es))) clean
+by_rest : (terms : Terms) (es : List Event) (editor server : List ℕ) → first_no terms es ≡ None → verdict terms es (ending None editor server) ≡ unwrap_or (rest_of es (is_rest editor) (is_rest server)) (yes (summary terms es))
+by_rest terms es editor server clean = ap (λ o. unwrap_or (option_or o (rest_of es (is_rest editor) (is_rest server))) (yes (summary terms es))) clean
 
 -- nothing offends: the fault of the log decides
-by_log : (limit : ℕ) (es : List Event) (editor server : List ℕ) (number : ℕ) (code : LogCode) → first_no limit es ≡ None → verdict limit es (ending (Some (number, code)) editor server) ≡ bad_log number code
-by_log limit es editor server number code clean = ap (λ o. unwrap_or (option_or o (Some (bad_log number code))) (yes (summary limit es))) clean
+by_log : (terms : Terms) (es : List Event) (editor server : List ℕ) (number : ℕ) (code : LogCode) → first_no terms es ≡ None → verdict terms es (ending (Some (number, code)) editor server) ≡ bad_log number code
+by_log terms es editor server number code clean = ap (λ o. unwrap_or (option_or o (Some (bad_log number code))) (yes (summary terms es))) clean
 
 pub rest_final : (s : State) (rs : List Record) (ruling : Ruling) (given v : Verdict) → s.given ≡ None
     → (s.editor.fault ≡ None → s.server.fault ≡ None → (events : List Event) → AreCounts s.counts events → RestIs (Some ruling) (rest_of events (is_rest s.editor.rest) (is_rest s.server.rest)))
-    → verdict_in ruling ≡ Some given → Stands s rs → IsFinal s.limits rs None v → given ≡ as_given v
+    → verdict_in ruling ≡ Some given → Stands s rs → IsFinal s.limits s.format rs None v → given ≡ as_given v
 rest_final s rs ruling given v none told is stands final =
     let o = is_open s rs none stands in
     let rest = told o.editor.ends.0 o.server.ends.0 o.events o.follows.counted in
     let decides : v ≡ rest.0 =
-    final_is s rs None v stands.limits o final ∙ by_rest s.limits.document o.events s.editor.rest s.server.rest (open_clean s rs stands.limits o)
-    ∙ ap (λ r. unwrap_or r (yes (summary s.limits.document o.events))) rest.1 in
+    final_is s rs None v stands.limits o final ∙ by_rest (terms_of s.limits s.format) o.events s.editor.rest s.server.rest (open_clean s rs stands.limits o)
+    ∙ ap (λ r. unwrap_or r (yes (summary (terms_of s.limits s.format) o.events))) rest.1 in
     same_verdict (sym is ∙ rest.2) ∙ ap as_given (sym decides)
   where
     same_verdict : {x y : Verdict} → Some x ≡ Some y → x ≡ y
@@ -82,20 +84,20 @@ rest_final s rs ruling given v none told is stands final =
 
 pub yes_final : (s : State) (rs : List Record) (given v : Verdict) → s.given ≡ None
     → (s.editor.fault ≡ None → s.server.fault ≡ None → (events : List Event) → AreCounts s.counts events → RestIs None (rest_of events (is_rest s.editor.rest) (is_rest s.server.rest)))
-    → ((events : List Event) → Follows s.messages s.documents s.counts events → given ≡ as_given (yes (summary s.documents.limit events))) → Stands s rs → IsFinal s.limits rs None v → given ≡ as_given v
+    → ((events : List Event) → Follows s.messages s.documents s.counts events → given ≡ as_given (yes (summary s.documents.terms events))) → Stands s rs → IsFinal s.limits s.format rs None v → given ≡ as_given v
 yes_final s rs given v none told sums stands final =
     let o = is_open s rs none stands in
     let rest = told o.editor.ends.0 o.server.ends.0 o.events o.follows.counted in
-    let decides : v ≡ yes (summary s.limits.document o.events) =
-    final_is s rs None v stands.limits o final ∙ by_rest s.limits.document o.events s.editor.rest s.server.rest (open_clean s rs stands.limits o)
-    ∙ ap (λ r. unwrap_or r (yes (summary s.limits.document o.events))) rest in
+    let decides : v ≡ yes (summary (terms_of s.limits s.format) o.events) =
+    final_is s rs None v stands.limits o final ∙ by_rest (terms_of s.limits s.format) o.events s.editor.rest s.server.rest (open_clean s rs stands.limits o)
+    ∙ ap (λ r. unwrap_or r (yes (summary (terms_of s.limits s.format) o.events))) rest in
     sums o.events o.follows ∙ ap (λ l. as_given (yes (summary l o.events))) stands.limits.documents ∙ ap as_given (sym decides)
 
-pub log_final : (s : State) (rs : List Record) (number : ℕ) (code : LogCode) (v : Verdict) → s.given ≡ None → number < 2 ^ 64 → Stands s rs → IsFinal s.limits rs (Some (number, code)) v → bad_log number code ≡ as_given v
+pub log_final : (s : State) (rs : List Record) (number : ℕ) (code : LogCode) (v : Verdict) → s.given ≡ None → number < 2 ^ 64 → Stands s rs → IsFinal s.limits s.format rs (Some (number, code)) v → bad_log number code ≡ as_given v
 log_final s rs number code v none small stands final =
     let o = is_open s rs none stands in
     let decides : v ≡ bad_log number code =
-    final_is s rs (Some (number, code)) v stands.limits o final ∙ by_log s.limits.document o.events s.editor.rest s.server.rest number code (open_clean s rs stands.limits o) in
+    final_is s rs (Some (number, code)) v stands.limits o final ∙ by_log (terms_of s.limits s.format) o.events s.editor.rest s.server.rest number code (open_clean s rs stands.limits o) in
     ap (λ n. bad_log n code) (sym (capped_is number small)) ∙ ap as_given (sym decides)
 
 pub editor_rest : (events : List Event) (editor server : Bool) (ruling : Ruling) → true ≡ editor → verdict_in ruling ≡ Some (as_given (no_next 107 who.Editor events)) → RestIs (Some ruling) (rest_of events editor server)
@@ -116,27 +118,27 @@ if_none_some (Some w) second v e = let same : None ≡ Some v = e in absurd cc
 -- what lacks stands in the place of Yes
 pub lack_final : (s : State) (rs : List Record) (ruling : Ruling) (given v : Verdict) → s.given ≡ None
     → (s.editor.fault ≡ None → s.server.fault ≡ None → (events : List Event) → Follows s.messages s.documents s.counts events → RestIs (Some ruling) (if_none (rest_of events (is_rest s.editor.rest) (is_rest s.server.rest)) (lack_of events)))
-    → verdict_in ruling ≡ Some given → Stands s rs → IsCompleteFinal s.limits rs None v → given ≡ as_given v
+    → verdict_in ruling ≡ Some given → Stands s rs → IsCompleteFinal s.limits s.format rs None v → given ≡ as_given v
 lack_final s rs ruling given v none told is stands p =
     let o = is_open s rs none stands in
     let lack = told o.editor.ends.0 o.server.ends.0 o.events o.follows in
     let parts = if_none_some (rest_of o.events (is_rest s.editor.rest) (is_rest s.server.rest)) (lack_of o.events) lack.0 lack.1 in
-    let plain : p.plain ≡ yes (summary s.limits.document o.events) =
-    final_is s rs None p.plain stands.limits o p.final ∙ by_rest s.limits.document o.events s.editor.rest s.server.rest (open_clean s rs stands.limits o)
-    ∙ ap (λ r. unwrap_or r (yes (summary s.limits.document o.events))) parts.0 in
+    let plain : p.plain ≡ yes (summary (terms_of s.limits s.format) o.events) =
+    final_is s rs None p.plain stands.limits o p.final ∙ by_rest (terms_of s.limits s.format) o.events s.editor.rest s.server.rest (open_clean s rs stands.limits o)
+    ∙ ap (λ r. unwrap_or r (yes (summary (terms_of s.limits s.format) o.events))) parts.0 in
     let events = same_session s.limits rs rs p.final.events o.events refl p.final.session o.is_session in
     let decides : v ≡ lack.0 =
-    sym p.says ∙ ap (λ es. completed es p.plain) events ∙ ap (completed o.events) plain ∙ ap (λ r. unwrap_or r (yes (summary s.limits.document o.events))) parts.1 in
+    sym p.says ∙ ap (λ es. completed es p.plain) events ∙ ap (completed o.events) plain ∙ ap (λ r. unwrap_or r (yes (summary (terms_of s.limits s.format) o.events))) parts.1 in
     same_Some _ _ (sym is ∙ lack.2) ∙ ap as_given (sym decides)
 
 -- where nothing does, the verdict is that without it
 pub plain_final : (s : State) (rs : List Record) (v : Verdict)
     → (s.given ≡ None → s.editor.fault ≡ None → s.server.fault ≡ None → (events : List Event) → Follows s.messages s.documents s.counts events → RestIs None (if_none (rest_of events (is_rest s.editor.rest) (is_rest s.server.rest)) (lack_of events)))
-    → Stands s rs → IsCompleteFinal s.limits rs None v → IsFinal s.limits rs None v
+    → Stands s rs → IsCompleteFinal s.limits s.format rs None v → IsFinal s.limits s.format rs None v
 plain_final s rs v told stands p = by_given s.given refl
   where
-    is_plain : completed p.final.events p.plain ≡ p.plain → IsFinal s.limits rs None v
-    is_plain same = subst (IsFinal s.limits rs None) (sym same ∙ p.says) p.final
+    is_plain : completed p.final.events p.plain ≡ p.plain → IsFinal s.limits s.format rs None v
+    is_plain same = subst (IsFinal s.limits s.format rs None) (sym same ∙ p.says) p.final
 
     by_rests : (o : IsOpen s rs) → (rest : Option Verdict) → rest_of o.events (is_rest s.editor.rest) (is_rest s.server.rest) ≡ rest → if_none rest (lack_of o.events) ≡ None → completed p.final.events p.plain ≡ p.plain
     by_rests o None is lack =
@@ -144,11 +146,11 @@ plain_final s rs v told stands p = by_given s.given refl
         completed_none p.final.events p.plain (ap lack_of events ∙ lack)
     by_rests o (Some w) is lack =
         let plain : p.plain ≡ w =
-        final_is s rs None p.plain stands.limits o p.final ∙ by_rest s.limits.document o.events s.editor.rest s.server.rest (open_clean s rs stands.limits o)
-        ∙ ap (λ r. unwrap_or r (yes (summary s.limits.document o.events))) is in
+        final_is s rs None p.plain stands.limits o p.final ∙ by_rest (terms_of s.limits s.format) o.events s.editor.rest s.server.rest (open_clean s rs stands.limits o)
+        ∙ ap (λ r. unwrap_or r (yes (summary (terms_of s.limits s.format) o.events))) is in
         completed_other p.final.events p.plain (λ t e. no_is_other w t (rest_says_no o.events (is_rest s.editor.rest) (is_rest s.server.rest) w is) (sym plain ∙ e))
 
-    by_given : (given : Option Ruling) → s.given ≡ given → IsFinal s.limits rs None v
+    by_given : (given : Option Ruling) → s.given ≡ given → IsFinal s.limits s.format rs None v
     by_given None e =
         let o = is_open s rs e stands in
         is_plain (by_rests o (rest_of o.events (is_rest s.editor.rest) (is_rest s.server.rest)) refl (told e o.editor.ends.0 o.server.ends.0 o.events o.follows))

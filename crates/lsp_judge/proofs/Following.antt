@@ -11,6 +11,7 @@ use Rattle.lsp_docs.specs.Fault as docs_fault
 use Rattle.lsp_docs.specs.State as docs
 use Rattle.lsp_docs.specs.declared.fault.DocFault.{DocFault}
 use Rattle.lsp_docs.specs.declared.fault.DocFault.TheVariants as faults
+use Rattle.lsp_docs.specs.Terms.{Terms}
 use Rattle.lsp_verdict.specs.Calls.{call_at, calls}
 use Rattle.lsp_verdict.specs.Contents.{ReadsAs}
 use Rattle.lsp_verdict.specs.Event.{Event, message, fault, snapshot, sent_in}
@@ -33,30 +34,30 @@ whose_content side bytes (message m) reads = ap who_of reads.by
 whose_content side bytes (fault by rule) reads = ap who_of reads.0
 whose_content side bytes (snapshot uri n t) reads = absurd reads
 
-clean_on : (limit : ℕ) (events : List Event) (e : Event) → first_no limit events ≡ None → offence limit events e ≡ None → first_no limit (events ++ e ∷ []) ≡ None
-clean_on limit events e none clean =
-    first_of-snoc (no_at limit) events e ∙ ap (λ o. option_or o (no_at limit events e)) none ∙ ap (option_map (no_by events e)) clean
+clean_on : (terms : Terms) (events : List Event) (e : Event) → first_no terms events ≡ None → offence terms events e ≡ None → first_no terms (events ++ e ∷ []) ≡ None
+clean_on terms events e none clean =
+    first_of-snoc (no_at terms) events e ∙ ap (λ o. option_or o (no_at terms events e)) none ∙ ap (option_map (no_by events e)) clean
 
 -- one more event that doesn't offend
-pub follows_on : (old_m new_m : session.State) (old_d new_d : docs.State) (old_c new_c : Counts) (events : List Event) (e : Event) → Follows old_m old_d old_c events → new_d.limit ≡ old_d.limit
-    → offence old_d.limit events e ≡ None → Holds new_m new_d (events ++ e ∷ []) → AreCounts new_c (events ++ e ∷ []) → Follows new_m new_d new_c (events ++ e ∷ [])
-follows_on old_m new_m old_d new_d old_c new_c events e follows limit clean holds counted = record {
-  clean = ap (λ l. first_no l (events ++ e ∷ [])) limit ∙ clean_on old_d.limit events e follows.clean clean;
+pub follows_on : (old_m new_m : session.State) (old_d new_d : docs.State) (old_c new_c : Counts) (events : List Event) (e : Event) → Follows old_m old_d old_c events → new_d.terms ≡ old_d.terms
+    → offence old_d.terms events e ≡ None → Holds new_m new_d (events ++ e ∷ []) → AreCounts new_c (events ++ e ∷ []) → Follows new_m new_d new_c (events ++ e ∷ [])
+follows_on old_m new_m old_d new_d old_c new_c events e follows terms clean holds counted = record {
+  clean = ap (λ l. first_no l (events ++ e ∷ [])) terms ∙ clean_on old_d.terms events e follows.clean clean;
   holds = holds;
   counted = counted;
 }
 
 -- the No at an event
-pub ruled : (limit : ℕ) (events : List Event) (e : Event) (rule : ℕ) (by : Who) (r : Ruling) → offence limit events e ≡ Some rule → whose e ≡ by → verdict_in r ≡ Some (as_given (no_next rule by events)) → IsNoAt limit events e r
-ruled limit events e rule by (No n w k at) breaks is told =
+pub ruled : (terms : Terms) (events : List Event) (e : Event) (rule : ℕ) (by : Who) (r : Ruling) → offence terms events e ≡ Some rule → whose e ≡ by → verdict_in r ≡ Some (as_given (no_next rule by events)) → IsNoAt terms events e r
+ruled terms events e rule by (No n w k at) breaks is told =
     (no_by events e rule, ap (option_map (no_by events e)) breaks, same_Some _ _ told ∙ ap (λ w. as_given (no_next rule w events)) (sym is))
-ruled limit events e rule by (BadLog n code) breaks is told = let same = told in absurd cc
-ruled limit events e rule by Memory breaks is told = tt
+ruled terms events e rule by (BadLog n code) breaks is told = let same = told in absurd cc
+ruled terms events e rule by Memory breaks is told = tt
 
-pub ruled_some : (limit : ℕ) (events : List Event) (IsSuch : Event → Type 0) (e : Event) (r : Ruling) → IsSuch e → IsNoAt limit events e r → IsNoAtSome limit events IsSuch r
-ruled_some limit events IsSuch e (No n w k at) is ruling = (e, is, ruling)
-ruled_some limit events IsSuch e (BadLog n code) is ruling = ruling
-ruled_some limit events IsSuch e Memory is ruling = tt
+pub ruled_some : (terms : Terms) (events : List Event) (IsSuch : Event → Type 0) (e : Event) (r : Ruling) → IsSuch e → IsNoAt terms events e r → IsNoAtSome terms events IsSuch r
+ruled_some terms events IsSuch e (No n w k at) is ruling = (e, is, ruling)
+ruled_some terms events IsSuch e (BadLog n code) is ruling = ruling
+ruled_some terms events IsSuch e Memory is ruling = tt
 
 -- ---- snapshots
 

@@ -9,6 +9,7 @@ pub mod KeptEvents
 pub mod Answering
 pub mod LogEvents
 pub mod ShownLogs
+pub mod UpgradedLogs
 pub mod TextRuns
 pub mod Finals
 pub mod Tails

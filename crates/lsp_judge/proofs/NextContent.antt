@@ -10,6 +10,7 @@ use Rattle.lsp_rpc.specs.Message.{Message}
 use Rattle.lsp_types.specs.declared.side.Side.{Side}
 use Rattle.lsp_session.specs.State as session
 use Rattle.lsp_docs.specs.State as docs
+use Rattle.lsp_docs.specs.Terms.{Terms}
 use Rattle.lsp_verdict.specs.Contents.{ReadsAs}
 use Rattle.lsp_verdict.specs.Event.{Event, message, fault}
 use Rattle.lsp_verdict.specs.Given.{as_given}
@@ -44,27 +45,27 @@ module _ (side : Side) (bytes : List ℕ) (contents : List (List ℕ)) (events :
       → HeardAs side content said m documents c events → HeardOne side new m documents c bytes contents events said
   one_next old new m documents c content said stands next heard = record { content = content; stands = next.stands bytes contents stands; heard = heard }
 
-  stopped_next : (limits : Bounds) (limit : ℕ) (event : Event) (r : Ruling) → first_no limit events ≡ None → IsNext side limits bytes contents event → IsNoAt limit events event r → StoppedNext side limits limit bytes contents events r
-  stopped_next limits limit event (No rule by number at) clean next named = record { event = event; clean = clean; next = next; named = named }
-  stopped_next limits limit event (BadLog number code) clean next named = named
-  stopped_next limits limit event Memory clean next named = tt
+  stopped_next : (limits : Bounds) (terms : Terms) (event : Event) (r : Ruling) → first_no terms events ≡ None → IsNext side limits bytes contents event → IsNoAt terms events event r → StoppedNext side limits terms bytes contents events r
+  stopped_next limits terms event (No rule by number at) clean next named = record { event = event; clean = clean; next = next; named = named }
+  stopped_next limits terms event (BadLog number code) clean next named = named
+  stopped_next limits terms event Memory clean next named = tt
 
   -- the frames have a fault
   pub fault_next : (old new : decoder.State) (m : session.State) (documents : docs.State) (c : Counts) (rule : ℕ) (by : Who) (r : Ruling) → decoder.StandsFor old bytes contents → Follows m documents c events
       → decoder.Next old new (Err rule) → by ≡ who_of side → ((so_far : List Event) → AreCounts c so_far → verdict_in r ≡ Some (as_given (no_next rule by so_far)))
-      → StoppedNext side old.limits documents.limit bytes contents events r
+      → StoppedNext side old.limits documents.terms bytes contents events r
   fault_next old new m documents c rule by r stands follows next is told =
       let gives : decoder.GivesFault old new rule = next.step in
       let stream = (next.stands bytes contents stands).1 in
       let kept : new.limits ≡ old.limits = ap (λ (s : decoder.State). s.limits) gives.same in
-      stopped_next old.limits documents.limit (fault side rule) r follows.clean
+      stopped_next old.limits documents.terms (fault side rule) r follows.clean
       (inr (rule, refl, (stream.0, subst (λ (w : Bounds). IsStream w bytes contents stream.0 (Some rule)) kept stream.1)))
-      (ruled documents.limit events (fault side rule) rule by r refl (sym is) (told events follows.counted))
+      (ruled documents.terms events (fault side rule) rule by r refl (sym is) (told events follows.counted))
 
   -- it offends
   pub content_next : (old new : decoder.State) (m : session.State) (documents : docs.State) (c : Counts) (content : List ℕ) (r : Ruling) → decoder.StandsFor old bytes contents → Follows m documents c events
-      → decoder.Next old new (Ok (Some content)) → IsNoAtSome documents.limit events (ReadsAs side content) r
-      → StoppedNext side old.limits documents.limit bytes contents events r
+      → decoder.Next old new (Ok (Some content)) → IsNoAtSome documents.terms events (ReadsAs side content) r
+      → StoppedNext side old.limits documents.terms bytes contents events r
   content_next old new m documents c content (No rule by number at) stands follows next one =
       let given = next.stands bytes contents stands in
       record {

@@ -7,10 +7,12 @@ use Rattle.std.specs.Global.{Global}
 use Rattle.lsp_frame.specs.Bounds.{Bounds}
 use Rattle.lsp_frame.specs.Decoder as decoder
 use Rattle.lsp_frame.specs.Frame.{Frames, IsStream}
+use Rattle.lsp_frame.specs.declared.format.Format.{Format}
 use Rattle.lsp_types.specs.declared.side.Side.{Side}
 use Rattle.lsp_types.specs.declared.side.Side.TheVariants.{Editor, Server}
 use Rattle.lsp_session.specs.State as session
 use Rattle.lsp_docs.specs.State as docs
+use Rattle.lsp_docs.specs.Terms.{Terms, terms_of}
 use Rattle.lsp_log.specs.Log.{Record, chunk, shown}
 use Rattle.lsp_verdict.specs.Contents.{ReadsAs}
 use Rattle.lsp_verdict.specs.Drained.{IsDrained}
@@ -178,7 +180,7 @@ drained_now : (d new : decoder.State) (bytes : List ℕ) (given : List (List ℕ
 drained_now d new bytes given m documents c events none = record { contents = given; stands = none.stands; ends = none.ends }
 
 heard_editor : (old : State) (new : decoder.State) (m : session.State) (documents : docs.State) (c : Counts) (answer : Option Heard) (rs : List Record) (before : List Event)
-    → old.turn ≡ Some (turn.Bytes Editor) → new.limits ≡ old.editor.limits → documents.limit ≡ old.documents.limit
+    → old.turn ≡ Some (turn.Bytes Editor) → new.limits ≡ old.editor.limits → documents.terms ≡ old.documents.terms
     → ((bytes : List ℕ) (contents : List (List ℕ)) (so_far : List Event) → decoder.StandsFor old.editor bytes contents → Follows old.messages old.documents old.counts so_far → HeardNext Editor new m documents c bytes contents so_far answer)
     → IsHearing old rs before → HearsNext (record old { editor = new; messages = m; documents = documents; counts = c; turn = turn_after Editor None answer }) rs before answer
 heard_editor old new m documents c None rs before is same same_limit told h =
@@ -219,7 +221,7 @@ heard_editor old new m documents c (Some (Snapshot version uri text)) rs before 
     absurd (told (joined Editor rs) a.0.given before a.0.stands h.follows)
 
 heard_server : (old : State) (new : decoder.State) (m : session.State) (documents : docs.State) (c : Counts) (answer : Option Heard) (rs : List Record) (before : List Event)
-    → old.turn ≡ Some (turn.Bytes Server) → new.limits ≡ old.server.limits → documents.limit ≡ old.documents.limit
+    → old.turn ≡ Some (turn.Bytes Server) → new.limits ≡ old.server.limits → documents.terms ≡ old.documents.terms
     → ((bytes : List ℕ) (contents : List (List ℕ)) (so_far : List Event) → decoder.StandsFor old.server bytes contents → Follows old.messages old.documents old.counts so_far → HeardNext Server new m documents c bytes contents so_far answer)
     → IsHearing old rs before → HearsNext (record old { server = new; messages = m; documents = documents; counts = c; turn = turn_after Server None answer }) rs before answer
 heard_server old new m documents c None rs before is same same_limit told h =
@@ -260,7 +262,7 @@ heard_server old new m documents c (Some (Snapshot version uri text)) rs before 
     absurd (told (joined Server rs) a.0.given before a.0.stands h.follows)
 
 pub next_editor : (old : State) (new : decoder.State) (m : session.State) (documents : docs.State) (c : Counts) (before_turn now_turn : Option Turn) (answer : Option Heard) (rs : List Record) (before : List Event)
-    → old.turn ≡ Some (turn.Bytes Editor) → before_turn ≡ None → now_turn ≡ turn_after Editor before_turn answer → new.limits ≡ old.editor.limits → documents.limit ≡ old.documents.limit
+    → old.turn ≡ Some (turn.Bytes Editor) → before_turn ≡ None → now_turn ≡ turn_after Editor before_turn answer → new.limits ≡ old.editor.limits → documents.terms ≡ old.documents.terms
     → ((bytes : List ℕ) (contents : List (List ℕ)) (so_far : List Event) → decoder.StandsFor old.editor bytes contents → Follows old.messages old.documents old.counts so_far → HeardNext Editor new m documents c bytes contents so_far answer)
     → IsHearing old rs before → HearsNext (record old { editor = new; messages = m; documents = documents; counts = c; turn = now_turn }) rs before answer
 next_editor old new m documents c before_turn now_turn answer rs before is none turned same same_limit told h =
@@ -268,7 +270,7 @@ next_editor old new m documents c before_turn now_turn answer rs before is none 
     (heard_editor old new m documents c answer rs before is same same_limit told h)
 
 pub next_server : (old : State) (new : decoder.State) (m : session.State) (documents : docs.State) (c : Counts) (before_turn now_turn : Option Turn) (answer : Option Heard) (rs : List Record) (before : List Event)
-    → old.turn ≡ Some (turn.Bytes Server) → before_turn ≡ None → now_turn ≡ turn_after Server before_turn answer → new.limits ≡ old.server.limits → documents.limit ≡ old.documents.limit
+    → old.turn ≡ Some (turn.Bytes Server) → before_turn ≡ None → now_turn ≡ turn_after Server before_turn answer → new.limits ≡ old.server.limits → documents.terms ≡ old.documents.terms
     → ((bytes : List ℕ) (contents : List (List ℕ)) (so_far : List Event) → decoder.StandsFor old.server bytes contents → Follows old.messages old.documents old.counts so_far → HeardNext Server new m documents c bytes contents so_far answer)
     → IsHearing old rs before → HearsNext (record old { server = new; messages = m; documents = documents; counts = c; turn = now_turn }) rs before answer
 next_server old new m documents c before_turn now_turn answer rs before is none turned same same_limit told h =
@@ -276,7 +278,7 @@ next_server old new m documents c before_turn now_turn answer rs before is none 
     (heard_server old new m documents c answer rs before is same same_limit told h)
 
 heard_snapshot_at : (old : State) (m : session.State) (documents : docs.State) (c : Counts) (version : ℤ) (uri text : String Global) (answer : Option Heard) (rs : List Record) (before : List Event)
-    → old.turn ≡ Some (turn.Snapshot version uri text) → documents.limit ≡ old.documents.limit
+    → old.turn ≡ Some (turn.Snapshot version uri text) → documents.terms ≡ old.documents.terms
     → ((so_far : List Event) → Follows old.messages old.documents old.counts so_far → HeardSnapshot version uri text m documents c so_far answer)
     → IsHearing old rs before → HearsNext (record old { messages = m; documents = documents; counts = c; turn = None }) rs before answer
 heard_snapshot_at old m documents c version uri text answer rs before is same_limit told h =
@@ -299,7 +301,7 @@ heard_snapshot_at old m documents c version uri text answer rs before is same_li
     )
 
 pub heard_snapshot : (old : State) (m : session.State) (documents : docs.State) (c : Counts) (version : ℤ) (uri text : String Global) (now_turn : Option Turn) (answer : Option Heard) (rs : List Record) (before : List Event)
-    → old.turn ≡ Some (turn.Snapshot version uri text) → now_turn ≡ None → documents.limit ≡ old.documents.limit
+    → old.turn ≡ Some (turn.Snapshot version uri text) → now_turn ≡ None → documents.terms ≡ old.documents.terms
     → ((so_far : List Event) → Follows old.messages old.documents old.counts so_far → HeardSnapshot version uri text m documents c so_far answer)
     → IsHearing old rs before → HearsNext (record old { messages = m; documents = documents; counts = c; turn = now_turn }) rs before answer
 heard_snapshot old m documents c version uri text now_turn answer rs before is none same_limit told h =
@@ -308,59 +310,59 @@ heard_snapshot old m documents c version uri text now_turn answer rs before is n
 
 -- ---- an event offends
 
-module _ (limits : Bounds) (rs : List Record) (past due : List Raw) (before : List Event) (placed : Placed limits rs (past ++ due)) (read : AllZip Reads past before) where
+module _ (limits : Bounds) (format : Format) (rs : List Record) (past due : List Raw) (before : List Event) (placed : Placed limits rs (past ++ due)) (read : AllZip Reads past before) where
   -- the event that is due next
   session_next : (raw : Raw) (later : List Raw) (event : Event) → due ≡ raw ∷ later → Reads raw event → (extra : List Event) × IsSession limits rs (before ++ event ∷ extra)
   session_next raw later event is reads =
       let extra = some_list later in
       (extra.0, (past ++ raw ∷ later, subst (λ w. Placed limits rs (past ++ w)) is placed, lists_join past (raw ∷ later) before (event ∷ extra.0) read (reads, extra.1)))
 
-  pub offends_now : (limit : ℕ) (raw : Raw) (later : List Raw) (event : Event) (ruling : Ruling) → limit ≡ limits.document → due ≡ raw ∷ later → Reads raw event → first_no limit before ≡ None → IsNoAt limit before event ruling → Stops limits rs before ruling
-  offends_now limit raw later event (No rule who number at) same is reads clean named =
+  pub offends_now : (terms : Terms) (raw : Raw) (later : List Raw) (event : Event) (ruling : Ruling) → terms ≡ terms_of limits format → due ≡ raw ∷ later → Reads raw event → first_no terms before ≡ None → IsNoAt terms before event ruling → Stops limits format rs before ruling
+  offends_now terms raw later event (No rule who number at) same is reads clean named =
       let session = session_next raw later event is reads in
       record {
         event = event;
         later = session.0;
         verdict = named.0;
         session = session.1;
-        clean = subst (λ l. first_no l before ≡ None) same clean;
-        offends = subst (λ l. no_at l before event ≡ Some named.0) same named.1;
+        clean = subst (λ (t : Terms). first_no t before ≡ None) same clean;
+        offends = subst (λ (t : Terms). no_at t before event ≡ Some named.0) same named.1;
         is = named.2;
       }
-  offends_now limit raw later event (BadLog number code) same is reads clean named = named
-  offends_now limit raw later event Memory same is reads clean named = tt
+  offends_now terms raw later event (BadLog number code) same is reads clean named = named
+  offends_now terms raw later event Memory same is reads clean named = tt
 
-  pub stops_side : (side : Side) (d : decoder.State) (bytes : List ℕ) (limit : ℕ) (ruling : Ruling) → limit ≡ limits.document → (h : HasDue side d bytes due) → StoppedNext side d.limits limit bytes h.given before ruling → Stops limits rs before ruling
-  stops_side side d bytes limit (No rule who number at) same h o = by_next o.next
+  pub stops_side : (side : Side) (d : decoder.State) (bytes : List ℕ) (terms : Terms) (ruling : Ruling) → terms ≡ terms_of limits format → (h : HasDue side d bytes due) → StoppedNext side d.limits terms bytes h.given before ruling → Stops limits format rs before ruling
+  stops_side side d bytes terms (No rule who number at) same h o = by_next o.next
     where
-      by_next : IsNext side d.limits bytes h.given o.event → Stops limits rs before (No rule who number at)
+      by_next : IsNext side d.limits bytes h.given o.event → Stops limits format rs before (No rule who number at)
       by_next (inl (c, reads, (rest, frames))) =
           let next = due_next side d bytes due h c rest frames in
-          offends_now limit (content side c) (map (content side) next.0 ++ new_fault side None h.breaks) o.event (No rule who number at) same next.2 reads o.clean o.named
-      by_next (inr (code, is, (rest, stream))) = offends_now limit (broken side code) [] o.event (No rule who number at) same (due_end side d bytes due h rest (Some code) stream) is o.clean o.named
-  stops_side side d bytes limit (BadLog number code) same h o = o
-  stops_side side d bytes limit Memory same h o = tt
+          offends_now terms (content side c) (map (content side) next.0 ++ new_fault side None h.breaks) o.event (No rule who number at) same next.2 reads o.clean o.named
+      by_next (inr (code, is, (rest, stream))) = offends_now terms (broken side code) [] o.event (No rule who number at) same (due_end side d bytes due h rest (Some code) stream) is o.clean o.named
+  stops_side side d bytes terms (BadLog number code) same h o = o
+  stops_side side d bytes terms Memory same h o = tt
 
 pub stops_editor : (s : State) (rs : List Record) (before : List Event) (ruling : Ruling) → s.turn ≡ Some (turn.Bytes Editor)
-    → ((bytes : List ℕ) (contents : List (List ℕ)) (so_far : List Event) → decoder.StandsFor s.editor bytes contents → Follows s.messages s.documents s.counts so_far → StoppedNext Editor s.editor.limits s.documents.limit bytes contents so_far ruling)
-    → IsHearing s rs before → Stops s.limits rs before ruling
+    → ((bytes : List ℕ) (contents : List (List ℕ)) (so_far : List Event) → decoder.StandsFor s.editor bytes contents → Follows s.messages s.documents s.counts so_far → StoppedNext Editor s.editor.limits s.documents.terms bytes contents so_far ruling)
+    → IsHearing s rs before → Stops s.limits s.format rs before ruling
 stops_editor s rs before ruling is told h =
     let a = subst (λ (t : Option Turn). Awaits t s rs h.due) is h.awaits in
-    stops_side s.limits rs h.past h.due before h.placed h.read Editor s.editor (joined Editor rs) s.documents.limit ruling h.limits.documents a.0 (told (joined Editor rs) a.0.given before a.0.stands h.follows)
+    stops_side s.limits s.format rs h.past h.due before h.placed h.read Editor s.editor (joined Editor rs) s.documents.terms ruling h.limits.documents a.0 (told (joined Editor rs) a.0.given before a.0.stands h.follows)
 
 pub stops_server : (s : State) (rs : List Record) (before : List Event) (ruling : Ruling) → s.turn ≡ Some (turn.Bytes Server)
-    → ((bytes : List ℕ) (contents : List (List ℕ)) (so_far : List Event) → decoder.StandsFor s.server bytes contents → Follows s.messages s.documents s.counts so_far → StoppedNext Server s.server.limits s.documents.limit bytes contents so_far ruling)
-    → IsHearing s rs before → Stops s.limits rs before ruling
+    → ((bytes : List ℕ) (contents : List (List ℕ)) (so_far : List Event) → decoder.StandsFor s.server bytes contents → Follows s.messages s.documents s.counts so_far → StoppedNext Server s.server.limits s.documents.terms bytes contents so_far ruling)
+    → IsHearing s rs before → Stops s.limits s.format rs before ruling
 stops_server s rs before ruling is told h =
     let a = subst (λ (t : Option Turn). Awaits t s rs h.due) is h.awaits in
-    stops_side s.limits rs h.past h.due before h.placed h.read Server s.server (joined Server rs) s.documents.limit ruling h.limits.documents a.0 (told (joined Server rs) a.0.given before a.0.stands h.follows)
+    stops_side s.limits s.format rs h.past h.due before h.placed h.read Server s.server (joined Server rs) s.documents.terms ruling h.limits.documents a.0 (told (joined Server rs) a.0.given before a.0.stands h.follows)
 
 pub stops_snapshot : (s : State) (rs : List Record) (before : List Event) (version : ℤ) (uri text : String Global) (ruling : Ruling) → s.turn ≡ Some (turn.Snapshot version uri text)
-    → ((so_far : List Event) → Follows s.messages s.documents s.counts so_far → IsNoAt s.documents.limit so_far (snapshot (string_bytes uri) version (chars (string_bytes text))) ruling)
-    → IsHearing s rs before → Stops s.limits rs before ruling
+    → ((so_far : List Event) → Follows s.messages s.documents s.counts so_far → IsNoAt s.documents.terms so_far (snapshot (string_bytes uri) version (chars (string_bytes text))) ruling)
+    → IsHearing s rs before → Stops s.limits s.format rs before ruling
 stops_snapshot s rs before version uri text ruling is told h =
     let a = subst (λ (t : Option Turn). Awaits t s rs h.due) is h.awaits in
-    offends_now s.limits rs h.past h.due before h.placed h.read s.documents.limit (show version (string_bytes uri) (string_bytes text)) [] (snapshot (string_bytes uri) version (chars (string_bytes text))) ruling h.limits.documents a.0 refl h.follows.clean (told before h.follows)
+    offends_now s.limits s.format rs h.past h.due before h.placed h.read s.documents.terms (show version (string_bytes uri) (string_bytes text)) [] (snapshot (string_bytes uri) version (chars (string_bytes text))) ruling h.limits.documents a.0 refl h.follows.clean (told before h.follows)
 
 -- ---- all events of the records
 
@@ -384,15 +386,16 @@ pub hearing_session : (s : State) (rs : List Record) (heard : List Event) → s.
 hearing_session s rs heard idle h = (h.past, heard_whole s.limits rs h.past h.due (awaits_none s rs h.due idle h.awaits).0 h.placed, h.read)
 
 -- a No at the next event is that of the records
-pub stops_rules : (limits : Bounds) (rs : List Record) (before : List Event) (ruling : Ruling) → Stops limits rs before ruling → Rules limits rs ruling
-stops_rules limits rs before (No rule who number at) o = (
+pub stops_rules : (limits : Bounds) (format : Format) (rs : List Record) (before : List Event) (ruling : Ruling) → Stops limits format rs before ruling → Rules limits format rs ruling
+stops_rules limits format rs before (No rule who number at) o = (
   o.verdict,
-  record { events = before ++ o.event ∷ o.later; session = o.session; offends = no_found limits.document [] before o.later o.event o.verdict o.clean o.offends },
+  record { events = before ++ o.event ∷ o.later; session = o.session; offends = no_found (terms_of limits format) [] before o.later o.event o.verdict o.clean o.offends },
   o.is,
 )
-stops_rules limits rs before (BadLog number code) o = o
-stops_rules limits rs before Memory o = tt
+stops_rules limits format rs before (BadLog number code) o = o
+stops_rules limits format rs before Memory o = tt
 
--- and of the limits that were
-pub stops_along : (now limits : Bounds) (rs : List Record) (before : List Event) (ruling : Ruling) → now ≡ limits → Stops now rs before ruling → Rules limits rs ruling
-stops_along now limits rs before ruling same o = subst (λ (b : Bounds). Rules b rs ruling) same (stops_rules now rs before ruling o)
+-- and of the limits and the format that were
+pub stops_along : (now limits : Bounds) (own format : Format) (rs : List Record) (before : List Event) (ruling : Ruling) → now ≡ limits → own ≡ format → Stops now own rs before ruling → Rules limits format rs ruling
+stops_along now limits own format rs before ruling same alike o =
+    subst (λ (f : Format). Rules limits f rs ruling) alike (subst (λ (b : Bounds). Rules b own rs ruling) same (stops_rules now own rs before ruling o))

@@ -1,15 +1,17 @@
 -- The text that is held after a message of the editor's, as the events of a log are heard.
-use Rattle.std.proofs.Common.{◌≡◌, ◌+◌, ◌<◌, ◌≤◌, ◌^◌, ℕ, Bool, true, false, List, [], ◌∷◌, ◌++◌, length, drop, Option, Some, None, Result, Ok, Err, refl, sym, ap, subst, ◌∙◌, append_assoc, append-nil, length-append, arith}
+use Rattle.std.proofs.Common.{◌≡◌, ◌+◌, ◌<◌, ◌≤◌, ◌^◌, ℕ, Bool, true, false, List, [], ◌∷◌, ◌++◌, length, drop, Option, Some, None, Result, Ok, Err, inl, inr, refl, sym, ap, subst, ◌∙◌, append_assoc, append-nil, length-append, arith}
 use Rattle.std.specs.Prelude.{is_some, if◌then◌else◌, filter, IfOk}
 use Rattle.std.proofs.lemmas.List.{take-append-drop}
 use Rattle.lsp_frame.specs.Bounds.{Bounds, IsInRange}
 use Rattle.lsp_frame.specs.Told.{Told}
+use Rattle.lsp_frame.specs.declared.format.Format.{Format}
 use Rattle.lsp_types.specs.declared.side.Side.TheVariants.{Editor}
 use Rattle.lsp_docs.specs.Documents.{held}
 use Rattle.lsp_docs.specs.State.{capped}
+use Rattle.lsp_docs.specs.Terms.{Terms, terms_of}
 use Rattle.lsp_verdict.specs.Calls.{calls}
 use Rattle.lsp_verdict.specs.Event.{Event}
-use Rattle.lsp_verdict.specs.Outcome.{IsVerdict, Offends}
+use Rattle.lsp_verdict.specs.Outcome.{IsVerdict, Offends, format_or_one, log_terms}
 use Rattle.lsp_verdict.specs.RunIo.{OfRead, GaveAtMost}
 use Rattle.lsp_verdict.specs.Given.{verdict_view}
 use Rattle.lsp_verdict.specs.declared.completeness.Completeness.{Completeness}
@@ -31,56 +33,65 @@ use Rattle.lsp_verdict.proofs.RunReading.{read_map, read_within}
 use Rattle.lsp_verdict.proofs.TextLogs.{text_missing}
 use Rattle.lsp_verdict.proofs.UpTo.{reached_more, reached_past, reached_now, count-append, count_one}
 use Rattle.lsp_verdict.proofs.Verdicts.{no_found}
-use Rattle.lsp_judge.specs.LogEvents.{EndsAt, EndsBy, BeginsWith, SoFar, Found, GivesText, failures_of}
+use Rattle.lsp_judge.specs.LogEvents.{EndsAt, EndsBy, SoFar, Found, GivesText, failures_of}
 use Rattle.lsp_judge.specs.Standing.{Follows}
 use Rattle.lsp_judge.specs.declared.event_reader.EventReader.{EventReader}
 use Rattle.lsp_judge.proofs.KeptEvents.{kept_clean, kept_no, kept_final}
-use Rattle.lsp_judge.proofs.LogEvents.{so_far_begins, so_far_clean, so_far_few, so_far_range}
+use Rattle.lsp_judge.proofs.LogEvents.{BeginsBy, known_terms, not_behind, so_far_by, so_far_clean, so_far_few, so_far_none, so_far_range}
 
 -- ---- the message came
 
-of_held : (limit : ℕ) (uri : List ℕ) (v : Verdict) (upto : List Event) (o : Option (List Event)) → o ≡ Some upto → first_no limit upto ≡ None → held_answer (held limit uri (calls upto)) ≡ text_answer limit uri v o
-of_held limit uri v upto o reached clean =
-    sym (ap (λ w. if is_some w then missing_answer v else held_answer (held limit uri (calls upto))) clean) ∙ sym (ap (text_answer limit uri v) reached)
+of_held : (terms : Terms) (uri : List ℕ) (v : Verdict) (upto : List Event) (o : Option (List Event)) → o ≡ Some upto → first_no terms upto ≡ None → held_answer (held terms uri (calls upto)) ≡ text_answer terms uri v o
+of_held terms uri v upto o reached clean =
+    sym (ap (λ w. if is_some w then missing_answer v else held_answer (held terms uri (calls upto))) clean) ∙ sym (ap (text_answer terms uri v) reached)
 
 -- **the events heard are those up to it**
-text_held : (limits : Bounds) (n : ℕ) (uri : List ℕ) (heard : List Event) → up_to_editor n [] heard ≡ Some heard → first_no limits.document heard ≡ None → (log : List ℕ) → BeginsWith limits heard log → AnswersText limits log n uri (held_answer (held limits.document uri (calls heard)))
-text_held limits n uri heard reached clean log (v, later, (whole, is)) =
-    let events = whole.final.events in
-    let rest = drop (kept_count v events) events in
-    let cut : events ≡ heard ++ (later ++ rest) = sym (take-append-drop (kept_count v events) events) ∙ ap (λ w. w ++ rest) is ∙ append_assoc heard later rest in
-    (v, whole, of_held limits.document uri v heard _ (ap (up_to_editor n []) cut ∙ reached_more n heard (later ++ rest) heard reached) clean)
+text_held : (limits : Bounds) (own : Format) (known : Option Format) (n : ℕ) (uri : List ℕ) (heard : List Event) → own ≡ format_or_one known → (known ≡ None → ⊥) → up_to_editor n [] heard ≡ Some heard → first_no (terms_of limits own) heard ≡ None
+    → (log : List ℕ) → BeginsBy limits known heard log → AnswersText limits log n uri (held_answer (held (terms_of limits own) uri (calls heard)))
+text_held limits own known n uri heard fits some reached clean log b =
+    let events = b.whole.final.events in
+    let rest = drop (kept_count b.v events) events in
+    let cut : events ≡ heard ++ (b.later ++ rest) = sym (take-append-drop (kept_count b.v events) events) ∙ ap (λ w. w ++ rest) b.is ∙ append_assoc heard b.later rest in
+    let terms : log_terms limits b.whole.format ≡ terms_of limits own = elim (known_terms limits own known b.whole.format fits b.is_known) [
+      | inl none ↦ absurd (some none)
+      | inr same ↦ same
+    ] in (
+      b.v,
+      b.whole,
+      subst (λ (t : Terms). held_answer (held (terms_of limits own) uri (calls heard)) ≡ text_answer t uri b.v (up_to_editor n [] events)) (sym terms)
+          (of_held (terms_of limits own) uri b.v heard _ (ap (up_to_editor n []) cut ∙ reached_more n heard (b.later ++ rest) heard reached) clean),
+    )
 
 -- ---- the verdict came before it
 
-of_offence : (limit n : ℕ) (uri : List ℕ) (v : Verdict) (before : List Event) (e : Event) (after events : List Event) → count_of (is_of Editor) before < n → first_no limit before ≡ None → no_at limit before e ≡ Some v → events ≡ before ++ e ∷ after
-    → missing_answer v ≡ text_answer limit uri v (up_to_editor n [] events)
-of_offence limit n uri v before e after events few clean offends cut = by_reached (up_to_editor n [] events) (sym (ap (up_to_editor n []) cut))
+of_offence : (terms : Terms) (n : ℕ) (uri : List ℕ) (v : Verdict) (before : List Event) (e : Event) (after events : List Event) → count_of (is_of Editor) before < n → first_no terms before ≡ None → no_at terms before e ≡ Some v → events ≡ before ++ e ∷ after
+    → missing_answer v ≡ text_answer terms uri v (up_to_editor n [] events)
+of_offence terms n uri v before e after events few clean offends cut = by_reached (up_to_editor n [] events) (sym (ap (up_to_editor n []) cut))
   where
-    by_reached : (o : Option (List Event)) → up_to_editor n [] (before ++ e ∷ after) ≡ o → missing_answer v ≡ text_answer limit uri v o
+    by_reached : (o : Option (List Event)) → up_to_editor n [] (before ++ e ∷ after) ≡ o → missing_answer v ≡ text_answer terms uri v o
     by_reached None is = refl
     by_reached (Some upto) is =
         let past = reached_past n before e after upto few is in
-        sym (ap (λ w. if is_some w then missing_answer v else held_answer (held limit uri (calls upto))) (ap (first_no limit) past.1 ∙ no_found limit [] before past.0 e v clean offends))
+        sym (ap (λ w. if is_some w then missing_answer v else held_answer (held terms uri (calls upto))) (ap (first_no terms) past.1 ∙ no_found terms [] before past.0 e v clean offends))
 
 text_ended : (limits : Bounds) (n : ℕ) (uri : List ℕ) (heard : List Event) (v : Verdict) → count_of (is_of Editor) heard < n → (log : List ℕ) → EndsAt limits log heard v → AnswersText limits log n uri (missing_answer v)
-text_ended limits n uri heard v few log (whole, is) = by_first (first_no limits.document whole.final.events) refl
+text_ended limits n uri heard v few log (whole, is) = by_first (first_no (log_terms limits whole.format) whole.final.events) refl
   where
-    within : kept_within limits.document whole.final.events ≡ heard
-    within = sym (kept_final limits.document whole.final.events _ v whole.final.says) ∙ is
+    within : kept_within (log_terms limits whole.format) whole.final.events ≡ heard
+    within = sym (kept_final (log_terms limits whole.format) whole.final.events _ v whole.final.says) ∙ is
 
-    by_first : (o : Option Verdict) → first_no limits.document whole.final.events ≡ o → AnswersText limits log n uri (missing_answer v)
+    by_first : (o : Option Verdict) → first_no (log_terms limits whole.format) whole.final.events ≡ o → AnswersText limits log n uri (missing_answer v)
     by_first None none =
-        let all : whole.final.events ≡ heard = sym (kept_clean limits.document whole.final.events none) ∙ within in
+        let all : whole.final.events ≡ heard = sym (kept_clean (log_terms limits whole.format) whole.final.events none) ∙ within in
         text_missing limits log n uri v whole (subst (λ es. count_of (is_of Editor) es < n) (sym all) few)
     by_first (Some w) some =
-        let here = found (no_at limits.document) [] whole.final.events w some in
-        let offends : Offends limits whole.records w = record { events = whole.final.events; session = whole.final.session; offends = some } in
-        let same : w ≡ v = final_more limits whole.records whole.records [] whole.fault w v (sym (append-nil whole.records)) offends whole.final in
-        let front : here.front ≡ heard = sym (kept_no limits.document here.front here.here here.after w here.none here.at) ∙ ap (kept_within limits.document) (sym here.whole) ∙ within in (
+        let here = found (no_at (log_terms limits whole.format)) [] whole.final.events w some in
+        let offends : Offends limits (format_or_one whole.format) whole.records w = record { events = whole.final.events; session = whole.final.session; offends = some } in
+        let same : w ≡ v = final_more limits (format_or_one whole.format) whole.records whole.records [] whole.fault w v (sym (append-nil whole.records)) offends whole.final in
+        let front : here.front ≡ heard = sym (kept_no (log_terms limits whole.format) here.front here.here here.after w here.none here.at) ∙ ap (kept_within (log_terms limits whole.format)) (sym here.whole) ∙ within in (
           v,
           whole,
-          of_offence limits.document n uri v here.front here.here here.after whole.final.events (subst (λ es. count_of (is_of Editor) es < n) (sym front) few) here.none (here.at ∙ ap Some same) here.whole,
+          of_offence (log_terms limits whole.format) n uri v here.front here.here here.after whole.final.events (subst (λ es. count_of (is_of Editor) es < n) (sym front) few) here.none (here.at ∙ ap Some same) here.whole,
         )
 
 -- ---- a run
@@ -136,15 +147,17 @@ module _ (limits : Bounds) (e : EventReader) (start now : Told) (n : ℕ) (heard
   reads_on ignored unreached = record { heard = heard ++ event ∷ []; so_far = s; ignored = ignored; few = still_few n heard event few (λ is. unreached (exact_count ∙ is)) }
 
   pub text_found : (uri : List ℕ) (answer : TextAnswer) → e.judge.counts.editor ≡ n
-      → ((events : List Event) → Follows e.judge.messages e.judge.documents e.judge.counts events → answer ≡ held_answer (held e.judge.documents.limit uri (calls events)))
+      → ((events : List Event) → Follows e.judge.messages e.judge.documents e.judge.counts events → answer ≡ held_answer (held e.judge.documents.terms uri (calls events)))
       → OfRead limits start now (λ log. AnswersText limits log n uri answer) × (now.failures ≡ start.failures)
   text_found uri answer reached told =
       let all = heard ++ event ∷ [] in
-      let limit : e.judge.documents.limit ≡ limits.document = s.hears.limits.documents ∙ ap (λ (b : Bounds). b.document) s.alike in
-      let is = told all s.hears.follows ∙ ap (λ l. held_answer (held l uri (calls all))) limit in (
-        read_map limits start now (BeginsWith limits all) (λ log. AnswersText limits log n uri answer)
-            (λ log begins. subst (AnswersText limits log n uri) (sym is) (text_held limits n uri all (reached_last n heard event few (sym exact_count ∙ reached)) (so_far_clean limits e start now all s) log begins))
-            (so_far_begins limits e start now all s),
+      let terms : e.judge.documents.terms ≡ terms_of limits e.judge.format = s.hears.limits.documents ∙ ap (λ (b : Bounds). terms_of b e.judge.format) s.alike in
+      let is = told all s.hears.follows ∙ ap (λ (t : Terms). held_answer (held t uri (calls all))) terms in
+      let known = λ (none : e.log.format ≡ None). not_behind heard [] event (so_far_none limits e start now all s none) in (
+        read_map limits start now (BeginsBy limits e.log.format all) (λ log. AnswersText limits log n uri answer)
+            (λ log begins. subst (AnswersText limits log n uri) (sym is)
+            (text_held limits e.judge.format e.log.format n uri all s.format known (reached_last n heard event few (sym exact_count ∙ reached)) (so_far_clean limits e start now all s) log begins))
+            (so_far_by limits e start now all s),
         s.at.failures,
       )
 

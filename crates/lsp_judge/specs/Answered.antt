@@ -1,68 +1,68 @@
 -- What is answered on records and on a log, in plain words.
 use Rattle.std.specs.Prelude.{◌≡◌, ℕ, List, Option, Some, None}
 use Rattle.lsp_frame.specs.Bounds.{Bounds}
+use Rattle.lsp_frame.specs.declared.format.Format.{Format}
 use Rattle.lsp_frame.specs.Told.{Told}
 use Rattle.lsp_types.specs.declared.side.Side.TheVariants.{Editor, Server}
+use Rattle.lsp_docs.specs.Terms.{terms_of}
 use Rattle.lsp_log.specs.Log.{Record, IsLog}
-use Rattle.lsp_judge.specs.declared.ruling.Ruling.{Ruling}
 use Rattle.lsp_verdict.specs.declared.completeness.Completeness.{Completeness}
-use Rattle.lsp_verdict.specs.declared.verdict.Verdict as code
 use Rattle.lsp_verdict.specs.BroughtToEnd.{AreCutShort}
 use Rattle.lsp_verdict.specs.Complete.{IsVerdictBy}
 use Rattle.lsp_verdict.specs.Event.{Event}
-use Rattle.lsp_verdict.specs.Given.{verdict_view, as_given}
+use Rattle.lsp_verdict.specs.Given.{as_given}
 use Rattle.lsp_verdict.specs.Headline.{Names, HasRest107}
 use Rattle.lsp_verdict.specs.Kept.{NothingOffends, AreFrames}
+use Rattle.lsp_verdict.specs.Outcome.{format_or_one}
 use Rattle.lsp_verdict.specs.Placed.{IsSession, joined}
 use Rattle.lsp_verdict.specs.Report.{report}
-use Rattle.lsp_judge.specs.Rulings.{verdict_in}
 use Rattle.lsp_verdict.specs.RunIo.{OfRead, AppendsFront}
 use Rattle.lsp_verdict.specs.Verdict.{Verdict, yes, summary}
 
 -- ---- No of records, whatever their length: a count past the greatest u64 is given as that
 
 -- an event of the records offends by the rule given, which is the least that it offends; no earlier event offends
-pub record NamesFirst (limits : Bounds) (records : List Record) (given : Verdict) : Type 0 where
+pub record NamesFirst (limits : Bounds) (format : Format) (records : List Record) (given : Verdict) : Type 0 where
   pub events : List Event
   pub session : IsSession limits records events
   pub verdict : Verdict
-  pub names : Names limits.document events verdict
+  pub names : Names (terms_of limits format) events verdict
   pub is : given ≡ as_given verdict
 
 -- no event of the records offends, and a stream ends inside a frame: 107 is given, the editor's named first
-pub record NamesRest (limits : Bounds) (records : List Record) (given : Verdict) : Type 0 where
+pub record NamesRest (limits : Bounds) (format : Format) (records : List Record) (given : Verdict) : Type 0 where
   pub events : List Event
   pub session : IsSession limits records events
   pub verdict : Verdict
-  pub names : HasRest107 limits records None events verdict
+  pub names : HasRest107 limits format records None events verdict
   pub is : given ≡ as_given verdict
 
 -- the records are kept, and what is given is the No by what their session lacks to be complete
-pub record NamesShort (limits : Bounds) (records : List Record) (given : Verdict) : Type 0 where
+pub record NamesShort (limits : Bounds) (format : Format) (records : List Record) (given : Verdict) : Type 0 where
   pub verdict : Verdict
-  pub short : AreCutShort limits records verdict
+  pub short : AreCutShort limits format records verdict
   pub is : given ≡ as_given verdict
 
 -- no event of the records offends
-abbrev pub NoneOffends : Bounds → List Record → Type 0
-NoneOffends limits records = (events : List Event) → IsSession limits records events → NothingOffends limits.document events
+abbrev pub NoneOffends : Bounds → Format → List Record → Type 0
+NoneOffends limits format records = (events : List Event) → IsSession limits records events → NothingOffends (terms_of limits format) events
 
 -- ---- Yes
 
 -- these are the events of the records, none of them offends, and both streams are complete frames
-pub record AreClean (limits : Bounds) (records : List Record) (events : List Event) : Type 0 where
+pub record AreClean (limits : Bounds) (format : Format) (records : List Record) (events : List Event) : Type 0 where
   pub session : IsSession limits records events
-  pub clean : NothingOffends limits.document events
+  pub clean : NothingOffends (terms_of limits format) events
   pub editor : AreFrames limits (joined Editor records)
   pub server : AreFrames limits (joined Server records)
 
--- and the log has no fault
-abbrev pub IsClean : Bounds → List ℕ → List Event → Type 0
-IsClean limits log events = (records : List Record) × IsLog limits log records None × AreClean limits records events
+-- and the log is of this format and has no fault
+abbrev pub IsClean : Bounds → List ℕ → Option Format → List Event → Type 0
+IsClean limits log format events = (records : List Record) × IsLog limits log format records None × AreClean limits (format_or_one format) records events
 
 -- Yes is given, with the summary of these events; a count past the greatest u64 is given as that
-abbrev pub SaysYes : Bounds → List Event → Verdict → Type 0
-SaysYes limits events given = given ≡ as_given (yes (summary limits.document events))
+abbrev pub SaysYes : Bounds → Format → List Event → Verdict → Type 0
+SaysYes limits format events given = given ≡ as_given (yes (summary (terms_of limits format) events))
 
 -- ---- a report
 
@@ -71,10 +71,3 @@ pub record IsReportCut (completeness : Completeness) (limits : Bounds) (before a
   pub given : Verdict
   pub says : OfRead limits before after (λ log. IsVerdictBy completeness limits log given)
   pub writes : AppendsFront old new (report given)
-
--- ---- given for good
-
--- the verdict that was given for good is answered; where memory was refused there is none
-abbrev pub Repeats : Ruling → Option code.Verdict → Type 0
-Repeats ruling None = ⊥
-Repeats ruling (Some answer) = verdict_in ruling ≡ Some (verdict_view answer)

@@ -4,10 +4,12 @@ use Rattle.std.specs.List.{AllZip}
 use Rattle.lsp_frame.specs.Bounds.{Bounds}
 use Rattle.lsp_frame.specs.Decoder as decoder
 use Rattle.lsp_frame.specs.Frame.{IsStream}
+use Rattle.lsp_frame.specs.declared.format.Format.{Format}
 use Rattle.lsp_rpc.specs.Outline.{outline}
 use Rattle.lsp_rpc.specs.View.{message_view}
 use Rattle.lsp_types.specs.declared.side.Side.{Side}
 use Rattle.lsp_types.specs.declared.side.Side.TheVariants.{Editor, Server}
+use Rattle.lsp_docs.specs.Terms.{terms_of}
 use Rattle.lsp_log.specs.Log.{Record}
 use Rattle.lsp_verdict.specs.Drained.{IsDrained}
 use Rattle.lsp_verdict.specs.Event.{Event, message, fault, snapshot}
@@ -78,16 +80,16 @@ HearsNext s records before None = IsHearing s records before × (s.turn ≡ None
 HearsNext s records before (Some given) = (event : Event) × IsHeard event given × IsHearing s records (before ++ event ∷ [])
 
 -- behind these events of the records, none of which offends, comes one that does, and this is the No at it
-pub record OffendsAfter (limits : Bounds) (records : List Record) (before : List Event) (given : Verdict) : Type 0 where
+pub record OffendsAfter (limits : Bounds) (format : Format) (records : List Record) (before : List Event) (given : Verdict) : Type 0 where
   pub event : Event
   pub later : List Event
   pub verdict : Verdict
   pub session : IsSession limits records (before ++ event ∷ later)
-  pub clean : first_no limits.document before ≡ None
-  pub offends : no_at limits.document before event ≡ Some verdict
+  pub clean : first_no (terms_of limits format) before ≡ None
+  pub offends : no_at (terms_of limits format) before event ≡ Some verdict
   pub is : given ≡ as_given verdict
 
-abbrev pub Stops : Bounds → List Record → List Event → Ruling → Type 0
-Stops limits records before (No rule who number event) = OffendsAfter limits records before (no rule who number event)
-Stops limits records before (BadLog number code) = ⊥
-Stops limits records before Memory = Unit {0}
+abbrev pub Stops : Bounds → Format → List Record → List Event → Ruling → Type 0
+Stops limits format records before (No rule who number event) = OffendsAfter limits format records before (no rule who number event)
+Stops limits format records before (BadLog number code) = ⊥
+Stops limits format records before Memory = Unit {0}

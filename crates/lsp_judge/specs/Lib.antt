@@ -7,4 +7,5 @@ pub mod Hearing
 pub mod TextAnswers
 pub mod LogEvents
 pub mod ShownLog
+pub mod UpgradedLog
 pub mod Apart

@@ -2,12 +2,13 @@
 use Rattle.std.specs.Prelude.{◌≡◌, ℕ, List, [], ◌∷◌, ◌++◌, Option, Some, None, Result, Ok, Err}
 use Rattle.lsp_frame.specs.Bounds.{Bounds}
 use Rattle.lsp_frame.specs.Told.{Told}
+use Rattle.lsp_frame.specs.declared.format.Format.{Format}
 use Rattle.lsp_log.specs.Log.{Record}
 use Rattle.lsp_verdict.specs.Entries.{IsAt}
 use Rattle.lsp_verdict.specs.Complete.{IsVerdictBy, completed}
 use Rattle.lsp_verdict.specs.Event.{Event}
 use Rattle.lsp_verdict.specs.Given.{verdict_view}
-use Rattle.lsp_verdict.specs.Outcome.{IsVerdict}
+use Rattle.lsp_verdict.specs.Outcome.{IsVerdict, format_or_one}
 use Rattle.lsp_verdict.specs.RunIo.{OfRead, failures_after}
 use Rattle.lsp_verdict.specs.Shown.{kept}
 use Rattle.lsp_verdict.specs.Verdict.{Verdict}
@@ -20,6 +21,7 @@ use Rattle.lsp_verdict.specs.TextAfter.{AnswersText}
 use Rattle.lsp_judge.specs.TextAnswers.{answer_view}
 use Rattle.lsp_judge.specs.declared.text_answer.TextAnswer.{TextAnswer}
 use Rattle.lsp_judge.specs.Hearing.{IsHeard, IsHearing}
+use Rattle.lsp_judge.specs.Standing.{State}
 use Rattle.lsp_judge.specs.declared.event_reader.EventReader.{EventReader}
 use Rattle.lsp_judge.specs.declared.event_reader.Next.{Next}
 use Rattle.lsp_judge.specs.declared.event_reader.Next.TheVariants as next
@@ -41,12 +43,13 @@ BeginsWith limits heard log = (v : Verdict) × (later : List Event) × EndsAt li
 
 -- ---- a reader of events
 
--- **these events of the log were heard**, and none of them offends
+-- **these events of the log were heard**, and none of them offends; the judge is one for the log's format, as far as it is known
 pub record SoFar (limits : Bounds) (e : EventReader) (start now : Told) (heard : List Event) : Type 0 where
   pub records : List Record
   pub at : IsAt e.log start now records
   pub same : e.log.limits ≡ limits
   pub alike : e.judge.limits ≡ limits
+  pub format : e.judge.format ≡ format_or_one e.log.format
   pub ungiven : e.judge.given ≡ None
   pub hears : IsHearing e.judge records heard
 
@@ -83,6 +86,15 @@ abbrev pub PullsHere : Bounds → EventReader → Told → Told → List Event �
 PullsHere limits e start now heard (Ok (Some given)) = Gives limits e start now heard given
 PullsHere limits e start now heard (Ok None) = IsIdle limits e start now heard
 PullsHere limits e start now heard (Err fault) = BrokeOff limits start now heard fault
+
+-- a judge for a log of this format, as far as that is known, has heard these events, which are all of these records
+pub record Ready (limits : Bounds) (s : State) (format : Option Format) (records : List Record) (heard : List Event) : Type 0 where
+  pub alike : s.limits ≡ limits
+  pub ungiven : s.given ≡ None
+  pub idle : s.turn ≡ None
+  pub hears : IsHearing s records heard
+  pub fits : s.format ≡ format_or_one format
+  pub early : format ≡ None → records ≡ []
 
 -- one more entry was taken
 abbrev pub TakesEntry : Bounds → EventReader → Told → Told → List Event → Result (Option Next) RunFault → Type 0

@@ -11,6 +11,7 @@ use Rattle.lsp_types.specs.declared.side.Side.{Side}
 use Rattle.lsp_session.specs.Sent.{Sent}
 use Rattle.lsp_session.specs.State as session
 use Rattle.lsp_docs.specs.State as docs
+use Rattle.lsp_docs.specs.Terms.{Terms}
 use Rattle.lsp_verdict.specs.declared.counts.Counts.{Counts}
 use Rattle.lsp_judge.specs.declared.heard.Heard.{Heard}
 use Rattle.lsp_judge.specs.declared.heard.Heard.TheVariants.{Message, Snapshot}
@@ -63,16 +64,16 @@ IsNext side limits bytes contents event =
     ⊎ ((rule : ℕ) × (event ≡ fault side rule) × ((rest : List ℕ) × IsStream limits bytes contents rest (Some rule)))
 
 -- none of these events offends, but the next does
-pub record OffendsNext (side : Side) (limits : Bounds) (limit : ℕ) (bytes : List ℕ) (contents : List (List ℕ)) (events : List Event) (ruling : Ruling) : Type 0 where
+pub record OffendsNext (side : Side) (limits : Bounds) (terms : Terms) (bytes : List ℕ) (contents : List (List ℕ)) (events : List Event) (ruling : Ruling) : Type 0 where
   pub event : Event
-  pub clean : first_no limit events ≡ None
+  pub clean : first_no terms events ≡ None
   pub next : IsNext side limits bytes contents event
-  pub named : IsNoAt limit events event ruling
+  pub named : IsNoAt terms events event ruling
 
-abbrev pub StoppedNext : Side → Bounds → ℕ → List ℕ → List (List ℕ) → List Event → Ruling → Type 0
-StoppedNext side limits limit bytes contents events (No rule who number event) = OffendsNext side limits limit bytes contents events (No rule who number event)
-StoppedNext side limits limit bytes contents events (BadLog number code) = ⊥
-StoppedNext side limits limit bytes contents events Memory = Unit {0}
+abbrev pub StoppedNext : Side → Bounds → Terms → List ℕ → List (List ℕ) → List Event → Ruling → Type 0
+StoppedNext side limits terms bytes contents events (No rule who number event) = OffendsNext side limits terms bytes contents events (No rule who number event)
+StoppedNext side limits terms bytes contents events (BadLog number code) = ⊥
+StoppedNext side limits terms bytes contents events Memory = Unit {0}
 
 -- ---- a snapshot
 

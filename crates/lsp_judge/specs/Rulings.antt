@@ -1,6 +1,7 @@
 -- What a judge gives for good, in the words of verdicts.
 use Rattle.std.specs.Prelude.{◌≡◌, ℕ, List, Option, Some, None, Result, Ok, Err}
 use Rattle.lsp_types.specs.declared.memory.Memory as memory
+use Rattle.lsp_docs.specs.Terms.{Terms}
 use Rattle.lsp_judge.specs.declared.ruling.Ruling.{Ruling}
 use Rattle.lsp_judge.specs.declared.ruling.Ruling.TheVariants.{No, BadLog, Memory}
 use Rattle.lsp_verdict.specs.Event.{Event}
@@ -14,16 +15,16 @@ verdict_in (BadLog number code) = Some (bad_log number code)
 verdict_in Memory = None
 
 -- the ruling is the No at this event, unless memory ran out
-abbrev pub IsNoAt : ℕ → List Event → Event → Ruling → Type 0
-IsNoAt limit before event (No rule who number at) = (v : Verdict) × (no_at limit before event ≡ Some v) × (no rule who number at ≡ as_given v)
-IsNoAt limit before event (BadLog number code) = ⊥
-IsNoAt limit before event Memory = Unit {0}
+abbrev pub IsNoAt : Terms → List Event → Event → Ruling → Type 0
+IsNoAt terms before event (No rule who number at) = (v : Verdict) × (no_at terms before event ≡ Some v) × (no rule who number at ≡ as_given v)
+IsNoAt terms before event (BadLog number code) = ⊥
+IsNoAt terms before event Memory = Unit {0}
 
 -- the ruling is the No at an event of this kind, unless memory ran out
-abbrev pub IsNoAtSome : ℕ → List Event → (Event → Type 0) → Ruling → Type 0
-IsNoAtSome limit before IsSuch (No rule who number at) = (event : Event) × IsSuch event × IsNoAt limit before event (No rule who number at)
-IsNoAtSome limit before IsSuch (BadLog number code) = ⊥
-IsNoAtSome limit before IsSuch Memory = Unit {0}
+abbrev pub IsNoAtSome : Terms → List Event → (Event → Type 0) → Ruling → Type 0
+IsNoAtSome terms before IsSuch (No rule who number at) = (event : Event) × IsSuch event × IsNoAt terms before event (No rule who number at)
+IsNoAtSome terms before IsSuch (BadLog number code) = ⊥
+IsNoAtSome terms before IsSuch Memory = Unit {0}
 
 -- the ruling is this refusal, and there is none where there is none
 abbrev pub RestIs : Option Ruling → Option Verdict → Type 0

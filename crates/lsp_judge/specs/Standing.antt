@@ -2,6 +2,7 @@
 use Rattle.std.specs.Prelude.{◌≡◌, ℕ, List, [], ◌∷◌, ◌++◌, length, Option, Some, None, option_and_then}
 use Rattle.lsp_frame.specs.Bounds.{Bounds, IsInRange}
 use Rattle.lsp_frame.specs.Decoder as decoder
+use Rattle.lsp_frame.specs.declared.format.Format.{Format}
 use Rattle.lsp_rpc.specs.Message.{Message}
 use Rattle.lsp_rpc.specs.Outline.{outline}
 use Rattle.lsp_types.specs.declared.side.Side.{Side}
@@ -9,6 +10,7 @@ use Rattle.lsp_types.specs.declared.side.Side.TheVariants.{Editor, Server}
 use Rattle.lsp_session.specs.Sent.{Sent}
 use Rattle.lsp_session.specs.State as session
 use Rattle.lsp_docs.specs.State as docs
+use Rattle.lsp_docs.specs.Terms.{Terms, terms_of}
 use Rattle.lsp_log.specs.Log.{Record}
 use Rattle.lsp_verdict.specs.declared.counts.Counts.{Counts}
 use Rattle.lsp_judge.specs.declared.heard.Turn.{Turn}
@@ -36,21 +38,21 @@ pub record Holds (messages : session.State) (documents : docs.State) (events : L
   pub called : docs.Stands documents (calls events)
 
 -- the content is this message, but for its params and the value of a result; it doesn't offend, and what is held is what the events come to with it
-pub record Hears (side : Side) (content : List ℕ) (said : Message) (limit : ℕ) (messages : session.State) (documents : docs.State) (events : List Event) : Type 0 where
+pub record Hears (side : Side) (content : List ℕ) (said : Message) (terms : Terms) (messages : session.State) (documents : docs.State) (events : List Event) : Type 0 where
   pub sent : Sent
   pub reads : IsSent side content sent
   pub says : outline sent.message ≡ outline said
-  pub clean : offence limit events (message sent) ≡ None
+  pub clean : offence terms events (message sent) ≡ None
   pub holds : Holds messages documents (events ++ message sent ∷ [])
 
 -- the content is an event that offends this rule, unless memory ran out
-abbrev pub Refuses : Side → List ℕ → ℕ → List Event → Fault → Type 0
-Refuses side content limit events (Rule rule) = (event : Event) × ReadsAs side content event × (offence limit events event ≡ Some rule)
-Refuses side content limit events fault.Memory = Unit {0}
+abbrev pub Refuses : Side → List ℕ → Terms → List Event → Fault → Type 0
+Refuses side content terms events (Rule rule) = (event : Event) × ReadsAs side content event × (offence terms events event ≡ Some rule)
+Refuses side content terms events fault.Memory = Unit {0}
 
 -- none of these events offends, and what is held is what they come to
 pub record Follows (messages : session.State) (documents : docs.State) (counts : Counts) (events : List Event) : Type 0 where
-  pub clean : first_no documents.limit events ≡ None
+  pub clean : first_no documents.terms events ≡ None
   pub holds : Holds messages documents events
   pub counted : AreCounts counts events
 
@@ -59,6 +61,7 @@ pub record Follows (messages : session.State) (documents : docs.State) (counts :
 -- what a judge holds
 pub record State : Type 0 where
   pub limits : Bounds
+  pub format : Format
   pub editor : decoder.State
   pub server : decoder.State
   pub messages : session.State
@@ -77,22 +80,27 @@ pub record IsOpen (s : State) (records : List Record) : Type 0 where
   pub server : IsDrained s.server (joined Server records)
 
 -- an event of the records offends, and this is the No at the first
-abbrev pub HasOffence : Bounds → List Record → Verdict → Type 0
-HasOffence limits records given = (v : Verdict) × Offends limits records v × (given ≡ as_given v)
+abbrev pub HasOffence : Bounds → Format → List Record → Verdict → Type 0
+HasOffence limits format records given = (v : Verdict) × Offends limits format records v × (given ≡ as_given v)
 
 -- what is left as it was by a step
 pub record Keeps (old new : State) : Type 0 where
   pub limits : new.limits ≡ old.limits
+  pub format : new.format ≡ old.format
   pub editor : new.editor.limits ≡ old.editor.limits
   pub server : new.server.limits ≡ old.server.limits
-  pub documents : new.documents.limit ≡ old.documents.limit
+  pub documents : new.documents.terms ≡ old.documents.terms
   pub given : new.given ≡ old.given
 
 -- a ruling at the last of these records, unless memory ran out
-abbrev pub Rules : Bounds → List Record → Ruling → Type 0
-Rules limits records (No rule by number event) = HasOffence limits records (no rule by number event)
-Rules limits records (BadLog number code) = ⊥
-Rules limits records Memory = Unit {0}
+abbrev pub Rules : Bounds → Format → List Record → Ruling → Type 0
+Rules limits format records (No rule by number event) = HasOffence limits format records (no rule by number event)
+Rules limits format records (BadLog number code) = ⊥
+Rules limits format records Memory = Unit {0}
+
+-- memory was refused, for good
+abbrev pub WasRefused : Option Ruling → Type 0
+WasRefused given = given ≡ Some Memory
 
 -- the verdict that is given from now on
 abbrev pub is_given : Option Ruling → Option Verdict
@@ -101,18 +109,31 @@ is_given given = option_and_then verdict_in given
 -- what a judge gives, against the records taken; once it gave a fault of the log or was refused memory, it stands for none
 abbrev pub StandsBy : Option Ruling → State → List Record → Type 0
 StandsBy None s records = IsOpen s records
-StandsBy (Some (No rule by number event)) s records = HasOffence s.limits records (no rule by number event)
+StandsBy (Some (No rule by number event)) s records = HasOffence s.limits s.format records (no rule by number event)
 StandsBy (Some (BadLog number code)) s records = ⊥
 StandsBy (Some Memory) s records = ⊥
 
--- the parts are limited alike
+-- the parts are limited alike, the documents by the format
 pub record AreLimits (s : State) : Type 0 where
   pub range : IsInRange s.limits
   pub editor : s.editor.limits ≡ s.limits
   pub server : s.server.limits ≡ s.limits
-  pub documents : s.documents.limit ≡ s.limits.document
+  pub documents : s.documents.terms ≡ terms_of s.limits s.format
 
 -- **the judge stands for the records taken**
 pub record Stands (s : State) (records : List Record) : Type 0 where
   pub limits : AreLimits s
   pub given : StandsBy s.given s records
+
+-- ---- the format
+
+-- the judge is one for this format, made anew where it was for another
+pub record IsFitted (format : Format) (old new : State) : Type 0 where
+  pub limits : new.limits ≡ old.limits
+  pub fits : new.format ≡ format
+  pub same : old.format ≡ format → new ≡ old
+  pub other : (old.format ≡ format → ⊥) → Stands new [] × (new.given ≡ None)
+
+abbrev pub IsRefitted : Option Format → State → State → Type 0
+IsRefitted None old new = new ≡ old
+IsRefitted (Some format) old new = IsFitted format old new

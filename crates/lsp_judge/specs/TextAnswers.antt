@@ -18,5 +18,5 @@ answer_view (answers.Refused v) = refused (verdict_view v)
 
 -- the answer is for the text that the events heard come to, unless memory ran out
 abbrev pub AnswersHeld : State → List ℕ → Result code.TextAnswer Memory → Type 0
-AnswersHeld s uri (Ok answer) = (events : List Event) → Follows s.messages s.documents s.counts events → answer_view answer ≡ held_answer (held s.documents.limit uri (calls events))
+AnswersHeld s uri (Ok answer) = (events : List Event) → Follows s.messages s.documents s.counts events → answer_view answer ≡ held_answer (held s.documents.terms uri (calls events))
 AnswersHeld s uri (Err memory) = Unit {0}

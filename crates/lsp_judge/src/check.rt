@@ -1,5 +1,5 @@
 //! Judges a log and writes the report, whether or not its session has to be complete.
-ghost use Rattle.std.specs.Prelude.{◌≡◌, ◌⊎◌, ℕ, ◌+◌, List, Ok, Err, IfOk};
+ghost use Rattle.std.specs.Prelude.{◌≡◌, ◌⊎◌, ℕ, ◌+◌, List, Option, Ok, Err, IfOk};
 ghost use Rattle.std.specs.Io.KnownBytes.{IsAtEnd};
 ghost use Rattle.lsp_frame.specs.Told.{Took};
 ghost use Rattle.lsp_frame.specs.Bounds.{IsInRange};
@@ -12,13 +12,13 @@ ghost use Rattle.lsp_verdict.specs.Event.{Event};
 ghost use Rattle.lsp_verdict.specs.Given.{verdict_view};
 ghost use Rattle.lsp_verdict.specs.Headline.{HasFault, Refuses};
 ghost use Rattle.lsp_verdict.specs.Kept.{IsKept};
-ghost use Rattle.lsp_verdict.specs.Outcome.{IsVerdict};
+ghost use Rattle.lsp_verdict.specs.Outcome.{IsVerdict, log_terms};
 ghost use Rattle.lsp_verdict.specs.Report.{report};
 ghost use Rattle.lsp_verdict.specs.RunIo.{OfRead, GaveAtMost, source_failures, sink_failures};
 ghost use Rattle.lsp_verdict.specs.Verdict.{yes, no, summary};
 
 use crate::event_reader::EventReader;
-use lsp_frame::{Limits, Sink, Source, put_all};
+use lsp_frame::{Format, Limits, Sink, Source, put_all};
 use lsp_verdict::{Completeness, Outcome, RunFault, Summary, Verdict, Who, report_of};
 use std::alloc::Global;
 
@@ -98,7 +98,7 @@ pub fn run_check<R: Source, W: Sink>(
     // frames.
     ensures kept { (v : Verdict) → result ≡ Ok (Outcome.Judged v)
         → OfRead limits (R.told reader.old) (R.told reader.new)
-        (λ log. (events : List Event) → IsClean limits log events → verdict_view v ≡ yes (summary limits.document events)) }
+        (λ log. (format : Option Format) (events : List Event) → IsClean limits log format events → verdict_view v ≡ yes (summary (log_terms limits format) events)) }
 
     // After a read fault or for want of memory nothing is written, after a write fault a prefix.
     ensures read_fault { result ≡ Err RunFault.Read → W.told writer.new ≡ W.told writer.old }
@@ -148,7 +148,7 @@ pub fn run_check_complete<R: Source, W: Sink>(
     // frames, and the session was brought to its end.
     ensures kept { (v : Verdict) → result ≡ Ok (Outcome.Judged v)
         → OfRead limits (R.told reader.old) (R.told reader.new)
-        (λ log. (events : List Event) → IsClean limits log events → IsBroughtToEnd events → verdict_view v ≡ yes (summary limits.document events)) }
+        (λ log. (format : Option Format) (events : List Event) → IsClean limits log format events → IsBroughtToEnd events → verdict_view v ≡ yes (summary (log_terms limits format) events)) }
 
     // After a read fault or for want of memory nothing is written, after a write fault a prefix.
     ensures read_fault { result ≡ Err RunFault.Read → W.told writer.new ≡ W.told writer.old }

@@ -25,7 +25,7 @@ pub(crate) fn next_message<S: TextStore>(
     turn: &mut Option<Turn>,
 ) -> Result<Option<Heard>, Ruling>
     ensures limits { decoder.new.limits ≡ decoder.old.limits }
-    ensures document { events.new.docs.limit ≡ events.old.docs.limit }
+    ensures document { events.new.docs.terms ≡ events.old.docs.terms }
     // A message leaves less to decode, so that a caller's loop ends.
     ensures less { IfOk result (λ answer. IfSome answer (λ _. length decoder.new.rest < length decoder.old.rest)) }
     ensures turn { IfOk result (λ answer. turn.new ≡ turn_after side turn.old answer) }
@@ -34,7 +34,7 @@ pub(crate) fn next_message<S: TextStore>(
         → HeardNext side decoder.new events.new.session events.new.docs events.new.counts bytes contents so_far answer) }
     ensures no { IfErr result (λ ruling. (bytes : List ℕ) (contents : List (List ℕ)) (so_far : List Event) → StandsFor decoder.old bytes contents
         → Follows events.old.session events.old.docs events.old.counts so_far
-        → StoppedNext side decoder.old.limits events.old.docs.limit bytes contents so_far ruling) }
+        → StoppedNext side decoder.old.limits events.old.docs.terms bytes contents so_far ruling) }
 {
     match decoder.next() {
         Err(fault) => Err(Ruling::no_next(&events.counts, fault.rule, who_of(side))),
@@ -54,11 +54,11 @@ pub(crate) fn next_snapshot<S: TextStore>(
     uri: String,
     text: String,
 ) -> Result<Option<Heard>, Ruling>
-    ensures document { events.new.docs.limit ≡ events.old.docs.limit }
+    ensures document { events.new.docs.terms ≡ events.old.docs.terms }
     ensures ok { IfOk result (λ answer. (so_far : List Event) → Follows events.old.session events.old.docs events.old.counts so_far
         → HeardSnapshot version uri text events.new.session events.new.docs events.new.counts so_far answer) }
     ensures no { IfErr result (λ ruling. (so_far : List Event) → Follows events.old.session events.old.docs events.old.counts so_far
-        → IsNoAt events.old.docs.limit so_far (snapshot (string_bytes uri) version (chars (string_bytes text))) ruling) }
+        → IsNoAt events.old.docs.terms so_far (snapshot (string_bytes uri) version (chars (string_bytes text))) ruling) }
 {
     events.snapshot(uri.as_str(), version, text.as_str())?;
     Ok(Some(Heard::Snapshot { version, uri, text }))

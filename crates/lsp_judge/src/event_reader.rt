@@ -2,21 +2,23 @@
 ghost use Rattle.std.specs.Prelude.{◌≡◌, ◌<◌, ◌≤◌, ℕ, List, [], None, Ok, IfOk};
 ghost use Rattle.lsp_frame.specs.Bounds.{Bounds};
 ghost use Rattle.lsp_frame.specs.Told.{Told};
-ghost use Rattle.lsp_log.specs.Log.{Record};
+ghost use Rattle.lsp_log.specs.Log as log;
+ghost use Rattle.lsp_log.specs.Records.{record_view};
 ghost use Rattle.lsp_log.specs.Reader.{ahead};
 ghost use Rattle.lsp_verdict.specs.Complete.{IsFinalBy};
 ghost use Rattle.lsp_verdict.specs.Event.{Event};
 ghost use Rattle.lsp_verdict.specs.Given.{verdict_view, as_given};
 ghost use Rattle.lsp_verdict.specs.Verdict as spec;
 ghost use Rattle.lsp_judge.specs.LogEvents.{SoFar, IsFresh, IsIdle, Pulls, PullsHere, TakesEntry, GivesVerdict};
-ghost use Rattle.lsp_judge.specs.Standing.{Stands};
+ghost use Rattle.lsp_judge.specs.Standing.{IsRefitted, Stands};
 ghost use Rattle.lsp_judge.specs.TextAnswers.{AnswersHeld};
+ghost use Rattle.lsp_judge.specs.UpgradedLog.{HasTaken, Accepts, IfAccepted};
 
 use crate::heard::Heard;
 use crate::judge::Judge;
 use crate::text_answer::TextAnswer;
 use lsp_frame::{Limits, Source};
-use lsp_log::LogReader;
+use lsp_log::{LogReader, Record};
 use lsp_rpc::Memory;
 use lsp_text::Lined;
 use lsp_verdict::{Completeness, Entry, RunFault, Verdict, next_entry};
@@ -39,12 +41,22 @@ pub(crate) enum Next {
     Verdict(Verdict),
 }
 
+/// What a log has next, once all its events were heard.
+#[derive(Drop)]
+pub(crate) enum Accepted {
+    /// A record that brings no event which offends.
+    Record(Record),
+    /// The verdict on the log.
+    Verdict(Verdict),
+}
+
 impl EventReader {
     /// A reader that heard nothing.
     pub(crate) fn new(alloc: Global, limits: Limits, completeness: Completeness) -> EventReader
         ensures limits { result.log.limits ≡ limits }
         ensures completeness { result.completeness ≡ completeness }
         ensures fresh { (start : Told) → IsFresh result start }
+        ensures taken { (start : Told) → HasTaken result.log.limits result start start [] }
     {
         EventReader {
             log: LogReader::new(alloc, limits),
@@ -101,7 +113,8 @@ impl EventReader {
         }
     }
 
-    /// Takes the next record of the log, or gives the verdict at its end.
+    /// Takes the next record of the log, or gives the verdict at its end. The first entry tells the
+    /// format of the log.
     fn take_entry<R: Source>(&mut self, reader: &mut R) -> Result<Option<Next>, RunFault>
         requires ungiven { self.old.judge.given ≡ None }
         ensures completeness { self.new.completeness ≡ self.old.completeness }
@@ -110,7 +123,9 @@ impl EventReader {
         ensures answer { (limits : Bounds) (start : Told) (heard : List Event) → IsIdle limits self.old start (R.told reader.old) heard
             → TakesEntry limits self.new start (R.told reader.new) heard result }
     {
-        match next_entry(&mut self.log, reader)? {
+        let entry = next_entry(&mut self.log, reader)?;
+        follow_format(&self.log, &mut self.judge);
+        match entry {
             Entry::Record(record) => {
                 self.judge.push(record)?;
                 Ok(None)
@@ -121,6 +136,35 @@ impl EventReader {
             }
             Entry::Bad { number, fault } => {
                 Ok(Some(Next::Verdict(self.judge.bad_log(number, fault))))
+            }
+        }
+    }
+
+    /// Takes the next record of the log, hears all events that it brings, and gives a copy of it; or
+    /// gives the verdict, where one of them offends or there is no record.
+    ///
+    /// # Errors
+    /// `Read` where the source failed, and `Memory` where memory was refused.
+    pub(crate) fn accept<R: Source>(&mut self, reader: &mut R) -> Result<Accepted, RunFault>
+        requires ungiven { self.old.judge.given ≡ None }
+        // A record leaves less to give, so that a caller's loop ends.
+        ensures less { IfOk result (λ answer. IfAccepted answer (ahead self.new.log < ahead self.old.log)) }
+        ensures answer { (limits : Bounds) (start : Told) (records : List log.Record) → HasTaken limits self.old start (R.told reader.old) records
+            → Accepts limits self.new start (R.told reader.new) records result }
+    {
+        let entry = next_entry(&mut self.log, reader)?;
+        follow_format(&self.log, &mut self.judge);
+        match entry {
+            Entry::Record(record) => {
+                let copy = copy_of(&record)?;
+                match self.judge.take(record)? {
+                    None => Ok(Accepted::Record(copy)),
+                    Some(verdict) => Ok(Accepted::Verdict(verdict)),
+                }
+            }
+            Entry::End => Ok(Accepted::Verdict(self.judge.finish()?)),
+            Entry::Bad { number, fault } => {
+                Ok(Accepted::Verdict(self.judge.bad_log(number, fault)))
             }
         }
     }
@@ -147,13 +191,40 @@ impl EventReader {
     }
 }
 
+/// Makes the judge one for the format of the log, once that is known.
+fn follow_format(log: &LogReader, judge: &mut Judge<Lined>)
+    ensures judge { IsRefitted log.now.format judge.old judge.new }
+    ensures given { judge.old.given ≡ None → judge.new.given ≡ None }
+{
+    let Some(format) = log.format() else {
+        return;
+    };
+    judge.follow_format(format);
+}
+
 /// The verdict on the records that a judge took, of a log without a fault.
 fn finish(judge: &mut Judge<Lined>, completeness: Completeness) -> Result<Verdict, Memory>
-    ensures verdict { IfOk result (λ answer. (records : List Record) (v : spec.Verdict) → Stands judge.old records
-        → IsFinalBy completeness judge.old.limits records None v → verdict_view answer ≡ as_given v) }
+    ensures verdict { IfOk result (λ answer. (records : List log.Record) (v : spec.Verdict) → Stands judge.old records
+        → IsFinalBy completeness judge.old.limits judge.old.format records None v → verdict_view answer ≡ as_given v) }
 {
     match completeness {
         Completeness::Ignored => judge.finish(),
         Completeness::Required => judge.finish_complete(),
+    }
+}
+
+fn copy_of(next: &Record) -> Result<Record, Memory>
+    ensures { IfOk result (λ copy. record_view copy ≡ record_view next.now) }
+{
+    match next {
+        Record::Bytes { side, bytes } => Ok(Record::Bytes {
+            side: *side,
+            bytes: bytes.clone()?,
+        }),
+        Record::Snapshot { version, uri, text } => Ok(Record::Snapshot {
+            version: *version,
+            uri: uri.clone()?,
+            text: text.clone()?,
+        }),
     }
 }

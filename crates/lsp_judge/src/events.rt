@@ -8,6 +8,7 @@ ghost use Rattle.lsp_docs.specs.Calls.{Call, changes};
 ghost use Rattle.lsp_docs.specs.Fault as doc_fault;
 ghost use Rattle.lsp_docs.specs.Rules.{call_rule};
 ghost use Rattle.lsp_docs.specs.State as docs_state;
+ghost use Rattle.lsp_docs.specs.Terms.{Terms, terms_of};
 ghost use Rattle.lsp_session.specs.State.{State as SpecSession};
 ghost use Rattle.lsp_judge.specs.Apart.{IsApart, Says};
 ghost use Rattle.lsp_verdict.specs.Calls.{call_of, edit_of};
@@ -21,7 +22,7 @@ ghost use Rattle.lsp_judge.specs.Next.{HeardAs};
 use crate::fault::Fault;
 use crate::ruling::Ruling;
 use lsp_docs::{DocFault, Docs};
-use lsp_frame::Limits;
+use lsp_frame::{Format, Limits};
 use lsp_rpc::{
     Act, Change, Encoding, Message, OutlineReader, RpcFault, Side, Spoken, SyncKind, read, take_act,
 };
@@ -40,13 +41,13 @@ pub(crate) struct Events<S: TextStore> {
 }
 
 impl<S: TextStore> Events<S> {
-    pub(crate) fn new(alloc: Global, limits: Limits) -> Self
-        ensures limit { result.docs.limit ≡ limits.document }
+    pub(crate) fn new(alloc: Global, limits: Limits, format: Format) -> Self
+        ensures terms { result.docs.terms ≡ terms_of limits format }
         ensures follows { Follows result.session result.docs result.counts [] }
     {
         Events {
             session: Session::new(alloc),
-            docs: Docs::new(alloc, limits),
+            docs: Docs::of_format(alloc, limits, format),
             counts: Counts::new(),
             messages: OutlineReader::new(alloc),
         }
@@ -70,11 +71,11 @@ impl<S: TextStore> Events<S> {
         side: Side,
         content: &[u8],
     ) -> Result<Message, Ruling>
-        ensures limit { self.new.docs.limit ≡ self.old.docs.limit }
+        ensures terms { self.new.docs.terms ≡ self.old.docs.terms }
         ensures ok { IfOk result (λ said. (events : List Event) → Follows self.old.session self.old.docs self.old.counts events
             → HeardAs side content.now (message_view said) self.new.session self.new.docs self.new.counts events) }
         ensures no { IfErr result (λ ruling. (events : List Event) → Follows self.old.session self.old.docs self.old.counts events
-            → IsNoAtSome self.old.docs.limit events (ReadsAs side content.now) ruling) }
+            → IsNoAtSome self.old.docs.terms events (ReadsAs side content.now) ruling) }
     {
         match self.hear(alloc, side, content) {
             Ok(message) => {
@@ -88,11 +89,11 @@ impl<S: TextStore> Events<S> {
 
     /// Hears a snapshot: the next event, or the No at it.
     pub(crate) fn snapshot(&mut self, uri: &str, version: i32, text: &str) -> Result<(), Ruling>
-        ensures limit { self.new.docs.limit ≡ self.old.docs.limit }
+        ensures terms { self.new.docs.terms ≡ self.old.docs.terms }
         ensures ok { OnOk result ((events : List Event) → Follows self.old.session self.old.docs self.old.counts events
             → Follows self.new.session self.new.docs self.new.counts (events ++ shown uri.now version (chars text.now) ∷ [])) }
         ensures no { IfErr result (λ ruling. (events : List Event) → Follows self.old.session self.old.docs self.old.counts events
-            → IsNoAt self.old.docs.limit events (shown uri.now version (chars text.now)) ruling) }
+            → IsNoAt self.old.docs.terms events (shown uri.now version (chars text.now)) ruling) }
     {
         match self.docs.snapshot(uri, version, text) {
             Ok(_) => {
@@ -108,12 +109,12 @@ impl<S: TextStore> Events<S> {
 
     /// Reads a content, admits its message, and takes over what it says of a document.
     fn hear(&mut self, alloc: Global, side: Side, content: &[u8]) -> Result<Message, Fault>
-        ensures limit { self.new.docs.limit ≡ self.old.docs.limit }
+        ensures terms { self.new.docs.terms ≡ self.old.docs.terms }
         ensures counts { self.new.counts ≡ self.old.counts }
         ensures ok { IfOk result (λ said. (events : List Event) → Holds self.old.session self.old.docs events
-            → Hears side content.now (message_view said) self.old.docs.limit self.new.session self.new.docs events) }
+            → Hears side content.now (message_view said) self.old.docs.terms self.new.session self.new.docs events) }
         ensures rule { IfErr result (λ fault. (events : List Event) → Holds self.old.session self.old.docs events
-            → Refuses side content.now self.old.docs.limit events fault) }
+            → Refuses side content.now self.old.docs.terms events fault) }
     {
         let spoken = spoken_in(alloc, &self.session, &mut self.messages, side, content)?;
         let encoding = self.session.encoding().unwrap_or(Encoding::Utf16);
@@ -150,7 +151,7 @@ fn read_spoken(
     content: &[u8],
 ) -> Result<Spoken, Fault>
     ensures ok { IfOk result (λ spoken. Says session.now side content.now (message_view spoken.message) (act_view spoken.act)) }
-    ensures rule { IfErr result (λ fault. (limit : ℕ) (events : List Event) → Refuses side content.now limit events fault) }
+    ensures rule { IfErr result (λ fault. (terms : Terms) (events : List Event) → Refuses side content.now terms events fault) }
 {
     let mut message = read_content(alloc, session, messages, content)?;
     let act = take_act(alloc, &mut message, side)?;
@@ -193,7 +194,7 @@ fn spoken_in(
     content: &[u8],
 ) -> Result<Spoken, Fault>
     ensures ok { IfOk result (λ spoken. Says session.now side content.now (message_view spoken.message) (act_view spoken.act)) }
-    ensures rule { IfErr result (λ fault. (limit : ℕ) (events : List Event) → Refuses side content.now limit events fault) }
+    ensures rule { IfErr result (λ fault. (terms : Terms) (events : List Event) → Refuses side content.now terms events fault) }
 {
     match common_in(messages, side, content) {
         Some(spoken) => Ok(spoken),
@@ -210,13 +211,13 @@ fn change<S: TextStore>(
     version: i32,
     edits: &[Change],
 ) -> Result<(), DocFault>
-    ensures limit { docs.new.limit ≡ docs.old.limit }
+    ensures terms { docs.new.terms ≡ docs.old.terms }
     ensures ok { OnOk result ((made : List Call) → docs_state.Stands docs.old made
         → docs_state.Stands docs.new (made ++ changes encoding kind uri.now version (map edit_of (changes_view edits.now)) ∷ [])) }
     ensures accepted { OnOk result ((made : List Call) → docs_state.Stands docs.old made
-        → call_rule docs.old.limit made (changes encoding kind uri.now version (map edit_of (changes_view edits.now))) ≡ None) }
+        → call_rule docs.old.terms made (changes encoding kind uri.now version (map edit_of (changes_view edits.now))) ≡ None) }
     ensures rule { IfErr result (λ fault. (made : List Call) → docs_state.Stands docs.old made
-        → doc_fault.Names (call_rule docs.old.limit made (changes encoding kind uri.now version (map edit_of (changes_view edits.now)))) fault) }
+        → doc_fault.Names (call_rule docs.old.terms made (changes encoding kind uri.now version (map edit_of (changes_view edits.now)))) fault) }
 {
     docs.did_change(encoding, kind, uri, version, edits)
 }
@@ -228,13 +229,13 @@ fn apply<S: TextStore>(
     kind: SyncKind,
     act: &Act,
 ) -> Result<(), DocFault>
-    ensures limit { docs.new.limit ≡ docs.old.limit }
+    ensures terms { docs.new.terms ≡ docs.old.terms }
     ensures ok { OnOk result ((made : List Call) → docs_state.Stands docs.old made
         → docs_state.Stands docs.new (made ++ cons_option (call_of encoding kind (act_view act.now)) [])) }
     ensures accepted { OnOk result ((made : List Call) → docs_state.Stands docs.old made
-        → option_and_then (call_rule docs.old.limit made) (call_of encoding kind (act_view act.now)) ≡ None) }
+        → option_and_then (call_rule docs.old.terms made) (call_of encoding kind (act_view act.now)) ≡ None) }
     ensures rule { IfErr result (λ fault. (made : List Call) → docs_state.Stands docs.old made
-        → doc_fault.Names (option_and_then (call_rule docs.old.limit made) (call_of encoding kind (act_view act.now))) fault) }
+        → doc_fault.Names (option_and_then (call_rule docs.old.terms made) (call_of encoding kind (act_view act.now))) fault) }
 {
     match act {
         Act::DidOpen { uri, version, text } => {

@@ -1,8 +1,10 @@
 //! Judges a recorded session record by record.
-ghost use Rattle.std.specs.Prelude.{◌≡◌, ◌⊎◌, ◌<◌, ◌++◌, ◌∷◌, [], ℕ, List, Option, Some, None, Ok, IfOk, IfSome, IfErr, OnOk, OnErr, option_map};
+ghost use Rattle.std.specs.Prelude.{◌≡◌, ◌⊎◌, ◌<◌, ◌++◌, ◌∷◌, [], ℕ, List, Option, Some, None, Ok, IfOk, IfSome, IfErr, OnOk, OnErr, option_map, true, false};
+ghost use Rattle.std.specs.Result.{IsErr};
+ghost use Rattle.lsp_docs.specs.Terms.{terms_of};
 ghost use Rattle.lsp_log.specs.Log as log;
 ghost use Rattle.lsp_log.specs.Records.{record_view};
-ghost use Rattle.lsp_judge.specs.Answered.{NamesFirst, NamesRest, NamesShort, NoneOffends, AreClean, SaysYes, Repeats};
+ghost use Rattle.lsp_judge.specs.Answered.{NamesFirst, NamesRest, NamesShort, NoneOffends, AreClean, SaysYes};
 ghost use Rattle.lsp_verdict.specs.BroughtToEnd.{AreComplete, IsBroughtToEnd};
 ghost use Rattle.lsp_verdict.specs.Complete.{IsCompleteFinal, lack_of};
 ghost use Rattle.lsp_verdict.specs.Event.{Event};
@@ -12,7 +14,7 @@ ghost use Rattle.lsp_verdict.specs.Outcome.{IsFinal, is_rest};
 ghost use Rattle.lsp_verdict.specs.Placed.{IsSession};
 ghost use Rattle.lsp_judge.specs.Hearing.{IsHearing, HearsNext, Stops, unheard};
 ghost use Rattle.lsp_judge.specs.Rulings.{RestIs, IfRefused, if_none};
-ghost use Rattle.lsp_judge.specs.Standing.{Follows, IsOpen, AreLimits, Keeps, Rules, Stands, is_given};
+ghost use Rattle.lsp_judge.specs.Standing.{Follows, IsFitted, IsOpen, AreLimits, Keeps, Rules, Stands, WasRefused, is_given};
 ghost use Rattle.lsp_judge.specs.TextAnswers.{AnswersHeld};
 ghost use Rattle.lsp_verdict.specs.Counting.{AreCounts};
 ghost use Rattle.lsp_verdict.specs.Verdict as spec;
@@ -23,13 +25,14 @@ use crate::heard::{Heard, Turn};
 use crate::ruling::Ruling;
 use crate::summary::summary_of;
 use crate::text_answer::TextAnswer;
-use lsp_frame::{Decoder, Limits, Memory as Refused};
+use lsp_frame::{Decoder, Format, Limits, Memory as Refused};
 use lsp_log::{LogCode, Record};
 use lsp_rpc::{Memory, Side};
 use lsp_text::TextStore;
 use lsp_verdict::{Summary, Verdict, Who};
 use std::alloc::Global;
 use std::marker::Model;
+use std::mem;
 
 /// Judges a recorded session of an editor and a language server, record by record.
 ///
@@ -39,6 +42,7 @@ use std::marker::Model;
 pub struct Judge<S: TextStore> {
     alloc: Global,
     limits: Limits,
+    format: Format,
     editor: Decoder,
     server: Decoder,
     events: Events<S>,
@@ -54,6 +58,7 @@ impl<S: TextStore> Model for Judge<S> {
 
     ghost view = { λ j. record {
       limits = j.limits;
+      format = j.format;
       editor = j.editor;
       server = j.server;
       messages = j.events.session;
@@ -65,9 +70,20 @@ impl<S: TextStore> Model for Judge<S> {
 }
 
 impl<S: TextStore> Judge<S> {
-    /// A judge that took no record.
+    /// A judge of a log of format 1 that took no record.
     pub fn new(alloc: Global, limits: Limits) -> Self
         ensures limits { result.limits ≡ limits }
+        ensures format { result.format ≡ Format.One }
+        ensures stands { Stands result [] }
+        ensures ungiven { result.given ≡ None }
+    {
+        Judge::of_format(alloc, limits, Format::One)
+    }
+
+    /// A judge of a log of this format that took no record.
+    pub fn of_format(alloc: Global, limits: Limits, format: Format) -> Self
+        ensures limits { result.limits ≡ limits }
+        ensures format { result.format ≡ format }
         ensures stands { Stands result [] }
         ensures ungiven { result.given ≡ None }
     {
@@ -75,9 +91,10 @@ impl<S: TextStore> Judge<S> {
         Judge {
             alloc,
             limits,
+            format,
             editor: Decoder::new(alloc, limits),
             server: Decoder::new(alloc, limits),
-            events: Events::new(alloc, limits),
+            events: Events::new(alloc, limits, format),
             turn: None,
             given: None,
         }
@@ -87,21 +104,25 @@ impl<S: TextStore> Judge<S> {
     /// on that brings it.
     pub fn take(&mut self, next: Record) -> Result<Option<Verdict>, Memory>
         ensures limits { self.new.limits ≡ self.old.limits }
+        ensures format { self.new.format ≡ self.old.format }
         ensures stands { OnOk result ((records : List log.Record) → Stands self.old records → Stands self.new (records ++ record_view next ∷ [])) }
         ensures verdict { IfOk result (λ answer. (records : List log.Record) (events : List Event) → Stands self.old records
             → IsSession self.old.limits (records ++ record_view next ∷ []) events
-            → option_map verdict_view answer ≡ option_map as_given (spec.first_no self.old.limits.document events)) }
+            → option_map verdict_view answer ≡ option_map as_given (spec.first_no (terms_of self.old.limits self.old.format) events)) }
         // A No names the first event of the records that offends, and its least rule.
         ensures no { (records : List log.Record) (rule number event : ℕ) (who : Who) → Stands self.old records
             → result ≡ Ok (Some (Verdict.No rule who number event))
-            → NamesFirst self.old.limits (records ++ record_view next ∷ []) (spec.no rule who number event) }
+            → NamesFirst self.old.limits self.old.format (records ++ record_view next ∷ []) (spec.no rule who number event) }
         ensures none { (records : List log.Record) → Stands self.old records → result ≡ Ok None
-            → NoneOffends self.old.limits (records ++ record_view next ∷ []) }
+            → NoneOffends self.old.limits self.old.format (records ++ record_view next ∷ []) }
         ensures given { IfOk result (λ answer. option_map verdict_view answer ≡ is_given self.new.given) }
         // What was given for good is given again, and nothing changes.
-        ensures repeats { (ruling : Ruling) → self.old.given ≡ Some ruling → IfOk result (λ answer. Repeats ruling answer) }
-        ensures stays { (ruling : Ruling) → self.old.given ≡ Some ruling → self.new ≡ self.old }
-        ensures memory { OnErr result (self.new.given ≡ Some Ruling.Memory) }
+        ensures repeats { (given : spec.Verdict) → is_given self.old.given ≡ Some given → IfOk result (λ answer. option_map verdict_view answer ≡ Some given) }
+        ensures stays { (given : spec.Verdict) → is_given self.old.given ≡ Some given → self.new ≡ self.old }
+        // So is a want of memory.
+        ensures refused { WasRefused self.old.given → IsErr result }
+        ensures stays_refused { WasRefused self.old.given → self.new ≡ self.old }
+        ensures memory { OnErr result (WasRefused self.new.given) }
     {
         if let Some(ruling) = self.given {
             return Ok(Some(ruling.answer()?));
@@ -118,20 +139,23 @@ impl<S: TextStore> Judge<S> {
     /// What a fault of the log behind the records makes of the session: the No that was answered
     /// before, and else the fault.
     pub fn bad_log(&mut self, number: u64, fault: LogCode) -> Verdict
-        requires memory { self.old.given ≡ Some Ruling.Memory → ⊥ }
+        requires memory { WasRefused self.old.given → ⊥ }
         ensures limits { self.new.limits ≡ self.old.limits }
+        ensures format { self.new.format ≡ self.old.format }
         ensures verdict { (records : List log.Record) (v : spec.Verdict) → Stands self.old records
-            → IsFinal self.old.limits records (Some (number, fault)) v → verdict_view result ≡ as_given v }
+            → IsFinal self.old.limits self.old.format records (Some (number, fault)) v → verdict_view result ≡ as_given v }
         // A No names the first event of the records that offends; the fault is given where none does.
         ensures no { (records : List log.Record) (rule count event : ℕ) (who : Who) → Stands self.old records
             → result ≡ Verdict.No rule who count event
-            → NamesFirst self.old.limits records (spec.no rule who count event) }
+            → NamesFirst self.old.limits self.old.format records (spec.no rule who count event) }
         ensures fault { (records : List log.Record) (at : ℕ) (code : LogCode) → Stands self.old records
-            → result ≡ Verdict.BadLog at code → (at ≡ number) × (code ≡ fault) × NoneOffends self.old.limits records }
+            → result ≡ Verdict.BadLog at code → (at ≡ number) × (code ≡ fault) × NoneOffends self.old.limits self.old.format records }
         // Of a judge that gave nothing yet the fault is given.
         ensures ungiven { self.old.given ≡ None → result ≡ Verdict.BadLog number fault }
         ensures given { Some (verdict_view result) ≡ is_given self.new.given }
-        ensures stays { (ruling : Ruling) → self.old.given ≡ Some ruling → self.new ≡ self.old }
+        // What was given for good is given again, and nothing changes.
+        ensures repeats { (given : spec.Verdict) → is_given self.old.given ≡ Some given → verdict_view result ≡ given }
+        ensures stays { (given : spec.Verdict) → is_given self.old.given ≡ Some given → self.new ≡ self.old }
     {
         match self.given {
             Some(
@@ -159,26 +183,30 @@ impl<S: TextStore> Judge<S> {
     /// The verdict on the records taken, of a log without a fault.
     pub fn finish(&mut self) -> Result<Verdict, Memory>
         ensures limits { self.new.limits ≡ self.old.limits }
+        ensures format { self.new.format ≡ self.old.format }
         ensures verdict { IfOk result (λ answer. (records : List log.Record) (v : spec.Verdict) → Stands self.old records
-            → IsFinal self.old.limits records None v → verdict_view answer ≡ as_given v) }
+            → IsFinal self.old.limits self.old.format records None v → verdict_view answer ≡ as_given v) }
         // Yes means that the records are kept, and a No names the first event that offends, or the
         // stream that ends inside a frame.
         ensures yes { (records : List log.Record) (s : Summary) → Stands self.old records
-            → result ≡ Ok (Verdict.Yes s) → AreKept self.old.limits records }
+            → result ≡ Ok (Verdict.Yes s) → AreKept self.old.limits self.old.format records }
         ensures no { (records : List log.Record) (rule number event : ℕ) (who : Who) → Stands self.old records
             → result ≡ Ok (Verdict.No rule who number event)
-            → NamesFirst self.old.limits records (spec.no rule who number event)
-            ⊎ NamesRest self.old.limits records (spec.no rule who number event) }
+            → NamesFirst self.old.limits self.old.format records (spec.no rule who number event)
+            ⊎ NamesRest self.old.limits self.old.format records (spec.no rule who number event) }
         ensures kept { (records : List log.Record) (events : List Event) → Stands self.old records
-            → AreClean self.old.limits records events
-            → IfOk result (λ answer. SaysYes self.old.limits events (verdict_view answer)) }
+            → AreClean self.old.limits self.old.format records events
+            → IfOk result (λ answer. SaysYes self.old.limits self.old.format events (verdict_view answer)) }
         // After Yes the judge is as before.
         ensures unchanged { (s : Summary) → result ≡ Ok (Verdict.Yes s) → self.new ≡ self.old }
         ensures given { IfOk result (λ answer. IfRefused (verdict_view answer) (is_given self.new.given ≡ Some (verdict_view answer))) }
         // What was given for good is given again, and nothing changes.
-        ensures repeats { (ruling : Ruling) → self.old.given ≡ Some ruling → IfOk result (λ answer. Repeats ruling (Some answer)) }
-        ensures stays { (ruling : Ruling) → self.old.given ≡ Some ruling → self.new ≡ self.old }
-        ensures memory { OnErr result (self.new.given ≡ Some Ruling.Memory) }
+        ensures repeats { (given : spec.Verdict) → is_given self.old.given ≡ Some given → IfOk result (λ answer. verdict_view answer ≡ given) }
+        ensures stays { (given : spec.Verdict) → is_given self.old.given ≡ Some given → self.new ≡ self.old }
+        // So is a want of memory.
+        ensures refused { WasRefused self.old.given → IsErr result }
+        ensures stays_refused { WasRefused self.old.given → self.new ≡ self.old }
+        ensures memory { OnErr result (WasRefused self.new.given) }
     {
         if let Some(ruling) = self.given {
             return ruling.answer();
@@ -202,34 +230,50 @@ impl<S: TextStore> Judge<S> {
     /// "Exit Notification").
     pub fn finish_complete(&mut self) -> Result<Verdict, Memory>
         ensures limits { self.new.limits ≡ self.old.limits }
+        ensures format { self.new.format ≡ self.old.format }
         ensures verdict { IfOk result (λ answer. (records : List log.Record) (v : spec.Verdict) → Stands self.old records
-            → IsCompleteFinal self.old.limits records None v → verdict_view answer ≡ as_given v) }
+            → IsCompleteFinal self.old.limits self.old.format records None v → verdict_view answer ≡ as_given v) }
         // Yes means that the records are kept and the session was brought to its end, and a No names
         // the first event that offends, or the stream that ends inside a frame, or what the session of
         // records that are kept lacks.
         ensures yes { (records : List log.Record) (s : Summary) → Stands self.old records
-            → result ≡ Ok (Verdict.Yes s) → AreComplete self.old.limits records }
+            → result ≡ Ok (Verdict.Yes s) → AreComplete self.old.limits self.old.format records }
         ensures no { (records : List log.Record) (rule number event : ℕ) (who : Who) → Stands self.old records
             → result ≡ Ok (Verdict.No rule who number event)
-            → (NamesFirst self.old.limits records (spec.no rule who number event)
-            ⊎ NamesRest self.old.limits records (spec.no rule who number event))
-            ⊎ NamesShort self.old.limits records (spec.no rule who number event) }
+            → (NamesFirst self.old.limits self.old.format records (spec.no rule who number event)
+            ⊎ NamesRest self.old.limits self.old.format records (spec.no rule who number event))
+            ⊎ NamesShort self.old.limits self.old.format records (spec.no rule who number event) }
         ensures kept { (records : List log.Record) (events : List Event) → Stands self.old records
-            → AreClean self.old.limits records events → IsBroughtToEnd events
-            → IfOk result (λ answer. SaysYes self.old.limits events (verdict_view answer)) }
+            → AreClean self.old.limits self.old.format records events → IsBroughtToEnd events
+            → IfOk result (λ answer. SaysYes self.old.limits self.old.format events (verdict_view answer)) }
         // After Yes the judge is as before.
         ensures unchanged { (s : Summary) → result ≡ Ok (Verdict.Yes s) → self.new ≡ self.old }
         ensures given { IfOk result (λ answer. IfRefused (verdict_view answer) (is_given self.new.given ≡ Some (verdict_view answer))) }
         // What was given for good is given again, and nothing changes.
-        ensures repeats { (ruling : Ruling) → self.old.given ≡ Some ruling → IfOk result (λ answer. Repeats ruling (Some answer)) }
-        ensures stays { (ruling : Ruling) → self.old.given ≡ Some ruling → self.new ≡ self.old }
-        ensures memory { OnErr result (self.new.given ≡ Some Ruling.Memory) }
+        ensures repeats { (given : spec.Verdict) → is_given self.old.given ≡ Some given → IfOk result (λ answer. verdict_view answer ≡ given) }
+        ensures stays { (given : spec.Verdict) → is_given self.old.given ≡ Some given → self.new ≡ self.old }
+        // So is a want of memory.
+        ensures refused { WasRefused self.old.given → IsErr result }
+        ensures stays_refused { WasRefused self.old.given → self.new ≡ self.old }
+        ensures memory { OnErr result (WasRefused self.new.given) }
     {
         if let Some(ruling) = self.lack() {
             self.given = Some(ruling);
             return ruling.answer();
         }
         self.finish()
+    }
+
+    /// Becomes a judge of this format: where it is for another, one that took no record.
+    pub(crate) fn follow_format(&mut self, format: Format)
+        ensures fitted { IsFitted format self.old self.new }
+        ensures given { self.old.given ≡ None → self.new.given ≡ None }
+    {
+        if is_same(self.format, format) {
+            return;
+        }
+        let other = Judge::of_format(self.alloc, self.limits, format);
+        drop(mem::replace(self, other));
     }
 
     /// How many events were heard.
@@ -297,7 +341,7 @@ impl<S: TextStore> Judge<S> {
         ensures ok { OnOk result ((records : List log.Record) → AreLimits self.old → IsOpen self.old records
             → IsOpen self.new (records ++ record_view next ∷ [])) }
         ensures no { IfErr result (λ ruling. (records : List log.Record) → AreLimits self.old → IsOpen self.old records
-            → Rules self.old.limits (records ++ record_view next ∷ []) ruling) }
+            → Rules self.old.limits self.old.format (records ++ record_view next ∷ []) ruling) }
     {
         self.push(next)?;
         while let Some(heard) = self.next()? {
@@ -344,7 +388,7 @@ impl<S: TextStore> Judge<S> {
         ensures ok { IfOk result (λ answer. (records : List log.Record) (heard : List Event) → IsHearing self.old records heard
             → HearsNext self.new records heard answer) }
         ensures no { IfErr result (λ ruling. (records : List log.Record) (heard : List Event) → IsHearing self.old records heard
-            → Stops self.old.limits records heard ruling) }
+            → Stops self.old.limits self.old.format records heard ruling) }
     {
         match self.turn.take() {
             None => Ok(None),
@@ -366,6 +410,23 @@ impl<S: TextStore> Judge<S> {
                 next_snapshot(&mut self.events, version, uri, text)
             }
         }
+    }
+}
+
+/// Whether two formats are the same.
+fn is_same(own: Format, format: Format) -> bool
+    ensures same { result ≡ true → own ≡ format }
+    ensures other { result ≡ false → own ≡ format → ⊥ }
+{
+    match own {
+        Format::One => match format {
+            Format::One => true,
+            Format::Two => false,
+        },
+        Format::Two => match format {
+            Format::One => false,
+            Format::Two => true,
+        },
     }
 }
 

@@ -22,10 +22,11 @@ mod show_laws;
 mod summary;
 mod text;
 mod text_answer;
+mod upgrade;
 
 pub use check::{run_check, run_check_complete};
 pub use judge::Judge;
-pub use lsp_frame::{Input, Limits, Output};
+pub use lsp_frame::{Format, Input, Limits, Output};
 pub use lsp_log::LogCode;
 pub use lsp_streams::{
     normal_form_keeps_events, normal_form_keeps_verdict, normal_form_stays, one_normal_form,
@@ -43,3 +44,4 @@ pub use show::run_show;
 pub use show_laws::one_shown;
 pub use text::{run_text, text_after};
 pub use text_answer::TextAnswer;
+pub use upgrade::run_upgrade;

@@ -1,5 +1,7 @@
 //! Shows a log: a line for each event, and the report.
 ghost use Rattle.std.specs.Prelude.{◌≡◌, ℕ, ◌+◌, List, Ok, IfOk, OnErr};
+ghost use Rattle.std.specs.Io.KnownBytes.{IsAtEnd};
+ghost use Rattle.lsp_frame.specs.Bounds.{IsInRange};
 ghost use Rattle.lsp_frame.specs.Told.{Took};
 ghost use Rattle.lsp_verdict.specs.Given.{verdict_view};
 ghost use Rattle.lsp_verdict.specs.Outcome.{IsVerdict};
@@ -10,7 +12,7 @@ ghost use Rattle.lsp_judge.specs.ShownLog.{Shows, IsShown, BeginsShown};
 use crate::event_reader::{EventReader, Next};
 use crate::lines::write_event_line;
 use lsp_frame::{Limits, Sink, Source, put_all};
-use lsp_verdict::{Completeness, Outcome, RunFault, Verdict, report_of};
+use lsp_verdict::{Completeness, Outcome, RunFault, Summary, Verdict, report_of};
 use std::alloc::Global;
 
 /// Reads a log up to the first event that offends, or to its end, and writes a line for each event
@@ -37,6 +39,9 @@ pub fn run_show<R: Source, W: Sink>(
         → (out : List ℕ) × Took (W.told writer.old) (W.told writer.new) out
         × OfRead limits (R.told reader.old) (R.told reader.new) (λ log. IsShown limits log (verdict_view v) out) }
 
+    // Yes is answered only where the end was met.
+    ensures ended { (s : Summary) → result ≡ Ok (Outcome.Judged (Verdict.Yes s)) → IsAtEnd (R.told reader.new).bytes }
+
     // What is written before a fault begins what is due for the log.
     ensures fault { OnErr result ((out : List ℕ) × Took (W.told writer.old) (W.told writer.new) out
         × OfRead limits (R.told reader.old) (R.told reader.new) (λ log. BeginsShown limits log out)) }
@@ -58,7 +63,8 @@ fn show_log<R: Source, W: Sink>(
     writer: &mut W,
     limits: Limits,
 ) -> Result<Verdict, RunFault>
-    ensures { Shows limits (R.told reader.old) (R.told reader.new) (W.told writer.old) (W.told writer.new) result }
+    ensures range { IsInRange limits }
+    ensures answer { Shows limits (R.told reader.old) (R.told reader.new) (W.told writer.old) (W.told writer.new) result }
 {
     let mut events = EventReader::new(alloc, limits, Completeness::Ignored);
     show_events(alloc, &mut events, reader, writer)

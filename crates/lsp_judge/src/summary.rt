@@ -30,7 +30,7 @@ pub(crate) fn summary_of<S: TextStore>(
     ensures docs { events.new.docs ≡ events.old.docs }
     ensures counts { events.new.counts ≡ events.old.counts }
     ensures summary { IfOk result (λ summary. (so_far : List Event) → Follows events.old.session events.old.docs events.old.counts so_far
-        → yes (summary_view summary) ≡ as_given (yes (spec.summary events.old.docs.limit so_far))) }
+        → yes (summary_view summary) ≡ as_given (yes (spec.summary events.old.docs.terms so_far))) }
 {
     events.pack();
     summary_now(alloc, events)
@@ -39,7 +39,7 @@ pub(crate) fn summary_of<S: TextStore>(
 /// What the events have come to, read off what is held.
 fn summary_now<S: TextStore>(alloc: Global, events: &Events<S>) -> Result<Summary, Memory>
     ensures { IfOk result (λ summary. (so_far : List Event) → Follows events.now.session events.now.docs events.now.counts so_far
-        → yes (summary_view summary) ≡ as_given (yes (spec.summary events.now.docs.limit so_far))) }
+        → yes (summary_view summary) ≡ as_given (yes (spec.summary events.now.docs.terms so_far))) }
 {
     Ok(Summary {
         editor: events.counts.editor,
@@ -56,7 +56,7 @@ fn summary_now<S: TextStore>(alloc: Global, events: &Events<S>) -> Result<Summar
 /// The documents that are open, in order of opening.
 fn open_documents<S: TextStore>(alloc: Global, docs: &Docs<S>) -> Result<Vec<OpenDocument>, Memory>
     ensures { IfOk result (λ found. (calls : List Call) → docs_state.Stands docs.now calls
-        → map document_view found.items ≡ map document_of (documents docs.now.limit calls)) }
+        → map document_view found.items ≡ map document_of (documents docs.now.terms calls)) }
 {
     let mut found = Vec::new(alloc);
     for index in 0..docs.len() {
@@ -74,7 +74,7 @@ fn open_document<S: TextStore>(
     uri: &str,
 ) -> Result<OpenDocument, Memory>
     ensures { IfOk result (λ found. (calls : List Call) (version : Version) → docs_state.Stands docs.now calls
-        → held docs.now.limit uri.now calls ≡ Some version
+        → held docs.now.terms uri.now calls ≡ Some version
         → document_view found ≡ document_of (record { uri = uri.now; version = version })) }
 {
     Ok(OpenDocument {
@@ -87,7 +87,7 @@ fn open_document<S: TextStore>(
 /// The version of an open document.
 fn version_held<S: TextStore>(docs: &Docs<S>, uri: &str) -> i32
     ensures { (calls : List Call) (version : Version) → docs_state.Stands docs.now calls
-        → held docs.now.limit uri.now calls ≡ Some version → result ≡ version.number }
+        → held docs.now.terms uri.now calls ≡ Some version → result ≡ version.number }
 {
     docs.version_of(uri).unwrap_or(0)
 }
@@ -95,7 +95,7 @@ fn version_held<S: TextStore>(docs: &Docs<S>, uri: &str) -> i32
 /// The bytes of UTF-8 that the text of an open document has.
 fn bytes_held<S: TextStore>(docs: &Docs<S>, uri: &str) -> u64
     ensures { (calls : List Call) (version : Version) → docs_state.Stands docs.now calls
-        → held docs.now.limit uri.now calls ≡ Some version → result ≡ byte_len version.text }
+        → held docs.now.terms uri.now calls ≡ Some version → result ≡ byte_len version.text }
 {
     match docs.store_of(uri) {
         Some(store) => store.byte_len(),

@@ -36,7 +36,7 @@ impl TextAnswer {
         uri: &str,
     ) -> Result<TextAnswer, Memory>
         ensures { IfOk result (λ answer. (calls : List Call) → Stands docs.now calls
-            → answer_view answer ≡ held_answer (held docs.now.limit uri.now calls)) }
+            → answer_view answer ≡ held_answer (held docs.now.terms uri.now calls)) }
     {
         match docs.store_of(uri) {
             Some(store) => Ok(TextAnswer::Text(store.to_text(alloc)?)),

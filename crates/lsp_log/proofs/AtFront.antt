@@ -1,18 +1,19 @@
 -- A record at the front of a tape, or why there is none.
-use Rattle.std.proofs.Common.{◌≡◌, ℕ, ◌+◌, ◌<◌, true, false, List, [], ◌++◌, length, take, drop, Option, Some, None, sym, ap, subst, ◌∙◌, append_assoc, inl, inr, arith}
+use Rattle.std.proofs.Common.{◌≡◌, ℕ, ◌+◌, ◌<◌, true, false, List, ◌++◌, length, take, drop, Option, Some, None, refl, sym, ap, subst, ◌∙◌, append_assoc, inl, inr, arith}
 use Rattle.std.specs.List.{flat_map}
 use Rattle.std.proofs.lemmas.List.{take_all}
 use Rattle.lsp_frame.specs.Bounds.{Bounds}
 use Rattle.lsp_frame.specs.Told.{Told}
 use Rattle.lsp_log.specs.Log as log
-use Rattle.lsp_log.specs.Log.{Flaw, bad_line, bad_number, cut_short, bad_end, not_utf8, Breaks, EndsWith, HasLine, HasHead, Fits, spelling, head_line, in_range, with_feed, holds_feed, head_of, parts_of, IsText}
+use Rattle.lsp_log.specs.Log.{Flaw, bad_line, bad_number, cut_short, bad_end, not_utf8, Breaks, EndsWith, HasLine, HasHead, Fits, spelling, head_line, in_range, lengths_of, with_feed, holds_feed, head_of, parts_of, IsText}
 use Rattle.lsp_log.specs.Words.{head_view, IsHead}
-use Rattle.lsp_log.specs.Tape.{Held, Pulled, Filled}
-use Rattle.lsp_log.specs.Stops.{Ends, StopAnswer, PartsBreak, HasParts, Found}
+use Rattle.lsp_log.specs.Tape.{Held, Pulled, Filled, Taken}
+use Rattle.lsp_log.specs.Room.{AwaitsPart, AwaitsRecord}
+use Rattle.lsp_log.specs.Stops.{Ends, Refused, StopAnswer, PartsBreak, HasParts, Found}
 use Rattle.lsp_log.specs.declared.head.Head.{Head}
 use Rattle.lsp_log.specs.declared.stop.Stop.{Stop}
 use Rattle.lsp_log.specs.declared.stop.Stop.TheVariants.{FirstLine, Nothing, Form, Number, Short, End, Text, Read, Memory}
-use Rattle.lsp_log.proofs.Tapes.{pulled_then, failed_then, refused_then}
+use Rattle.lsp_log.proofs.Tapes.{pulled_then, failed_then, taken_both}
 
 pub full_window : (limits : Bounds) (old new : Held) (before after : Told) (piece near : List ℕ) → Filled old new before after piece → holds_feed new.rest ≡ false → near ≡ new.rest → length near ≡ 64
     → Ends (EndsWith limits) old new before after (Some bad_line)
@@ -87,7 +88,18 @@ ends_parts limits old mid new before now after h flaw a f = record {
   over = f.over;
 }
 
-pub stop_at_parts : (limits : Bounds) (old mid new : Held) (before now after : Told) (h : log.Head) (stop : Stop) → AtParts limits old mid before now h → StopAnswer (PartsBreak h) mid new now after stop → StopAnswer (EndsWith limits) old new before after stop
+head_taken : (limits : Bounds) (old mid : Held) (before now : Told) (h : log.Head) → AtParts limits old mid before now h → Taken old mid before now (with_feed (head_line h))
+head_taken limits old mid before now h a = record { piece = a.piece; pulled = a.pulled; whole = a.whole ∙ ap (λ (w : List ℕ). with_feed w ++ mid.rest) a.is }
+
+refused_at_parts : (limits : Bounds) (old mid new : Held) (before now after : Told) (h : log.Head) → AtParts limits old mid before now h → Refused (AwaitsPart (lengths_of h)) mid new now after → Refused (AwaitsRecord limits) old new before after
+refused_at_parts limits old mid new before now after h a r = record {
+  front = with_feed (head_line h) ++ r.front;
+  awaits = record { head = h; range = a.range; parts = r.front; whole = refl; awaits = r.awaits };
+  taken = taken_both old mid new before now after (with_feed (head_line h)) r.front (head_taken limits old mid before now h a) r.taken;
+}
+
+pub stop_at_parts : (limits : Bounds) (old mid new : Held) (before now after : Told) (h : log.Head) (stop : Stop) → AtParts limits old mid before now h → StopAnswer (PartsBreak h) (AwaitsPart (lengths_of h)) mid new now after stop
+    → StopAnswer (EndsWith limits) (AwaitsRecord limits) old new before after stop
 stop_at_parts limits old mid new before now after h FirstLine a s = s
 stop_at_parts limits old mid new before now after h Nothing a s = ends_parts limits old mid new before now after h None a s
 stop_at_parts limits old mid new before now after h Form a s = ends_parts limits old mid new before now after h (Some bad_line) a s
@@ -96,9 +108,9 @@ stop_at_parts limits old mid new before now after h Short a s = ends_parts limit
 stop_at_parts limits old mid new before now after h End a s = ends_parts limits old mid new before now after h (Some bad_end) a s
 stop_at_parts limits old mid new before now after h Text a s = ends_parts limits old mid new before now after h (Some not_utf8) a s
 stop_at_parts limits old mid new before now after h Read a s = failed_then old.left mid.left before now after a.piece a.pulled s
-stop_at_parts limits old mid new before now after h Memory a s = refused_then old.left mid.left before now after a.piece a.pulled s
+stop_at_parts limits old mid new before now after h Memory a s = refused_at_parts limits old mid new before now after h a s
 
-pub found_record : (limits : Bounds) (old mid new : Held) (before now after : Told) (h : log.Head) (r : log.Record) → AtParts limits old mid before now h → HasParts mid new now after h r → Found limits old new before after [] r
+pub found_record : (limits : Bounds) (old mid new : Held) (before now after : Told) (h : log.Head) (r : log.Record) → AtParts limits old mid before now h → HasParts mid new now after h r → Found limits old new before after r
 found_record limits old mid new before now after h r a p = record {
   taken = record {
     piece = a.piece ++ p.taken.piece;

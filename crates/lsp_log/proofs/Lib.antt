@@ -9,6 +9,7 @@ pub mod Parts
 pub mod Breaking
 pub mod Reading
 pub mod Ended
+pub mod Finding
 pub mod OneLog
 pub mod SomeHead
 pub mod SomeLog

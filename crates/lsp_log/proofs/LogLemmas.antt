@@ -14,6 +14,8 @@ use Rattle.lsp_types.specs.declared.side.Side.{Side}
 use Rattle.lsp_types.specs.declared.side.Side.TheVariants.{Editor, Server}
 use borrow.Author.Tests.{ltb-true, lt-ltb, leb-true}
 use Rattle.lsp_frame.specs.Bounds.{Bounds, IsInRange}
+use Rattle.lsp_frame.specs.declared.format.Format.{Format}
+use Rattle.lsp_frame.specs.declared.format.Format.TheVariants.{One, Two}
 use Rattle.std.specs.Prelude.{nat_le}
 use Rattle.std.proofs.lemmas.Bool.{and_parts}
 use Rattle.std.proofs.lemmas.List.{length-append}
@@ -23,7 +25,7 @@ use Rattle.std.specs.Prelude.{take, drop, slice_index, if◌then◌else◌, IsTr
 use Rattle.std.proofs.lemmas.List.{drop_at}
 use Rattle.std.proofs.Common.{inl, inr}
 use Rattle.lsp_log.specs.declared.fault.LogCode.{LogCode}
-use Rattle.lsp_log.specs.Log.{first_line, HasRecords, Flaw, bad_line, bad_number, cut_short, bad_end, not_utf8, EndsWith, Fits, IsText, parts_flaw, lengths_of, is_within, is_i32, in_range, has_decimal, has_signed, is_writable, Record, chunk, shown, Head, chunk_head, shown_head, letter, head_line, head_of, parts_of, with_feed, spelling, holds_feed}
+use Rattle.lsp_log.specs.Log.{first_line, NoFirstLine, HasRecords, Flaw, bad_line, bad_number, cut_short, bad_end, not_utf8, EndsWith, Fits, IsText, parts_flaw, lengths_of, is_within, is_i32, in_range, has_decimal, has_signed, is_writable, Record, chunk, shown, Head, chunk_head, shown_head, letter, head_line, head_of, parts_of, with_feed, spelling, holds_feed}
 
 -- whether a list holds a byte
 abbrev pub holds : ℕ → List ℕ → Bool
@@ -333,5 +335,18 @@ records_one limits sizes (r ∷ rs) (u ∷ us) xs ys f g p q a b e =
     let tail = records_one limits sizes rs us xs ys f g p.1 q.1 a b one.1 in
     (cc (one.0, tail.0), tail.1)
 
-pub has_first_line : (limits : Bounds) (log : List ℕ) (rs : List Record) (c : Option LogCode) → HasRecords limits log rs c → ((rest : List ℕ) → take limits.log log ≡ first_line ++ rest → ⊥) → ⊥
-has_first_line limits log rs c a none = none (flat_map spelling rs ++ a.rest) (a.begins.whole ∙ append_assoc first_line (flat_map spelling rs) a.rest)
+-- ---- first lines
+
+pub first_len : (format : Format) → length (first_line format) ≡ 14
+first_len One = refl
+first_len Two = refl
+
+-- **Bytes begin with the first line of one format.**
+pub one_format : (p q : Format) (xs ys : List ℕ) → first_line p ++ xs ≡ first_line q ++ ys → p ≡ q
+one_format One One xs ys e = refl
+one_format One Two xs ys e = let differs : true ≡ false = ap (λ (w : List ℕ). slice_index w 12 == 49) e in absurd cc
+one_format Two One xs ys e = let differs : false ≡ true = ap (λ (w : List ℕ). slice_index w 12 == 49) e in absurd cc
+one_format Two Two xs ys e = refl
+
+pub has_first_line : (limits : Bounds) (format : Format) (log : List ℕ) (rs : List Record) (c : Option LogCode) → HasRecords limits format log rs c → NoFirstLine (take limits.log log) → ⊥
+has_first_line limits format log rs c a none = none format (flat_map spelling rs ++ a.rest) (a.begins.whole ∙ append_assoc (first_line format) (flat_map spelling rs) a.rest)

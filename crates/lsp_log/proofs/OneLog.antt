@@ -4,10 +4,11 @@ use Rattle.std.specs.Prelude.{nat_lt, if◌then◌else◌}
 use Rattle.std.specs.List.{flat_map, AllByRecursion}
 use Rattle.std.proofs.lemmas.List.{append_cancel_left, length-append, take_all}
 use Rattle.lsp_frame.specs.Bounds.{Bounds, IsInRange}
+use Rattle.lsp_frame.specs.declared.format.Format.{Format}
 use Rattle.lsp_log.specs.declared.fault.LogCode.{LogCode}
 use Rattle.lsp_log.specs.Laws.{OneLog, RecordsComeFirst, WrittenIsRead}
 use Rattle.lsp_log.specs.Log.{first_line, HasRecords, at_record, code_of, Flaw, bad_line, bad_number, cut_short, bad_end, not_utf8, EndsWith, Breaks, HasLine, Fits, parts_flaw, lengths_of, in_range, is_writable, Record, Head, head_line, head_of, parts_of, with_feed, spelling, holds_feed}
-use Rattle.lsp_log.proofs.LogLemmas.{cut_one, same_head, head_holds_no, head_short, holds_near, holds_cut, parts_stand, range_writable, clash, records_one, spelling_one, no_record_at_end, has_first_line, T-is}
+use Rattle.lsp_log.proofs.LogLemmas.{cut_one, same_head, head_holds_no, head_short, holds_near, holds_cut, parts_stand, range_writable, clash, records_one, spelling_one, no_record_at_end, one_format, has_first_line, T-is}
 use Rattle.lsp_log.proofs.Ended.{not_less}
 
 -- ---- one flaw
@@ -116,25 +117,37 @@ one_end limits sizes xs (Some f) (Some g) a b = ap Some (one_reason limits xs f 
 
 -- ---- one log
 
-record Same (rs us : List Record) (c d : Option LogCode) : Type 0 where
+record Same (p q : Format) (rs us : List Record) (c d : Option LogCode) : Type 0 where
+  format : p ≡ q
   records : rs ≡ us
   code : c ≡ d
 
-same_records : (limits : Bounds) → IsInRange limits → (bytes : List ℕ) (rs us : List Record) (c d : Option LogCode) → HasRecords limits bytes rs c → HasRecords limits bytes us d → Same rs us c d
-same_records limits sizes bytes rs us c d a b =
-    let whole : first_line ++ (flat_map spelling rs ++ a.rest) ≡ first_line ++ (flat_map spelling us ++ b.rest) =
-    sym (append_assoc first_line (flat_map spelling rs) a.rest) ∙ sym a.begins.whole ∙ b.begins.whole ∙ append_assoc first_line (flat_map spelling us) b.rest in
-    let one = records_one limits sizes rs us a.rest b.rest a.flaw b.flaw a.begins.fits b.begins.fits a.ends b.ends (append_cancel_left first_line _ _ whole) in
+-- behind the first lines of equal bytes
+record Behind (p q : Format) (xs ys : List ℕ) : Type 0 where
+  format : p ≡ q
+  rest : xs ≡ ys
+
+behind_first : (p q : Format) (xs ys : List ℕ) → first_line p ++ xs ≡ first_line q ++ ys → Behind p q xs ys
+behind_first p q xs ys e =
+    let format = one_format p q xs ys e in
+    record { format = format; rest = append_cancel_left (first_line q) xs ys (ap (λ (f : Format). first_line f ++ xs) (sym format) ∙ e) }
+
+same_records : (limits : Bounds) → IsInRange limits → (bytes : List ℕ) (p q : Format) (rs us : List Record) (c d : Option LogCode) → HasRecords limits p bytes rs c → HasRecords limits q bytes us d → Same p q rs us c d
+same_records limits sizes bytes p q rs us c d a b =
+    let whole : first_line p ++ (flat_map spelling rs ++ a.rest) ≡ first_line q ++ (flat_map spelling us ++ b.rest) =
+    sym (append_assoc (first_line p) (flat_map spelling rs) a.rest) ∙ sym a.begins.whole ∙ b.begins.whole ∙ append_assoc (first_line q) (flat_map spelling us) b.rest in
+    let behind = behind_first p q _ _ whole in
+    let one = records_one limits sizes rs us a.rest b.rest a.flaw b.flaw a.begins.fits b.begins.fits a.ends b.ends behind.rest in
     let flaw : a.flaw ≡ b.flaw = one_end limits sizes a.rest a.flaw b.flaw a.ends (subst (λ (w : List ℕ). EndsWith limits w b.flaw) (sym one.1) b.ends) in
-    record { records = one.0; code = sym a.code ∙ ap (λ (f : Option Flaw). code_of f (nat_lt limits.log (length bytes))) flaw ∙ b.code }
+    record { format = behind.format; records = one.0; code = sym a.code ∙ ap (λ (f : Option Flaw). code_of f (nat_lt limits.log (length bytes))) flaw ∙ b.code }
 
 pub one_log : OneLog
-one_log limits sizes bytes rs us f g (inl a) (inl b) =
-    let one = same_records limits sizes bytes rs us a.0 b.0 a.1 b.1 in
-    (one.records, a.2 ∙ ap (λ (w : List Record). at_record (length w + 1) a.0) one.records ∙ ap (at_record (length us + 1)) one.code ∙ sym b.2)
-one_log limits sizes bytes rs us f g (inl a) (inr b) = absurd (has_first_line limits bytes rs a.0 a.1 b.2)
-one_log limits sizes bytes rs us f g (inr a) (inl b) = absurd (has_first_line limits bytes us b.0 b.1 a.2)
-one_log limits sizes bytes rs us f g (inr a) (inr b) = (a.0 ∙ sym b.0, a.1 ∙ sym b.1)
+one_log limits sizes bytes (Some p) (Some q) rs us f g a b =
+    let one = same_records limits sizes bytes p q rs us a.0 b.0 a.1 b.1 in
+    (ap Some one.format, one.records, a.2 ∙ ap (λ (w : List Record). at_record (length w + 1) a.0) one.records ∙ ap (at_record (length us + 1)) one.code ∙ sym b.2)
+one_log limits sizes bytes (Some p) None rs us f g a b = absurd (has_first_line limits p bytes rs a.0 a.1 b.2)
+one_log limits sizes bytes None (Some q) rs us f g a b = absurd (has_first_line limits q bytes us b.0 b.1 a.2)
+one_log limits sizes bytes None None rs us f g a b = (refl, a.0 ∙ sym b.0, a.1 ∙ sym b.1)
 
 -- ---- the first records
 
@@ -150,19 +163,20 @@ records_front limits sizes (r ∷ rs) (u ∷ us) xs ys g p q b e =
     (tail.0, cc (one.0, tail.1))
 
 pub records_come_first : RecordsComeFirst
-records_come_first limits sizes bytes rest rs us f begins (inl a) =
-    let whole : first_line ++ (flat_map spelling rs ++ rest) ≡ first_line ++ (flat_map spelling us ++ a.1.rest) =
-    sym (append_assoc first_line (flat_map spelling rs) rest) ∙ sym begins.whole ∙ a.1.begins.whole ∙ append_assoc first_line (flat_map spelling us) a.1.rest in
-    records_front limits sizes rs us rest a.1.rest a.1.flaw begins.fits a.1.begins.fits a.1.ends (append_cancel_left first_line _ _ whole)
-records_come_first limits sizes bytes rest rs us f begins (inr a) = absurd (a.2 (flat_map spelling rs ++ rest) (begins.whole ∙ append_assoc first_line (flat_map spelling rs) rest))
+records_come_first limits sizes bytes rest format (Some found) rs us f begins a =
+    let whole : first_line found ++ (flat_map spelling us ++ a.1.rest) ≡ first_line format ++ (flat_map spelling rs ++ rest) =
+    sym (append_assoc (first_line found) (flat_map spelling us) a.1.rest) ∙ sym a.1.begins.whole ∙ begins.whole ∙ append_assoc (first_line format) (flat_map spelling rs) rest in
+    let behind = behind_first found format _ _ whole in
+    let others = records_front limits sizes rs us rest a.1.rest a.1.flaw begins.fits a.1.begins.fits a.1.ends (sym behind.rest) in
+    (ap Some behind.format, others.0, others.1)
+records_come_first limits sizes bytes rest format None rs us f begins a = absurd (a.2 format (flat_map spelling rs ++ rest) (begins.whole ∙ append_assoc (first_line format) (flat_map spelling rs) rest))
 
 -- ---- what is written
 
 pub written_is_read : WrittenIsRead
-written_is_read limits rs fits within =
-    let bytes : List ℕ = first_line ++ flat_map spelling rs in
-    let none : nat_lt limits.log (length bytes) ≡ false = not_less limits.log (length bytes) within in
-    inl (
+written_is_read limits format rs fits within =
+    let bytes : List ℕ = first_line format ++ flat_map spelling rs in
+    let none : nat_lt limits.log (length bytes) ≡ false = not_less limits.log (length bytes) within in (
       None,
       record {
         rest = [];

@@ -1,21 +1,23 @@
 -- The parts of a record at the front of a tape.
-use Rattle.std.proofs.Common.{◌≡◌, ℕ, ℤ, ◌+◌, ◌<◌, ◌≤◌, Bool, true, false, List, [], ◌∷◌, ◌++◌, length, drop, Option, Some, Result, Ok, Err, refl, sym, ap, ◌∙◌, append_assoc, append-nil, arith}
+use Rattle.std.proofs.Common.{◌≡◌, ℕ, ℤ, ◌+◌, ◌<◌, ◌≤◌, Bool, true, false, List, [], ◌∷◌, ◌++◌, length, drop, Option, Some, Result, Ok, Err, refl, sym, ap, subst, ◌∙◌, append_assoc, append-nil, arith}
 use Rattle.std.specs.Prelude.{◌==◌, nat_le, slice_index, if◌then◌else◌, IsUtf8}
 use Rattle.std.specs.List.{flat_map}
 use borrow.Author.Tests.{le-leb, leb-true}
+use Rattle.lsp_types.specs.declared.side.Side.{Side}
 use Rattle.lsp_frame.specs.Bounds.{Bounds}
 use Rattle.lsp_frame.specs.Told.{Told}
 use Rattle.lsp_log.specs.Log as log
-use Rattle.lsp_log.specs.Log.{Flaw, cut_short, bad_end, not_utf8, parts_flaw, with_feed, head_of, parts_of, shown, shown_head, IsText, EndsWith}
-use Rattle.lsp_log.specs.Tape.{Held, Taken, PartAnswer}
-use Rattle.lsp_log.specs.Stops.{Ends, StopAnswer, PartsBreak, HasParts, TwoParts, TwoPartsAnswer, TextAnswer, PartsAnswer, FoundAnswer}
+use Rattle.lsp_log.specs.Log.{Flaw, cut_short, bad_end, not_utf8, parts_flaw, with_feed, head_of, parts_of, shown, chunk_head, shown_head, IsText, EndsWith}
+use Rattle.lsp_log.specs.Tape.{Held, Taken, Wants, Misses, PartAnswer}
+use Rattle.lsp_log.specs.Room.{AwaitsPart}
+use Rattle.lsp_log.specs.Stops.{Ends, Refused, StopAnswer, IsPartStop, PartsLack, PartsBreak, HasParts, TwoParts, TwoPartsAnswer, TextAnswer, PartsAnswer, FoundAnswer}
 use Rattle.lsp_log.specs.declared.record.Record.{Record}
 use Rattle.lsp_log.specs.declared.stop.Stop.{Stop}
 use Rattle.lsp_log.specs.declared.stop.Stop.TheVariants.{Text}
 use Rattle.lsp_log.specs.declared.tape.PartFault.{PartFault}
 use Rattle.lsp_log.specs.declared.tape.PartFault.TheVariants as faults
 use Rattle.lsp_log.proofs.LogLemmas.{one_part}
-use Rattle.lsp_log.proofs.Tapes.{pulled_then, failed_then, refused_then, taken_both}
+use Rattle.lsp_log.proofs.Tapes.{pulled_then, failed_then, taken_both}
 use Rattle.lsp_log.proofs.AtFront.{AtParts, stop_at_parts, found_record}
 use Rattle.lsp_log.specs.Records.{record_view}
 
@@ -53,6 +55,44 @@ flaw_behind old mid before now front more first second flaw t len is =
     ∙ one_part front (second ∷ []) (mid.rest ++ more)
     ∙ is
 
+first_short : (old new : Held) (before after : Told) (P : List ℕ → Option Flaw → Type 0) (len : ℕ) (w : Wants old new before after len) → P (old.rest ++ w.piece) (Some cut_short) → Ends P old new before after (Some cut_short)
+first_short old new before after P len w holds = record { piece = w.piece; pulled = w.pulled; holds = holds; over = λ _. w.over }
+
+first_misses : (old new : Held) (before after : Told) (P : List ℕ → Option Flaw → Type 0) (len : ℕ) (m : Misses old new before after len) → P (old.rest ++ m.piece) (Some bad_end) → Ends P old new before after (Some bad_end)
+first_misses old new before after P len m holds = record { piece = m.piece; pulled = m.pulled; holds = holds; over = λ h. absurd cc }
+
+-- ---- memory is refused
+
+pub refused_first : (old new : Held) (before after : Told) (n : ℕ) (ns : List ℕ) → Taken old new before after [] → 0 < n → Refused (AwaitsPart (n ∷ ns)) old new before after
+refused_first old new before after n ns t some = record {
+  front = [];
+  awaits = record { parts = []; next = n; others = ns; are = refl; some = some; whole = refl };
+  taken = t;
+}
+
+refused_second : (old mid new : Held) (before now after : Told) (front : List ℕ) (first second : ℕ) → Taken old mid before now (with_feed front) → length front ≡ first → Taken mid new now after [] → 0 < second
+    → Refused (AwaitsPart (first ∷ second ∷ [])) old new before after
+refused_second old mid new before now after front first second t len u some = record {
+  front = with_feed front ++ [];
+  awaits = record { parts = front ∷ []; next = second; others = []; are = ap (λ (n : ℕ). n ∷ second ∷ []) (sym len); some = some; whole = refl };
+  taken = taken_both old mid new before now after (with_feed front) [] t u;
+}
+
+-- ---- one part, and two
+
+pub part_stops : (old new : Held) (before after : Told) (side : Side) (len : ℕ) (fault : PartFault) (stop : Stop) → IsPartStop fault stop → PartAnswer old new before after len (Err fault)
+    → StopAnswer (PartsBreak (chunk_head side len)) (AwaitsPart (len ∷ [])) old new before after stop
+part_stops old new before after side len faults.Short stop is w = subst (StopAnswer (PartsBreak (chunk_head side len)) (AwaitsPart (len ∷ [])) old new before after) (sym is) (first_short old new before after (PartsBreak (chunk_head side len)) len w (part_lacks len [] (old.rest ++ w.piece) w.less))
+part_stops old new before after side len faults.End stop is m = subst (StopAnswer (PartsBreak (chunk_head side len)) (AwaitsPart (len ∷ [])) old new before after) (sym is) (first_misses old new before after (PartsBreak (chunk_head side len)) len m (part_ends_badly len [] (old.rest ++ m.piece) m.more m.other))
+part_stops old new before after side len faults.Read stop is f = subst (StopAnswer (PartsBreak (chunk_head side len)) (AwaitsPart (len ∷ [])) old new before after) (sym is) f
+part_stops old new before after side len faults.Memory stop is r = subst (StopAnswer (PartsBreak (chunk_head side len)) (AwaitsPart (len ∷ [])) old new before after) (sym is) (refused_first old new before after len [] r.0 r.1)
+
+pub first_fails : (old new : Held) (before after : Told) (first second : ℕ) (fault : PartFault) → PartAnswer old new before after first (Err fault) → TwoPartsAnswer old new before after first second (Err fault)
+first_fails old new before after first second faults.Short w = first_short old new before after (PartsLack (first ∷ second ∷ [])) first w (part_lacks first (second ∷ []) (old.rest ++ w.piece) w.less)
+first_fails old new before after first second faults.End m = first_misses old new before after (PartsLack (first ∷ second ∷ [])) first m (part_ends_badly first (second ∷ []) (old.rest ++ m.piece) m.more m.other)
+first_fails old new before after first second faults.Read f = f
+first_fails old new before after first second faults.Memory r = refused_first old new before after first (second ∷ []) r.0 r.1
+
 pub second_fails : (old mid new : Held) (before now after : Told) (front : List ℕ) (first second : ℕ) (fault : PartFault) → Taken old mid before now (with_feed front) → length front ≡ first → PartAnswer mid new now after second (Err fault)
     → TwoPartsAnswer old new before after first second (Err fault)
 second_fails old mid new before now after front first second faults.Short t len w = record {
@@ -68,7 +108,7 @@ second_fails old mid new before now after front first second faults.End t len m 
   over = λ h. absurd cc;
 }
 second_fails old mid new before now after front first second faults.Read t len f = failed_then old.left mid.left before now after t.piece t.pulled f
-second_fails old mid new before now after front first second faults.Memory t len r = refused_then old.left mid.left before now after t.piece t.pulled r
+second_fails old mid new before now after front first second faults.Memory t len r = refused_second old mid new before now after front first second t len r.0 r.1
 
 pub two_taken : (old mid new : Held) (before now after : Told) (front back : List ℕ) (first second : ℕ) → Taken old mid before now (with_feed front) → length front ≡ first → Taken mid new now after (with_feed back) → length back ≡ second
     → TwoParts old new before after first second front back
@@ -91,11 +131,11 @@ no_text old new before after v first second front back two none = record {
   over = λ h. absurd cc;
 }
 
-pub uri_stops : (old new : Held) (before after : Told) (v : ℤ) (first second : ℕ) (front back : List ℕ) (stop : Stop) → TwoParts old new before after first second front back → TextAnswer front (Err stop) → StopAnswer (PartsBreak (shown_head v first second)) old new before after stop
+pub uri_stops : (old new : Held) (before after : Told) (v : ℤ) (first second : ℕ) (front back : List ℕ) (stop : Stop) → TwoParts old new before after first second front back → TextAnswer front (Err stop) → StopAnswer (PartsBreak (shown_head v first second)) (AwaitsPart (first ∷ second ∷ [])) old new before after stop
 uri_stops old new before after v first second front back Text two bad = no_text old new before after v first second front back two (λ t. bad t.0)
 uri_stops old new before after v first second front back stop two bad = absurd bad
 
-pub text_stops : (old new : Held) (before after : Told) (v : ℤ) (first second : ℕ) (front back : List ℕ) (stop : Stop) → TwoParts old new before after first second front back → TextAnswer back (Err stop) → StopAnswer (PartsBreak (shown_head v first second)) old new before after stop
+pub text_stops : (old new : Held) (before after : Told) (v : ℤ) (first second : ℕ) (front back : List ℕ) (stop : Stop) → TwoParts old new before after first second front back → TextAnswer back (Err stop) → StopAnswer (PartsBreak (shown_head v first second)) (AwaitsPart (first ∷ second ∷ [])) old new before after stop
 text_stops old new before after v first second front back Text two bad = no_text old new before after v first second front back two (λ t. bad t.1)
 text_stops old new before after v first second front back stop two bad = absurd bad
 

@@ -4,8 +4,9 @@ use Rattle.std.specs.Prelude.{pos, negsuc, codes, slice_index, ◌==◌}
 use Rattle.std.specs.Fmt.{digits}
 use Rattle.lsp_types.specs.declared.side.Side.TheVariants.{Editor, Server}
 use Rattle.lsp_frame.specs.Bounds.{profile}
+use Rattle.lsp_frame.specs.declared.format.Format.TheVariants.{One, Two}
 use Rattle.lsp_log.specs.declared.fault.LogCode.TheVariants.{L1, L3}
-use Rattle.lsp_log.specs.Log.{chunk, shown, spelling, IsLog, Breaks, bad_number, cut_short, bad_end, chunk_head}
+use Rattle.lsp_log.specs.Log.{chunk, shown, spelling, NoFirstLine, IsLog, Breaks, bad_number, cut_short, bad_end, chunk_head}
 
 a_snapshot : spelling (shown (pos 1) (codes "file:///a") (codes "ab")) ≡ codes "T 1 9 2\nfile:///a\nab\n"
 unfolding digits
@@ -40,16 +41,19 @@ another_byte_is_no_line_end = (chunk_head Editor 2, codes "abc", record { line =
 
 -- ---- whole logs
 
-the_first_line_alone : IsLog profile (codes "lsp-session 1\n") [] None
-the_first_line_alone = inl (None, record { rest = []; flaw = None; begins = record { whole = refl; fits = tt }; ends = refl; code = refl }, refl)
+the_first_line_alone : IsLog profile (codes "lsp-session 1\n") (Some One) [] None
+the_first_line_alone = (None, record { rest = []; flaw = None; begins = record { whole = refl; fits = tt }; ends = refl; code = refl }, refl)
 
-one_record : IsLog profile (codes "lsp-session 1\nE 3\nabc\n") (chunk Editor (codes "abc") ∷ []) None
-unfolding digits
-one_record = inl (None, record { rest = []; flaw = None; begins = record { whole = refl; fits = (record { range = refl; text = tt }, tt) }; ends = refl; code = refl }, refl)
+the_other_first_line_alone : IsLog profile (codes "lsp-session 2\n") (Some Two) [] None
+the_other_first_line_alone = (None, record { rest = []; flaw = None; begins = record { whole = refl; fits = tt }; ends = refl; code = refl }, refl)
 
-a_fault_has_the_number_of_its_record : IsLog profile (codes "lsp-session 1\nE 3\nabc\nE 0\n") (chunk Editor (codes "abc") ∷ []) (Some (2, L3))
+one_record : IsLog profile (codes "lsp-session 1\nE 3\nabc\n") (Some One) (chunk Editor (codes "abc") ∷ []) None
 unfolding digits
-a_fault_has_the_number_of_its_record = inl (
+one_record = (None, record { rest = []; flaw = None; begins = record { whole = refl; fits = (record { range = refl; text = tt }, tt) }; ends = refl; code = refl }, refl)
+
+a_fault_has_the_number_of_its_record : IsLog profile (codes "lsp-session 2\nE 3\nabc\nE 0\n") (Some Two) (chunk Editor (codes "abc") ∷ []) (Some (2, L3))
+unfolding digits
+a_fault_has_the_number_of_its_record = (
   Some L3,
   record {
     rest = codes "E 0\n";
@@ -61,5 +65,10 @@ a_fault_has_the_number_of_its_record = inl (
   refl,
 )
 
-another_first_line : IsLog profile (codes "lsp-session 9\n") [] (Some (0, L1))
-another_first_line = inr (refl, refl, λ rest e. let differs : false ≡ true = ap (λ (w : List ℕ). slice_index w 12 == 49) e in absurd cc)
+-- the thirteenth byte names the format
+no_format : NoFirstLine (codes "lsp-session 9\n")
+no_format One rest e = let differs : false ≡ true = ap (λ (w : List ℕ). slice_index w 12 == 49) e in absurd cc
+no_format Two rest e = let differs : false ≡ true = ap (λ (w : List ℕ). slice_index w 12 == 50) e in absurd cc
+
+another_first_line : IsLog profile (codes "lsp-session 9\n") None [] (Some (0, L1))
+another_first_line = (refl, refl, no_format)

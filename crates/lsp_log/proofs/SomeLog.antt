@@ -9,10 +9,12 @@ use Rattle.std.proofs.lemmas.Slice.Eq.{bytes_eq-Decides}
 use Rattle.std.proofs.lemmas.Str.{IsUtf8-from_is_utf8, is_utf8-from_IsUtf8}
 use Rattle.std.proofs.lemmas.Bool.{or_parts}
 use Rattle.lsp_frame.specs.Bounds.{Bounds}
+use Rattle.lsp_frame.specs.declared.format.Format.{Format}
+use Rattle.lsp_frame.specs.declared.format.Format.TheVariants.{One, Two}
 use Rattle.lsp_log.specs.declared.fault.LogCode.TheVariants.{L1}
 use Rattle.lsp_log.specs.Laws.{SomeLog}
-use Rattle.lsp_log.specs.Log.{Record, chunk, shown, Head, chunk_head, shown_head, head_line, head_of, parts_of, with_feed, spelling, in_range, IsText, Fits, Flaw, bad_line, bad_number, cut_short, bad_end, not_utf8, holds_feed, lengths_of, parts_flaw, HasLine, HasHead, EndsWith, code_of, first_line, at_record}
-use Rattle.lsp_log.proofs.LogLemmas.{holds, clash, one_part}
+use Rattle.lsp_log.specs.Log.{Record, chunk, shown, Head, chunk_head, shown_head, head_line, head_of, parts_of, with_feed, spelling, in_range, IsText, Fits, Flaw, bad_line, bad_number, cut_short, bad_end, not_utf8, holds_feed, lengths_of, parts_flaw, HasLine, HasHead, EndsWith, code_of, first_line, NoFirstLine, at_record}
+use Rattle.lsp_log.proofs.LogLemmas.{holds, clash, one_part, first_len}
 use Rattle.lsp_log.proofs.Bytes.{cut_at}
 use Rattle.lsp_log.proofs.Parts.{part_lacks, part_ends_badly}
 use Rattle.lsp_log.proofs.SomeHead.{cut_or_not, head_or_not}
@@ -174,26 +176,40 @@ recorded_within limits (suc n) bytes short = elim (front_some limits bytes) [
 
 -- ---- the log of all bytes
 
-begins_first : (w : List ℕ) → ((rest : List ℕ) × (w ≡ first_line ++ rest)) ⊎ ((rest : List ℕ) → w ≡ first_line ++ rest → ⊥)
-begins_first w = elim (cases_Bool (bytes_eq (take 14 w) first_line)) [
-  | inl same ↦ inl (drop 14 w, sym (take-append-drop 14 w) ∙ ap (λ (v : List ℕ). v ++ drop 14 w) ((bytes_eq-Decides (take 14 w) first_line).0 same))
-  | inr other ↦ inr (λ rest e. clash (bytes_eq (take 14 w) first_line) other ((bytes_eq-Decides (take 14 w) first_line).1 (ap (take 14) e ∙ take_at first_line rest 14 refl)))
+begins_as : (format : Format) (w : List ℕ) → ((rest : List ℕ) × (w ≡ first_line format ++ rest)) ⊎ ((rest : List ℕ) → w ≡ first_line format ++ rest → ⊥)
+begins_as format w = elim (cases_Bool (bytes_eq (take 14 w) (first_line format))) [
+  | inl same ↦ inl (drop 14 w, sym (take-append-drop 14 w) ∙ ap (λ (v : List ℕ). v ++ drop 14 w) ((bytes_eq-Decides (take 14 w) (first_line format)).0 same))
+  | inr other ↦ inr (λ rest e. clash (bytes_eq (take 14 w) (first_line format)) other ((bytes_eq-Decides (take 14 w) (first_line format)).1 (ap (take 14) e ∙ take_at (first_line format) rest 14 (first_len format))))
+]
+
+neither : (w : List ℕ) → ((rest : List ℕ) → w ≡ first_line One ++ rest → ⊥) → ((rest : List ℕ) → w ≡ first_line Two ++ rest → ⊥) → NoFirstLine w
+neither w not_one not_two One rest e = not_one rest e
+neither w not_one not_two Two rest e = not_two rest e
+
+begins_first : (w : List ℕ) → ((format : Format) × (rest : List ℕ) × (w ≡ first_line format ++ rest)) ⊎ NoFirstLine w
+begins_first w = elim (begins_as One w) [
+  | inl one ↦ inl (One, one.0, one.1)
+  | inr not_one ↦ elim (begins_as Two w) [
+    | inl two ↦ inl (Two, two.0, two.1)
+    | inr not_two ↦ inr (neither w not_one not_two)
+  ]
 ]
 
 pub some_log : SomeLog
 some_log limits bytes = elim (begins_first (take limits.log bytes)) [
-  | inr none ↦ ([], Some (0, L1), inr (refl, refl, none))
+  | inr none ↦ (None, [], Some (0, L1), (refl, refl, none))
   | inl first ↦
-      let r = recorded_within limits (length first.0) first.0 (omega arith) in
+      let r = recorded_within limits (length first.1) first.1 (omega arith) in
       let code = code_of r.flaw (nat_lt limits.log (length bytes)) in (
+        Some first.0,
         r.records,
         at_record (length r.records + 1) code,
-        inl (
+        (
           code,
           record {
             rest = r.rest;
             flaw = r.flaw;
-            begins = record { whole = first.1 ∙ ap (λ (w : List ℕ). first_line ++ w) r.whole ∙ sym (append_assoc first_line (flat_map spelling r.records) r.rest); fits = r.fits };
+            begins = record { whole = first.2 ∙ ap (λ (w : List ℕ). first_line first.0 ++ w) r.whole ∙ sym (append_assoc (first_line first.0) (flat_map spelling r.records) r.rest); fits = r.fits };
             ends = r.ends;
             code = refl;
           },

@@ -15,7 +15,7 @@ use Rattle.std.proofs.lemmas.Bool.{cases_lt}
 use Rattle.std.proofs.Common.{inl, inr}
 use Rattle.std.proofs.lemmas.Map.Views.{exact_unsigned_eq}
 use Rattle.lsp_log.specs.Log.{with_feed}
-use Rattle.lsp_log.specs.Tape.{Held, Pulled, IsOver, ReadFailed, Refused, Filled, Taken, Wants, Misses}
+use Rattle.lsp_log.specs.Tape.{Held, Pulled, IsOver, ReadFailed, Filled, Taken, Wants, Misses}
 
 take_nothing : (n : ℕ) → take {A = ℕ} n [] ≡ []
 take_nothing zero = refl
@@ -58,13 +58,8 @@ failed_then a b before now after x p f = record {
   failures = f.failures ∙ ap after_failure p.failures;
 }
 
-pub refused_then : (a b : ℕ) (before now after : Told) (x : List ℕ) → Pulled a b before now x → Refused b now after → Refused a before after
-refused_then a b before now after x p r = record {
-  piece = x ++ r.piece;
-  read = gave_then before now after x r.piece p.read r.read;
-  within = omega (arith, length-append x r.piece, p.left, r.within);
-  failures = r.failures ∙ p.failures;
-}
+pub nothing_taken : (a : Held) (now : Told) → Taken a a now now []
+nothing_taken a now = record { piece = []; pulled = pulled_nothing a.left now; whole = append-nil a.rest }
 
 pub taken_both : (a b c : Held) (before now after : Told) (x y : List ℕ) → Taken a b before now x → Taken b c now after y → Taken a c before after (x ++ y)
 taken_both a b c before now after x y p q = record {

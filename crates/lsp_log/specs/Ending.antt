@@ -1,11 +1,10 @@
 -- How the code finds what ends a log.
-use Rattle.std.specs.Prelude.{◌≡◌, ℕ, ◌+◌, ◌-◌, ◌^◌, ◌≤◌, min, List, [], ◌++◌, length, Option, Some, None, Bool, false, Result, Ok, Err}
-use Rattle.lsp_frame.specs.Bounds.{Bounds}
+use Rattle.std.specs.Prelude.{◌≡◌, ℕ, ◌+◌, ◌-◌, ◌^◌, ◌≤◌, min, length, Option, Some, None, IsSome, Bool, false, Result, Ok, Err}
 use Rattle.lsp_frame.specs.Told.{Told}
-use Rattle.lsp_log.specs.Log.{Flaw, bad_line, bad_number, cut_short, bad_end, not_utf8, EndsWith, first_line, code_of}
-use Rattle.lsp_log.specs.Tape.{ReadFailed, IsCutAt}
-use Rattle.lsp_log.specs.Stops.{LacksFirst, StopAnswer, Found}
-use Rattle.lsp_log.specs.Records.{record_view}
+use Rattle.lsp_frame.specs.declared.format.Format.{Format}
+use Rattle.lsp_log.specs.Log.{bad_line, bad_number, cut_short, bad_end, not_utf8, first_line, code_of}
+use Rattle.lsp_log.specs.Tape.{Held, ReadFailed, IsCutAt, Taken}
+use Rattle.lsp_log.specs.Stops.{LacksFirst, FoundAnswer}
 use Rattle.lsp_log.specs.Reader.{State}
 use Rattle.lsp_log.specs.declared.record.Record.{Record}
 use Rattle.lsp_log.specs.declared.fault.LogCode.{LogCode}
@@ -14,23 +13,30 @@ use Rattle.lsp_log.specs.declared.fault.LogFault.{LogFault}
 use Rattle.lsp_log.specs.declared.fault.LogFault.TheVariants as log_fault
 use Rattle.lsp_log.specs.declared.stop.Stop.{Stop}
 use Rattle.lsp_log.specs.declared.stop.Stop.TheVariants.{FirstLine, Nothing, Form, Number, Short, End, Text, Read, Memory}
-use Rattle.lsp_log.specs.declared.reader.Progress.{Progress}
 use Rattle.lsp_log.specs.declared.reader.Progress.TheVariants as progress
 
--- the first line, where it was not yet given
-abbrev pub first_of : Progress → List ℕ
-first_of progress.FirstLine = first_line
-first_of other = []
+-- the reader is behind its first line: it was, or it reads the line now
+pub data Starts (old mid : State) (before now : Told) : Type 0 where
+  started : mid ≡ old → now ≡ before → Starts old mid before now
+  starts : (format : Format) → old.progress ≡ progress.FirstLine → mid ≡ record old { tape = mid.tape; progress = progress.Records; format = Some format } → Taken old.tape mid.tape before now (first_line format) → Starts old mid before now
 
--- behind these bytes the records end so
-abbrev pub EndsBehind : Bounds → List ℕ → List ℕ → Option Flaw → Type 0
-EndsBehind limits front bytes flaw = (rest : List ℕ) × (bytes ≡ front ++ rest) × EndsWith limits rest flaw
+-- the next record, or why there is none
+abbrev pub FoundFrom : State → Held → Told → Told → Result Record Stop → Type 0
+FoundFrom s tape before after (Err FirstLine) = (s.progress ≡ progress.FirstLine) × (s.format ≡ None) × LacksFirst s.tape tape before after
+FoundFrom s tape before after (Err Read) = ReadFailed s.tape.left before after
+FoundFrom s tape before after result = (s.progress ≡ progress.Records) × IsSome s.format × (length tape.rest ≤ 64) × FoundAnswer s.limits s.tape tape before after result
 
--- a record was found behind the first line, or why there is none
-abbrev pub FindAnswer : State → State → Told → Told → Result Record Stop → Type 0
-FindAnswer old new before after (Ok r) = Found old.limits old.tape new.tape before after (first_of old.progress) (record_view r) × (new.progress ≡ progress.Records) × (length new.tape.rest ≤ 64)
-FindAnswer old new before after (Err FirstLine) = LacksFirst old.tape new.tape before after × (old.progress ≡ progress.FirstLine)
-FindAnswer old new before after (Err stop) = StopAnswer (EndsBehind old.limits (first_of old.progress)) old.tape new.tape before after stop
+-- the same, where the first line may have to be read before
+pub record FindAnswer (old new : State) (before after : Told) (result : Result Record Stop) : Type 0 where
+  pub mid : State
+  pub now : Told
+  pub begins : Starts old mid before now
+  pub found : FoundFrom mid new.tape now after result
+  pub same : new ≡ record mid { tape = new.tape }
+
+abbrev pub StartAnswer : {X : Type 0} → State → State → Told → Told → Result X Stop → Type 0
+StartAnswer old new before after (Ok x) = Starts old new before after × (new.progress ≡ progress.Records) × IsSome new.format
+StartAnswer old new before after (Err stop) = FindAnswer old new before after (Err stop)
 
 -- the number of the record behind so many
 abbrev pub next_number : ℕ → ℕ

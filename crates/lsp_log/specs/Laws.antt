@@ -1,22 +1,25 @@
 -- Laws of logs.
-use Rattle.std.specs.Prelude.{◌≡◌, ◌≤◌, ℕ, List, ◌++◌, length, Option, None}
+use Rattle.std.specs.Prelude.{◌≡◌, ◌≤◌, ℕ, List, ◌++◌, length, Option, Some, None}
 use Rattle.std.specs.List.{flat_map, AllByRecursion}
 use Rattle.lsp_frame.specs.Bounds.{Bounds, IsInRange}
+use Rattle.lsp_frame.specs.declared.format.Format.{Format}
 use Rattle.lsp_log.specs.declared.fault.LogCode.{LogCode}
 use Rattle.lsp_log.specs.Log.{Record, Fits, spelling, first_line, BeginsLog, IsLog}
 
--- **Bytes are the log of one list of records, with one fault or none.**
+-- **Bytes are the log of one format and one list of records, with one fault or none.**
 abbrev pub OneLog : Type 0
-OneLog = (limits : Bounds) → IsInRange limits → (bytes : List ℕ) (rs us : List Record) (f g : Option (ℕ × LogCode)) → IsLog limits bytes rs f → IsLog limits bytes us g → (rs ≡ us) × (f ≡ g)
+OneLog = (limits : Bounds) → IsInRange limits → (bytes : List ℕ) (p q : Option Format) (rs us : List Record) (f g : Option (ℕ × LogCode)) → IsLog limits bytes p rs f → IsLog limits bytes q us g → (p ≡ q) × (rs ≡ us) × (f ≡ g)
 
 -- **All bytes are a log.**
 abbrev pub SomeLog : Type 0
-SomeLog = (limits : Bounds) (bytes : List ℕ) → (records : List Record) × (fault : Option (ℕ × LogCode)) × IsLog limits bytes records fault
+SomeLog = (limits : Bounds) (bytes : List ℕ) → (format : Option Format) × (records : List Record) × (fault : Option (ℕ × LogCode)) × IsLog limits bytes format records fault
 
--- **Records that a log begins with are the first of its records.**
+-- **Records that a log begins with are the first of its records, and their format is its format.**
 abbrev pub RecordsComeFirst : Type 0
-RecordsComeFirst = (limits : Bounds) → IsInRange limits → (bytes rest : List ℕ) (rs us : List Record) (f : Option (ℕ × LogCode)) → BeginsLog limits bytes rs rest → IsLog limits bytes us f → (others : List Record) × (us ≡ rs ++ others)
+RecordsComeFirst =
+    (limits : Bounds) → IsInRange limits → (bytes rest : List ℕ) (format : Format) (whole : Option Format) (rs us : List Record) (f : Option (ℕ × LogCode)) → BeginsLog limits format bytes rs rest → IsLog limits bytes whole us f
+    → (whole ≡ Some format) × (others : List Record) × (us ≡ rs ++ others)
 
--- **What is written of records within the limits is the log of these records.**
+-- **What is written of records within the limits, behind the first line of a format, is the log of this format and these records.**
 abbrev pub WrittenIsRead : Type 0
-WrittenIsRead = (limits : Bounds) (rs : List Record) → AllByRecursion (Fits limits) rs → length (first_line ++ flat_map spelling rs) ≤ limits.log → IsLog limits (first_line ++ flat_map spelling rs) rs None
+WrittenIsRead = (limits : Bounds) (format : Format) (rs : List Record) → AllByRecursion (Fits limits) rs → length (first_line format ++ flat_map spelling rs) ≤ limits.log → IsLog limits (first_line format ++ flat_map spelling rs) (Some format) rs None

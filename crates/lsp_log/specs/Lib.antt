@@ -2,6 +2,7 @@ pub mod Log
 pub mod Words
 pub mod Records
 pub mod Tape
+pub mod Room
 pub mod Stops
 pub mod Reader
 pub mod Ending

@@ -7,6 +7,8 @@ use Rattle.lsp_types.specs.declared.side.Side.TheVariants.{Editor, Server}
 use Rattle.lsp_log.specs.declared.fault.LogCode.{LogCode}
 use Rattle.lsp_log.specs.declared.fault.LogCode.TheVariants.{L1, L2, L3, L4, L5, L6}
 use Rattle.lsp_frame.specs.Bounds.{Bounds}
+use Rattle.lsp_frame.specs.declared.format.Format.{Format}
+use Rattle.lsp_frame.specs.declared.format.Format.TheVariants.{One, Two}
 
 -- what the editor wrote or read; or a version, a URI and a text that it showed
 pub data Record : Type 0 where
@@ -139,19 +141,25 @@ code_of (Some cut_short) true = Some L6
 code_of (Some bad_end) cut = Some L4
 code_of (Some not_utf8) cut = Some L5
 
-abbrev pub first_line : List ℕ
-first_line = codes "lsp-session 1" ++ 10 ∷ []
+-- the first line of a log of this format
+abbrev pub first_line : Format → List ℕ
+first_line One = codes "lsp-session 1" ++ 10 ∷ []
+first_line Two = codes "lsp-session 2" ++ 10 ∷ []
 
--- these records stand at the front of a log, and then the rest
-pub record BeginsLog (limits : Bounds) (log : List ℕ) (rs : List Record) (rest : List ℕ) : Type 0 where
-  pub whole : take limits.log log ≡ first_line ++ flat_map spelling rs ++ rest
+-- the bytes begin with the first line of no format
+abbrev pub NoFirstLine : List ℕ → Type 0
+NoFirstLine bytes = (format : Format) (rest : List ℕ) → bytes ≡ first_line format ++ rest → ⊥
+
+-- these records stand at the front of a log of this format, and then the rest
+pub record BeginsLog (limits : Bounds) (format : Format) (log : List ℕ) (rs : List Record) (rest : List ℕ) : Type 0 where
+  pub whole : take limits.log log ≡ first_line format ++ flat_map spelling rs ++ rest
   pub fits : AllByRecursion (Fits limits) rs
 
--- the log has a first line, these records, and then an end
-pub record HasRecords (limits : Bounds) (log : List ℕ) (rs : List Record) (fault : Option LogCode) : Type 0 where
+-- the log has the first line of this format, these records, and then an end
+pub record HasRecords (limits : Bounds) (format : Format) (log : List ℕ) (rs : List Record) (fault : Option LogCode) : Type 0 where
   pub rest : List ℕ
   pub flaw : Option Flaw
-  pub begins : BeginsLog limits log rs rest
+  pub begins : BeginsLog limits format log rs rest
   pub ends : EndsWith limits rest flaw
   pub code : code_of flaw (nat_lt limits.log (length log)) ≡ fault
 
@@ -159,8 +167,7 @@ abbrev pub at_record : ℕ → Option LogCode → Option (ℕ × LogCode)
 at_record number None = None
 at_record number (Some code) = Some (number, code)
 
--- the records of a log, and its fault with the number of its record
-abbrev pub IsLog : Bounds → List ℕ → List Record → Option (ℕ × LogCode) → Type 0
-IsLog limits log rs fault =
-    ((code : Option LogCode) × HasRecords limits log rs code × (fault ≡ at_record (length rs + 1) code))
-    ⊎ ((rs ≡ []) × (fault ≡ Some (0, L1)) × ((rest : List ℕ) → take limits.log log ≡ first_line ++ rest → ⊥))
+-- the format of a log, its records, and its fault with the number of its record; a log that begins with no first line has no format and no record
+abbrev pub IsLog : Bounds → List ℕ → Option Format → List Record → Option (ℕ × LogCode) → Type 0
+IsLog limits log (Some format) rs fault = (code : Option LogCode) × HasRecords limits format log rs code × (fault ≡ at_record (length rs + 1) code)
+IsLog limits log None rs fault = (rs ≡ []) × (fault ≡ Some (0, L1)) × NoFirstLine (take limits.log log)

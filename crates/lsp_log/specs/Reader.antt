@@ -1,29 +1,33 @@
 -- What a reader of a log gives, and what it stands for.
-use Rattle.std.specs.Prelude.{◌≡◌, ◌⊎◌, ℕ, ◌+◌, ◌≤◌, List, [], ◌∷◌, ◌++◌, length, Option, Some, None, Result, Ok, Err}
+use Rattle.std.specs.Prelude.{◌≡◌, ℕ, ◌+◌, ◌≤◌, List, [], ◌∷◌, ◌++◌, length, Option, Some, None, IsSome, Result, Ok, Err}
 use Rattle.std.specs.Io.KnownBytes.{IsAtEnd}
 use Rattle.std.specs.List.{flat_map, AllByRecursion}
 use Rattle.lsp_frame.specs.Bounds.{Bounds, IsInRange}
+use Rattle.lsp_frame.specs.declared.format.Format.{Format}
 use Rattle.lsp_frame.specs.Told.{Told, Gave, after_failure}
 use Rattle.lsp_log.specs.Log as log
 use Rattle.lsp_log.specs.Log.{Fits, spelling, first_line, BeginsLog, IsLog}
 use Rattle.lsp_log.specs.Tape.{Held}
+use Rattle.lsp_log.specs.Room.{AwaitsRecord}
 use Rattle.lsp_log.specs.Records.{record_view}
 use Rattle.lsp_log.specs.declared.record.Record.{Record}
+use Rattle.lsp_log.specs.declared.fault.LogCode.TheVariants.{L1}
 use Rattle.lsp_log.specs.declared.fault.LogFault.{LogFault}
 use Rattle.lsp_log.specs.declared.fault.LogFault.TheVariants.{Bad, Read, Memory}
 use Rattle.lsp_log.specs.declared.reader.Progress.{Progress}
 use Rattle.lsp_log.specs.declared.reader.Progress.TheVariants.{FirstLine, Records, Over}
 
--- what a reader holds: its limits, the bytes that were read and not given, how far it is, and how many records it gave
+-- what a reader holds: its limits, the bytes that were read and not given, how far it is, the format once the first line was read, and how many records it gave
 pub record State : Type 0 where
   pub limits : Bounds
   pub tape : Held
   pub progress : Progress
+  pub format : Option Format
   pub given : ℕ
 
 -- a reader by which nothing was read
 abbrev pub empty : Bounds → State
-empty limits = record { limits = limits; tape = record { rest = []; left = limits.log }; progress = FirstLine; given = 0 }
+empty limits = record { limits = limits; tape = record { rest = []; left = limits.log }; progress = FirstLine; format = None; given = 0 }
 
 -- how many bytes may still be given
 abbrev pub ahead : State → ℕ
@@ -52,33 +56,55 @@ keeps_of answer = Some answer
 abbrev pub RepeatsKept : State → State → Told → Told → Result (Option Record) LogFault → Type 0
 RepeatsKept old new before after result = (answer : Result (Option Record) LogFault) → kept_by old ≡ Some answer → (new ≡ old) × (after ≡ before) × (result ≡ answer)
 
+-- ---- the format
+
+-- what an answer says of the format: L1 that there is none, a read fault nothing, and every other that there is one
+abbrev pub TellsFormat : Result (Option Record) LogFault → Option Format → Type 0
+TellsFormat (Err (Bad number L1)) format = format ≡ None
+TellsFormat (Err Read) format = Unit {0}
+TellsFormat answer format = IsSome format
+
+-- the format is known once the first line was read
+abbrev pub FitsProgress : Progress → Option Format → Type 0
+FitsProgress FirstLine format = format ≡ None
+FitsProgress Records format = IsSome format
+FitsProgress (Over end) format = TellsFormat (answer_of end) format
+
+-- a format that was read stays
+abbrev pub KeepsFormat : Option Format → Option Format → Type 0
+KeepsFormat old new = (format : Format) → old ≡ Some format → new ≡ Some format
+
 -- ---- what a reader stands for
 
--- the bytes are the first line, these records within the limits, and the rest, which was not yet given
+-- the bytes are the first line of a format, these records within the limits, and the rest, which was not yet given
 pub record Reads (s : State) (bytes : List ℕ) (records : List log.Record) : Type 0 where
-  pub whole : bytes ≡ (first_line ++ flat_map spelling records) ++ s.tape.rest
+  pub format : Format
+  pub known : s.format ≡ Some format
+  pub whole : bytes ≡ (first_line format ++ flat_map spelling records) ++ s.tape.rest
   pub fits : AllByRecursion (Fits s.limits) records
   pub left : s.tape.left + length bytes ≡ s.limits.log
   pub given : s.given ≡ length records
 
 -- none of the bytes was given
 pub record ReadsNone (s : State) (bytes : List ℕ) (records : List log.Record) : Type 0 where
+  pub unknown : s.format ≡ None
   pub none : records ≡ []
   pub whole : bytes ≡ s.tape.rest
   pub left : s.tape.left + length bytes ≡ s.limits.log
   pub given : s.given ≡ 0
 
--- every log that begins with the bytes begins with these records
-abbrev pub Begins : Bounds → List ℕ → List log.Record → Type 0
-Begins limits bytes records = (records ≡ []) ⊎ ((more : List ℕ) → (rest : List ℕ) × BeginsLog limits (bytes ++ more) records rest)
+-- every log that begins with the bytes is of this format and begins with these records; with no format, no record was given
+abbrev pub Begins : Bounds → List ℕ → Option Format → List log.Record → Type 0
+Begins limits bytes (Some format) records = (more : List ℕ) → (rest : List ℕ) × BeginsLog limits format (bytes ++ more) records rest
+Begins limits bytes None records = records ≡ []
 
 abbrev pub StandsAt : Progress → State → List ℕ → List log.Record → Type 0
 StandsAt FirstLine s bytes records = ReadsNone s bytes records
 StandsAt Records s bytes records = Reads s bytes records
-StandsAt (Over (Ok end)) s bytes records = IsLog s.limits bytes records None
-StandsAt (Over (Err (Bad number code))) s bytes records = IsLog s.limits bytes records (Some (number, code))
-StandsAt (Over (Err Read)) s bytes records = Begins s.limits bytes records
-StandsAt (Over (Err Memory)) s bytes records = Begins s.limits bytes records
+StandsAt (Over (Ok end)) s bytes records = IsLog s.limits bytes s.format records None
+StandsAt (Over (Err (Bad number code))) s bytes records = IsLog s.limits bytes s.format records (Some (number, code))
+StandsAt (Over (Err Read)) s bytes records = Begins s.limits bytes s.format records
+StandsAt (Over (Err Memory)) s bytes records = Begins s.limits bytes s.format records
 
 -- **A reader stands for the bytes that its readers gave and the records that it gave.**
 abbrev pub StandsFor : State → List ℕ → List log.Record → Type 0
@@ -98,10 +124,16 @@ MayFollow after more = IsAtEnd after.bytes → more ≡ []
 -- what an answer says of all the bytes that were read, of the records given, and of the reader
 abbrev pub Tells : State → Told → Told → List ℕ → List log.Record → Result (Option Record) LogFault → Type 0
 Tells new before after bytes records (Ok (Some r)) = after.failures ≡ before.failures
-Tells new before after bytes records (Ok None) = IsAtEnd after.bytes × IsLog new.limits bytes records None × (after.failures ≡ before.failures)
-Tells new before after bytes records (Err (Bad number code)) = ((more : List ℕ) → MayFollow after more → IsLog new.limits (bytes ++ more) records (Some (number, code))) × (after.failures ≡ before.failures)
+Tells new before after bytes records (Ok None) = IsAtEnd after.bytes × IsLog new.limits bytes new.format records None × (after.failures ≡ before.failures)
+Tells new before after bytes records (Err (Bad number code)) = ((more : List ℕ) → MayFollow after more → IsLog new.limits (bytes ++ more) new.format records (Some (number, code))) × (after.failures ≡ before.failures)
 Tells new before after bytes records (Err Read) = after.failures ≡ after_failure before.failures
 Tells new before after bytes records (Err Memory) = after.failures ≡ before.failures
+
+-- memory is refused only where a record's first line stands behind the records given, whose numbers are in their ranges, and for a part of it that isn't empty; at most 64 bytes of that part were read
+abbrev pub LacksRoom : State → List ℕ → List log.Record → Result (Option Record) LogFault → Type 0
+LacksRoom new bytes records (Err Memory) =
+    (format : Format) × (front : List ℕ) × (new.format ≡ Some format) × AwaitsRecord new.limits front × (bytes ≡ (first_line format ++ flat_map spelling records) ++ (front ++ new.tape.rest)) × (length new.tape.rest ≤ 64)
+LacksRoom new bytes records answer = Unit {0}
 
 -- the bytes that the reader gave in the call, and what holds of them and of all that it gave before
 pub record Given (new : State) (before after : Told) (result : Result (Option Record) LogFault) (bytes : List ℕ) (records : List log.Record) : Type 0 where
@@ -110,6 +142,7 @@ pub record Given (new : State) (before after : Told) (result : Result (Option Re
   pub within : length (bytes ++ piece) ≤ new.limits.log + 1
   pub stands : StandsFor new (bytes ++ piece) (records_with records result)
   pub tells : Tells new before after (bytes ++ piece) records result
+  pub room : LacksRoom new (bytes ++ piece) records result
 
 abbrev pub Gives : State → State → Told → Told → Result (Option Record) LogFault → Type 0
 Gives old new before after result = (bytes : List ℕ) (records : List log.Record) → StandsFor old bytes records → Given new before after result bytes records

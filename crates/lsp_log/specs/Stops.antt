@@ -4,9 +4,11 @@ use Rattle.std.specs.List.{flat_map}
 use Rattle.std.specs.Global.{Global}
 use Rattle.lsp_frame.specs.Bounds.{Bounds}
 use Rattle.lsp_frame.specs.Told.{Told}
+use Rattle.lsp_frame.specs.declared.format.Format.{Format}
 use Rattle.lsp_log.specs.Log as log
-use Rattle.lsp_log.specs.Log.{Flaw, bad_line, bad_number, cut_short, bad_end, not_utf8, EndsWith, Fits, spelling, parts_flaw, parts_of, lengths_of, with_feed, first_line, head_of, IsText}
-use Rattle.lsp_log.specs.Tape.{Held, Pulled, IsOver, ReadFailed, Refused, Taken}
+use Rattle.lsp_log.specs.Log.{Flaw, bad_line, bad_number, cut_short, bad_end, not_utf8, EndsWith, Fits, spelling, parts_flaw, parts_of, lengths_of, with_feed, first_line, NoFirstLine, head_of, IsText}
+use Rattle.lsp_log.specs.Tape.{Held, Pulled, IsOver, ReadFailed, Taken}
+use Rattle.lsp_log.specs.Room.{AwaitsPart, AwaitsRecord}
 use Rattle.lsp_log.specs.Records.{record_view}
 use Rattle.lsp_log.specs.declared.head.HeadFault.{HeadFault}
 use Rattle.lsp_log.specs.declared.head.HeadFault.TheVariants as heads
@@ -31,15 +33,15 @@ TextAnswer bytes (Ok text) = string_bytes text ≡ bytes
 TextAnswer bytes (Err Text) = IsUtf8 bytes → ⊥
 TextAnswer bytes (Err stop) = ⊥
 
--- the bytes don't begin with the first line, and where they are fewer than its 14, no more can be read
+-- the bytes begin with the first line of no format, and where they are fewer than its 14, no more can be read
 pub record LacksFirst (old new : Held) (before after : Told) : Type 0 where
   pub piece : List ℕ
   pub pulled : Pulled old.left new.left before after piece
-  pub none : (rest : List ℕ) → old.rest ++ piece ≡ first_line ++ rest → ⊥
+  pub none : NoFirstLine (old.rest ++ piece)
   pub over : length (old.rest ++ piece) < 14 → IsOver new.left after
 
-abbrev pub FirstAnswer : {X : Type 0} → Held → Held → Told → Told → Result X Stop → Type 0
-FirstAnswer old new before after (Ok x) = Taken old new before after first_line
+abbrev pub FirstAnswer : Held → Held → Told → Told → Result Format Stop → Type 0
+FirstAnswer old new before after (Ok format) = Taken old new before after (first_line format)
 FirstAnswer old new before after (Err FirstLine) = LacksFirst old new before after
 FirstAnswer old new before after (Err Read) = ReadFailed old.left before after
 FirstAnswer old new before after (Err stop) = ⊥
@@ -57,16 +59,23 @@ pub record Ends (P : List ℕ → Option Flaw → Type 0) (old new : Held) (befo
   pub holds : P (old.rest ++ piece) flaw
   pub over : wants_bytes flaw ≡ true → IsOver new.left after
 
-abbrev pub StopAnswer : (List ℕ → Option Flaw → Type 0) → Held → Held → Told → Told → Stop → Type 0
-StopAnswer P old new before after FirstLine = ⊥
-StopAnswer P old new before after Nothing = Ends P old new before after None
-StopAnswer P old new before after Form = Ends P old new before after (Some bad_line)
-StopAnswer P old new before after Number = Ends P old new before after (Some bad_number)
-StopAnswer P old new before after Short = Ends P old new before after (Some cut_short)
-StopAnswer P old new before after End = Ends P old new before after (Some bad_end)
-StopAnswer P old new before after Text = Ends P old new before after (Some not_utf8)
-StopAnswer P old new before after Read = ReadFailed old.left before after
-StopAnswer P old new before after Memory = Refused old.left before after
+-- memory was refused behind bytes of which this holds, and no others were given
+pub record Refused (M : List ℕ → Type 0) (old new : Held) (before after : Told) : Type 0 where
+  pub front : List ℕ
+  pub awaits : M front
+  pub taken : Taken old new before after front
+
+-- what the bytes read say of each stop: P where no record stands, M where memory was refused
+abbrev pub StopAnswer : (List ℕ → Option Flaw → Type 0) → (List ℕ → Type 0) → Held → Held → Told → Told → Stop → Type 0
+StopAnswer P M old new before after FirstLine = ⊥
+StopAnswer P M old new before after Nothing = Ends P old new before after None
+StopAnswer P M old new before after Form = Ends P old new before after (Some bad_line)
+StopAnswer P M old new before after Number = Ends P old new before after (Some bad_number)
+StopAnswer P M old new before after Short = Ends P old new before after (Some cut_short)
+StopAnswer P M old new before after End = Ends P old new before after (Some bad_end)
+StopAnswer P M old new before after Text = Ends P old new before after (Some not_utf8)
+StopAnswer P M old new before after Read = ReadFailed old.left before after
+StopAnswer P M old new before after Memory = Refused M old new before after
 
 -- parts of these lengths don't stand there
 abbrev pub PartsLack : List ℕ → List ℕ → Option Flaw → Type 0
@@ -85,7 +94,7 @@ TwoPartsAnswer old new before after first second (Ok parts) = TwoParts old new b
 TwoPartsAnswer old new before after first second (Err faults.Short) = Ends (PartsLack (first ∷ second ∷ [])) old new before after (Some cut_short)
 TwoPartsAnswer old new before after first second (Err faults.End) = Ends (PartsLack (first ∷ second ∷ [])) old new before after (Some bad_end)
 TwoPartsAnswer old new before after first second (Err faults.Read) = ReadFailed old.left before after
-TwoPartsAnswer old new before after first second (Err faults.Memory) = Refused old.left before after
+TwoPartsAnswer old new before after first second (Err faults.Memory) = Refused (AwaitsPart (first ∷ second ∷ [])) old new before after
 
 -- the parts behind a head are flawed
 abbrev pub PartsBreak : log.Head → List ℕ → Option Flaw → Type 0
@@ -100,13 +109,13 @@ pub record HasParts (old new : Held) (before after : Told) (head : log.Head) (r 
 
 abbrev pub PartsAnswer : Held → Held → Told → Told → log.Head → Result Record Stop → Type 0
 PartsAnswer old new before after head (Ok r) = HasParts old new before after head (record_view r)
-PartsAnswer old new before after head (Err stop) = StopAnswer (PartsBreak head) old new before after stop
+PartsAnswer old new before after head (Err stop) = StopAnswer (PartsBreak head) (AwaitsPart (lengths_of head)) old new before after stop
 
-pub record Found (limits : Bounds) (old new : Held) (before after : Told) (front : List ℕ) (r : log.Record) : Type 0 where
-  pub taken : Taken old new before after (front ++ spelling r)
+pub record Found (limits : Bounds) (old new : Held) (before after : Told) (r : log.Record) : Type 0 where
+  pub taken : Taken old new before after (spelling r)
   pub fits : Fits limits r
 
 -- a record, or why there is none
 abbrev pub FoundAnswer : Bounds → Held → Held → Told → Told → Result Record Stop → Type 0
-FoundAnswer limits old new before after (Ok r) = Found limits old new before after [] (record_view r)
-FoundAnswer limits old new before after (Err stop) = StopAnswer (EndsWith limits) old new before after stop
+FoundAnswer limits old new before after (Ok r) = Found limits old new before after (record_view r)
+FoundAnswer limits old new before after (Err stop) = StopAnswer (EndsWith limits) (AwaitsRecord limits) old new before after stop

@@ -76,26 +76,19 @@ pub record Misses (old new : Held) (before after : Told) (len : ℕ) : Type 0 wh
   pub more : len < length (old.rest ++ piece)
   pub other : (slice_index (old.rest ++ piece) len == 10) ≡ false
 
--- memory was refused after the reader gave some bytes
-pub record Refused (left : ℕ) (before after : Told) : Type 0 where
-  pub piece : List ℕ
-  pub read : Gave before after piece
-  pub within : length piece ≤ left
-  pub failures : after.failures ≡ before.failures
-
 abbrev pub TakeAnswer : Held → Held → Told → Told → ℕ → Result (Vec ℕ Global) PartFault → Type 0
 TakeAnswer old new before after len (Ok bytes) = Taken old new before after bytes.items × (length bytes.items ≡ len)
 TakeAnswer old new before after len (Err Short) = Wants old new before after len
 TakeAnswer old new before after len (Err End) = ⊥
 TakeAnswer old new before after len (Err Read) = ReadFailed old.left before after
-TakeAnswer old new before after len (Err Memory) = Refused old.left before after
+TakeAnswer old new before after len (Err Memory) = Taken old new before after [] × (0 < len)
 
 abbrev pub PartAnswer : Held → Held → Told → Told → ℕ → Result (Vec ℕ Global) PartFault → Type 0
 PartAnswer old new before after len (Ok bytes) = Taken old new before after (with_feed bytes.items) × (length bytes.items ≡ len)
 PartAnswer old new before after len (Err Short) = Wants old new before after len
 PartAnswer old new before after len (Err End) = Misses old new before after len
 PartAnswer old new before after len (Err Read) = ReadFailed old.left before after
-PartAnswer old new before after len (Err Memory) = Refused old.left before after
+PartAnswer old new before after len (Err Memory) = Taken old new before after [] × (0 < len)
 
 -- one byte past all that may be read was there; or nothing was read, and where nothing more may be read the reader is at its end
 abbrev pub IsCutAt : ℕ → Told → Told → Bool → Type 0

@@ -4,15 +4,13 @@ ghost use Rattle.lsp_log.specs.Log.{shown_head};
 ghost use Rattle.lsp_log.specs.Stops.{TextAnswer, FirstAnswer, TwoPartsAnswer, PartsAnswer, FoundAnswer};
 ghost use Rattle.lsp_log.specs.Words.{head_view};
 
+use crate::format::{LINE_LEN, format_of};
 use crate::head::{Head, read_head};
 use crate::record::Record;
 use crate::stop::Stop;
 use crate::tape::{PartFault, Tape, WINDOW};
-use lsp_frame::{Limits, Source};
+use lsp_frame::{Format, Limits, Source};
 use std::alloc::Global;
-
-/// The first line of a log.
-pub const FIRST_LINE: &[u8] = b"lsp-session 1\n";
 
 /// The text of the bytes.
 fn text_of(bytes: Vec<u8>) -> Result<String, Stop>
@@ -24,16 +22,16 @@ fn text_of(bytes: Vec<u8>) -> Result<String, Stop>
     Ok(unsafe { String::from_utf8_unchecked(bytes) })
 }
 
-/// Goes past the first line.
-pub fn first_line<R: Source>(tape: &mut Tape, reader: &mut R) -> Result<(), Stop>
+/// Goes past the first line, and gives the format that it names.
+pub fn first_line<R: Source>(tape: &mut Tape, reader: &mut R) -> Result<Format, Stop>
     ensures { FirstAnswer tape.old tape.new (R.told reader.old) (R.told reader.new) result }
 {
-    tape.reach(reader, FIRST_LINE.len())?;
-    if !tape.near().starts_with(FIRST_LINE) {
+    tape.reach(reader, LINE_LEN)?;
+    let Some(format) = format_of(tape.near()) else {
         return Err(Stop::FirstLine);
-    }
-    tape.skip(FIRST_LINE.len());
-    Ok(())
+    };
+    tape.skip(LINE_LEN);
+    Ok(format)
 }
 
 /// Takes two parts of these lengths, one after the other.

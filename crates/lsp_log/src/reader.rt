@@ -1,14 +1,14 @@
 //! Reads a log record by record.
 ghost use Rattle.std.specs.Prelude.{◌≡◌, ◌<◌, ◌≤◌, [], None, IfOk, IfSome, length};
-ghost use Rattle.lsp_log.specs.Reader.{empty, ahead, kept_by, keeps_of, RepeatsKept, Gives, StandsFor, answer_of};
-ghost use Rattle.lsp_log.specs.Ending.{FindAnswer, EndAnswer, fault_of};
+ghost use Rattle.lsp_log.specs.Reader.{empty, ahead, kept_by, keeps_of, RepeatsKept, TellsFormat, KeepsFormat, Gives, StandsFor, answer_of};
+ghost use Rattle.lsp_log.specs.Ending.{StartAnswer, FindAnswer, EndAnswer, fault_of};
 
 use crate::fault::{LogCode, LogFault};
 use crate::found::{first_line, record};
 use crate::record::Record;
 use crate::stop::Stop;
 use crate::tape::Tape;
-use lsp_frame::{Limits, Source};
+use lsp_frame::{Format, Limits, Source};
 use std::alloc::Global;
 use std::marker::Model;
 
@@ -31,15 +31,18 @@ pub struct LogReader {
     limits: Limits,
     tape: Tape,
     progress: Progress,
+    format: Option<Format>,
     given: u64,
 }
 
 impl Model for LogReader {
-    ghost use Rattle.lsp_log.specs.Reader.{State};
+    ghost use Rattle.lsp_log.specs.Reader.{State, FitsProgress};
 
     ghost Value = { State };
 
-    ghost view = { λ a. record { limits = a.limits; tape = a.tape; progress = a.progress; given = a.given } };
+    ghost view = { λ a. record { limits = a.limits; tape = a.tape; progress = a.progress; format = a.format; given = a.given } };
+
+    ghost invariant = { λ a. FitsProgress a.progress a.format };
 }
 
 impl LogReader {
@@ -54,8 +57,17 @@ impl LogReader {
             limits,
             tape: Tape::new(left),
             progress: Progress::FirstLine,
+            format: None,
             given: 0,
         }
+    }
+
+    /// The format of the log, once its first line was read. A log of which this is missing (L1) has
+    /// none.
+    pub fn format(&self) -> Option<Format>
+        ensures { result ≡ self.now.format }
+    {
+        self.format
     }
 
     /// The next record, or None where the log ends without a fault.
@@ -77,6 +89,10 @@ impl LogReader {
         ensures near { IfOk result (λ answer. IfSome answer (λ _. length self.new.tape.rest ≤ 64)) }
         // Every answer but a record is kept.
         ensures keeps { kept_by self.new ≡ keeps_of result }
+        // The format is known after a record, and where the log ended without a fault; L1 says
+        // that there is none. Once read, it stays.
+        ensures format { TellsFormat result self.new.format }
+        ensures same_format { KeepsFormat self.old.format self.new.format }
         // A kept answer is given again, and nothing is read or changed.
         ensures kept { RepeatsKept self.old self.new (R.told reader.old) (R.told reader.new) result }
         // Otherwise the reader stands for the bytes read and the records given, this one
@@ -104,13 +120,28 @@ impl LogReader {
         requires { kept_by self.old ≡ None }
         ensures limits { self.new.limits ≡ self.old.limits }
         ensures given { self.new.given ≡ self.old.given }
+        ensures same_format { KeepsFormat self.old.format self.new.format }
         ensures answer { FindAnswer self.old self.new (R.told reader.old) (R.told reader.new) result }
     {
-        if let Progress::FirstLine = self.progress {
-            first_line(&mut self.tape, reader)?;
-            self.progress = Progress::Records;
-        }
+        self.start(reader)?;
         record(self.alloc, &self.limits, &mut self.tape, reader)
+    }
+
+    /// Goes past the first line, where it was not yet read.
+    fn start<R: Source>(&mut self, reader: &mut R) -> Result<(), Stop>
+        requires { kept_by self.old ≡ None }
+        ensures limits { self.new.limits ≡ self.old.limits }
+        ensures given { self.new.given ≡ self.old.given }
+        ensures same_format { KeepsFormat self.old.format self.new.format }
+        ensures answer { StartAnswer self.old self.new (R.told reader.old) (R.told reader.new) result }
+    {
+        let Progress::FirstLine = self.progress else {
+            return Ok(());
+        };
+        let format = first_line(&mut self.tape, reader)?;
+        self.format = Some(format);
+        self.progress = Progress::Records;
+        Ok(())
     }
 
     /// What is answered for good, where no record was found.

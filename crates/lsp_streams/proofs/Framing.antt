@@ -1,5 +1,6 @@
 -- A run over one raw stream: what is due for it, and what is written.
 pub mod Parts
+pub mod Lines
 pub mod Found
 pub mod Due
 pub mod Runs

@@ -6,6 +6,7 @@ use Rattle.std.specs.Option.{option_or}
 use Rattle.std.specs.Simd.{first_chunks}
 use Rattle.lsp_frame.specs.Bounds.{Bounds}
 use Rattle.lsp_frame.specs.Sink.{canonical}
+use Rattle.lsp_frame.specs.declared.format.Format.{Format}
 use Rattle.lsp_types.specs.declared.side.Side.{Side}
 use Rattle.lsp_types.specs.declared.side.Side.TheVariants.{Editor, Server}
 use Rattle.lsp_session.specs.Sent.{same_side}
@@ -15,7 +16,7 @@ use Rattle.lsp_verdict.specs.declared.outcome.Outcome.{Outcome}
 use Rattle.lsp_verdict.specs.declared.outcome.Outcome.TheVariants.{Done, Judged, Stream, NoDocument, TooFew}
 use Rattle.lsp_verdict.specs.Given.{verdict_view}
 use Rattle.lsp_verdict.specs.LookBack.{first_of}
-use Rattle.lsp_verdict.specs.Outcome.{HasRest, ending}
+use Rattle.lsp_verdict.specs.Outcome.{HasRest, ending, format_or_one}
 use Rattle.lsp_verdict.specs.Placed.{Raw, content, broken, show, Placed, joined}
 use Rattle.lsp_verdict.specs.Verdict.{Verdict, no, Ending, who_of, bad_log_of}
 
@@ -36,9 +37,9 @@ records_of size (content side bytes ∷ raws) = chunks size side (canonical byte
 records_of size (show number uri text ∷ raws) = shown number uri text ∷ records_of size raws
 records_of size (broken side rule ∷ raws) = []
 
--- the first line, and these records
-abbrev pub form_of : ℕ → List Raw → List ℕ
-form_of size raws = first_line ++ flat_map spelling (records_of size raws)
+-- the first line of a log of this format, and these records
+abbrev pub form_of : Format → ℕ → List Raw → List ℕ
+form_of format size raws = first_line format ++ flat_map spelling (records_of size raws)
 
 -- ---- how it ends
 
@@ -72,19 +73,20 @@ fault_of raws end = option_or (first_broken raws) (option_or (bad_log_of end.log
 
 -- ---- the normal form of a log
 
--- **the normal form of a log**: its events up to the first fault of the frames, and the fault that ends it, or none
+-- **the normal form of a log**: its events up to the first fault of the frames, in the format of the log, and the fault that ends it, or none; where the log has no first line, that of format 1
 pub record IsNormal (limits : Bounds) (log out : List ℕ) (fault : Option Verdict) : Type 0 where
+  pub format : Option Format
   pub records : List Record
   pub log_fault : Option (ℕ × LogCode)
   pub raws : List Raw
   pub editor : List ℕ
   pub server : List ℕ
-  pub is_log : IsLog limits log records log_fault
+  pub is_log : IsLog limits log format records log_fault
   pub placed : Placed limits records raws
   pub editor_rest : HasRest limits (joined Editor records) editor
   pub server_rest : HasRest limits (joined Server records) server
   pub ends : fault_of raws (ending log_fault editor server) ≡ fault
-  pub written : out ≡ form_of limits.chunk raws
+  pub written : out ≡ form_of (format_or_one format) limits.chunk raws
 
 -- ---- a run
 

@@ -1,11 +1,12 @@
 -- Laws of normal forms.
-use Rattle.std.specs.Prelude.{◌≡◌, ◌≤◌, ℕ, nat_le, ◌&&◌, List, [], ◌∷◌, length, Bool, false, Option, None}
+use Rattle.std.specs.Prelude.{◌≡◌, ◌≤◌, ℕ, nat_le, ◌&&◌, List, [], ◌∷◌, length, Bool, false, Option, Some, None}
 use Rattle.lsp_frame.specs.Bounds.{Bounds, IsInRange}
+use Rattle.lsp_frame.specs.declared.format.Format.{Format}
 use Rattle.lsp_log.specs.Log.{Record, IsLog}
 use Rattle.lsp_log.specs.declared.fault.LogCode.{LogCode}
 use Rattle.lsp_streams.specs.Normal.{IsNormal}
 use Rattle.lsp_verdict.specs.Placed.{Raw, content, broken, show, Placed}
-use Rattle.lsp_verdict.specs.Outcome.{IsVerdict}
+use Rattle.lsp_verdict.specs.Outcome.{IsVerdict, format_or_one}
 use Rattle.lsp_verdict.specs.Verdict.{Verdict, yes, no, bad_log}
 
 -- **Every log has a normal form**, whatever its bytes.
@@ -23,11 +24,11 @@ before_fault (content side bytes ∷ raws) = content side bytes ∷ before_fault
 before_fault (broken side rule ∷ raws) = []
 before_fault (show number uri text ∷ raws) = show number uri text ∷ before_fault raws
 
--- **Its events are those of the log before a fault**, where its length is within the limit of a log, and it is a log without a fault.
+-- **Its events are those of the log before a fault**, where its length is within the limit of a log, and it is a log of the same format without a fault.
 abbrev pub NormalFormKeepsEvents : Type 0
-NormalFormKeepsEvents = (limits : Bounds) → IsInRange limits → (log out : List ℕ) (rs : List Record) (flaw : Option (ℕ × LogCode)) (raws : List Raw) (fault : Option Verdict)
-    → IsLog limits log rs flaw → Placed limits rs raws → IsNormal limits log out fault → length out ≤ limits.log
-    → (us : List Record) × IsLog limits out us None × Placed limits us (before_fault raws)
+NormalFormKeepsEvents = (limits : Bounds) → IsInRange limits → (log out : List ℕ) (format : Option Format) (rs : List Record) (flaw : Option (ℕ × LogCode)) (raws : List Raw) (fault : Option Verdict)
+    → IsLog limits log format rs flaw → Placed limits rs raws → IsNormal limits log out fault → length out ≤ limits.log
+    → (us : List Record) × IsLog limits out (Some (format_or_one format)) us None × Placed limits us (before_fault raws)
 
 -- **It is its own normal form**, and ends without a fault.
 abbrev pub NormalFormStays : Type 0

@@ -1,15 +1,16 @@
 -- What the steps of a run that writes a normal form answer.
-use Rattle.std.specs.Prelude.{◌≡◌, ℕ, List, ◌++◌, chars, map, option_map, Option, Some, None, Result, Ok, Err}
+use Rattle.std.specs.Prelude.{◌≡◌, ℕ, List, [], ◌++◌, chars, map, option_map, Option, Some, None, Result, Ok, Err}
 use Rattle.std.specs.Io.KnownBytes.{IsAtEnd}
 use Rattle.std.specs.List.{flat_map}
 use Rattle.lsp_frame.specs.Bounds.{Bounds, IsInRange, profile}
 use Rattle.lsp_frame.specs.Decoder as decoder
 use Rattle.lsp_frame.specs.Frame.{Frames}
 use Rattle.lsp_frame.specs.Sink.{Wrote}
+use Rattle.lsp_frame.specs.declared.format.Format.{Format}
 use Rattle.lsp_frame.specs.Told.{Told, Took}
 use Rattle.lsp_types.specs.declared.side.Side.{Side}
 use Rattle.lsp_types.specs.declared.side.Side.TheVariants.{Editor, Server}
-use Rattle.lsp_log.specs.Log.{Record, Fits, spelling}
+use Rattle.lsp_log.specs.Log.{Record, Fits, spelling, first_line}
 use Rattle.lsp_log.specs.Reader as reader
 use Rattle.lsp_log.specs.Records.{record_view}
 use Rattle.lsp_verdict.specs.declared.counts.Counts.{Counts}
@@ -24,8 +25,8 @@ use Rattle.lsp_verdict.specs.declared.outcome.RunFault.TheVariants as faults
 use Rattle.lsp_verdict.specs.Given.{verdict_view, as_given}
 use Rattle.lsp_verdict.specs.Event as event
 use Rattle.lsp_verdict.specs.Event.{Event}
-use Rattle.lsp_streams.specs.Normal.{records_of, form_of, no_next, first_broken, fault_of, EndsNormal, BeginsNormal}
-use Rattle.lsp_verdict.specs.Outcome.{HasRest, ending}
+use Rattle.lsp_streams.specs.Normal.{records_of, no_next, first_broken, fault_of, EndsNormal, BeginsNormal}
+use Rattle.lsp_verdict.specs.Outcome.{HasRest, ending, format_or_one}
 use Rattle.lsp_verdict.specs.Placed.{Raw, content, broken, show, Brings, Placed, joined}
 use Rattle.lsp_verdict.specs.RunIo.{OfRead, source_failures, sink_failures}
 use Rattle.lsp_verdict.specs.Counting.{AreCounts}
@@ -148,7 +149,7 @@ pub record Formed (limits : Bounds) (s : Streams) (old new : Told) (records : Li
   pub size : s.pieces ≡ limits.chunk
   pub editor : IsDrained s.editor (joined Editor records)
   pub server : IsDrained s.server (joined Server records)
-  pub wrote : Wrote old new (form_of limits.chunk raws)
+  pub wrote : Wrote old new (spelled limits.chunk raws)
 
 -- they are written up to a fault of the frames, which the outcome carries
 pub record FormedFault (limits : Bounds) (old new : Told) (records : List Record) (outcome : Outcome) : Type 0 where
@@ -156,15 +157,15 @@ pub record FormedFault (limits : Bounds) (old new : Told) (records : List Record
   pub verdict : Verdict
   pub placed : Placed limits records raws
   pub breaks : first_broken raws ≡ Some verdict
-  pub wrote : Wrote old new (form_of limits.chunk raws)
+  pub wrote : Wrote old new (spelled limits.chunk raws)
   pub carries : CarriesCapped outcome (Some verdict)
 
--- what is written begins the normal form of the records
+-- what is written begins what is due for the records
 pub record FormedPart (limits : Bounds) (old new : Told) (records : List Record) (fault : RunFault) : Type 0 where
   pub raws : List Raw
   pub placed : Placed limits records raws
   pub late : IsLate fault
-  pub wrote : WroteFront old new (form_of limits.chunk raws) fault
+  pub wrote : WroteFront old new (spelled limits.chunk raws) fault
 
 abbrev pub FormsRecord : Bounds → Streams → Told → Told → List Record → Result (Option Outcome) RunFault → Type 0
 FormsRecord limits s old new records (Ok None) = Formed limits s old new records
@@ -187,12 +188,24 @@ pub record IsReading (r : reader.State) (now : Told) : Type 0 where
   pub records : List Record
   pub at : IsAt r start now records
 
+-- the first line of the log's format is written, and behind it these records
+pub record Written (limits : Bounds) (r : reader.State) (s : Streams) (sink_before sink_now : Told) (records : List Record) : Type 0 where
+  pub limits_are : r.limits ≡ limits
+  pub sink_between : Told
+  pub head : Wrote sink_before sink_between (first_line (format_or_one r.format))
+  pub formed : Formed limits s sink_between sink_now records
+
 -- the records that were read so far are written
 pub record SoFar (limits : Bounds) (r : reader.State) (s : Streams) (before now sink_before sink_now : Told) : Type 0 where
   pub records : List Record
   pub at : IsAt r before now records
-  pub limits_are : r.limits ≡ limits
-  pub formed : Formed limits s sink_before sink_now records
+  pub format : Format
+  pub known : r.format ≡ Some format
+  pub written : Written limits r s sink_before sink_now records
+
+-- nothing was written yet
+abbrev pub AreFresh : Bounds → Streams → Type 0
+AreFresh limits s = (sink : Told) → Formed limits s sink sink []
 
 -- a record that may stand in every log
 abbrev pub FitsRecord : Entry → Type 0

@@ -1,6 +1,6 @@
 //! A run over one raw stream of frames (LSP 3.17, "Base Protocol"): one direction of what passed
 //! between an editor and a server.
-ghost use Rattle.std.specs.Prelude.{◌≡◌, ◌≤◌, ◌<◌, ◌+◌, ◌^◌, ℕ, List, length, None, false, Ok, IfOk, OnErr};
+ghost use Rattle.std.specs.Prelude.{◌≡◌, ◌≤◌, ◌<◌, ◌+◌, ◌^◌, ◌∷◌, ◌++◌, [], ℕ, List, length, drop, decimal, None, false, Ok, IfOk, OnErr};
 ghost use Rattle.std.specs.Io.KnownBytes.{IsAtEnd};
 ghost use Rattle.lsp_frame.specs.Bounds.{IsInRange};
 ghost use Rattle.lsp_frame.specs.Decoder.{StandsFor};
@@ -11,9 +11,8 @@ ghost use Rattle.lsp_verdict.specs.RunIo.{OfRead, GaveAtMost, Tells, source_fail
 ghost use Rattle.lsp_streams.specs.StreamRun.{fault_of, closing, IsRun, BeginsRun};
 ghost use Rattle.lsp_streams.specs.StreamSteps.{WritesPart, AreParts, Finds, PartsAnswer};
 
-use lsp_frame::{
-    Decoder, Limits, PullFault, Sink, Source, WriteFault, put_all, put_number, write_frame,
-};
+use itoa::write_digits;
+use lsp_frame::{Decoder, Limits, PullFault, Sink, Source, WriteFault, put_all, write_frame};
 use lsp_rpc::{OutlineReader, RpcFault};
 use lsp_verdict::{Mode, Outcome, RunFault, StreamFault, stream_report};
 use std::alloc::Global;
@@ -21,21 +20,35 @@ use std::alloc::Global;
 /// How many bytes are asked of the source at once.
 const PIECE: u64 = 65_536;
 
+/// How many bytes a line of numbers has at most: two numbers of 20 digits, a space, and an end.
+const LINE: usize = 42;
+
+/// Puts the digits of a number into a line so that they end there, and gives where they start.
+fn fill_number(line: &mut [u8], number: u64, end: usize) -> usize
+    requires { (20 ≤ end) × (end ≤ length line.old) }
+    ensures start { (end ≤ result + 20) × (result ≤ end) }
+    ensures written { drop result line.new ≡ decimal number ++ drop end line.old }
+{
+    write_digits(number, line, end)
+}
+
 /// Writes the frame's number, the length of its content in bytes, and the end.
 fn write_numbers<W: Sink>(
     writer: &mut W,
     frame: u64,
     content: &[u8],
-    end: &[u8],
+    end: u8,
 ) -> Result<(), WriteFault>
     ensures { Writes (W.told writer.old)
         (W.told writer.new)
-        result (numbers frame content.now end.now) }
+        result (numbers frame content.now (end ∷ [])) }
 {
-    put_number(writer, frame)?;
-    put_all(writer, b" ")?;
-    put_number(writer, content.len() as u64)?;
-    put_all(writer, end)
+    // Filled from behind, so that the line is put at once.
+    let mut line = [end; LINE];
+    let size = fill_number(&mut line, content.len() as u64, LINE - 1);
+    line[size - 1] = b' ';
+    let start = fill_number(&mut line, frame, size - 1);
+    put_all(writer, &line[start..])
 }
 
 /// Writes a frame's numbers and the words that name its message.
@@ -49,7 +62,7 @@ fn write_kind_line<W: Sink>(
         (W.told writer.new)
         result (kind_line frame content.now words.now) }
 {
-    write_numbers(writer, frame, content, b" ")?;
+    write_numbers(writer, frame, content, b' ')?;
     put_all(writer, words)?;
     put_all(writer, b"\n")
 }
@@ -87,7 +100,7 @@ fn write_part<W: Sink>(
         result }
 {
     match mode {
-        Mode::Lengths => write_numbers(writer, frame, content, b"\n")?,
+        Mode::Lengths => write_numbers(writer, frame, content, b'\n')?,
         Mode::Canonical => write_frame(writer, content)?,
         Mode::Kinds => return write_kind(messages, writer, frame, content),
     }

@@ -1,25 +1,25 @@
 //! The normal form of a log: each message as its canonical frame, in full records.
-ghost use Rattle.std.specs.Prelude.{◌≡◌, ◌<◌, ◌+◌, ◌++◌, ◌∷◌, [], ℕ, List, None, Some, Ok, IfOk, OnErr};
+ghost use Rattle.std.specs.Prelude.{◌≡◌, ◌<◌, ◌+◌, ◌++◌, ◌∷◌, [], ℕ, List, Option, None, Some, Ok, IfOk, OnErr};
 ghost use Rattle.std.specs.Io.KnownBytes.{IsAtEnd};
 ghost use Rattle.lsp_frame.specs.Bounds.{Bounds, profile};
 ghost use Rattle.lsp_frame.specs.Decoder.{StandsFor};
-ghost use Rattle.lsp_frame.specs.Sink.{Wrote};
 ghost use Rattle.lsp_frame.specs.Told.{Told, Took};
+ghost use Rattle.lsp_frame.specs.declared.format.Format.{Format};
 ghost use Rattle.lsp_log.specs.Log as log;
-ghost use Rattle.lsp_log.specs.Log.{Fits, first_line};
+ghost use Rattle.lsp_log.specs.Log.{Fits};
 ghost use Rattle.lsp_log.specs.Reader.{State, ahead};
 ghost use Rattle.lsp_log.specs.Records.{record_view};
 ghost use Rattle.lsp_streams.specs.Normal as normal;
 ghost use Rattle.lsp_streams.specs.Normal.{first_broken, EndsNormal, BeginsNormal};
-ghost use Rattle.lsp_streams.specs.NormalSteps.{Counted, CarriesCapped, GivesContents, BringsRecords, Formed, FormsRecord, EndsWhole, IsReading, FitsRecord, SoFar, StepAnswers};
-ghost use Rattle.lsp_verdict.specs.Entries.{EntryIs, IsRecord};
+ghost use Rattle.lsp_streams.specs.NormalSteps.{Counted, CarriesCapped, GivesContents, BringsRecords, Formed, FormsRecord, EndsWhole, IsReading, FitsRecord, Written, SoFar, AreFresh, StepAnswers};
+ghost use Rattle.lsp_verdict.specs.Entries.{IsAt, EntryIs, IsRecord};
 ghost use Rattle.lsp_verdict.specs.Placed.{Raw};
 ghost use Rattle.lsp_verdict.specs.RunIo.{OfRead, GaveAtMost, source_failures, sink_failures};
 ghost use Rattle.lsp_verdict.specs.Drained.{IsDrained};
 
 use crate::pieces::Pieces;
-use lsp_frame::{Decoder, Limits, Sink, Source};
-use lsp_log::{LogReader, Record, write_head, write_record};
+use lsp_frame::{Decoder, Format, Limits, Sink, Source};
+use lsp_log::{LogReader, Record, write_head_of, write_record};
 use lsp_rpc::Side;
 use lsp_verdict::{Counts, Entry, Outcome, RunFault, Verdict, Who, next_entry, who_of};
 use std::alloc::Global;
@@ -35,7 +35,7 @@ pub(crate) struct Streams {
 
 impl Streams {
     fn new(alloc: Global, limits: Limits) -> Streams
-        ensures { (start now : Told) → Wrote start now first_line → Formed limits result start now [] }
+        ensures { AreFresh limits result }
     {
         let size = limits.chunk() as usize;
         Streams {
@@ -50,15 +50,15 @@ impl Streams {
     fn write_entry<W: Sink>(
         &mut self,
         writer: &mut W,
-        entry: Entry,
+        next: Entry,
     ) -> Result<Option<Outcome>, RunFault>
-        requires { FitsRecord entry }
-        ensures more { result ≡ Ok None → IsRecord entry }
-        ensures answer { (limits : Bounds) (r : State) (source now sink : Told) (records : List log.Record) → r.limits ≡ limits
-            → Formed limits self.old sink (W.told writer.old) records → EntryIs r limits source now records (Ok entry)
+        requires { FitsRecord next }
+        ensures more { result ≡ Ok None → IsRecord next }
+        ensures answer { (limits : Bounds) (r : State) (source now sink : Told) (known : Option Format) (records : List log.Record)
+            → Written limits r self.old sink (W.told writer.old) records → EntryIs r limits source now known records (Ok next)
             → StepAnswers limits r self.new source now sink (W.told writer.new) result }
     {
-        match entry {
+        match next {
             Entry::Record(record) => self.write(writer, &record),
             Entry::End => Ok(Some(self.finish())),
             Entry::Bad { number, fault } => {
@@ -71,15 +71,15 @@ impl Streams {
     fn write<W: Sink>(
         &mut self,
         writer: &mut W,
-        record: &Record,
+        entry: &Record,
     ) -> Result<Option<Outcome>, RunFault>
-        requires { Fits profile (record_view record.now) }
+        requires { Fits profile (record_view entry.now) }
         ensures { (limits : Bounds) (start : Told) (records : List log.Record)
             → Formed limits self.old start (W.told writer.old) records
             → FormsRecord limits self.new start (W.told writer.new)
-            (records ++ record_view record.now ∷ []) result }
+            (records ++ record_view entry.now ∷ []) result }
     {
-        match record {
+        match entry {
             Record::Bytes { side, bytes } => match side {
                 Side::Editor => write_bytes(
                     writer,
@@ -99,7 +99,7 @@ impl Streams {
                 ),
             },
             Record::Snapshot { .. } => {
-                write_record(writer, record)?;
+                write_record(writer, entry)?;
                 self.counts.add(Who::Snapshot);
                 Ok(None)
             }
@@ -181,6 +181,27 @@ fn write_contents<W: Sink>(
     }
 }
 
+/// Writes the first line of the log's format and the events of its first entry, or gives the
+/// outcome. A log that begins with no first line has that of format 1 as its normal form.
+fn write_first<R: Source, W: Sink>(
+    reader: &mut R,
+    writer: &mut W,
+    log: &mut LogReader,
+    streams: &mut Streams,
+) -> Result<Option<Outcome>, RunFault>
+    requires { IsReading log.old (R.told reader.old) }
+    ensures { (limits : Bounds) (source : Told) → IsAt log.old source (R.told reader.old) [] → log.old.limits ≡ limits → AreFresh limits streams.old
+        → StepAnswers limits log.new streams.new
+        source (R.told reader.new)
+        (W.told writer.old)
+        (W.told writer.new)
+        result }
+{
+    let entry = next_entry(log, reader)?;
+    write_head_of(writer, log.format().unwrap_or(Format::One))?;
+    streams.write_entry(writer, entry)
+}
+
 /// Writes the events of the next entry, or gives the outcome.
 fn write_next<R: Source, W: Sink>(
     reader: &mut R,
@@ -203,7 +224,8 @@ fn write_next<R: Source, W: Sink>(
     streams.write_entry(writer, entry)
 }
 
-/// Writes the normal form of a log: its first line, and for each of its events the records of it.
+/// Writes the normal form of a log: the first line of its format, and for each of its events the
+/// records of it.
 ///
 /// A content is written as its canonical frame (LSP 3.17, "Base Protocol"), in records of its side
 /// that are full but for the last; a snapshot is written as it is. Contents are kept byte for byte
@@ -234,9 +256,11 @@ pub fn run_normal<R: Source, W: Sink>(
     // At most one byte past the limit is read.
     ensures limit { GaveAtMost (limits.log + 1) (R.told reader.old) (R.told reader.new) }
 {
-    write_head(writer)?;
     let mut log = LogReader::new(alloc, limits);
     let mut streams = Streams::new(alloc, limits);
+    if let Some(outcome) = write_first(reader, writer, &mut log, &mut streams)? {
+        return Ok(outcome);
+    }
     loop {
         if let Some(outcome) = write_next(reader, writer, &mut log, &mut streams)? {
             return Ok(outcome);

@@ -1,11 +1,11 @@
 //! Sessions on documents, over both stores. The texts and answers come from worked examples of the protocol.
 
-use Answer::{Done, Equal, Rule, Waits};
+use Answer::{Done, Equal, Missed, Rule, Waits};
 use Encoding::{Utf8, Utf16, Utf32};
 use Step::{Close, Open, Raise, Save, Show};
 use SyncKind::{Full, Incremental, Nothing};
 use lsp_docs::{DocFault, Docs, Match};
-use lsp_frame::Limits;
+use lsp_frame::{Format, Limits};
 use lsp_text::{Lined, Plain, TextStore};
 use lsp_types::{Change, Encoding, Position, Span, SyncKind};
 use std::alloc::Global;
@@ -19,6 +19,7 @@ enum Answer {
     Done,
     Equal,
     Waits,
+    Missed,
     Rule(u16),
     Memory,
 }
@@ -53,6 +54,7 @@ fn shown(done: Result<Match, DocFault>) -> Answer {
     match done {
         Ok(Match::Equal) => Equal,
         Ok(Match::Waits) => Waits,
+        Ok(Match::Missed) => Missed,
         Err(DocFault::Rule(rule)) => Rule(rule),
         Err(DocFault::Memory) => Answer::Memory,
     }
@@ -112,10 +114,32 @@ fn follow<S: TextStore>(
 ) -> Result<(), Fail> {
     let limits = Limits::new(4096, 67_108_864, 1_048_576, limit, 1 << 40).ok_or("limits")?;
     let mut docs: Docs<S> = Docs::new(alloc, limits);
+    take_all(rt, alloc, name, &mut docs, rows)
+}
+
+/// Takes the steps one after another, on the terms of a format.
+fn follow_in<S: TextStore>(
+    rt: &impl Abort,
+    alloc: Global,
+    name: &str,
+    format: Format,
+    rows: &[Row],
+) -> Result<(), Fail> {
+    let mut docs: Docs<S> = Docs::of_format(alloc, Limits::profile(), format);
+    take_all(rt, alloc, name, &mut docs, rows)
+}
+
+fn take_all<S: TextStore>(
+    rt: &impl Abort,
+    alloc: Global,
+    name: &str,
+    docs: &mut Docs<S>,
+    rows: &[Row],
+) -> Result<(), Fail> {
     for row in rows {
         let (step, answer, held, counts) = *row;
-        assert_eq!(rt; take(alloc, &mut docs, step)?, answer, "{name}");
-        assert!(rt; holds(&docs, held), "{name}");
+        assert_eq!(rt; take(alloc, docs, step)?, answer, "{name}");
+        assert!(rt; holds(docs, held), "{name}");
         assert_eq!(rt; (docs.waiting(), docs.unmatched()), counts, "{name}");
         assert_eq!(rt; docs.at(0).is_some(), docs.len() == 1, "{name}");
     }
@@ -181,6 +205,86 @@ fn snapshots<S: TextStore>(rt: &impl Abort, alloc: Global) -> Result<(), Fail> {
         PROFILE,
         &later_first,
     )
+}
+
+/// A snapshot of a version that was held before the present one, and what it comes to in each format.
+fn late_snapshots<S: TextStore>(rt: &impl Abort, alloc: Global) -> Result<(), Fail> {
+    let b = Some((4, "b"));
+    for (version, text, one, two) in [
+        (3, "a", Rule(701), Equal),
+        (3, "x", Rule(701), Rule(702)),
+        (2, "a", Rule(701), Rule(701)),
+        (4, "b", Equal, Equal),
+    ] {
+        for (format, answer) in [(Format::One, one), (Format::Two, two)] {
+            let rows = [
+                (Open(3, "a"), Done, Some((3, "a")), (0, 0)),
+                (whole(4, "b"), Done, b, (0, 0)),
+                (Show(version, text), answer, b, (0, 0)),
+            ];
+            follow_in::<S>(rt, alloc, "a late snapshot", format, &rows)?;
+        }
+    }
+    let b = Some((5, "b"));
+    for (format, answer, counts) in [
+        (Format::One, Rule(701), (0, 0)),
+        (Format::Two, Missed, (0, 1)),
+    ] {
+        let rows = [
+            (Open(3, "a"), Done, Some((3, "a")), (0, 0)),
+            (whole(5, "b"), Done, b, (0, 0)),
+            (Show(4, "x"), answer, b, counts),
+            (whole(6, "c"), Done, Some((6, "c")), counts),
+            (Close, Done, None, counts),
+        ];
+        follow_in::<S>(rt, alloc, "between two versions", format, &rows)?;
+    }
+    Ok(())
+}
+
+/// Each kept version has the text that it had, until its document is closed.
+fn kept_texts<S: TextStore>(rt: &impl Abort, alloc: Global) -> Result<(), Fail> {
+    let last = Some((4, "Xb\n"));
+    let rows = [
+        (Show(1, "z"), Waits, None, (1, 1)),
+        (Open(2, "ab"), Done, Some((2, "ab")), (0, 1)),
+        (part(3, [0, 0, 0, 1], ""), Done, Some((3, "b")), (0, 1)),
+        (part(4, [0, 0, 0, 2], "X"), Done, Some((4, "X")), (0, 1)),
+        (
+            part(5, [0, 1, 0, 0], "Y"),
+            Rule(606),
+            Some((4, "X")),
+            (0, 1),
+        ),
+        (Show(2, "ab"), Equal, Some((4, "X")), (0, 1)),
+        (Show(3, "b"), Equal, Some((4, "X")), (0, 1)),
+        (Show(3, "X"), Rule(702), Some((4, "X")), (0, 1)),
+        (Show(4, "X"), Equal, Some((4, "X")), (0, 1)),
+        (Close, Done, None, (0, 1)),
+        (Open(4, "Xb\n"), Done, last, (0, 1)),
+        (Show(3, "b"), Rule(701), last, (0, 1)),
+    ];
+    follow_in::<S>(rt, alloc, "texts of kept versions", Format::Two, &rows)
+}
+
+/// What an opening with the versions 1 to 18 says of the first and the second, in a format.
+fn far_behind<S: TextStore>(alloc: Global, format: Format) -> Result<(Answer, Answer), Fail> {
+    let mut docs: Docs<S> = Docs::of_format(alloc, Limits::profile(), format);
+    docs.did_open(URI, 1, "a")?;
+    for version in 2..19_i32 {
+        take(alloc, &mut docs, whole(version, "a"))?;
+    }
+    let second = take(alloc, &mut docs, Show(2, "a"))?;
+    let first = take(alloc, &mut docs, Show(1, "a"))?;
+    Ok((first, second))
+}
+
+fn sixteen_are_kept<S: TextStore>(rt: &impl Abort, alloc: Global) -> Result<(), Fail> {
+    let one = far_behind::<S>(alloc, Format::One)?;
+    assert_eq!(rt; one, (Rule(701), Rule(701)));
+    let two = far_behind::<S>(alloc, Format::Two)?;
+    assert_eq!(rt; two, (Rule(701), Equal));
+    Ok(())
 }
 
 fn edits<S: TextStore>(rt: &impl Abort, alloc: Global) -> Result<(), Fail> {
@@ -278,6 +382,9 @@ fn all_sessions<S: TextStore>(rt: &impl Abort, alloc: Global) -> Result<(), Fail
     snapshots::<S>(rt, alloc)?;
     edits::<S>(rt, alloc)?;
     rules::<S>(rt, alloc)?;
+    late_snapshots::<S>(rt, alloc)?;
+    kept_texts::<S>(rt, alloc)?;
+    sixteen_are_kept::<S>(rt, alloc)?;
     changes_in_order::<S>(rt, alloc)
 }
 

@@ -141,7 +141,43 @@ fn told(alloc: Global, read: Result<Message, RpcFault>) -> Result<String, Memory
 }
 
 /// What stands before and behind a long text, and what `read` and `read_answer` tell.
-const LONG: [(&str, &str, &str, &str); 9] = [
+const LONG: [(&str, &str, &str, &str); 15] = [
+    (
+        "{\"jsonrpc\":\"2.0\",\"id\":7,\"result\":{\"isIncomplete\":true,\"items\":[{\"label\":\"f\",\"kind\":3,\"documentation\":{\"kind\":\"markdown\",\"value\":\"",
+        "\"},\"score\":0.5,\"deprecated\":false,\"data\":null},{\"label\":\"g\\n\\u00e9\\\"\"}]}}",
+        "result 7, null",
+        "result 7, null",
+    ),
+    (
+        "{\"id\":7,\"jsonrpc\":\"2.0\",\"result\":[{\"range\":{\"start\":{\"line\":1,\"character\":2},\"end\":{\"line\":1,\"character\":3}},\"newText\":\"é漢😀\\ud83d\\ude00",
+        "\"}]}",
+        "result 7, null",
+        "result 7, null",
+    ),
+    (
+        " { \"jsonrpc\" : \"2.0\" ,\n \"id\" : 7 ,\r\n\t\"result\" : { \"contents\" : \"",
+        "\" } } ",
+        "result 7, null",
+        "result 7, null",
+    ),
+    (
+        "{\"method\":\"textDocument/publishDiagnostics\",\"params\":{\"uri\":\"file:///a\",\"diagnostics\":[{\"message\":\"",
+        "\",\"severity\":1}]},\"jsonrpc\":\"2.0\"}",
+        "notification \"textDocument/publishDiagnostics\", no params",
+        "notification \"textDocument/publishDiagnostics\", params",
+    ),
+    (
+        "{\"id\":2,\"jsonrpc\":\"2.0\",\"method\":\"textDocument/completion\",\"params\":{\"context\":{\"triggerKind\":1},\"x\":\"",
+        "\"}}",
+        "request 2 \"textDocument/completion\", no params",
+        "request 2 \"textDocument/completion\", params",
+    ),
+    (
+        "{\"params\":{\"x\":\"",
+        "\"},\"method\":\"m\",\"id\":\"r1\",\"jsonrpc\":\"2.0\"}",
+        "request \"r1\" \"m\", no params",
+        "request \"r1\" \"m\", params",
+    ),
     (
         "{\"jsonrpc\":\"2.0\",\"id\":5,\"method\":\"m\",\"params\":{\"text\":\"",
         "\"}}",

@@ -372,7 +372,7 @@ fn measures_past_whole_groups(rt: HostRuntime) -> Result<(), Fail> {
 fn measures_every_prefix(rt: HostRuntime) -> Result<(), Fail> {
     let mut text = String::new(rt.alloc());
     let mut utf16 = 0;
-    for chars in 0u64..200 {
+    for chars in 0u64..201 {
         assert_eq!(rt; measure(text.as_str()), Counts { chars, utf16 });
         let (next, units) = [('a', 1), ('é', 1), ('漢', 1), ('\u{1F600}', 2)][(chars % 4) as usize];
         text.push(next)?;

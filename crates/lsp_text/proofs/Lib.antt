@@ -11,6 +11,7 @@ pub mod StepCounts
 pub mod Denoting
 pub mod Applied
 pub mod Widths
+pub mod Blocks
 pub mod LineEdits
 pub mod Vectors
 pub mod Pieces

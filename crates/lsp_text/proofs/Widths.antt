@@ -1,9 +1,9 @@
 -- Places of a line, from its units.
 use Rattle.std.proofs.Common.{◌≡◌, ◌<◌, ◌≤◌, ◌+◌, ◌-◌, ℕ, List, [], ◌∷◌, ◌++◌, length, take, drop, min, Option, Some, None, suc, refl, sym, ap, subst, ◌∙◌, inl, inr, ⊎_elim, arith, length-append}
-use Rattle.std.proofs.lemmas.List.{take-append-drop, length-take-le, take_at, take_all, drop-drop}
+use Rattle.std.proofs.lemmas.List.{take-append-drop, length-take-le, take_at, take_all}
 use Rattle.std.proofs.lemmas.Bool.{cases_lt}
 use Rattle.std.proofs.lemmas.Bool.Decides.{nat_tests}
-use Rattle.std.proofs.lemmas.Str.{len_utf8_bounds, IsUtf8-take, IsUtf8-drop, IsCharBoundary-start, IsCharBoundary-end, IsCharBoundary-from_rest, chars-append, chars-nil}
+use Rattle.std.proofs.lemmas.Str.{len_utf8_bounds, IsUtf8-take, IsCharBoundary-end, IsCharBoundary-from_rest, chars-append}
 use Rattle.std.specs.Option.{option_map}
 use Rattle.std.specs.Str.{chars, IsUtf8, IsCharBoundary}
 use lib.Utf8.{encodes}
@@ -151,7 +151,7 @@ place_in_line-append enc (x ∷ xs) ys column left is =
     ∙ ap (option_map (λ (k : ℕ). k + 1)) (place_in_line-append enc xs ys (column - units_of_char enc x) left rest)
     ∙ option_map-more (length xs) (place_in_line enc ys left)
 
--- whole chunks are left behind, and a column is looked for in the rest
+-- whole blocks are left behind, and a column is looked for in the rest
 pub place_past_skipped : (enc : Encoding) (line rest : List ℕ) (column bytes left : ℕ) → IsUtf8 line → IsSkipped enc line column bytes left → rest ≡ drop bytes line →
     place_in_line enc (chars line) column ≡ option_map (λ (k : ℕ). length (chars (take bytes line)) + k) (place_in_line enc (chars rest) left)
 place_past_skipped enc line rest column bytes left u h is =
@@ -172,38 +172,4 @@ offset_past_skipped enc line rest column bytes left offset u h is o =
       place =
           place_past_skipped enc line rest column bytes left u h is ∙ ap (option_map (λ (k : ℕ). length (chars (take bytes line)) + k)) o.place
           ∙ ap Some (sym (length-append (chars (take bytes line)) (chars xs)) ∙ ap length (sym (chars-append (take bytes line) xs (IsUtf8-take line bytes u h.boundary)) ∙ ap chars (sym front)));
-    }
-
--- what is left after whole chunks
-pub record IsLeft (enc : Encoding) (line : List ℕ) (column bytes left : ℕ) (rest : List ℕ) : Type 0 where
-  pub skipped : IsSkipped enc line column bytes left
-  pub rest_is : rest ≡ drop bytes line
-  pub utf8 : IsUtf8 rest
-
-pub all_left : (enc : Encoding) (line : List ℕ) (column : ℕ) → IsUtf8 line → IsLeft enc line column 0 column line
-all_left enc line column u =
-    record {
-      skipped = record { boundary = IsCharBoundary-start line u; left_is = ap (λ (x : List ℕ). units enc x + column) chars-nil ∙ (let e : 0 + column ≡ column = omega arith in e) };
-      rest_is = refl;
-      utf8 = u;
-    }
-
--- one more chunk is left behind
-pub skip_more : (enc : Encoding) (line rest chunk tail : List ℕ) (column bytes left width mid : ℕ) → IsUtf8 line → IsLeft enc line column bytes left rest → IsCharBoundary rest mid →
-    chunk ≡ take mid rest → tail ≡ drop mid rest → length chunk ≡ mid → width ≡ units enc (chars chunk) → width ≤ left → IsLeft enc line column (bytes + length chunk) (left - width) tail
-skip_more enc line rest chunk tail column bytes left width mid u h b front back len wide le =
-    let is = h.rest_is in
-    let old = h.skipped.left_is in
-    let here : drop bytes line ≡ chunk ++ tail = sym is ∙ sym (ap (λ (x : List ℕ). x ++ tail) front ∙ ap (λ (x : List ℕ). take mid rest ++ x) back ∙ take-append-drop mid rest) in
-    let more : take (bytes + length chunk) line ≡ take bytes line ++ chunk = take-add_here line bytes (length chunk) chunk tail here refl in
-    let chars_more : chars (take (bytes + length chunk) line) ≡ chars (take bytes line) ++ chars chunk = ap chars more ∙ chars-append (take bytes line) chunk (IsUtf8-take line bytes u h.skipped.boundary) in
-    let at : IsCharBoundary (drop bytes line) (length chunk) = subst (λ (x : List ℕ). IsCharBoundary x (length chunk)) is (subst (λ (x : ℕ). IsCharBoundary rest x) (sym len) b) in
-    record {
-      skipped =
-          record {
-            boundary = IsCharBoundary-from_rest line bytes (length chunk) h.skipped.boundary.0 at;
-            left_is = omega (arith, ap (units enc) chars_more, units-append enc (chars (take bytes line)) (chars chunk));
-          };
-      rest_is = back ∙ ap (drop mid) is ∙ drop-drop mid bytes line ∙ ap (λ (x : ℕ). drop (bytes + x) line) (sym len);
-      utf8 = subst (λ (x : List ℕ). IsUtf8 x) (sym back) (IsUtf8-drop rest mid h.utf8 b);
     }

@@ -1,15 +1,13 @@
 //! Columns of a line, which count units of an encoding, as offsets in its bytes.
 
-ghost use Rattle.std.specs.Prelude.{◌≡◌, None, MatchOption};
+ghost use Rattle.std.specs.Prelude.{◌≡◌, ◌≢◌, ◌<◌, ◌≤◌, ◌↔◌, IsTrue, None, MatchOption};
 ghost use Rattle.std.specs.Str.{chars};
 ghost use Rattle.lsp_text.specs.Places.{units, units_of_char, place_in_line};
-ghost use Rattle.lsp_text.specs.Offsets.{IsOffset, IsSkipped};
+ghost use Rattle.lsp_text.specs.Offsets.{IsOffset, IsSkipped, IsPassed};
 
-use crate::counts::measure;
+use crate::lanes::units_in;
 use lsp_types::Encoding;
-
-/// The bytes of which the units are counted at once.
-const CHUNK: usize = 512;
+use std::simd::u8x32;
 
 // The bytes of a line that a column leaves behind it, and the column in what is left.
 #[derive(Clone, Copy)]
@@ -47,7 +45,7 @@ pub(crate) fn offset_in_line(line: &str, encoding: Encoding, column: u32) -> Opt
 {
     match encoding {
         Encoding::Utf8 => offset_of_byte(line, column),
-        Encoding::Utf16 | Encoding::Utf32 => offset_past_chunks(line, encoding, column),
+        Encoding::Utf16 | Encoding::Utf32 => offset_past_blocks(line, encoding, column),
     }
 }
 
@@ -63,45 +61,56 @@ fn offset_of_byte(line: &str, column: u32) -> Option<usize>
     }
 }
 
-// The same by whole chunks, and then by characters.
-fn offset_past_chunks(line: &str, encoding: Encoding, column: u32) -> Option<usize>
+// The same by whole blocks, and then by characters.
+fn offset_past_blocks(line: &str, encoding: Encoding, column: u32) -> Option<usize>
+    requires { encoding ≢ Encoding.Utf8 }
     ensures { MatchOption result (place_in_line encoding (chars line.now) column ≡ None) (IsOffset encoding line.now column) }
 {
-    let skipped = skip_chunks(line, encoding, column);
+    let skipped = skip_blocks(line, encoding, column);
     let (_, rest) = line.split_at(skipped.bytes);
     let offset = offset_by_chars(rest, encoding, skipped.left)?;
     Some(skipped.bytes + offset)
 }
 
-// Whole chunks before a column.
-fn skip_chunks(line: &str, encoding: Encoding, column: u32) -> Skipped
+// Whole blocks before a column, and the rest of the character in which they end.
+fn skip_blocks(line: &str, encoding: Encoding, column: u32) -> Skipped
+    requires { encoding ≢ Encoding.Utf8 }
     ensures { IsSkipped encoding line.now column result.bytes result.left }
 {
-    let mut bytes = 0;
-    let mut left = column;
-    let mut rest = line;
-    while rest.len() > CHUNK {
-        let (chunk, tail) = rest.split_at(rest.floor_char_boundary(CHUNK));
-        let width = width_of(chunk, encoding);
-        if chunk.is_empty() || width > left as u64 {
-            break;
-        }
-        bytes += chunk.len();
-        left -= width as u32;
-        rest = tail;
+    let bytes = line.as_bytes();
+    let passed = pass_blocks(bytes, encoding, column);
+    let mut at = passed.bytes;
+    while at < bytes.len() && is_continuation(bytes[at]) {
+        at += 1;
     }
-    Skipped { bytes, left }
+    Skipped {
+        bytes: at,
+        left: passed.left,
+    }
 }
 
-// The units of a text.
-fn width_of(text: &str, encoding: Encoding) -> u64
-    ensures { result ≡ units encoding (chars text.now) }
+// Whether a byte goes on with a character.
+fn is_continuation(byte: u8) -> bool
+    ensures { IsTrue result ↔ ((128 ≤ byte) × (byte < 192)) }
 {
-    match encoding {
-        Encoding::Utf8 => text.len() as u64,
-        Encoding::Utf16 => measure(text).utf16,
-        Encoding::Utf32 => measure(text).chars,
+    (0x80..0xC0).contains(&byte)
+}
+
+// Whole blocks before a column.
+fn pass_blocks(bytes: &[u8], encoding: Encoding, column: u32) -> Skipped
+    ensures { IsPassed encoding bytes.now column result.bytes result.left }
+{
+    let mut at = 0;
+    let mut left = column;
+    while at + 32 <= bytes.len() {
+        let width = units_in(u8x32::from_slice(&bytes[at..]), encoding);
+        if left < width {
+            break;
+        }
+        left -= width;
+        at += 32;
     }
+    Skipped { bytes: at, left }
 }
 
 // The units of a character.

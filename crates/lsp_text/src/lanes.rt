@@ -1,7 +1,10 @@
 //! Bytes of UTF-8 counted 32 at a time.
 
-ghost use Rattle.std.specs.Prelude.{◌≡◌, length, count_by, nat_lt};
+ghost use Rattle.std.specs.Prelude.{◌≡◌, ◌+◌, length, count_by, nat_lt};
+ghost use Rattle.std.specs.List.{sum_by};
+ghost use Rattle.lsp_text.specs.Offsets.{byte_units};
 
+use lsp_types::Encoding;
 use std::simd::u8x32;
 
 /// The least byte that goes on with a character.
@@ -48,6 +51,29 @@ pub(crate) fn count_below(bytes: &[u8]) -> BytesBelow
         leads,
         leads_of_four,
     }
+}
+
+/// The units that 32 bytes of UTF-8 bring.
+pub(crate) fn units_in(block: u8x32, encoding: Encoding) -> u32
+    requires { length block ≡ 32 }
+    ensures { result ≡ sum_by (byte_units encoding) block }
+{
+    match encoding {
+        Encoding::Utf8 => 32,
+        Encoding::Utf16 => {
+            let chars = count_in(block, CONTINUATION) + count_in_from(block, LEAD);
+            chars + count_in_from(block, LEAD_OF_FOUR)
+        }
+        Encoding::Utf32 => count_in(block, CONTINUATION) + count_in_from(block, LEAD),
+    }
+}
+
+// How many of 32 bytes lie at a bound or above it.
+fn count_in_from(block: u8x32, bound: u8) -> u32
+    requires { length block ≡ 32 }
+    ensures { result + count_by (λ x. nat_lt x bound) block ≡ 32 }
+{
+    32 - count_in(block, bound)
 }
 
 // How many of 32 bytes lie below a bound.

@@ -13,6 +13,7 @@ use Rattle.lsp_docs.specs.Calls.{Call}
 use Rattle.lsp_docs.specs.Documents.{Version, held}
 use Rattle.lsp_text.specs.Edits.{Edit}
 use Rattle.lsp_docs.specs.Rules.{change_rule, call_rule, AreAcceptedFrom, AreAccepted}
+use Rattle.lsp_docs.specs.Terms.{Terms}
 use Rattle.lsp_verdict.specs.Calls.{edit_of, call_of, call_at, calls}
 use Rattle.lsp_verdict.specs.Event.{Event, message, fault, snapshot, sent_in}
 use Rattle.lsp_verdict.specs.Kept.{NothingOffends, VersionsRise, SnapshotsAgree}
@@ -22,47 +23,47 @@ use Rattle.lsp_verdict.proofs.Below.{bound-agrees}
 use Rattle.lsp_verdict.proofs.Finding.{map_none}
 use Rattle.lsp_verdict.proofs.LookBackLemmas.{or_none_parts, each_of-snoc}
 
-pub document_rule_none : (limit : ℕ) (before : List Event) (e : Event) → offence limit before e ≡ None → document_rule limit before e ≡ None
-document_rule_none limit before (message m) none = (or_none_parts (rule_after (sent_in before) m) (document_rule limit before (message m)) none).1
-document_rule_none limit before (fault side rule) none = refl
-document_rule_none limit before (snapshot uri n t) none = none
+pub document_rule_none : (terms : Terms) (before : List Event) (e : Event) → offence terms before e ≡ None → document_rule terms before e ≡ None
+document_rule_none terms before (message m) none = (or_none_parts (rule_after (sent_in before) m) (document_rule terms before (message m)) none).1
+document_rule_none terms before (fault side rule) none = refl
+document_rule_none terms before (snapshot uri n t) none = none
 
 -- the calls that come next are accepted, whether or not the first event makes one
-with_call : (limit : ℕ) (made next : List Call) (o : Option Call) (rest : List Call) → next ≡ made ++ cons_option o [] → option_and_then (call_rule limit made) o ≡ None
-    → AreAcceptedFrom limit next rest → AreAcceptedFrom limit made (cons_option o rest)
-with_call limit made next None rest is none later = subst (λ (w : List Call). AreAcceptedFrom limit w rest) (is ∙ append-nil made) later
-with_call limit made next (Some c) rest is none later = (none, subst (λ (w : List Call). AreAcceptedFrom limit w rest) is later)
+with_call : (terms : Terms) (made next : List Call) (o : Option Call) (rest : List Call) → next ≡ made ++ cons_option o [] → option_and_then (call_rule terms made) o ≡ None
+    → AreAcceptedFrom terms next rest → AreAcceptedFrom terms made (cons_option o rest)
+with_call terms made next None rest is none later = subst (λ (w : List Call). AreAcceptedFrom terms w rest) (is ∙ append-nil made) later
+with_call terms made next (Some c) rest is none later = (none, subst (λ (w : List Call). AreAcceptedFrom terms w rest) is later)
 
-accepted_from : (limit : ℕ) (before es : List Event) → first_from (no_at limit) before es ≡ None → AreAcceptedFrom limit (calls before) (each_from call_at before es)
-accepted_from limit before [] none = tt
-accepted_from limit before (e ∷ after) none =
-    let parts = or_none_parts (no_at limit before e) (first_from (no_at limit) (before ++ e ∷ []) after) none in
-    with_call limit (calls before) (calls (before ++ e ∷ [])) (call_at before e) (each_from call_at (before ++ e ∷ []) after) (each_of-snoc call_at before e)
-    (document_rule_none limit before e (map_none (no_by before e) (offence limit before e) parts.0)) (accepted_from limit (before ++ e ∷ []) after parts.1)
+accepted_from : (terms : Terms) (before es : List Event) → first_from (no_at terms) before es ≡ None → AreAcceptedFrom terms (calls before) (each_from call_at before es)
+accepted_from terms before [] none = tt
+accepted_from terms before (e ∷ after) none =
+    let parts = or_none_parts (no_at terms before e) (first_from (no_at terms) (before ++ e ∷ []) after) none in
+    with_call terms (calls before) (calls (before ++ e ∷ [])) (call_at before e) (each_from call_at (before ++ e ∷ []) after) (each_of-snoc call_at before e)
+    (document_rule_none terms before e (map_none (no_by before e) (offence terms before e) parts.0)) (accepted_from terms (before ++ e ∷ []) after parts.1)
 
-pub calls_accepted : (limit : ℕ) (es : List Event) → first_no limit es ≡ None → AreAccepted limit (calls es)
-calls_accepted limit es none = accepted_from limit [] es none
+pub calls_accepted : (terms : Terms) (es : List Event) → first_no terms es ≡ None → AreAccepted terms (calls es)
+calls_accepted terms es none = accepted_from terms [] es none
 
 no_rule : (rule : ℕ) → Some rule ≡ None → ⊥
 no_rule rule e = absurd cc
 
-rises : (limit : ℕ) (waits : List Version) (enc : Encoding) (kind : SyncKind) (number : ℤ) (cs : List Edit) (h : Option Version) → change_rule limit waits enc kind number cs h ≡ None → (v : Version) × (h ≡ Some v) × (int_lt v.number number ≡ true)
-rises limit waits enc kind number cs None e = absurd (no_rule 602 e)
-rises limit waits enc kind number cs (Some v) e = (v, refl, by_test (int_lt v.number number) _ e)
+rises : (terms : Terms) (waits : List Version) (enc : Encoding) (kind : SyncKind) (number : ℤ) (cs : List Edit) (h : Option Version) → change_rule terms waits enc kind number cs h ≡ None → (v : Version) × (h ≡ Some v) × (int_lt v.number number ≡ true)
+rises terms waits enc kind number cs None e = absurd (no_rule 602 e)
+rises terms waits enc kind number cs (Some v) e = (v, refl, by_test (int_lt v.number number) _ e)
   where
     by_test : (b : Bool) (rest : Option ℕ) → (if not b then Some 603 else rest) ≡ None → b ≡ true
     by_test true rest e = refl
     by_test false rest e = absurd (no_rule 603 e)
 
-pub versions_rise : (limit : ℕ) (es : List Event) → NothingOffends limit es → VersionsRise limit es
-versions_rise limit es clean before after m uri number cs cut means =
-    let none = document_rule_none limit before (message m) (clean before after (message m) cut) in
+pub versions_rise : (terms : Terms) (es : List Event) → NothingOffends terms es → VersionsRise terms es
+versions_rise terms es clean before after m uri number cs cut means =
+    let none = document_rule_none terms before (message m) (clean before after (message m) cut) in
     let enc = unwrap_or (encoding (sent_in before)) Utf16 in
     let kind = unwrap_or (sync_kind (sent_in before)) Nothing in
     let made : call_of enc kind m.act ≡ call_of enc kind (did_change uri number cs) = ap (call_of enc kind) means in
-    rises limit _ _ _ number (map edit_of cs) (held limit uri (calls before)) (ap (option_and_then (call_rule limit (calls before))) (sym made) ∙ none)
+    rises terms _ _ _ number (map edit_of cs) (held terms uri (calls before)) (ap (option_and_then (call_rule terms (calls before))) (sym made) ∙ none)
 
 -- after every prefix each held text is that of each snapshot of its opening and version
-pub snapshots_agree : (limit : ℕ) (made : List Call) → AreAccepted limit made → SnapshotsAgree limit made
-snapshots_agree limit made accepted before after front back uri number text v whole cut is same binds =
-    bound-agrees limit before after front back uri number text v (subst (AreAccepted limit) whole accepted) (sym whole ∙ cut) binds is same
+pub snapshots_agree : (terms : Terms) (made : List Call) → AreAccepted terms made → SnapshotsAgree terms made
+snapshots_agree terms made accepted before after front back uri number text v whole cut is same binds =
+    bound-agrees terms before after front back uri number text v (subst (AreAccepted terms) whole accepted) (sym whole ∙ cut) binds is same

@@ -2,6 +2,7 @@
 use Rattle.std.proofs.Common.{◌≡◌, ◌⊎◌, ◌<◌, ◌+◌, ◌^◌, ℕ, Bool, true, false, not, true≢false, List, [], ◌∷◌, length, Option, Some, None, inl, inr, refl, sym, ap, subst, ◌∙◌, arith}
 use Rattle.std.specs.Prelude.{option_map, unwrap_or}
 use Rattle.lsp_frame.specs.Bounds.{Bounds, IsInRange}
+use Rattle.lsp_frame.specs.declared.format.Format.{Format}
 use Rattle.lsp_types.specs.declared.side.Side.TheVariants.{Editor, Server}
 use Rattle.lsp_session.specs.Entry.{Entry}
 use Rattle.lsp_session.specs.Handshake.{was_sent}
@@ -10,6 +11,7 @@ use Rattle.lsp_session.specs.Negotiation.{first_row}
 use Rattle.lsp_session.specs.Requests.{open_requests}
 use Rattle.lsp_session.specs.Sent.{is_exit}
 use Rattle.lsp_log.specs.declared.fault.LogCode.{LogCode}
+use Rattle.lsp_docs.specs.Terms.{terms_of}
 use Rattle.lsp_log.specs.Log.{Record, IsLog}
 use Rattle.lsp_verdict.specs.BroughtToEnd.{IsBroughtToEnd, NamesLack, AreComplete, AreCutShort}
 use Rattle.lsp_verdict.specs.Complete.{lack_of, completed, IsCompleteFinal, IsCompleteVerdict}
@@ -126,49 +128,49 @@ completed_bad events (bad_log n c) number code e = e
 
 -- ---- records
 
-pub some_complete_final : (limits : Bounds) (records : List Record) (fault : Option (ℕ × LogCode)) → (v : Verdict) × IsCompleteFinal limits records fault v
-some_complete_final limits records fault =
-    let final = some_final limits records fault in
+pub some_complete_final : (limits : Bounds) (format : Format) (records : List Record) (fault : Option (ℕ × LogCode)) → (v : Verdict) × IsCompleteFinal limits format records fault v
+some_complete_final limits format records fault =
+    let final = some_final limits format records fault in
     (completed final.1.events final.0, record { plain = final.0; final = final.1; says = refl })
 
-pub are_complete : (limits : Bounds) → IsInRange limits → (records : List Record) (fault : Option (ℕ × LogCode)) (s : Summary) → IsCompleteFinal limits records fault (yes s) → AreComplete limits records
-are_complete limits sizes records fault s p =
+pub are_complete : (limits : Bounds) → IsInRange limits → (format : Format) (records : List Record) (fault : Option (ℕ × LogCode)) (s : Summary) → IsCompleteFinal limits format records fault (yes s) → AreComplete limits format records
+are_complete limits sizes format records fault s p =
     let parts = completed_yes p.final.events p.plain s p.says in
-    let kept = are_kept limits sizes records fault s (subst (IsFinal limits records fault) parts.0 p.final) in
+    let kept = are_kept limits sizes format records fault s (subst (IsFinal limits format records fault) parts.0 p.final) in
     record { kept = kept.0; ended = subst IsBroughtToEnd (same_session limits records records p.final.events kept.0.events refl p.final.session kept.0.session) (none_ended p.final.events parts.1) }
 
-pub complete_yes : (limits : Bounds) (records : List Record) (events : List Event) → IsSession limits records events → NothingOffends limits.document events
-    → AreFrames limits (joined Editor records) → AreFrames limits (joined Server records) → IsBroughtToEnd events → IsCompleteFinal limits records None (yes (summary limits.document events))
-complete_yes limits records events session clean editor server ended =
-    let final = final_yes limits records events session clean editor server in
+pub complete_yes : (limits : Bounds) (format : Format) (records : List Record) (events : List Event) → IsSession limits records events → NothingOffends (terms_of limits format) events
+    → AreFrames limits (joined Editor records) → AreFrames limits (joined Server records) → IsBroughtToEnd events → IsCompleteFinal limits format records None (yes (summary (terms_of limits format) events))
+complete_yes limits format records events session clean editor server ended =
+    let final = final_yes limits format records events session clean editor server in
     let same = same_session limits records records events final.events refl session final.session in
-    record { plain = yes (summary limits.document events); final = final; says = completed_none final.events (yes (summary limits.document events)) (ended_none final.events (subst IsBroughtToEnd same ended)) }
+    record { plain = yes (summary (terms_of limits format) events); final = final; says = completed_none final.events (yes (summary (terms_of limits format) events)) (ended_none final.events (subst IsBroughtToEnd same ended)) }
 
-pub complete_no : (limits : Bounds) → IsInRange limits → (records : List Record) (fault : Option (ℕ × LogCode)) (rule : ℕ) (by : Who) (number event : ℕ) → (p : IsCompleteFinal limits records fault (no rule by number event))
-    → (Names limits.document p.final.events (no rule by number event) ⊎ HasRest107 limits records fault p.final.events (no rule by number event)) ⊎ AreCutShort limits records (no rule by number event)
-complete_no limits sizes records fault rule by number event p = by_plain (completed_no p.final.events p.plain rule by number event p.says)
+pub complete_no : (limits : Bounds) → IsInRange limits → (format : Format) (records : List Record) (fault : Option (ℕ × LogCode)) (rule : ℕ) (by : Who) (number event : ℕ) → (p : IsCompleteFinal limits format records fault (no rule by number event))
+    → (Names (terms_of limits format) p.final.events (no rule by number event) ⊎ HasRest107 limits format records fault p.final.events (no rule by number event)) ⊎ AreCutShort limits format records (no rule by number event)
+complete_no limits sizes format records fault rule by number event p = by_plain (completed_no p.final.events p.plain rule by number event p.says)
   where
     by_plain : (p.plain ≡ no rule by number event) ⊎ ((s : Summary) × (p.plain ≡ yes s) × (lack_of p.final.events ≡ Some (no rule by number event)))
-        → (Names limits.document p.final.events (no rule by number event) ⊎ HasRest107 limits records fault p.final.events (no rule by number event)) ⊎ AreCutShort limits records (no rule by number event)
+        → (Names (terms_of limits format) p.final.events (no rule by number event) ⊎ HasRest107 limits format records fault p.final.events (no rule by number event)) ⊎ AreCutShort limits format records (no rule by number event)
     by_plain (inl same) =
-        let final : IsFinal limits records fault (no rule by number event) = subst (IsFinal limits records fault) same p.final in
+        let final : IsFinal limits format records fault (no rule by number event) = subst (IsFinal limits format records fault) same p.final in
         let events = same_session limits records records final.events p.final.events refl final.session p.final.session in
-        inl (elim (final_no limits records fault rule by number event final) [
-          | inl names ↦ inl (subst (λ es. Names limits.document es (no rule by number event)) events names)
-          | inr rest ↦ inr (subst (λ es. HasRest107 limits records fault es (no rule by number event)) events rest)
+        inl (elim (final_no limits format records fault rule by number event final) [
+          | inl names ↦ inl (subst (λ es. Names (terms_of limits format) es (no rule by number event)) events names)
+          | inr rest ↦ inr (subst (λ es. HasRest107 limits format records fault es (no rule by number event)) events rest)
         ])
     by_plain (inr (s, same, lack)) =
-        let kept = are_kept limits sizes records fault s (subst (IsFinal limits records fault) same p.final) in
+        let kept = are_kept limits sizes format records fault s (subst (IsFinal limits format records fault) same p.final) in
         let events = same_session limits records records p.final.events kept.0.events refl p.final.session kept.0.session in
         inr (record { kept = kept.0; names = subst (λ es. NamesLack es (no rule by number event)) events (some_named p.final.events (no rule by number event) lack) })
 
 -- ---- logs
 
 -- a log's events are those of its verdict
-log_events : (limits : Bounds) → IsInRange limits → (log : List ℕ) (v : Verdict) (records : List Record) (fault : Option (ℕ × LogCode)) (events : List Event) → (whole : IsVerdict limits log v) → IsLog limits log records fault → IsSession limits records events → whole.final.events ≡ events
-log_events limits sizes log v records fault events whole is_log session =
-    let same = one_log limits sizes log whole.records records whole.fault fault whole.is_log is_log in
-    same_session limits whole.records records whole.final.events events (ap merged same.0) whole.final.session session
+log_events : (limits : Bounds) → IsInRange limits → (log : List ℕ) (v : Verdict) (format : Option Format) (records : List Record) (fault : Option (ℕ × LogCode)) (events : List Event) → (whole : IsVerdict limits log v) → IsLog limits log format records fault → IsSession limits records events → whole.final.events ≡ events
+log_events limits sizes log v format records fault events whole is_log session =
+    let same = one_log limits sizes log whole.format format whole.records records whole.fault fault whole.is_log is_log in
+    same_session limits whole.records records whole.final.events events (ap merged same.1) whole.final.session session
 
 pub some_complete_verdict : SomeCompleteVerdict
 some_complete_verdict limits log =
@@ -188,7 +190,7 @@ plain_yes limits log s p = subst (IsVerdict limits log) (completed_yes p.whole.f
 pub complete_means_ended : CompleteMeansEnded
 complete_means_ended limits sizes log s p =
     let kept = yes_means_kept limits sizes log s (plain_yes limits log s p) in
-    let events = log_events limits sizes log p.plain kept.records None kept.kept.events p.whole kept.is_log kept.kept.session in
+    let events = log_events limits sizes log p.plain kept.format kept.records None kept.kept.events p.whole kept.is_log kept.kept.session in
     record { kept = kept; ended = subst IsBroughtToEnd events (none_ended p.whole.final.events (completed_yes p.whole.final.events p.plain s p.says).1) }
 
 pub ended_means_complete : EndedMeansComplete
@@ -199,7 +201,7 @@ lack_is_named limits sizes log rule by number event p = elim (completed_no p.who
   | inl same ↦ inl (no_names limits log rule by number event (subst (IsVerdict limits log) same p.whole))
   | inr (s, same, lack) ↦
       (let kept = yes_means_kept limits sizes log s (subst (IsVerdict limits log) same p.whole) in
-      let events = log_events limits sizes log p.plain kept.records None kept.kept.events p.whole kept.is_log kept.kept.session in
+      let events = log_events limits sizes log p.plain kept.format kept.records None kept.kept.events p.whole kept.is_log kept.kept.session in
       inr (record { kept = kept; names = subst (λ es. NamesLack es (no rule by number event)) events (some_named p.whole.final.events (no rule by number event) lack) }))
 ]
 
@@ -220,6 +222,6 @@ completed_exact events (bad_log number code) small is = is
 -- a verdict on a log is given as it is
 pub complete_exact : (limits : Bounds) → IsInRange limits → (log : List ℕ) (v : Verdict) → IsCompleteVerdict limits log v → as_given v ≡ v
 complete_exact limits sizes log v p =
-    let within = events_within limits log p.whole.records p.whole.fault p.whole.final.events p.whole.is_log p.whole.final.session in
+    let within = events_within limits log p.whole.format p.whole.records p.whole.fault p.whole.final.events p.whole.is_log p.whole.final.session in
     subst (λ w. as_given w ≡ w) p.says
     (completed_exact p.whole.final.events p.plain (omega (arith, sizes.log_high, within)) (exact limits sizes log p.plain p.whole))

@@ -7,10 +7,12 @@ use Rattle.std.proofs.lemmas.List.Sums.{length-filter, count_by-le-length}
 use Rattle.lsp_frame.specs.Bounds.{Bounds}
 use Rattle.lsp_frame.specs.Frame.{Frames, IsStream}
 use Rattle.lsp_frame.specs.Header.{blank_line}
+use Rattle.lsp_frame.specs.declared.format.Format.{Format}
 use Rattle.lsp_types.specs.declared.side.Side.{Side}
 use Rattle.lsp_types.specs.declared.side.Side.TheVariants.{Editor, Server}
 use Rattle.lsp_docs.specs.Calls.{Call, opens, changes, closes, saves, shows}
 use Rattle.lsp_docs.specs.Snapshots.{unmatched_entry, unmatched_in, is_compared}
+use Rattle.lsp_docs.specs.Terms.{Terms}
 use Rattle.lsp_log.specs.Log.{Record, chunk, shown, spelling, with_feed, head_line, head_of, parts_of, first_line, BeginsLog}
 use Rattle.lsp_verdict.specs.Event.{Event}
 use Rattle.lsp_verdict.specs.LookBack.{each_from}
@@ -123,8 +125,8 @@ read_one (raw ∷ raws) [] p = absurd p
 read_one (raw ∷ raws) (e ∷ es) p = omega (arith, read_one raws es p.1)
 
 -- a log has no more events than bytes
-pub raws_few : (limits : Bounds) (log : List ℕ) (records : List Record) (rest : List ℕ) (raws : List Raw) → BeginsLog limits log records rest → Placed limits records raws → length raws ≤ limits.log
-raws_few limits log records rest raws begins placed =
+pub raws_few : (limits : Bounds) (format : Format) (log : List ℕ) (records : List Record) (rest : List ℕ) (raws : List Raw) → BeginsLog limits format log records rest → Placed limits records raws → length raws ≤ limits.log
+raws_few limits format log records rest raws begins placed =
     let none = some_stream limits [] in
     omega (
       arith,
@@ -132,8 +134,8 @@ raws_few limits log records rest raws begins placed =
       weight_few records,
       ap length begins.whole,
       length-take limits.log log,
-      length-append (first_line ++ flat_map spelling records) rest,
-      length-append first_line (flat_map spelling records),
+      length-append (first_line format ++ flat_map spelling records) rest,
+      length-append (first_line format) (flat_map spelling records),
     )
 
 -- ---- counts
@@ -153,16 +155,16 @@ one_entry : (b : Bool) → (if b then 0 else 1) ≤ 1
 one_entry true = omega arith
 one_entry false = omega arith
 
-entry_few : (limit : ℕ) (before : List Call) (c : Call) (after : List Call) → unmatched_entry limit before c after ≤ 1
-entry_few limit before (shows uri number t) after = one_entry (is_compared limit before uri number after)
-entry_few limit before (opens u n t) after = omega arith
-entry_few limit before (changes enc kind u n cs) after = omega arith
-entry_few limit before (closes u) after = omega arith
-entry_few limit before (saves u t) after = omega arith
+entry_few : (terms : Terms) (before : List Call) (c : Call) (after : List Call) → unmatched_entry terms before c after ≤ 1
+entry_few terms before (shows uri number t) after = one_entry (is_compared terms before uri number after)
+entry_few terms before (opens u n t) after = omega arith
+entry_few terms before (changes enc kind u n cs) after = omega arith
+entry_few terms before (closes u) after = omega arith
+entry_few terms before (saves u t) after = omega arith
 
-pub unmatched_few : (limit : ℕ) (before made : List Call) → unmatched_in limit before made ≤ length made
-unmatched_few limit before [] = omega arith
-unmatched_few limit before (c ∷ made) = omega (arith, entry_few limit before c made, unmatched_few limit (before ++ c ∷ []) made)
+pub unmatched_few : (terms : Terms) (before made : List Call) → unmatched_in terms before made ≤ length made
+unmatched_few terms before [] = omega arith
+unmatched_few terms before (c ∷ made) = omega (arith, entry_few terms before c made, unmatched_few terms (before ++ c ∷ []) made)
 
-pub unmatched_events : (limit : ℕ) (f : List Event → Event → Option Call) (events : List Event) → unmatched_in limit [] (each_from f [] events) ≤ length events
-unmatched_events limit f events = omega (arith, unmatched_few limit [] (each_from f [] events), calls_few f [] events)
+pub unmatched_events : (terms : Terms) (f : List Event → Event → Option Call) (events : List Event) → unmatched_in terms [] (each_from f [] events) ≤ length events
+unmatched_events terms f events = omega (arith, unmatched_few terms [] (each_from f [] events), calls_few f [] events)

@@ -24,5 +24,6 @@ pub mod OneRecord
 pub mod RunReading
 pub mod JoinedStreams
 pub mod Entries
+pub mod Upgrading
 pub mod OpenAtEnd
 pub mod Completing

@@ -49,8 +49,8 @@ distinct_at (g ∷ hs) (suc i) h d e =
     ap (λ b. if b then Some g.version else held_in h.uri hs) (none_here h.uri g hs h.version rest d.0) ∙ rest
 
 -- the document at a place is what is held of its URI
-pub held_at : (s : State) (calls : List Call) (i : ℕ) (h : Held) → Stands s calls → slice_get (documents s.limit calls) i ≡ Some h → held s.limit h.uri calls ≡ Some h.version
-held_at s calls i h stands e = held-documents s.limit h.uri calls ∙ distinct_at (documents s.limit calls) i h (documents-distinct s.limit calls stands.accepted) e
+pub held_at : (s : State) (calls : List Call) (i : ℕ) (h : Held) → Stands s calls → slice_get (documents s.terms calls) i ≡ Some h → held s.terms h.uri calls ≡ Some h.version
+held_at s calls i h stands e = held-documents s.terms h.uri calls ∙ distinct_at (documents s.terms calls) i h (documents-distinct s.terms calls stands.accepted) e
 
 -- one item more was pushed
 pub pushed_one : {A B C : Type 0} (view : A → B) (f : C → B) (first items new : List A) (xs : List C) (i : ℕ) (a : A) (x : C) → new ≡ items ++ a ∷ [] → map view items ≡ map view first ++ map f (take i xs) → slice_get xs i ≡ Some x → view a ≡ f x
@@ -67,12 +67,12 @@ get_map f (y ∷ xs) zero x e = ap (λ w. Some (f w)) (same_Some _ _ e)
 get_map f (y ∷ xs) (suc i) x e = get_map f xs i x e
 
 -- one open document more was listed
-pub listed_one : (s : State) (calls : List Call) (i : ℕ) (items new : List OpenDocument) (d : OpenDocument) (uri : List ℕ) → Stands s calls → i < length (documents s.limit calls) → Some uri ≡ slice_get (map (λ (h : Held). h.uri) (documents s.limit calls)) i
-    → ((version : Version) → held s.limit uri calls ≡ Some version → document_view d ≡ document_of (record { uri = uri; version = version }))
-    → new ≡ items ++ d ∷ [] → map document_view items ≡ map document_of (take i (documents s.limit calls)) → map document_view new ≡ map document_of (take (i + 1) (documents s.limit calls))
+pub listed_one : (s : State) (calls : List Call) (i : ℕ) (items new : List OpenDocument) (d : OpenDocument) (uri : List ℕ) → Stands s calls → i < length (documents s.terms calls) → Some uri ≡ slice_get (map (λ (h : Held). h.uri) (documents s.terms calls)) i
+    → ((version : Version) → held s.terms uri calls ≡ Some version → document_view d ≡ document_of (record { uri = uri; version = version }))
+    → new ≡ items ++ d ∷ [] → map document_view items ≡ map document_of (take i (documents s.terms calls)) → map document_view new ≡ map document_of (take (i + 1) (documents s.terms calls))
 listed_one s calls i items new d uri stands less at made pushed so_far =
-    let h = get_some (documents s.limit calls) i less in
-    let same : uri ≡ h.0.uri = same_Some _ _ (at ∙ get_map (λ (x : Held). x.uri) (documents s.limit calls) i h.0 h.1) in
-    let is : held s.limit uri calls ≡ Some h.0.version = ap (λ u. held s.limit u calls) same ∙ held_at s calls i h.0 stands h.1 in
-    pushed_one document_view document_of [] items new (documents s.limit calls) i d h.0 pushed so_far h.1
+    let h = get_some (documents s.terms calls) i less in
+    let same : uri ≡ h.0.uri = same_Some _ _ (at ∙ get_map (λ (x : Held). x.uri) (documents s.terms calls) i h.0 h.1) in
+    let is : held s.terms uri calls ≡ Some h.0.version = ap (λ u. held s.terms u calls) same ∙ held_at s calls i h.0 stands h.1 in
+    pushed_one document_view document_of [] items new (documents s.terms calls) i d h.0 pushed so_far h.1
     (made h.0.version is ∙ ap (λ u. document_of (record { uri = u; version = h.0.version })) same)

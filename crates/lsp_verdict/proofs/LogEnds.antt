@@ -7,7 +7,9 @@ use Rattle.std.proofs.lemmas.Grind.{flat_map-append}
 use Rattle.std.proofs.lemmas.List.{take_all}
 use Rattle.lsp_frame.specs.Bounds.{Bounds, IsInRange}
 use Rattle.lsp_frame.specs.Told.{Told}
-use Rattle.lsp_log.specs.Log.{Record, chunk, shown, Flaw, bad_line, bad_number, cut_short, bad_end, not_utf8, code_of, with_feed, head_line, head_of, parts_of, spelling, first_line, BeginsLog, EndsWith, IsLog}
+use Rattle.lsp_frame.specs.declared.format.Format.{Format}
+use Rattle.lsp_frame.specs.declared.format.Format.TheVariants.{One, Two}
+use Rattle.lsp_log.specs.Log.{Record, chunk, shown, Flaw, bad_line, bad_number, cut_short, bad_end, not_utf8, code_of, with_feed, head_line, head_of, parts_of, spelling, first_line, EndsWith, BeginsLog, IsLog}
 use Rattle.lsp_verdict.specs.Outcome.{IsVerdict}
 use Rattle.lsp_verdict.specs.RunIo.{OfRead}
 use Rattle.lsp_verdict.specs.Verdict.{Summary, yes}
@@ -25,20 +27,20 @@ no_code (Some bad_end) cut e = absurd cc
 no_code (Some not_utf8) cut e = absurd cc
 
 -- a log without a fault is its first line and its records, and within the limit
-record IsWhole (limits : Bounds) (log : List ℕ) (records : List Record) : Type 0 where
-  begins : BeginsLog limits log records []
-  bytes : log ≡ first_line ++ flat_map spelling records
+record IsWhole (limits : Bounds) (log : List ℕ) (format : Format) (records : List Record) : Type 0 where
+  begins : BeginsLog limits format log records []
+  bytes : log ≡ first_line format ++ flat_map spelling records
   within : length log ≤ limits.log
 
-whole : (limits : Bounds) (log : List ℕ) (records : List Record) → IsLog limits log records None → IsWhole limits log records
-whole limits log records (inl (None, has, is)) =
+whole : (limits : Bounds) (log : List ℕ) (format : Option Format) (records : List Record) → IsLog limits log format records None → (f : Format) × (format ≡ Some f) × IsWhole limits log f records
+whole limits log (Some format) records (None, has, is) =
     let no = no_code has.flaw (nat_lt limits.log (length log)) has.code in
     let within : length log ≤ limits.log = ltb-false limits.log (length log) no.1 in
     let ends : has.rest ≡ [] = subst (λ (f : Option Flaw). EndsWith limits has.rest f) no.0 has.ends in
-    let begins : BeginsLog limits log records [] = subst (λ (w : List ℕ). BeginsLog limits log records w) ends has.begins in
-    record { begins = begins; bytes = sym (take_all limits.log log within) ∙ begins.whole ∙ append-nil (first_line ++ flat_map spelling records); within = within }
-whole limits log records (inl (Some code, has, is)) = absurd cc
-whole limits log records (inr (none, flawed, missing)) = absurd cc
+    let begins : BeginsLog limits format log records [] = subst (λ (w : List ℕ). BeginsLog limits format log records w) ends has.begins in
+    (format, refl, record { begins = begins; bytes = sym (take_all limits.log log within) ∙ begins.whole ∙ append-nil (first_line format ++ flat_map spelling records); within = within })
+whole limits log (Some format) records (Some code, has, is) = absurd cc
+whole limits log None records (none, flawed, missing) = absurd cc
 
 with_feed_some : (part : List ℕ) → 1 ≤ length (with_feed part)
 with_feed_some part = omega (arith, length-append part (10 ∷ []))
@@ -55,23 +57,29 @@ not_one : (records : List Record) → length (flat_map spelling records) ≡ 1 �
 not_one [] e = absurd (omega (arith, e))
 not_one (r ∷ records) e = absurd (omega (arith, e, spelling_two r, length-append (spelling r) (flat_map spelling records)))
 
+pub head_long : (format : Format) → length (first_line format) ≡ 14
+head_long One = refl
+head_long Two = refl
+
 -- one byte behind a log without a fault makes a fault
-one_more : (limits : Bounds) → IsInRange limits → (log : List ℕ) (records others : List Record) → IsLog limits log records None → IsLog limits (log ++ 0 ∷ []) others None → ⊥
-one_more limits sizes log records others p q =
-    let a = whole limits log records p in
-    let b = whole limits (log ++ 0 ∷ []) others q in
-    let begins : BeginsLog limits (log ++ 0 ∷ []) records (0 ∷ []) = record { whole = take_all limits.log (log ++ 0 ∷ []) b.within ∙ ap (λ (w : List ℕ). w ++ 0 ∷ []) a.bytes; fits = a.begins.fits } in
-    let cut = records_come_first limits sizes (log ++ 0 ∷ []) (0 ∷ []) records others None begins q in
-    let spelled : flat_map spelling others ≡ flat_map spelling records ++ flat_map spelling cut.0 = ap (flat_map spelling) cut.1 ∙ flat_map-append spelling records cut.0 in
-    not_one cut.0 (omega (
+one_more : (limits : Bounds) → IsInRange limits → (log : List ℕ) (format other : Option Format) (records others : List Record) → IsLog limits log format records None → IsLog limits (log ++ 0 ∷ []) other others None → ⊥
+one_more limits sizes log format other records others p q =
+    let (f, is_f, a) = whole limits log format records p in
+    let (g, is_g, b) = whole limits (log ++ 0 ∷ []) other others q in
+    let begins : BeginsLog limits f (log ++ 0 ∷ []) records (0 ∷ []) = record { whole = take_all limits.log (log ++ 0 ∷ []) b.within ∙ ap (λ (w : List ℕ). w ++ 0 ∷ []) a.bytes; fits = a.begins.fits } in
+    let cut = records_come_first limits sizes (log ++ 0 ∷ []) (0 ∷ []) f other records others None begins q in
+    let spelled : flat_map spelling others ≡ flat_map spelling records ++ flat_map spelling cut.1 = ap (flat_map spelling) cut.2 ∙ flat_map-append spelling records cut.1 in
+    not_one cut.1 (omega (
       arith,
       ap length a.bytes,
       ap length b.bytes,
       ap length spelled,
       length-append log (0 ∷ []),
-      length-append first_line (flat_map spelling records),
-      length-append first_line (flat_map spelling others),
-      length-append (flat_map spelling records) (flat_map spelling cut.0),
+      head_long f,
+      head_long g,
+      length-append (first_line f) (flat_map spelling records),
+      length-append (first_line g) (flat_map spelling others),
+      length-append (flat_map spelling records) (flat_map spelling cut.1),
     ))
 
 -- **Yes is answered only at the end of what the reader gives.**
@@ -83,4 +91,4 @@ yes_at_end limits sizes before after s r = by_ended r.ended refl
     by_ended false e =
         let here = yes_means_kept limits sizes r.bytes s (r.holds r.bytes ([], sym (append-nil r.bytes), λ met. refl)) in
         let more = yes_means_kept limits sizes (r.bytes ++ 0 ∷ []) s (r.holds (r.bytes ++ 0 ∷ []) (0 ∷ [], refl, λ met. absurd cc)) in
-        absurd (one_more limits sizes r.bytes here.records more.records here.is_log more.is_log)
+        absurd (one_more limits sizes r.bytes here.format more.format here.records more.records here.is_log more.is_log)

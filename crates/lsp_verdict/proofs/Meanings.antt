@@ -2,7 +2,9 @@
 use Rattle.std.proofs.Common.{◌≡◌, ◌⊎◌, ◌<◌, ℕ, Bool, true, false, List, [], ◌∷◌, length, Option, Some, None, inl, inr, refl, sym, ap, subst, ◌∙◌, arith}
 use Rattle.lsp_frame.specs.Bounds.{Bounds, IsInRange}
 use Rattle.lsp_frame.specs.Frame.{Breaks, IsStream}
+use Rattle.lsp_frame.specs.declared.format.Format.{Format}
 use Rattle.lsp_types.specs.declared.side.Side.TheVariants.{Editor, Server}
+use Rattle.lsp_docs.specs.Terms.{Terms, terms_of}
 use Rattle.lsp_log.specs.declared.fault.LogCode.{LogCode}
 use Rattle.lsp_log.specs.Log.{Record, IsLog}
 use Rattle.lsp_verdict.specs.Calls.{calls}
@@ -10,7 +12,7 @@ use Rattle.lsp_verdict.specs.Event.{Event, sent_in}
 use Rattle.lsp_verdict.specs.Headline.{YesMeansKept, KeptMeansYes, Names, HasRest107, NoNamesTheFirst, HasFault, BadLogMeansFault}
 use Rattle.lsp_verdict.specs.Given.{as_given}
 use Rattle.lsp_verdict.specs.Kept.{NothingOffends, KeepsRules, AreFrames, AreKept}
-use Rattle.lsp_verdict.specs.Outcome.{HasRest, is_rest, ending, IsFinal}
+use Rattle.lsp_verdict.specs.Outcome.{HasRest, is_rest, ending, IsFinal, format_or_one, log_terms}
 use Rattle.lsp_verdict.specs.Placed.{IsSession, joined}
 use Rattle.lsp_verdict.specs.declared.verdict.Who.{Who}
 use Rattle.lsp_verdict.specs.declared.verdict.Who.TheVariants as who
@@ -33,15 +35,15 @@ nothing_left (b ∷ bs) e = let same : true ≡ false = e in absurd cc
 
 -- ---- the events
 
-pub keeps_rules : (limit : ℕ) (es : List Event) → first_no limit es ≡ None → KeepsRules limit es
-keeps_rules limit es none =
-    let clean = nothing_offends limit es none in
+pub keeps_rules : (terms : Terms) (es : List Event) → first_no terms es ≡ None → KeepsRules terms es
+keeps_rules terms es none =
+    let clean = nothing_offends terms es none in
     record {
       nothing_offends = clean;
-      lifecycle = keeps_lifecycle limit es clean;
-      responses = answers_match (sent_in es) (admitted limit [] es none);
-      versions = versions_rise limit es clean;
-      snapshots = snapshots_agree limit (calls es) (calls_accepted limit es none);
+      lifecycle = keeps_lifecycle terms es clean;
+      responses = answers_match (sent_in es) (admitted terms [] es none);
+      versions = versions_rise terms es clean;
+      snapshots = snapshots_agree terms (calls es) (calls_accepted terms es none);
     }
 
 no_rests : (es : List Event) (editor server : Bool) → rest_of es editor server ≡ None → (editor ≡ false) × (server ≡ false)
@@ -54,41 +56,41 @@ no_log_fault None e = refl
 no_log_fault (Some f) e = let same : Some (bad_log f.0 f.1) ≡ None = e in absurd cc
 
 -- what Yes says of records
-pub are_kept : (limits : Bounds) → IsInRange limits → (records : List Record) (flaw : Option (ℕ × LogCode)) (s : Summary) → IsFinal limits records flaw (yes s) → AreKept limits records × (flaw ≡ None)
-are_kept limits sizes records flaw s final =
-    let is = is_yes limits.document final.events (ending flaw final.editor final.server) s final.says in
+pub are_kept : (limits : Bounds) → IsInRange limits → (format : Format) (records : List Record) (flaw : Option (ℕ × LogCode)) (s : Summary) → IsFinal limits format records flaw (yes s) → AreKept limits format records × (flaw ≡ None)
+are_kept limits sizes format records flaw s final =
+    let is = is_yes (terms_of limits format) final.events (ending flaw final.editor final.server) s final.says in
     let rests = no_rests final.events (is_rest final.editor) (is_rest final.server) is.no_rest in (
       record {
         events = final.events;
         session = final.session;
         editor = frames_of limits sizes (joined Editor records) final.editor (nothing_left final.editor rests.0) final.editor_rest;
         server = frames_of limits sizes (joined Server records) final.server (nothing_left final.server rests.1) final.server_rest;
-        keeps = keeps_rules limits.document final.events is.none;
+        keeps = keeps_rules (terms_of limits format) final.events is.none;
       },
       no_log_fault flaw is.no_fault,
     )
 
 pub yes_means_kept : YesMeansKept
 yes_means_kept limits sizes log s v =
-    let kept = are_kept limits sizes v.records v.fault s v.final in
-    record { records = v.records; is_log = subst (IsLog limits log v.records) kept.1 v.is_log; kept = kept.0 }
+    let kept = are_kept limits sizes (format_or_one v.format) v.records v.fault s v.final in
+    record { format = v.format; records = v.records; is_log = subst (IsLog limits log v.format v.records) kept.1 v.is_log; kept = kept.0 }
 
 -- the verdict on records where nothing offends and both streams are complete frames
-pub final_yes : (limits : Bounds) (records : List Record) (events : List Event) → IsSession limits records events → NothingOffends limits.document events
-    → AreFrames limits (joined Editor records) → AreFrames limits (joined Server records) → IsFinal limits records None (yes (summary limits.document events))
-final_yes limits records events session clean editor server = record {
+pub final_yes : (limits : Bounds) (format : Format) (records : List Record) (events : List Event) → IsSession limits records events → NothingOffends (terms_of limits format) events
+    → AreFrames limits (joined Editor records) → AreFrames limits (joined Server records) → IsFinal limits format records None (yes (summary (terms_of limits format) events))
+final_yes limits format records events session clean editor server = record {
   events = events;
   editor = [];
   server = [];
   session = session;
   editor_rest = (editor.0, None, editor.1);
   server_rest = (server.0, None, server.1);
-  says = yes_where limits.document events (ending None [] []) (record { none = nothing_found limits.document events clean; no_fault = refl; no_rest = refl });
+  says = yes_where (terms_of limits format) events (ending None [] []) (record { none = nothing_found (terms_of limits format) events clean; no_fault = refl; no_rest = refl });
 }
 
 pub kept_means_yes : KeptMeansYes
-kept_means_yes limits log records events is_log session clean editor server =
-    record { records = records; fault = None; is_log = is_log; final = final_yes limits records events session clean editor server }
+kept_means_yes limits log format records events is_log session clean editor server =
+    record { format = format; records = records; fault = None; is_log = is_log; final = final_yes limits (format_or_one format) records events session clean editor server }
 
 -- ---- No
 
@@ -108,17 +110,17 @@ rest_says es [] (b ∷ bs) v e = let same : no_next 107 who.Server es ≡ v = cc
 rest_says es [] [] v e = let same : None ≡ Some v = e in absurd cc
 
 -- what No says of records
-pub final_no : (limits : Bounds) (records : List Record) (flaw : Option (ℕ × LogCode)) (rule : ℕ) (who : Who) (number event : ℕ) → (final : IsFinal limits records flaw (no rule who number event))
-    → Names limits.document final.events (no rule who number event) ⊎ HasRest107 limits records flaw final.events (no rule who number event)
-final_no limits records flaw rule who number event final =
-    by_why (is_refused limits.document final.events (ending flaw final.editor final.server) (no rule who number event) tt final.says)
+pub final_no : (limits : Bounds) (format : Format) (records : List Record) (flaw : Option (ℕ × LogCode)) (rule : ℕ) (who : Who) (number event : ℕ) → (final : IsFinal limits format records flaw (no rule who number event))
+    → Names (terms_of limits format) final.events (no rule who number event) ⊎ HasRest107 limits format records flaw final.events (no rule who number event)
+final_no limits format records flaw rule who number event final =
+    by_why (is_refused (terms_of limits format) final.events (ending flaw final.editor final.server) (no rule who number event) tt final.says)
   where
-    by_why : Why limits.document final.events (ending flaw final.editor final.server) (no rule who number event)
-        → Names limits.document final.events (no rule who number event) ⊎ HasRest107 limits records flaw final.events (no rule who number event)
-    by_why (inl first) = inl (names_first limits.document final.events (no rule who number event) first)
+    by_why : Why (terms_of limits format) final.events (ending flaw final.editor final.server) (no rule who number event)
+        → Names (terms_of limits format) final.events (no rule who number event) ⊎ HasRest107 limits format records flaw final.events (no rule who number event)
+    by_why (inl first) = inl (names_first (terms_of limits format) final.events (no rule who number event) first)
     by_why (inr (none, inl found)) = absurd (log_says flaw (no rule who number event) found)
     by_why (inr (none, inr (no_fault, rest))) = inr (record {
-      clean = nothing_offends limits.document final.events none;
+      clean = nothing_offends (terms_of limits format) final.events none;
       no_fault = no_log_fault flaw no_fault;
       editor = final.editor;
       server = final.server;
@@ -129,12 +131,13 @@ final_no limits records flaw rule who number event final =
 
 pub no_names : NoNamesTheFirst
 no_names limits log rule who number event v = record {
+  format = v.format;
   records = v.records;
   fault = v.fault;
   events = v.final.events;
   is_log = v.is_log;
   session = v.final.session;
-  names = final_no limits v.records v.fault rule who number event v.final;
+  names = final_no limits (format_or_one v.format) v.records v.fault rule who number event v.final;
 }
 
 -- ---- BadLog
@@ -161,18 +164,19 @@ log_has (Some (n, c)) number code e =
 
 pub bad_log_has : BadLogMeansFault
 bad_log_has limits log number code v =
-    by_why (is_refused limits.document v.final.events (ending v.fault v.final.editor v.final.server) (bad_log number code) tt v.final.says)
+    by_why (is_refused (log_terms limits v.format) v.final.events (ending v.fault v.final.editor v.final.server) (bad_log number code) tt v.final.says)
   where
-    by_why : Why limits.document v.final.events (ending v.fault v.final.editor v.final.server) (bad_log number code) → HasFault limits log number code
+    by_why : Why (log_terms limits v.format) v.final.events (ending v.fault v.final.editor v.final.server) (bad_log number code) → HasFault limits log number code
     by_why (inl first) =
-        let n = names_first limits.document v.final.events (bad_log number code) first in
+        let n = names_first (log_terms limits v.format) v.final.events (bad_log number code) first in
         absurd (subst IsNo (sym n.is) (by_says_no n.before n.event n.rule))
     by_why (inr (none, inl found)) = record {
+      format = v.format;
       records = v.records;
       events = v.final.events;
-      is_log = subst (IsLog limits log v.records) (log_has v.fault number code found) v.is_log;
+      is_log = subst (IsLog limits log v.format v.records) (log_has v.fault number code found) v.is_log;
       session = v.final.session;
-      clean = nothing_offends limits.document v.final.events none;
+      clean = nothing_offends (log_terms limits v.format) v.final.events none;
     }
     by_why (inr (none, inr (no_log, rest))) = absurd (rest_says_no v.final.events (is_rest v.final.editor) (is_rest v.final.server) (bad_log number code) rest)
 

@@ -6,6 +6,7 @@ use Rattle.lsp_session.specs.Lifecycle.{lifecycle_rule}
 use Rattle.lsp_session.specs.Requests.{request_rule, answers}
 use Rattle.lsp_session.specs.Rules.{rule_after, AdmittedAfter, IsAdmitted}
 use Rattle.lsp_session.specs.Sent.{Sent}
+use Rattle.lsp_docs.specs.Terms.{Terms}
 use Rattle.lsp_verdict.specs.Event.{Event, message, fault, snapshot, sent_of, sent_in}
 use Rattle.lsp_verdict.specs.Kept.{Answers, IsResponseAt, AnswersOne, AnswersMatch, NothingOffends, KeepsLifecycle}
 use Rattle.lsp_verdict.specs.LookBack.{first_from}
@@ -22,26 +23,26 @@ sent_in-append es fs = filter_map-append sent_of es fs
 -- ---- the rules of a session
 
 -- a message that doesn't offend breaks no rule of the session
-pub session_rule_none : (limit : ℕ) (before : List Event) (m : Sent) → offence limit before (message m) ≡ None → rule_after (sent_in before) m ≡ None
-session_rule_none limit before m none = (or_none_parts (rule_after (sent_in before) m) (document_rule limit before (message m)) none).0
+pub session_rule_none : (terms : Terms) (before : List Event) (m : Sent) → offence terms before (message m) ≡ None → rule_after (sent_in before) m ≡ None
+session_rule_none terms before m none = (or_none_parts (rule_after (sent_in before) m) (document_rule terms before (message m)) none).0
 
-pub admitted : (limit : ℕ) (before es : List Event) → first_from (no_at limit) before es ≡ None → AdmittedAfter (sent_in before) (sent_in es)
-admitted limit before [] none = tt
-admitted limit before (message m ∷ es) none =
-    let parts = or_none_parts (no_at limit before (message m)) (first_from (no_at limit) (before ++ message m ∷ []) es) none in (
-      session_rule_none limit before m (map_none (no_by before (message m)) (offence limit before (message m)) parts.0),
-      subst (λ (w : List Sent). AdmittedAfter w (sent_in es)) (sent_in-append before (message m ∷ [])) (admitted limit (before ++ message m ∷ []) es parts.1),
+pub admitted : (terms : Terms) (before es : List Event) → first_from (no_at terms) before es ≡ None → AdmittedAfter (sent_in before) (sent_in es)
+admitted terms before [] none = tt
+admitted terms before (message m ∷ es) none =
+    let parts = or_none_parts (no_at terms before (message m)) (first_from (no_at terms) (before ++ message m ∷ []) es) none in (
+      session_rule_none terms before m (map_none (no_by before (message m)) (offence terms before (message m)) parts.0),
+      subst (λ (w : List Sent). AdmittedAfter w (sent_in es)) (sent_in-append before (message m ∷ [])) (admitted terms (before ++ message m ∷ []) es parts.1),
     )
-admitted limit before (fault side rule ∷ es) none =
-    let parts = or_none_parts (no_at limit before (fault side rule)) (first_from (no_at limit) (before ++ fault side rule ∷ []) es) none in
-    subst (λ (w : List Sent). AdmittedAfter w (sent_in es)) (sent_in-append before (fault side rule ∷ []) ∙ append-nil (sent_in before)) (admitted limit (before ++ fault side rule ∷ []) es parts.1)
-admitted limit before (snapshot uri n t ∷ es) none =
-    let parts = or_none_parts (no_at limit before (snapshot uri n t)) (first_from (no_at limit) (before ++ snapshot uri n t ∷ []) es) none in
-    subst (λ (w : List Sent). AdmittedAfter w (sent_in es)) (sent_in-append before (snapshot uri n t ∷ []) ∙ append-nil (sent_in before)) (admitted limit (before ++ snapshot uri n t ∷ []) es parts.1)
+admitted terms before (fault side rule ∷ es) none =
+    let parts = or_none_parts (no_at terms before (fault side rule)) (first_from (no_at terms) (before ++ fault side rule ∷ []) es) none in
+    subst (λ (w : List Sent). AdmittedAfter w (sent_in es)) (sent_in-append before (fault side rule ∷ []) ∙ append-nil (sent_in before)) (admitted terms (before ++ fault side rule ∷ []) es parts.1)
+admitted terms before (snapshot uri n t ∷ es) none =
+    let parts = or_none_parts (no_at terms before (snapshot uri n t)) (first_from (no_at terms) (before ++ snapshot uri n t ∷ []) es) none in
+    subst (λ (w : List Sent). AdmittedAfter w (sent_in es)) (sent_in-append before (snapshot uri n t ∷ []) ∙ append-nil (sent_in before)) (admitted terms (before ++ snapshot uri n t ∷ []) es parts.1)
 
-pub keeps_lifecycle : (limit : ℕ) (es : List Event) → NothingOffends limit es → KeepsLifecycle es
-keeps_lifecycle limit es clean before after m cut =
-    let none = session_rule_none limit before m (clean before after (message m) cut) in
+pub keeps_lifecycle : (terms : Terms) (es : List Event) → NothingOffends terms es → KeepsLifecycle es
+keeps_lifecycle terms es clean before after m cut =
+    let none = session_rule_none terms before m (clean before after (message m) cut) in
     (or_none_parts (lifecycle_rule (sent_in before) m) _ (or_none_parts (request_rule (sent_in before) m) _ none).1).0
 
 -- ---- responses

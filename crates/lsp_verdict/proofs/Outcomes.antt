@@ -4,9 +4,11 @@ use Rattle.std.specs.Prelude.{if◌then◌else◌, unwrap_or}
 use Rattle.std.specs.Option.{option_or}
 use Rattle.std.specs.List.{AllZip}
 use Rattle.lsp_frame.specs.Bounds.{Bounds}
+use Rattle.lsp_frame.specs.declared.format.Format.{Format}
 use Rattle.lsp_types.specs.declared.side.Side.{Side}
 use Rattle.lsp_types.specs.declared.side.Side.TheVariants.{Editor, Server}
 use Rattle.lsp_session.specs.Sent.{same_side}
+use Rattle.lsp_docs.specs.Terms.{Terms, terms_of}
 use Rattle.lsp_log.specs.Log.{Record, chunk, shown}
 use Rattle.lsp_log.specs.declared.fault.LogCode.{LogCode}
 use Rattle.lsp_verdict.specs.Event.{Event}
@@ -52,19 +54,19 @@ one_rest limits bytes more r s e p q =
     (one_stream limits more p'.0 q.0 r s p'.1 q.1 p'.2 q.2).rest
 
 pub cuts_leave_verdict : CutsLeaveVerdict
-cuts_leave_verdict limits rs us fault v w cut p q =
+cuts_leave_verdict limits format rs us fault v w cut p q =
     let events : p.events ≡ q.events = same_session limits rs us p.events q.events cut p.session q.session in
     let editor : p.editor ≡ q.editor = one_rest limits (joined Editor rs) (joined Editor us) p.editor q.editor (cut_joined Editor rs us cut) p.editor_rest q.editor_rest in
     let server : p.server ≡ q.server = one_rest limits (joined Server rs) (joined Server us) p.server q.server (cut_joined Server rs us cut) p.server_rest q.server_rest in
     sym p.says
-    ∙ ap (λ es. verdict limits.document es (ending fault p.editor p.server)) events
-    ∙ ap (λ x. verdict limits.document q.events (ending fault x p.server)) editor
-    ∙ ap (λ x. verdict limits.document q.events (ending fault q.editor x)) server
+    ∙ ap (λ es. verdict (terms_of limits format) es (ending fault p.editor p.server)) events
+    ∙ ap (λ x. verdict (terms_of limits format) q.events (ending fault x p.server)) editor
+    ∙ ap (λ x. verdict (terms_of limits format) q.events (ending fault q.editor x)) server
     ∙ q.says
 
 -- an offence decides, however the log ends
-says_no : (limit : ℕ) (es : List Event) (end : Ending) (v : Verdict) → first_no limit es ≡ Some v → verdict limit es end ≡ v
-says_no limit es end v e = ap (λ o. unwrap_or (option_or o (option_or (bad_log_of end.log_fault) (rest_of es end.editor_rest end.server_rest))) (yes (summary limit es))) e
+says_no : (terms : Terms) (es : List Event) (end : Ending) (v : Verdict) → first_no terms es ≡ Some v → verdict terms es end ≡ v
+says_no terms es end v e = ap (λ o. unwrap_or (option_or o (option_or (bad_log_of end.log_fault) (rest_of es end.editor_rest end.server_rest))) (yes (summary terms es))) e
 
 -- ---- more records
 
@@ -99,8 +101,8 @@ session_front limits rs more es all p q =
     (parts.1, parts.2 ∙ ap (λ w. w ++ parts.1) (one_list p.0 parts.0 es parts.3 p.2))
 
 -- an offence among the first records is the verdict on all
-pub offends_final : (limits : Bounds) (rs more : List Record) (fault : Option (ℕ × LogCode)) (v w : Verdict) → Offends limits rs v → IsFinal limits (rs ++ more) fault w → v ≡ w
-offends_final limits rs more fault v w p q =
+pub offends_final : (limits : Bounds) (format : Format) (rs more : List Record) (fault : Option (ℕ × LogCode)) (v w : Verdict) → Offends limits format rs v → IsFinal limits format (rs ++ more) fault w → v ≡ w
+offends_final limits format rs more fault v w p q =
     let cut = session_front limits rs more p.events q.events p.session q.session in
-    sym (says_no limits.document q.events (ending fault q.editor q.server) v
-    (ap (first_no limits.document) cut.1 ∙ first_of-more _ p.events cut.0 v p.offends)) ∙ q.says
+    sym (says_no (terms_of limits format) q.events (ending fault q.editor q.server) v
+    (ap (first_no (terms_of limits format)) cut.1 ∙ first_of-more _ p.events cut.0 v p.offends)) ∙ q.says

@@ -1,6 +1,7 @@
 -- What a complete session is, in plain words.
 use Rattle.std.specs.Prelude.{◌≡◌, ◌⊎◌, ℕ, List, ◌∷◌, ◌++◌, length, true, is_some}
 use Rattle.lsp_frame.specs.Bounds.{Bounds}
+use Rattle.lsp_frame.specs.declared.format.Format.{Format}
 use Rattle.lsp_rpc.specs.Act.{exit}
 use Rattle.lsp_types.specs.declared.side.Side.TheVariants.{Editor}
 use Rattle.lsp_session.specs.Sent.{Sent, request_of}
@@ -55,8 +56,8 @@ NamesLack events v =
 -- ---- records and logs
 
 -- **What Yes says of records whose session has to be complete**: they are kept, and the session was brought to its end.
-pub record AreComplete (limits : Bounds) (records : List Record) : Type 0 where
-  pub kept : AreKept limits records
+pub record AreComplete (limits : Bounds) (format : Format) (records : List Record) : Type 0 where
+  pub kept : AreKept limits format records
   pub ended : IsBroughtToEnd kept.events
 
 -- **And of a log.**
@@ -65,8 +66,8 @@ pub record IsComplete (limits : Bounds) (log : List ℕ) : Type 0 where
   pub ended : IsBroughtToEnd kept.kept.events
 
 -- the records are kept, and what their session lacks is named
-pub record AreCutShort (limits : Bounds) (records : List Record) (v : Verdict) : Type 0 where
-  pub kept : AreKept limits records
+pub record AreCutShort (limits : Bounds) (format : Format) (records : List Record) (v : Verdict) : Type 0 where
+  pub kept : AreKept limits format records
   pub names : NamesLack kept.events v
 
 -- the log is kept, and what its session lacks is named

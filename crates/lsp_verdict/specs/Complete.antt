@@ -2,6 +2,7 @@
 -- (JSON-RPC 2.0, section 4; LSP 3.17, "Exit Notification".)
 use Rattle.std.specs.Prelude.{◌≡◌, ℕ, List, Option, option_map, unwrap_or}
 use Rattle.lsp_frame.specs.Bounds.{Bounds}
+use Rattle.lsp_frame.specs.declared.format.Format.{Format}
 use Rattle.lsp_session.specs.Incomplete.{incomplete}
 use Rattle.lsp_log.specs.declared.fault.LogCode.{LogCode}
 use Rattle.lsp_log.specs.Log.{Record}
@@ -23,9 +24,9 @@ completed events (no rule by number event) = no rule by number event
 completed events (bad_log number code) = bad_log number code
 
 -- the verdict on these records, whose session has to be complete
-pub record IsCompleteFinal (limits : Bounds) (records : List Record) (fault : Option (ℕ × LogCode)) (v : Verdict) : Type 0 where
+pub record IsCompleteFinal (limits : Bounds) (format : Format) (records : List Record) (fault : Option (ℕ × LogCode)) (v : Verdict) : Type 0 where
   pub plain : Verdict
-  pub final : IsFinal limits records fault plain
+  pub final : IsFinal limits format records fault plain
   pub says : completed final.events plain ≡ v
 
 -- **the verdict on a log whose session has to be complete**
@@ -36,9 +37,9 @@ pub record IsCompleteVerdict (limits : Bounds) (log : List ℕ) (v : Verdict) : 
 
 -- ---- both in one word
 
-abbrev pub IsFinalBy : Completeness → Bounds → List Record → Option (ℕ × LogCode) → Verdict → Type 0
-IsFinalBy Ignored limits records fault v = IsFinal limits records fault v
-IsFinalBy Required limits records fault v = IsCompleteFinal limits records fault v
+abbrev pub IsFinalBy : Completeness → Bounds → Format → List Record → Option (ℕ × LogCode) → Verdict → Type 0
+IsFinalBy Ignored limits format records fault v = IsFinal limits format records fault v
+IsFinalBy Required limits format records fault v = IsCompleteFinal limits format records fault v
 
 abbrev pub IsVerdictBy : Completeness → Bounds → List ℕ → Verdict → Type 0
 IsVerdictBy Ignored limits log v = IsVerdict limits log v

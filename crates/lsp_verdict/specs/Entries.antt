@@ -3,6 +3,7 @@ use Rattle.std.specs.Prelude.{◌≡◌, ℕ, List, [], ◌∷◌, ◌++◌, Opt
 use Rattle.std.specs.Io.KnownBytes.{IsAtEnd}
 use Rattle.lsp_frame.specs.Bounds.{Bounds}
 use Rattle.lsp_frame.specs.Told.{Told, Gave}
+use Rattle.lsp_frame.specs.declared.format.Format.{Format}
 use Rattle.lsp_log.specs.Log.{Record, IsLog}
 use Rattle.lsp_log.specs.Reader as reader
 use Rattle.lsp_log.specs.Reader.{kept_by, StandsFor}
@@ -14,34 +15,45 @@ use Rattle.lsp_verdict.specs.declared.outcome.RunFault.TheVariants as faults
 use Rattle.lsp_verdict.specs.declared.entry.Entry.{Entry}
 use Rattle.lsp_verdict.specs.declared.entry.Entry.TheVariants as entry
 
--- of the bytes that the source gave since the start, the reader of a log gave these records, and no end
+-- of the bytes that the source gave since the start, the reader of a log gave these records, and no end; with a record it knows the format
 pub record IsAt (r : reader.State) (start now : Told) (records : List Record) : Type 0 where
   pub bytes : List ℕ
   pub gave : Gave start now bytes
   pub failures : now.failures ≡ start.failures
   pub unread : kept_by r ≡ None
+  pub early : r.format ≡ None → records ≡ []
   pub stands : StandsFor r bytes records
 
--- the log read has these records, and this fault or none
-pub record HasRecords (limits : Bounds) (start now : Told) (records : List Record) (fault : Option (ℕ × LogCode)) : Type 0 where
-  pub of_read : OfRead limits start now (λ log. IsLog limits log records fault)
+-- the log read has this format, these records, and this fault or none
+pub record HasRecords (limits : Bounds) (start now : Told) (format : Option Format) (records : List Record) (fault : Option (ℕ × LogCode)) : Type 0 where
+  pub of_read : OfRead limits start now (λ log. IsLog limits log format records fault)
   pub failures : now.failures ≡ start.failures
 
--- a log has these records first
-abbrev pub HasFirst : Bounds → List Record → List ℕ → Type 0
-HasFirst limits records log = (more : List Record) × (fault : Option (ℕ × LogCode)) × IsLog limits log (records ++ more) fault
+-- a format is the one known, where one is
+abbrev pub IsKnown : Option Format → Option Format → Type 0
+IsKnown None format = Unit {0}
+IsKnown (Some known) format = format ≡ Some known
 
--- reading broke off behind these records, and nothing was written
-pub record BrokeOff (limits : Bounds) (start now : Told) (records : List Record) (fault : RunFault) : Type 0 where
-  pub of_read : OfRead limits start now (HasFirst limits records)
+-- a log has the format known, and these records first
+pub record HasFirst (limits : Bounds) (known : Option Format) (records : List Record) (log : List ℕ) : Type 0 where
+  pub format : Option Format
+  pub more : List Record
+  pub fault : Option (ℕ × LogCode)
+  pub is_log : IsLog limits log format (records ++ more) fault
+  pub is_known : IsKnown known format
+
+-- reading broke off behind these records, where so much of the format was known, and nothing was written
+pub record BrokeOff (limits : Bounds) (start now : Told) (known : Option Format) (records : List Record) (fault : RunFault) : Type 0 where
+  pub of_read : OfRead limits start now (HasFirst limits known records)
   pub failures : now.failures ≡ failures_after fault start.failures
   pub unwritten : fault ≡ faults.Write → ⊥
 
-abbrev pub EntryIs : reader.State → Bounds → Told → Told → List Record → Result Entry RunFault → Type 0
-EntryIs r limits start now records (Ok (entry.Record next)) = IsAt r start now (records ++ record_view next ∷ [])
-EntryIs r limits start now records (Ok entry.End) = HasRecords limits start now records None × IsAtEnd now.bytes
-EntryIs r limits start now records (Ok (entry.Bad number fault)) = HasRecords limits start now records (Some (number, fault))
-EntryIs r limits start now records (Err fault) = BrokeOff limits start now records fault
+-- what the log has next behind these records, of which a reader that knew so much of the format read it
+abbrev pub EntryIs : reader.State → Bounds → Told → Told → Option Format → List Record → Result Entry RunFault → Type 0
+EntryIs r limits start now known records (Ok (entry.Record next)) = IsAt r start now (records ++ record_view next ∷ [])
+EntryIs r limits start now known records (Ok entry.End) = HasRecords limits start now r.format records None × IsAtEnd now.bytes
+EntryIs r limits start now known records (Ok (entry.Bad number fault)) = HasRecords limits start now r.format records (Some (number, fault))
+EntryIs r limits start now known records (Err fault) = BrokeOff limits start now known records fault
 
 abbrev pub IsRecord : Entry → Type 0
 IsRecord (entry.Record next) = Unit {0}

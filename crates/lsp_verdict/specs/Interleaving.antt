@@ -11,6 +11,7 @@ use Rattle.lsp_session.specs.Negotiation.{agreed, agreed_at}
 use Rattle.lsp_session.specs.Requests.{answers}
 use Rattle.lsp_session.specs.Sent.{Sent, same_side, is_initialize, is_response, request_by}
 use Rattle.lsp_docs.specs.Documents.{documents}
+use Rattle.lsp_docs.specs.Terms.{Terms}
 use Rattle.lsp_log.specs.Log.{Record}
 use Rattle.lsp_verdict.specs.Calls.{calls}
 use Rattle.lsp_verdict.specs.Event.{Event, message, fault, snapshot, sent_in}
@@ -79,22 +80,22 @@ pub record AnswersInTurn (before : List Sent) (reply : Sent) : Type 0 where
   pub turn : length (filter is_asked earlier) ≡ length (filter is_reply before)
 
 -- nothing up to this message offends, and the server sent no result before it
-pub record IsEarly (limit : ℕ) (before : List Event) (m : Sent) : Type 0 where
+pub record IsEarly (terms : Terms) (before : List Event) (m : Sent) : Type 0 where
   pub read : All IsRead (before ++ message m ∷ [])
-  pub clean : first_no limit (before ++ message m ∷ []) ≡ None
+  pub clean : first_no terms (before ++ message m ∷ []) ≡ None
   pub unsettled : first_result (sent_in before) ≡ None
 
 -- **Up to the server's first result, the k-th response answers the k-th request**, so what is agreed can be read off the server's own order.
 pub record HandshakeInTurn : Type 0 where
   -- each request of the editor is an `initialize`
-  pub starts : (limit : ℕ) (before : List Event) (m : Sent) → IsEarly limit before m → is_asked m ≡ true → is_initialize m.act ≡ true
+  pub starts : (terms : Terms) (before : List Event) (m : Sent) → IsEarly terms before m → is_asked m ≡ true → is_initialize m.act ≡ true
   -- the server's k-th response answers the k-th of them
-  pub replies : (limit : ℕ) (before : List Event) (m : Sent) → IsEarly limit before m → is_reply m ≡ true → AnswersInTurn (sent_in before) m
+  pub replies : (terms : Terms) (before : List Event) (m : Sent) → IsEarly terms before m → is_reply m ≡ true → AnswersInTurn (sent_in before) m
   -- so the first result that answers an `initialize` is the first in the server's own order
-  pub settles : (limit : ℕ) (events : List Event) → All IsRead events → first_no limit events ≡ None
+  pub settles : (terms : Terms) (events : List Event) → All IsRead events → first_no terms events ≡ None
       → option_map (λ s. s.value) (first_settled (sent_in events)) ≡ first_result (sent_in (own Server events))
   -- and what is agreed is what it picks
-  pub agrees : (limit : ℕ) (events : List Event) → All IsRead events → first_no limit events ≡ None
+  pub agrees : (terms : Terms) (events : List Event) → All IsRead events → first_no terms events ≡ None
       → agreed (sent_in events) ≡ option_and_then agreed_at (first_result (sent_in (own Server events)))
 
 -- ---- verdicts
@@ -108,8 +109,8 @@ abbrev pub is_order_rule : ℕ → Bool
 is_order_rule rule = (nat_le 301 rule && nat_le rule 302) || (nat_le 401 rule && nat_le rule 412)
 
 -- the open documents with their versions and texts, the unmatched snapshots and what was agreed are the same
-pub record Agree (limit : ℕ) (events others : List Event) (s t : Summary) : Type 0 where
-  pub held : documents limit (calls events) ≡ documents limit (calls others)
+pub record Agree (terms : Terms) (events others : List Event) (s t : Summary) : Type 0 where
+  pub held : documents terms (calls events) ≡ documents terms (calls others)
   pub listed : s.documents ≡ t.documents
   pub unmatched : s.unmatched ≡ t.unmatched
   pub encoding : s.encoding ≡ t.encoding
@@ -117,10 +118,10 @@ pub record Agree (limit : ℕ) (events others : List Event) (s t : Summary) : Ty
 
 -- **Two Yes agree**, however the sides' events meet.
 abbrev pub BothYesAgree : Type 0
-BothYesAgree = (limit : ℕ) (events others : List Event) (s t : Summary) → All IsRead events → AreInterleavings events others
-    → verdict limit events complete ≡ yes s → verdict limit others complete ≡ yes t → Agree limit events others s t
+BothYesAgree = (terms : Terms) (events others : List Event) (s t : Summary) → All IsRead events → AreInterleavings events others
+    → verdict terms events complete ≡ yes s → verdict terms others complete ≡ yes t → Agree terms events others s t
 
 -- **Where one is Yes and the other No, the No is by a rule on the order.**
 abbrev pub OnlyOrderOffends : Type 0
-OnlyOrderOffends = (limit : ℕ) (events others : List Event) (s : Summary) (rule : ℕ) (who : Who) (number event : ℕ) → All IsRead events → AreInterleavings events others
-    → verdict limit events complete ≡ yes s → verdict limit others complete ≡ no rule who number event → is_order_rule rule ≡ true
+OnlyOrderOffends = (terms : Terms) (events others : List Event) (s : Summary) (rule : ℕ) (who : Who) (number event : ℕ) → All IsRead events → AreInterleavings events others
+    → verdict terms events complete ≡ yes s → verdict terms others complete ≡ no rule who number event → is_order_rule rule ≡ true

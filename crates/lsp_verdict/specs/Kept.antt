@@ -1,7 +1,8 @@
 -- What Yes says of a session, in plain words.
-use Rattle.std.specs.Prelude.{◌≡◌, ℕ, ℤ, ◌+◌, int_lt, List, [], ◌∷◌, ◌++◌, length, true, Some, None}
+use Rattle.std.specs.Prelude.{◌≡◌, ℕ, ℤ, ◌+◌, int_lt, List, [], ◌∷◌, ◌++◌, length, true, Option, Some, None}
 use Rattle.lsp_frame.specs.Bounds.{Bounds}
 use Rattle.lsp_frame.specs.Frame.{IsStream}
+use Rattle.lsp_frame.specs.declared.format.Format.{Format}
 use Rattle.lsp_rpc.specs.Act.{Change, did_change}
 use Rattle.lsp_types.specs.declared.side.Side.TheVariants.{Editor, Server}
 use Rattle.lsp_session.specs.Lifecycle.{lifecycle_rule}
@@ -10,16 +11,18 @@ use Rattle.lsp_session.specs.Sent.{Sent, is_response}
 use Rattle.lsp_docs.specs.Binding.{standing, binding}
 use Rattle.lsp_docs.specs.Calls.{Call, shows}
 use Rattle.lsp_docs.specs.Documents.{Version, held}
+use Rattle.lsp_docs.specs.Terms.{Terms, terms_of}
 use Rattle.lsp_log.specs.Log.{Record, IsLog}
 use Rattle.lsp_verdict.specs.Calls.{calls}
 use Rattle.lsp_verdict.specs.Event.{Event, message, sent_in}
+use Rattle.lsp_verdict.specs.Outcome.{format_or_one}
 use Rattle.lsp_verdict.specs.Placed.{IsSession, joined}
 use Rattle.lsp_verdict.specs.Verdict.{offence}
 
 -- ---- no event offends
 
-abbrev pub NothingOffends : ℕ → List Event → Type 0
-NothingOffends limit events = (before after : List Event) (event : Event) → events ≡ before ++ event ∷ after → offence limit before event ≡ None
+abbrev pub NothingOffends : Terms → List Event → Type 0
+NothingOffends terms events = (before after : List Event) (event : Event) → events ≡ before ++ event ∷ after → offence terms before event ≡ None
 
 -- **No message breaks the lifecycle.**
 abbrev pub KeepsLifecycle : List Event → Type 0
@@ -62,42 +65,43 @@ pub record AnswersMatch (messages : List Sent) : Type 0 where
 -- ---- documents
 
 -- **The versions of an open document rise**: a change is of an open document, and its version is greater than the held one.
-abbrev pub VersionsRise : ℕ → List Event → Type 0
-VersionsRise limit events =
+abbrev pub VersionsRise : Terms → List Event → Type 0
+VersionsRise terms events =
     (before after : List Event) (m : Sent) (uri : List ℕ) (number : ℤ) (changes : List Change) → events ≡ before ++ message m ∷ after → m.act ≡ did_change uri number changes
-    → (v : Version) × (held limit uri (calls before) ≡ Some v) × (int_lt v.number number ≡ true)
+    → (v : Version) × (held terms uri (calls before) ≡ Some v) × (int_lt v.number number ≡ true)
 
 -- **After every prefix, each held text equals every snapshot recorded for its opening and version**, be it recorded before the prefix ends or later.
-abbrev pub SnapshotsAgree : ℕ → List Call → Type 0
-SnapshotsAgree limit made =
+abbrev pub SnapshotsAgree : Terms → List Call → Type 0
+SnapshotsAgree terms made =
     (before after front back : List Call) (uri : List ℕ) (number : ℤ) (text : List ℕ) (v : Version)
     → made ≡ before ++ after → made ≡ front ++ shows uri number text ∷ back
-    → held limit uri before ≡ Some v → v.number ≡ number → binding uri front back ≡ standing uri before → v.text ≡ text
+    → held terms uri before ≡ Some v → v.number ≡ number → binding uri front back ≡ standing uri before → v.text ≡ text
 
 -- ---- all of it
 
 -- the events keep the rules
-pub record KeepsRules (limit : ℕ) (events : List Event) : Type 0 where
-  pub nothing_offends : NothingOffends limit events
+pub record KeepsRules (terms : Terms) (events : List Event) : Type 0 where
+  pub nothing_offends : NothingOffends terms events
   pub lifecycle : KeepsLifecycle events
   pub responses : AnswersMatch (sent_in events)
-  pub versions : VersionsRise limit events
-  pub snapshots : SnapshotsAgree limit (calls events)
+  pub versions : VersionsRise terms events
+  pub snapshots : SnapshotsAgree terms (calls events)
 
 -- the bytes are complete frames
 abbrev pub AreFrames : Bounds → List ℕ → Type 0
 AreFrames limits bytes = (contents : List (List ℕ)) × IsStream limits bytes contents [] None
 
--- **What Yes says of records**: both streams are complete frames, and the events keep the rules.
-pub record AreKept (limits : Bounds) (records : List Record) : Type 0 where
+-- **What Yes says of records** of a log of this format: both streams are complete frames, and the events keep the rules.
+pub record AreKept (limits : Bounds) (format : Format) (records : List Record) : Type 0 where
   pub events : List Event
   pub session : IsSession limits records events
   pub editor : AreFrames limits (joined Editor records)
   pub server : AreFrames limits (joined Server records)
-  pub keeps : KeepsRules limits.document events
+  pub keeps : KeepsRules (terms_of limits format) events
 
 -- **What Yes says of a log**: it has no fault, and its records are kept.
 pub record IsKept (limits : Bounds) (log : List ℕ) : Type 0 where
+  pub format : Option Format
   pub records : List Record
-  pub is_log : IsLog limits log records None
-  pub kept : AreKept limits records
+  pub is_log : IsLog limits log format records None
+  pub kept : AreKept limits (format_or_one format) records

@@ -3,6 +3,7 @@ use Rattle.std.specs.Prelude.{◌≡◌, ℕ, List, [], ◌∷◌, ◌++◌, map
 use Rattle.std.specs.List.{AllZip}
 use Rattle.lsp_frame.specs.Bounds.{Bounds, IsInRange}
 use Rattle.lsp_frame.specs.Frame.{IsStream}
+use Rattle.lsp_frame.specs.declared.format.Format.{Format}
 use Rattle.lsp_types.specs.declared.side.Side.{Side}
 use Rattle.lsp_session.specs.Sent.{same_side}
 use Rattle.lsp_log.specs.Log.{Record, chunk, shown, BeginsLog}
@@ -38,7 +39,8 @@ CutsDontMatter = (limits : Bounds) (records others : List Record) (events more :
 
 -- **And their verdicts are the same**, where the logs that hold them end alike.
 abbrev pub CutsLeaveVerdict : Type 0
-CutsLeaveVerdict = (limits : Bounds) (records others : List Record) (fault : Option (ℕ × LogCode)) (v w : Verdict) → merged records ≡ merged others → IsFinal limits records fault v → IsFinal limits others fault w → v ≡ w
+CutsLeaveVerdict =
+    (limits : Bounds) (format : Format) (records others : List Record) (fault : Option (ℕ × LogCode)) (v w : Verdict) → merged records ≡ merged others → IsFinal limits format records fault v → IsFinal limits format others fault w → v ≡ w
 
 -- ---- the stream of a side
 
@@ -66,17 +68,18 @@ SnapshotsAreShown = (limits : Bounds) (records : List Record) (events : List Eve
 
 -- **Records have a verdict**, however the log that holds them ends.
 abbrev pub SomeFinal : Type 0
-SomeFinal = (limits : Bounds) (records : List Record) (fault : Option (ℕ × LogCode)) → (v : Verdict) × IsFinal limits records fault v
+SomeFinal = (limits : Bounds) (format : Format) (records : List Record) (fault : Option (ℕ × LogCode)) → (v : Verdict) × IsFinal limits format records fault v
 
 -- **The events of a log begin with those of the records that it begins with.**
 abbrev pub EventsFirst : Type 0
 EventsFirst =
-    (limits : Bounds) → IsInRange limits → (log rest : List ℕ) (records : List Record) (events : List Event) (v : Verdict) → BeginsLog limits log records rest → IsSession limits records events
+    (limits : Bounds) → IsInRange limits → (format : Format) (log rest : List ℕ) (records : List Record) (events : List Event) (v : Verdict) → BeginsLog limits format log records rest → IsSession limits records events
     → (whole : IsVerdict limits log v) → (later : List Event) × (whole.final.events ≡ events ++ later)
 
 -- **An offence decides**: where an event of the records that a log begins with offends, the No at the first is the verdict on the log.
 abbrev pub OffenceDecides : Type 0
-OffenceDecides = (limits : Bounds) → IsInRange limits → (log rest : List ℕ) (records : List Record) (v : Verdict) → BeginsLog limits log records rest → Offends limits records v → IsVerdict limits log v
+OffenceDecides =
+    (limits : Bounds) → IsInRange limits → (format : Format) (log rest : List ℕ) (records : List Record) (v : Verdict) → BeginsLog limits format log records rest → Offends limits format records v → IsVerdict limits log v
 
 -- **All bytes have a verdict.**
 abbrev pub SomeVerdict : Type 0

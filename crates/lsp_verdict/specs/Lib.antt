@@ -19,6 +19,7 @@ pub mod Interleaving
 pub mod Counting
 pub mod Drained
 pub mod Entries
+pub mod Upgraded
 pub mod Complete
 pub mod BroughtToEnd
 pub mod CompleteLaws

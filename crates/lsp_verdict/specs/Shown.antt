@@ -9,6 +9,7 @@ use Rattle.lsp_types.specs.declared.side.Side.{Side}
 use Rattle.lsp_types.specs.declared.side.Side.TheVariants.{Editor}
 use Rattle.lsp_docs.specs.Texts.{byte_len}
 use Rattle.lsp_docs.specs.Documents.{Version, held}
+use Rattle.lsp_docs.specs.Terms.{Terms}
 use Rattle.lsp_verdict.specs.LookBack.{each_of}
 use Rattle.lsp_verdict.specs.Event.{Event, message, fault, snapshot}
 use Rattle.lsp_verdict.specs.Calls.{calls}
@@ -55,8 +56,8 @@ kept_by None events = events
 kept_by (Some v) events = kept v events
 
 -- the events before the first that offends
-abbrev pub kept_within : ℕ → List Event → List Event
-kept_within limit events = kept_by (first_no limit events) events
+abbrev pub kept_within : Terms → List Event → List Event
+kept_within terms events = kept_by (first_no terms events) events
 
 -- ---- the text after a message
 
@@ -83,6 +84,6 @@ missing_answer (no rule who count event) = if rule == 107 then too_few else refu
 missing_answer v = refused v
 
 -- the text that is held for a URI just after the editor's n-th message, where these are the events up to it
-abbrev pub text_answer : ℕ → List ℕ → Verdict → Option (List Event) → TextAnswer
-text_answer limit uri v (Some events) = if is_some (first_no limit events) then missing_answer v else held_answer (held limit uri (calls events))
-text_answer limit uri v None = missing_answer v
+abbrev pub text_answer : Terms → List ℕ → Verdict → Option (List Event) → TextAnswer
+text_answer terms uri v (Some events) = if is_some (first_no terms events) then missing_answer v else held_answer (held terms uri (calls events))
+text_answer terms uri v None = missing_answer v

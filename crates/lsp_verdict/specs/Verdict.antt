@@ -14,6 +14,7 @@ use Rattle.lsp_docs.specs.Texts.{byte_len}
 use Rattle.lsp_docs.specs.Documents.{Held, documents}
 use Rattle.lsp_docs.specs.Rules.{call_rule}
 use Rattle.lsp_docs.specs.Snapshots.{unmatched}
+use Rattle.lsp_docs.specs.Terms.{Terms}
 use Rattle.lsp_log.specs.declared.fault.LogCode.{LogCode}
 use Rattle.lsp_verdict.specs.declared.verdict.Who.{Who}
 use Rattle.lsp_verdict.specs.declared.verdict.Who.TheVariants as who
@@ -24,14 +25,14 @@ use Rattle.lsp_verdict.specs.Calls.{call_at, calls}
 -- ---- offences
 
 -- 601 to 702: the least rule on documents that the event breaks after the events before it
-abbrev pub document_rule : ℕ → List Event → Event → Option ℕ
-document_rule limit before event = option_and_then (call_rule limit (calls before)) (call_at before event)
+abbrev pub document_rule : Terms → List Event → Event → Option ℕ
+document_rule terms before event = option_and_then (call_rule terms (calls before)) (call_at before event)
 
 -- the least rule that the event offends after the events before it: of a message 301 to 504 come first
-abbrev pub offence : ℕ → List Event → Event → Option ℕ
-offence limit before (fault side rule) = Some rule
-offence limit before (message m) = option_or (rule_after (sent_in before) m) (document_rule limit before (message m))
-offence limit before (snapshot uri number text) = document_rule limit before (snapshot uri number text)
+abbrev pub offence : Terms → List Event → Event → Option ℕ
+offence terms before (fault side rule) = Some rule
+offence terms before (message m) = option_or (rule_after (sent_in before) m) (document_rule terms before (message m))
+offence terms before (snapshot uri number text) = document_rule terms before (snapshot uri number text)
 
 -- ---- numbers
 
@@ -94,12 +95,12 @@ no_next rule by before = no rule by (count_of (belongs_to by) before + 1) (lengt
 abbrev pub no_by : List Event → Event → ℕ → Verdict
 no_by before event rule = no_next rule (whose event) before
 
-abbrev pub no_at : ℕ → List Event → Event → Option Verdict
-no_at limit before event = option_map (no_by before event) (offence limit before event)
+abbrev pub no_at : Terms → List Event → Event → Option Verdict
+no_at terms before event = option_map (no_by before event) (offence terms before event)
 
 -- No at the first event that offends
-abbrev pub first_no : ℕ → List Event → Option Verdict
-first_no limit events = first_of (no_at limit) events
+abbrev pub first_no : Terms → List Event → Option Verdict
+first_no terms events = first_of (no_at terms) events
 
 -- how a log ends: with a fault, with bytes of the editor's that are no whole frame, or of the server's
 pub record Ending : Type 0 where
@@ -113,15 +114,15 @@ document_of held = record { uri = held.uri; number = held.version.number; bytes 
 abbrev pub open_of : Side → List Event → List (Side × Entry)
 open_of side events = map (λ request. (side, request)) (open_requests side (sent_in events))
 
-abbrev pub summary : ℕ → List Event → Summary
-summary limit events = record {
+abbrev pub summary : Terms → List Event → Summary
+summary terms events = record {
   editor = count_of (is_of Editor) events;
   server = count_of (is_of Server) events;
   snapshots = count_of is_snapshot events;
-  unmatched = unmatched limit (calls events);
+  unmatched = unmatched terms (calls events);
   encoding = encoding (sent_in events);
   sync = sync_kind (sent_in events);
-  documents = map document_of (documents limit (calls events));
+  documents = map document_of (documents terms (calls events));
   requests = open_of Editor events ++ open_of Server events;
 }
 
@@ -136,9 +137,9 @@ rest_of events false true = Some (no_next 107 who.Server events)
 rest_of events false false = None
 
 -- the first that applies: an offence, a fault of the log, a rest
-abbrev pub refusal : ℕ → List Event → Ending → Option Verdict
-refusal limit events end = option_or (first_no limit events) (option_or (bad_log_of end.log_fault) (rest_of events end.editor_rest end.server_rest))
+abbrev pub refusal : Terms → List Event → Ending → Option Verdict
+refusal terms events end = option_or (first_no terms events) (option_or (bad_log_of end.log_fault) (rest_of events end.editor_rest end.server_rest))
 
 -- the verdict on a session with these events that ends so
-abbrev pub verdict : ℕ → List Event → Ending → Verdict
-verdict limit events end = unwrap_or (refusal limit events end) (yes (summary limit events))
+abbrev pub verdict : Terms → List Event → Ending → Verdict
+verdict terms events end = unwrap_or (refusal terms events end) (yes (summary terms events))

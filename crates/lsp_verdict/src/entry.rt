@@ -2,7 +2,7 @@
 ghost use Rattle.std.specs.Prelude.{◌≡◌, ◌<◌, List, IfOk};
 ghost use Rattle.lsp_frame.specs.Told.{Told};
 ghost use Rattle.lsp_log.specs.Log as logs;
-ghost use Rattle.lsp_log.specs.Reader.{ahead};
+ghost use Rattle.lsp_log.specs.Reader.{ahead, KeepsFormat};
 ghost use Rattle.lsp_verdict.specs.Entries.{IsAt, EntryIs, IfRecord};
 
 use crate::outcome::RunFault;
@@ -31,10 +31,12 @@ pub enum Entry {
 /// `Read` where the source failed, and `Memory` where memory was refused for a record.
 pub fn next_entry<R: Source>(log: &mut LogReader, reader: &mut R) -> Result<Entry, RunFault>
     ensures limits { log.new.limits ≡ log.old.limits }
+    // The format stays, once it is known.
+    ensures format { KeepsFormat log.old.format log.new.format }
     // A record leaves less to give, so that a caller's loop ends.
     ensures less { IfOk result (λ entry. IfRecord entry (ahead log.new < ahead log.old)) }
     ensures answer { (start : Told) (records : List logs.Record) → IsAt log.old start (R.told reader.old) records
-        → EntryIs log.new log.old.limits start (R.told reader.new) records result }
+        → EntryIs log.new log.old.limits start (R.told reader.new) log.old.format records result }
 {
     match log.next(reader) {
         Ok(Some(record)) => Ok(Entry::Record(record)),

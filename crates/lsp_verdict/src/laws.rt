@@ -2,6 +2,7 @@
 ghost use Rattle.lsp_verdict.specs.Headline.{BadLogMeansFault, KeptMeansYes, NoNamesTheFirst, YesMeansKept};
 ghost use Rattle.lsp_verdict.specs.Laws.{CutsDontMatter, CutsLeaveVerdict, EventsFirst, OffenceDecides, OneSession, OneVerdict, SidesAreStreams, SnapshotsAreShown, SomeFinal, SomeSession, SomeVerdict};
 ghost use Rattle.lsp_verdict.specs.TextAfter.{OneText};
+ghost use Rattle.lsp_verdict.specs.Upgraded.{OneUpgrade, SomeUpgrade};
 
 /// Yes means: the log has no fault, both streams are complete frames, no message breaks the
 /// lifecycle, every response answers one earlier open request and none is answered twice, the
@@ -85,4 +86,15 @@ pub fn one_verdict()
 /// A log has one answer for the text after a message of the editor's.
 pub fn one_text()
     ensures { OneText }
+{}
+
+/// Each log has an upgrade to format 2: the first line of that format and as many of its first records
+/// as bring no event that offends.
+pub fn some_upgrade()
+    ensures { SomeUpgrade }
+{}
+
+/// And one only.
+pub fn one_upgrade()
+    ensures { OneUpgrade }
 {}

@@ -1,9 +1,9 @@
-//! Logs and streams that are cut short, without an end, nested deep, or spoilt in one byte.
+//! Logs and streams that are cut short, at small limits, nested deep, or spoilt in one byte.
 use crate::logs::{Log, frame_of, split_word};
-use crate::readers::{Endless, Pieces};
+use crate::readers::Pieces;
 use crate::runs::{Work, check_sessions, word_of};
 use lsp_command::Task;
-use lsp_judge::{Completeness, Input, Limits, Mode, Output, run_check};
+use lsp_judge::{Completeness, Limits, Mode};
 use std::alloc::Global;
 use std::process::Abort;
 use std::test::*;
@@ -240,16 +240,16 @@ EMPTY
 + Content-Length: 9\r\n\r\n
 > fault 105 frame 1
 > content too long
-frames fault
+lengths fault
 EMPTY
 + Content-Length: 1\r\nX: aaaaaaaaaaaaaaaaaaaaaaaaaaaaaaaaaaaaaa\r\n\r\n{
 > 1 1
-frames done
+lengths done
 EMPTY
 + Content-Length: 1\r\nX: aaaaaaaaaaaaaaaaaaaaaaaaaaaaaaaaaaaaaaa\r\n\r\n{
 > fault 101 frame 1
 > header part too long
-frames fault"#;
+lengths fault"#;
 
 #[test]
 fn logs_over_a_limit_of_sixteen_bytes(rt: HostRuntime) -> Result<(), Fail> {
@@ -261,25 +261,6 @@ fn logs_over_a_limit_of_sixteen_bytes(rt: HostRuntime) -> Result<(), Fail> {
 fn logs_and_streams_at_small_limits(rt: HostRuntime) -> Result<(), Fail> {
     let limits = Limits::new(64, 8, 4, 0, 4096).ok_or("limits")?;
     check_sessions(&rt, rt.alloc(), SMALL_LIMITS, limits)
-}
-
-#[test]
-fn a_log_without_end_is_read_one_byte_past_the_limit(rt: HostRuntime) -> Result<(), Fail> {
-    let limits = Limits::new(64, 8, 4, 0, 4096).ok_or("limits")?;
-    let mut endless = Endless::new(b"lsp-session 1\n", b"T 1 1 0\na\n\n");
-    let mut written = Vec::new(rt.alloc());
-    let ended = {
-        let mut source = Input::new(&mut endless);
-        let mut sink = Output::new(&mut written);
-        run_check(rt.alloc(), &mut source, &mut sink, limits)
-    };
-    assert_eq!(rt; word_of(&ended), "bad-log");
-    assert_eq!(rt;
-        written.as_slice(),
-        b"bad log L6 record 372\nlog too long\n".as_slice()
-    );
-    assert!(rt; endless.given <= 4097);
-    Ok(())
 }
 
 /// How deep arrays nest in a member of an object, and what is reported then.

@@ -7,7 +7,9 @@
 #[cfg(test)]
 mod command_lines;
 #[cfg(test)]
-mod frames;
+mod endless;
+#[cfg(test)]
+mod faults;
 #[cfg(test)]
 mod hostile;
 #[cfg(test)]
@@ -22,3 +24,5 @@ mod reports;
 mod runs;
 #[cfg(test)]
 mod sessions;
+#[cfg(test)]
+mod streams;

@@ -34,6 +34,14 @@ const START: [(&str, &str); 3] = [
     ("E", "N1"),
 ];
 
+/// The first line of a log of the format of this number, of format 1 where none is named.
+fn first_line(number: &str) -> &'static str {
+    match number {
+        "2" => "lsp-session 2\n",
+        _ => "lsp-session 1\n",
+    }
+}
+
 /// The content of this name.
 fn template(name: &str) -> Option<&'static str> {
     for line in TEMPLATES.lines() {
@@ -170,14 +178,23 @@ impl Log {
         self.push("\n")
     }
 
+    /// A frame whose header part has a field of so many letters.
+    fn long_header(&mut self, letters: usize) -> Result<(), Fail> {
+        self.push("Content-Length: 2\r\nX: ")?;
+        for _ in 0..letters {
+            self.push("a")?;
+        }
+        self.push("\r\n\r\n{}")
+    }
+
     /// A log that begins with this.
     fn begin(&mut self, head: &str) -> Result<(), Fail> {
         self.bytes.clear();
         self.push(head)
     }
 
-    fn start(&mut self) -> Result<(), Fail> {
-        self.begin("lsp-session 1\n")?;
+    fn start(&mut self, format: &str) -> Result<(), Fail> {
+        self.begin(first_line(format))?;
         for (side, words) in START {
             self.frame(side, words)?;
         }
@@ -185,15 +202,21 @@ impl Log {
     }
 
     /// Adds what a line says. A new log begins by `EMPTY`, by `HEAD` with its first line, by `START`
-    /// with that and the handshake. `E` adds a message of the editor, `S` of the server, `T` a
+    /// with that and the handshake; `HEAD 2` and `START 2` begin a log of format 2. `E` adds a message of the editor, `S` of the server, `T` a
     /// snapshot, `+` bytes as they are; `:` says how many bytes there are. From `CUT` on, records of bytes
-    /// have so many bytes at most.
+    /// have so many bytes at most. `F` adds a frame outside of any record, `LONG` one whose
+    /// header part has a field of so many letters.
     pub(super) fn add(&mut self, word: &str, rest: &str) -> Result<(), Fail> {
         match word {
             "EMPTY" => self.begin(""),
-            "HEAD" => self.begin("lsp-session 1\n"),
-            "START" => self.start(),
+            "HEAD" => self.begin(first_line(rest)),
+            "START" => self.start(rest),
             "E" | "S" => self.frame(word, rest),
+            "F" => {
+                let frame = frame_of(self.alloc, rest)?;
+                self.push(frame.as_str())
+            }
+            "LONG" => self.long_header(rest.parse()?),
             "T" => self.snapshot(rest),
             "CUT" => {
                 self.most = rest.parse()?;

@@ -21,7 +21,7 @@ fn normal_of(alloc: Global, limits: Limits, log: &[u8]) -> Result<(Vec<u8>, Vec<
 #[test]
 fn normal_forms_of_small_logs(rt: HostRuntime) {
     let limits = Limits::new(64, 200, 64, 2, 4096).expect(&rt, "limits");
-    let rows: [(&[u8], &[u8], &str); 6] = [
+    let rows: [(&[u8], &[u8], &str); 9] = [
         (b"lsp-session 1\n", b"lsp-session 1\n", ""),
         (
             b"lsp-session 1\nE 33\nContent-Length: 75\r\n\r\n{\"jsonrpc\":\nE 64\n\"2.0\",\"id\":1,\"method\":\"initialize\",\"params\":{\"capabilities\":{}}}\n",
@@ -47,6 +47,17 @@ fn normal_forms_of_small_logs(rt: HostRuntime) {
             b"lsp-session 9\n",
             b"lsp-session 1\n",
             "bad log L1 record 0\nbad first line\n",
+        ),
+        (b"lsp-session 2\n", b"lsp-session 2\n", ""),
+        (
+            b"lsp-session 2\nS 24\ncontent-length: 02\r\n\r\n{}\nT -1 1 2\nu\nab\n",
+            b"lsp-session 2\nS 23\nContent-Length: 2\r\n\r\n{}\nT -1 1 2\nu\nab\n",
+            "",
+        ),
+        (
+            b"lsp-session 2\nX\n",
+            b"lsp-session 2\n",
+            "bad log L2 record 1\nbad record line\n",
         ),
     ];
     for (log, normal, report) in rows {

@@ -88,10 +88,12 @@ impl Read for Endless<'_> {
     }
 }
 
-/// A writer that takes one byte a call, and whose calls fail once none is left, or take nothing.
+/// A writer that takes so many bytes a call at most, and whose calls fail once none is left, or take
+/// nothing.
 #[derive(Drop)]
 pub(super) struct Sparing {
     pub(super) bytes: Vec<u8>,
+    pub(super) most: usize,
     pub(super) calls_left: u64,
     pub(super) takes_nothing: bool,
 }
@@ -109,10 +111,8 @@ impl Write for Sparing {
             return Err(io::Error::from(io::ErrorKind::Other));
         }
         self.calls_left -= 1;
-        if buf.is_empty() {
-            return Ok(0);
-        }
-        self.bytes.write(&buf[..1])
+        let most = buf.len().min(self.most);
+        self.bytes.write(&buf[..most])
     }
 
     fn flush(&mut self) -> io::Result<()> {

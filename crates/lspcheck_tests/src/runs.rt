@@ -1,5 +1,6 @@
 //! Worked sessions through the runs over a log: all that is written, what is reported apart from it,
 //! and how the run ends.
+use crate::faults::check_faults;
 use crate::logs::{Log, split_word};
 use crate::readers::{Broken, Pieces};
 use crate::sessions;
@@ -81,7 +82,8 @@ fn told_by(
 }
 
 /// Takes a line of what the next run has to tell, if it is one: a line to be written, bytes to be
-/// written without an end, a line of the report apart, or the bytes of the log as they are now.
+/// written without an end, a line of the report apart, or the bytes of the log as they are now, with
+/// their own first line or that of format 2.
 fn push_wanted(wanted: &mut Vec<u8>, word: &str, rest: &str, log: &[u8]) -> Result<bool, Fail> {
     match word {
         ">" => {
@@ -93,6 +95,11 @@ fn push_wanted(wanted: &mut Vec<u8>, word: &str, rest: &str, log: &[u8]) -> Resu
             wanted.extend_from_slice(b"! ")?;
             wanted.extend_from_slice(rest.as_bytes())?;
             wanted.push(b'\n')?;
+        }
+        "KEEP" if rest == "2" => {
+            let records = log.strip_prefix(b"lsp-session 1\n").unwrap_or(log);
+            wanted.extend_from_slice(b"lsp-session 2\n")?;
+            wanted.extend_from_slice(records)?;
         }
         "KEEP" => wanted.extend_from_slice(log)?,
         _ => return Ok(false),
@@ -107,7 +114,10 @@ fn run_of<'a>(word: &str, rest: &'a str) -> Result<Option<(Task<'a>, &'a str)>, 
         "complete" => Task::Check(Completeness::Required),
         "show" => Task::Show,
         "normal" => Task::Normal,
-        "frames" => Task::Frames(Mode::Lengths),
+        "upgrade" => Task::Upgrade,
+        "lengths" => Task::Frames(Mode::Lengths),
+        "kinds" => Task::Frames(Mode::Kinds),
+        "canonical" => Task::Frames(Mode::Canonical),
         "text" => {
             let (number, rest) = split_word(rest);
             let (uri, end) = split_word(rest);
@@ -119,7 +129,8 @@ fn run_of<'a>(word: &str, rest: &'a str) -> Result<Option<(Task<'a>, &'a str)>, 
     Ok(Some((task, rest)))
 }
 
-/// Runs over a log by readers that give a byte, a few or many a call.
+/// Runs over a log by readers that give a byte, a few or many a call, then by one that fails at each
+/// call, and into a writer that fails at each.
 fn check_log(
     rt: &impl Abort,
     alloc: Global,
@@ -132,6 +143,9 @@ fn check_log(
         let told = told_by(alloc, task, limits, Pieces::new(log, most))?;
         assert_eq!(rt; told.as_slice(), wanted, "{task:?} by {most}");
     }
+    let told = check_faults(rt, alloc, limits, task, log);
+    assert!(rt; wanted.starts_with(told.written.as_slice()), "{task:?}");
+    assert!(rt; wanted.ends_with(told.ended.as_bytes()), "{task:?}");
     Ok(())
 }
 
@@ -260,6 +274,16 @@ fn the_events_of_a_session(rt: HostRuntime) -> Result<(), Fail> {
 #[test]
 fn the_text_after_a_message(rt: HostRuntime) -> Result<(), Fail> {
     check_sessions(&rt, rt.alloc(), sessions::TEXTS, Limits::profile())
+}
+
+#[test]
+fn late_snapshots_in_both_formats(rt: HostRuntime) -> Result<(), Fail> {
+    check_sessions(&rt, rt.alloc(), sessions::FORMATS, Limits::profile())
+}
+
+#[test]
+fn upgrades(rt: HostRuntime) -> Result<(), Fail> {
+    check_sessions(&rt, rt.alloc(), sessions::UPGRADES, Limits::profile())
 }
 
 #[test]

@@ -7,6 +7,7 @@ use Rattle.std.proofs.lemmas.Bool.{and_from}
 use Rattle.std.proofs.lemmas.Bool.Decides.{nat_tests}
 use Rattle.std.proofs.lemmas.List.{length-take, length-drop, take-append-drop}
 use Rattle.lsp_frame.specs.Bounds.{Bounds, IsInRange}
+use Rattle.lsp_frame.specs.declared.format.Format.{Format}
 use Rattle.lsp_frame.specs.Frame.{Frames, Begins, Breaks, HasFault, IsStream}
 use Rattle.lsp_frame.specs.Header.{is_number, lengths, content_length, fits_charsets, length_and_charset, Says}
 use Rattle.std.specs.Str.Parse.{digits_value}
@@ -22,7 +23,7 @@ use Rattle.lsp_verdict.specs.Laws.{merged, put}
 use Rattle.lsp_verdict.specs.LookBack.{first_from}
 use Rattle.lsp_streams.specs.Normal.{cut, chunks, records_of, form_of, no_at, IsNormal}
 use Rattle.lsp_streams.specs.NormalLaws.{before_fault, is_frame_rule, NormalFormKeepsEvents, NormalFormStays}
-use Rattle.lsp_verdict.specs.Outcome.{HasRest}
+use Rattle.lsp_verdict.specs.Outcome.{HasRest, format_or_one}
 use Rattle.lsp_verdict.specs.Placed.{Raw, content, broken, show, Brings, new_fault, Placed, PlacedAfter, joined}
 use Rattle.lsp_verdict.specs.Verdict.{Verdict}
 use Rattle.lsp_streams.proofs.Forming.Pieces.{cut_none, cut_some}
@@ -237,24 +238,24 @@ frames_placed limits sizes editor server es ss (show n uri t ∷ raws) sane p q 
 -- ---- the form as a log
 
 -- the form of these events, as a log
-pub record IsAgain (limits : Bounds) (out : List ℕ) (raws : List Raw) : Type 0 where
+pub record IsAgain (limits : Bounds) (out : List ℕ) (format : Format) (raws : List Raw) : Type 0 where
   pub records : List Record
-  pub is_log : IsLog limits out records None
+  pub is_log : IsLog limits out (Some format) records None
   pub placed : Placed limits records (before_fault raws)
   pub editor_rest : HasRest limits (joined Editor records) []
   pub server_rest : HasRest limits (joined Server records) []
 
-pub again : (limits : Bounds) → IsInRange limits → (out : List ℕ) (raws : List Raw) → AllByRecursion (IsSane limits) raws → out ≡ form_of limits.chunk raws → length out ≤ limits.log → IsAgain limits out raws
-again limits sizes out raws sane written within =
+pub again : (limits : Bounds) → IsInRange limits → (out : List ℕ) (format : Format) (raws : List Raw) → AllByRecursion (IsSane limits) raws → out ≡ form_of format limits.chunk raws → length out ≤ limits.log → IsAgain limits out format raws
+again limits sizes out format raws sane written within =
     let us : List Record = records_of limits.chunk raws in
     let whole = frames_placed limits sizes [] [] [] [] raws sane (no_stream limits sizes) (no_stream limits sizes) in
     let same : merged us ≡ merged (frames_of raws) = merged_records limits.chunk raws sizes.chunk_low in
     let some = some_placed limits [] [] us in
     let events : some.0 ≡ before_fault raws = cuts_dont_matter limits us (frames_of raws) some.0 (before_fault raws) same some.1 whole.placed in
-    let short : length (first_line ++ flat_map spelling us) ≤ limits.log = subst (λ (w : List ℕ). length w ≤ limits.log) written within in
+    let short : length (first_line format ++ flat_map spelling us) ≤ limits.log = subst (λ (w : List ℕ). length w ≤ limits.log) written within in
     record {
       records = us;
-      is_log = subst (λ (w : List ℕ). IsLog limits w us None) (sym written) (written_is_read limits us (records_fit limits raws sizes.chunk_low sane) short);
+      is_log = subst (λ (w : List ℕ). IsLog limits w (Some format) us None) (sym written) (written_is_read limits format us (records_fit limits raws sizes.chunk_low sane) short);
       placed = subst (λ (rs : List Raw). Placed limits us rs) events some.1;
       editor_rest = subst (λ (w : List ℕ). HasRest limits w []) (sym (cut_joined Editor us (frames_of raws) same)) whole.editor_rest;
       server_rest = subst (λ (w : List ℕ). HasRest limits w []) (sym (cut_joined Server us (frames_of raws) same)) whole.server_rest;
@@ -276,22 +277,24 @@ same_records size (show n uri t ∷ raws) = ap (λ (rs : List Record). shown n u
 
 -- the events whose form it is, all within the limits
 pub record HasForm (limits : Bounds) (out : List ℕ) : Type 0 where
+  pub format : Format
   pub raws : List Raw
   pub sane : AllByRecursion (IsSane limits) raws
-  pub written : out ≡ form_of limits.chunk raws
+  pub written : out ≡ form_of format limits.chunk raws
 
-pub log_fits : (limits : Bounds) (log : List ℕ) (rs : List Record) (flaw : Option (ℕ × LogCode)) → IsLog limits log rs flaw → AllByRecursion (Fits limits) rs
-log_fits limits log rs flaw (inl a) = a.1.begins.fits
-log_fits limits log rs flaw (inr a) = subst (λ (xs : List Record). AllByRecursion (Fits limits) xs) (sym a.0) tt
+pub log_fits : (limits : Bounds) (log : List ℕ) (format : Option Format) (rs : List Record) (flaw : Option (ℕ × LogCode)) → IsLog limits log format rs flaw → AllByRecursion (Fits limits) rs
+log_fits limits log (Some format) rs flaw a = a.1.begins.fits
+log_fits limits log None rs flaw a = subst (λ (xs : List Record). AllByRecursion (Fits limits) xs) (sym a.0) tt
 
 has_form : (limits : Bounds) (log out : List ℕ) (fault : Option Verdict) → IsNormal limits log out fault → HasForm limits out
-has_form limits log out fault w = record { raws = w.raws; sane = placed_sane limits [] [] w.records w.raws (log_fits limits log w.records w.log_fault w.is_log) w.placed; written = w.written }
+has_form limits log out fault w = record { format = format_or_one w.format; raws = w.raws; sane = placed_sane limits [] [] w.records w.raws (log_fits limits log w.format w.records w.log_fault w.is_log) w.placed; written = w.written }
 
 pub normal_form_stays : NormalFormStays
 normal_form_stays limits sizes log out fault normal within =
     let form = has_form limits log out fault normal in
-    let log_of = again limits sizes out form.raws form.sane form.written within in
+    let log_of = again limits sizes out form.format form.raws form.sane form.written within in
     record {
+      format = Some form.format;
       records = log_of.records;
       log_fault = None;
       raws = before_fault form.raws;
@@ -302,16 +305,19 @@ normal_form_stays limits sizes log out fault normal within =
       editor_rest = log_of.editor_rest;
       server_rest = log_of.server_rest;
       ends = ap (λ (o : Option Verdict). option_or o None) (sound_from [] form.raws);
-      written = form.written ∙ ap (λ (rs : List Record). first_line ++ flat_map spelling rs) (sym (same_records limits.chunk form.raws));
+      written = form.written ∙ ap (λ (rs : List Record). first_line form.format ++ flat_map spelling rs) (sym (same_records limits.chunk form.raws));
     }
 
-pub form_is : (limits : Bounds) → IsInRange limits → (log out : List ℕ) (rs : List Record) (flaw : Option (ℕ × LogCode)) (raws : List Raw) (fault : Option Verdict) → IsLog limits log rs flaw → Placed limits rs raws → IsNormal limits log out fault → out ≡ form_of limits.chunk raws
-form_is limits sizes log out rs flaw raws fault is_log placed w =
-    let same = one_log limits sizes log w.records rs w.log_fault flaw w.is_log is_log in
-    w.written ∙ ap (form_of limits.chunk) (one_placed limits [] [] rs w.raws raws (subst (λ (xs : List Record). Placed limits xs w.raws) same.0 w.placed) placed)
+pub form_is : (limits : Bounds) → IsInRange limits → (log out : List ℕ) (format : Option Format) (rs : List Record) (flaw : Option (ℕ × LogCode)) (raws : List Raw) (fault : Option Verdict) → IsLog limits log format rs flaw → Placed limits rs raws → IsNormal limits log out fault
+    → out ≡ form_of (format_or_one format) limits.chunk raws
+form_is limits sizes log out format rs flaw raws fault is_log placed w =
+    let same = one_log limits sizes log w.format format w.records rs w.log_fault flaw w.is_log is_log in
+    w.written
+    ∙ ap (λ (o : Option Format). form_of (format_or_one o) limits.chunk w.raws) same.0
+    ∙ ap (form_of (format_or_one format) limits.chunk) (one_placed limits [] [] rs w.raws raws (subst (λ (xs : List Record). Placed limits xs w.raws) same.1 w.placed) placed)
 
 pub normal_form_keeps_events : NormalFormKeepsEvents
-normal_form_keeps_events limits sizes log out rs flaw raws fault is_log placed normal within =
-    let sane = placed_sane limits [] [] rs raws (log_fits limits log rs flaw is_log) placed in
-    let log_of = again limits sizes out raws sane (form_is limits sizes log out rs flaw raws fault is_log placed normal) within in
+normal_form_keeps_events limits sizes log out format rs flaw raws fault is_log placed normal within =
+    let sane = placed_sane limits [] [] rs raws (log_fits limits log format rs flaw is_log) placed in
+    let log_of = again limits sizes out (format_or_one format) raws sane (form_is limits sizes log out format rs flaw raws fault is_log placed normal) within in
     (log_of.records, log_of.is_log, log_of.placed)

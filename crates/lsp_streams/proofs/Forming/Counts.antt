@@ -4,6 +4,7 @@ use Rattle.std.specs.Option.{option_or}
 use Rattle.std.proofs.Common.{◌≡◌, ℕ, ◌+◌, ◌^◌, ◌<◌, List, [], ◌∷◌, ◌++◌, length, Bool, true, false, Option, Some, None, refl, sym, ap, subst, ◌∙◌, length-append, arith}
 use Rattle.std.proofs.lemmas.Option.{same_Some}
 use Rattle.lsp_frame.specs.Bounds.{Bounds, IsInRange}
+use Rattle.lsp_frame.specs.declared.format.Format.{Format}
 use Rattle.lsp_types.specs.declared.side.Side.{Side}
 use Rattle.lsp_types.specs.declared.side.Side.TheVariants.{Editor, Server}
 use Rattle.lsp_docs.specs.State.{capped}
@@ -37,9 +38,9 @@ broken_from before (show number uri text ∷ raws) v small e =
     broken_from (before ++ show number uri text ∷ []) raws v (omega (arith, small, length-append before (show number uri text ∷ []))) e
 
 -- at a fault of the frames
-pub broken_exact : (limits : Bounds) → IsInRange limits → (log : List ℕ) (records : List Record) (fault : Option (ℕ × LogCode)) (raws : List Raw) (v : Verdict) → IsLog limits log records fault → Placed limits records raws → first_broken raws ≡ Some v → as_given v ≡ v
-broken_exact limits sizes log records fault raws v is_log placed e =
-    broken_from [] raws v (omega (arith, sizes.log_high, raws_within limits log records fault raws is_log placed)) e
+pub broken_exact : (limits : Bounds) → IsInRange limits → (log : List ℕ) (format : Option Format) (records : List Record) (fault : Option (ℕ × LogCode)) (raws : List Raw) (v : Verdict) → IsLog limits log format records fault → Placed limits records raws → first_broken raws ≡ Some v → as_given v ≡ v
+broken_exact limits sizes log format records fault raws v is_log placed e =
+    broken_from [] raws v (omega (arith, sizes.log_high, raws_within limits log format records fault raws is_log placed)) e
 
 rest_exact : (raws : List Raw) (editor server : Bool) → length raws + 1 < 2 ^ 64 → option_map as_given (rest_of raws editor server) ≡ rest_of raws editor server
 rest_exact raws true server small = ap Some (next_exact 107 Editor raws small)
@@ -47,12 +48,12 @@ rest_exact raws false true small = ap Some (next_exact 107 Server raws small)
 rest_exact raws false false small = refl
 
 -- at the end of a log without a fault
-pub end_exact : (limits : Bounds) → IsInRange limits → (log : List ℕ) (records : List Record) (raws : List Raw) (editor server : List ℕ) → IsLog limits log records None → Placed limits records raws → first_broken raws ≡ None
+pub end_exact : (limits : Bounds) → IsInRange limits → (log : List ℕ) (format : Option Format) (records : List Record) (raws : List Raw) (editor server : List ℕ) → IsLog limits log format records None → Placed limits records raws → first_broken raws ≡ None
     → option_map as_given (fault_of raws (ending None editor server)) ≡ fault_of raws (ending None editor server)
-end_exact limits sizes log records raws editor server is_log placed sound =
+end_exact limits sizes log format records raws editor server is_log placed sound =
     let end = ending None editor server in
     let rest : Option Verdict = rest_of raws end.editor_rest end.server_rest in
-    let small : length raws + 1 < 2 ^ 64 = omega (arith, sizes.log_high, raws_within limits log records None raws is_log placed) in
+    let small : length raws + 1 < 2 ^ 64 = omega (arith, sizes.log_high, raws_within limits log format records None raws is_log placed) in
     let is : fault_of raws end ≡ rest = ap (λ (o : Option Verdict). option_or o rest) sound in
     ap (option_map as_given) is ∙ rest_exact raws end.editor_rest end.server_rest small ∙ sym is
 

@@ -5,6 +5,7 @@ use Rattle.std.proofs.Common.{◌≡◌, ℕ, suc, ◌+◌, List, [], ◌∷◌,
 use Rattle.std.proofs.lemmas.Grind.{flat_map-append}
 use Rattle.std.specs.Option.{option_or}
 use Rattle.lsp_frame.specs.Sink.{canonical}
+use Rattle.lsp_frame.specs.declared.format.Format.{Format}
 use Rattle.lsp_types.specs.declared.side.Side.{Side}
 use Rattle.lsp_types.specs.declared.side.Side.TheVariants.{Editor, Server}
 use Rattle.lsp_log.specs.Log.{Record, shown, first_line, spelling}
@@ -55,20 +56,20 @@ pub spelled_behind : (size : ℕ) (raws more : List Raw) → first_broken raws �
 spelled_behind size raws more sound =
     ap (λ (rs : List Record). flat_map spelling rs) (records_from size [] raws more sound) ∙ flat_map-append spelling (records_of size raws) (records_of size more)
 
-pub form_behind : (size : ℕ) (raws more : List Raw) → first_broken raws ≡ None → form_of size (raws ++ more) ≡ form_of size raws ++ spelled size more
-form_behind size raws more sound =
-    ap (λ (w : List ℕ). first_line ++ w) (spelled_behind size raws more sound) ∙ sym (append_assoc first_line (spelled size raws) (spelled size more))
+pub form_behind : (format : Format) (size : ℕ) (raws more : List Raw) → first_broken raws ≡ None → form_of format size (raws ++ more) ≡ form_of format size raws ++ spelled size more
+form_behind format size raws more sound =
+    ap (λ (w : List ℕ). first_line format ++ w) (spelled_behind size raws more sound) ∙ sym (append_assoc (first_line format) (spelled size raws) (spelled size more))
 
-pub form_stops : (size : ℕ) (raws more : List Raw) (v : Verdict) → first_broken raws ≡ Some v → form_of size (raws ++ more) ≡ form_of size raws
-form_stops size raws more v breaks = ap (λ (rs : List Record). first_line ++ flat_map spelling rs) (stops_from size [] raws more v breaks)
+pub form_stops : (format : Format) (size : ℕ) (raws more : List Raw) (v : Verdict) → first_broken raws ≡ Some v → form_of format size (raws ++ more) ≡ form_of format size raws
+form_stops format size raws more v breaks = ap (λ (rs : List Record). first_line format ++ flat_map spelling rs) (stops_from size [] raws more v breaks)
 
 -- whatever follows, what is due begins with what is due for the first events
-pub form_begins : (size : ℕ) (raws more : List Raw) → (left : List ℕ) × (form_of size (raws ++ more) ≡ form_of size raws ++ left)
-form_begins size raws more = by_fault (first_broken raws) refl
+pub form_begins : (format : Format) (size : ℕ) (raws more : List Raw) → (left : List ℕ) × (form_of format size (raws ++ more) ≡ form_of format size raws ++ left)
+form_begins format size raws more = by_fault (first_broken raws) refl
   where
-    by_fault : (o : Option Verdict) → first_broken raws ≡ o → (left : List ℕ) × (form_of size (raws ++ more) ≡ form_of size raws ++ left)
-    by_fault None e = (spelled size more, form_behind size raws more e)
-    by_fault (Some v) e = ([], form_stops size raws more v e ∙ sym (append-nil (form_of size raws)))
+    by_fault : (o : Option Verdict) → first_broken raws ≡ o → (left : List ℕ) × (form_of format size (raws ++ more) ≡ form_of format size raws ++ left)
+    by_fault None e = (spelled size more, form_behind format size raws more e)
+    by_fault (Some v) e = ([], form_stops format size raws more v e ∙ sym (append-nil (form_of format size raws)))
 
 -- ---- contents of a side, behind other events
 

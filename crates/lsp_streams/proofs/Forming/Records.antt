@@ -7,24 +7,24 @@ use Rattle.lsp_frame.specs.Decoder as decoder
 use Rattle.lsp_frame.specs.Sink.{Wrote, Stopped}
 use Rattle.lsp_frame.specs.Told.{Told}
 use Rattle.lsp_frame.proofs.Telling.{took_then}
-use Rattle.lsp_frame.proofs.Writing.{wrote_then}
+use Rattle.lsp_frame.proofs.Writing.{wrote_nothing, wrote_then}
 use Rattle.lsp_types.specs.declared.side.Side.{Side}
 use Rattle.lsp_types.specs.declared.side.Side.TheVariants.{Editor, Server}
-use Rattle.lsp_log.specs.Log.{Record, chunk, shown, first_line, spelling}
+use Rattle.lsp_log.specs.Log.{Record, chunk, shown, spelling}
 use Rattle.lsp_streams.specs.declared.normal.Streams.{Streams}
 use Rattle.lsp_verdict.specs.declared.outcome.Outcome.{Outcome}
 use Rattle.lsp_verdict.specs.declared.outcome.RunFault.{RunFault}
 use Rattle.lsp_verdict.specs.declared.outcome.RunFault.TheVariants.{Read, Write, Memory}
 use Rattle.lsp_verdict.specs.declared.verdict.Who.TheVariants as who
 use Rattle.lsp_verdict.specs.Event.{Event}
-use Rattle.lsp_streams.specs.Normal.{form_of, first_broken}
-use Rattle.lsp_streams.specs.NormalSteps.{mark, spelled, IsLate, WroteFront, BroughtFault, BroughtPart, BringsRecords, Formed, FormedFault, FormedPart, FormsRecord}
+use Rattle.lsp_streams.specs.Normal.{first_broken}
+use Rattle.lsp_streams.specs.NormalSteps.{mark, spelled, IsLate, WroteFront, BroughtFault, BroughtPart, BringsRecords, Formed, FormedFault, FormedPart, FormsRecord, AreFresh}
 use Rattle.lsp_verdict.specs.Placed.{Raw, show, Brings, Placed, joined}
 use Rattle.lsp_verdict.specs.RunIo.{sink_failures}
 use Rattle.lsp_verdict.specs.Counting.{AreCounts}
 use Rattle.lsp_verdict.specs.Drained.{IsDrained}
 use Rattle.lsp_verdict.specs.Verdict.{whose}
-use Rattle.lsp_streams.proofs.Forming.Forms.{form_behind, shown_sound}
+use Rattle.lsp_streams.proofs.Forming.Forms.{spelled_behind, shown_sound}
 use Rattle.lsp_verdict.proofs.PlacedLemmas.{placed-snoc}
 use Rattle.lsp_verdict.proofs.OneRecord.{joined_own, joined_server, joined_editor, joined_shown, placed_one}
 use Rattle.lsp_verdict.proofs.Drained.{drained_along, new_drained}
@@ -37,21 +37,21 @@ placed_more limits side rs bytes raws now placed brings = placed-snoc limits [] 
 placed_shown : (limits : Bounds) (rs : List Record) (n : ℤ) (uri text : List ℕ) (raws : List Raw) → Placed limits rs raws → Placed limits (rs ++ shown n uri text ∷ []) (raws ++ show n uri text ∷ [])
 placed_shown limits rs n uri text raws placed = placed-snoc limits [] [] rs (shown n uri text) raws (show n uri text ∷ []) placed ([], refl, refl)
 
-wrote_more : (size : ℕ) (raws now : List Raw) (start mid new : Told) → first_broken raws ≡ None → Wrote start mid (form_of size raws) → Wrote mid new (spelled size now) → Wrote start new (form_of size (raws ++ now))
-wrote_more size raws now start mid new sound p q = subst (λ (w : List ℕ). Wrote start new w) (sym (form_behind size raws now sound)) (wrote_then start mid new (form_of size raws) (spelled size now) p q)
+wrote_more : (size : ℕ) (raws now : List Raw) (start mid new : Told) → first_broken raws ≡ None → Wrote start mid (spelled size raws) → Wrote mid new (spelled size now) → Wrote start new (spelled size (raws ++ now))
+wrote_more size raws now start mid new sound p q = subst (λ (w : List ℕ). Wrote start new w) (sym (spelled_behind size raws now sound)) (wrote_then start mid new (spelled size raws) (spelled size now) p q)
 
 failures_then : (fault : RunFault) (a b c : ℕ) → IsLate fault → b ≡ a → c ≡ sink_failures (Err fault) b → c ≡ sink_failures (Err fault) a
 failures_then Read a b c late same is = absurd late
 failures_then Write a b c late same is = is ∙ ap (sink_failures (Err Write)) same
 failures_then Memory a b c late same is = is ∙ same
 
-front_part : (size : ℕ) (raws now : List Raw) (start mid new : Told) (fault : RunFault) → IsLate fault → first_broken raws ≡ None → Wrote start mid (form_of size raws) → WroteFront mid new (spelled size now) fault → WroteFront start new (form_of size (raws ++ now)) fault
+front_part : (size : ℕ) (raws now : List Raw) (start mid new : Told) (fault : RunFault) → IsLate fault → first_broken raws ≡ None → Wrote start mid (spelled size raws) → WroteFront mid new (spelled size now) fault → WroteFront start new (spelled size (raws ++ now)) fault
 front_part size raws now start mid new fault late sound p q =
     record {
-      front = form_of size raws ++ q.front;
+      front = spelled size raws ++ q.front;
       back = q.back;
-      whole = form_behind size raws now sound ∙ ap (λ (w : List ℕ). form_of size raws ++ w) q.whole ∙ sym (append_assoc (form_of size raws) q.front q.back);
-      took = took_then start mid new (form_of size raws) q.front p.took q.took;
+      whole = spelled_behind size raws now sound ∙ ap (λ (w : List ℕ). spelled size raws ++ w) q.whole ∙ sym (append_assoc (spelled size raws) q.front q.back);
+      took = took_then start mid new (spelled size raws) q.front p.took q.took;
       failures = failures_then fault start.failures mid.failures new.failures late p.failures q.failures;
     }
 
@@ -147,9 +147,9 @@ shown_part limits s start mid new rs n uri text f stopped = record {
 
 -- ---- before the first record
 
-pub none_formed : (limits : Bounds) (s : Streams) (start now : Told) → IsInRange limits → s.editor ≡ decoder.empty limits → s.server ≡ decoder.empty limits → decoder.StandsFor s.editor [] [] → decoder.StandsFor s.server [] []
-    → AreCounts s.counts [] → s.pieces ≡ limits.chunk → Wrote start now first_line → Formed limits s start now []
-none_formed limits s start now sizes editor server editor_stands server_stands counted size wrote = record {
+pub none_formed : (limits : Bounds) (s : Streams) → IsInRange limits → s.editor ≡ decoder.empty limits → s.server ≡ decoder.empty limits → decoder.StandsFor s.editor [] [] → decoder.StandsFor s.server [] []
+    → AreCounts s.counts [] → s.pieces ≡ limits.chunk → AreFresh limits s
+none_formed limits s sizes editor server editor_stands server_stands counted size sink = record {
   raws = [];
   range = sizes;
   placed = refl;
@@ -160,5 +160,5 @@ none_formed limits s start now sizes editor server editor_stands server_stands c
   size = size;
   editor = new_drained limits sizes s.editor editor editor_stands;
   server = new_drained limits sizes s.server server server_stands;
-  wrote = subst (λ (w : List ℕ). Wrote start now w) (sym (append-nil first_line)) wrote;
+  wrote = wrote_nothing sink;
 }

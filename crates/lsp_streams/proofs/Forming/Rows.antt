@@ -2,6 +2,7 @@
 use Rattle.std.proofs.Common.{◌≡◌, List, ℕ, [], ◌∷◌, ◌++◌, take, drop, refl}
 use Rattle.std.specs.Fmt.{digits}
 use Rattle.std.specs.Prelude.{codes, negsuc, Some, None}
+use Rattle.lsp_frame.specs.declared.format.Format.TheVariants.{One, Two}
 use Rattle.lsp_types.specs.declared.side.Side.TheVariants.{Editor, Server}
 use Rattle.lsp_log.specs.Log.{chunk}
 use Rattle.lsp_log.specs.declared.fault.LogCode.TheVariants.{L1, L2}
@@ -23,30 +24,34 @@ full_records : records_of 64 (content Editor initialize ∷ []) ≡ chunk Editor
 unfolding digits
 full_records = refl
 
-as_bytes : form_of 64 (content Editor initialize ∷ [])
+as_bytes : form_of One 64 (content Editor initialize ∷ [])
     ≡ codes "lsp-session 1\nE 64\n" ++ take 64 frame ++ codes "\nE 33\n" ++ drop 64 frame ++ codes "\n"
 unfolding digits
 as_bytes = refl
 
-one_record : form_of 97 (content Server initialize ∷ []) ≡ codes "lsp-session 1\nS 97\n" ++ frame ++ codes "\n"
+one_record : form_of One 97 (content Server initialize ∷ []) ≡ codes "lsp-session 1\nS 97\n" ++ frame ++ codes "\n"
 unfolding digits
 one_record = refl
 
-empty_content : form_of 1048576 (content Server [] ∷ []) ≡ codes "lsp-session 1\nS 21\nContent-Length: 0\r\n\r\n\n"
+empty_content : form_of One 1048576 (content Server [] ∷ []) ≡ codes "lsp-session 1\nS 21\nContent-Length: 0\r\n\r\n\n"
 unfolding digits
 empty_content = refl
 
-no_events : form_of 1048576 [] ≡ codes "lsp-session 1\n"
+no_events : form_of One 1048576 [] ≡ codes "lsp-session 1\n"
 no_events = refl
 
-snapshot_as_it_is : form_of 1 (show (negsuc 0) (codes "u") (codes "ab") ∷ []) ≡ codes "lsp-session 1\nT -1 1 2\nu\nab\n"
+of_format_two : form_of Two 1048576 (content Server [] ∷ []) ≡ codes "lsp-session 2\nS 21\nContent-Length: 0\r\n\r\n\n"
+unfolding digits
+of_format_two = refl
+
+snapshot_as_it_is : form_of One 1 (show (negsuc 0) (codes "u") (codes "ab") ∷ []) ≡ codes "lsp-session 1\nT -1 1 2\nu\nab\n"
 unfolding digits
 snapshot_as_it_is = refl
 
 abbrev stopped : List Raw
 stopped = content Editor [] ∷ show (negsuc 0) (codes "u") [] ∷ broken Server 105 ∷ content Editor [] ∷ []
 
-nothing_behind_a_fault : form_of 1048576 stopped ≡ codes "lsp-session 1\nE 21\nContent-Length: 0\r\n\r\n\nT -1 1 0\nu\n\n"
+nothing_behind_a_fault : form_of One 1048576 stopped ≡ codes "lsp-session 1\nE 21\nContent-Length: 0\r\n\r\n\nT -1 1 0\nu\n\n"
 unfolding digits
 nothing_behind_a_fault = refl
 

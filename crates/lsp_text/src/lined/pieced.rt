@@ -1,6 +1,6 @@
 //! Lines that are kept in pieces, so that an edit moves a part of a long line at most.
 
-ghost use Rattle.std.specs.Prelude.{◌≡◌, ◌-◌, [], ◌+◌, ◌<◌, ◌≤◌, ◌^◌, ◌++◌, true, length, take, drop, slice_index_or, None, MatchOption, IfSome, IfOk, OnOk, OnErr};
+ghost use Rattle.std.specs.Prelude.{◌≡◌, ◌-◌, [], ◌+◌, ◌<◌, ◌≤◌, ◌^◌, ◌++◌, true, length, take, drop, slice_index_or, None, MatchOption, IfOk, OnOk, OnErr};
 ghost use Rattle.std.specs.List.{replace_range};
 ghost use Rattle.std.specs.Str.{chars, IsCharBoundary};
 ghost use Rattle.std.specs.String.{string_bytes};
@@ -124,15 +124,6 @@ impl PiecedLine {
     {
         let rest = strip_bodies(pieces(&self.front), text)?;
         rest.strip_prefix(self.last.as_str())
-    }
-
-    /// What comes before the line and its end in a text that ends with them.
-    pub(super) fn strip_end<'a>(&self, text: &'a str) -> Option<&'a str>
-        ensures scalar { scalars (spelled self.now) ≡ true }
-        ensures parts { IfSome result (λ before. text.now ≡ before.now ++ encodes (spelled self.now)) }
-    {
-        let before = text.strip_suffix(self.last.as_str())?;
-        strip_bodies_end(pieces(&self.front), before)
     }
 
     /// Puts a text in the place of the bytes from `from` up to `to`, which lie before the line's end.
@@ -324,19 +315,6 @@ fn strip_bodies<'a>(pieces: &[CountedLine], text: &'a str) -> Option<&'a str>
     let mut rest = text;
     for piece in pieces {
         rest = rest.strip_prefix(piece.body())?;
-    }
-    Some(rest)
-}
-
-// What comes before pieces in a text that ends with them.
-fn strip_bodies_end<'a>(pieces: &[CountedLine], text: &'a str) -> Option<&'a str>
-    ensures { IfSome result (λ before. text.now ≡ before.now ++ encodes (bodies pieces.now)) }
-{
-    let mut rest = text;
-    let mut index = pieces.len();
-    while index > 0 {
-        index -= 1;
-        rest = rest.strip_suffix(pieces[index].body())?;
     }
     Some(rest)
 }

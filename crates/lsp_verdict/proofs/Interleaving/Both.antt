@@ -23,6 +23,7 @@ use Rattle.lsp_session.specs.Sent.{Sent, is_response, other_side, request_of, sa
 use Rattle.lsp_docs.specs.Documents.{documents}
 use Rattle.lsp_docs.specs.Rules.{call_rule}
 use Rattle.lsp_docs.specs.Snapshots.{unmatched}
+use Rattle.lsp_docs.specs.Terms.{Terms}
 use Rattle.lsp_verdict.specs.Calls.{call_at, calls}
 use Rattle.lsp_verdict.specs.Event.{Event, message, fault, snapshot, sent_in}
 use Rattle.lsp_verdict.specs.Interleaving.{order_of, is_own, own, AreInterleavings, IsRead, is_asked, is_reply, first_result, is_order_rule, complete, BothYesAgree, OnlyOrderOffends}
@@ -51,35 +52,35 @@ leads_other : (es fs : List Event) → AreInterleavings es fs → Leads (sent_in
 leads_other es fs same value e = one_result es fs same ∙ e
 
 -- both make the same calls
-same_calls : (limit : ℕ) (es fs : List Event) (result : Option Data) → All IsRead es → All IsRead fs → first_no limit es ≡ None → first_no limit fs ≡ None → Leads (sent_in es) result → Leads (sent_in fs) result
+same_calls : (terms : Terms) (es fs : List Event) (result : Option Data) → All IsRead es → All IsRead fs → first_no terms es ≡ None → first_no terms fs ≡ None → Leads (sent_in es) result → Leads (sent_in fs) result
     → own Editor es ≡ own Editor fs → calls es ≡ calls fs
-same_calls limit es fs result read other clean also leads follows same =
-    calls_own limit es result read clean leads ∙ ap (filter_map (call_under (by_result result))) same ∙ sym (calls_own limit fs result other also follows)
+same_calls terms es fs result read other clean also leads follows same =
+    calls_own terms es result read clean leads ∙ ap (filter_map (call_under (by_result result))) same ∙ sym (calls_own terms fs result other also follows)
 
-same_agreed : (limit : ℕ) (es fs : List Event) → All IsRead es → All IsRead fs → first_no limit es ≡ None → first_no limit fs ≡ None → own Server es ≡ own Server fs → agreed (sent_in es) ≡ agreed (sent_in fs)
-same_agreed limit es fs read other clean also same =
-    agreed_own limit es read clean ∙ ap (λ w. by_result (first_result (sent_in w))) same ∙ sym (agreed_own limit fs other also)
+same_agreed : (terms : Terms) (es fs : List Event) → All IsRead es → All IsRead fs → first_no terms es ≡ None → first_no terms fs ≡ None → own Server es ≡ own Server fs → agreed (sent_in es) ≡ agreed (sent_in fs)
+same_agreed terms es fs read other clean also same =
+    agreed_own terms es read clean ∙ ap (λ w. by_result (first_result (sent_in w))) same ∙ sym (agreed_own terms fs other also)
 
 -- ---- both are Yes
 
-summary_is : (limit : ℕ) (es : List Event) (s : Summary) → verdict limit es complete ≡ yes s → s ≡ summary limit es
-summary_is limit es s says =
-    let same : yes s ≡ yes (summary limit es) = sym says ∙ yes_where limit es complete (is_yes limit es complete s says) in
+summary_is : (terms : Terms) (es : List Event) (s : Summary) → verdict terms es complete ≡ yes s → s ≡ summary terms es
+summary_is terms es s says =
+    let same : yes s ≡ yes (summary terms es) = sym says ∙ yes_where terms es complete (is_yes terms es complete s says) in
     cc same
 
 pub both_yes : BothYesAgree
-both_yes limit es fs s t read same first second =
-    let clean = (is_yes limit es complete s first).none in
-    let also = (is_yes limit fs complete t second).none in
+both_yes terms es fs s t read same first second =
+    let clean = (is_yes terms es complete s first).none in
+    let also = (is_yes terms fs complete t second).none in
     let other = read_others es fs read same in
-    let s_is = summary_is limit es s first in
-    let t_is = summary_is limit fs t second in
-    let made = same_calls limit es fs (first_result (sent_in es)) read other clean also (leads_own es) (leads_other es fs same) same.editor in
-    let picks = same_agreed limit es fs read other clean also same.server in
+    let s_is = summary_is terms es s first in
+    let t_is = summary_is terms fs t second in
+    let made = same_calls terms es fs (first_result (sent_in es)) read other clean also (leads_own es) (leads_other es fs same) same.editor in
+    let picks = same_agreed terms es fs read other clean also same.server in
     record {
-      held = ap (documents limit) made;
-      listed = ap (λ k. k.documents) s_is ∙ ap (λ c. map document_of (documents limit c)) made ∙ sym (ap (λ k. k.documents) t_is);
-      unmatched = ap (λ k. k.unmatched) s_is ∙ ap (unmatched limit) made ∙ sym (ap (λ k. k.unmatched) t_is);
+      held = ap (documents terms) made;
+      listed = ap (λ k. k.documents) s_is ∙ ap (λ c. map document_of (documents terms c)) made ∙ sym (ap (λ k. k.documents) t_is);
+      unmatched = ap (λ k. k.unmatched) s_is ∙ ap (unmatched terms) made ∙ sym (ap (λ k. k.unmatched) t_is);
       encoding = ap (λ k. k.encoding) s_is ∙ ap (option_map (λ a. a.encoding)) picks ∙ sym (ap (λ k. k.encoding) t_is);
       sync = ap (λ k. k.sync) s_is ∙ ap (option_map (λ a. a.kind)) picks ∙ sym (ap (λ k. k.sync) t_is);
     }
@@ -181,16 +182,16 @@ rows_ordered test (row ∷ rows) h =
 
 -- ---- the first event that offends in one list, where nothing offends in the other
 
-module _ (limit : ℕ) (es fs : List Event) (read : All IsRead es) (same : AreInterleavings es fs) (clean : first_no limit es ≡ None) (e : Event) (front back before after : List Event) (in_es : es ≡ front ++ e ∷ back)
-    (in_fs : fs ≡ before ++ e ∷ after) (first : first_no limit before ≡ None) (alike : own (order_of e) front ≡ own (order_of e) before) where
+module _ (terms : Terms) (es fs : List Event) (read : All IsRead es) (same : AreInterleavings es fs) (clean : first_no terms es ≡ None) (e : Event) (front back before after : List Event) (in_es : es ≡ front ++ e ∷ back)
+    (in_fs : fs ≡ before ++ e ∷ after) (first : first_no terms before ≡ None) (alike : own (order_of e) front ≡ own (order_of e) before) where
   abbrev result : Option Data
   result = first_result (sent_in es)
 
-  front_clean : first_no limit front ≡ None
-  front_clean = (or_none_parts (first_no limit front) _ (sym (first_of-append (no_at limit) front (e ∷ back)) ∙ ap (first_no limit) (sym in_es) ∙ clean)).0
+  front_clean : first_no terms front ≡ None
+  front_clean = (or_none_parts (first_no terms front) _ (sym (first_of-append (no_at terms) front (e ∷ back)) ∙ ap (first_no terms) (sym in_es) ∙ clean)).0
 
-  stays : offence limit front e ≡ None
-  stays = nothing_offends limit es clean front back e in_es
+  stays : offence terms front e ≡ None
+  stays = nothing_offends terms es clean front back e in_es
 
   reads : All IsRead (front ++ e ∷ back)
   reads = subst (All IsRead) in_es read
@@ -202,10 +203,10 @@ module _ (limit : ℕ) (es fs : List Event) (read : All IsRead es) (same : AreIn
   e_read = All-head IsRead e back (read_back front (e ∷ back) reads)
 
   front_stage : Stage (sent_in front)
-  front_stage = stage_of limit front (read_front front (e ∷ back) reads) front_clean
+  front_stage = stage_of terms front (read_front front (e ∷ back) reads) front_clean
 
   before_stage : Stage (sent_in before)
-  before_stage = stage_of limit before (read_front before (e ∷ after) reads_too) first
+  before_stage = stage_of terms before (read_front before (e ∷ after) reads_too) first
 
   front_leads : Leads (sent_in front) result
   front_leads = leads_front front (e ∷ back) result (subst (λ w. Leads (sent_in w) result) in_es (leads_own es))
@@ -216,7 +217,7 @@ module _ (limit : ℕ) (es fs : List Event) (read : All IsRead es) (same : AreIn
   -- an event of the editor's follows the same calls
   made : is_own Editor e ≡ true → calls front ≡ calls before
   made editor =
-      same_calls limit front before result (read_front front (e ∷ back) reads) (read_front before (e ∷ after) reads_too) front_clean first front_leads before_leads
+      same_calls terms front before result (read_front front (e ∷ back) reads) (read_front before (e ∷ after) reads_too) front_clean first front_leads before_leads
       (by_side (order_of e) alike editor)
     where
       by_side : (side : Side) → own side front ≡ own side before → same_side Editor side ≡ true → own Editor front ≡ own Editor before
@@ -227,16 +228,16 @@ module _ (limit : ℕ) (es fs : List Event) (read : All IsRead es) (same : AreIn
   call_before k = event_call before e result before_stage e_read k before_leads
 
   call_front : call_at front e ≡ call_under (by_result result) e
-  call_front = event_call front e result front_stage e_read (keeps limit front e stays) front_leads
+  call_front = event_call front e result front_stage e_read (keeps terms front e stays) front_leads
 
   -- so it breaks no rule on documents
-  no_document_rule : Keeps before e → document_rule limit before e ≡ None
+  no_document_rule : Keeps before e → document_rule terms before e ≡ None
   no_document_rule k = elim (true_or_false (is_own Editor e)) [
     | inl editor ↦
-        ap (λ c. option_and_then (call_rule limit c) (call_at before e)) (sym (made editor))
-        ∙ ap (option_and_then (call_rule limit (calls front))) (call_before k ∙ sym call_front)
-        ∙ document_rule_none limit front e stays
-    | inr server ↦ ap (option_and_then (call_rule limit (calls before))) (call_before k ∙ other_none (by_result result) e e_read server)
+        ap (λ c. option_and_then (call_rule terms c) (call_at before e)) (sym (made editor))
+        ∙ ap (option_and_then (call_rule terms (calls front))) (call_before k ∙ sym call_front)
+        ∙ document_rule_none terms front e stays
+    | inr server ↦ ap (option_and_then (call_rule terms (calls before))) (call_before k ∙ other_none (by_result result) e e_read server)
   ]
 
   replied : order_of e ≡ Server → (length (filter is_reply (sent_in front)) ≡ length (filter is_reply (sent_in before))) × (first_result (sent_in front) ≡ first_result (sent_in before))
@@ -258,13 +259,13 @@ named_rule : (o : Option ℕ) (rule : ℕ) → is_ordered o ≡ true → o ≡ S
 named_rule o rule ordered is = sym (ap is_ordered is) ∙ ordered
 
 -- the other rules of a message are broken in both or in neither
-message_ordered : (limit : ℕ) (es fs : List Event) → All IsRead es → AreInterleavings es fs → first_no limit es ≡ None → (m : Sent) (front back before after : List Event) → es ≡ front ++ message m ∷ back
-    → fs ≡ before ++ message m ∷ after → first_no limit before ≡ None → own m.side front ≡ own m.side before → (rule : ℕ) → offence limit before (message m) ≡ Some rule → is_order_rule rule ≡ true
-message_ordered limit es fs read same clean m front back before after in_es in_fs first alike rule offends =
-    let admitted = keeps limit front (message m) (stays limit es fs read same clean (message m) front back before after in_es in_fs first alike) in
+message_ordered : (terms : Terms) (es fs : List Event) → All IsRead es → AreInterleavings es fs → first_no terms es ≡ None → (m : Sent) (front back before after : List Event) → es ≡ front ++ message m ∷ back
+    → fs ≡ before ++ message m ∷ after → first_no terms before ≡ None → own m.side front ≡ own m.side before → (rule : ℕ) → offence terms before (message m) ≡ Some rule → is_order_rule rule ≡ true
+message_ordered terms es fs read same clean m front back before after in_es in_fs first alike rule offends =
+    let admitted = keeps terms front (message m) (stays terms es fs read same clean (message m) front back before after in_es in_fs first alike) in
     let asked = or_none_parts (request_rule (sent_in front) m) _ admitted in
     let agreed_on = (or_none_parts (lifecycle_rule (sent_in front) m) _ asked.1).1 in
-    elim (or_cases (rule_after (sent_in before) m) (document_rule limit before (message m)) rule offends) [
+    elim (or_cases (rule_after (sent_in before) m) (document_rule terms before (message m)) rule offends) [
       | inl by ↦ elim (or_cases (request_rule (sent_in before) m) (option_or (lifecycle_rule (sent_in before) m) (negotiation_rule (sent_in before) m)) rule by) [
         | inl p ↦ named_rule (request_rule (sent_in before) m) rule (ids_ordered (open_requests m.side (sent_in before)) (open_requests (other_side m.side) (sent_in before)) m.message) p
         | inr r ↦ elim (or_cases (lifecycle_rule (sent_in before) m) (negotiation_rule (sent_in before) m) rule r.1) [
@@ -272,43 +273,43 @@ message_ordered limit es fs read same clean m front back before after in_es in_f
           | inr n ↦
               let settles =
               one_settled (sent_in front) (sent_in before) _ _ m.side m.message m.act
-              (front_stage limit es fs read same clean (message m) front back before after in_es in_fs first alike)
-              (before_stage limit es fs read same clean (message m) front back before after in_es in_fs first alike)
+              (front_stage terms es fs read same clean (message m) front back before after in_es in_fs first alike)
+              (before_stage terms es fs read same clean (message m) front back before after in_es in_fs first alike)
               asked.0 r.0
-              (asks_alike limit es fs read same clean (message m) front back before after in_es in_fs first alike)
-              (replied limit es fs read same clean (message m) front back before after in_es in_fs first alike) in
+              (asks_alike terms es fs read same clean (message m) front back before after in_es in_fs first alike)
+              (replied terms es fs read same clean (message m) front back before after in_es in_fs first alike) in
               never_some (negotiation_rule (sent_in before) m) rule n.1 (ap (λ o. option_or (settled_rule o) (register_rule m.side m.act)) (sym settles) ∙ agreed_on)
         ]
       ]
       | inr d ↦
-          never_some (document_rule limit before (message m)) rule d.1
-          (no_document_rule limit es fs read same clean (message m) front back before after in_es in_fs first alike d.0)
+          never_some (document_rule terms before (message m)) rule d.1
+          (no_document_rule terms es fs read same clean (message m) front back before after in_es in_fs first alike d.0)
     ]
 
-event_ordered : (limit : ℕ) (es fs : List Event) → All IsRead es → AreInterleavings es fs → first_no limit es ≡ None → (e : Event) (front back before after : List Event) → es ≡ front ++ e ∷ back
-    → fs ≡ before ++ e ∷ after → first_no limit before ≡ None → own (order_of e) front ≡ own (order_of e) before → (rule : ℕ) → offence limit before e ≡ Some rule → is_order_rule rule ≡ true
-event_ordered limit es fs read same clean (message m) front back before after in_es in_fs first alike rule offends =
-    message_ordered limit es fs read same clean m front back before after in_es in_fs first alike rule offends
-event_ordered limit es fs read same clean (fault side named) front back before after in_es in_fs first alike rule offends =
-    never_some (Some named) named refl (stays limit es fs read same clean (fault side named) front back before after in_es in_fs first alike)
-event_ordered limit es fs read same clean (snapshot uri n t) front back before after in_es in_fs first alike rule offends =
-    never_some (document_rule limit before (snapshot uri n t)) rule offends
-    (no_document_rule limit es fs read same clean (snapshot uri n t) front back before after in_es in_fs first alike tt)
+event_ordered : (terms : Terms) (es fs : List Event) → All IsRead es → AreInterleavings es fs → first_no terms es ≡ None → (e : Event) (front back before after : List Event) → es ≡ front ++ e ∷ back
+    → fs ≡ before ++ e ∷ after → first_no terms before ≡ None → own (order_of e) front ≡ own (order_of e) before → (rule : ℕ) → offence terms before e ≡ Some rule → is_order_rule rule ≡ true
+event_ordered terms es fs read same clean (message m) front back before after in_es in_fs first alike rule offends =
+    message_ordered terms es fs read same clean m front back before after in_es in_fs first alike rule offends
+event_ordered terms es fs read same clean (fault side named) front back before after in_es in_fs first alike rule offends =
+    never_some (Some named) named refl (stays terms es fs read same clean (fault side named) front back before after in_es in_fs first alike)
+event_ordered terms es fs read same clean (snapshot uri n t) front back before after in_es in_fs first alike rule offends =
+    never_some (document_rule terms before (snapshot uri n t)) rule offends
+    (no_document_rule terms es fs read same clean (snapshot uri n t) front back before after in_es in_fs first alike tt)
 
 -- ---- one is Yes and the other No
 
-first_offends : (limit : ℕ) (fs : List Event) (v : Verdict) → Why limit fs complete v → first_no limit fs ≡ Some v
-first_offends limit fs v (inl first) = first
-first_offends limit fs v (inr (none, inl log)) = let same : None ≡ Some v = log in absurd cc
-first_offends limit fs v (inr (none, inr (no_log, rest))) = let same : None ≡ Some v = rest in absurd cc
+first_offends : (terms : Terms) (fs : List Event) (v : Verdict) → Why terms fs complete v → first_no terms fs ≡ Some v
+first_offends terms fs v (inl first) = first
+first_offends terms fs v (inr (none, inl log)) = let same : None ≡ Some v = log in absurd cc
+first_offends terms fs v (inr (none, inr (no_log, rest))) = let same : None ≡ Some v = rest in absurd cc
 
 rule_is : (rule named : ℕ) (who : Who) (number event : ℕ) (before : List Event) (e : Event) → no rule who number event ≡ no_by before e named → named ≡ rule
 rule_is rule named who number event before e same = let rules : rule ≡ named = cc same in sym rules
 
 pub one_yes : OnlyOrderOffends
-one_yes limit es fs s rule who number event read same says refuses =
-    let clean = (is_yes limit es complete s says).none in
-    let n = names_first limit fs (no rule who number event) (first_offends limit fs (no rule who number event) (is_refused limit fs complete (no rule who number event) tt refuses)) in
+one_yes terms es fs s rule who number event read same says refuses =
+    let clean = (is_yes terms es complete s says).none in
+    let n = names_first terms fs (no rule who number event) (first_offends terms fs (no rule who number event) (is_refused terms fs complete (no rule who number event) tt refuses)) in
     let p = found es fs n.before n.event n.after same n.whole in
     subst (λ r. is_order_rule r ≡ true) (rule_is rule n.rule who number event n.before n.event n.is)
-    (event_ordered limit es fs read same clean n.event p.before p.after n.before n.after p.whole n.whole (nothing_found limit n.before n.first) p.same n.rule n.offends)
+    (event_ordered terms es fs read same clean n.event p.before p.after n.before n.after p.whole n.whole (nothing_found terms n.before n.first) p.same n.rule n.offends)

@@ -24,6 +24,7 @@ use Rattle.lsp_session.specs.State.{agreed_in, state_of}
 use Rattle.lsp_session.specs.declared.negotiation.Agreed.{Agreed}
 use Rattle.lsp_session.proofs.Bools.{true_or_false}
 use Rattle.lsp_docs.specs.Calls.{Call, shows}
+use Rattle.lsp_docs.specs.Terms.{Terms}
 use Rattle.lsp_verdict.specs.Calls.{call_of, call_at, calls}
 use Rattle.lsp_verdict.specs.Event.{Event, message, fault, snapshot, sent_in}
 use Rattle.lsp_verdict.specs.Interleaving.{is_own, own, IsRead, first_result}
@@ -105,10 +106,10 @@ Keeps before (message m) = rule_after (sent_in before) m ≡ None
 Keeps before (fault side rule) = Unit {0}
 Keeps before (snapshot uri n t) = Unit {0}
 
-pub keeps : (limit : ℕ) (before : List Event) (e : Event) → offence limit before e ≡ None → Keeps before e
-keeps limit before (message m) none = session_rule_none limit before m none
-keeps limit before (fault side rule) none = tt
-keeps limit before (snapshot uri n t) none = tt
+pub keeps : (terms : Terms) (before : List Event) (e : Event) → offence terms before e ≡ None → Keeps before e
+keeps terms before (message m) none = session_rule_none terms before m none
+keeps terms before (fault side rule) none = tt
+keeps terms before (snapshot uri n t) none = tt
 
 pub event_call : (before : List Event) (e : Event) (result : Option Data) → Stage (sent_in before) → IsRead e → Keeps before e → Leads (sent_in before) result → call_at before e ≡ call_under (by_result result) e
 event_call before (message m) result stage read rule leads =
@@ -121,16 +122,16 @@ pub leads_front : (es fs : List Event) (result : Option Data) → Leads (sent_in
 leads_front es fs result leads value e =
     leads value (ap first_result (sent_in-append es fs) ∙ first_result-append (sent_in es) (sent_in fs) ∙ ap (λ o. option_or o (first_result (sent_in fs))) e)
 
-calls_from : (limit : ℕ) (before es : List Event) (result : Option Data) → Stage (sent_in before) → All IsRead es → first_from (no_at limit) before es ≡ None → Leads (sent_in (before ++ es)) result
+calls_from : (terms : Terms) (before es : List Event) (result : Option Data) → Stage (sent_in before) → All IsRead es → first_from (no_at terms) before es ≡ None → Leads (sent_in (before ++ es)) result
     → each_from call_at before es ≡ filter_map (call_under (by_result result)) es
-calls_from limit before [] result stage read none leads = refl
-calls_from limit before (e ∷ es) result stage read none leads =
-    let parts = or_none_parts (no_at limit before e) (first_from (no_at limit) (before ++ e ∷ []) es) none in
-    let clean = map_none (no_by before e) (offence limit before e) parts.0 in
+calls_from terms before [] result stage read none leads = refl
+calls_from terms before (e ∷ es) result stage read none leads =
+    let parts = or_none_parts (no_at terms before e) (first_from (no_at terms) (before ++ e ∷ []) es) none in
+    let clean = map_none (no_by before e) (offence terms before e) parts.0 in
     let head = All-head IsRead e es read in
-    ap (λ o. cons_option o (each_from call_at (before ++ e ∷ []) es)) (event_call before e result stage head (keeps limit before e clean) (leads_front before (e ∷ es) result leads))
+    ap (λ o. cons_option o (each_from call_at (before ++ e ∷ []) es)) (event_call before e result stage head (keeps terms before e clean) (leads_front before (e ∷ es) result leads))
     ∙ ap (cons_option (call_under (by_result result) e))
-    (calls_from limit (before ++ e ∷ []) es result (one_more limit before e stage head clean) (All-tail IsRead e es read) parts.1 (subst (λ w. Leads (sent_in w) result) (sym (append_assoc before (e ∷ []) es)) leads))
+    (calls_from terms (before ++ e ∷ []) es result (one_more terms before e stage head clean) (All-tail IsRead e es read) parts.1 (subst (λ w. Leads (sent_in w) result) (sym (append_assoc before (e ∷ []) es)) leads))
 
 -- the server's events make no call
 pub other_none : (a : Option Agreed) (e : Event) → IsRead e → is_own Editor e ≡ false → call_under a e ≡ None
@@ -153,6 +154,6 @@ calls_editor a (e ∷ es) read =
     ∙ only_own a e (own Editor es) (is_own Editor e) (other_none a e (All-head IsRead e es read))
 
 -- the calls are those of the editor's events under what the first result agrees on
-pub calls_own : (limit : ℕ) (es : List Event) (result : Option Data) → All IsRead es → first_no limit es ≡ None → Leads (sent_in es) result
+pub calls_own : (terms : Terms) (es : List Event) (result : Option Data) → All IsRead es → first_no terms es ≡ None → Leads (sent_in es) result
     → calls es ≡ filter_map (call_under (by_result result)) (own Editor es)
-calls_own limit es result read none leads = calls_from limit [] es result at_first read none leads ∙ calls_editor (by_result result) es read
+calls_own terms es result read none leads = calls_from terms [] es result at_first read none leads ∙ calls_editor (by_result result) es read

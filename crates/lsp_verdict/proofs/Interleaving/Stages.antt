@@ -14,6 +14,7 @@ use Rattle.lsp_session.specs.Negotiation.{agreed, agreed_at}
 use Rattle.lsp_session.specs.Requests.{is_answered}
 use Rattle.lsp_session.specs.Rules.{rule_after}
 use Rattle.lsp_session.specs.Sent.{Sent, is_initialize}
+use Rattle.lsp_docs.specs.Terms.{Terms}
 use Rattle.lsp_verdict.specs.Event.{Event, message, fault, snapshot, sent_in}
 use Rattle.lsp_verdict.specs.Interleaving.{own, IsRead, is_asked, is_reply, first_result, AnswersInTurn, IsEarly, HandshakeInTurn}
 use Rattle.lsp_verdict.specs.LookBack.{first_from}
@@ -26,21 +27,21 @@ use Rattle.lsp_verdict.proofs.Messages.{sent_in-append, session_rule_none}
 
 -- ---- the stage of a session
 
-pub one_more : (limit : ℕ) (before : List Event) (e : Event) → Stage (sent_in before) → IsRead e → offence limit before e ≡ None → Stage (sent_in (before ++ e ∷ []))
-one_more limit before (message m) stage read none =
-    subst Stage (sym (sent_in-append before (message m ∷ []))) (step (sent_in before) m read (session_rule_none limit before m none) stage)
-one_more limit before (fault side rule) stage read none = subst Stage (sym (sent_in-append before (fault side rule ∷ []) ∙ append-nil (sent_in before))) stage
-one_more limit before (snapshot uri n t) stage read none = subst Stage (sym (sent_in-append before (snapshot uri n t ∷ []) ∙ append-nil (sent_in before))) stage
+pub one_more : (terms : Terms) (before : List Event) (e : Event) → Stage (sent_in before) → IsRead e → offence terms before e ≡ None → Stage (sent_in (before ++ e ∷ []))
+one_more terms before (message m) stage read none =
+    subst Stage (sym (sent_in-append before (message m ∷ []))) (step (sent_in before) m read (session_rule_none terms before m none) stage)
+one_more terms before (fault side rule) stage read none = subst Stage (sym (sent_in-append before (fault side rule ∷ []) ∙ append-nil (sent_in before))) stage
+one_more terms before (snapshot uri n t) stage read none = subst Stage (sym (sent_in-append before (snapshot uri n t ∷ []) ∙ append-nil (sent_in before))) stage
 
-pub stage_from : (limit : ℕ) (before es : List Event) → Stage (sent_in before) → All IsRead es → first_from (no_at limit) before es ≡ None → Stage (sent_in (before ++ es))
-stage_from limit before [] stage read none = subst (λ w. Stage (sent_in w)) (sym (append-nil before)) stage
-stage_from limit before (e ∷ es) stage read none =
-    let parts = or_none_parts (no_at limit before e) (first_from (no_at limit) (before ++ e ∷ []) es) none in
+pub stage_from : (terms : Terms) (before es : List Event) → Stage (sent_in before) → All IsRead es → first_from (no_at terms) before es ≡ None → Stage (sent_in (before ++ es))
+stage_from terms before [] stage read none = subst (λ w. Stage (sent_in w)) (sym (append-nil before)) stage
+stage_from terms before (e ∷ es) stage read none =
+    let parts = or_none_parts (no_at terms before e) (first_from (no_at terms) (before ++ e ∷ []) es) none in
     subst (λ w. Stage (sent_in w)) (append_assoc before (e ∷ []) es)
-    (stage_from limit (before ++ e ∷ []) es (one_more limit before e stage (All-head IsRead e es read) (map_none (no_by before e) (offence limit before e) parts.0)) (All-tail IsRead e es read) parts.1)
+    (stage_from terms (before ++ e ∷ []) es (one_more terms before e stage (All-head IsRead e es read) (map_none (no_by before e) (offence terms before e) parts.0)) (All-tail IsRead e es read) parts.1)
 
-pub stage_of : (limit : ℕ) (es : List Event) → All IsRead es → first_no limit es ≡ None → Stage (sent_in es)
-stage_of limit es read none = stage_from limit [] es at_first read none
+pub stage_of : (terms : Terms) (es : List Event) → All IsRead es → first_no terms es ≡ None → Stage (sent_in es)
+stage_of terms es read none = stage_from terms [] es at_first read none
 
 -- ---- what is agreed
 
@@ -59,27 +60,27 @@ agreed_stage h stage = by_value (first_settled h) ∙ ap (option_and_then agreed
 pub result_own : (es : List Event) → first_result (sent_in es) ≡ first_result (sent_in (own Server es))
 result_own es = first_result-from (sent_in es) ∙ ap first_result (sym (sent_own Server es))
 
-values_own : (limit : ℕ) (es : List Event) → All IsRead es → first_no limit es ≡ None → option_map value_of (first_settled (sent_in es)) ≡ first_result (sent_in (own Server es))
-values_own limit es read none = values_stage (sent_in es) (stage_of limit es read none) ∙ result_own es
+values_own : (terms : Terms) (es : List Event) → All IsRead es → first_no terms es ≡ None → option_map value_of (first_settled (sent_in es)) ≡ first_result (sent_in (own Server es))
+values_own terms es read none = values_stage (sent_in es) (stage_of terms es read none) ∙ result_own es
 
-pub agreed_own : (limit : ℕ) (es : List Event) → All IsRead es → first_no limit es ≡ None → agreed (sent_in es) ≡ option_and_then agreed_at (first_result (sent_in (own Server es)))
-agreed_own limit es read none = agreed_stage (sent_in es) (stage_of limit es read none) ∙ ap (option_and_then agreed_at) (result_own es)
+pub agreed_own : (terms : Terms) (es : List Event) → All IsRead es → first_no terms es ≡ None → agreed (sent_in es) ≡ option_and_then agreed_at (first_result (sent_in (own Server es)))
+agreed_own terms es read none = agreed_stage (sent_in es) (stage_of terms es read none) ∙ ap (option_and_then agreed_at) (result_own es)
 
 -- ---- before the first result
 
 -- what an event finds where neither it nor what is before it offends
-record Found (limit : ℕ) (before : List Event) (m : Sent) : Type 0 where
+record Found (terms : Terms) (before : List Event) (m : Sent) : Type 0 where
   stage : Stage (sent_in before)
   read : act_at m.side m.message ≡ Some m.act
   rule : rule_after (sent_in before) m ≡ None
 
-early : (limit : ℕ) (before : List Event) (m : Sent) → IsEarly limit before m → Found limit before m
-early limit before m is =
-    let parts = or_none_parts (first_no limit before) (no_at limit before (message m)) (sym (first_of-snoc (no_at limit) before (message m)) ∙ is.clean) in
+early : (terms : Terms) (before : List Event) (m : Sent) → IsEarly terms before m → Found terms before m
+early terms before m is =
+    let parts = or_none_parts (first_no terms before) (no_at terms before (message m)) (sym (first_of-snoc (no_at terms) before (message m)) ∙ is.clean) in
     record {
-      stage = stage_of limit before (read_front before (message m ∷ []) is.read) parts.0;
+      stage = stage_of terms before (read_front before (message m ∷ []) is.read) parts.0;
       read = All-head IsRead (message m) [] (read_back before (message m ∷ []) is.read);
-      rule = session_rule_none limit before m (map_none (no_by before (message m)) (offence limit before (message m)) parts.1);
+      rule = session_rule_none terms before m (map_none (no_by before (message m)) (offence terms before (message m)) parts.1);
     }
 
 no_value : {X : Type 0} (h : List Sent) (s : IsSettled h) → first_result h ≡ None → X
@@ -117,8 +118,8 @@ replies_by h Editor said act stage rule none replies = absurd (true≢false (sym
 
 pub in_each_order : HandshakeInTurn
 in_each_order = record {
-  starts = λ limit before m is asked. let f = early limit before m is in starts_by (sent_in before) m.side m.message m.act f.stage f.read f.rule is.unsettled asked;
-  replies = λ limit before m is replies. let f = early limit before m is in replies_by (sent_in before) m.side m.message m.act f.stage f.rule is.unsettled replies;
+  starts = λ terms before m is asked. let f = early terms before m is in starts_by (sent_in before) m.side m.message m.act f.stage f.read f.rule is.unsettled asked;
+  replies = λ terms before m is replies. let f = early terms before m is in replies_by (sent_in before) m.side m.message m.act f.stage f.rule is.unsettled replies;
   settles = values_own;
   agrees = agreed_own;
 }

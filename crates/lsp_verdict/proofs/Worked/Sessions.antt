@@ -11,7 +11,7 @@ use Rattle.serde_json.specs.Read.{number_of}
 use Rattle.lsp_verdict.specs.Event.{Event}
 use Rattle.lsp_verdict.specs.Verdict.{verdict, yes, no, bad_log}
 use Rattle.lsp_verdict.specs.declared.verdict.Who.TheVariants as who
-use Rattle.lsp_verdict.proofs.Worked.Templates.{limit, judged, kept_of, kept, I, I1, IT, IE, A, A1, N1, START, OPEN, SH, RN, EX, REQ, CANCEL, RES, ERR, LOG, PROG, REG, T, E}
+use Rattle.lsp_verdict.proofs.Worked.Templates.{terms, judged, kept_of, kept, I, I1, IT, IE, A, A1, N1, START, OPEN, SH, RN, EX, REQ, CANCEL, RES, ERR, LOG, PROG, REG, T, E}
 use Rattle.lsp_rpc.specs.Ident.{number}
 use Rattle.lsp_types.specs.declared.side.Side.TheVariants.{Editor}
 use Rattle.lsp_types.specs.declared.position.Encoding.TheVariants.{Utf16}
@@ -193,27 +193,27 @@ extra_members = refl
 
 -- ---- how a log ends
 
-offence_before_a_log_fault : verdict limit (START ++ REQ ∷ REQ ∷ []) (record { log_fault = Some (6, L2); editor_rest = false; server_rest = false })
+offence_before_a_log_fault : verdict terms (START ++ REQ ∷ REQ ∷ []) (record { log_fault = Some (6, L2); editor_rest = false; server_rest = false })
     ≡ no 302 who.Editor 4 5
 unfolding value punctuate lex content word after_number number_of scan_numeral chars
 offence_before_a_log_fault = refl
 
-log_fault : verdict limit START (record { log_fault = Some (4, L2); editor_rest = false; server_rest = true })
+log_fault : verdict terms START (record { log_fault = Some (4, L2); editor_rest = false; server_rest = true })
     ≡ bad_log 4 L2
 unfolding value punctuate lex content word after_number number_of scan_numeral chars
 log_fault = refl
 
-rest_of_the_editor : verdict limit [] (record { log_fault = None; editor_rest = true; server_rest = false })
+rest_of_the_editor : verdict terms [] (record { log_fault = None; editor_rest = true; server_rest = false })
     ≡ no 107 who.Editor 1 1
 unfolding value punctuate lex content word after_number number_of scan_numeral chars
 rest_of_the_editor = refl
 
-rest_of_both : verdict limit [] (record { log_fault = None; editor_rest = true; server_rest = true })
+rest_of_both : verdict terms [] (record { log_fault = None; editor_rest = true; server_rest = true })
     ≡ no 107 who.Editor 1 1
 unfolding value punctuate lex content word after_number number_of scan_numeral chars
 rest_of_both = refl
 
-rest_of_the_server : verdict limit START (record { log_fault = None; editor_rest = false; server_rest = true })
+rest_of_the_server : verdict terms START (record { log_fault = None; editor_rest = false; server_rest = true })
     ≡ no 107 who.Server 2 4
 unfolding value punctuate lex content word after_number number_of scan_numeral chars
 rest_of_the_server = refl

@@ -15,6 +15,7 @@ use Rattle.lsp_types.specs.declared.position.Encoding.{Encoding}
 use Rattle.lsp_types.specs.declared.position.Encoding.TheVariants.{Utf16}
 use Rattle.lsp_types.specs.declared.change.SyncKind.{SyncKind}
 use Rattle.lsp_types.specs.declared.change.SyncKind.TheVariants.{Incremental}
+use Rattle.lsp_docs.specs.Terms.{Terms}
 use Rattle.lsp_verdict.specs.Shown.{TextAnswer, text_answer, up_to_editor}
 use Rattle.lsp_verdict.specs.Verdict.{Ending, Verdict, verdict, yes}
 
@@ -129,14 +130,18 @@ T version text = snapshot (codes "file:///a") (pos version) text
 
 -- ---- sessions
 
-abbrev pub limit : ℕ
-limit = 16777216
+-- format 1 with this limit
+abbrev pub limited : ℕ → Terms
+limited limit = record { limit = limit; kept = 0 }
+
+abbrev pub terms : Terms
+terms = limited 16777216
 
 abbrev pub clean : Ending
 clean = record { log_fault = None; editor_rest = false; server_rest = false }
 
 abbrev pub judged : List Event → Verdict
-judged events = verdict limit events clean
+judged events = verdict terms events clean
 
 -- what is said of a session that keeps the rules: counts, what was agreed, documents by version and bytes, and open requests with whether they are cancelled
 pub record Kept : Type 0 where
@@ -169,5 +174,5 @@ kept editor server snapshots unmatched documents =
 
 -- ---- the text after a message
 
-abbrev pub text_after : ℕ → ℕ → List ℕ → List Event → Ending → TextAnswer
-text_after limit n uri events end = text_answer limit uri (verdict limit events end) (up_to_editor n [] events)
+abbrev pub text_after : Terms → ℕ → List ℕ → List Event → Ending → TextAnswer
+text_after terms n uri events end = text_answer terms uri (verdict terms events end) (up_to_editor n [] events)

@@ -14,6 +14,7 @@ returns c =
           show = λ e. sym is ∙ c.task_of.ensures.show e;
           text = λ e. c.in-Some-task_of.ensures.text e;
           normal = λ e. sym is ∙ c.task_of.ensures.normal e;
+          upgrade = λ e. sym is ∙ c.task_of.ensures.upgrade e;
           frames = λ e. sym is ∙ c.task_of.ensures.frames e;
         };
         file = c.file_of-file.ensures ∙ ap file_of c.get_str.ensures;

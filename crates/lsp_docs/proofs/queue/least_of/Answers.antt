@@ -1,9 +1,7 @@
-use Rattle.std.proofs.Common.{◌≡◌, false, Some, sym, ap, ◌∙◌, w32, add-one}
-use Rattle.std.specs.Prelude.{int_lt}
+use Rattle.std.proofs.Common.{Some, sym, ap, ◌∙◌, w32, add-one}
 use Rattle.std.proofs.lemmas.Int.{to_z-of_z}
 use Rattle.std.proofs.lemmas.Option.{slice_get-get_or}
 use mir.Val.{SFits}
-use Rattle.lsp_docs.specs.Kept.{IsLeast}
 use Rattle.lsp_docs.proofs.Ahead.{least-step}
 use Rattle.lsp_docs.proofs.queue.least_of.Goals as goal
 

@@ -1,5 +1,5 @@
 use Rattle.std.proofs.Common.{take}
-use Rattle.lsp_docs.specs.Kept.{versions, IsLeast}
+use Rattle.lsp_docs.specs.Stored.{versions, IsLeast}
 use Rattle.lsp_docs.proofs.queue.least_of.Given as goal
 
 abbrev pub invariant-loop-snapshot : goal.invariant-loop-snapshot

@@ -1,5 +1,5 @@
 use Rattle.std.proofs.Common.{ap, ◌∙◌}
-use Rattle.lsp_docs.specs.Kept.{version_of, queues_in}
+use Rattle.lsp_docs.specs.Stored.{version_of, queues_in}
 use Rattle.lsp_docs.proofs.Queues.{add_in-new}
 use Rattle.lsp_docs.proofs.waiting.add_first.Goals as goal
 

@@ -1,5 +1,5 @@
 use Rattle.std.proofs.Common.{◌≡◌, sym, ap, ◌∙◌, rules}
-use Rattle.lsp_docs.specs.Kept.{version_of, queues_in}
+use Rattle.lsp_docs.specs.Stored.{version_of, queues_in}
 use Rattle.lsp_docs.proofs.Queues.{add_in-there, queued-same}
 use Rattle.lsp_docs.proofs.waiting.add_to.Goals as goal
 

@@ -1,5 +1,5 @@
 use Rattle.std.proofs.Common.{sym, ap, ◌∙◌, length}
-use Rattle.lsp_docs.specs.Kept.{queues_in}
+use Rattle.lsp_docs.specs.Stored.{queues_in}
 use Rattle.lsp_docs.proofs.Queues.{queue_of-there, queue_of-absent, without-removed}
 use Rattle.lsp_docs.proofs.waiting.drop_all.Goals as goal
 

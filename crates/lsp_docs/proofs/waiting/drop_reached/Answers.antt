@@ -1,8 +1,8 @@
 use Rattle.std.proofs.Common.{sym, ap, ◌∙◌, filter, length, w32}
 use Rattle.std.proofs.lemmas.Int.{to_z-of_z}
 use mir.Val.{SFits}
-use Rattle.lsp_docs.specs.State.{is_after, is_before}
-use Rattle.lsp_docs.specs.Kept.{queues_in}
+use Rattle.lsp_docs.specs.Documents.{is_after, is_before}
+use Rattle.lsp_docs.specs.Stored.{queues_in}
 use Rattle.lsp_docs.proofs.Queues.{queue_of-there, queue_of-absent, keep_in-there, keep_in-absent}
 use Rattle.lsp_docs.proofs.waiting.drop_reached.Goals as goal
 

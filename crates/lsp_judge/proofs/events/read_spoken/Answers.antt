@@ -7,13 +7,13 @@ use Rattle.lsp_judge.proofs.events.read_spoken.Goals as goal
 pub returns-in_err-message-clause-rule : goal.returns-in_err-message-clause-rule
 returns-in_err-message-clause-rule c =
     let p = err_from_is_err_and c.from_residual.result c.from_residual.ensures.1 in
-    rw p.1 (λ limit events. rw p.2 (content_refused _ _ limit events _ c.in_err-message.ensures.rule))
+    rw p.1 (λ terms events. rw p.2 (content_refused _ _ terms events _ c.in_err-message.ensures.rule))
 
 pub returns-in_err-act-clause-rule : goal.returns-in_err-act-clause-rule
 returns-in_err-act-clause-rule c =
     let p = err_from_is_err_and c.from_residual-in_err-act.result c.from_residual-in_err-act.ensures.1 in
     let whole = c.in_ok-message.ensures.ok in
-    rw p.1 (λ limit events. rw p.2 (params_refused _ _ limit events whole.0 _ whole.1 (params_named c.args.side (message_view c.in_ok-message.message) whole.0 _ whole.2.same c.in_err-act.ensures.gives)))
+    rw p.1 (λ terms events. rw p.2 (params_refused _ _ terms events whole.0 _ whole.1 (params_named c.args.side (message_view c.in_ok-message.message) whole.0 _ whole.2.same c.in_err-act.ensures.gives)))
 
 pub returns-clause-ok : goal.returns-clause-ok
 returns-clause-ok c =

@@ -8,4 +8,4 @@ use Rattle.lsp_judge.proofs.summary.open_documents.Given as goal
 
 abbrev pub invariant-loop-index : goal.invariant-loop-index
 invariant-loop-index g l =
-    (calls : List Call) → docs_state.Stands l.docs calls → map document_view l.found.items ≡ map document_of (take l.index (documents l.docs.limit calls))
+    (calls : List Call) → docs_state.Stands l.docs calls → map document_view l.found.items ≡ map document_of (take l.index (documents l.docs.terms calls))

@@ -6,7 +6,7 @@ returns-in-Ok-Some-clause-answer g c = λ start records a.
     let next = c.in-Ok-Some.ensures in
     let got = rw c.in-Ok-Some.field-0-is at (next.gives a.unread a.bytes records a.stands) in
     let free = rw c.in-Ok-Some.field-0-is at next.keeps in
-    record_next _ _ start _ _ records a next.limits c.in-Ok-Some.record free got
+    record_next _ _ start _ _ records a next.limits c.in-Ok-Some.record free next.format got
 
 pub returns-in-Ok-None-clause-answer : goal.returns-in-Ok-None-clause-answer
 returns-in-Ok-None-clause-answer g c = λ start records a.

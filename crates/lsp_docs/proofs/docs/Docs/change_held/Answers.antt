@@ -2,11 +2,11 @@ use Rattle.std.proofs.Common.{ap, ◌∙◌, sym, subst, ◌∷◌, [], w32}
 use Rattle.std.proofs.lemmas.Int.{to_z-of_z}
 use mir.Val.{SFits}
 use Rattle.lsp_text.specs.Changes.{edit_of}
-use Rattle.lsp_text.specs.Edits.{applied}
 use Rattle.lsp_docs.specs.Documents.{versioned}
 use Rattle.lsp_docs.specs.Fault.{Breaks}
-use Rattle.lsp_docs.specs.State.{changed_at, held_in, set_in, text_in, with_held}
+use Rattle.lsp_docs.specs.State.{changed_at, held_in, set_in, with_held}
 use Rattle.lsp_docs.proofs.Faults.{if_err, on_ok}
+use Rattle.lsp_docs.proofs.Stepping.{keeps-none, terms_in}
 use Rattle.lsp_docs.proofs.docs.Docs.change_held.Goals as goal
 
 pub returns-clause-ok : goal.returns-clause-ok
@@ -18,8 +18,14 @@ returns-clause-ok g c =
     on_ok c.change.result (λ a. record {
       text = a.text;
       made = ap (λ s. changed_at s c.args.encoding uri cs) (sym c.self.view_is) ∙ a.is_made;
-      is = ap (λ l. with_held l (record { limit = c.self.inside.limit; documents = c.self.inside.documents; waits = c.self.inside.waiting })) a.is
-          ∙ ap (λ s. with_held (set_in uri (versioned c.args.version a.text) s.documents) s) c.self.view_is;
+      kept = c.args.self.now.kept;
+      is = (λ i. with_held (a.is i) (c.change.ensures.kept i) (record {
+        terms = (terms_in c.self.inside.limit c.self.inside.kept);
+        documents = c.self.inside.documents.held;
+        kept = c.self.inside.documents.kept;
+        waits = c.self.inside.waiting;
+      })) ∙ ap (λ s. with_held (set_in uri (versioned c.args.version a.text) s.documents) s.kept s) c.self.view_is;
+      keeps = keeps-none c.args.self.now.terms.kept uri (held_in uri c.args.self.now.documents) c.args.self.now.kept c.requires.none;
     }) ok
 
 pub returns-clause-fault : goal.returns-clause-fault

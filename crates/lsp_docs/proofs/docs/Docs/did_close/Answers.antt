@@ -1,9 +1,7 @@
 use Rattle.std.proofs.Common.{◌≡◌, ap, ◌∙◌, sym, subst, ◌++◌, ◌∷◌, [], is_some, false, true, rules}
 use Rattle.lsp_docs.specs.Calls.{closes}
-use Rattle.lsp_docs.specs.State.{Stands, held_in, queue_of, without_queue, released, without}
-use Rattle.lsp_docs.proofs.Stepping.{Stands-closed, rule-stands, stated, close-none, close-some}
-use Rattle.lsp_docs.proofs.Entries.{without-absent}
-use Rattle.lsp_docs.proofs.WaitingSteps.{no_some}
+use Rattle.lsp_docs.specs.State.{Stands, KeepsNone, held_in, kept_in, queue_of, without_queue, released, without}
+use Rattle.lsp_docs.proofs.Stepping.{Stands-closed, rule-stands, stated, close-none, close-some, terms_in}
 use Rattle.lsp_docs.proofs.docs.Docs.did_close.Goals as goal
 
 pub returns-then-not-remove-clause-rule : goal.returns-then-not-remove-clause-rule
@@ -12,15 +10,12 @@ returns-then-not-remove-clause-rule g c = λ calls h.
     let uri = c.args.uri.now in
     let out : c.remove.result ≡ false = search rules in
     let gone : is_some (held_in uri s.documents) ≡ false = ap (λ x. is_some (held_in uri x.documents)) (sym c.self.view_is) ∙ (sym c.remove.ensures.found ∙ out) in
-    sym (rule-stands s calls (closes uri) h) ∙ close-none s.limit (held_in uri s.documents) (queue_of uri s.waits.queues) uri gone
+    sym (rule-stands s calls (closes uri) h) ∙ close-none s.terms (held_in uri s.documents) (kept_in uri s.kept) (queue_of uri s.waits.queues) uri gone
 
 pub returns-then-not-remove-clause-err : goal.returns-then-not-remove-clause-err
 returns-then-not-remove-clause-err g c =
-    let uri = c.args.uri.now in
-    let documents = c.self.inside.documents in
     let out : c.remove.result ≡ false = search rules in
-    ap (λ l. stated c.self.inside.limit l c.self.inside.waiting)
-    (c.remove.ensures.left ∙ without-absent uri documents (no_some (held_in uri documents) (sym c.remove.ensures.found ∙ out))) ∙ c.self.view_is
+    ap (λ l. stated (terms_in c.self.inside.limit c.self.inside.kept) l.held l.kept c.self.inside.waiting) (c.remove.ensures.absent out) ∙ c.self.view_is
 
 pub returns-clause-accepted : goal.returns-clause-accepted
 returns-clause-accepted g c = λ calls h.
@@ -28,7 +23,7 @@ returns-clause-accepted g c = λ calls h.
     let uri = c.args.uri.now in
     let out : c.remove.result ≡ true = search rules in
     let there : is_some (held_in uri s.documents) ≡ true = ap (λ x. is_some (held_in uri x.documents)) (sym c.self.view_is) ∙ (sym c.remove.ensures.found ∙ out) in
-    sym (rule-stands s calls (closes uri) h) ∙ close-some s.limit (held_in uri s.documents) (queue_of uri s.waits.queues) uri there
+    sym (rule-stands s calls (closes uri) h) ∙ close-some s.terms (held_in uri s.documents) (kept_in uri s.kept) (queue_of uri s.waits.queues) uri there
 
 pub returns-clause-stands : goal.returns-clause-stands
 returns-clause-stands g c = λ calls h.
@@ -36,7 +31,8 @@ returns-clause-stands g c = λ calls h.
     let uri = c.args.uri.now in
     let accepted = rule-stands s calls (closes uri) h ∙ returns-clause-accepted g c calls h in
     let gone = ap (λ x. queue_of uri (without_queue uri x.waits.queues)) (sym c.self.view_is) ∙ (ap (λ w. queue_of uri w.queues) (sym c.release.ensures.left) ∙ c.release.ensures.gone) in
-    subst (λ l. Stands (stated c.self.inside.limit l c.release.new.self) (calls ++ closes uri ∷ [])) (sym c.remove.ensures.left)
-    (subst (λ w. Stands (stated c.self.inside.limit (without uri c.self.inside.documents) w) (calls ++ closes uri ∷ [])) (sym c.release.ensures.left)
-    (subst (λ x. Stands (stated x.limit (without uri x.documents) (released uri x.waits)) (calls ++ closes uri ∷ [])) (sym c.self.view_is)
-    (Stands-closed s calls uri accepted gone h)))
+    let drops : KeepsNone uri s.kept c.remove.new.self.kept = subst (λ x. KeepsNone uri x.kept c.remove.new.self.kept) c.self.view_is c.remove.ensures.kept in
+    subst (λ l. Stands (stated (terms_in c.self.inside.limit c.self.inside.kept) l c.remove.new.self.kept c.release.new.self) (calls ++ closes uri ∷ [])) (sym c.remove.ensures.held)
+    (subst (λ w. Stands (stated (terms_in c.self.inside.limit c.self.inside.kept) (without uri c.self.inside.documents.held) c.remove.new.self.kept w) (calls ++ closes uri ∷ [])) (sym c.release.ensures.left)
+    (subst (λ x. Stands (stated x.terms (without uri x.documents) c.remove.new.self.kept (released uri x.waits)) (calls ++ closes uri ∷ [])) (sym c.self.view_is)
+    (Stands-closed s calls uri c.remove.new.self.kept accepted gone drops h)))

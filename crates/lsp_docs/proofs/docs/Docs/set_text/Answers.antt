@@ -3,7 +3,8 @@ use Rattle.std.proofs.lemmas.Grind.{common_steps}
 use Rattle.std.specs.List.{list_any}
 use Rattle.std.proofs.lemmas.Int.{to_z-of_z}
 use mir.Val.{SFits}
-use Rattle.lsp_docs.specs.State.{queue_of, is_at, changed_at}
+use Rattle.lsp_docs.specs.Documents.{is_at}
+use Rattle.lsp_docs.specs.State.{queue_of, changed_at}
 use Rattle.lsp_text.specs.Changes.{edits_of}
 use Rattle.lsp_docs.proofs.Faults.{on_ok}
 use Rattle.lsp_docs.proofs.Stepping.{text-quiet}

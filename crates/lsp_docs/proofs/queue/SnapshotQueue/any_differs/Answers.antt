@@ -3,7 +3,7 @@ use Rattle.std.proofs.lemmas.Int.{to_z-of_z}
 use Rattle.std.specs.List.{list_any}
 use mir.Val.{SFits}
 use Rattle.lsp_docs.specs.Documents.{versioned}
-use Rattle.lsp_docs.specs.Kept.{version_of}
+use Rattle.lsp_docs.specs.Stored.{version_of}
 use Rattle.lsp_docs.specs.Rules.{differs}
 use Rattle.lsp_docs.proofs.Ahead.{none-differs}
 use Rattle.lsp_docs.proofs.Words.{any-map}

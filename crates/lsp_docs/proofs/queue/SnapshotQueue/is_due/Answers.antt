@@ -2,8 +2,8 @@ use Rattle.std.proofs.Common.{sym, ap, ◌∙◌, w32}
 use Rattle.std.proofs.lemmas.Int.{to_z-of_z}
 use Rattle.std.specs.List.{list_any}
 use mir.Val.{SFits}
-use Rattle.lsp_docs.specs.Kept.{version_of}
-use Rattle.lsp_docs.specs.State.{is_at}
+use Rattle.lsp_docs.specs.Stored.{version_of}
+use Rattle.lsp_docs.specs.Documents.{is_at}
 use Rattle.lsp_docs.proofs.Ahead.{none-due}
 use Rattle.lsp_docs.proofs.Words.{any-map}
 use Rattle.lsp_docs.proofs.queue.SnapshotQueue.is_due.Goals as goal

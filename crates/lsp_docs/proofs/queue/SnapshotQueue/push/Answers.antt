@@ -1,10 +1,7 @@
-use Rattle.std.proofs.Common.{◌≡◌, ◌∷◌, [], false, subst, sym, ap, ◌∙◌, w32}
+use Rattle.std.proofs.Common.{◌∷◌, [], ap, ◌∙◌, w32}
 use Rattle.std.proofs.lemmas.Int.{to_z-of_z}
-use Rattle.std.specs.List.{list_any}
-use Rattle.std.specs.Prelude.{int_lt}
 use mir.Val.{SFits}
-use Rattle.lsp_docs.specs.Kept.{version_of, versions}
-use Rattle.lsp_docs.specs.State.{is_before}
+use Rattle.lsp_docs.specs.Stored.{version_of, versions}
 use Rattle.lsp_docs.proofs.Ahead.{lowered-push}
 use Rattle.lsp_docs.proofs.Words.{map-append}
 use Rattle.lsp_docs.proofs.queue.SnapshotQueue.push.Goals as goal

@@ -1,8 +1,8 @@
 use Rattle.std.proofs.Common.{sym, ap, ◌∙◌, filter, length, w32}
 use Rattle.std.proofs.lemmas.Int.{to_z-of_z}
 use mir.Val.{SFits}
-use Rattle.lsp_docs.specs.Kept.{version_of, versions}
-use Rattle.lsp_docs.specs.State.{is_after, is_before}
+use Rattle.lsp_docs.specs.Stored.{version_of, versions}
+use Rattle.lsp_docs.specs.Documents.{is_after, is_before}
 use Rattle.lsp_docs.proofs.Ahead.{all-after, none-before}
 use Rattle.lsp_docs.proofs.Words.{count-map, filter-map}
 use Rattle.lsp_docs.proofs.queue.SnapshotQueue.reach.Goals as goal

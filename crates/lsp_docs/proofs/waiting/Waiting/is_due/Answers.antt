@@ -2,7 +2,7 @@ use Rattle.std.proofs.Common.{sym, ap, ◌∙◌, w32}
 use Rattle.std.proofs.lemmas.Int.{to_z-of_z}
 use Rattle.std.specs.List.{list_any}
 use mir.Val.{SFits}
-use Rattle.lsp_docs.specs.State.{is_at}
+use Rattle.lsp_docs.specs.Documents.{is_at}
 use Rattle.lsp_docs.proofs.Queues.{queue_of-there, queue_of-absent}
 use Rattle.lsp_docs.proofs.waiting.Waiting.is_due.Goals as goal
 

@@ -14,7 +14,7 @@ use Rattle.lsp_judge.proofs.events.Events.hear.Goals as goal
 pub returns-in_err-spoken-clause-rule : goal.returns-in_err-spoken-clause-rule
 returns-in_err-spoken-clause-rule g c =
     let p = err_from_is_err_and c.from_residual.result c.from_residual.ensures.1 in
-    rw p.1 (λ events holds. rw p.2 (c.in_err-spoken.ensures.rule c.args.self.now.docs.limit events))
+    rw p.1 (λ events holds. rw p.2 (c.in_err-spoken.ensures.rule c.args.self.now.docs.terms events))
 
 pub returns-in_err-admit-clause-rule : goal.returns-in_err-admit-clause-rule
 returns-in_err-admit-clause-rule g c =

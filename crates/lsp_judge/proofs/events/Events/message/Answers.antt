@@ -17,16 +17,16 @@ returns-in-Ok-clause-ok g c = λ events follows.
       sent = h.sent;
       reads = h.reads;
       says = h.says;
-      follows = follows_on c.args.self.now.session c.hear.new.self.session c.args.self.now.docs c.hear.new.self.docs c.args.self.now.counts c.add.new.self events event follows c.in-Ok.ensures.limit h.clean h.holds
+      follows = follows_on c.args.self.now.session c.hear.new.self.session c.args.self.now.docs c.hear.new.self.docs c.args.self.now.counts c.add.new.self events event follows c.in-Ok.ensures.terms h.clean h.holds
           (c.add.ensures events event counted whose);
     }
 
 pub returns-in-Err-Rule-clause-no : goal.returns-in-Err-Rule-clause-no
 returns-in-Err-Rule-clause-no g c = λ events follows.
-    let limit = c.args.self.now.docs.limit in
-    let told : Refuses c.args.side c.args.content.now limit events c.in-Err-Rule.field-0 = c.in-Err-Rule.ensures.rule events follows.holds in
+    let terms = c.args.self.now.docs.terms in
+    let told : Refuses c.args.side c.args.content.now terms events c.in-Err-Rule.field-0 = c.in-Err-Rule.ensures.rule events follows.holds in
     let h = rw c.in-Err-Rule.field-0-is at told in
     let whose = whose_content c.args.side c.args.content.now h.0 h.1 ∙ sym c.who_of-in-Err-Rule.ensures in
     let counted = subst (λ (w : Counts). AreCounts w events) (sym c.in-Err-Rule.ensures.counts) follows.counted in
-    ruled_some limit events (ReadsAs c.args.side c.args.content.now) h.0 c.no_next.result h.1
-    (ruled limit events h.0 c.in-Err-Rule.rule c.who_of-in-Err-Rule.result c.no_next.result h.2 whose (c.no_next.ensures events counted))
+    ruled_some terms events (ReadsAs c.args.side c.args.content.now) h.0 c.no_next.result h.1
+    (ruled terms events h.0 c.in-Err-Rule.rule c.who_of-in-Err-Rule.result c.no_next.result h.2 whose (c.no_next.ensures events counted))

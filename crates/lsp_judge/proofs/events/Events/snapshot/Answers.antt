@@ -17,7 +17,7 @@ returns-in-Ok-clause-ok g c = λ events follows.
     let uri = c.args.uri.now in
     let text = chars c.args.text.now in
     let old = c.args.self.now in
-    follows_on old.session old.session old.docs c.snapshot.new.self old.counts c.add.new.self events (snapshot uri c.args.version text) follows c.in-Ok.ensures.limit
+    follows_on old.session old.session old.docs c.snapshot.new.self old.counts c.add.new.self events (snapshot uri c.args.version text) follows c.in-Ok.ensures.terms
     (accepted (calls events) follows.holds.called)
     (shown_holds old.session c.snapshot.new.self events uri c.args.version text follows.holds.sent (stands (calls events) follows.holds.called))
     (c.add.ensures events (snapshot uri c.args.version text) follows.counted refl)
@@ -29,7 +29,7 @@ returns-in-Rule-clause-no g c = λ events follows.
     let text = chars c.args.text.now in
     let old = c.args.self.now in
     let rule = simp to_z-of_z at c.in-Err.ensures.rule in
-    let named : Names (call_rule old.docs.limit (calls events) (shows uri c.args.version text)) c.from.result =
+    let named : Names (call_rule old.docs.terms (calls events) (shows uri c.args.version text)) c.from.result =
     rw c.from.ensures (call_named _ _ (rule (calls events) follows.holds.called)) in
     let breaks = rw c.in-Rule.is at named in
-    ruled old.docs.limit events (snapshot uri c.args.version text) c.in-Rule.rule _ c.no_next.result breaks refl (c.no_next.ensures events follows.counted)
+    ruled old.docs.terms events (snapshot uri c.args.version text) c.in-Rule.rule _ c.no_next.result breaks refl (c.no_next.ensures events follows.counted)

@@ -21,36 +21,36 @@ returns-in-Some-rest-clause-verdict g c =
 pub returns-in-Ok-clause-verdict : goal.returns-in-Ok-clause-verdict
 returns-in-Ok-clause-verdict g c = λ records v stands final.
     let given = ap (λ (s : State). s.given) (sym c.self.view_is) ∙ c.in_default.is in
-    let sums = subst (λ (s : State). (events : List Event) → Follows s.messages s.documents s.counts events → yes (summary_view c.in-Ok.summary) ≡ as_given (yes (summary s.documents.limit events))) c.self.view_is c.in-Ok.ensures.summary in
+    let sums = subst (λ (s : State). (events : List Event) → Follows s.messages s.documents s.counts events → yes (summary_view c.in-Ok.summary) ≡ as_given (yes (summary s.documents.terms events))) c.self.view_is c.in-Ok.ensures.summary in
     yes_final c.args.self.now records _ v given c.in_default-rest.ensures sums stands final
 
 pub returns-in-Some-clause-yes : goal.returns-in-Some-clause-yes
 returns-in-Some-clause-yes g c = λ records s stands e.
-    records_kept _ stands.limits.range records _ (λ v. ok_at c.answer.result _ _ e (returns-in-Some-clause-verdict g c) records v stands)
+    records_kept _ stands.limits.range _ records _ (λ v. ok_at c.answer.result _ _ e (returns-in-Some-clause-verdict g c) records v stands)
 
 pub returns-in-Some-clause-no : goal.returns-in-Some-clause-no
 returns-in-Some-clause-no g c = λ records rule number event who stands e.
-    records_refused _ records rule who number event (λ v. ok_at c.answer.result _ _ e (returns-in-Some-clause-verdict g c) records v stands)
+    records_refused _ _ records rule who number event (λ v. ok_at c.answer.result _ _ e (returns-in-Some-clause-verdict g c) records v stands)
 
 pub returns-in-Some-clause-kept : goal.returns-in-Some-clause-kept
 returns-in-Some-clause-kept g c = λ records events stands clean.
-    if_ok c.answer.result _ _ (λ answer says. records_clean _ records events _ clean (λ v. says records v stands)) (returns-in-Some-clause-verdict g c)
+    if_ok c.answer.result _ _ (λ answer says. records_clean _ _ records events _ clean (λ v. says records v stands)) (returns-in-Some-clause-verdict g c)
 
 pub returns-in-Some-rest-clause-no : goal.returns-in-Some-rest-clause-no
 returns-in-Some-rest-clause-no g c = λ records rule number event who stands e.
-    records_refused _ records rule who number event (λ v. ok_at c.answer-in-Some-rest.result _ _ e (returns-in-Some-rest-clause-verdict g c) records v stands)
+    records_refused _ _ records rule who number event (λ v. ok_at c.answer-in-Some-rest.result _ _ e (returns-in-Some-rest-clause-verdict g c) records v stands)
 
 pub returns-in-Some-rest-clause-kept : goal.returns-in-Some-rest-clause-kept
 returns-in-Some-rest-clause-kept g c = λ records events stands clean.
-    if_ok c.answer-in-Some-rest.result _ _ (λ answer says. records_clean _ records events _ clean (λ v. says records v stands)) (returns-in-Some-rest-clause-verdict g c)
+    if_ok c.answer-in-Some-rest.result _ _ (λ answer says. records_clean _ _ records events _ clean (λ v. says records v stands)) (returns-in-Some-rest-clause-verdict g c)
 
 pub returns-in-Ok-clause-yes : goal.returns-in-Ok-clause-yes
 returns-in-Ok-clause-yes g c = λ records s stands e.
-    records_kept _ stands.limits.range records _ (λ v. returns-in-Ok-clause-verdict g c records v stands)
+    records_kept _ stands.limits.range _ records _ (λ v. returns-in-Ok-clause-verdict g c records v stands)
 
 pub returns-in-Ok-clause-kept : goal.returns-in-Ok-clause-kept
 returns-in-Ok-clause-kept g c = λ records events stands clean.
-    records_clean _ records events _ clean (λ v. returns-in-Ok-clause-verdict g c records v stands)
+    records_clean _ _ records events _ clean (λ v. returns-in-Ok-clause-verdict g c records v stands)
 
 pub returns-in-Some-rest-clause-unchanged : goal.returns-in-Some-rest-clause-unchanged
 returns-in-Some-rest-clause-unchanged g c = λ s e. absurd (no_yes c.in-Some-rest.ruling _ (ok_at c.answer-in-Some-rest.result _ _ e c.answer-in-Some-rest.ensures.ok))

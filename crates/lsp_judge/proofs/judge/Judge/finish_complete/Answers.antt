@@ -12,15 +12,15 @@ returns-in-Some-clause-verdict g c =
 
 pub returns-in-Some-clause-yes : goal.returns-in-Some-clause-yes
 returns-in-Some-clause-yes g c = λ records s stands e.
-    records_complete _ stands.limits.range records _ (λ v. ok_at c.answer.result _ _ e (returns-in-Some-clause-verdict g c) records v stands)
+    records_complete _ stands.limits.range _ records _ (λ v. ok_at c.answer.result _ _ e (returns-in-Some-clause-verdict g c) records v stands)
 
 pub returns-in-Some-clause-no : goal.returns-in-Some-clause-no
 returns-in-Some-clause-no g c = λ records rule number event who stands e.
-    records_short _ stands.limits.range records rule who number event (λ v. ok_at c.answer.result _ _ e (returns-in-Some-clause-verdict g c) records v stands)
+    records_short _ stands.limits.range _ records rule who number event (λ v. ok_at c.answer.result _ _ e (returns-in-Some-clause-verdict g c) records v stands)
 
 pub returns-in-Some-clause-kept : goal.returns-in-Some-clause-kept
 returns-in-Some-clause-kept g c = λ records events stands clean ended.
-    if_ok c.answer.result _ _ (λ answer says. records_ended _ records events _ clean ended (λ v. says records v stands)) (returns-in-Some-clause-verdict g c)
+    if_ok c.answer.result _ _ (λ answer says. records_ended _ _ records events _ clean ended (λ v. says records v stands)) (returns-in-Some-clause-verdict g c)
 
 pub returns-in-Some-clause-unchanged : goal.returns-in-Some-clause-unchanged
 returns-in-Some-clause-unchanged g c = λ s e. absurd (no_yes c.in-Some.ruling _ (ok_at c.answer.result _ _ e c.answer.ensures.ok))
@@ -33,12 +33,12 @@ returns-clause-verdict g c =
 
 pub returns-clause-yes : goal.returns-clause-yes
 returns-clause-yes g c = λ records s stands e.
-    records_complete _ stands.limits.range records _ (λ v. ok_at c.finish.result _ _ e (returns-clause-verdict g c) records v stands)
+    records_complete _ stands.limits.range _ records _ (λ v. ok_at c.finish.result _ _ e (returns-clause-verdict g c) records v stands)
 
 pub returns-clause-no : goal.returns-clause-no
 returns-clause-no g c = λ records rule number event who stands e.
-    records_short _ stands.limits.range records rule who number event (λ v. ok_at c.finish.result _ _ e (returns-clause-verdict g c) records v stands)
+    records_short _ stands.limits.range _ records rule who number event (λ v. ok_at c.finish.result _ _ e (returns-clause-verdict g c) records v stands)
 
 pub returns-clause-kept : goal.returns-clause-kept
 returns-clause-kept g c = λ records events stands clean ended.
-    if_ok c.finish.result _ _ (λ answer says. records_ended _ records events _ clean ended (λ v. says records v stands)) (returns-clause-verdict g c)
+    if_ok c.finish.result _ _ (λ answer says. records_ended _ _ records events _ clean ended (λ v. says records v stands)) (returns-clause-verdict g c)

@@ -11,7 +11,7 @@ returns-in_err-heard-clause-no g c =
     let p = err_from_is_err_and from.result from.ensures.1 in
     rw p.1 (λ records limits o. rw p.2 (
     let h = kept.hears records limits o in
-    stops_along _ _ _ h.0 _ kept.keeps.limits (c.in_err-heard.ensures.no _ h.0 h.1)))
+    stops_along _ _ _ _ _ h.0 _ kept.keeps.limits kept.keeps.format (c.in_err-heard.ensures.no _ h.0 h.1)))
 
 pub loop-heard-preserved : goal.loop-heard-preserved
 loop-heard-preserved g c =

@@ -27,12 +27,12 @@ returns-in_ok-answer-in-Err-clause-verdict g c = λ records events stands sessio
 
 pub returns-in-Some-clause-no : goal.returns-in-Some-clause-no
 returns-in-Some-clause-no g c = λ records rule number event who stands e.
-    taken_no _ (records ++ record_view c.args.next ∷ []) _ rule number event who (λ events session. returns-in-Some-clause-verdict g c records events stands session) e
+    taken_no _ _ (records ++ record_view c.args.next ∷ []) _ rule number event who (λ events session. returns-in-Some-clause-verdict g c records events stands session) e
 
 pub returns-in-Ok-clause-none : goal.returns-in-Ok-clause-none
 returns-in-Ok-clause-none g c = λ records stands e.
-    taken_clean _ (records ++ record_view c.args.next ∷ []) (λ events session. returns-in-Ok-clause-verdict g c records events stands session)
+    taken_clean _ _ (records ++ record_view c.args.next ∷ []) (λ events session. returns-in-Ok-clause-verdict g c records events stands session)
 
 pub returns-in_ok-answer-in-Err-clause-no : goal.returns-in_ok-answer-in-Err-clause-no
 returns-in_ok-answer-in-Err-clause-no g c = λ records rule number event who stands e.
-    taken_no _ (records ++ record_view c.args.next ∷ []) _ rule number event who (λ events session. returns-in_ok-answer-in-Err-clause-verdict g c records events stands session) e
+    taken_no _ _ (records ++ record_view c.args.next ∷ []) _ rule number event who (λ events session. returns-in_ok-answer-in-Err-clause-verdict g c records events stands session) e

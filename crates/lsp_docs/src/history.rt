@@ -1,0 +1,104 @@
+//! The versions that a document had before the present one.
+
+ghost use Rattle.std.specs.Prelude.{◌≡◌, ◌≤◌, [], ◌++◌, ◌∷◌, length, OnOk, OnErr};
+ghost use Rattle.std.specs.List.{list_all, list_any};
+ghost use Rattle.std.specs.Str.{chars};
+ghost use Rattle.lsp_docs.specs.Documents.{versioned, is_after, is_at};
+ghost use Rattle.lsp_docs.specs.Kept.{last_of};
+ghost use Rattle.lsp_docs.specs.Rules.{differs};
+
+use crate::revision::Revision;
+use lsp_text::TextStore;
+use std::alloc::{AllocError, Global};
+use std::marker::Model;
+use std::mem;
+
+/// The versions that are kept of a document, oldest first.
+#[derive(Drop)]
+pub(crate) struct History<S: TextStore> {
+    revisions: Vec<Revision<S>>,
+}
+
+impl<S: TextStore> Model for History<S> {
+    ghost use Rattle.std.specs.Prelude.{List, map};
+    ghost use Rattle.lsp_docs.specs.Documents.{Version, versioned};
+
+    ghost Value = { List Version };
+
+    ghost view = { λ h. map (λ r. versioned r.version (S.content r.store)) h.revisions.items };
+}
+
+impl<S: TextStore> History<S> {
+    /// Nothing is kept.
+    pub(crate) fn new(alloc: Global) -> Self
+        ensures { result ≡ [] }
+    {
+        History {
+            revisions: Vec::new(alloc),
+        }
+    }
+
+    /// Whether one is of this version.
+    pub(crate) fn has(&self, version: i32) -> bool
+        ensures { result ≡ list_any (is_at version) self.now }
+    {
+        any_at(self.revisions.as_slice(), version)
+    }
+
+    /// Whether each is of a greater version.
+    pub(crate) fn is_after(&self, version: i32) -> bool
+        ensures { result ≡ list_all (is_after version) self.now }
+    {
+        all_after(self.revisions.as_slice(), version)
+    }
+
+    /// Whether one is of this version and has another text.
+    pub(crate) fn any_differs(&self, version: i32, text: &str) -> bool
+        ensures { result ≡ list_any (λ w. differs w (versioned version (chars text.now))) self.now }
+    {
+        any_differs(self.revisions.as_slice(), version, text)
+    }
+
+    /// Puts a version in the place of the held one, which is kept from now on as the last of at most
+    /// so many.
+    pub(crate) fn revise(
+        &mut self,
+        most: usize,
+        held: &mut Revision<S>,
+        next: Revision<S>,
+    ) -> Result<(), AllocError>
+        ensures held { OnOk result (held.new ≡ next) }
+        ensures kept { OnOk result (length self.old ≤ most
+            → self.new ≡ last_of most (self.old ++ versioned held.old.version (S.content held.old.store) ∷ [])) }
+        ensures err { OnErr result ((self.new ≡ self.old) × (held.new ≡ held.old)) }
+    {
+        self.revisions.reserve(1)?;
+        let last = mem::replace(held, next);
+        self.revisions.push_reserved(last);
+        if self.revisions.len() > most {
+            let _ = self.revisions.remove(0);
+        }
+        Ok(())
+    }
+}
+
+/// Whether one is of this version.
+fn any_at<S: TextStore>(revisions: &[Revision<S>], version: i32) -> bool
+    ensures { result ≡ list_any (λ r. is_at version (versioned r.version (S.content r.store))) revisions.now }
+{
+    revisions.iter().any(|r| r.version == version)
+}
+
+/// Whether each is of a greater version.
+fn all_after<S: TextStore>(revisions: &[Revision<S>], version: i32) -> bool
+    ensures { result ≡ list_all (λ r. is_after version (versioned r.version (S.content r.store))) revisions.now }
+{
+    revisions.iter().all(|r| version < r.version)
+}
+
+/// Whether one is of this version and has another text.
+fn any_differs<S: TextStore>(revisions: &[Revision<S>], version: i32, text: &str) -> bool
+    ensures { result ≡ list_any (λ r. differs (versioned r.version (S.content r.store)) (versioned version (chars text.now))) revisions.now }
+{
+    revisions.iter().any(|r| r.differs(version, text))
+}

@@ -1,0 +1,60 @@
+//! One version of a document.
+
+ghost use Rattle.std.specs.Prelude.{◌≡◌, Ok, [], ◌∷◌, IfErr, OnOk, OnErr};
+ghost use Rattle.std.specs.Str.{chars, bytes_eq};
+ghost use Rattle.lsp_text.specs.Edits.{applied};
+ghost use Rattle.lsp_text.specs.Changes.{edit_of};
+ghost use Rattle.lsp_docs.specs.Documents.{versioned};
+ghost use Rattle.lsp_docs.specs.Rules.{differs};
+ghost use Rattle.lsp_docs.specs.Fault.{Breaks};
+
+use crate::fault::DocFault;
+use lsp_text::{TextStore, change};
+use lsp_types::{Change, Encoding};
+
+/// A text at its version.
+#[derive(Drop)]
+pub(crate) struct Revision<S: TextStore> {
+    pub(crate) version: i32,
+    pub(crate) store: S,
+}
+
+impl<S: TextStore> Revision<S> {
+    /// Makes one change, and holds the version if it was made.
+    pub(crate) fn change(
+        &mut self,
+        limit: u64,
+        encoding: Encoding,
+        version: i32,
+        edit: &Change,
+    ) -> Result<(), DocFault>
+        ensures ok { OnOk result (applied limit encoding (S.content self.old.store) (edit_of edit.now ∷ []) ≡ Ok (S.content self.new.store)) }
+        ensures version { OnOk result (self.new.version ≡ version) }
+        ensures fault { IfErr result (Breaks (applied limit encoding (S.content self.old.store) (edit_of edit.now ∷ []))) }
+        ensures err { OnErr result ((self.new.version ≡ self.old.version) × (S.content self.new.store ≡ S.content self.old.store)) }
+    {
+        change(
+            &mut self.store,
+            encoding,
+            edit.span,
+            edit.text.as_str(),
+            limit,
+        )?;
+        self.version = version;
+        Ok(())
+    }
+
+    /// Whether it is of this version and has another text.
+    pub(crate) fn differs(&self, version: i32, text: &str) -> bool
+        ensures { result ≡ differs (versioned self.now.version (S.content self.now.store)) (versioned version (chars text.now)) }
+    {
+        self.version == version && !has_text(&self.store, text)
+    }
+}
+
+/// Whether a store holds this text.
+pub(crate) fn has_text<S: TextStore>(store: &S, text: &str) -> bool
+    ensures { result ≡ bytes_eq (S.content store.now) (chars text.now) }
+{
+    store.equals(text)
+}
