@@ -14,12 +14,12 @@ use Rattle.lsp_frame.proofs.Starts.{header_stays}
 use Rattle.lsp_frame.specs.Buffer.{AheadStands, FaultStands}
 use Rattle.lsp_frame.specs.declared.start.FrameSize.{FrameSize}
 
-take_past : (xs ys : List ℕ) (n : ℕ) → take (length xs + n) (xs ++ ys) ≡ xs ++ take n ys
+pub take_past : (xs ys : List ℕ) (n : ℕ) → take (length xs + n) (xs ++ ys) ≡ xs ++ take n ys
 take_past [] ys n = ap (λ k. take k ys) (omega arith)
 take_past (x ∷ xs) ys n = ap (λ k. take k (x ∷ (xs ++ ys))) (let e : suc (length xs) + n ≡ suc (length xs + n) = omega arith in e) ∙ ap (λ w. x ∷ w) (take_past xs ys n)
 
 -- a front of the buffer that was written behind what stood there
-take_written : (xs buffer tail : List ℕ) (len count : ℕ) → length xs ≡ len → count ≤ length buffer → take (len + count) (xs ++ (buffer ++ tail)) ≡ xs ++ take count buffer
+pub take_written : (xs buffer tail : List ℕ) (len count : ℕ) → length xs ≡ len → count ≤ length buffer → take (len + count) (xs ++ (buffer ++ tail)) ≡ xs ++ take count buffer
 take_written xs buffer tail len count is fits =
     ap (λ k. take (k + count) (xs ++ (buffer ++ tail))) (sym is) ∙ take_past xs (buffer ++ tail) count ∙ ap (λ w. xs ++ w) (take-append-le count buffer tail fits)
 

@@ -86,7 +86,7 @@ no_blank_before limits w first long front back e =
 
 -- ---- what a header part says
 
-head_or_not : (byte : ℕ) (w : List ℕ) → ((rest : List ℕ) × (w ≡ byte ∷ rest)) ⊎ ((rest : List ℕ) → w ≡ byte ∷ rest → ⊥)
+pub head_or_not : (byte : ℕ) (w : List ℕ) → ((rest : List ℕ) × (w ≡ byte ∷ rest)) ⊎ ((rest : List ℕ) → w ≡ byte ∷ rest → ⊥)
 head_or_not byte [] = inr (λ rest e. absurd cc)
 head_or_not byte (x ∷ w) = elim (cases_eq x byte) [
   | inl same ↦ inl (w, ap (λ (b : ℕ). b ∷ w) same)
@@ -191,7 +191,7 @@ charset_within limits said true n is = is
 charset_within limits (Ok m) false n is = absurd cc
 charset_within limits (Err rule) false n is = absurd cc
 
-says_within : (limits : Bounds) (header : List ℕ) (n : ℕ) → Says limits header (Ok n) → n ≤ limits.content
+pub says_within : (limits : Bounds) (header : List ℕ) (n : ℕ) → Says limits header (Ok n) → n ≤ limits.content
 says_within limits header n (inl a) = values_within limits (lengths a.0) n (charset_within limits (content_length limits (lengths a.0)) (fits_charsets a.0) n a.2)
 says_within limits header n (inr a) = absurd (cc a.1)
 

@@ -15,7 +15,7 @@ use Rattle.lsp_frame.proofs.Starts.{front_of, unfinished_content}
 use Rattle.lsp_frame.proofs.Readings.{rest_short}
 use Rattle.lsp_frame.proofs.Frames.{frames_more, frames_push, breaks_more, breaks_no_frame}
 
-take_nothing : (n : ℕ) → take {A = ℕ} n [] ≡ []
+pub take_nothing : (n : ℕ) → take {A = ℕ} n [] ≡ []
 take_nothing zero = refl
 take_nothing (suc n) = refl
 

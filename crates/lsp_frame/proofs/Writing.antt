@@ -47,7 +47,7 @@ put_more start old new bytes rest n so_far took failures = record {
   wrote = wrote_then start old new so_far.front (take n rest) so_far.wrote (record { took = took; failures = failures });
 }
 
-writes_then : {X E : Type 0} (a b c : Told) (r : Result X E) (x y : List ℕ) → Wrote a b x → Writes b c r y → Writes a c r (x ++ y)
+pub writes_then : {X E : Type 0} (a b c : Told) (r : Result X E) (x y : List ℕ) → Wrote a b x → Writes b c r y → Writes a c r (x ++ y)
 writes_then a b c (Ok v) x y p q = wrote_then a b c x y p q
 writes_then a b c (Err e) x y p q = stopped_then a b c x y p q
 

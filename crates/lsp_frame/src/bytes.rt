@@ -1,13 +1,31 @@
 //! Small questions about bytes, which readers of header parts and of logs ask.
-ghost use Rattle.std.specs.Prelude.{◌≡◌, ◌∷◌, ℕ, List, MatchOption};
+ghost use Rattle.std.specs.Prelude.{◌≡◌, ◌≤◌, ◌<◌, ◌^◌, ◌∷◌, ℕ, List, true, MatchOption};
 ghost use Rattle.std.specs.List.{list_all};
 ghost use Rattle.std.specs.Char.{is_ascii_digit};
+ghost use Rattle.std.specs.Str.Parse.{digits_value};
 
 /// Whether each byte is a decimal digit.
 pub fn all_digits(bytes: &[u8]) -> bool
     ensures { result ≡ list_all is_ascii_digit bytes.now }
 {
     bytes.iter().all(|byte| byte.is_ascii_digit())
+}
+
+/// The number that decimal digits write, where it is at most so great.
+pub fn number_up_to(digits: &[u8], most: u64) -> Option<u64>
+    requires digits { list_all is_ascii_digit digits.now ≡ true }
+    requires most { most < 2 ^ 32 }
+    ensures { MatchOption result (most < digits_value 10 digits.now)
+        (λ n. (n ≡ digits_value 10 digits.now) × (n ≤ most)) }
+{
+    let mut number = 0;
+    for digit in digits {
+        number = 10 * number + u64::from(*digit - b'0');
+        if number > most {
+            return None;
+        }
+    }
+    Some(number)
 }
 
 /// The bytes after the first, if that is this one.

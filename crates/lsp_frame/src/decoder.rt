@@ -10,9 +10,9 @@ ghost use Rattle.lsp_frame.specs.Lending.{LendsContent};
 
 use crate::io::{Failed, Source};
 use crate::limits::Limits;
-use crate::memory::Memory;
 use crate::rule;
 use crate::start::{FrameSize, Start, start_of};
+use lsp_types::Memory;
 use std::alloc::{AllocError, Global};
 use std::marker::Model;
 use thiserror::Error;

@@ -8,9 +8,9 @@ use crate::bytes::after_byte;
 
 /// A line of a header part, without the colon between its name and its value and without its end.
 #[derive(Clone, Copy)]
-pub struct Field<'a> {
-    pub name: &'a [u8],
-    pub value: &'a [u8],
+pub(crate) struct Field<'a> {
+    pub(crate) name: &'a [u8],
+    pub(crate) value: &'a [u8],
 }
 
 /// A letter, a digit, or one of the marks of a token.
@@ -67,7 +67,7 @@ fn blanks_at_end(bytes: &[u8]) -> usize
 }
 
 /// The value without the spaces and tabs at its two ends.
-pub fn trim(value: &[u8]) -> &[u8]
+pub(crate) fn trim(value: &[u8]) -> &[u8]
     ensures { result.now ≡ trimmed value.now }
 {
     let rest = &value[blanks_in_front(value)..];
@@ -75,7 +75,7 @@ pub fn trim(value: &[u8]) -> &[u8]
 }
 
 /// The first line as a field, and the bytes after it.
-pub fn split_field(bytes: &[u8]) -> Option<(Field<'_>, &[u8])>
+pub(crate) fn split_field(bytes: &[u8]) -> Option<(Field<'_>, &[u8])>
     ensures { MatchOption result (NoFieldBegins bytes.now)
         (λ x. IsField (field_view x.0) × (bytes.now ≡ line (field_view x.0) ++ x.1.now)) }
 {

@@ -5,7 +5,7 @@ ghost use Rattle.std.specs.Str.Parse.{digits_value};
 ghost use Rattle.lsp_frame.specs.Header.{lengths, is_number, length_of, content_length, is_utf8_name, fits_charset, parts, fits_charsets, Says};
 ghost use Rattle.lsp_frame.specs.Reading.{field_view, Holds};
 
-use crate::bytes::all_digits;
+use crate::bytes::{all_digits, number_up_to};
 use crate::field::{Field, split_field, trim};
 use crate::limits::Limits;
 use crate::rule;
@@ -25,30 +25,16 @@ fn is_number(value: &[u8]) -> bool
     matches!(value.len(), 1..=10) && all_digits(value)
 }
 
-/// The number that the digits write.
-fn number(digits: &[u8]) -> u64
-    requires { is_number digits.now ≡ true }
-    ensures { result ≡ digits_value 10 digits.now }
-{
-    let mut number = 0;
-    for digit in digits {
-        number = 10 * number + u64::from(*digit - b'0');
-    }
-    number
-}
-
 /// The length of the content that one value gives, or its fault.
-pub fn length_of(limits: &Limits, value: &[u8]) -> Result<u64, u16>
+fn length_of(limits: &Limits, value: &[u8]) -> Result<u64, u16>
     ensures { result ≡ length_of limits.now value.now }
 {
     if !is_number(value) {
         return Err(rule::BAD_NUMBER);
     }
-    let length = number(value);
-    if length <= limits.content() {
-        Ok(length)
-    } else {
-        Err(rule::CONTENT_TOO_LONG)
+    match number_up_to(value, limits.content()) {
+        Some(length) => Ok(length),
+        None => Err(rule::CONTENT_TOO_LONG),
     }
 }
 
@@ -116,7 +102,8 @@ fn fits_charsets(field: &Field<'_>) -> bool
 }
 
 /// The length in bytes of the content that a header part gives, or the least fault that fits it.
-pub fn read_header(limits: &Limits, header: &[u8]) -> Result<u64, u16>
+#[inline(never)]
+pub(crate) fn read_header(limits: &Limits, header: &[u8]) -> Result<u64, u16>
     ensures { Says limits.now header.now result }
 {
     let mut lengths = Lengths::Missing;

@@ -16,12 +16,11 @@ mod header;
 mod io;
 mod laws;
 mod limits;
-mod memory;
 mod rule;
 mod start;
 mod write;
 
-pub use bytes::{after_byte, all_digits};
+pub use bytes::{after_byte, all_digits, number_up_to};
 pub use decoder::{Decoder, FrameFault, PullFault};
 pub use format::Format;
 pub use io::{Failed, Input, Output, Sink, Source};
@@ -30,5 +29,5 @@ pub use laws::{
     no_frame_begins_another, one_reading, some_reading,
 };
 pub use limits::Limits;
-pub use memory::Memory;
+pub use lsp_types::Memory;
 pub use write::{WriteFault, put_all, put_number, write_frame};

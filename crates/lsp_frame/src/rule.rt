@@ -1,16 +1,16 @@
 //! The rules of framing, by their numbers.
 
 /// The first bytes, as many as a header part may have, do not hold its end.
-pub const HEADER_TOO_LONG: u16 = 101;
+pub(crate) const HEADER_TOO_LONG: u16 = 101;
 /// A line of the header part is no field.
-pub const BAD_LINE: u16 = 102;
+pub(crate) const BAD_LINE: u16 = 102;
 /// Not exactly one field is a `Content-Length`.
-pub const NOT_ONE_LENGTH: u16 = 103;
+pub(crate) const NOT_ONE_LENGTH: u16 = 103;
 /// The value of that one is not 1 to 10 decimal digits.
-pub const BAD_NUMBER: u16 = 104;
+pub(crate) const BAD_NUMBER: u16 = 104;
 /// The content is longer than its limit.
-pub const CONTENT_TOO_LONG: u16 = 105;
+pub(crate) const CONTENT_TOO_LONG: u16 = 105;
 /// A charset other than UTF-8 is named.
-pub const OTHER_CHARSET: u16 = 106;
+pub(crate) const OTHER_CHARSET: u16 = 106;
 /// The stream ends inside a frame.
-pub const UNFINISHED_FRAME: u16 = 107;
+pub(crate) const UNFINISHED_FRAME: u16 = 107;

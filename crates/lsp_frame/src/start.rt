@@ -5,20 +5,21 @@ ghost use Rattle.std.specs.Char.{is_ascii_digit};
 ghost use Rattle.lsp_frame.specs.Bounds.{IsInRange};
 ghost use Rattle.lsp_frame.specs.Start.{StartsAs, StartsWithHeader};
 
-use crate::header::{length_of, read_header};
+use crate::bytes::number_up_to;
+use crate::header::read_header;
 use crate::limits::Limits;
 use crate::rule;
 use memchr::memmem;
 
 /// The lengths in bytes of a frame's two parts.
 #[derive(Clone, Copy)]
-pub struct FrameSize {
-    pub header: usize,
-    pub content: usize,
+pub(crate) struct FrameSize {
+    pub(crate) header: usize,
+    pub(crate) content: usize,
 }
 
 /// What bytes begin with.
-pub enum Start {
+pub(crate) enum Start {
     /// A whole header part. Its content may still be unfinished.
     Header(FrameSize),
     /// A fault, by its rule.
@@ -45,10 +46,13 @@ fn plain_size(limits: &Limits, bytes: &[u8]) -> Option<FrameSize>
 {
     let rest = bytes.strip_prefix(b"Content-Length: ")?;
     let (digits, rest) = rest.split_at(digits_in_front(rest));
+    if digits.is_empty() || digits.len() > 10 {
+        return None;
+    }
     if !rest.starts_with(b"\r\n\r\n") {
         return None;
     }
-    let content = length_of(limits, digits).ok()?;
+    let content = number_up_to(digits, limits.content())?;
     Some(FrameSize {
         header: 20 + digits.len(),
         content: content as usize,
@@ -56,7 +60,7 @@ fn plain_size(limits: &Limits, bytes: &[u8]) -> Option<FrameSize>
 }
 
 /// What the bytes begin with.
-pub fn start_of(limits: &Limits, bytes: &[u8]) -> Start
+pub(crate) fn start_of(limits: &Limits, bytes: &[u8]) -> Start
     ensures { StartsAs limits.now bytes.now result }
 {
     let most = limits.header() as usize;

@@ -5,22 +5,9 @@ use Rattle.std.specs.Cmp.{IsEquivalence}
 use Rattle.std.specs.List.{list_any}
 use Rattle.std.specs.Map.{lookup}
 use Rattle.std.specs.Option.{option_or}
+use Rattle.std.proofs.lemmas.Bool.{cases_Bool, or_parts}
 use Rattle.std.proofs.lemmas.Option.{none-some, same_Some}
 use Rattle.lsp_order.specs.Slots.{keys_in, key_at, slot_key, holds, place, renumbered, AllDiffer, ArePlaces, IsKept}
-
--- ---- truth values
-
-pub true_or_false : (b : Bool) → (b ≡ true) ⊎ (b ≡ false)
-true_or_false true = inl refl
-true_or_false false = inr refl
-
-left_false : (a b : Bool) → (a || b) ≡ false → a ≡ false
-left_false true b h = h
-left_false false b h = refl
-
-right_false : (a b : Bool) → (a || b) ≡ false → b ≡ false
-right_false true b h = absurd (true≢false h)
-right_false false b h = h
 
 -- ---- options
 
@@ -46,7 +33,7 @@ module _ {K : Type 0} where
   pub place-push : (test : K → Bool) (slots : List (Option K)) (slot : Option K) → place test (slots ++ slot ∷ []) ≡ (if holds test slot then Some (length slots) else place test slots)
   place-push test [] slot = refl
   place-push test (first ∷ slots) slot =
-      elim (true_or_false (holds test slot)) [
+      elim (cases_Bool (holds test slot)) [
         | inl p ↦ rw (place-push test slots slot, p) refl
         | inr p ↦ rw (place-push test slots slot, p) refl
       ]
@@ -68,7 +55,7 @@ module _ {K : Type 0} where
   place-take test [] i slot h = absurd (none-some slot h)
   place-take test (first ∷ slots) zero slot h = ap (λ s. place test (s ∷ [])) (same_Some first slot h)
   place-take test (first ∷ slots) (suc i) slot h =
-      elim (true_or_false (holds test slot)) [
+      elim (cases_Bool (holds test slot)) [
         | inl p ↦ rw (place-take test slots i slot h, p) refl
         | inr p ↦ rw (place-take test slots i slot h, p) refl
       ]
@@ -125,7 +112,7 @@ module _ {K : Type 0} where
   first_at : (test : K → Bool) (slot : Option K) (slots : List (Option K)) (i : ℕ) → (if holds test slot then Some 0 else None) ≡ Some i → IsAt test (slot ∷ slots) i
   first_at test None slots i h = absurd (none-some i h)
   first_at test (Some key) slots i h =
-      elim (true_or_false (test key)) [
+      elim (cases_Bool (test key)) [
         | inl p ↦ subst (IsAt test (Some key ∷ slots)) (same_Some 0 i (rw p at h)) (record { key = key; is = refl; passes = p })
         | inr p ↦ absurd (none-some i (rw p at h))
       ]
@@ -150,27 +137,27 @@ module _ {K : Type 0} where
   pub all_others : (test : K → Bool) (keys : List K) → list_any test keys ≡ false → filter (λ x. not (test x)) keys ≡ keys
   all_others test [] h = refl
   all_others test (key ∷ keys) h =
-      rw (left_false (test key) _ h) (ap (λ l. key ∷ l) (all_others test keys (right_false (test key) _ h)))
+      rw ((or_parts (test key) _ h).0) (ap (λ l. key ∷ l) (all_others test keys (or_parts (test key) _ h).1))
 
   pub none_left : (test : K → Bool) (keys : List K) → list_any test (filter (λ x. not (test x)) keys) ≡ false
   none_left test [] = refl
-  none_left test (key ∷ keys) = elim (true_or_false (test key)) [ inl p ↦ rw p (none_left test keys) | inr p ↦ rw p (rw p (none_left test keys)) ]
+  none_left test (key ∷ keys) = elim (cases_Bool (test key)) [ inl p ↦ rw p (none_left test keys) | inr p ↦ rw p (rw p (none_left test keys)) ]
 
   fewer : (test keep : K → Bool) (keys : List K) → list_any test keys ≡ false → list_any test (filter keep keys) ≡ false
   fewer test keep [] h = refl
   fewer test keep (key ∷ keys) h =
-      let rest = fewer test keep keys (right_false (test key) _ h) in
-      elim (true_or_false (keep key)) [ inl p ↦ rw p (rw (left_false (test key) _ h) rest) | inr p ↦ rw p rest ]
+      let rest = fewer test keep keys (or_parts (test key) _ h).1 in
+      elim (cases_Bool (keep key)) [ inl p ↦ rw p (rw ((or_parts (test key) _ h).0) rest) | inr p ↦ rw p rest ]
 
   list_any-push : (test : K → Bool) (keys : List K) (key : K) → list_any test keys ≡ false → test key ≡ false → list_any test (keys ++ key ∷ []) ≡ false
   list_any-push test [] key h p = rw p refl
-  list_any-push test (first ∷ keys) key h p = rw (left_false (test first) _ h) (list_any-push test keys key (right_false (test first) _ h) p)
+  list_any-push test (first ∷ keys) key h p = rw ((or_parts (test first) _ h).0) (list_any-push test keys key (or_parts (test first) _ h).1 p)
 
   module _ (eq : K → K → Bool) where
     pub AllDiffer-filter : (keep : K → Bool) (keys : List K) → AllDiffer eq keys → AllDiffer eq (filter keep keys)
     AllDiffer-filter keep [] d = tt
     AllDiffer-filter keep (key ∷ keys) d =
-        elim (true_or_false (keep key)) [
+        elim (cases_Bool (keep key)) [
           | inl p ↦ rw p (fewer (eq key) keep keys d.0, AllDiffer-filter keep keys d.1)
           | inr p ↦ rw p (AllDiffer-filter keep keys d.1)
         ]
@@ -186,8 +173,8 @@ module _ {K : Type 0} where
       pub AllDiffer-push : (keys : List K) (key : K) → AllDiffer eq keys → list_any (eq key) keys ≡ false → AllDiffer eq (keys ++ key ∷ [])
       AllDiffer-push [] key d n = (refl, tt)
       AllDiffer-push (first ∷ keys) key d n = (
-        list_any-push (eq first) keys key d.0 (apart key first (left_false (eq key first) _ n)),
-        AllDiffer-push keys key d.1 (right_false (eq key first) _ n),
+        list_any-push (eq first) keys key d.0 (apart key first (or_parts (eq key first) _ n).0),
+        AllDiffer-push keys key d.1 (or_parts (eq key first) _ n).1,
       )
 
       -- ---- the key in a slot leaves
@@ -205,7 +192,7 @@ module _ {K : Type 0} where
       keys_in-emptied key (None ∷ slots) (suc i) held d h p = keys_in-emptied key slots i held d h p
       keys_in-emptied key (Some other ∷ slots) (suc i) held d h p =
           let rest = keys_in-emptied key slots i held d.1 h p in
-          elim (true_or_false (eq key other)) [
+          elim (cases_Bool (eq key other)) [
             | inl q ↦ absurd (true≢false (sym (among slots i h) ∙ (ap (λ t. list_any t (keys_in slots)) (same_test key other q) ∙ d.0)))
             | inr q ↦ rw q (ap (λ l. other ∷ l) rest)
           ]
@@ -214,7 +201,7 @@ module _ {K : Type 0} where
           among [] i h = absurd (none-some (Some held) h)
           among (slot ∷ slots) zero h = ap (λ s. list_any (eq key) (keys_in (s ∷ slots))) (same_Some slot (Some held) h) ∙ rw p refl
           among (None ∷ slots) (suc i) h = among slots i h
-          among (Some x ∷ slots) (suc i) h = elim (true_or_false (eq key x)) [ inl r ↦ rw r refl | inr r ↦ rw r (among slots i h) ]
+          among (Some x ∷ slots) (suc i) h = elim (cases_Bool (eq key x)) [ inl r ↦ rw r refl | inr r ↦ rw r (among slots i h) ]
 
 -- ---- the places are noted one after another
 
@@ -226,7 +213,7 @@ pub number-step : {K : Type 0} (test : K → Bool) (slots : List (Option K)) (i 
     → before ≡ renumbered (place test (take i slots)) first → after ≡ (if holds test slot then option_map (λ (n : ℕ). i) before else before)
     → after ≡ renumbered (place test (take (i + 1) slots)) first
 number-step test slots i slot first before after h e f =
-    elim (true_or_false (holds test slot)) [
+    elim (cases_Bool (holds test slot)) [
       | inl p ↦ f ∙ rw (p, e, add-one, place-take test slots i slot h, p) (noted i (place test (take i slots)) first)
       | inr p ↦ f ∙ rw (p, e, add-one, place-take test slots i slot h, p) refl
     ]
@@ -254,7 +241,7 @@ module _ {K : Type 0} (eq : K → K → Bool) (laws : IsEquivalence eq) where
   one_fewer : (key : K) (keys : List K) → AllDiffer eq keys → list_any (eq key) keys ≡ true → length (filter (λ x. not (eq key x)) keys) + 1 ≡ length keys
   one_fewer key [] d h = absurd (true≢false (sym h))
   one_fewer key (first ∷ keys) d h =
-      elim (true_or_false (eq key first)) [
+      elim (cases_Bool (eq key first)) [
         | inl p ↦ rw (p, all_others (eq key) keys (ap (λ t. list_any t keys) (same_test eq laws key first p) ∙ d.0)) (omega arith)
         | inr p ↦ let rest = one_fewer key keys d.1 (rw p at h) in rw p (omega (arith, rest))
       ]
@@ -277,7 +264,7 @@ module _ {K : Type 0} (eq : K → K → Bool) (laws : IsEquivalence eq) where
 
     pub ArePlaces-removed : ArePlaces eq new (slice_set slots i None)
     ArePlaces-removed k =
-        elim (true_or_false (eq key k)) [
+        elim (cases_Bool (eq key k)) [
           | inl p ↦ says k ∙ (ap (λ b. cond b None (lookup (eq k) entries)) p
               ∙ sym (no_place (eq k) (slice_set slots i None) (ap (λ t. list_any t (keys_in (slice_set slots i None))) (sym (same_test eq laws key k p))
               ∙ (ap (list_any (eq key)) keys_in-removed ∙ none_left (eq key) (keys_in slots)))))

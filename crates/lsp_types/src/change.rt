@@ -1,3 +1,4 @@
+//! Changes of a document, and how they are sent (LSP 3.17, "Text Document Synchronization").
 use crate::position::Span;
 
 /// How the editor sends the changes of a document (LSP 3.17, TextDocumentSyncKind).

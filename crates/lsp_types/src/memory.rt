@@ -1,3 +1,4 @@
+//! The answer where memory was refused.
 use std::alloc::{AllocError, AllocFailed};
 use thiserror::Error;
 

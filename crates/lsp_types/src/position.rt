@@ -1,3 +1,5 @@
+//! Places in a text (LSP 3.17, "Text Documents").
+
 /// What a column counts: bytes of UTF-8, 16-bit units of UTF-16, or characters (LSP 3.17,
 /// PositionEncodingKind).
 #[derive(Clone, Copy, Debug, PartialEq, Eq)]

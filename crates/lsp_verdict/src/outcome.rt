@@ -70,17 +70,6 @@ impl fmt::Display for RunFault {
 
 impl Error for RunFault {}
 
-impl From<lsp_frame::Memory> for RunFault {
-    ghost use Rattle.std.specs.Prelude.{◌≡◌};
-    ghost use Rattle.lsp_verdict.specs.declared.outcome.RunFault.TheVariants as faults;
-
-    ghost from_gives = { λ _ fault. fault ≡ faults.Memory };
-
-    fn from(_memory: lsp_frame::Memory) -> RunFault {
-        RunFault::Memory
-    }
-}
-
 impl From<Memory> for RunFault {
     ghost use Rattle.std.specs.Prelude.{◌≡◌};
     ghost use Rattle.lsp_verdict.specs.declared.outcome.RunFault.TheVariants as faults;

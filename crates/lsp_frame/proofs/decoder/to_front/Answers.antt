@@ -1,4 +1,4 @@
-use Rattle.std.proofs.Common.{◌≡◌, ◌-◌, ◌++◌, ◌∙◌, length, take, drop, ap, arith, append_assoc, length-take, length-drop}
+use Rattle.std.proofs.Common.{◌≡◌, ◌-◌, ◌++◌, ◌∙◌, length, take, drop, ap, arith, append_assoc, length-take}
 use Rattle.std.proofs.lemmas.List.{take_at}
 use Rattle.lsp_frame.proofs.Steps.{drop_take, front_stays, moved_down}
 use Rattle.lsp_frame.proofs.decoder.to_front.Goals as goal

@@ -1,10 +1,10 @@
-use Rattle.std.proofs.Common.{◌≡◌, ◌++◌, ◌∙◌, take, drop, true, refl, sym, ap}
+use Rattle.std.proofs.Common.{◌≡◌, ◌++◌, ◌∙◌, take, drop, true, refl, sym, ap, arith}
 use Rattle.std.specs.Prelude.{codes}
 use Rattle.std.proofs.lemmas.List.{take-append-drop}
 use Rattle.std.proofs.lemmas.Slice.Eq.{slice_eq-Decides, starts_is}
 use Rattle.std.proofs.lemmas.Bool.Decides.{Decides-eqb}
 use Rattle.lsp_frame.specs.Header.{blank_line}
-use Rattle.lsp_frame.proofs.PlainHeaders.{plain_starts, ok_given}
+use Rattle.lsp_frame.proofs.PlainHeaders.{digits_pass, plain_starts}
 use Rattle.lsp_frame.proofs.start.plain_size.Goals as goal
 
 pub returns : goal.returns
@@ -20,5 +20,13 @@ returns c =
     ∙ ap (λ w. codes "Content-Length: " ++ w) (sym stripped.1 ∙ c.split_at.ensures.by_index.0)
     in
     let behind = (starts_is Decides-eqb rest blank_line c.starts_with.result c.starts_with.ensures.value).0 c.if-not-starts_with.false in
-    plain_starts c.args.limits.now bytes digits rest (drop 4 rest) c.in_ok-content.content c.requires.header_low whole behind
-    (sym c.length_of.ensures ∙ ok_given c.length_of.result c.in_ok-content.content (sym c.ok.ensures.value ∙ c.in_ok-content.was))
+    plain_starts c.args.limits.now bytes digits rest (drop 4 rest) c.in_ok-content.content c.requires.header_low whole behind (record {
+      all = digits_pass _ digits _ c.digits_in_front.ensures.value c.split_at.ensures.front;
+      some = grind arith;
+      short = omega arith;
+      value = sym c.in_ok-content.ensures.0;
+      within = omega (arith, c.content.ensures.value, c.in_ok-content.ensures.1);
+    })
+
+pub number_up_to-requires-clause-digits : goal.number_up_to-requires-clause-digits
+number_up_to-requires-clause-digits c = digits_pass _ c.split_at.result.0.now _ c.digits_in_front.ensures.value c.split_at.ensures.front

@@ -1,4 +1,4 @@
-use Rattle.std.proofs.Common.{◌≡◌, refl, subst, List, ℕ}
+use Rattle.std.proofs.Common.{refl, subst, List, ℕ}
 use Rattle.lsp_frame.specs.Frame.{Breaks}
 use Rattle.lsp_frame.specs.Start.{StartsUnfinished, StartsWithHeader}
 use Rattle.lsp_frame.proofs.Steps.{rest_slice}

@@ -1,0 +1,6 @@
+use Rattle.std.proofs.Common.{◌≡◌, ◌≤◌, take}
+use Rattle.std.specs.Str.Parse.{digits_value}
+use Rattle.lsp_frame.proofs.bytes.number_up_to.Given as goal
+
+abbrev pub invariant-loop-digit : goal.invariant-loop-digit
+invariant-loop-digit l = record { value : l.number ≡ digits_value 10 (take l.digit-index l.digits); within : l.number ≤ l.most }
