@@ -5,8 +5,9 @@ use Rattle.std.specs.Fmt.{digits}
 use Rattle.lsp_types.specs.declared.side.Side.TheVariants.{Editor, Server}
 use Rattle.lsp_frame.specs.Bounds.{profile}
 use Rattle.lsp_frame.specs.declared.format.Format.TheVariants.{One, Two}
+use Rattle.lsp_log.specs.Room.{AwaitsRecord}
 use Rattle.lsp_log.specs.declared.fault.LogCode.TheVariants.{L1, L3}
-use Rattle.lsp_log.specs.Log.{chunk, shown, spelling, NoFirstLine, IsLog, Breaks, bad_number, cut_short, bad_end, chunk_head}
+use Rattle.lsp_log.specs.Log.{chunk, shown, spelling, NoFirstLine, IsLog, Breaks, bad_number, cut_short, bad_end, chunk_head, shown_head}
 
 a_snapshot : spelling (shown (pos 1) (codes "file:///a") (codes "ab")) ≡ codes "T 1 9 2\nfile:///a\nab\n"
 unfolding digits
@@ -38,6 +39,22 @@ bytes_without_a_line_end_are_cut_short = inr (chunk_head Editor 2, codes "ab", r
 another_byte_is_no_line_end : Breaks profile (codes "E 2\nabc") bad_end
 unfolding digits
 another_byte_is_no_line_end = (chunk_head Editor 2, codes "abc", record { line = record { whole = refl; short = lit< tt; one = refl }; range = refl }, refl)
+
+-- ---- where memory is wanted
+
+the_bytes_are_awaited : AwaitsRecord profile (codes "E 3\n")
+unfolding digits
+the_bytes_are_awaited = record { head = chunk_head Editor 3; range = refl; parts = []; whole = refl; awaits = record { parts = []; next = 3; others = []; are = refl; some = lit< tt; whole = refl } }
+
+the_text_is_awaited_behind_its_uri : AwaitsRecord profile (codes "T 1 1 2\na\n")
+unfolding digits
+the_text_is_awaited_behind_its_uri = record {
+  head = shown_head (pos 1) 1 2;
+  range = refl;
+  parts = codes "a\n";
+  whole = refl;
+  awaits = record { parts = codes "a" ∷ []; next = 2; others = []; are = refl; some = lit< tt; whole = refl };
+}
 
 -- ---- whole logs
 

@@ -8,6 +8,7 @@ use Rattle.std.proofs.lemmas.Fmt.{decimal_digit}
 use Rattle.std.proofs.lemmas.List.{length-append}
 use Rattle.std.proofs.lemmas.Map.Views.{exact_unsigned_eq}
 use Rattle.lsp_types.specs.declared.side.Side.TheVariants.{Editor, Server}
+use Rattle.lsp_frame.proofs.Readings as readings
 use Rattle.lsp_log.specs.Log.{Head, chunk_head, shown_head, head_line, is_writable, has_decimal, has_signed}
 use Rattle.lsp_log.specs.Words.{is_numeral, NoNumber, NoSigned, NoSnapshot, NoHead, holds_space}
 use Rattle.lsp_log.proofs.LogLemmas.{holds, clash, below, small_decimal, true_both, shown_line}
@@ -30,14 +31,6 @@ cut_or_not c (x ∷ xs) = elim (cases_Bool (x == c)) [
     | inl cut ↦ inl (record { front = x ∷ cut.front; back = cut.back; whole = ap (λ (w : List ℕ). x ∷ w) cut.whole; none = simp (other, cut.none) })
     | inr none ↦ inr (simp (other, none))
   ]
-]
-
--- whether the bytes begin with this one
-begins_or_not : (c : ℕ) (xs : List ℕ) → ((rest : List ℕ) × (xs ≡ c ∷ rest)) ⊎ ((rest : List ℕ) → xs ≡ c ∷ rest → ⊥)
-begins_or_not c [] = inr (λ rest e. absurd cc)
-begins_or_not c (x ∷ xs) = elim (cases_eq x c) [
-  | inl same ↦ inl (xs, ap (λ (b : ℕ). b ∷ xs) same)
-  | inr other ↦ inr (λ rest e. other (cc e))
 ]
 
 -- ---- numbers
@@ -63,7 +56,7 @@ no_minus word other none (pos n) small e = none n small e
 no_minus word other none (negsuc n) small e = other (decimal (suc n)) e
 
 signed_or_not : (word : List ℕ) → length word < 64 → SignedOrNot word
-signed_or_not word short = elim (begins_or_not 45 word) [
+signed_or_not word short = elim (readings.head_or_not 45 word) [
   | inl minus ↦ elim (number_or_not minus.0 (omega (arith, short, ap length minus.1))) [
     | inl n ↦ behind_minus word minus.0 n.0 minus.1 n.1 n.2
     | inr none ↦ inr (no_minus_none word minus.0 minus.1 none)
@@ -109,9 +102,9 @@ snapshot_or_not rest short = elim (cut_or_not 32 rest) [
 
 -- whether the line begins with this letter and a space
 letter_or_not : (c : ℕ) (line : List ℕ) → ((rest : List ℕ) × (line ≡ c ∷ 32 ∷ rest)) ⊎ ((rest : List ℕ) → line ≡ c ∷ 32 ∷ rest → ⊥)
-letter_or_not c line = elim (begins_or_not c line) [
+letter_or_not c line = elim (readings.head_or_not c line) [
   | inr none ↦ inr (λ rest e. none (32 ∷ rest) e)
-  | inl first ↦ elim (begins_or_not 32 first.0) [
+  | inl first ↦ elim (readings.head_or_not 32 first.0) [
     | inr none ↦ inr (λ rest e. none rest (cc (first.1, e)))
     | inl second ↦ inl (second.0, first.1 ∙ ap (λ w. c ∷ w) second.1)
   ]

@@ -6,6 +6,7 @@ use Rattle.std.specs.List.{copy_within}
 use borrow.Rule.Slice.PartMut.{put_mid}
 use Rattle.lsp_frame.specs.Told.{Told, after_failure}
 use Rattle.lsp_frame.proofs.Telling.{gave_nothing, gave_then}
+use Rattle.lsp_frame.proofs.Pulls.{take_written}
 use Rattle.memchr.specs.Find.{Passes, Nowhere, NoneBefore, is_byte}
 use Rattle.lsp_log.specs.Log.{HasLine, holds_feed}
 use Rattle.lsp_log.proofs.Bytes.{first_cut, nowhere_none}
@@ -16,27 +17,6 @@ use Rattle.std.proofs.Common.{inl, inr}
 use Rattle.std.proofs.lemmas.Map.Views.{exact_unsigned_eq}
 use Rattle.lsp_log.specs.Log.{with_feed}
 use Rattle.lsp_log.specs.Tape.{Held, Pulled, IsOver, ReadFailed, Filled, Taken, Wants, Misses}
-
-take_nothing : (n : ℕ) → take {A = ℕ} n [] ≡ []
-take_nothing zero = refl
-take_nothing (suc n) = refl
-
-drop_take : (count len : ℕ) (xs : List ℕ) → take (len - count) (drop count xs) ≡ drop count (take len xs)
-drop_take zero len xs = ap (λ n. take n xs) (omega arith)
-drop_take (suc count) zero xs = ap (λ n. take n (drop (suc count) xs)) (let e : 0 - suc count ≡ 0 = omega arith in e)
-drop_take (suc count) (suc len) [] = take_nothing (suc len - suc count)
-drop_take (suc count) (suc len) (x ∷ xs) = ap (λ n. take n (drop count xs)) (let e : suc len - suc count ≡ len - count = omega arith in e) ∙ drop_take count len xs
-
--- the bytes between two places, as a slice gives them
-pub between : (near : List ℕ) (start end : ℕ) → take (end - start) (drop start near) ≡ drop start (take end near)
-between near start end = drop_take start end near
-
--- ... and moved to the front
-pub at_front : (near : List ℕ) (start end : ℕ) → start ≤ end → end ≤ length near → take (end - start) (copy_within near start end 0) ≡ drop start (take end near)
-at_front near start end from fits =
-    subst (λ (n : ℕ). take n (copy_within near start end 0) ≡ take (end - start) (drop start near)) (let e : 0 + (end - start) ≡ end - start = omega arith in e)
-    (take-paste near 0 (drop start near) (end - start) (omega arith) (omega (arith, length-drop start near, from, fits)))
-    ∙ between near start end
 
 -- ---- pulls
 
@@ -73,15 +53,6 @@ filled_then a b c before now after x y p q = record {
   pulled = pulled_then a.left b.left c.left before now after x y p.pulled q.pulled;
   rest = q.rest ∙ ap (λ (w : List ℕ). w ++ y) p.rest ∙ append_assoc a.rest x y;
 }
-
-take_past : (xs ys : List ℕ) (n : ℕ) → take (length xs + n) (xs ++ ys) ≡ xs ++ take n ys
-take_past [] ys n = ap (λ k. take k ys) (omega arith)
-take_past (x ∷ xs) ys n = ap (λ k. take k (x ∷ (xs ++ ys))) (let e : suc (length xs) + n ≡ suc (length xs + n) = omega arith in e) ∙ ap (λ w. x ∷ w) (take_past xs ys n)
-
--- a front of the buffer that was written behind what stood there
-pub take_written : (xs buffer tail : List ℕ) (len count : ℕ) → length xs ≡ len → count ≤ length buffer → take (len + count) (xs ++ (buffer ++ tail)) ≡ xs ++ take count buffer
-take_written xs buffer tail len count is fits =
-    ap (λ k. take (k + count) (xs ++ (buffer ++ tail))) (sym is) ∙ take_past xs (buffer ++ tail) count ∙ ap (λ w. xs ++ w) (take-append-le count buffer tail fits)
 
 -- what was read stands behind what was held
 pub filled_window : (near buffer : List ℕ) (len count left_old left_new : ℕ) (before after : Told) → len ≤ 64 → length near ≡ 64 → count ≤ length buffer → length buffer ≡ 64 - len → Pulled left_old left_new before after (take count buffer)

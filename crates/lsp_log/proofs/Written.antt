@@ -6,12 +6,9 @@ use Rattle.std.specs.Fmt.{signed_decimal}
 use Rattle.lsp_types.specs.declared.side.Side.{Side}
 use Rattle.lsp_frame.specs.Sink.{Wrote, Stopped, Writes}
 use Rattle.lsp_frame.specs.Told.{Told}
-use Rattle.lsp_frame.proofs.Writing.{wrote_then, stopped_then, stopped_before, four}
+pub use Rattle.lsp_frame.proofs.Writing.{writes_then}
+use Rattle.lsp_frame.proofs.Writing.{stopped_then, stopped_before, four}
 use Rattle.lsp_log.specs.Log.{spelling, letter, chunk, chunk_head, shown, head_line, shown_head, with_feed}
-
-pub writes_then : {X E : Type 0} (a b c : Told) (r : Result X E) (x y : List ℕ) → Wrote a b x → Writes b c r y → Writes a c r (x ++ y)
-writes_then a b c (Ok v) x y p q = wrote_then a b c x y p q
-writes_then a b c (Err e) x y p q = stopped_then a b c x y p q
 
 pub due_stops : (a b : Told) (x due : List ℕ) → due ≡ x → Stopped a b x → Stopped a b due
 due_stops a b x due e s = subst (λ (w : List ℕ). Stopped a b w) (sym e) s

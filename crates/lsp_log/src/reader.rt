@@ -79,7 +79,7 @@ impl LogReader {
     ///
     /// # Errors
     /// `Bad` names what is wrong with the log and at which record. `Read` is answered where the
-    /// reader failed, and `Memory` where it was refused for a record.
+    /// reader failed, and `Memory` where it was refused for a record whose first line was read.
     pub fn next<R: Source>(&mut self, reader: &mut R) -> Result<Option<Record>, LogFault>
         // The limits stay.
         ensures limits { self.new.limits ≡ self.old.limits }
@@ -119,7 +119,6 @@ impl LogReader {
     fn find<R: Source>(&mut self, reader: &mut R) -> Result<Record, Stop>
         requires { kept_by self.old ≡ None }
         ensures limits { self.new.limits ≡ self.old.limits }
-        ensures given { self.new.given ≡ self.old.given }
         ensures same_format { KeepsFormat self.old.format self.new.format }
         ensures answer { FindAnswer self.old self.new (R.told reader.old) (R.told reader.new) result }
     {
@@ -131,7 +130,6 @@ impl LogReader {
     fn start<R: Source>(&mut self, reader: &mut R) -> Result<(), Stop>
         requires { kept_by self.old ≡ None }
         ensures limits { self.new.limits ≡ self.old.limits }
-        ensures given { self.new.given ≡ self.old.given }
         ensures same_format { KeepsFormat self.old.format self.new.format }
         ensures answer { StartAnswer self.old self.new (R.told reader.old) (R.told reader.new) result }
     {
