@@ -1,5 +1,6 @@
 -- The parts of a message as members come in, and the message that they make.
 use Rattle.std.proofs.Common.{◌≡◌, inl, inr, ℕ, ℤ, List, Bool, true, false, Option, Some, None, option_map, option_and_then, codes, bytes_eq, true≢false, refl, sym, ap, ◌∙◌, subst}
+use Rattle.std.specs.Prelude.{unwrap_or}
 use Rattle.std.proofs.lemmas.Slice.Eq.{bytes_eq-Decides}
 use Rattle.serde_json.specs.Data.{Data, null, object, Members, put}
 use Rattle.serde_json.specs.Find.{get_member, as_str}
@@ -94,12 +95,8 @@ module _ (d : Data) (ms : Members) where
 abbrev Same : Message → Option Message → Type 0
 Same m o = (whole : Message) × (o ≡ Some whole) × (m ≡ outline whole)
 
-abbrev pick : {A : Type 0} → A → Option A → A
-pick a None = a
-pick a (Some b) = b
-
 same_some : (m a b : Message) → Some a ≡ Some m → a ≡ outline b → Same m (Some b)
-same_some m a b e h = (b, refl, sym (ap (pick m) e) ∙ h)
+same_some m a b e h = (b, refl, sym (ap (λ (o : Option Message). unwrap_or o m) e) ∙ h)
 
 called : (method : List ℕ) (id : Option Ident) (params : Option Data) (m : Message) → Some (call method id None) ≡ Some m → Same m (Some (call method id params))
 called method (Some id) params m e = same_some m (request id method None) (request id method params) e refl

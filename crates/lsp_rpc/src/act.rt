@@ -1,3 +1,4 @@
+//! What a message means to a session.
 use crate::message::{Id, Message};
 use lsp_types::{Change, SyncKind};
 

@@ -1,5 +1,5 @@
-// Positions, ranges and changes of a text (LSP 3.17, Position, Range and
-// TextDocumentContentChangeEvent).
+//! Positions, ranges and changes of a text (LSP 3.17, Position, Range and
+//! TextDocumentContentChangeEvent).
 ghost use Rattle.std.specs.Prelude.{◌≡◌, codes, option_map};
 ghost use Rattle.serde_json.specs.View.{view};
 ghost use Rattle.lsp_rpc.specs.Fault.{Gives};

@@ -17,13 +17,10 @@ use crate::act::{Act, Spoken};
 use crate::edits::next_changes;
 use crate::members::{Gathered, next_object, next_string, next_uinteger, take_text};
 use crate::message::Message;
-use crate::skip::skip;
+use crate::skip::{MAX_DEPTH, skip};
 use json::{Reader, Scratch};
 use lsp_types::Change;
 use std::alloc::Global;
-
-/// How deep values may nest in a content, as `serde_json` reads it.
-const DEPTH: usize = 127;
 
 const VERSION: &str = "2.0";
 
@@ -214,7 +211,7 @@ fn act_of_text(alloc: Global, text: &str, scratch: &mut Scratch) -> Option<Act>
         × IsChange ms (act_view act)) }
 {
     let mut reader = Reader::new(text, scratch).ok()?;
-    let parts: MessageParts = next_object(alloc, &mut reader, DEPTH)?;
+    let parts: MessageParts = next_object(alloc, &mut reader, MAX_DEPTH)?;
     if reader.next().is_some() {
         return None;
     }

@@ -1,4 +1,4 @@
-// The params of the notifications on documents (LSP 3.17, Text Document Synchronization).
+//! The params of the notifications on documents (LSP 3.17, Text Document Synchronization).
 ghost use Rattle.std.specs.Prelude.{◌≡◌, string_bytes};
 ghost use Rattle.serde_json.specs.View.{view};
 ghost use Rattle.lsp_rpc.specs.Fault.{Gives};

@@ -1,5 +1,5 @@
-// Positions, ranges and changes of a text, read token by token (LSP 3.17, Position, Range and
-// TextDocumentContentChangeEvent).
+//! Positions, ranges and changes of a text, read token by token (LSP 3.17, Position, Range and
+//! TextDocumentContentChangeEvent).
 ghost use Rattle.std.specs.Prelude.{◌≡◌, ◌<◌, length, Some, IfSome, codes, option_map, string_bytes};
 ghost use Rattle.json.specs.Json.{items, value};
 ghost use Rattle.serde_json.specs.Data.{Members, Items, object, array};

@@ -1,3 +1,4 @@
+//! Why a call gave nothing.
 ghost use Rattle.lsp_rpc.specs.declared.fault.RpcFault.TheVariants.{Rule, Memory};
 ghost use Rattle.std.specs.Prelude.{◌≡◌};
 

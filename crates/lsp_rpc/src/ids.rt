@@ -1,4 +1,4 @@
-// Ids as values.
+//! Ids as values.
 ghost use Rattle.std.specs.Prelude.{◌≡◌, IfOk};
 ghost use Rattle.lsp_rpc.specs.Ident as ident;
 

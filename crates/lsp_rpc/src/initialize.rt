@@ -1,4 +1,4 @@
-// The params of `initialize` (LSP 3.17, Initialize Request).
+//! The params of `initialize` (LSP 3.17, Initialize Request).
 ghost use Rattle.std.specs.Prelude.{codes, option_map};
 ghost use Rattle.serde_json.specs.View.{view};
 ghost use Rattle.lsp_rpc.specs.Fault.{Gives};

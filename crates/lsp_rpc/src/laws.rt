@@ -1,4 +1,4 @@
-// Laws of the definitions that the contracts cite.
+//! Laws of messages, each the contract of a function that does nothing.
 ghost use Rattle.lsp_rpc.specs.Laws.{SameIdIsEquality, OneMessage, OneRule, NotBoth, MessageOrRule};
 
 /// Two ids are one exactly where they are equal as values (JSON-RPC 2.0, section 4).

@@ -1,3 +1,4 @@
+//! Messages and their ids (JSON-RPC 2.0, sections 4 and 5).
 use serde_json::Value;
 
 /// The id of a request: the number 1 and the text `1` are two ids (JSON-RPC 2.0, section 4).

@@ -1,4 +1,4 @@
-// What a message means, by its side, its kind and its method.
+//! What a message means, by its side, its kind and its method.
 ghost use Rattle.std.specs.Prelude.{◌≡◌, None, codes, option_map};
 ghost use Rattle.serde_json.specs.Find.{as_str};
 ghost use Rattle.serde_json.specs.View.{view};

@@ -20,7 +20,7 @@ use crate::message::Message;
 use crate::methods::act_of;
 use crate::numbers::natural_of;
 use crate::parts::Parts;
-use crate::skip::skip;
+use crate::skip::{MAX_DEPTH, skip};
 use crate::words::words_of;
 use json::{Reader, Scratch, Token};
 use lsp_types::Side;
@@ -28,7 +28,7 @@ use serde_json::{Number, Value};
 use std::alloc::Global;
 
 /// How deep values may nest inside the object that a message is.
-const DEPTH: usize = 126;
+const DEPTH: usize = MAX_DEPTH - 1;
 
 /// How many bytes are looked at for the name of a call's method.
 const FRONT: usize = 96;

@@ -1,4 +1,4 @@
-// What the result that answers `initialize` picks.
+//! What the result that answers `initialize` picks.
 ghost use Rattle.std.specs.Prelude.{◌≡◌, Err, true, is_some, option_map};
 ghost use Rattle.serde_json.specs.View.{view};
 ghost use Rattle.lsp_rpc.specs.View.{picked_view};

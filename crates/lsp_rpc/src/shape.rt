@@ -1,4 +1,4 @@
-// What a value looks like.
+//! What a value looks like.
 ghost use Rattle.std.specs.Prelude.{◌≡◌, option_map};
 ghost use Rattle.serde_json.specs.View.{view};
 ghost use Rattle.lsp_rpc.specs.Ident.{id_view};

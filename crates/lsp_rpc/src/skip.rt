@@ -9,6 +9,9 @@ ghost use Rattle.lsp_rpc.specs.Shape.{is_structure_or_null};
 use crate::numbers::is_in_range;
 use json::{Reader, Token};
 
+/// How deep values may nest in a content, as `serde_json` reads it.
+pub(crate) const MAX_DEPTH: usize = 127;
+
 /// What kind of value stands somewhere, as far as a message's params and result are judged.
 #[derive(Clone, Copy)]
 pub(crate) enum Kind {
