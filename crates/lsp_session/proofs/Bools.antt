@@ -17,23 +17,9 @@ pub or_assoc : (a b c : Bool) → ((a || b) || c) ≡ (a || (b || c))
 or_assoc true b c = refl
 or_assoc false b c = refl
 
--- what an `||` that is false says of its halves
-pub left_false : (a b : Bool) → (a || b) ≡ false → a ≡ false
-left_false true b h = absurd (true≢false h)
-left_false false b h = refl
-
-pub right_false : (a b : Bool) → (a || b) ≡ false → b ≡ false
-right_false true b h = absurd (true≢false h)
-right_false false b h = h
-
 pub or_split : (a b : Bool) → (a || b) ≡ true → a ≡ false → b ≡ true
 or_split true b h k = absurd (true≢false k)
 or_split false b h k = h
-
--- what an `&&` that is true says of its halves
-pub and_left : (a b : Bool) → (a && b) ≡ true → a ≡ true
-and_left true b h = refl
-and_left false b h = absurd (true≢false (sym h))
 
 pub and_right_false : (a b : Bool) → (a && not b) ≡ true → b ≡ false
 and_right_false true true h = absurd (true≢false (sym h))

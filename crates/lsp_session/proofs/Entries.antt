@@ -9,7 +9,8 @@ use Rattle.lsp_rpc.specs.declared.message.Id.{Id}
 use Rattle.lsp_session.specs.Entry.{Entry, IdsDiffer, cancel, entry_of, has_id, request_view, without}
 use Rattle.lsp_session.specs.Held.{AllDiffer, AllHave, IsHeld, IsOf, entries_in, entries_of, is_among, is_other, request_of}
 use Rattle.lsp_session.specs.declared.pending.OpenRequest.{OpenRequest}
-use Rattle.lsp_session.proofs.Bools.{left_false, or_false, right_false, true_or_false}
+use Rattle.std.proofs.lemmas.Bool.{cases_Bool, or_parts}
+use Rattle.lsp_session.proofs.Bools.{or_false}
 use Rattle.lsp_rpc.proofs.IdLemmas.{same_id-refl, same_id-true}
 
 -- ---- entries alone
@@ -17,17 +18,17 @@ use Rattle.lsp_rpc.proofs.IdLemmas.{same_id-refl, same_id-true}
 pub without-absent : (id : Ident) (es : List Entry) → has_id id es ≡ false → without id es ≡ es
 without-absent id [] h = refl
 without-absent id (e ∷ es) h =
-    rw (left_false (same_id id e.id) _ h) (ap (λ l. e ∷ l) (without-absent id es (right_false (same_id id e.id) _ h)))
+    rw ((or_parts (same_id id e.id) _ h).0) (ap (λ l. e ∷ l) (without-absent id es (or_parts (same_id id e.id) _ h).1))
 
 pub cancel-absent : (id : Ident) (es : List Entry) → has_id id es ≡ false → cancel id es ≡ es
 cancel-absent id [] h = refl
 cancel-absent id (e ∷ es) h =
-    rw (left_false (same_id id e.id) _ h) (ap (λ l. e ∷ l) (cancel-absent id es (right_false (same_id id e.id) _ h)))
+    rw ((or_parts (same_id id e.id) _ h).0) (ap (λ l. e ∷ l) (cancel-absent id es (or_parts (same_id id e.id) _ h).1))
 
 is_some-entry_of : (id : Ident) (es : List Entry) → is_some (entry_of id es) ≡ has_id id es
 is_some-entry_of id [] = refl
 is_some-entry_of id (e ∷ es) =
-    elim (true_or_false (same_id id e.id)) [ inl p ↦ rw p refl | inr p ↦ rw p (is_some-entry_of id es) ]
+    elim (cases_Bool (same_id id e.id)) [ inl p ↦ rw p refl | inr p ↦ rw p (is_some-entry_of id es) ]
 
 is_some-view : (slot : Option OpenRequest) → is_some (option_map request_view slot) ≡ is_some slot
 is_some-view None = refl
@@ -40,7 +41,7 @@ option_map-copied (Some r) = refl
 -- ---- ids
 
 same_id-flip : (a b : Ident) → same_id a b ≡ false → same_id b a ≡ false
-same_id-flip a b h = elim (true_or_false (same_id b a)) [
+same_id-flip a b h = elim (cases_Bool (same_id b a)) [
   | inl p ↦ absurd (true≢false (sym (same_id-refl a) ∙ (ap (same_id a) (sym (same_id-true b a p)) ∙ h)))
   | inr p ↦ p
 ]
@@ -48,14 +49,14 @@ same_id-flip a b h = elim (true_or_false (same_id b a)) [
 is_among-push : (x : Ident) (ids : List Id) (k : Id) → is_among x (ids ++ k ∷ []) ≡ (is_among x ids || same_id x (id_view k))
 is_among-push x [] k = or_false (same_id x (id_view k))
 is_among-push x (id ∷ ids) k =
-    elim (true_or_false (same_id x (id_view id))) [ inl p ↦ rw p refl | inr p ↦ rw p (is_among-push x ids k) ]
+    elim (cases_Bool (same_id x (id_view id))) [ inl p ↦ rw p refl | inr p ↦ rw p (is_among-push x ids k) ]
 
 AllDiffer-push : (ids : List Id) (k : Id) → AllDiffer ids → is_among (id_view k) ids ≡ false → AllDiffer (ids ++ k ∷ [])
 AllDiffer-push [] k d n = (refl, tt)
 AllDiffer-push (id ∷ ids) k d n = (
   is_among-push (id_view id) ids k
-      ∙ rw (d.0, same_id-flip (id_view k) (id_view id) (left_false (same_id (id_view k) (id_view id)) _ n)) refl,
-  AllDiffer-push ids k d.1 (right_false (same_id (id_view k) (id_view id)) _ n),
+      ∙ rw (d.0, same_id-flip (id_view k) (id_view id) (or_parts (same_id (id_view k) (id_view id)) _ n).0) refl,
+  AllDiffer-push ids k d.1 (or_parts (same_id (id_view k) (id_view id)) _ n).1,
 )
 
 -- an id is taken out
@@ -63,13 +64,13 @@ AllDiffer-push (id ∷ ids) k d n = (
 is_among-filter : (id x : Ident) (ids : List Id) → is_among x ids ≡ false → is_among x (filter (is_other id) ids) ≡ false
 is_among-filter id x [] n = refl
 is_among-filter id x (other ∷ ids) n =
-    let rest = is_among-filter id x ids (right_false (same_id x (id_view other)) _ n) in
-    elim (true_or_false (same_id id (id_view other))) [ inl p ↦ rw p rest | inr p ↦ rw (p, left_false (same_id x (id_view other)) _ n) rest ]
+    let rest = is_among-filter id x ids (or_parts (same_id x (id_view other)) _ n).1 in
+    elim (cases_Bool (same_id id (id_view other))) [ inl p ↦ rw p rest | inr p ↦ rw (p, (or_parts (same_id x (id_view other)) _ n).0) rest ]
 
 AllDiffer-filter : (id : Ident) (ids : List Id) → AllDiffer ids → AllDiffer (filter (is_other id) ids)
 AllDiffer-filter id [] d = tt
 AllDiffer-filter id (other ∷ ids) d =
-    elim (true_or_false (same_id id (id_view other))) [
+    elim (cases_Bool (same_id id (id_view other))) [
       | inl p ↦ rw p (AllDiffer-filter id ids d.1)
       | inr p ↦ rw p (is_among-filter id (id_view other) ids d.0, AllDiffer-filter id ids d.1)
     ]
@@ -78,25 +79,25 @@ AllDiffer-filter id (other ∷ ids) d =
 is_among-before : (id x : Ident) (ids : List Id) → same_id id x ≡ false → is_among x (filter (is_other id) ids) ≡ false → is_among x ids ≡ false
 is_among-before id x [] s n = refl
 is_among-before id x (other ∷ ids) s n =
-    elim (true_or_false (same_id id (id_view other))) [
+    elim (cases_Bool (same_id id (id_view other))) [
       | inl p ↦
           let apart : same_id x (id_view other) ≡ false = same_id-flip (id_view other) x (subst (λ y. same_id y x ≡ false) (same_id-true id (id_view other) p) s) in
           rw apart (is_among-before id x ids s (rw p at n))
       | inr p ↦
           let kept : (same_id x (id_view other) || is_among x (filter (is_other id) ids)) ≡ false = rw p at n in
-          rw (left_false (same_id x (id_view other)) _ kept) (is_among-before id x ids s (right_false (same_id x (id_view other)) _ kept))
+          rw ((or_parts (same_id x (id_view other)) _ kept).0) (is_among-before id x ids s (or_parts (same_id x (id_view other)) _ kept).1)
     ]
 
 filter-absent : (id : Ident) (ids : List Id) → is_among id ids ≡ false → filter (is_other id) ids ≡ ids
 filter-absent id [] n = refl
 filter-absent id (other ∷ ids) n =
-    rw (left_false (same_id id (id_view other)) _ n) (ap (λ l. other ∷ l) (filter-absent id ids (right_false (same_id id (id_view other)) _ n)))
+    rw ((or_parts (same_id id (id_view other)) _ n).0) (ap (λ l. other ∷ l) (filter-absent id ids (or_parts (same_id id (id_view other)) _ n).1))
 
 -- an id that entered leaves again
 pub filter-last : (id : Ident) (ids : List Id) (last : Id) → is_among id ids ≡ false → same_id id (id_view last) ≡ true → filter (is_other id) (ids ++ last ∷ []) ≡ ids
 filter-last id [] last n p = rw p refl
 filter-last id (other ∷ ids) last n p =
-    rw (left_false (same_id id (id_view other)) _ n) (ap (λ l. other ∷ l) (filter-last id ids last (right_false (same_id id (id_view other)) _ n) p))
+    rw ((or_parts (same_id id (id_view other)) _ n).0) (ap (λ l. other ∷ l) (filter-last id ids last (or_parts (same_id id (id_view other)) _ n).1 p))
 
 -- the ids that a test tells apart, as an order of ids has them
 pub is_among-any : (test : Id → Bool) (id : Ident) → ((other : Id) → test other ≡ same_id id (id_view other)) → (ids : List Id) → list_any test ids ≡ is_among id ids
@@ -141,19 +142,19 @@ module _ (g : Ident → Option OpenRequest) where
   entry_of-among : (x : Ident) (ids : List Id) → AllHave ids g → is_among x ids ≡ true → entry_of x (entries_of ids g) ≡ option_map request_view (g x)
   entry_of-among x [] h n = absurd (true≢false (sym n))
   entry_of-among x (id ∷ ids) h n =
-      elim (true_or_false (same_id x (id_view id))) [
+      elim (cases_Bool (same_id x (id_view id))) [
         | inl p ↦ first_entry x (id_view id) (g (id_view id)) (entries_of ids g) h.0 p ∙ ap (λ y. option_map request_view (g y)) (sym (same_id-true x (id_view id) p))
         | inr p ↦ later_entry x (id_view id) (g (id_view id)) (entries_of ids g) h.0 p ∙ entry_of-among x ids h.1 (rw p at n)
       ]
 
   entry_of-absent : (x : Ident) (es : List Entry) → has_id x es ≡ false → entry_of x es ≡ None
   entry_of-absent x [] n = refl
-  entry_of-absent x (e ∷ es) n = rw (left_false (same_id x e.id) _ n) (entry_of-absent x es (right_false (same_id x e.id) _ n))
+  entry_of-absent x (e ∷ es) n = rw ((or_parts (same_id x e.id) _ n).0) (entry_of-absent x es (or_parts (same_id x e.id) _ n).1)
 
   -- the request that is kept under an id is the entry of that id
   pub entry_of-held : (k : Id) (ids : List Id) → IsHeld ids g → option_map request_view (g (id_view k)) ≡ entry_of (id_view k) (entries_of ids g)
   entry_of-held k ids h =
-      elim (true_or_false (is_among (id_view k) ids)) [
+      elim (cases_Bool (is_among (id_view k) ids)) [
         | inl p ↦ sym (entry_of-among (id_view k) ids h.have p)
         | inr p ↦ ap (option_map request_view) (h.others k p) ∙ sym (entry_of-absent (id_view k) (entries_of ids g) (has_id-among (id_view k) ids h.have ∙ p))
       ]
@@ -206,13 +207,13 @@ module _ (id : Ident) (w : Option OpenRequest) (g next : Ident → Option OpenRe
   entries_of-absent : (ids : List Id) → is_among id ids ≡ false → entries_of ids next ≡ entries_of ids g
   entries_of-absent [] n = refl
   entries_of-absent (k ∷ ids) n =
-      rw (at_other k (left_false (same_id id (id_view k)) _ n)) (ap (λ l. entries_in (g (id_view k)) ++ l) (entries_of-absent ids (right_false (same_id id (id_view k)) _ n)))
+      rw (at_other k (or_parts (same_id id (id_view k)) _ n).0) (ap (λ l. entries_in (g (id_view k)) ++ l) (entries_of-absent ids (or_parts (same_id id (id_view k)) _ n).1))
 
   AllHave-absent : (ids : List Id) → is_among id ids ≡ false → AllHave ids g → AllHave ids next
   AllHave-absent [] n h = tt
   AllHave-absent (k ∷ ids) n h = (
-    subst (IsOf (id_view k)) (sym (at_other k (left_false (same_id id (id_view k)) _ n))) h.0,
-    AllHave-absent ids (right_false (same_id id (id_view k)) _ n) h.1,
+    subst (IsOf (id_view k)) (sym (at_other k (or_parts (same_id id (id_view k)) _ n).0)) h.0,
+    AllHave-absent ids (or_parts (same_id id (id_view k)) _ n).1 h.1,
   )
 
   entries_of-push : (ids : List Id) (k : Id) → entries_of (ids ++ k ∷ []) next ≡ entries_of ids next ++ entries_in (next (id_view k))
@@ -236,7 +237,7 @@ module _ (id : Ident) (w : Option OpenRequest) (g next : Ident → Option OpenRe
   module _ (v : OpenRequest) (n : OpenRequest) (is : w ≡ Some n) (was : g id ≡ Some v) (flag : request_view n ≡ record (request_view v) { cancelled = true }) where
     first_cancel : (k : Id) (rest : List Entry) → IsOf (id_view k) (g (id_view k)) → entries_in (next (id_view k)) ++ cancel id rest ≡ cancel id (entries_in (g (id_view k)) ++ rest)
     first_cancel k rest own =
-        elim (true_or_false (same_id id (id_view k))) [
+        elim (cases_Bool (same_id id (id_view k))) [
           | inl p ↦
               let here : g (id_view k) ≡ Some v = ap g (sym (same_id-true id (id_view k) p)) ∙ was in
               let name : id_view k ≡ id_view v.id = subst (IsOf (id_view k)) here own in
@@ -256,7 +257,7 @@ module _ (id : Ident) (w : Option OpenRequest) (g next : Ident → Option OpenRe
     AllHave-cancel : (ids : List Id) → AllHave ids g → AllHave ids next
     AllHave-cancel [] h = tt
     AllHave-cancel (k ∷ ids) h = (
-      elim (true_or_false (same_id id (id_view k))) [
+      elim (cases_Bool (same_id id (id_view k))) [
         | inl p ↦
             let here : g (id_view k) ≡ Some v = ap g (sym (same_id-true id (id_view k) p)) ∙ was in
             subst (IsOf (id_view k)) (sym (at_id k p ∙ is)) (subst (IsOf (id_view k)) here h.0 ∙ ap (λ e. e.id) (sym flag))
@@ -269,7 +270,7 @@ module _ (id : Ident) (w : Option OpenRequest) (g next : Ident → Option OpenRe
     IsHeld-cancel ids h = record {
       have = AllHave-cancel ids h.have;
       differ = h.differ;
-      others = λ k gone. elim (true_or_false (same_id id (id_view k))) [
+      others = λ k gone. elim (cases_Bool (same_id id (id_view k))) [
         | inl p ↦ absurd (true≢false (ap is_some (sym was ∙ (ap g (same_id-true id (id_view k) p) ∙ h.others k gone))))
         | inr p ↦ at_other k p ∙ h.others k gone
       ];
@@ -288,8 +289,8 @@ asked k r g next puts own ids h none =
         differ = AllDiffer-push ids k h.differ gone;
         others = λ q away.
             let apart = sym (is_among-push (id_view q) ids k) ∙ away in
-            at_other id (Some r) g next puts q (same_id-flip (id_view q) id (right_false (is_among (id_view q) ids) _ apart))
-            ∙ h.others q (left_false (is_among (id_view q) ids) _ apart);
+            at_other id (Some r) g next puts q (same_id-flip (id_view q) id (or_parts (is_among (id_view q) ids) _ apart).1)
+            ∙ h.others q (or_parts (is_among (id_view q) ids) _ apart).0;
       },
       entries_of-push id (Some r) g next puts ids k
           ∙ (ap (λ slot. entries_of ids next ++ entries_in slot) here ∙ ap (λ l. l ++ request_view r ∷ []) (entries_of-absent id (Some r) g next puts ids gone)),
@@ -301,7 +302,7 @@ module _ (id : Ident) (g next : Ident → Option OpenRequest) (puts : PutsUnder 
   pub entries_of-answer : (ids : List Id) → AllHave ids g → entries_of (filter (is_other id) ids) next ≡ without id (entries_of ids g)
   entries_of-answer [] h = refl
   entries_of-answer (k ∷ ids) h =
-      elim (true_or_false (same_id id (id_view k))) [
+      elim (cases_Bool (same_id id (id_view k))) [
         | inl p ↦ rw p (entries_of-answer ids h.1 ∙ sym (left_out (g (id_view k)) h.0 p))
         | inr p ↦ rw (p, at_other id None g next puts k p) (ap (λ l. entries_in (g (id_view k)) ++ l) (entries_of-answer ids h.1) ∙ sym (kept (g (id_view k)) h.0 p))
       ]
@@ -317,7 +318,7 @@ module _ (id : Ident) (g next : Ident → Option OpenRequest) (puts : PutsUnder 
   AllHave-answer : (ids : List Id) → AllHave ids g → AllHave (filter (is_other id) ids) next
   AllHave-answer [] h = tt
   AllHave-answer (k ∷ ids) h =
-      elim (true_or_false (same_id id (id_view k))) [
+      elim (cases_Bool (same_id id (id_view k))) [
         | inl p ↦ rw p (AllHave-answer ids h.1)
         | inr p ↦ rw p (subst (IsOf (id_view k)) (sym (at_other id None g next puts k p)) h.0, AllHave-answer ids h.1)
       ]
@@ -326,7 +327,7 @@ module _ (id : Ident) (g next : Ident → Option OpenRequest) (puts : PutsUnder 
   IsHeld-answer ids h = record {
     have = AllHave-answer ids h.have;
     differ = AllDiffer-filter id ids h.differ;
-    others = λ q away. elim (true_or_false (same_id id (id_view q))) [
+    others = λ q away. elim (cases_Bool (same_id id (id_view q))) [
       | inl p ↦ at_id id None g next puts q p
       | inr p ↦ at_other id None g next puts q p ∙ h.others q (is_among-before id (id_view q) ids p away)
     ];
@@ -338,7 +339,7 @@ module _ (id : Ident) (g next : Ident → Option OpenRequest) (puts : PutsUnder 
 pub lookup-request_of : (t : Id → Bool) (id : Ident) → ((k : Id) → t k ≡ same_id id (id_view k)) → (es : List (Id × OpenRequest)) → lookup t es ≡ request_of es id
 lookup-request_of t id agrees [] = refl
 lookup-request_of t id agrees (e ∷ es) =
-    elim (true_or_false (t e.0)) [
+    elim (cases_Bool (t e.0)) [
       | inl p ↦ rw (p, sym (agrees e.0) ∙ p) refl
       | inr p ↦ rw (p, sym (agrees e.0) ∙ p) (lookup-request_of t id agrees es)
     ]

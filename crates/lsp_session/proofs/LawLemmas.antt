@@ -11,10 +11,11 @@ use Rattle.lsp_session.specs.Laws.{AnsweredOnce, AnsweredRequest, AnswersAReques
 use Rattle.lsp_session.specs.Requests.{answers, answers_request, id_rule, is_answered, is_cancelled, names, open_entry, open_requests, request_rule}
 use Rattle.lsp_session.specs.Rules.{AdmittedAfter, rule_after}
 use Rattle.lsp_session.specs.Sent.{Sent, answered_from, answered_id, is_response, other_side, request_by, request_of, response_id, same_side}
-use Rattle.lsp_session.proofs.Bools.{and_false, and_left, and_right_false, left_false, or_assoc, or_split, or_true, true_or_false}
+use Rattle.std.proofs.lemmas.Bool.{and_parts, cases_Bool, or_parts}
+use Rattle.lsp_session.proofs.Bools.{and_false, and_right_false, or_assoc, or_split, or_true}
 use Rattle.lsp_rpc.proofs.IdLemmas.{same_id-refl, same_id-true}
 
-none_left : {X : Type 0} (a b : Option X) → option_or a b ≡ None → a ≡ None
+pub none_left : {X : Type 0} (a b : Option X) → option_or a b ≡ None → a ≡ None
 none_left None b e = refl
 none_left (Some x) b e = e
 
@@ -28,12 +29,12 @@ has_id-append : (id : Ident) (es fs : List Entry) → has_id id (es ++ fs) ≡ (
 has_id-append id [] fs = refl
 has_id-append id (e ∷ es) fs = rw (has_id-append id es fs) (sym (or_assoc (same_id id e.id) _ _))
 
-admitted_at : (before xs : List Sent) (m : Sent) (after : List Sent) → AdmittedAfter before (xs ++ m ∷ after) → rule_after (before ++ xs) m ≡ None
+pub admitted_at : (before xs : List Sent) (m : Sent) (after : List Sent) → AdmittedAfter before (xs ++ m ∷ after) → rule_after (before ++ xs) m ≡ None
 admitted_at before [] m after h = subst (λ l. rule_after l m ≡ None) (sym (append-nil before)) h.0
 admitted_at before (x ∷ xs) m after h =
     subst (λ l. rule_after l m ≡ None) (append_assoc before (x ∷ []) xs) (admitted_at (before ++ x ∷ []) xs m after h.1)
 
-same_side-refl : (side : Side) → same_side side side ≡ true
+pub same_side-refl : (side : Side) → same_side side side ≡ true
 same_side-refl Editor = refl
 same_side-refl Server = refl
 
@@ -60,7 +61,7 @@ answers-parts side None between m h = absurd (true≢false (sym h))
 answers-parts side (Some q) between m h = record {
   r = q;
   is = refl;
-  named = and_left (names (answered_id side m) q.0) _ h;
+  named = (and_parts (names (answered_id side m) q.0) _ h).0;
   left = and_right_false (names (answered_id side m) q.0) (is_answered side q.0 between) h;
 }
 
@@ -88,7 +89,7 @@ not_open own other (response id reply) r is h = absurd (true≢false (sym (ap is
 
 pub answers_no_other : AnswersNoOther
 answers_no_other before first between second after m admitted h =
-    elim (true_or_false (answers second after m)) [
+    elim (cases_Bool (answers second after m)) [
       | inl k ↦
           let p = answers-parts first.side (request_of first.message) (between ++ second ∷ after) m h in
           let q = answers-parts second.side (request_of second.message) after m k in
@@ -96,7 +97,7 @@ answers_no_other before first between second after m admitted h =
           let same : p.r.0 ≡ q.r.0 = one_id (answered_id second.side m) p.r.0 q.r.0 (subst (λ s. names (answered_id s m) p.r.0 ≡ true) one p.named) q.named in
           let asked : request_by first.side first ≡ Some p.r = rw (same_side-refl first.side) p.is in
           let left : is_answered first.side p.r.0 between ≡ false =
-          left_false (is_answered first.side p.r.0 between) _ (sym (is_answered-append first.side p.r.0 between (second ∷ after)) ∙ p.left) in
+          (or_parts (is_answered first.side p.r.0 between) _ (sym (is_answered-append first.side p.r.0 between (second ∷ after)) ∙ p.left)).0 in
           let there = open_at first.side before first between p.r asked left in
           let rule : rule_after (before ++ first ∷ between) second ≡ None =
           admitted_at [] (before ++ first ∷ between) second after (subst (AdmittedAfter []) (sym (append_assoc before (first ∷ between) (second ∷ after))) admitted) in
@@ -116,7 +117,7 @@ answered_once-at side None between m after again h = refl
 answered_once-at side (Some r) between m after again h =
     and_false (names (answered_id side again) r.0) (is_answered side r.0 (between ++ m ∷ after)) (
     is_answered-append side r.0 between (m ∷ after)
-    ∙ ap (λ b. is_answered side r.0 between || (b || is_answered side r.0 after)) (and_left (names (answered_id side m) r.0) _ h)
+    ∙ ap (λ b. is_answered side r.0 between || (b || is_answered side r.0 after)) (and_parts (names (answered_id side m) r.0) _ h).0
     ∙ or_true (is_answered side r.0 between))
 
 pub answered_once : AnsweredOnce
@@ -137,7 +138,7 @@ record Found (side : Side) (id : Ident) (history : List Sent) : Type 0 where
 first_found : (side : Side) (id : Ident) (m : Sent) (later : List Sent) (found : Option (Ident × List ℕ)) → request_by side m ≡ found → has_id id (open_entry side found later) ≡ true → Found side id (m ∷ later)
 first_found side id m later None own h = absurd (true≢false (sym h))
 first_found side id m later (Some q) own h =
-    elim (true_or_false (is_answered side q.0 later)) [
+    elim (cases_Bool (is_answered side q.0 later)) [
       | inl p ↦ absurd (true≢false (sym h ∙ rw p refl))
       | inr p ↦ record {
         before = [];
@@ -158,7 +159,7 @@ first_found side id m later (Some q) own h =
 find_open : (side : Side) (id : Ident) (h : List Sent) → has_id id (open_requests side h) ≡ true → Found side id h
 find_open side id [] e = absurd (true≢false (sym e))
 find_open side id (m ∷ later) e =
-    elim (true_or_false (has_id id (open_entry side (request_by side m) later))) [
+    elim (cases_Bool (has_id id (open_entry side (request_by side m) later))) [
       | inl p ↦ first_found side id m later (request_by side m) refl p
       | inr p ↦
           let f = find_open side id later (or_split _ _ (sym (has_id-append id (open_entry side (request_by side m) later) (open_requests side later)) ∙ e) p) in

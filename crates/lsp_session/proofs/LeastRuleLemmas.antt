@@ -2,7 +2,7 @@
 use Rattle.std.proofs.Common.{◌≡◌, ◌⊎◌, ℕ, ◌≤◌, List, [], ◌∷◌, Option, Some, None, is_some, inl, inr, Bool, true, false, not, ◌&&◌, if◌then◌else◌, true≢false, refl, sym, ap, ◌∙◌, subst, arith}
 use Rattle.std.specs.Prelude.{nat_le}
 use Rattle.std.specs.Option.{option_or}
-use Rattle.std.proofs.lemmas.Bool.{leb-true}
+use Rattle.std.proofs.lemmas.Bool.{and_parts, leb-true}
 use Rattle.std.proofs.lemmas.Option.{same_Some}
 use Rattle.lsp_rpc.specs.Act.{Act, Offer, Picked}
 use Rattle.lsp_rpc.specs.Message.{Message, request, notification, response}
@@ -40,14 +40,10 @@ abbrev all_within : ℕ → ℕ → List Row → Bool
 all_within low high [] = true
 all_within low high (row ∷ rows) = is_within low high row.answer && all_within low high rows
 
-both : (a b : Bool) → (a && b) ≡ true → (a ≡ true) × (b ≡ true)
-both true b h = (refl, h)
-both false b h = absurd (true≢false (sym h))
-
 answer_within : (low high : ℕ) (test : Row → Bool) (rows : List Row) → all_within low high rows ≡ true → is_within low high (first_answer test rows) ≡ true
 answer_within low high test [] h = refl
 answer_within low high test (row ∷ rows) h =
-    let parts = both (is_within low high row.answer) (all_within low high rows) h in
+    let parts = and_parts (is_within low high row.answer) (all_within low high rows) h in
     if_within low high (test row) row.answer (first_answer test rows) parts.0 (answer_within low high test rows parts.1)
 
 pick_within : (offer : Offer) (picked : Option Picked) → is_within 501 504 (pick_rule offer picked) ≡ true
@@ -70,7 +66,7 @@ register_within Server act = if_within 501 504 (registers_synchronisation act) (
 -- ---- the least
 
 bounds : (low high rule : ℕ) → is_within low high (Some rule) ≡ true → (low ≤ rule) × (rule ≤ high)
-bounds low high rule h = let parts = both (nat_le low rule) (nat_le rule high) h in (leb-true low rule parts.0, leb-true rule high parts.1)
+bounds low high rule h = let parts = and_parts (nat_le low rule) (nat_le rule high) h in (leb-true low rule parts.0, leb-true rule high parts.1)
 
 least : (a b c : Option ℕ) → is_within 301 302 a ≡ true → is_within 401 412 b ≡ true → is_within 501 504 c ≡ true
     → (rule : ℕ) → option_or a (option_or b c) ≡ Some rule

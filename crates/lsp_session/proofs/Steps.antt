@@ -13,7 +13,8 @@ use Rattle.lsp_session.specs.OpenInitialize.{Initialize}
 use Rattle.lsp_session.specs.Requests.{is_answered, is_cancelled, names, open_entry, open_requests}
 use Rattle.lsp_session.specs.Sent.{Sent, answered_id, cancelled_id, request_by, sends}
 use Rattle.lsp_session.specs.State.{agreed_in, closed, closed_initializes, marked, next, open_next, pushed, pushed_initialize, state_of, without_initialize}
-use Rattle.lsp_session.proofs.Bools.{or_assoc, or_false, or_true, true_or_false}
+use Rattle.std.proofs.lemmas.Bool.{cases_Bool}
+use Rattle.lsp_session.proofs.Bools.{or_assoc, or_false, or_true}
 
 is_answered-push : (side : Side) (id : Ident) (h : List Sent) (m : Sent) → is_answered side id (h ++ m ∷ []) ≡ (is_answered side id h || names (answered_id side m) id)
 is_answered-push side id [] m = or_false (names (answered_id side m) id)
@@ -26,7 +27,7 @@ is_cancelled-push side id (x ∷ h) m = rw (is_cancelled-push side id h m) (sym 
 without-append : (id : Ident) (es fs : List Entry) → without id (es ++ fs) ≡ without id es ++ without id fs
 without-append id [] fs = refl
 without-append id (e ∷ es) fs =
-    elim (true_or_false (same_id id e.id)) [
+    elim (cases_Bool (same_id id e.id)) [
       | inl p ↦ rw p (without-append id es fs)
       | inr p ↦ rw p (ap (λ l. e ∷ l) (without-append id es fs))
     ]
@@ -50,15 +51,15 @@ pushed-append (Some r) es fs = append_assoc es fs _
 -- one open entry, before and after
 entry_marked : (id : Ident) (e : Entry) → entry.marked id e ≡ record e { cancelled = e.cancelled || same_id id e.id }
 entry_marked id e =
-    elim (true_or_false (same_id id e.id)) [ inl p ↦ rw (p, or_true e.cancelled) refl | inr p ↦ rw (p, or_false e.cancelled) refl ]
+    elim (cases_Bool (same_id id e.id)) [ inl p ↦ rw (p, or_true e.cancelled) refl | inr p ↦ rw (p, or_false e.cancelled) refl ]
 
 entry_next : (c k : Option Ident) (e : Entry) → marked k (closed c (e ∷ [])) ≡ (if names c e.id then [] else record e { cancelled = e.cancelled || names k e.id } ∷ [])
 entry_next None None e = rw or_false refl
 entry_next None (Some k) e = ap (λ x. x ∷ []) (entry_marked k e)
 entry_next (Some c) None e =
-    elim (true_or_false (same_id c e.id)) [ inl p ↦ rw p refl | inr p ↦ rw (p, or_false e.cancelled) refl ]
+    elim (cases_Bool (same_id c e.id)) [ inl p ↦ rw p refl | inr p ↦ rw (p, or_false e.cancelled) refl ]
 entry_next (Some c) (Some k) e =
-    elim (true_or_false (same_id c e.id)) [ inl p ↦ rw p refl | inr p ↦ rw p (ap (λ x. x ∷ []) (entry_marked k e)) ]
+    elim (cases_Bool (same_id c e.id)) [ inl p ↦ rw p refl | inr p ↦ rw p (ap (λ x. x ∷ []) (entry_marked k e)) ]
 
 none_next : (c k : Option Ident) → marked k (closed c []) ≡ []
 none_next None None = refl
@@ -73,7 +74,7 @@ open_entry-push : (side : Side) (r : Option (Ident × List ℕ)) (h : List Sent)
 open_entry-push side None h m = sym (none_next (answered_id side m) (cancelled_id side m))
 open_entry-push side (Some r) h m =
     rw (is_answered-push side r.0 h m, is_cancelled-push side r.0 h m)
-    (elim (true_or_false (is_answered side r.0 h)) [
+    (elim (cases_Bool (is_answered side r.0 h)) [
       | inl p ↦ rw p (sym (none_next (answered_id side m) (cancelled_id side m)))
       | inr p ↦ rw p (sym (entry_next (answered_id side m) (cancelled_id side m) _))
     ])
@@ -93,7 +94,7 @@ open_requests-push side (x ∷ h) m =
 without_initialize-append : (id : Ident) (ss ts : List Initialize) → without_initialize id (ss ++ ts) ≡ without_initialize id ss ++ without_initialize id ts
 without_initialize-append id [] ts = refl
 without_initialize-append id (s ∷ ss) ts =
-    elim (true_or_false (same_id id s.id)) [
+    elim (cases_Bool (same_id id s.id)) [
       | inl p ↦ rw p (without_initialize-append id ss ts)
       | inr p ↦ rw p (ap (λ l. s ∷ l) (without_initialize-append id ss ts))
     ]
@@ -102,7 +103,7 @@ closed_initializes-append : (c : Option Ident) (ss ts : List Initialize) → clo
 closed_initializes-append None ss ts = refl
 closed_initializes-append (Some id) ss ts = without_initialize-append id ss ts
 
-closed_initializes-none : (c : Option Ident) → closed_initializes c [] ≡ []
+pub closed_initializes-none : (c : Option Ident) → closed_initializes c [] ≡ []
 closed_initializes-none None = refl
 closed_initializes-none (Some id) = refl
 
@@ -118,7 +119,7 @@ open_initialize-push : (r : Option Initialize) (h : List Sent) (m : Sent) → op
 open_initialize-push None h m = sym (closed_initializes-none (answered_id Editor m))
 open_initialize-push (Some s) h m =
     rw (is_answered-push Editor s.id h m)
-    (elim (true_or_false (is_answered Editor s.id h)) [
+    (elim (cases_Bool (is_answered Editor s.id h)) [
       | inl p ↦ rw p (sym (closed_initializes-none (answered_id Editor m)))
       | inr p ↦ rw p (sym (initialize_next (answered_id Editor m) s))
     ])
@@ -135,11 +136,11 @@ open_initializes-push (x ∷ h) m =
 
 -- ---- what was agreed
 
-option_or-assoc : {X : Type 0} (a b c : Option X) → option_or a (option_or b c) ≡ option_or (option_or a b) c
+pub option_or-assoc : {X : Type 0} (a b c : Option X) → option_or a (option_or b c) ≡ option_or (option_or a b) c
 option_or-assoc None b c = refl
 option_or-assoc (Some x) b c = refl
 
-option_or-none : {X : Type 0} (a : Option X) → option_or a None ≡ a
+pub option_or-none : {X : Type 0} (a : Option X) → option_or a None ≡ a
 option_or-none None = refl
 option_or-none (Some x) = refl
 

@@ -1,4 +1,4 @@
-// The `initialize` request that is open, and what it offers.
+//! The `initialize` request that is open, and what it offers.
 ghost use Rattle.std.specs.Prelude.{◌≡◌, Some, IfOk};
 ghost use Rattle.lsp_rpc.specs.Ident.{id_view};
 ghost use Rattle.lsp_rpc.specs.View.{act_view, offer_view, texts_view};
@@ -11,8 +11,8 @@ use std::alloc::Global;
 /// An `initialize` request that is open.
 #[derive(Drop)]
 pub(crate) struct OpenInitialize {
-    pub id: Id,
-    pub offer: Offer,
+    pub(crate) id: Id,
+    pub(crate) offer: Offer,
 }
 
 pub(crate) fn open_initialize(

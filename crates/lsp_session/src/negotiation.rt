@@ -1,4 +1,4 @@
-// What the two sides agree on.
+//! What the two sides agree on.
 ghost use Rattle.std.specs.Prelude.{◌≡◌, Some, None, IfOk, IfErr, OnOk, codes, option_map};
 ghost use Rattle.std.specs.List.{list_any};
 ghost use Rattle.std.specs.Str.{bytes_eq};
@@ -16,8 +16,8 @@ use std::alloc::Global;
 /// What an `initialize` and its result agree on.
 #[derive(Clone, Copy, Debug, PartialEq, Eq)]
 pub(crate) struct Agreed {
-    pub encoding: Encoding,
-    pub kind: SyncKind,
+    pub(crate) encoding: Encoding,
+    pub(crate) kind: SyncKind,
 }
 
 fn encoding_named(name: &str) -> Option<Encoding>

@@ -1,3 +1,4 @@
+//! The requests of one side that wait for their responses (JSON-RPC 2.0, sections 4 and 5).
 ghost use Rattle.std.specs.Prelude.{None, IfErr, IfOk, ◌≡◌, ◌++◌, ◌∷◌, [], length, OnOk, OnErr, option_map, slice_get};
 ghost use Rattle.lsp_rpc.specs.Ident.{id_view};
 ghost use Rattle.lsp_session.specs.Entry.{request_view, has_id, IdsDiffer, entry_of, without, cancel, ask_rule, new_entry};

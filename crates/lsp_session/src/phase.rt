@@ -1,3 +1,5 @@
+//! How far a session has come.
+
 /// How far a session has come: the last of these that applies (LSP 3.17, "Server lifecycle").
 #[derive(Clone, Copy, Debug, PartialEq, Eq)]
 pub enum Phase {

@@ -1,3 +1,4 @@
+//! Why a message is not admitted.
 ghost use Rattle.std.specs.Prelude.{◌≡◌};
 ghost use Rattle.lsp_session.specs.declared.refusal.Refusal.TheVariants as refusals;
 

@@ -1,3 +1,4 @@
+//! The messages of two sides, judged one after another (LSP 3.17, "Server lifecycle").
 ghost use Rattle.std.specs.Prelude.{◌≡◌, Some, true, false, ◌++◌, ◌∷◌, [], List, None, IfErr, IfOk, OnOk, OnErr, not, option_map};
 ghost use Rattle.lsp_rpc.specs.Ident.{id_view};
 ghost use Rattle.lsp_rpc.specs.View.{act_view, message_view};
