@@ -25,7 +25,7 @@ use crate::heard::{Heard, Turn};
 use crate::ruling::Ruling;
 use crate::summary::summary_of;
 use crate::text_answer::TextAnswer;
-use lsp_frame::{Decoder, Format, Limits, Memory as Refused};
+use lsp_frame::{Decoder, Format, Limits};
 use lsp_log::{LogCode, Record};
 use lsp_rpc::{Memory, Side};
 use lsp_text::TextStore;
@@ -351,7 +351,7 @@ impl<S: TextStore> Judge<S> {
     }
 
     /// Takes a record, whose events are still to be heard.
-    pub(crate) fn push(&mut self, next: Record) -> Result<(), Refused>
+    pub(crate) fn push(&mut self, next: Record) -> Result<(), Memory>
         ensures keeps { Keeps self.old self.new }
         ensures ok { OnOk result ((records : List log.Record) (heard : List Event) → self.old.turn ≡ None → IsHearing self.old records heard
             → IsHearing self.new (records ++ record_view next ∷ []) heard) }

@@ -6,7 +6,6 @@ ghost use Rattle.lsp_verdict.specs.Given.{verdict_view, as_given};
 ghost use Rattle.lsp_verdict.specs.Verdict.{no_next};
 ghost use Rattle.lsp_judge.specs.Rulings.{verdict_in};
 
-use lsp_frame::Memory as Refused;
 use lsp_log::LogCode;
 use lsp_rpc::Memory;
 use lsp_verdict::{Counts, Verdict, Who};
@@ -65,12 +64,12 @@ impl Ruling {
     }
 }
 
-impl From<Refused> for Ruling {
-    ghost use Rattle.lsp_judge.specs.declared.ruling.Ruling.TheVariants.{Memory};
+impl From<Memory> for Ruling {
+    ghost use Rattle.lsp_judge.specs.declared.ruling.Ruling.TheVariants as rulings;
 
-    ghost from_gives = { λ _ ruling. ruling ≡ Memory };
+    ghost from_gives = { λ _ ruling. ruling ≡ rulings.Memory };
 
-    fn from(_refused: Refused) -> Ruling {
+    fn from(_memory: Memory) -> Ruling {
         Ruling::Memory
     }
 }

@@ -3,21 +3,15 @@ use Rattle.std.proofs.Common.{◌≡◌, List, [], ◌∷◌, ◌++◌, refl, sy
 use Rattle.std.proofs.lemmas.List.{append-nil}
 use Rattle.std.specs.Option.{option_or}
 use Rattle.std.specs.List.{cons_option}
+use Rattle.lsp_session.proofs.LawLemmas.{none_left}
+use Rattle.lsp_session.proofs.Steps.{option_or-assoc, option_or-none}
 use Rattle.lsp_verdict.specs.LookBack.{first_from, first_of, each_from, each_of}
-
-pub or_assoc : {X : Type 0} (a b c : Option X) → option_or a (option_or b c) ≡ option_or (option_or a b) c
-or_assoc None b c = refl
-or_assoc (Some x) b c = refl
-
-pub or_none : {X : Type 0} (a : Option X) → option_or a None ≡ a
-or_none None = refl
-or_none (Some x) = refl
 
 pub first_from-append : {A X : Type 0} (f : List A → A → Option X) (before xs ys : List A) → first_from f before (xs ++ ys) ≡ option_or (first_from f before xs) (first_from f (before ++ xs) ys)
 first_from-append f before [] ys = ap (λ b. first_from f b ys) (sym (append-nil before))
 first_from-append f before (x ∷ xs) ys =
     ap (option_or (f before x)) (first_from-append f (before ++ x ∷ []) xs ys)
-    ∙ or_assoc (f before x) (first_from f (before ++ x ∷ []) xs) (first_from f ((before ++ x ∷ []) ++ xs) ys)
+    ∙ option_or-assoc (f before x) (first_from f (before ++ x ∷ []) xs) (first_from f ((before ++ x ∷ []) ++ xs) ys)
     ∙ ap (λ b. option_or (option_or (f before x) (first_from f (before ++ x ∷ []) xs)) (first_from f b ys)) (append_assoc before (x ∷ []) xs)
 
 -- the first of more elements is that of the first ones, if these have one
@@ -25,15 +19,11 @@ pub first_of-append : {A X : Type 0} (f : List A → A → Option X) (xs ys : Li
 first_of-append f xs ys = first_from-append f [] xs ys
 
 pub first_of-snoc : {A X : Type 0} (f : List A → A → Option X) (xs : List A) (x : A) → first_of f (xs ++ x ∷ []) ≡ option_or (first_of f xs) (f xs x)
-first_of-snoc f xs x = first_from-append f [] xs (x ∷ []) ∙ ap (option_or (first_of f xs)) (or_none (f xs x))
+first_of-snoc f xs x = first_from-append f [] xs (x ∷ []) ∙ ap (option_or (first_of f xs)) (option_or-none (f xs x))
 
 -- what was first stays first, however the list goes on
 pub first_of-more : {A X : Type 0} (f : List A → A → Option X) (xs ys : List A) (v : X) → first_of f xs ≡ Some v → first_of f (xs ++ ys) ≡ Some v
 first_of-more f xs ys v e = first_from-append f [] xs ys ∙ ap (λ o. option_or o (first_from f xs ys)) e
-
-none_left : {X : Type 0} (a b : Option X) → option_or a b ≡ None → a ≡ None
-none_left None b e = refl
-none_left (Some x) b e = e
 
 none_right : {X : Type 0} (a b : Option X) → option_or a b ≡ None → b ≡ None
 none_right None b e = e

@@ -6,6 +6,7 @@ use Rattle.lsp_session.specs.Lifecycle.{lifecycle_rule}
 use Rattle.lsp_session.specs.Requests.{request_rule, answers}
 use Rattle.lsp_session.specs.Rules.{rule_after, AdmittedAfter, IsAdmitted}
 use Rattle.lsp_session.specs.Sent.{Sent}
+use Rattle.lsp_session.proofs.LawLemmas.{admitted_at}
 use Rattle.lsp_docs.specs.Terms.{Terms}
 use Rattle.lsp_verdict.specs.Event.{Event, message, fault, snapshot, sent_of, sent_in}
 use Rattle.lsp_verdict.specs.Kept.{Answers, IsResponseAt, AnswersOne, AnswersMatch, NothingOffends, KeepsLifecycle}
@@ -50,11 +51,6 @@ keeps_lifecycle terms es clean before after m cut =
 admitted_split : (before xs ys : List Sent) → AdmittedAfter before (xs ++ ys) → AdmittedAfter before xs
 admitted_split before [] ys h = tt
 admitted_split before (x ∷ xs) ys h = (h.0, admitted_split (before ++ x ∷ []) xs ys h.1)
-
-admitted_at : (before xs : List Sent) (m : Sent) (after : List Sent) → AdmittedAfter before (xs ++ m ∷ after) → rule_after (before ++ xs) m ≡ None
-admitted_at before [] m after h = subst (λ (l : List Sent). rule_after l m ≡ None) (sym (append-nil before)) h.0
-admitted_at before (x ∷ xs) m after h =
-    subst (λ (l : List Sent). rule_after l m ≡ None) (append_assoc before (x ∷ []) xs) (admitted_at (before ++ x ∷ []) xs m after h.1)
 
 clash : {X : Type 0} (b : Bool) → b ≡ true → b ≡ false → X
 clash true p q = absurd cc

@@ -19,12 +19,12 @@ use Rattle.lsp_verdict.proofs.Verdicts.{no_found}
 
 -- ---- what the events say
 
-of_held : (terms : Terms) (uri : List ℕ) (v : Verdict) (upto : List Event) (o : Option (List Event)) → o ≡ Some upto → first_no terms upto ≡ None → held_answer (held terms uri (calls upto)) ≡ text_answer terms uri v o
+pub of_held : (terms : Terms) (uri : List ℕ) (v : Verdict) (upto : List Event) (o : Option (List Event)) → o ≡ Some upto → first_no terms upto ≡ None → held_answer (held terms uri (calls upto)) ≡ text_answer terms uri v o
 of_held terms uri v upto o reached clean =
     sym (ap (λ w. if is_some w then missing_answer v else held_answer (held terms uri (calls upto))) clean) ∙ sym (ap (text_answer terms uri v) reached)
 
 -- an event before which the n-th message doesn't stand offends
-of_offence : (terms : Terms) (n : ℕ) (uri : List ℕ) (v : Verdict) (before : List Event) (e : Event) (after events : List Event) → count_of (is_of Editor) before < n → first_no terms before ≡ None → no_at terms before e ≡ Some v → events ≡ before ++ e ∷ after
+pub of_offence : (terms : Terms) (n : ℕ) (uri : List ℕ) (v : Verdict) (before : List Event) (e : Event) (after events : List Event) → count_of (is_of Editor) before < n → first_no terms before ≡ None → no_at terms before e ≡ Some v → events ≡ before ++ e ∷ after
     → missing_answer v ≡ text_answer terms uri v (up_to_editor n [] events)
 of_offence terms n uri v before e after events few clean offends cut = by_reached (up_to_editor n [] events) (sym (ap (up_to_editor n []) cut))
   where

@@ -31,7 +31,7 @@ use Rattle.lsp_verdict.proofs.Below.{one_log}
 use Rattle.lsp_verdict.proofs.Outcomes.{cut_joined}
 use Rattle.lsp_verdict.proofs.PlacedLemmas.{cuts_dont_matter, one_placed}
 use Rattle.lsp_verdict.proofs.Sessions.{some_placed}
-use Rattle.lsp_streams.proofs.Framing.Found.{says_within}
+use Rattle.lsp_frame.proofs.Readings.{says_within}
 use Rattle.lsp_verdict.proofs.Streams.{no_stream}
 
 -- ---- lists

@@ -10,7 +10,7 @@ use Rattle.lsp_frame.specs.Header.{blank_line, is_number, lengths, content_lengt
 use Rattle.lsp_frame.specs.Sink.{Wrote, Stopped}
 use Rattle.lsp_frame.specs.Told.{Told, Took}
 use Rattle.lsp_frame.specs.Decoder.{State, StandsFor, GivesFrame, Next}
-use Rattle.lsp_frame.proofs.Frames.{is_ok_of, err_not_ok}
+use Rattle.lsp_frame.proofs.Readings.{says_within}
 use Rattle.lsp_frame.proofs.Writing.{wrote_then, stopped_then}
 use Rattle.lsp_streams.specs.StreamParts.{IsPart, Refuses}
 use Rattle.lsp_streams.specs.StreamSteps.{AreParts, WritesPart, FoundAll, FoundFault, FoundBroken, Finds}
@@ -128,28 +128,6 @@ at_fault d e mode old new given rule bytes before so_far next =
     }
 
 -- ---- a content that was given is within the limits
-
-is_number_fits : (a b : Bool) (k n : ℕ) → (if a then (if b then Ok k else Err 105) else Err 104) ≡ is_ok_of n → (b ≡ true) × (k ≡ n)
-is_number_fits false b k n e = absurd (cc e)
-is_number_fits true false k n e = absurd (cc e)
-is_number_fits true true k n e = (refl, cc e)
-
-length_within : (limits : Bounds) (values : List (List ℕ)) (n : ℕ) → content_length limits values ≡ is_ok_of n → n ≤ limits.content
-length_within limits [] n said = absurd (cc said)
-length_within limits (v ∷ []) n said =
-    let fits = is_number_fits (is_number v) (nat_le (digits_value 10 v) limits.content) (digits_value 10 v) n said in
-    let below = leb-true (digits_value 10 v) limits.content fits.0 in
-    omega (arith, below, fits.1)
-length_within limits (v ∷ w ∷ vs) n said = absurd (cc said)
-
-charset_aside : (fits : Bool) (said : Result ℕ ℕ) (n : ℕ) → length_and_charset fits said ≡ is_ok_of n → said ≡ is_ok_of n
-charset_aside true said n is = is
-charset_aside false (Ok m) n is = absurd (cc is)
-charset_aside false (Err rule) n is = absurd (cc is)
-
-pub says_within : (limits : Bounds) (header : List ℕ) (n : ℕ) → Says limits header (Ok n) → n ≤ limits.content
-says_within limits header n (inl spelled) = length_within limits (lengths spelled.0) n (charset_aside (fits_charsets spelled.0) (content_length limits (lengths spelled.0)) n spelled.2)
-says_within limits header n (inr none) = absurd (err_not_ok (sym none.1))
 
 -- what a step past a frame does to the rest
 pub record FrameStep (d e : State) (content : List ℕ) : Type 0 where

@@ -1,6 +1,6 @@
 -- Two interleavings of the same events: what they agree in, and where they can't.
 use Rattle.std.proofs.Common.{◌≡◌, ℕ, Bool, true, false, cond, ◌&&◌, List, [], ◌∷◌, ◌++◌, map, length, All, Option, Some, None, is_some, inl, inr, refl, sym, ap, subst, ◌∙◌, append_assoc, true≢false}
-use Rattle.std.proofs.lemmas.Bool.{and_parts}
+use Rattle.std.proofs.lemmas.Bool.{and_parts, cases_Bool}
 use Rattle.std.specs.Prelude.{filter, if◌then◌else◌, option_map, option_and_then}
 use Rattle.std.specs.List.{filter_map}
 use Rattle.std.specs.Option.{option_or}
@@ -20,6 +20,7 @@ use Rattle.lsp_session.specs.Negotiation.{agreed, negotiation_rule, register_rul
 use Rattle.lsp_session.specs.Requests.{id_rule, open_requests, request_rule}
 use Rattle.lsp_session.specs.Rules.{rule_after}
 use Rattle.lsp_session.specs.Sent.{Sent, is_response, other_side, request_of, same_side}
+use Rattle.lsp_session.proofs.LawLemmas.{same_side-refl}
 use Rattle.lsp_docs.specs.Documents.{documents}
 use Rattle.lsp_docs.specs.Rules.{call_rule}
 use Rattle.lsp_docs.specs.Snapshots.{unmatched}
@@ -29,7 +30,6 @@ use Rattle.lsp_verdict.specs.Event.{Event, message, fault, snapshot, sent_in}
 use Rattle.lsp_verdict.specs.Interleaving.{order_of, is_own, own, AreInterleavings, IsRead, is_asked, is_reply, first_result, is_order_rule, complete, BothYesAgree, OnlyOrderOffends}
 use Rattle.lsp_verdict.specs.Verdict.{Summary, Verdict, document_of, document_rule, first_no, no, no_at, no_by, offence, summary, verdict, yes}
 use Rattle.lsp_verdict.specs.declared.verdict.Who.{Who}
-use Rattle.lsp_session.proofs.Bools.{true_or_false}
 use Rattle.lsp_verdict.proofs.CallsMade.{document_rule_none}
 use Rattle.lsp_verdict.proofs.Finding.{or_cases, same_split}
 use Rattle.lsp_verdict.proofs.Interleaving.Calls.{Keeps, Leads, by_result, call_under, calls_own, event_call, keeps, leads_front, other_none}
@@ -86,10 +86,6 @@ both_yes terms es fs s t read same first second =
     }
 
 -- ---- an event that stands in both
-
-same_side-refl : (side : Side) → same_side side side ≡ true
-same_side-refl Editor = refl
-same_side-refl Server = refl
 
 same_own : (es fs : List Event) → AreInterleavings es fs → (side : Side) → own side es ≡ own side fs
 same_own es fs same Editor = same.editor
@@ -232,7 +228,7 @@ module _ (terms : Terms) (es fs : List Event) (read : All IsRead es) (same : Are
 
   -- so it breaks no rule on documents
   no_document_rule : Keeps before e → document_rule terms before e ≡ None
-  no_document_rule k = elim (true_or_false (is_own Editor e)) [
+  no_document_rule k = elim (cases_Bool (is_own Editor e)) [
     | inl editor ↦
         ap (λ c. option_and_then (call_rule terms c) (call_at before e)) (sym (made editor))
         ∙ ap (option_and_then (call_rule terms (calls front))) (call_before k ∙ sym call_front)

@@ -3,6 +3,7 @@ use Rattle.std.proofs.Common.{◌≡◌, ℕ, Bool, true, false, cond, List, [],
 use Rattle.std.specs.Prelude.{option_map, option_and_then, unwrap_or}
 use Rattle.std.specs.List.{cons_option, filter_map}
 use Rattle.std.specs.Option.{option_or}
+use Rattle.std.proofs.lemmas.Bool.{cases_Bool}
 use Rattle.std.proofs.lemmas.List.Elements.{All-head, All-tail}
 use Rattle.std.proofs.lemmas.Option.{same_Some}
 use Rattle.serde_json.specs.Data.{Data}
@@ -22,7 +23,6 @@ use Rattle.lsp_session.specs.Rules.{rule_after}
 use Rattle.lsp_session.specs.Sent.{Sent, is_exit, is_initialize, same_side}
 use Rattle.lsp_session.specs.State.{agreed_in, state_of}
 use Rattle.lsp_session.specs.declared.negotiation.Agreed.{Agreed}
-use Rattle.lsp_session.proofs.Bools.{true_or_false}
 use Rattle.lsp_docs.specs.Calls.{Call, shows}
 use Rattle.lsp_docs.specs.Terms.{Terms}
 use Rattle.lsp_verdict.specs.Calls.{call_of, call_at, calls}
@@ -72,14 +72,14 @@ early_call : (a b : Option Agreed) (h : List Sent) (side : Side) (said : Message
     → call_of (encoding_in a) (kind_in a) act ≡ call_of (encoding_in b) (kind_in b) act
 early_call a b h Server said act read rule none = server_calls_nothing (encoding_in a) (kind_in a) said act read ∙ sym (server_calls_nothing (encoding_in b) (kind_in b) said act read)
 early_call a b h Editor (response id reply) act read rule none = no_change a b act (ap is_change (sym (same_Some other act read)))
-early_call a b h Editor (request id method params) act read rule none = elim (true_or_false (is_change act)) [
+early_call a b h Editor (request id method params) act read rule none = elim (cases_Bool (is_change act)) [
   | inl is ↦
       let parts = change_is act is in
       let done = others_follow (state_of h).exit (is_exit act) (is_some (agreed_in (first_settled h))) (is_empty (open_initializes h)) (is_initialize act) (late_rows h act) parts.0 parts.1 (rules h (sent_by Editor act (request id method params)) rule).on_order in
       absurd (true≢false (sym done ∙ not_done h none))
   | inr other_ ↦ no_change a b act other_
 ]
-early_call a b h Editor (notification method params) act read rule none = elim (true_or_false (is_change act)) [
+early_call a b h Editor (notification method params) act read rule none = elim (cases_Bool (is_change act)) [
   | inl is ↦
       let parts = change_is act is in
       let done = others_follow (state_of h).exit (is_exit act) (is_some (agreed_in (first_settled h))) (is_empty (open_initializes h)) (is_initialize act) (late_rows h act) parts.0 parts.1 (rules h (sent_by Editor act (notification method params)) rule).on_order in

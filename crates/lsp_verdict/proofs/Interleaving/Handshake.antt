@@ -2,6 +2,7 @@
 use Rattle.std.proofs.Common.{◌≡◌, inl, inr, ℕ, ◌+◌, Bool, true, false, cond, not, ◌&&◌, ◌||◌, List, [], ◌∷◌, ◌++◌, length, Option, Some, None, is_some, refl, sym, ap, subst, ◌∙◌, append_assoc, length-append, true≢false, arith}
 use Rattle.std.specs.Prelude.{filter, if◌then◌else◌, option_map}
 use Rattle.std.specs.Option.{option_or}
+use Rattle.std.proofs.lemmas.Bool.{cases_Bool}
 use Rattle.std.proofs.lemmas.List.Elements.{filter-append}
 use Rattle.serde_json.specs.Data.{Data}
 use Rattle.lsp_rpc.specs.Ident.{Ident, same_id}
@@ -21,13 +22,12 @@ use Rattle.lsp_session.specs.Requests.{answer_rule, is_answered, names, open_req
 use Rattle.lsp_session.specs.Rules.{rule_after}
 use Rattle.lsp_session.specs.Sent.{Sent, answered_id, cancelled_id, is_exit, is_initialize, is_initialized, offer_of, request_by}
 use Rattle.lsp_session.specs.State.{agreed_in, closed, closed_initializes, initializes_next, marked, open_next, pushed, pushed_initialize, state_of}
-use Rattle.lsp_session.proofs.Bools.{true_or_false}
 use Rattle.lsp_session.proofs.ByStateLemmas.{rule_by-state_of}
-use Rattle.lsp_session.proofs.Steps.{open_initializes-push, open_requests-push}
+use Rattle.lsp_session.proofs.Steps.{closed_initializes-none, open_initializes-push, open_requests-push, option_or-assoc, option_or-none}
 use Rattle.lsp_verdict.specs.Interleaving.{first_result, is_asked, is_reply, result_by}
 use Rattle.lsp_verdict.specs.LookBack.{first_from}
 use Rattle.lsp_verdict.proofs.Interleaving.Acts.{request_stays}
-use Rattle.lsp_verdict.proofs.LookBackLemmas.{first_of-snoc, or_assoc, or_none, or_none_parts}
+use Rattle.lsp_verdict.proofs.LookBackLemmas.{first_of-snoc, or_none_parts}
 
 -- ---- the stages
 
@@ -101,10 +101,10 @@ still (Some s) p value e = e
 
 pub first_result-append : (xs ys : List Sent) → first_result (xs ++ ys) ≡ option_or (first_result xs) (first_result ys)
 first_result-append [] ys = refl
-first_result-append (x ∷ xs) ys = ap (option_or (result_by x)) (first_result-append xs ys) ∙ or_assoc (result_by x) (first_result xs) (first_result ys)
+first_result-append (x ∷ xs) ys = ap (option_or (result_by x)) (first_result-append xs ys) ∙ option_or-assoc (result_by x) (first_result xs) (first_result ys)
 
 result_push : (h : List Sent) (m : Sent) → first_result (h ++ m ∷ []) ≡ option_or (first_result h) (result_by m)
-result_push h m = first_result-append h (m ∷ []) ∙ ap (option_or (first_result h)) (or_none (result_by m))
+result_push h m = first_result-append h (m ∷ []) ∙ ap (option_or (first_result h)) (option_or-none (result_by m))
 
 count_push : (test : Sent → Bool) (h : List Sent) (m : Sent) → length (filter test (h ++ m ∷ [])) ≡ length (filter test h) + length (cond (test m) (m ∷ []) [])
 count_push test h m = ap length (filter-append test h (m ∷ [])) ∙ length-append (filter test h) (cond (test m) (m ∷ []) [])
@@ -122,10 +122,6 @@ count_more test h m passes =
 marked_none : (k : Option Ident) → marked k [] ≡ []
 marked_none None = refl
 marked_none (Some id) = refl
-
-closed_starts : (c : Option Ident) → closed_initializes c [] ≡ []
-closed_starts None = refl
-closed_starts (Some id) = refl
 
 -- a mark leaves the id
 record Marked (k : Option Ident) (e : Entry) : Type 0 where
@@ -222,7 +218,7 @@ quiet_waiting h m q w =
 settled_more : (h : List Sent) (m : Sent) → initialize_by m ≡ None → IsSettled h → IsSettled (h ++ m ∷ [])
 settled_more h m none s = record {
   value = s.value;
-  none_starts = start_push h m ∙ ap (initializes_next m) s.none_starts ∙ ap (λ r. pushed_initialize r (closed_initializes (answered_id Editor m) [])) none ∙ closed_starts (answered_id Editor m);
+  none_starts = start_push h m ∙ ap (initializes_next m) s.none_starts ∙ ap (λ r. pushed_initialize r (closed_initializes (answered_id Editor m) [])) none ∙ closed_initializes-none (answered_id Editor m);
   first = result_push h m ∙ ap (λ o. option_or o (result_by m)) s.first;
   settled = ap (option_map value_of) (settle_push h m) ∙ still (first_settled h) (settled_by h m) s.value s.settled;
 }
@@ -359,7 +355,7 @@ asks_step h id method params act read none (fresh f) =
 asks_step h id method params act read none (waiting w) =
     let empty = (early_request h id method params act read none w.unsettled).0 in
     absurd (true≢false (sym empty ∙ ap is_empty w.starts))
-asks_step h id method params act read none (settled s) = elim (true_or_false (is_initialize act)) [
+asks_step h id method params act read none (settled s) = elim (cases_Bool (is_initialize act)) [
   | inl start ↦
       none_follow (state_of h).exit (is_exit act) (is_some (agreed_in (first_settled h))) (is_empty (open_initializes h)) (is_initialize act) (state_of h).shutdown (last_rows h act) (request_stays method params act read) start (is_done (first_settled h) s.value s.settled)
       (rules h (starting id method params act) none).on_order
