@@ -3,6 +3,7 @@
 ghost use Rattle.std.specs.Prelude.{◌≡◌, ◌+◌, ◌<◌, ◌≤◌, ◌^◌, length, IfOk, OnOk, OnErr};
 ghost use Rattle.std.specs.List.{replace_range};
 ghost use Rattle.std.specs.Str.{chars, IsCharBoundary};
+ghost use Rattle.std.specs.String.{string_bytes};
 ghost use Rattle.lsp_text.specs.Lines.{spelled};
 ghost use Rattle.lsp_text.specs.Places.{units};
 ghost use Rattle.lsp_text.specs.Rewriting.{with_text};
@@ -13,12 +14,13 @@ use crate::counts::measure;
 use lsp_types::Encoding;
 use std::alloc::{AllocError, Global};
 use std::marker::Model;
+use std::rc::Rc;
 
 /// A line with its end, and its counts.
 #[derive(Drop)]
 pub(super) struct CountedLine {
-    // The line, and then its end.
-    text: String,
+    // The line, and then its end, which copies of the line share.
+    text: Rc<String>,
     // The bytes, the characters and the units of UTF-16 before the end.
     body: usize,
     chars: u64,
@@ -47,21 +49,22 @@ impl CountedLine {
         let mut whole = String::with_capacity(alloc, text.len() + end.len())?;
         whole.push_str(text)?;
         whole.push_str(end)?;
+        let shared = Rc::new(alloc, whole)?;
         let counts = measure(text);
         Ok(CountedLine {
-            text: whole,
+            text: shared,
             body: text.len(),
             chars: counts.chars,
             utf16: counts.utf16,
         })
     }
 
-    /// The same line again.
-    pub(super) fn copy(&self, alloc: Global) -> Result<CountedLine, AllocError>
+    /// The same line, held once more.
+    pub(super) fn share(&self) -> Result<CountedLine, AllocError>
         ensures { IfOk result (λ line. line ≡ self.now) }
     {
         Ok(CountedLine {
-            text: String::from_str(alloc, self.text.as_str())?,
+            text: self.text.clone()?,
             body: self.body,
             chars: self.chars,
             utf16: self.utf16,
@@ -75,7 +78,7 @@ impl CountedLine {
         ensures { result ≡ self.now }
     {
         LentPiece {
-            text: self.text.as_str(),
+            text: shared_str(&self.text),
             body: self.body,
             chars: self.chars,
             utf16: self.utf16,
@@ -86,14 +89,14 @@ impl CountedLine {
     pub(super) fn as_str(&self) -> &str
         ensures { chars result.now ≡ spelled self.now }
     {
-        self.text.as_str()
+        shared_str(&self.text)
     }
 
     /// The line without its end.
     pub(super) fn body(&self) -> &str
         ensures { chars result.now ≡ self.now.text }
     {
-        let (body, _) = self.text.as_str().split_at(self.body);
+        let (body, _) = shared_str(&self.text).split_at(self.body);
         body
     }
 
@@ -119,7 +122,7 @@ impl CountedLine {
     pub(super) fn count(&self) -> u64
         ensures { result ≡ length (spelled self.now) }
     {
-        let end = self.text.as_str().len() - self.body;
+        let end = shared_str(&self.text).len() - self.body;
         self.chars + end as u64
     }
 
@@ -127,7 +130,7 @@ impl CountedLine {
     pub(super) fn len(&self) -> usize
         ensures { result ≡ units Encoding.Utf8 (spelled self.now) }
     {
-        self.text.as_str().len()
+        shared_str(&self.text).len()
     }
 
     /// Puts a text in the place of the bytes from `from` up to `to`, which lie before the line's end.
@@ -139,15 +142,40 @@ impl CountedLine {
         ensures ok { OnOk result (self.new ≡ with_text self.old (chars (replace_range (encodes self.old.text) from to text.now))) }
         ensures err { OnErr result (self.new ≡ self.old) }
     {
-        let end = self.text.as_str().len() - self.body;
-        let (front, _) = self.text.as_str().split_at(to);
+        let end = shared_str(&self.text).len() - self.body;
+        let (front, _) = shared_str(&self.text).split_at(to);
         let (_, between) = front.split_at(from);
         let removed = measure(between);
         let inserted = measure(text);
-        self.text.replace_range(from..to, text)?;
-        self.body = self.text.as_str().len() - end;
+        replace_shared(&mut self.text, from, to, text)?;
+        self.body = shared_str(&self.text).len() - end;
         self.chars = self.chars - removed.chars + inserted.chars;
         self.utf16 = self.utf16 - removed.utf16 + inserted.utf16;
         Ok(())
     }
+}
+
+// A text that others may hold too.
+fn shared_str(shared: &Rc<String>) -> &str
+    ensures value { result.now ≡ string_bytes shared.now.value }
+{
+    let text: &String = shared;
+    text.as_str()
+}
+
+// Puts a text in the place of some bytes of a text that others may hold too, in one of its own.
+fn replace_shared(
+    shared: &mut Rc<String>,
+    from: usize,
+    to: usize,
+    text: &str,
+) -> Result<(), AllocError>
+    requires order { from ≤ to }
+    requires from_boundary { IsCharBoundary (string_bytes shared.old.value) from }
+    requires to_boundary { IsCharBoundary (string_bytes shared.old.value) to }
+    ensures ok { OnOk result (string_bytes shared.new.value ≡ replace_range (string_bytes shared.old.value) from to text.now) }
+    ensures err { OnErr result (string_bytes shared.new.value ≡ string_bytes shared.old.value) }
+{
+    let whole = Rc::make_mut(shared)?;
+    whole.replace_range(from..to, text)
 }

@@ -73,12 +73,12 @@ impl PiecedLine {
         Ok(PiecedLine { front, last })
     }
 
-    /// The same line again.
+    /// The same line, whose pieces are held once more.
     pub(super) fn copy(&self, alloc: Global) -> Result<PiecedLine, AllocError>
         ensures { IfOk result (λ line. line ≡ self.now) }
     {
         let pieces = copies(alloc, pieces(&self.front))?;
-        let last = self.last.copy(alloc)?;
+        let last = self.last.share()?;
         let front = front_of(alloc, pieces, bytes(&self.front))?;
         Ok(PiecedLine { front, last })
     }
@@ -325,7 +325,7 @@ fn copies(alloc: Global, pieces: &[CountedLine]) -> Result<Vec<CountedLine>, All
 {
     let mut copies = Vec::with_capacity(alloc, pieces.len())?;
     for piece in pieces {
-        copies.push(piece.copy(alloc)?)?;
+        copies.push(piece.share()?)?;
     }
     Ok(copies)
 }
