@@ -1,5 +1,5 @@
 -- The texts of a queue, kept by version, beside the snapshots that they stand for.
-use Rattle.std.proofs.Common.{◌≡◌, ℕ, ◌+◌, Bool, true, false, ◌||◌, ◌&&◌, cond, List, [], ◌∷◌, ◌++◌, map, filter, length, refl, sym, ap, ◌∙◌, inl, inr, arith, true≢false, Option, Some, None, append-nil, length-append}
+use Rattle.std.proofs.Common.{◌≡◌, ℕ, ◌+◌, Bool, true, false, ◌||◌, ◌&&◌, cond, List, [], ◌∷◌, ◌++◌, map, filter, length, refl, sym, ap, ◌∙◌, inl, inr, arith, true≢false, Option, Some, None, append-nil, length-append, subst, suc}
 use Rattle.std.proofs.lemmas.Int.{ints}
 use Rattle.std.proofs.lemmas.Option.{none-some, same_Some}
 use Rattle.std.proofs.lemmas.List.Folds.{list_any-append}
@@ -16,6 +16,7 @@ use Rattle.lsp_docs.specs.Documents.{Version, versioned, is_after, is_at, is_bef
 use Rattle.lsp_docs.specs.State.{SameVersions, capped}
 use Rattle.lsp_docs.specs.Stored.{versions_in, is_first_within, rest_of, first_before}
 use Rattle.lsp_docs.specs.Rules.{differs}
+use Rattle.std.proofs.lemmas.Bool.Decides.{nat_tests}
 use Rattle.std.specs.Prelude.{nat_lt}
 use Rattle.std.specs.Str.{bytes_eq}
 use Rattle.std.proofs.lemmas.Bool.Decides.{Decides-int_eq}
@@ -113,9 +114,12 @@ module _ (n : ℤ) (q : Text → Bool) (test : Version → Bool)
         | inr p ↦ rw p (ap (λ b. b || list_any test (versions_in es)) (any_away e.0 e.1 p) ∙ any_found es (tail_sorted e es h))
       ]
 
+above_zero : (n : ℕ) → true ≡ nat_lt 0 (suc n)
+above_zero n = grind (arith, nat_tests)
+
 pub any_text : (ts : List Text) → list_any (λ _. true) ts ≡ nat_lt 0 (length ts)
 any_text [] = refl
-any_text (t ∷ ts) = refl
+any_text (t ∷ ts) = above_zero (length ts)
 
 eq_same : (n : ℤ) → int_eq n n ≡ true
 eq_same n = (Decides-int_eq n n).1 refl
@@ -127,7 +131,7 @@ eq_flip a b h =
       | inr p ↦ p
     ]
 
-pub due_found : (n : ℤ) (es : Entries) → IsStrictlySortedBy int_cmp (keys_of es) → list_any (is_at n) (versions_in es) ≡ found n (λ _. true) (is_at n) (λ t. eq_same n) (λ v e. eq_flip n v.number e) (lookup (int_eq n) es)
+due_found : (n : ℤ) (es : Entries) → IsStrictlySortedBy int_cmp (keys_of es) → list_any (is_at n) (versions_in es) ≡ found n (λ _. true) (is_at n) (λ t. eq_same n) (λ v e. eq_flip n v.number e) (lookup (int_eq n) es)
 due_found n es h = any_found n (λ _. true) (is_at n) (λ t. eq_same n) (λ v e. eq_flip n v.number e) es h
 
 -- the queue's words of the two tests
@@ -143,7 +147,7 @@ and_same b c e = rw e refl
 and_no : (b c : Bool) → b ≡ false → (b && c) ≡ false
 and_no b c e = rw e refl
 
-pub differs_found : (n : ℤ) (text : Text) (es : Entries) → IsStrictlySortedBy int_cmp (keys_of es)
+differs_found : (n : ℤ) (text : Text) (es : Entries) → IsStrictlySortedBy int_cmp (keys_of es)
     → list_any (differs (versioned n text)) (versions_in es)
     ≡ found n (λ t. not (bytes_eq text t)) (differs (versioned n text)) (λ t. and_same (int_eq n n) _ (eq_same n)) (λ v e. and_no (int_eq n v.number) _ e) (lookup (int_eq n) es)
 differs_found n text es h = any_found n (λ t. not (bytes_eq text t)) (differs (versioned n text)) (λ t. and_same (int_eq n n) _ (eq_same n)) (λ v e. and_no (int_eq n v.number) _ e) es h
@@ -273,22 +277,27 @@ module _ (n : ℤ) (x : Text) (p : Version → Bool) where
             rw k (omega (arith, left, right, rest, short))
       ]
 
+  abbrev with_one : List Version → List Version → Type 0
+  with_one vs ws = many (vs ++ one) ≡ many ws
+
+  put_at : (y : ℤ × List Text) (es rest : Entries) (o : Ordering) → int_cmp n y.0 ≡ o → int_eq n y.0 ≡ false → with_one (versions_in es) (versions_in rest)
+      → with_one (versions_in (y ∷ es)) (versions_in (match_ordering o ((n, x ∷ []) ∷ y ∷ es) ((y.0, x ∷ []) ∷ es) (y ∷ rest)))
+  put_at y es rest Less e other h =
+      let left = count-append p (versions_in (y ∷ es)) one in
+      let right = count-append p one (versions_in (y ∷ es)) in
+      omega (arith, left, right)
+  put_at y es rest Equal e other h = absurd (true≢false (sym (ap is_eq e) ∙ other))
+  put_at y es rest Greater e other h =
+      let left = sums (map (versioned y.0) y.1) (versions_in es) one in
+      let short = count-append p (versions_in es) one in
+      let right = count-append p (map (versioned y.0) y.1) (versions_in rest) in
+      omega (arith, left, right, h, short)
+
   count-new : (es : Entries) → lookup (int_eq n) es ≡ None → many (versions_in es ++ one) ≡ many (versions_in (insert_entry int_cmp es n (x ∷ [])))
   count-new [] h = refl
-  count-new (y ∷ es) h = by_order (int_cmp n y.0) refl
-    where
-      by_order : (o : Ordering) → int_cmp n y.0 ≡ o → many (versions_in (y ∷ es) ++ one) ≡ many (versions_in (match_ordering o ((n, x ∷ []) ∷ y ∷ es) ((y.0, x ∷ []) ∷ es) (y ∷ insert_entry int_cmp es n (x ∷ []))))
-      by_order Less e =
-          let left = count-append p (versions_in (y ∷ es)) one in
-          let right = count-append p one (versions_in (y ∷ es)) in
-          omega (arith, left, right)
-      by_order Equal e = absurd (true≢false (sym (ap is_eq e) ∙ not_head (int_eq n y.0) y.1 (lookup (int_eq n) es) h))
-      by_order Greater e =
-          let rest = count-new es (rest_of_entry (int_eq n y.0) y.1 (lookup (int_eq n) es) None h (not_head (int_eq n y.0) y.1 (lookup (int_eq n) es) h)) in
-          let left = sums (map (versioned y.0) y.1) (versions_in es) one in
-          let short = count-append p (versions_in es) one in
-          let right = count-append p (map (versioned y.0) y.1) (versions_in (insert_entry int_cmp es n (x ∷ []))) in
-          omega (arith, left, right, rest, short)
+  count-new (y ∷ es) h =
+      let other = not_head (int_eq n y.0) y.1 (lookup (int_eq n) es) h in
+      put_at y es (insert_entry int_cmp es n (x ∷ [])) (int_cmp n y.0) refl other (count-new es (rest_of_entry (int_eq n y.0) y.1 (lookup (int_eq n) es) None h other))
 
 pub added-there : (n : ℤ) (x : Text) (es : Entries) (ts w : List Text) → lookup (int_eq n) es ≡ Some ts → w ≡ ts ++ x ∷ [] → SameVersions (versions_in es ++ versioned n x ∷ []) (versions_in (set_value (int_eq n) es w))
 added-there n x es ts w h e = λ p. count-there n x p es ts w h e
@@ -311,3 +320,33 @@ sizes (ts ∷ tss) = length ts + sizes tss
 pub sizes-all : (es : Entries) → sizes (map (λ e. e.1) es) ≡ length (versions_in es)
 sizes-all [] = refl
 sizes-all (e ∷ es) = let rest = sizes-all es in let own = length-map (versioned e.0) e.1 in let all = length-append (map (versioned e.0) e.1) (versions_in es) in omega (arith, rest, own, all)
+
+-- ---- the loop that drops what is reached
+
+small_min : (top k : ℕ) → min (min k top) top ≡ min k top
+small_min top k = omega arith
+
+added_min : (top m f r k : ℕ) → m ≡ min (k + f) top → min (m + r) top ≡ min (k + (f + r)) top
+added_min top m f r k e = omega (arith, e)
+
+pub dropped_next : (n : ℤ) (first now after : Entries) (missed f more : ℕ) → IsDropped n first now missed → is_first_within n now ≡ true → after ≡ rest_of now → f ≡ first_before n now
+    → more ≡ capped (missed + f) → IsDropped n first after more
+dropped_next n first now after missed f more h reached is own e = record {
+  left = ap (λ l. filter (is_after n) (versions_in l)) is ∙ (after_step n now reached ∙ h.left);
+  count = let r = length (filter (is_before n) (versions_in after)) in
+      let split : f + r ≡ length (filter (is_before n) (versions_in now)) = ap (λ k. k + r) own ∙ (ap (λ l. first_before n now + length (filter (is_before n) (versions_in l))) is ∙ before_step n now) in
+      added_min (2 ^ 64 - 1) more f r missed e ∙ (ap (λ k. capped (missed + k)) split ∙ h.count);
+  small = ap capped e ∙ (small_min (2 ^ 64 - 1) (missed + f) ∙ sym e);
+  sorted = subst (λ l. IsStrictlySortedBy int_cmp (keys_of l)) (sym is) (rest_sorted n now h.sorted);
+}
+
+pub dropped_left : (n : ℤ) (first now : Entries) (missed : ℕ) → IsDropped n first now missed → is_first_within n now ≡ false → versions_in now ≡ filter (is_after n) (versions_in first)
+dropped_left n first now missed h done = sym (after_end n now h.sorted done) ∙ h.left
+
+pub dropped_count : (n : ℤ) (first now : Entries) (missed : ℕ) → IsDropped n first now missed → is_first_within n now ≡ false → missed ≡ capped (length (filter (is_before n) (versions_in first)))
+dropped_count n first now missed h done =
+    let none : missed + length (filter (is_before n) (versions_in now)) ≡ missed = ap (λ l. missed + length l) (before_end n now h.sorted done) ∙ plus_none missed in
+    sym h.small ∙ (sym (ap capped none) ∙ h.count)
+  where
+    plus_none : (k : ℕ) → k + 0 ≡ k
+    plus_none k = omega arith

@@ -179,8 +179,9 @@ module _ {D : Type 0} (versions : D → List Version) where
         let after = ap (λ l. total (map queued l)) (swap_remove_entry-found is_key es i x e) ∙ total-sum (swap_remove es i x) in
         omega (arith, sums, own, after, total-sum es)
 
-    pub count-left : (es : List (String Global × D)) (d : D) (k : String Global) → lookup is_key es ≡ Some d → total (map queued (swap_remove_entry is_key es)) + length (versions d) ≡ total (map queued es)
-    count-left es d k h = left_at es d (position is_key (keys_of es)) refl h (k, d)
+    pub count-left : (es : List (String Global × D)) (d : D) → lookup is_key es ≡ Some d → total (map queued (swap_remove_entry is_key es)) + length (versions d) ≡ total (map queued es)
+    count-left [] d h = absurd (none-some d h)
+    count-left (e ∷ es) d h = left_at (e ∷ es) d (position is_key (keys_of (e ∷ es))) refl h e
 
     pub others-left : (es fs : List (String Global × D)) → KeepsOthers string_eq is_key es fs → (u : List ℕ) → bytes_eq u uri ≡ false → queue_of u (map queued fs) ≡ queue_of u (map queued es)
     unfolding KeepsOthers
@@ -191,13 +192,13 @@ module _ {D : Type 0} (versions : D → List Version) where
         ∙ sym (queue_of-found versions u es))
 
     -- all of a URI left a map
-    pub released : (es fs : List (String Global × D)) (d : D) (k : String Global) → lookup is_key es ≡ Some d → fs ≡ swap_remove_entry is_key es → lookup is_key fs ≡ None → KeepsOthers string_eq is_key es fs
+    pub released : (es fs : List (String Global × D)) (d : D) → lookup is_key es ≡ Some d → fs ≡ swap_remove_entry is_key es → lookup is_key fs ≡ None → KeepsOthers string_eq is_key es fs
         → IsReleased uri (map queued es) (map queued fs)
-    released es fs d k h is gone keeps = record {
+    released es fs d h is gone keeps = record {
       own = queue_of-absent fs gone;
       others = others-left es fs keeps;
       count = ap (λ l. total (map queued l) + length (queue_of uri (map queued es))) is
-          ∙ (ap (λ l. total (map queued (swap_remove_entry is_key es)) + length l) (queue_of-there es d h) ∙ count-left es d k h);
+          ∙ (ap (λ l. total (map queued (swap_remove_entry is_key es)) + length l) (queue_of-there es d h) ∙ count-left es d h);
     }
 
     -- none of the URI was there
