@@ -1,6 +1,7 @@
 pub mod Words
+pub mod SameVersions
 pub mod Queues
-pub mod Ahead
+pub mod Due
 pub mod HeldSteps
 pub mod DocumentSteps
 pub mod WaitingSteps

@@ -3,7 +3,7 @@ use Rattle.std.proofs.Common.{◌≡◌, ◌+◌, Bool, false, List, [], ◌∷�
 use Rattle.std.specs.Str.{bytes_eq}
 use Rattle.lsp_docs.specs.Calls.{Bytes}
 use Rattle.lsp_docs.specs.Documents.{Version}
-use Rattle.lsp_docs.specs.State.{Queue, queue_of, keep_in, without_queue, add_in, total}
+use Rattle.lsp_docs.specs.State.{Queue, queue_of, keep_in, total}
 use Rattle.lsp_docs.proofs.Words.{true_or_false, uri_is, uri_same}
 
 pub queue-kept : (u : Bytes) (p : Version → Bool) (ns : List Queue) → queue_of u (keep_in u p ns) ≡ filter p (queue_of u ns)
@@ -25,41 +25,4 @@ total-kept u p (n ∷ ns) =
     elim (true_or_false (bytes_eq u n.uri)) [
       | inl h ↦ rw h (omega arith)
       | inr h ↦ rw h (omega (arith, total-kept u p ns))
-    ]
-
-pub queue-added : (u : Bytes) (v : Version) (ns : List Queue) → queue_of u (add_in u v ns) ≡ queue_of u ns ++ v ∷ []
-queue-added u v [] = rw (uri_same u) refl
-queue-added u v (n ∷ ns) =
-    elim (true_or_false (bytes_eq u n.uri)) [ inl h ↦ rw (h, h) refl | inr h ↦ rw (h, h) (queue-added u v ns) ]
-
-pub queue-added-others : (x u : Bytes) (v : Version) (ns : List Queue) → bytes_eq x u ≡ false → queue_of x (add_in u v ns) ≡ queue_of x ns
-queue-added-others x u v [] e = rw e refl
-queue-added-others x u v (n ∷ ns) e =
-    elim (true_or_false (bytes_eq u n.uri)) [
-      | inl h ↦ rw (h, ap (bytes_eq x) (sym (uri_is u n.uri h)) ∙ e) refl
-      | inr h ↦ rw h (elim (true_or_false (bytes_eq x n.uri)) [ inl k ↦ rw k refl | inr k ↦ rw k (queue-added-others x u v ns e) ])
-    ]
-
-pub total-added : (u : Bytes) (v : Version) (ns : List Queue) → total (add_in u v ns) ≡ total ns + 1
-total-added u v [] = refl
-total-added u v (n ∷ ns) =
-    elim (true_or_false (bytes_eq u n.uri)) [
-      | inl h ↦ rw (h, length-append n.versions (v ∷ [])) (omega arith)
-      | inr h ↦ rw (h, total-added u v ns) (omega arith)
-    ]
-
-pub queue-without-others : (x u : Bytes) (qs : List Queue) → bytes_eq x u ≡ false → queue_of x (without_queue u qs) ≡ queue_of x qs
-queue-without-others x u [] e = refl
-queue-without-others x u (q ∷ qs) e =
-    elim (true_or_false (bytes_eq u q.uri)) [
-      | inl h ↦ rw (h, ap (bytes_eq x) (sym (uri_is u q.uri h)) ∙ e) refl
-      | inr h ↦ rw h (elim (true_or_false (bytes_eq x q.uri)) [ inl k ↦ rw k refl | inr k ↦ rw k (queue-without-others x u qs e) ])
-    ]
-
-pub total-without : (u : Bytes) (qs : List Queue) → total (without_queue u qs) + length (queue_of u qs) ≡ total qs
-total-without u [] = refl
-total-without u (q ∷ qs) =
-    elim (true_or_false (bytes_eq u q.uri)) [
-      | inl h ↦ rw h (omega arith)
-      | inr h ↦ rw h (omega (arith, total-without u qs))
     ]

@@ -13,11 +13,12 @@ use Rattle.lsp_docs.specs.Documents.{Version, versioned, held, Held, documents, 
 use Rattle.lsp_docs.specs.Snapshots.{Shown, shown_entry, waiting, versions_of}
 use Rattle.lsp_docs.specs.Rules.{call_rule, AreAcceptedFrom, AreAccepted}
 use Rattle.lsp_docs.specs.Missed.{ends_waiting, missed_at, missed}
-use Rattle.lsp_docs.specs.State.{Queue, Waits, held_in, queue_of, keep_in, without_queue, add_in, total, capped, reached, released, missed_one, shown_to, AreWaits}
+use Rattle.lsp_docs.specs.State.{Queue, Waits, held_in, queue_of, keep_in, total, capped, reached, missed_one, SameVersions, IsAdded, IsReleased, AreWaits}
 use Rattle.lsp_docs.proofs.Words.{true_or_false, filter-none, filter-all, capped-add, uri_is, uri_same, uri_flip}
 use Rattle.lsp_docs.proofs.DocumentSteps.{after_call, stays, documents-push, held-documents, IsDistinct, all_stay, not_here}
 use Rattle.lsp_docs.proofs.WaitingSteps.{still, waiting-push, missed-push, missed-quiet, versions-kept, count-kept, count-ended, versions_of-append, none_row, no_some}
-use Rattle.lsp_docs.proofs.QueueSteps.{queue-without-others, total-without, queue-kept, queue-others, total-kept, queue-added, queue-added-others, total-added}
+use Rattle.lsp_docs.proofs.QueueSteps.{queue-kept, queue-others, total-kept}
+use Rattle.lsp_docs.proofs.SameVersions.{same-of, same-then, same-length, same-behind, same-filtered}
 
 -- ---- accepted calls
 
@@ -126,29 +127,35 @@ module _ (terms : Terms) (w : Waits) (calls : List Call) (c : Call) (h : AreWait
     apart : (x : Bytes) → bytes_eq x u ≡ false → (s : Shown) → bytes_eq x s.uri ≡ true → still c s ≡ true
     apart x p s k = others s (ap (bytes_eq u) (sym (uri_is x s.uri k)) ∙ (uri_flip u x ∙ p))
 
-    queues_now : (x : Bytes) → queue_of x ns ≡ versions_of x (waiting terms (calls ++ c ∷ []))
+    queues_now : (x : Bytes) → SameVersions (queue_of x ns) (versions_of x (waiting terms (calls ++ c ∷ [])))
     queues_now x =
         elim (true_or_false (bytes_eq x u)) [
-          | inl p ↦ ap (λ y. queue_of y ns) (uri_is x u p)
-              ∙ (own ∙ (ap (filter q) (h.queues u)
-              ∙ (sym (versions-kept u (still c) q stay (waiting terms calls)) ∙ (ap (versions_of u) (sym left) ∙ ap (λ y. versions_of y (waiting terms (calls ++ c ∷ []))) (sym (uri_is x u p))))))
-          | inr p ↦ rest x p ∙ (h.queues x
-              ∙ (sym (filter-all (versions_of x (waiting terms calls))) ∙ (sym (versions-kept x (still c) (λ _. true) (apart x p) (waiting terms calls)) ∙ ap (versions_of x) (sym left))))
+          | inl p ↦
+              let mine = same-of (queue_of x ns) (filter q (queue_of u w.queues)) (ap (λ y. queue_of y ns) (uri_is x u p) ∙ own) in
+              let judged = same-filtered q (queue_of u w.queues) (versions_of u (waiting terms calls)) (h.queues u) in
+              let now = same-of (filter q (versions_of u (waiting terms calls))) (versions_of x (waiting terms (calls ++ c ∷ [])))
+              (sym (versions-kept u (still c) q stay (waiting terms calls)) ∙ (ap (versions_of u) (sym left) ∙ ap (λ y. versions_of y (waiting terms (calls ++ c ∷ []))) (sym (uri_is x u p)))) in
+              λ t. mine t ∙ (judged t ∙ now t)
+          | inr p ↦
+              let same = same-of (queue_of x ns) (queue_of x w.queues) (rest x p) in
+              let now = same-of (versions_of x (waiting terms calls)) (versions_of x (waiting terms (calls ++ c ∷ [])))
+              (sym (filter-all (versions_of x (waiting terms calls))) ∙ (sym (versions-kept x (still c) (λ _. true) (apart x p) (waiting terms calls)) ∙ ap (versions_of x) (sym left))) in
+              λ t. same t ∙ (h.queues x t ∙ now t)
         ]
 
     count_now : total ns ≡ length (waiting terms (calls ++ c ∷ []))
     count_now =
-        let vs = versions_of u (waiting terms calls) in
-        let here = subst (λ l. total ns + length l ≡ total w.queues + length (filter q l)) (h.queues u) sums in
+        let all = same-length (queue_of u w.queues) (versions_of u (waiting terms calls)) (h.queues u) in
+        let here = h.queues u q in
         let defined = count-kept u (still c) q stay others (waiting terms calls) in
-        let same : total ns ≡ length (filter (still c) (waiting terms calls)) = omega (arith, here, defined, h.count) in
+        let same : total ns ≡ length (filter (still c) (waiting terms calls)) = omega (arith, sums, all, here, defined, h.count) in
         same ∙ ap length (sym left)
 
     missed_now : capped (w.missed + length (filter r (queue_of u w.queues))) ≡ capped (missed terms (calls ++ c ∷ []))
     missed_now =
         ap (λ m. capped (m + length (filter r (queue_of u w.queues)))) h.missed
         ∙ (capped-add (missed terms calls) (length (filter r (queue_of u w.queues)))
-        ∙ ap capped (ap (λ l. missed terms calls + length (filter r l)) (h.queues u)
+        ∙ ap capped (ap (λ k. missed terms calls + k) (h.queues u r)
         ∙ (ap (λ m. missed terms calls + m) (sym (count-ended u (ends_waiting c) r go none (waiting terms calls))) ∙ sym (missed-quiet terms calls c silent))))
 
     pub waits-judged : AreWaits terms (record { queues = ns; missed = capped (w.missed + length (filter r (queue_of u w.queues))) }) (calls ++ c ∷ [])
@@ -202,16 +209,19 @@ waits-changed terms w calls enc k u n cs h e =
     (λ s p. judged_true (bytes_eq u s.uri) (int_lt n s.version.number) p) (λ s p. judged_false (bytes_eq u s.uri) (int_lt n s.version.number) p)
     (λ s p. and_first (bytes_eq u s.uri) (int_lt s.version.number n) p) (λ s p. and_none (bytes_eq u s.uri) (int_lt s.version.number n) p) refl
 
-pub waits-closed : (terms : Terms) (w : Waits) (calls : List Call) (u : Bytes) → AreWaits terms w calls → call_rule terms calls (closes u) ≡ None → queue_of u (without_queue u w.queues) ≡ []
-    → AreWaits terms (released u w) (calls ++ closes u ∷ [])
-waits-closed terms w calls u h e gone =
+pub waits-closed : (terms : Terms) (w : Waits) (calls : List Call) (u : Bytes) (new : Waits) → AreWaits terms w calls → call_rule terms calls (closes u) ≡ None
+    → IsReleased u w.queues new.queues → new.missed ≡ capped (w.missed + length (queue_of u w.queues)) → AreWaits terms new (calls ++ closes u ∷ [])
+waits-closed terms w calls u new h e left counted =
     let mine = queue_of u w.queues in
-    let all : total (without_queue u w.queues) + length mine ≡ total w.queues + 0 = omega (arith, total-without u w.queues) in
-    let sums = subst (λ l. total (without_queue u w.queues) + length mine ≡ total w.queues + length l) (sym (filter-none mine)) all in
-    subst (λ l. AreWaits terms (record { queues = without_queue u w.queues; missed = capped (w.missed + length l) }) (calls ++ closes u ∷ []))
-    (filter-all mine)
-    (waits-judged terms w calls (closes u) h e u (λ _. false) (λ _. true) (without_queue u w.queues) (gone ∙ sym (filter-none mine)) (λ x p. queue-without-others x u w.queues p) sums refl
-    (λ s p. rw p refl) (λ s p. rw p refl) (λ s p. p) (λ s p. p) refl)
+    let none : length (filter (λ (v : Version). false) mine) ≡ 0 = ap length (filter-none mine) in
+    let sums : total new.queues + length mine ≡ total w.queues + length (filter (λ (v : Version). false) mine) = omega (arith, left.count, none) in
+    let judged = waits-judged terms w calls (closes u) h e u (λ _. false) (λ _. true) new.queues (left.own ∙ sym (filter-none mine)) left.others sums refl
+    (λ s p. rw p refl) (λ s p. rw p refl) (λ s p. p) (λ s p. p) refl in
+    record {
+      queues = judged.queues;
+      count = judged.count;
+      missed = counted ∙ (ap (λ l. capped (w.missed + length l)) (sym (filter-all mine)) ∙ judged.missed);
+    }
 
 pub waits-kept : (terms : Terms) (w : Waits) (calls : List Call) (c : Call) → AreWaits terms w calls → call_rule terms calls c ≡ None
     → shown_entry terms (calls ++ c ∷ []) c [] ≡ [] → missed_at terms calls c ≡ 0 → ((s : Shown) → still c s ≡ true) → ((s : Shown) → ends_waiting c s ≡ false)
@@ -219,7 +229,7 @@ pub waits-kept : (terms : Terms) (w : Waits) (calls : List Call) (c : Call) → 
 waits-kept terms w calls c h e nothing silent stay none =
     let same = now terms w calls c h e [] nothing stay none ∙ append-nil (waiting terms calls) in
     record {
-      queues = λ x. h.queues x ∙ ap (versions_of x) (sym same);
+      queues = λ x. same-then (queue_of x w.queues) (versions_of x (waiting terms calls)) _ (h.queues x) (same-of _ _ (ap (versions_of x) (sym same)));
       count = h.count ∙ ap length (sym same);
       missed = h.missed ∙ ap capped (sym (missed_same terms w calls c h e [] nothing stay none silent));
     }
@@ -230,23 +240,27 @@ versions-one x u v p = rw p refl
 versions-own : (u : Bytes) (v : Version) → versions_of u (record { uri = u; version = v } ∷ []) ≡ v ∷ []
 versions-own u v = rw (uri_same u) refl
 
-pub waits-shown : (terms : Terms) (w : Waits) (calls : List Call) (u : Bytes) (n : ℤ) (t : Text) → AreWaits terms w calls → call_rule terms calls (shows u n t) ≡ None
+pub waits-shown : (terms : Terms) (w : Waits) (calls : List Call) (u : Bytes) (n : ℤ) (t : Text) (new : Waits) → AreWaits terms w calls → call_rule terms calls (shows u n t) ≡ None
     → shown_entry terms (calls ++ shows u n t ∷ []) (shows u n t) [] ≡ record { uri = u; version = versioned n t } ∷ [] → missed_at terms calls (shows u n t) ≡ 0
-    → AreWaits terms (shown_to u (versioned n t) w) (calls ++ shows u n t ∷ [])
-waits-shown terms w calls u n t h e new silent =
+    → IsAdded u (versioned n t) w.queues new.queues → new.missed ≡ w.missed → AreWaits terms new (calls ++ shows u n t ∷ [])
+waits-shown terms w calls u n t new h e shown silent added counted =
     let v = versioned n t in
     let one : List Shown = record { uri = u; version = v } ∷ [] in
-    let same = now terms w calls (shows u n t) h e one new (λ s. refl) (λ s. refl) in
+    let all = waiting terms calls in
+    let same = now terms w calls (shows u n t) h e one shown (λ s. refl) (λ s. refl) in
+    let own : (x : Bytes) → bytes_eq x u ≡ true → SameVersions (queue_of x new.queues) (versions_of x (waiting terms (calls ++ shows u n t ∷ []))) = λ x p q.
+    ap (λ y. length (filter q (queue_of y new.queues))) (uri_is x u p)
+    ∙ (sym (added.own q) ∙ (same-behind (queue_of u w.queues) (versions_of u all) (v ∷ []) (h.queues u) q
+    ∙ ap (λ l. length (filter q l)) (ap (λ l. versions_of u all ++ l) (sym (versions-own u v)) ∙ (sym (versions_of-append u all one)
+    ∙ (ap (versions_of u) (sym same) ∙ ap (λ y. versions_of y (waiting terms (calls ++ shows u n t ∷ []))) (sym (uri_is x u p))))))) in
+    let other : (x : Bytes) → bytes_eq x u ≡ false → SameVersions (queue_of x new.queues) (versions_of x (waiting terms (calls ++ shows u n t ∷ []))) = λ x p q.
+    ap (λ l. length (filter q l)) (added.others x p)
+    ∙ (h.queues x q ∙ ap (λ l. length (filter q l)) (sym (append-nil (versions_of x all))
+    ∙ (ap (λ l. versions_of x all ++ l) (sym (versions-one x u v p)) ∙ (sym (versions_of-append x all one) ∙ ap (versions_of x) (sym same))))) in
     record {
-      queues = λ x. elim (true_or_false (bytes_eq x u)) [
-        | inl p ↦ ap (λ y. queue_of y (add_in u v w.queues)) (uri_is x u p) ∙ (queue-added u v w.queues ∙ (ap (λ l. l ++ v ∷ []) (h.queues u)
-            ∙ (ap (λ l. versions_of u (waiting terms calls) ++ l) (sym (versions-own u v)) ∙ (sym (versions_of-append u (waiting terms calls) one)
-            ∙ (ap (versions_of u) (sym same) ∙ ap (λ y. versions_of y (waiting terms (calls ++ shows u n t ∷ []))) (sym (uri_is x u p)))))))
-        | inr p ↦ queue-added-others x u v w.queues p ∙ (h.queues x ∙ (sym (append-nil (versions_of x (waiting terms calls)))
-            ∙ (ap (λ l. versions_of x (waiting terms calls) ++ l) (sym (versions-one x u v p)) ∙ (sym (versions_of-append x (waiting terms calls) one) ∙ ap (versions_of x) (sym same)))))
-      ];
-      count = total-added u v w.queues ∙ (ap (λ m. m + 1) h.count ∙ (sym (length-append (waiting terms calls) one) ∙ ap length (sym same)));
-      missed = h.missed ∙ ap capped (sym (missed_same terms w calls (shows u n t) h e one new (λ s. refl) (λ s. refl) silent));
+      queues = λ x. elim (true_or_false (bytes_eq x u)) [ inl p ↦ own x p | inr p ↦ other x p ];
+      count = added.count ∙ (ap (λ m. m + 1) h.count ∙ (sym (length-append all one) ∙ ap length (sym same)));
+      missed = counted ∙ (h.missed ∙ ap capped (sym (missed_same terms w calls (shows u n t) h e one shown (λ s. refl) (λ s. refl) silent)));
     }
 
 -- a snapshot whose version was passed over
@@ -255,7 +269,7 @@ pub waits-missed : (terms : Terms) (w : Waits) (calls : List Call) (u : Bytes) (
 waits-missed terms w calls u n t h e nothing at =
     let same = now terms w calls (shows u n t) h e [] nothing (λ s. refl) (λ s. refl) ∙ append-nil (waiting terms calls) in
     record {
-      queues = λ x. h.queues x ∙ ap (versions_of x) (sym same);
+      queues = λ x. same-then (queue_of x w.queues) (versions_of x (waiting terms calls)) _ (h.queues x) (same-of _ _ (ap (versions_of x) (sym same)));
       count = h.count ∙ ap length (sym same);
       missed = ap (λ m. capped (m + 1)) h.missed
           ∙ (capped-add (missed terms calls) 1 ∙ ap capped (sym (missed_more terms w calls (shows u n t) h e [] nothing (λ s. refl) (λ s. refl) 1 at)));

@@ -1,5 +1,5 @@
 -- What stands for a list of calls, from one accepted call to the next.
-use Rattle.std.proofs.Common.{◌≡◌, ℕ, ◌≤◌, Bool, true, false, ◌&&◌, List, [], ◌∷◌, ◌++◌, length, refl, sym, ap, ◌∙◌, Option, Some, None, inl, inr, append-nil, subst, Result, Ok, arith, true≢false}
+use Rattle.std.proofs.Common.{◌≡◌, ℕ, ◌+◌, ◌≤◌, Bool, true, false, ◌&&◌, List, [], ◌∷◌, ◌++◌, length, refl, sym, ap, ◌∙◌, Option, Some, None, inl, inr, append-nil, subst, Result, Ok, arith, true≢false}
 use Rattle.std.proofs.lemmas.Bool.{or_parts}
 use Rattle.std.proofs.lemmas.Bool.Decides.{Decides-int_eq}
 use Rattle.std.specs.Prelude.{if◌then◌else◌, ℤ, not, is_some, int_lt, nat_lt, option_to_list}
@@ -17,10 +17,10 @@ use Rattle.lsp_text.specs.Edits.{Edit, applied}
 use Rattle.lsp_docs.specs.Calls.{Bytes, Call, opens, changes, closes, saves, shows, uri_of, is_close, is_change}
 use Rattle.lsp_docs.specs.Documents.{Version, versioned, held, Held, documents, is_at}
 use Rattle.lsp_docs.specs.Kept.{past, last_of, kept}
-use Rattle.lsp_docs.specs.Snapshots.{is_ahead, has_number, shown_entry}
+use Rattle.lsp_docs.specs.Snapshots.{is_ahead, has_number, shown_entry, waiting, versions_of}
 use Rattle.lsp_docs.specs.Missed.{missed_at}
 use Rattle.lsp_docs.specs.Rules.{rule_of, call_rule, version_rule, text_rule, differs, fits_kind, change_rule}
-use Rattle.lsp_docs.specs.State.{State, Waits, held_in, set_in, without, queue_of, without_queue, reached, released, missed_one, shown_to, Kept, kept_in, KeepsSame, KeepsOn, KeepsNone, Stands, rule_at, text_in, changed_at, early_rule}
+use Rattle.lsp_docs.specs.State.{State, Waits, held_in, set_in, without, queue_of, reached, missed_one, Kept, kept_in, KeepsSame, KeepsOn, KeepsNone, Stands, rule_at, text_in, changed_at, early_rule, IsAdded, IsReleased, capped, SameVersions}
 use Rattle.lsp_docs.specs.Fault.{Names}
 use Rattle.lsp_docs.specs.Answer.{answer_of}
 use Rattle.lsp_docs.specs.declared.snapshot.Match.{Match}
@@ -31,6 +31,7 @@ use Rattle.lsp_docs.proofs.DocumentSteps.{documents-push, held-documents, all_st
 use Rattle.lsp_docs.proofs.WaitingSteps.{change_parts, none_row}
 use Rattle.lsp_docs.proofs.Standing.{accepted-push, documents-distinct, waits-opened, waits-changed, waits-closed, waits-kept, waits-shown, waits-missed}
 use Rattle.lsp_docs.proofs.Rising.{last-few, last-none, last-empty, last-snoc}
+use Rattle.lsp_docs.proofs.SameVersions.{rule-same}
 use Rattle.lsp_docs.proofs.Past.{past-same, past-changed, past-closed, reached-number}
 
 -- ---- readers
@@ -42,7 +43,7 @@ pub rule-stands : (s : State) (calls : List Call) (c : Call) → Stands s calls 
 rule-stands s calls c h =
     ap (λ o. rule_of s.terms o (kept_in (uri_of c) s.kept) (queue_of (uri_of c) s.waits.queues) c) (held-stands s calls (uri_of c) h)
     ∙ (ap (λ ks. rule_of s.terms (held s.terms (uri_of c) calls) ks (queue_of (uri_of c) s.waits.queues) c) (h.kept (uri_of c))
-    ∙ ap (λ l. rule_of s.terms (held s.terms (uri_of c) calls) (kept s.terms (uri_of c) calls) l c) (h.waits.queues (uri_of c)))
+    ∙ rule-same (queue_of (uri_of c) s.waits.queues) (versions_of (uri_of c) (waiting s.terms calls)) (h.waits.queues (uri_of c)) s.terms (held s.terms (uri_of c) calls) (kept s.terms (uri_of c) calls) c)
 
 pub names-stands : (s : State) (calls : List Call) (c : Call) (f : DocFault) → Stands s calls → Names (rule_at s c) f → Names (call_rule s.terms calls c) f
 names-stands s calls c f h n = subst (λ r. Names r f) (rule-stands s calls c h) n
@@ -142,9 +143,10 @@ Stands-changed s calls enc k u n cs t ks e made keeps h =
       waits = waits-changed s.terms s.waits calls enc k u n cs h.waits rule;
     }
 
-pub Stands-closed : (s : State) (calls : List Call) (u : Bytes) (ks : List Kept) → rule_at s (closes u) ≡ None → queue_of u (without_queue u s.waits.queues) ≡ [] → KeepsNone u s.kept ks → Stands s calls
-    → Stands (stated s.terms (without u s.documents) ks (released u s.waits)) (calls ++ closes u ∷ [])
-Stands-closed s calls u ks e gone drops h =
+pub Stands-closed : (s : State) (calls : List Call) (u : Bytes) (ks : List Kept) (new : Waits) → rule_at s (closes u) ≡ None → IsReleased u s.waits.queues new.queues
+    → new.missed ≡ capped (s.waits.missed + length (queue_of u s.waits.queues)) → KeepsNone u s.kept ks → Stands s calls
+    → Stands (stated s.terms (without u s.documents) ks new) (calls ++ closes u ∷ [])
+Stands-closed s calls u ks new e left counted drops h =
     let c = closes u in
     let rule = sym (rule-stands s calls c h) ∙ e in
     record {
@@ -152,7 +154,7 @@ Stands-closed s calls u ks e gone drops h =
       documents = ap (without u) h.documents
           ∙ (sym (closed_is s.terms u (documents s.terms calls) (documents-distinct s.terms calls h.accepted)) ∙ (sym (append-nil _) ∙ sym (documents-push s.terms calls c)));
       kept = kept-closed s calls u ks drops h;
-      waits = waits-closed s.terms s.waits calls u h.waits rule gone;
+      waits = waits-closed s.terms s.waits calls u new h.waits rule left counted;
     }
 
 pub Stands-saved : (s : State) (calls : List Call) (u : Bytes) (t : Option Text) → rule_at s (saves u t) ≡ None → Stands s calls → Stands s (calls ++ saves u t ∷ [])
@@ -231,13 +233,14 @@ module _ (s : State) (calls : List Call) (u : Bytes) (n : ℤ) (t : Text) (e : r
         waits = waits-kept s.terms s.waits calls c h.waits rule (entry_now false behind) (missed_now false true behind equal) (λ x. refl) (λ x. refl);
       }
 
-  pub Stands-shown : has_number n (kept_in u s.kept) (held_in u s.documents) ≡ false → is_ahead n (held_in u s.documents) ≡ true
-      → Stands (stated s.terms s.documents s.kept (shown_to u (versioned n t) s.waits)) (calls ++ c ∷ [])
-  Stands-shown other before = record {
+  pub Stands-shown : (new : Waits) → IsAdded u (versioned n t) s.waits.queues new.queues → new.missed ≡ s.waits.missed
+      → has_number n (kept_in u s.kept) (held_in u s.documents) ≡ false → is_ahead n (held_in u s.documents) ≡ true
+      → Stands (stated s.terms s.documents s.kept new) (calls ++ c ∷ [])
+  Stands-shown new added counted other before = record {
     accepted = accepted-push s.terms calls c h.accepted rule;
     documents = documents-shown s calls u n t h;
     kept = kept-same s calls c s.kept (λ x. refl) (λ x. refl) (λ x. refl) h;
-    waits = waits-shown s.terms s.waits calls u n t h.waits rule (entry_now true before) (missed_now true false before other);
+    waits = waits-shown s.terms s.waits calls u n t new h.waits rule (entry_now true before) (missed_now true false before other) added counted;
   }
 
   pub Stands-missed : has_number n (kept_in u s.kept) (held_in u s.documents) ≡ false → is_ahead n (held_in u s.documents) ≡ false

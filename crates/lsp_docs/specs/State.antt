@@ -1,5 +1,5 @@
 -- What documents hold, and the calls that this stands for.
-use Rattle.std.specs.Prelude.{◌≡◌, ℕ, ℤ, ◌+◌, ◌-◌, ◌^◌, ◌≤◌, min, int_lt, List, [], ◌∷◌, ◌++◌, filter, length, Bool, if◌then◌else◌, not, Option, Some, None, option_to_list, Result, Ok}
+use Rattle.std.specs.Prelude.{◌≡◌, ℕ, ℤ, ◌+◌, ◌-◌, ◌^◌, ◌≤◌, min, int_lt, List, [], ◌∷◌, ◌++◌, filter, length, Bool, false, if◌then◌else◌, not, Option, Some, None, option_to_list, Result, Ok}
 use Rattle.std.specs.Str.{bytes_eq}
 use Rattle.lsp_types.specs.declared.position.Encoding.{Encoding}
 use Rattle.lsp_types.specs.declared.change.SyncKind.{SyncKind}
@@ -83,20 +83,26 @@ abbrev pub keep_in : Bytes → (Version → Bool) → List Queue → List Queue
 keep_in uri p [] = []
 keep_in uri p (n ∷ ns) = if bytes_eq uri n.uri then record { uri = n.uri; versions = filter p n.versions } ∷ ns else n ∷ keep_in uri p ns
 
--- without the first queue of the URI
-abbrev pub without_queue : Bytes → List Queue → List Queue
-without_queue uri [] = []
-without_queue uri (q ∷ qs) = if bytes_eq uri q.uri then qs else q ∷ without_queue uri qs
-
--- one more of the URI
-abbrev pub add_in : Bytes → Version → List Queue → List Queue
-add_in uri v [] = record { uri = uri; versions = v ∷ [] } ∷ []
-add_in uri v (n ∷ ns) = if bytes_eq uri n.uri then record { uri = n.uri; versions = n.versions ++ v ∷ [] } ∷ ns else n ∷ add_in uri v ns
+-- the same versions, each as often, in whatever order
+abbrev pub SameVersions : List Version → List Version → Type 0
+SameVersions vs ws = (p : Version → Bool) → length (filter p vs) ≡ length (filter p ws)
 
 -- how many wait
 abbrev pub total : List Queue → ℕ
 total [] = 0
 total (n ∷ ns) = length n.versions + total ns
+
+-- one more of the URI
+pub record IsAdded (uri : Bytes) (v : Version) (old new : List Queue) : Type 0 where
+  pub own : SameVersions (queue_of uri old ++ v ∷ []) (queue_of uri new)
+  pub others : (u : Bytes) → bytes_eq u uri ≡ false → queue_of u new ≡ queue_of u old
+  pub count : total new ≡ total old + 1
+
+-- none of the URI is left
+pub record IsReleased (uri : Bytes) (old new : List Queue) : Type 0 where
+  pub own : queue_of uri new ≡ []
+  pub others : (u : Bytes) → bytes_eq u uri ≡ false → queue_of u new ≡ queue_of u old
+  pub count : total new + length (queue_of uri old) ≡ total old
 
 -- the URI comes to this version: the snapshots of a greater one wait on, those of a lesser one are missed
 abbrev pub reached : Bytes → ℤ → Waits → Waits
@@ -105,20 +111,9 @@ reached uri number w = record {
   missed = capped (w.missed + length (filter (is_before number) (queue_of uri w.queues)));
 }
 
--- the URI is closed: its snapshots are missed
-abbrev pub released : Bytes → Waits → Waits
-released uri w = record {
-  queues = without_queue uri w.queues;
-  missed = capped (w.missed + length (queue_of uri w.queues));
-}
-
 -- one more snapshot was passed over before it was shown
 abbrev pub missed_one : Waits → Waits
 missed_one w = record { queues = w.queues; missed = capped (w.missed + 1) }
-
--- one more snapshot waits
-abbrev pub shown_to : Bytes → Version → Waits → Waits
-shown_to uri v w = record { queues = add_in uri v w.queues; missed = w.missed }
 
 -- ---- changes
 
@@ -149,7 +144,7 @@ early_rule kind number cs h = rule_of_change kind number cs (λ v. None) h
 
 -- the snapshots that wait are those that the definitions give for these calls
 pub record AreWaits (terms : Terms) (w : Waits) (calls : List Call) : Type 0 where
-  pub queues : (uri : Bytes) → queue_of uri w.queues ≡ versions_of uri (waiting terms calls)
+  pub queues : (uri : Bytes) → SameVersions (queue_of uri w.queues) (versions_of uri (waiting terms calls))
   pub count : total w.queues ≡ length (waiting terms calls)
   pub missed : w.missed ≡ capped (missed terms calls)
 

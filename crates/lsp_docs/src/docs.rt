@@ -14,7 +14,6 @@ ghost use Rattle.lsp_docs.specs.Snapshots.{waiting, unmatched};
 ghost use Rattle.lsp_docs.specs.Rules.{differs, show_rule, text_rule, call_rule};
 ghost use Rattle.lsp_docs.specs.State.{capped, held_in, kept_in, queue_of, set_in, changed_at, early_rule, IsChanged, with_held, Stands};
 ghost use Rattle.lsp_docs.specs.Fault.{Names, IsRule, Breaks};
-ghost use Rattle.lsp_docs.specs.Stored.{version_of};
 ghost use Rattle.lsp_text.specs.Changes.{edits_of, edit_of};
 ghost use Rattle.lsp_docs.specs.Answer.{answer_of};
 

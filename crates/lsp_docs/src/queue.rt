@@ -1,139 +1,187 @@
 //! The snapshots of one URI that wait for their versions.
 
-ghost use Rattle.std.specs.Prelude.{◌≡◌, [], ◌++◌, ◌∷◌, length, filter, false, int_lt, IfOk, OnOk, OnErr};
+ghost use Rattle.std.specs.Prelude.{◌≡◌, [], ◌++◌, ◌∷◌, None, length, filter, int_lt, if◌then◌else◌, IfOk, OnOk, OnErr};
 ghost use Rattle.std.specs.List.{list_any};
+ghost use Rattle.std.specs.Map.{lookup};
+ghost use Rattle.std.specs.Ordering.{int_eq, int_cmp};
+ghost use Rattle.std.specs.BTreeMap.{IsOrdered};
 ghost use Rattle.lsp_docs.specs.Documents.{versioned, is_after, is_at, is_before};
-ghost use Rattle.lsp_docs.specs.Stored.{version_of, versions, IsLeast};
+ghost use Rattle.lsp_docs.specs.State.{SameVersions, capped};
+ghost use Rattle.lsp_docs.specs.Stored.{text_of, versions_in, is_first_within, rest_of, first_before};
 ghost use Rattle.lsp_docs.specs.Rules.{differs};
 
-use crate::snapshot::{Snapshot, any_differs, is_due};
+use crate::snapshot::Texts;
 use lsp_text::TextStore;
 use std::alloc::{AllocError, Global};
+use std::collections::BTreeMap;
 use std::marker::Model;
 
-/// Snapshots that wait, in the order in which they were shown, and no version that one of them waits
-/// for is below the least: a document that comes to a lesser one looks at none of them.
+type TextMap = BTreeMap<i32, Texts>;
+
+/// Snapshots that wait, the least version first: a document that comes to a version looks at those
+/// alone that are of no greater one.
 #[derive(Drop)]
 pub(crate) struct SnapshotQueue {
-    least: i32,
-    snapshots: Vec<Snapshot>,
+    texts: TextMap,
 }
 
 impl Model for SnapshotQueue {
     ghost use Rattle.std.specs.Prelude.{List};
+    ghost use Rattle.std.specs.Ordering.{int_cmp};
+    ghost use Rattle.std.specs.BTreeMap.{IsOrdered};
     ghost use Rattle.lsp_docs.specs.Documents.{Version};
-    ghost use Rattle.lsp_docs.specs.Stored.{versions, IsLeast};
+    ghost use Rattle.lsp_docs.specs.Stored.{versions_in};
 
     ghost Value = { List Version };
 
-    ghost view = { λ q. versions q.snapshots.items };
+    ghost view = { λ q. versions_in q.texts.entries };
 
-    ghost invariant = { λ q. IsLeast q.least (versions q.snapshots.items) };
+    ghost invariant = { λ q. IsOrdered int_cmp q.texts };
 }
 
 impl SnapshotQueue {
     /// A queue of one snapshot.
-    pub(crate) fn of(alloc: Global, snapshot: Snapshot) -> Result<Self, AllocError>
-        ensures { IfOk result (λ queue. queue ≡ version_of snapshot ∷ []) }
+    pub(crate) fn of(alloc: Global, version: i32, text: String) -> Result<Self, AllocError>
+        ensures { IfOk result (λ queue. queue ≡ versioned version (text_of text) ∷ []) }
     {
-        let mut snapshots = Vec::new(alloc);
-        snapshots.push(snapshot)?;
-        let least = least_of(snapshots.as_slice());
-        Ok(SnapshotQueue { least, snapshots })
+        let mut texts = BTreeMap::new(alloc);
+        let first = Texts::of(alloc, text)?;
+        texts.insert(version, first)?;
+        Ok(SnapshotQueue { texts })
     }
 
-    /// Adds a snapshot behind the others.
-    pub(crate) fn push(&mut self, snapshot: Snapshot) -> Result<(), AllocError>
-        ensures ok { OnOk result (self.new ≡ self.old ++ version_of snapshot ∷ []) }
+    /// Adds a snapshot.
+    pub(crate) fn push(
+        &mut self,
+        alloc: Global,
+        version: i32,
+        text: String,
+    ) -> Result<(), AllocError>
+        ensures ok { OnOk result (SameVersions (self.old ++ versioned version (text_of text) ∷ []) self.new) }
         ensures err { OnErr result (self.new ≡ self.old) }
     {
-        let least = lesser(self.least, &snapshot);
-        self.snapshots.push(snapshot)?;
-        self.least = least;
-        Ok(())
+        add_text(&mut self.texts, alloc, version, text)
     }
 
-    /// How many wait.
-    pub(crate) fn len(&self) -> usize
-        ensures { result ≡ length self.now }
+    /// How many wait, at most 2^64 - 1.
+    pub(crate) fn len(&self) -> u64
+        ensures { result ≡ capped (length self.now) }
     {
-        self.snapshots.len()
+        let mut count: u64 = 0;
+        for texts in self.texts.values() {
+            count = count.saturating_add(texts.len() as u64);
+        }
+        count
     }
 
     /// Whether one waits for this version.
     pub(crate) fn is_due(&self, version: i32) -> bool
         ensures { result ≡ list_any (is_at version) self.now }
     {
-        if version < self.least {
-            return false;
+        match self.texts.get(&version) {
+            Some(texts) => texts.len() > 0,
+            None => false,
         }
-        is_due(self.snapshots.as_slice(), version)
     }
 
     /// Whether one waits for this version that has another text than the store.
     pub(crate) fn any_differs<S: TextStore>(&self, version: i32, store: &S) -> bool
         ensures { result ≡ list_any (differs (versioned version (S.content store.now))) self.now }
     {
-        if version < self.least {
-            return false;
+        match self.texts.get(&version) {
+            Some(texts) => texts.any_differs(store),
+            None => false,
         }
-        any_differs(self.snapshots.as_slice(), version, store)
     }
 
-    /// Lets go of those that wait no more at a version, and counts those of lesser ones.
+    /// Lets go of those that wait no more at a version, and counts those of lesser ones, at most
+    /// 2^64 - 1.
     pub(crate) fn reach(&mut self, version: i32) -> u64
         ensures left { self.new ≡ filter (is_after version) self.old }
-        ensures missed { result ≡ length (filter (is_before version) self.old) }
+        ensures missed { result ≡ capped (length (filter (is_before version) self.old)) }
     {
-        if version < self.least {
-            return 0;
-        }
-        let missed = count_before(self.snapshots.as_slice(), version);
-        keep_after(&mut self.snapshots, version);
-        self.least = least_of(self.snapshots.as_slice());
-        missed
+        drop_until(&mut self.texts, version)
     }
 }
 
-/// A version that none of the snapshots is below.
-fn least_of(snapshots: &[Snapshot]) -> i32
-    ensures { IsLeast result (versions snapshots.now) }
+/// Adds a text of a version.
+fn add_text(
+    texts: &mut TextMap,
+    alloc: Global,
+    version: i32,
+    text: String,
+) -> Result<(), AllocError>
+    requires { IsOrdered int_cmp texts.old }
+    ensures ok { OnOk result (SameVersions (versions_in texts.old.entries ++ versioned version (text_of text) ∷ []) (versions_in texts.new.entries)) }
+    ensures err { OnErr result (versions_in texts.new.entries ≡ versions_in texts.old.entries) }
+    ensures ordered { IsOrdered int_cmp texts.new }
 {
-    let mut least = i32::MAX;
-    for snapshot in snapshots {
-        least = lesser(least, snapshot);
-    }
-    least
+    let Some(held) = texts.get_mut(&version) else {
+        return add_version(texts, alloc, version, text);
+    };
+    held.push(text)
 }
 
-/// The version of the snapshot, where it is below the least so far.
-fn lesser(least: i32, snapshot: &Snapshot) -> i32
-    ensures least { int_lt least result ≡ false }
-    ensures snapshot { int_lt snapshot.now.version result ≡ false }
+/// Adds the first text of a version.
+fn add_version(
+    texts: &mut TextMap,
+    alloc: Global,
+    version: i32,
+    text: String,
+) -> Result<(), AllocError>
+    requires new { lookup (int_eq version) texts.old.entries ≡ None }
+    requires ordered { IsOrdered int_cmp texts.old }
+    ensures ok { OnOk result (SameVersions (versions_in texts.old.entries ++ versioned version (text_of text) ∷ []) (versions_in texts.new.entries)) }
+    ensures err { OnErr result (versions_in texts.new.entries ≡ versions_in texts.old.entries) }
+    ensures ordered { IsOrdered int_cmp texts.new }
 {
-    if snapshot.version < least {
-        snapshot.version
+    let first = Texts::of(alloc, text)?;
+    texts.insert(version, first)?;
+    Ok(())
+}
+
+/// Drops the texts of versions that are reached, and counts those of versions that are passed over.
+fn drop_until(texts: &mut TextMap, version: i32) -> u64
+    requires { IsOrdered int_cmp texts.old }
+    ensures left { versions_in texts.new.entries ≡ filter (is_after version) (versions_in texts.old.entries) }
+    ensures missed { result ≡ capped (length (filter (is_before version) (versions_in texts.old.entries))) }
+    ensures ordered { IsOrdered int_cmp texts.new }
+{
+    let mut missed: u64 = 0;
+    while is_reached(texts, version) {
+        missed = missed.saturating_add(drop_first(texts, version));
+    }
+    missed
+}
+
+/// Whether the least version is reached.
+fn is_reached(texts: &TextMap, version: i32) -> bool
+    ensures { result ≡ is_first_within version texts.now.entries }
+{
+    match texts.first_key_value() {
+        Some((least, _)) => *least <= version,
+        None => false,
+    }
+}
+
+/// Drops the texts of the least version, and counts them where it is passed over.
+fn drop_first(texts: &mut TextMap, version: i32) -> u64
+    ensures rest { texts.new.entries ≡ rest_of texts.old.entries }
+    ensures missed { result ≡ first_before version texts.old.entries }
+{
+    match texts.pop_first() {
+        Some((least, first)) => passed_over(least, &first, version),
+        None => 0,
+    }
+}
+
+/// How many texts there are, if their version is passed over.
+fn passed_over(least: i32, first: &Texts, version: i32) -> u64
+    ensures { result ≡ (if int_lt least version then length first.now else 0) }
+{
+    if least < version {
+        first.len() as u64
     } else {
-        least
+        0
     }
-}
-
-/// Drops the snapshots that wait no more at a version.
-fn keep_after(snapshots: &mut Vec<Snapshot>, version: i32)
-    ensures { snapshots.new.items ≡ filter (λ s. is_after version (version_of s)) snapshots.old.items }
-{
-    snapshots.retain(|s| waits_past(s, version));
-}
-
-/// How many are of a lesser version.
-fn count_before(snapshots: &[Snapshot], version: i32) -> u64
-    ensures { result ≡ length (filter (λ s. is_before version (version_of s)) snapshots.now) }
-{
-    snapshots.iter().filter(|s| s.version < version).count() as u64
-}
-
-fn waits_past(snapshot: &Snapshot, version: i32) -> bool
-    ensures { result ≡ is_after version (version_of snapshot.now) }
-{
-    version < snapshot.version
 }

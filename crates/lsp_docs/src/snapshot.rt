@@ -1,12 +1,13 @@
 //! Snapshots, and how they compare with a text.
 
-ghost use Rattle.std.specs.Prelude.{◌≡◌};
+ghost use Rattle.std.specs.Prelude.{◌≡◌, [], ◌++◌, ◌∷◌, length, not, string_bytes, IfOk, OnOk, OnErr};
 ghost use Rattle.std.specs.List.{list_any};
-ghost use Rattle.lsp_docs.specs.Documents.{versioned, is_at};
-ghost use Rattle.lsp_docs.specs.Rules.{differs};
-ghost use Rattle.lsp_docs.specs.Stored.{version_of};
+ghost use Rattle.std.specs.Str.{chars, bytes_eq};
+ghost use Rattle.lsp_docs.specs.Stored.{text_of, texts_of};
 
 use lsp_text::TextStore;
+use std::alloc::{AllocError, Global};
+use std::marker::Model;
 
 /// What a snapshot comes to where it stands.
 #[derive(Clone, Copy, Debug, PartialEq, Eq)]
@@ -19,32 +20,66 @@ pub enum Match {
     Missed,
 }
 
-/// A text that its document is to have at a version.
+/// The texts of the snapshots of one version, in the order in which they were shown.
 #[derive(Drop)]
-pub(crate) struct Snapshot {
-    pub(crate) version: i32,
-    pub(crate) text: String,
+pub(crate) struct Texts {
+    texts: Vec<String>,
 }
 
-/// Whether a snapshot waits for this version.
-pub(crate) fn is_due(snapshots: &[Snapshot], version: i32) -> bool
-    ensures { result ≡ list_any (λ s. is_at version (version_of s)) snapshots.now }
-{
-    snapshots.iter().any(|s| s.version == version)
+impl Model for Texts {
+    ghost use Rattle.std.specs.Prelude.{List};
+    ghost use Rattle.lsp_docs.specs.Texts.{Text};
+    ghost use Rattle.lsp_docs.specs.Stored.{texts_of};
+
+    ghost Value = { List Text };
+
+    ghost view = { λ t. texts_of t.texts.items };
 }
 
-/// Whether a snapshot of this version has another text than the store.
-pub(crate) fn any_differs<S: TextStore>(snapshots: &[Snapshot], version: i32, store: &S) -> bool
-    ensures { result ≡ list_any (λ s. differs (versioned version (S.content store.now)) (version_of s)) snapshots.now }
-{
-    snapshots
-        .iter()
-        .any(|snapshot| snapshot_differs(snapshot, version, store))
+impl Texts {
+    /// One text.
+    pub(crate) fn of(alloc: Global, text: String) -> Result<Self, AllocError>
+        ensures { IfOk result (λ texts. texts ≡ text_of text ∷ []) }
+    {
+        let mut texts = Vec::new(alloc);
+        texts.push(text)?;
+        Ok(Texts { texts })
+    }
+
+    /// Adds a text behind the others.
+    pub(crate) fn push(&mut self, text: String) -> Result<(), AllocError>
+        ensures ok { OnOk result (self.new ≡ self.old ++ text_of text ∷ []) }
+        ensures err { OnErr result (self.new ≡ self.old) }
+    {
+        self.texts.push(text)?;
+        Ok(())
+    }
+
+    /// How many there are.
+    pub(crate) fn len(&self) -> usize
+        ensures { result ≡ length self.now }
+    {
+        self.texts.len()
+    }
+
+    /// Whether one is another text than the store has.
+    pub(crate) fn any_differs<S: TextStore>(&self, store: &S) -> bool
+        ensures { result ≡ list_any (λ t. not (bytes_eq (S.content store.now) t)) self.now }
+    {
+        any_differs(self.texts.as_slice(), store)
+    }
 }
 
-/// Whether the snapshot is of this version and has another text than the store.
-fn snapshot_differs<S: TextStore>(snapshot: &Snapshot, version: i32, store: &S) -> bool
-    ensures { result ≡ differs (versioned version (S.content store.now)) (version_of snapshot.now) }
+/// Whether one is another text than the store has.
+fn any_differs<S: TextStore>(texts: &[String], store: &S) -> bool
+    ensures { result ≡ list_any (λ t. not (bytes_eq (S.content store.now) (text_of t))) texts.now }
 {
-    version == snapshot.version && !store.equals(snapshot.text.as_str())
+    texts.iter().any(|text| is_other(text, store))
+}
+
+/// Whether it is another text than the store has.
+fn is_other<S: TextStore>(text: &String, store: &S) -> bool
+    ensures { result ≡ not (bytes_eq (S.content store.now) (text_of text.now)) }
+{
+    !store.equals(text.as_str())
 }

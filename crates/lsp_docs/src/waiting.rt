@@ -5,12 +5,11 @@ ghost use Rattle.std.specs.List.{list_any};
 ghost use Rattle.std.specs.Map.{lookup};
 ghost use Rattle.std.specs.Str.{chars, bytes_eq};
 ghost use Rattle.lsp_docs.specs.Documents.{versioned, is_after, is_at, is_before};
-ghost use Rattle.lsp_docs.specs.State.{capped, queue_of, keep_in, without_queue, add_in, total, reached, released, missed_one, shown_to};
+ghost use Rattle.lsp_docs.specs.State.{capped, queue_of, keep_in, IsAdded, IsReleased, total, reached, missed_one};
 ghost use Rattle.lsp_docs.specs.Rules.{differs};
-ghost use Rattle.lsp_docs.specs.Stored.{version_of, queues_in};
+ghost use Rattle.lsp_docs.specs.Stored.{text_of, queues_in};
 
 use crate::queue::SnapshotQueue;
-use crate::snapshot::Snapshot;
 use indexmap::IndexMap;
 use lsp_text::TextStore;
 use std::alloc::{AllocError, Global};
@@ -67,11 +66,12 @@ impl Waiting {
 
     /// Adds a snapshot of a URI.
     pub(crate) fn add(&mut self, uri: &str, version: i32, text: &str) -> Result<(), AllocError>
-        ensures ok { OnOk result (self.new ≡ shown_to uri.now (versioned version (chars text.now)) self.old) }
+        ensures ok { OnOk result (IsAdded uri.now (versioned version (chars text.now)) self.old.queues self.new.queues) }
+        ensures missed { self.new.missed ≡ self.old.missed }
         ensures err { OnErr result (self.new ≡ self.old) }
     {
         let text = String::from_str(*self.snapshots.allocator(), text)?;
-        add_to(&mut self.snapshots, uri, Snapshot { version, text })
+        add_to(&mut self.snapshots, uri, version, text)
     }
 
     /// Lets go of the snapshots of a URI that wait no more once it holds a version.
@@ -84,8 +84,8 @@ impl Waiting {
 
     /// Lets go of the snapshots of a URI that is closed.
     pub(crate) fn release(&mut self, uri: &str)
-        ensures left { self.new ≡ released uri.now self.old }
-        ensures gone { queue_of uri.now self.new.queues ≡ [] }
+        ensures left { IsReleased uri.now self.old.queues self.new.queues }
+        ensures missed { self.new.missed ≡ capped (self.old.missed + length (queue_of uri.now self.old.queues)) }
     {
         let missed = drop_all(&mut self.snapshots, uri);
         self.missed = self.missed.saturating_add(missed);
@@ -104,7 +104,7 @@ impl Waiting {
     {
         let mut count: u64 = 0;
         for snapshots in self.snapshots.values() {
-            count = count.saturating_add(snapshots.len() as u64);
+            count = count.saturating_add(snapshots.len());
         }
         count
     }
@@ -117,26 +117,37 @@ impl Waiting {
     }
 }
 
-/// Adds a snapshot of a URI behind its others.
-fn add_to(snapshots: &mut SnapshotMap, uri: &str, snapshot: Snapshot) -> Result<(), AllocError>
-    ensures ok { OnOk result (queues_in snapshots.new.entries ≡ add_in uri.now (version_of snapshot) (queues_in snapshots.old.entries)) }
+/// Adds a snapshot of a URI to its others.
+fn add_to(
+    snapshots: &mut SnapshotMap,
+    uri: &str,
+    version: i32,
+    text: String,
+) -> Result<(), AllocError>
+    ensures ok { OnOk result (IsAdded uri.now (versioned version (text_of text)) (queues_in snapshots.old.entries) (queues_in snapshots.new.entries)) }
     ensures err { OnErr result (queues_in snapshots.new.entries ≡ queues_in snapshots.old.entries) }
 {
+    let alloc = *snapshots.allocator();
     let Some(waiting) = snapshots.get_mut(uri) else {
-        return add_first(snapshots, uri, snapshot);
+        return add_first(snapshots, uri, version, text);
     };
-    waiting.push(snapshot)?;
+    waiting.push(alloc, version, text)?;
     Ok(())
 }
 
 /// Adds the first snapshot of a URI.
-fn add_first(snapshots: &mut SnapshotMap, uri: &str, snapshot: Snapshot) -> Result<(), AllocError>
+fn add_first(
+    snapshots: &mut SnapshotMap,
+    uri: &str,
+    version: i32,
+    text: String,
+) -> Result<(), AllocError>
     requires { lookup (λ key. bytes_eq uri.now (string_bytes key)) snapshots.old.entries ≡ None }
-    ensures ok { OnOk result (queues_in snapshots.new.entries ≡ add_in uri.now (version_of snapshot) (queues_in snapshots.old.entries)) }
+    ensures ok { OnOk result (IsAdded uri.now (versioned version (text_of text)) (queues_in snapshots.old.entries) (queues_in snapshots.new.entries)) }
     ensures err { OnErr result (queues_in snapshots.new.entries ≡ queues_in snapshots.old.entries) }
 {
     let alloc = *snapshots.allocator();
-    let waiting = SnapshotQueue::of(alloc, snapshot)?;
+    let waiting = SnapshotQueue::of(alloc, version, text)?;
     let key = String::from_str(alloc, uri)?;
     snapshots.insert(key, waiting)?;
     Ok(())
@@ -145,7 +156,7 @@ fn add_first(snapshots: &mut SnapshotMap, uri: &str, snapshot: Snapshot) -> Resu
 /// Drops the snapshots of a URI that wait no more at a version, and counts those of lesser ones.
 fn drop_reached(snapshots: &mut SnapshotMap, uri: &str, version: i32) -> u64
     ensures left { queues_in snapshots.new.entries ≡ keep_in uri.now (is_after version) (queues_in snapshots.old.entries) }
-    ensures missed { result ≡ length (filter (is_before version) (queue_of uri.now (queues_in snapshots.old.entries))) }
+    ensures missed { result ≡ capped (length (filter (is_before version) (queue_of uri.now (queues_in snapshots.old.entries)))) }
 {
     match snapshots.get_mut(uri) {
         Some(waiting) => waiting.reach(version),
@@ -155,12 +166,11 @@ fn drop_reached(snapshots: &mut SnapshotMap, uri: &str, version: i32) -> u64
 
 /// Drops the snapshots of a URI, and counts them.
 fn drop_all(snapshots: &mut SnapshotMap, uri: &str) -> u64
-    ensures left { queues_in snapshots.new.entries ≡ without_queue uri.now (queues_in snapshots.old.entries) }
-    ensures gone { queue_of uri.now (queues_in snapshots.new.entries) ≡ [] }
-    ensures missed { result ≡ length (queue_of uri.now (queues_in snapshots.old.entries)) }
+    ensures left { IsReleased uri.now (queues_in snapshots.old.entries) (queues_in snapshots.new.entries) }
+    ensures missed { result ≡ capped (length (queue_of uri.now (queues_in snapshots.old.entries))) }
 {
-    match snapshots.shift_remove(uri) {
-        Some(waiting) => waiting.len() as u64,
+    match snapshots.swap_remove(uri) {
+        Some(waiting) => waiting.len(),
         None => 0,
     }
 }

@@ -1,9 +1,16 @@
-use Rattle.std.proofs.Common.{ap, ◌∙◌}
-use Rattle.lsp_docs.specs.Stored.{version_of, queues_in}
-use Rattle.lsp_docs.proofs.Queues.{add_in-new}
+use Rattle.std.proofs.Common.{◌≡◌, ap, ◌∙◌, sym, subst, w32}
+use Rattle.std.proofs.lemmas.Int.{to_z-of_z}
+use mir.Val.{SFits}
+use Rattle.lsp_docs.specs.Documents.{versioned}
+use Rattle.lsp_docs.specs.State.{IsAdded}
+use Rattle.lsp_docs.specs.Stored.{text_of, queues_in}
+use Rattle.lsp_docs.proofs.Queues.{added-new}
 use Rattle.lsp_docs.proofs.waiting.add_first.Goals as goal
 
 pub returns-clause-ok : goal.returns-clause-ok
 returns-clause-ok c =
-    ap queues_in c.in_ok-insert.ensures.entries
-    ∙ add_in-new (λ d. d) c.args.uri.now (version_of c.args.snapshot) _ _ c.in_ok-key.ensures.ok c.in_ok-waiting.ensures _ c.requires
+    let fits : SFits w32 c.args.version = c.ranges.version in
+    let one = simp to_z-of_z at c.in_ok-waiting.ensures in
+    let v = versioned c.args.version (text_of c.args.text) in
+    subst (λ es. IsAdded c.args.uri.now v (queues_in c.args.snapshots.now.entries) (queues_in es)) (sym c.in_ok-insert.ensures.entries)
+    (added-new (λ d. d) c.args.uri.now v c.in_ok-key.key c.in_ok-waiting.waiting c.in_ok-key.ensures.ok one _ c.requires)

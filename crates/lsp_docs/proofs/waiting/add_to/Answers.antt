@@ -1,6 +1,10 @@
-use Rattle.std.proofs.Common.{◌≡◌, sym, ap, ◌∙◌, rules}
-use Rattle.lsp_docs.specs.Stored.{version_of, queues_in}
-use Rattle.lsp_docs.proofs.Queues.{add_in-there, queued-same}
+use Rattle.std.proofs.Common.{◌≡◌, sym, ap, ◌∙◌, rules, subst, w32}
+use Rattle.std.proofs.lemmas.Int.{to_z-of_z}
+use mir.Val.{SFits}
+use Rattle.lsp_docs.specs.Documents.{versioned}
+use Rattle.lsp_docs.specs.State.{IsAdded}
+use Rattle.lsp_docs.specs.Stored.{text_of, queues_in}
+use Rattle.lsp_docs.proofs.Queues.{added-there, queued-same}
 use Rattle.lsp_docs.proofs.waiting.add_to.Goals as goal
 
 pub returns-in_err-push-clause-err : goal.returns-in_err-push-clause-err
@@ -13,6 +17,9 @@ returns-in_err-push-clause-err c =
 
 pub returns-clause-ok : goal.returns-clause-ok
 returns-clause-ok c =
+    let fits : SFits w32 c.args.version = c.ranges.version in
     let w = c.push.new.self in
-    ap queues_in (c.get_mut.follows.holds w).0
-    ∙ add_in-there (λ x. x) c.args.uri.now (version_of c.args.snapshot) c.in-Some.waiting.now w c.in_ok-push.ensures.ok _ (sym c.in-Some.ensures.value)
+    let v = versioned c.args.version (text_of c.args.text) in
+    let more = simp to_z-of_z at c.in_ok-push.ensures.ok in
+    subst (λ es. IsAdded c.args.uri.now v (queues_in c.args.snapshots.now.entries) (queues_in es)) (sym (c.get_mut.follows.holds w).0)
+    (added-there (λ x. x) c.args.uri.now v c.in-Some.waiting.now w more _ (sym c.in-Some.ensures.value))

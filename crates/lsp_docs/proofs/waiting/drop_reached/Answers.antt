@@ -2,6 +2,7 @@ use Rattle.std.proofs.Common.{sym, ap, ◌∙◌, filter, length, w32}
 use Rattle.std.proofs.lemmas.Int.{to_z-of_z}
 use mir.Val.{SFits}
 use Rattle.lsp_docs.specs.Documents.{is_after, is_before}
+use Rattle.lsp_docs.specs.State.{capped}
 use Rattle.lsp_docs.specs.Stored.{queues_in}
 use Rattle.lsp_docs.proofs.Queues.{queue_of-there, queue_of-absent, keep_in-there, keep_in-absent}
 use Rattle.lsp_docs.proofs.waiting.drop_reached.Goals as goal
@@ -18,7 +19,7 @@ returns-in-Some-clause-missed c =
     let fits : SFits w32 c.args.version = c.ranges.version in
     let count = simp to_z-of_z at c.reach.ensures.missed in
     let there = queue_of-there (λ x. x) c.args.uri.now _ c.in-Some.waiting.now (sym c.in-Some.ensures.value) in
-    count ∙ sym (ap (λ l. length (filter (is_before c.args.version) l)) there)
+    count ∙ sym (ap (λ l. capped (length (filter (is_before c.args.version) l))) there)
 
 pub returns-in-None-clause-left : goal.returns-in-None-clause-left
 returns-in-None-clause-left c =
@@ -27,4 +28,4 @@ returns-in-None-clause-left c =
 
 pub returns-in-None-clause-missed : goal.returns-in-None-clause-missed
 returns-in-None-clause-missed c =
-    sym (ap (λ l. length (filter (is_before c.args.version) l)) (queue_of-absent (λ x. x) c.args.uri.now _ (sym c.in-None.ensures.value)))
+    sym (ap (λ l. capped (length (filter (is_before c.args.version) l))) (queue_of-absent (λ x. x) c.args.uri.now _ (sym c.in-None.ensures.value)))

@@ -1,6 +1,6 @@
-use Rattle.std.proofs.Common.{◌≡◌, ap, ◌∙◌, sym, subst, ◌++◌, ◌∷◌, [], is_some, false, true, rules}
+use Rattle.std.proofs.Common.{◌≡◌, ap, ◌∙◌, sym, subst, ◌++◌, ◌∷◌, [], is_some, false, true, rules, length, ◌+◌}
 use Rattle.lsp_docs.specs.Calls.{closes}
-use Rattle.lsp_docs.specs.State.{Stands, KeepsNone, held_in, kept_in, queue_of, without_queue, released, without}
+use Rattle.lsp_docs.specs.State.{Stands, KeepsNone, IsReleased, held_in, kept_in, queue_of, capped, without}
 use Rattle.lsp_docs.proofs.Stepping.{Stands-closed, rule-stands, stated, close-none, close-some, terms_in}
 use Rattle.lsp_docs.proofs.docs.Docs.did_close.Goals as goal
 
@@ -30,9 +30,9 @@ returns-clause-stands g c = λ calls h.
     let s = c.args.self.now in
     let uri = c.args.uri.now in
     let accepted = rule-stands s calls (closes uri) h ∙ returns-clause-accepted g c calls h in
-    let gone = ap (λ x. queue_of uri (without_queue uri x.waits.queues)) (sym c.self.view_is) ∙ (ap (λ w. queue_of uri w.queues) (sym c.release.ensures.left) ∙ c.release.ensures.gone) in
     let drops : KeepsNone uri s.kept c.remove.new.self.kept = subst (λ x. KeepsNone uri x.kept c.remove.new.self.kept) c.self.view_is c.remove.ensures.kept in
+    let left = subst (λ x. IsReleased uri x.waits.queues c.release.new.self.queues) c.self.view_is c.release.ensures.left in
+    let counted = subst (λ x. c.release.new.self.missed ≡ capped (x.waits.missed + length (queue_of uri x.waits.queues))) c.self.view_is c.release.ensures.missed in
     subst (λ l. Stands (stated (terms_in c.self.inside.limit c.self.inside.kept) l c.remove.new.self.kept c.release.new.self) (calls ++ closes uri ∷ [])) (sym c.remove.ensures.held)
-    (subst (λ w. Stands (stated (terms_in c.self.inside.limit c.self.inside.kept) (without uri c.self.inside.documents.held) c.remove.new.self.kept w) (calls ++ closes uri ∷ [])) (sym c.release.ensures.left)
-    (subst (λ x. Stands (stated x.terms (without uri x.documents) c.remove.new.self.kept (released uri x.waits)) (calls ++ closes uri ∷ [])) (sym c.self.view_is)
-    (Stands-closed s calls uri c.remove.new.self.kept accepted gone drops h)))
+    (subst (λ x. Stands (stated x.terms (without uri x.documents) c.remove.new.self.kept c.release.new.self) (calls ++ closes uri ∷ [])) (sym c.self.view_is)
+    (Stands-closed s calls uri c.remove.new.self.kept c.release.new.self accepted left counted drops h))

@@ -1,11 +1,11 @@
-use Rattle.std.proofs.Common.{sym, ◌∙◌, subst, List, ◌++◌, ◌∷◌, [], w32, rules}
+use Rattle.std.proofs.Common.{◌≡◌, sym, ◌∙◌, subst, List, ◌++◌, ◌∷◌, [], w32, rules}
 use Rattle.std.specs.Str.{chars}
 use Rattle.std.proofs.lemmas.Int.{to_z-of_z}
 use mir.Val.{SFits}
 use Rattle.lsp_docs.specs.Calls.{Call, shows}
 use Rattle.lsp_docs.specs.Documents.{versioned}
 use Rattle.lsp_docs.specs.Rules.{call_rule}
-use Rattle.lsp_docs.specs.State.{Stands, held_in, kept_in, missed_one, shown_to}
+use Rattle.lsp_docs.specs.State.{Stands, held_in, kept_in, missed_one, IsAdded}
 use Rattle.lsp_docs.specs.Fault.{Names}
 use Rattle.lsp_docs.proofs.Stepping.{Stands-equal, Stands-shown, Stands-missed, names-stands, rule-stands, answer-stands, stated, equal-holds, waits-ahead, missed-passed, terms_in}
 use Rattle.lsp_docs.proofs.docs.Docs.snapshot.Goals as goal
@@ -51,11 +51,12 @@ returns-in_ok-add-in-Waits-clause-stands g c = λ calls h.
     let call = shows uri n t in
     let answer = simp to_z-of_z at c.in_ok-judge.ensures.answer in
     let allowed = simp to_z-of_z at c.in_ok-judge.ensures.allowed in
-    let added = simp to_z-of_z at c.in_ok-add-in-Waits.ensures.ok in
+    let new = c.add.new.self in
     let said = waits-ahead n (kept_in uri s.kept) (held_in uri s.documents) (sym answer ∙ c.in-Waits.is) in
-    subst (λ w. Stands (stated (terms_in c.self.inside.limit c.self.inside.kept) c.self.inside.documents.held c.self.inside.documents.kept w) (calls ++ call ∷ [])) (sym added)
-    (subst (λ x. Stands (stated x.terms x.documents x.kept (shown_to uri (versioned n t) x.waits)) (calls ++ call ∷ [])) (sym c.self.view_is)
-    (Stands-shown s calls uri n t allowed h said.0 said.1))
+    let added = subst (λ x. IsAdded uri (versioned n t) x.waits.queues new.queues) c.self.view_is (simp to_z-of_z at c.in_ok-add-in-Waits.ensures.ok) in
+    let counted = subst (λ x. new.missed ≡ x.waits.missed) c.self.view_is c.in_ok-add-in-Waits.ensures.missed in
+    subst (λ x. Stands (stated x.terms x.documents x.kept new) (calls ++ call ∷ [])) (sym c.self.view_is)
+    (Stands-shown s calls uri n t allowed h new added counted said.0 said.1)
 
 pub returns-in_ok-add-in-Waits-clause-accepted : goal.returns-in_ok-add-in-Waits-clause-accepted
 returns-in_ok-add-in-Waits-clause-accepted g c = λ calls h.

@@ -1,0 +1,352 @@
+-- The texts of a queue, kept by version, beside the snapshots that they stand for.
+use Rattle.std.proofs.Common.{◌≡◌, ℕ, ◌+◌, Bool, true, false, ◌||◌, ◌&&◌, cond, List, [], ◌∷◌, ◌++◌, map, filter, length, refl, sym, ap, ◌∙◌, inl, inr, arith, true≢false, Option, Some, None, append-nil, length-append, subst, suc}
+use Rattle.std.proofs.lemmas.Int.{ints}
+use Rattle.std.proofs.lemmas.Option.{none-some, same_Some}
+use Rattle.std.proofs.lemmas.List.Folds.{list_any-append}
+use Rattle.std.specs.Prelude.{ℤ, int_lt, not, if◌then◌else◌, min, ◌-◌, ◌^◌}
+use Rattle.std.specs.List.{list_any, AllByRecursion}
+use Rattle.std.specs.List.Sorted.{IsStrictlySortedBy}
+use Rattle.std.specs.Map.{lookup, set_value, keys_of}
+use Rattle.std.specs.declared.cmp.Ordering.{Ordering}
+use Rattle.std.specs.Ordering.{int_eq, int_cmp, is_lt, is_eq, match_ordering}
+use Rattle.std.specs.declared.cmp.Ordering.TheVariants.{Less, Equal, Greater}
+use Rattle.std.specs.BTreeMap.{insert_entry}
+use Rattle.lsp_docs.specs.Texts.{Text}
+use Rattle.lsp_docs.specs.Documents.{Version, versioned, is_after, is_at, is_before}
+use Rattle.lsp_docs.specs.State.{SameVersions, capped}
+use Rattle.lsp_docs.specs.Stored.{versions_in, is_first_within, rest_of, first_before}
+use Rattle.lsp_docs.specs.Rules.{differs}
+use Rattle.std.proofs.lemmas.Bool.Decides.{nat_tests}
+use Rattle.std.specs.Prelude.{nat_lt}
+use Rattle.std.specs.Str.{bytes_eq}
+use Rattle.std.proofs.lemmas.Bool.Decides.{Decides-int_eq}
+use Rattle.lsp_docs.proofs.Words.{true_or_false, int_is, filter-append, map-append, length-map}
+use Rattle.lsp_docs.proofs.Queues.{rest_of as rest_of_entry, head_is, not_head}
+use Rattle.lsp_docs.proofs.SameVersions.{count-append}
+
+abbrev Entries : Type 0
+Entries = List (ℤ × List Text)
+
+-- ---- numbers
+
+less_is : (a b : ℤ) → is_lt (int_cmp a b) ≡ int_lt a b
+less_is a b =
+    elim (true_or_false (int_lt a b)) [
+      | inl p ↦ rw p refl
+      | inr p ↦ rw p (elim (true_or_false (int_lt b a)) [ inl q ↦ rw q refl | inr q ↦ rw q refl ])
+    ]
+
+lt_of : (a b : ℤ) → int_cmp a b ≡ Less → int_lt a b ≡ true
+lt_of a b h = sym (less_is a b) ∙ ap is_lt h
+
+irreflexive : (v : ℤ) → int_lt v v ≡ false
+irreflexive v = grind (arith, ints)
+
+trans : (a b c : ℤ) → int_lt a b ≡ true → int_lt b c ≡ true → int_lt a c ≡ true
+trans a b c h k = grind (arith, ints)
+
+past : (a b c : ℤ) → int_lt a b ≡ true → int_lt b c ≡ true → int_lt c a ≡ false
+past a b c h k = grind (arith, ints)
+
+not_back : (a b : ℤ) → int_lt a b ≡ true → int_lt b a ≡ false
+not_back a b h = grind (arith, ints)
+
+apart : (a b : ℤ) → int_lt a b ≡ true → int_eq a b ≡ false
+apart a b h =
+    elim (true_or_false (int_eq a b)) [
+      | inl p ↦ absurd (true≢false (sym h ∙ (ap (λ x. int_lt x b) (int_is a b p) ∙ irreflexive b)))
+      | inr p ↦ p
+    ]
+
+-- ---- the keys ascend
+
+abbrev Above : ℤ → Entries → Type 0
+Above k es = AllByRecursion (λ y. int_cmp k y ≡ Less) (keys_of es)
+
+pub head_above : (e : ℤ × List Text) (es : Entries) → IsStrictlySortedBy int_cmp (keys_of (e ∷ es)) → Above e.0 es
+unfolding IsStrictlySortedBy
+head_above e es h = h.0
+
+pub tail_sorted : (e : ℤ × List Text) (es : Entries) → IsStrictlySortedBy int_cmp (keys_of (e ∷ es)) → IsStrictlySortedBy int_cmp (keys_of es)
+unfolding IsStrictlySortedBy
+tail_sorted e es h = h.1
+
+-- ---- whether one waits
+
+module _ (n : ℤ) (q : Text → Bool) (test : Version → Bool)
+    (here : (t : Text) → test (versioned n t) ≡ q t) (there : (v : Version) → int_eq n v.number ≡ false → test v ≡ false) where
+  abbrev found : Option (List Text) → Bool
+  found None = false
+  found (Some ts) = list_any q ts
+
+  any_here : (ts : List Text) → list_any test (map (versioned n) ts) ≡ list_any q ts
+  any_here [] = refl
+  any_here (t ∷ ts) = ap (λ b. b || list_any test (map (versioned n) ts)) (here t) ∙ ap (λ b. q t || b) (any_here ts)
+
+  any_away : (k : ℤ) (ts : List Text) → int_eq n k ≡ false → list_any test (map (versioned k) ts) ≡ false
+  any_away k [] e = refl
+  any_away k (t ∷ ts) e = ap (λ b. b || list_any test (map (versioned k) ts)) (there (versioned k t) e) ∙ any_away k ts e
+
+  any_above : (es : Entries) → Above n es → list_any test (versions_in es) ≡ false
+  any_above [] h = refl
+  any_above (e ∷ es) h =
+      list_any-append test (map (versioned e.0) e.1) (versions_in es)
+      ∙ (ap (λ b. b || list_any test (versions_in es)) (any_away e.0 e.1 (apart n e.0 (lt_of n e.0 h.0))) ∙ any_above es h.1)
+
+  or_none : (b : Bool) → (b || false) ≡ b
+  or_none true = refl
+  or_none false = refl
+
+  head_found : (k : ℤ) (ts : List Text) (es : Entries) → n ≡ k → Above k es → list_any test (map (versioned k) ts) || list_any test (versions_in es) ≡ list_any q ts
+  head_found k ts es e h =
+      rw (← e) (ap (λ b. list_any test (map (versioned n) ts) || b) (any_above es (subst_above es e h)) ∙ (or_none (list_any test (map (versioned n) ts)) ∙ any_here ts))
+    where
+      subst_above : (es : Entries) → n ≡ k → Above k es → Above n es
+      subst_above es e h = subst (λ x. Above x es) (sym e) h
+
+  -- a test on the snapshots of one version looks at that version's texts alone
+  pub any_found : (es : Entries) → IsStrictlySortedBy int_cmp (keys_of es) → list_any test (versions_in es) ≡ found (lookup (int_eq n) es)
+  any_found [] h = refl
+  any_found (e ∷ es) h =
+      list_any-append test (map (versioned e.0) e.1) (versions_in es)
+      ∙ elim (true_or_false (int_eq n e.0)) [
+        | inl p ↦ rw p (head_found e.0 e.1 es (int_is n e.0 p) (head_above e es h))
+        | inr p ↦ rw p (ap (λ b. b || list_any test (versions_in es)) (any_away e.0 e.1 p) ∙ any_found es (tail_sorted e es h))
+      ]
+
+above_zero : (n : ℕ) → true ≡ nat_lt 0 (suc n)
+above_zero n = grind (arith, nat_tests)
+
+pub any_text : (ts : List Text) → list_any (λ _. true) ts ≡ nat_lt 0 (length ts)
+any_text [] = refl
+any_text (t ∷ ts) = above_zero (length ts)
+
+eq_same : (n : ℤ) → int_eq n n ≡ true
+eq_same n = (Decides-int_eq n n).1 refl
+
+eq_flip : (a b : ℤ) → int_eq a b ≡ false → int_eq b a ≡ false
+eq_flip a b h =
+    elim (true_or_false (int_eq b a)) [
+      | inl p ↦ absurd (true≢false (sym (eq_same b) ∙ (ap (λ x. int_eq x b) (int_is b a p) ∙ h)))
+      | inr p ↦ p
+    ]
+
+due_found : (n : ℤ) (es : Entries) → IsStrictlySortedBy int_cmp (keys_of es) → list_any (is_at n) (versions_in es) ≡ found n (λ _. true) (is_at n) (λ t. eq_same n) (λ v e. eq_flip n v.number e) (lookup (int_eq n) es)
+due_found n es h = any_found n (λ _. true) (is_at n) (λ t. eq_same n) (λ v e. eq_flip n v.number e) es h
+
+-- the queue's words of the two tests
+pub due-there : (n : ℤ) (es : Entries) (ts : List Text) → IsStrictlySortedBy int_cmp (keys_of es) → lookup (int_eq n) es ≡ Some ts → nat_lt 0 (length ts) ≡ list_any (is_at n) (versions_in es)
+due-there n es ts h at = sym (any_text ts) ∙ sym (due_found n es h ∙ ap (found n (λ _. true) (is_at n) (λ t. eq_same n) (λ v e. eq_flip n v.number e)) at)
+
+pub due-absent : (n : ℤ) (es : Entries) → IsStrictlySortedBy int_cmp (keys_of es) → lookup (int_eq n) es ≡ None → false ≡ list_any (is_at n) (versions_in es)
+due-absent n es h at = sym (due_found n es h ∙ ap (found n (λ _. true) (is_at n) (λ t. eq_same n) (λ v e. eq_flip n v.number e)) at)
+
+and_same : (b c : Bool) → b ≡ true → (b && c) ≡ c
+and_same b c e = rw e refl
+
+and_no : (b c : Bool) → b ≡ false → (b && c) ≡ false
+and_no b c e = rw e refl
+
+differs_found : (n : ℤ) (text : Text) (es : Entries) → IsStrictlySortedBy int_cmp (keys_of es)
+    → list_any (differs (versioned n text)) (versions_in es)
+    ≡ found n (λ t. not (bytes_eq text t)) (differs (versioned n text)) (λ t. and_same (int_eq n n) _ (eq_same n)) (λ v e. and_no (int_eq n v.number) _ e) (lookup (int_eq n) es)
+differs_found n text es h = any_found n (λ t. not (bytes_eq text t)) (differs (versioned n text)) (λ t. and_same (int_eq n n) _ (eq_same n)) (λ v e. and_no (int_eq n v.number) _ e) es h
+
+module _ (n : ℤ) (text : Text) (es : Entries) (h : IsStrictlySortedBy int_cmp (keys_of es)) where
+  abbrev looked : Option (List Text) → Bool
+  looked = found n (λ t. not (bytes_eq text t)) (differs (versioned n text)) (λ t. and_same (int_eq n n) _ (eq_same n)) (λ v e. and_no (int_eq n v.number) _ e)
+
+  pub differs-there : (ts : List Text) → lookup (int_eq n) es ≡ Some ts → list_any (λ t. not (bytes_eq text t)) ts ≡ list_any (differs (versioned n text)) (versions_in es)
+  differs-there ts at = sym (differs_found n text es h ∙ ap looked at)
+
+  pub differs-absent : lookup (int_eq n) es ≡ None → false ≡ list_any (differs (versioned n text)) (versions_in es)
+  differs-absent at = sym (differs_found n text es h ∙ ap looked at)
+
+-- ---- what is reached
+
+all_pass : (p : Version → Bool) (k : ℤ) (ts : List Text) → ((t : Text) → p (versioned k t) ≡ true) → filter p (map (versioned k) ts) ≡ map (versioned k) ts
+all_pass p k [] h = refl
+all_pass p k (t ∷ ts) h = rw (h t) (ap (λ l. versioned k t ∷ l) (all_pass p k ts h))
+
+none_pass : (p : Version → Bool) (k : ℤ) (ts : List Text) → ((t : Text) → p (versioned k t) ≡ false) → filter p (map (versioned k) ts) ≡ []
+none_pass p k [] h = refl
+none_pass p k (t ∷ ts) h = rw (h t) (none_pass p k ts h)
+
+not_true : (b : Bool) → not b ≡ true → b ≡ false
+not_true true h = sym h
+not_true false h = refl
+
+not_false : (b : Bool) → not b ≡ false → b ≡ true
+not_false true h = refl
+not_false false h = absurd (true≢false h)
+
+module _ (n : ℤ) where
+  -- the first version is reached
+  pub after_step : (es : Entries) → is_first_within n es ≡ true → filter (is_after n) (versions_in (rest_of es)) ≡ filter (is_after n) (versions_in es)
+  after_step [] h = refl
+  after_step (e ∷ es) h =
+      sym (filter-append (is_after n) (map (versioned e.0) e.1) (versions_in es)
+      ∙ ap (λ l. l ++ filter (is_after n) (versions_in es)) (none_pass (is_after n) e.0 e.1 (λ t. not_true (int_lt n e.0) h)))
+
+  pub before_step : (es : Entries) → first_before n es + length (filter (is_before n) (versions_in (rest_of es))) ≡ length (filter (is_before n) (versions_in es))
+  before_step [] = refl
+  before_step (e ∷ es) =
+      let split = count-append (is_before n) (map (versioned e.0) e.1) (versions_in es) in
+      elim (true_or_false (int_lt e.0 n)) [
+        | inl p ↦ rw p (ap (λ k. k + length (filter (is_before n) (versions_in es))) (sym (ap length (all_pass (is_before n) e.0 e.1 (λ t. p)) ∙ length-map (versioned e.0) e.1)) ∙ sym split)
+        | inr p ↦ rw p (ap (λ k. k + length (filter (is_before n) (versions_in es))) (sym (ap length (none_pass (is_before n) e.0 e.1 (λ t. p)))) ∙ sym split)
+      ]
+
+  pub shorter : (es : Entries) → is_first_within n es ≡ true → length (rest_of es) + 1 ≡ length es
+  shorter [] h = absurd (true≢false (sym h))
+  shorter (e ∷ es) h = omega arith
+
+  pub rest_sorted : (es : Entries) → IsStrictlySortedBy int_cmp (keys_of es) → IsStrictlySortedBy int_cmp (keys_of (rest_of es))
+  rest_sorted [] h = h
+  rest_sorted (e ∷ es) h = tail_sorted e es h
+
+  -- no version is reached
+  after_above : (k : ℤ) (es : Entries) → int_lt n k ≡ true → Above k es → filter (is_after n) (versions_in es) ≡ versions_in es
+  after_above k [] less h = refl
+  after_above k (e ∷ es) less h =
+      filter-append (is_after n) (map (versioned e.0) e.1) (versions_in es)
+      ∙ (ap (λ l. l ++ filter (is_after n) (versions_in es)) (all_pass (is_after n) e.0 e.1 (λ t. trans n k e.0 less (lt_of k e.0 h.0)))
+      ∙ ap (λ l. map (versioned e.0) e.1 ++ l) (after_above k es less h.1))
+
+  before_above : (k : ℤ) (es : Entries) → int_lt n k ≡ true → Above k es → filter (is_before n) (versions_in es) ≡ []
+  before_above k [] less h = refl
+  before_above k (e ∷ es) less h =
+      filter-append (is_before n) (map (versioned e.0) e.1) (versions_in es)
+      ∙ (ap (λ l. l ++ filter (is_before n) (versions_in es)) (none_pass (is_before n) e.0 e.1 (λ t. past n k e.0 less (lt_of k e.0 h.0)))
+      ∙ before_above k es less h.1)
+
+  pub after_end : (es : Entries) → IsStrictlySortedBy int_cmp (keys_of es) → is_first_within n es ≡ false → filter (is_after n) (versions_in es) ≡ versions_in es
+  after_end [] h e = refl
+  after_end (x ∷ es) h e =
+      let less = not_false (int_lt n x.0) e in
+      filter-append (is_after n) (map (versioned x.0) x.1) (versions_in es)
+      ∙ (ap (λ l. l ++ filter (is_after n) (versions_in es)) (all_pass (is_after n) x.0 x.1 (λ t. less))
+      ∙ ap (λ l. map (versioned x.0) x.1 ++ l) (after_above x.0 es less (head_above x es h)))
+
+  pub before_end : (es : Entries) → IsStrictlySortedBy int_cmp (keys_of es) → is_first_within n es ≡ false → filter (is_before n) (versions_in es) ≡ []
+  before_end [] h e = refl
+  before_end (x ∷ es) h e =
+      let less = not_false (int_lt n x.0) e in
+      filter-append (is_before n) (map (versioned x.0) x.1) (versions_in es)
+      ∙ (ap (λ l. l ++ filter (is_before n) (versions_in es)) (none_pass (is_before n) x.0 x.1 (λ t. not_back n x.0 less))
+      ∙ before_above x.0 es less (head_above x es h))
+
+-- what a loop over the first versions keeps
+pub record IsDropped (n : ℤ) (first now : Entries) (missed : ℕ) : Type 0 where
+  pub left : filter (is_after n) (versions_in now) ≡ filter (is_after n) (versions_in first)
+  pub count : capped (missed + length (filter (is_before n) (versions_in now))) ≡ capped (length (filter (is_before n) (versions_in first)))
+  pub small : capped missed ≡ missed
+  pub sorted : IsStrictlySortedBy int_cmp (keys_of now)
+
+-- ---- one more
+
+map-behind : (k : ℤ) (ts : List Text) (x : Text) → map (versioned k) (ts ++ x ∷ []) ≡ map (versioned k) ts ++ versioned k x ∷ []
+map-behind k ts x = map-append (versioned k) ts (x ∷ [])
+
+module _ (n : ℤ) (x : Text) (p : Version → Bool) where
+  abbrev many : List Version → ℕ
+  many vs = length (filter p vs)
+
+  abbrev one : List Version
+  one = versioned n x ∷ []
+
+  sums : (a b c : List Version) → many ((a ++ b) ++ c) ≡ many a + many b + many c
+  sums a b c = count-append p (a ++ b) c ∙ ap (λ k. k + many c) (count-append p a b)
+
+  count-there : (es : Entries) (ts w : List Text) → lookup (int_eq n) es ≡ Some ts → w ≡ ts ++ x ∷ [] → many (versions_in es ++ one) ≡ many (versions_in (set_value (int_eq n) es w))
+  count-there [] ts w h e = absurd (none-some ts h)
+  count-there (y ∷ es) ts w h e =
+      elim (true_or_false (int_eq n y.0)) [
+        | inl k ↦
+            let same : n ≡ y.0 = int_is n y.0 k in
+            let own : y.1 ≡ ts = head_is (int_eq n y.0) y.1 (lookup (int_eq n) es) ts h k in
+            let now : map (versioned y.0) w ≡ map (versioned y.0) y.1 ++ one = ap (map (versioned y.0)) (e ∙ ap (λ l. l ++ x ∷ []) (sym own)) ∙ (map-behind y.0 y.1 x ∙ ap (λ z. map (versioned y.0) y.1 ++ versioned z x ∷ []) (sym same)) in
+            let left = sums (map (versioned y.0) y.1) (versions_in es) one in
+            let right = ap (λ l. many (l ++ versions_in es)) now ∙ sums (map (versioned y.0) y.1) one (versions_in es) in
+            rw k (omega (arith, left, right))
+        | inr k ↦
+            let rest = count-there es ts w (rest_of_entry (int_eq n y.0) y.1 (lookup (int_eq n) es) (Some ts) h k) e in
+            let left = sums (map (versioned y.0) y.1) (versions_in es) one in
+            let short = count-append p (versions_in es) one in
+            let right = count-append p (map (versioned y.0) y.1) (versions_in (set_value (int_eq n) es w)) in
+            rw k (omega (arith, left, right, rest, short))
+      ]
+
+  abbrev with_one : List Version → List Version → Type 0
+  with_one vs ws = many (vs ++ one) ≡ many ws
+
+  put_at : (y : ℤ × List Text) (es rest : Entries) (o : Ordering) → int_cmp n y.0 ≡ o → int_eq n y.0 ≡ false → with_one (versions_in es) (versions_in rest)
+      → with_one (versions_in (y ∷ es)) (versions_in (match_ordering o ((n, x ∷ []) ∷ y ∷ es) ((y.0, x ∷ []) ∷ es) (y ∷ rest)))
+  put_at y es rest Less e other h =
+      let left = count-append p (versions_in (y ∷ es)) one in
+      let right = count-append p one (versions_in (y ∷ es)) in
+      omega (arith, left, right)
+  put_at y es rest Equal e other h = absurd (true≢false (sym (ap is_eq e) ∙ other))
+  put_at y es rest Greater e other h =
+      let left = sums (map (versioned y.0) y.1) (versions_in es) one in
+      let short = count-append p (versions_in es) one in
+      let right = count-append p (map (versioned y.0) y.1) (versions_in rest) in
+      omega (arith, left, right, h, short)
+
+  count-new : (es : Entries) → lookup (int_eq n) es ≡ None → many (versions_in es ++ one) ≡ many (versions_in (insert_entry int_cmp es n (x ∷ [])))
+  count-new [] h = refl
+  count-new (y ∷ es) h =
+      let other = not_head (int_eq n y.0) y.1 (lookup (int_eq n) es) h in
+      put_at y es (insert_entry int_cmp es n (x ∷ [])) (int_cmp n y.0) refl other (count-new es (rest_of_entry (int_eq n y.0) y.1 (lookup (int_eq n) es) None h other))
+
+pub added-there : (n : ℤ) (x : Text) (es : Entries) (ts w : List Text) → lookup (int_eq n) es ≡ Some ts → w ≡ ts ++ x ∷ [] → SameVersions (versions_in es ++ versioned n x ∷ []) (versions_in (set_value (int_eq n) es w))
+added-there n x es ts w h e = λ p. count-there n x p es ts w h e
+
+pub added-new : (n : ℤ) (x : Text) (es : Entries) (w : List Text) → lookup (int_eq n) es ≡ None → w ≡ x ∷ [] → SameVersions (versions_in es ++ versioned n x ∷ []) (versions_in (insert_entry int_cmp es n w))
+added-new n x es w h e = λ p. count-new n x p es h ∙ ap (λ v. length (filter p (versions_in (insert_entry int_cmp es n v)))) (sym e)
+
+pub same-written : (n : ℤ) (es : Entries) (ts w : List Text) → lookup (int_eq n) es ≡ Some ts → w ≡ ts → versions_in (set_value (int_eq n) es w) ≡ versions_in es
+same-written n [] ts w h e = refl
+same-written n (y ∷ es) ts w h e =
+    elim (true_or_false (int_eq n y.0)) [
+      | inl k ↦ rw k (ap (λ l. map (versioned y.0) l ++ versions_in es) (e ∙ sym (head_is (int_eq n y.0) y.1 (lookup (int_eq n) es) ts h k)))
+      | inr k ↦ rw k (ap (λ l. map (versioned y.0) y.1 ++ l) (same-written n es ts w (rest_of_entry (int_eq n y.0) y.1 (lookup (int_eq n) es) (Some ts) h k) e))
+    ]
+
+abbrev pub sizes : List (List Text) → ℕ
+sizes [] = 0
+sizes (ts ∷ tss) = length ts + sizes tss
+
+pub sizes-all : (es : Entries) → sizes (map (λ e. e.1) es) ≡ length (versions_in es)
+sizes-all [] = refl
+sizes-all (e ∷ es) = let rest = sizes-all es in let own = length-map (versioned e.0) e.1 in let all = length-append (map (versioned e.0) e.1) (versions_in es) in omega (arith, rest, own, all)
+
+-- ---- the loop that drops what is reached
+
+small_min : (top k : ℕ) → min (min k top) top ≡ min k top
+small_min top k = omega arith
+
+added_min : (top m f r k : ℕ) → m ≡ min (k + f) top → min (m + r) top ≡ min (k + (f + r)) top
+added_min top m f r k e = omega (arith, e)
+
+pub dropped_next : (n : ℤ) (first now after : Entries) (missed f more : ℕ) → IsDropped n first now missed → is_first_within n now ≡ true → after ≡ rest_of now → f ≡ first_before n now
+    → more ≡ capped (missed + f) → IsDropped n first after more
+dropped_next n first now after missed f more h reached is own e = record {
+  left = ap (λ l. filter (is_after n) (versions_in l)) is ∙ (after_step n now reached ∙ h.left);
+  count = let r = length (filter (is_before n) (versions_in after)) in
+      let split : f + r ≡ length (filter (is_before n) (versions_in now)) = ap (λ k. k + r) own ∙ (ap (λ l. first_before n now + length (filter (is_before n) (versions_in l))) is ∙ before_step n now) in
+      added_min (2 ^ 64 - 1) more f r missed e ∙ (ap (λ k. capped (missed + k)) split ∙ h.count);
+  small = ap capped e ∙ (small_min (2 ^ 64 - 1) (missed + f) ∙ sym e);
+  sorted = subst (λ l. IsStrictlySortedBy int_cmp (keys_of l)) (sym is) (rest_sorted n now h.sorted);
+}
+
+pub dropped_left : (n : ℤ) (first now : Entries) (missed : ℕ) → IsDropped n first now missed → is_first_within n now ≡ false → versions_in now ≡ filter (is_after n) (versions_in first)
+dropped_left n first now missed h done = sym (after_end n now h.sorted done) ∙ h.left
+
+pub dropped_count : (n : ℤ) (first now : Entries) (missed : ℕ) → IsDropped n first now missed → is_first_within n now ≡ false → missed ≡ capped (length (filter (is_before n) (versions_in first)))
+dropped_count n first now missed h done =
+    let none : missed + length (filter (is_before n) (versions_in now)) ≡ missed = ap (λ l. missed + length l) (before_end n now h.sorted done) ∙ plus_none missed in
+    sym h.small ∙ (sym (ap capped none) ∙ h.count)
+  where
+    plus_none : (k : ℕ) → k + 0 ≡ k
+    plus_none k = omega arith

@@ -1,0 +1,77 @@
+-- Lists of versions that have the same versions, in whatever order.
+use Rattle.std.proofs.Common.{◌≡◌, ℕ, zero, suc, ◌+◌, ◌<◌, Bool, true, false, ◌||◌, ◌&&◌, List, [], ◌∷◌, ◌++◌, filter, length, length-append, refl, sym, ap, ◌∙◌, inl, inr, arith, true≢false, Option, Some, None, Result, Ok, Err}
+use Rattle.std.specs.Prelude.{ℤ, if◌then◌else◌, is_some, nat_lt, not, int_lt}
+use Rattle.std.specs.List.{list_any}
+use Rattle.lsp_types.specs.declared.position.Encoding.{Encoding}
+use Rattle.lsp_types.specs.declared.change.SyncKind.{SyncKind}
+use Rattle.lsp_text.specs.Edits.{Edit, applied}
+use Rattle.lsp_docs.specs.Terms.{Terms}
+use Rattle.lsp_docs.specs.Texts.{Text, byte_len}
+use Rattle.lsp_docs.specs.Calls.{Call, opens, changes, closes, saves, shows}
+use Rattle.lsp_docs.specs.Documents.{Version, versioned}
+use Rattle.lsp_docs.specs.Rules.{differs, version_rule, text_rule, change_rule, rule_of, first_row, fits_kind}
+use Rattle.lsp_docs.specs.State.{SameVersions}
+use Rattle.lsp_docs.proofs.Words.{true_or_false, filter-append, filter-all}
+
+pub same-of : (vs ws : List Version) → vs ≡ ws → SameVersions vs ws
+same-of vs ws e = λ p. ap (λ l. length (filter p l)) e
+
+pub same-then : (vs ws us : List Version) → SameVersions vs ws → SameVersions ws us → SameVersions vs us
+same-then vs ws us h k = λ p. h p ∙ k p
+
+pub count-append : (p : Version → Bool) (vs ws : List Version) → length (filter p (vs ++ ws)) ≡ length (filter p vs) + length (filter p ws)
+count-append p vs ws = ap length (filter-append p vs ws) ∙ length-append (filter p vs) (filter p ws)
+
+pub same-length : (vs ws : List Version) → SameVersions vs ws → length vs ≡ length ws
+same-length vs ws h = sym (ap length (filter-all vs)) ∙ (h (λ _. true) ∙ ap length (filter-all ws))
+
+pub same-behind : (vs ws us : List Version) → SameVersions vs ws → SameVersions (vs ++ us) (ws ++ us)
+same-behind vs ws us h = λ p. count-append p vs us ∙ (ap (λ n. n + length (filter p us)) (h p) ∙ sym (count-append p ws us))
+
+filter-both : (p q : Version → Bool) (vs : List Version) → filter p (filter q vs) ≡ filter (λ v. q v && p v) vs
+filter-both p q [] = refl
+filter-both p q (v ∷ vs) =
+    elim (true_or_false (q v)) [
+      | inl h ↦ elim (true_or_false (p v)) [
+        | inl k ↦ rw (h, k) (ap (λ l. v ∷ l) (filter-both p q vs))
+        | inr k ↦ rw (h, k) (filter-both p q vs)
+      ]
+      | inr h ↦ rw h (filter-both p q vs)
+    ]
+
+pub same-filtered : (q : Version → Bool) (vs ws : List Version) → SameVersions vs ws → SameVersions (filter q vs) (filter q ws)
+same-filtered q vs ws h = λ p. ap length (filter-both p q vs) ∙ (h (λ v. q v && p v) ∙ sym (ap length (filter-both p q ws)))
+
+abbrev is_more : ℕ → Bool
+is_more zero = false
+is_more (suc n) = true
+
+any-counted : (p : Version → Bool) (vs : List Version) → list_any p vs ≡ is_more (length (filter p vs))
+any-counted p [] = refl
+any-counted p (v ∷ vs) = elim (true_or_false (p v)) [ inl h ↦ rw h refl | inr h ↦ rw h (any-counted p vs) ]
+
+pub same-any : (p : Version → Bool) (vs ws : List Version) → SameVersions vs ws → list_any p vs ≡ list_any p ws
+same-any p vs ws h = any-counted p vs ∙ (ap is_more (h p) ∙ sym (any-counted p ws))
+
+-- ---- rules
+
+module _ (vs ws : List Version) (h : SameVersions vs ws) where
+  version-same : (v : Version) → version_rule vs v ≡ version_rule ws v
+  version-same v = ap (λ b. if b then Some 702 else None) (same-any (differs v) vs ws h)
+
+  text-same : (n : ℤ) (r : Result Text ℕ) → text_rule vs n r ≡ text_rule ws n r
+  text-same n (Ok t) = version-same (versioned n t)
+  text-same n (Err rule) = refl
+
+  change-same : (terms : Terms) (enc : Encoding) (k : SyncKind) (n : ℤ) (cs : List Edit) (o : Option Version) → change_rule terms vs enc k n cs o ≡ change_rule terms ws enc k n cs o
+  change-same terms enc k n cs None = refl
+  change-same terms enc k n cs (Some v) =
+      ap (λ r. first_row ((not (int_lt v.number n), Some 603) ∷ (not (fits_kind k cs), Some 604) ∷ (true, r) ∷ [])) (text-same n (applied terms.limit enc v.text cs))
+
+  -- the order of the snapshots that wait doesn't matter to a rule
+  pub rule-same : (terms : Terms) (o : Option Version) (ks : List Version) (c : Call) → rule_of terms o ks vs c ≡ rule_of terms o ks ws c
+  rule-same terms o ks (opens u n t) = ap (λ r. first_row ((is_some o, Some 601) ∷ (nat_lt terms.limit (byte_len t), Some 607) ∷ (true, r) ∷ [])) (version-same (versioned n t))
+  rule-same terms o ks (changes enc k u n cs) = change-same terms enc k n cs o
+  rule-same terms o ks (closes u) = refl
+  rule-same terms o ks (saves u t) = refl
+  rule-same terms o ks (shows u n t) = refl
