@@ -30,10 +30,6 @@ stopped_before a b x y p = record {
   failures = p.failures;
 }
 
--- a failed put took nothing
-pub stopped_at_once : (a b : Told) (x : List ℕ) → KeepsBytes a b → b.failures ≡ after_failure a.failures → Stopped a b x
-stopped_at_once a b x keeps failed = record { front = []; back = x; whole = refl; took = took_kept a b keeps; failures = failed }
-
 -- so far, and what is left
 pub record HasPut (start now : Told) (bytes rest : List ℕ) : Type 0 where
   pub front : List ℕ

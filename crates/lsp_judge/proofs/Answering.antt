@@ -188,9 +188,6 @@ pub given_again : {E : Type 0} (o : Option Ruling) (ruling : Ruling) (given : Ve
 given_again o ruling given (Ok a) e is told = same_Some _ _ (sym told ∙ ap is_given (sym e) ∙ is)
 given_again o ruling given (Err refused) e is told = tt
 
-pub none_again : {P : Type 0} (o : Option Ruling) (given : Verdict) → o ≡ None → is_given o ≡ Some given → P
-none_again o given e is = let same : None ≡ Some given = ap is_given (sym e) ∙ is in absurd cc
-
 pub refused_again : {E : Type 0} (o : Option Ruling) (ruling : Ruling) (r : Result code.Verdict E) → o ≡ Some ruling → WasRefused o → IfOk r (λ a. verdict_in ruling ≡ Some (verdict_view a)) → IsErr r
 refused_again o ruling (Ok a) e was told =
     let memory : ruling ≡ rulings.Memory = same_Some _ _ (sym e ∙ was) in

@@ -30,7 +30,7 @@ use Rattle.lsp_verdict.specs.Verdict.{Verdict, first_no, no_at, is_of, count_of}
 use Rattle.lsp_verdict.proofs.Finding.{found}
 use Rattle.lsp_verdict.proofs.Logs.{final_more}
 use Rattle.lsp_verdict.proofs.RunReading.{read_map, read_within}
-use Rattle.lsp_verdict.proofs.TextLogs.{of_held, of_offence, text_missing}
+use Rattle.lsp_verdict.proofs.TextLogs.{text_missing}
 use Rattle.lsp_verdict.proofs.UpTo.{reached_more, reached_past, reached_now, count-append, count_one}
 use Rattle.lsp_verdict.proofs.Verdicts.{no_found}
 use Rattle.lsp_judge.specs.LogEvents.{EndsAt, EndsBy, SoFar, Found, GivesText, failures_of}
@@ -40,6 +40,10 @@ use Rattle.lsp_judge.proofs.KeptEvents.{kept_clean, kept_no, kept_final}
 use Rattle.lsp_judge.proofs.LogEvents.{BeginsBy, known_terms, not_behind, so_far_by, so_far_clean, so_far_few, so_far_none, so_far_range}
 
 -- ---- the message came
+
+of_held : (terms : Terms) (uri : List ℕ) (v : Verdict) (upto : List Event) (o : Option (List Event)) → o ≡ Some upto → first_no terms upto ≡ None → held_answer (held terms uri (calls upto)) ≡ text_answer terms uri v o
+of_held terms uri v upto o reached clean =
+    sym (ap (λ w. if is_some w then missing_answer v else held_answer (held terms uri (calls upto))) clean) ∙ sym (ap (text_answer terms uri v) reached)
 
 -- **the events heard are those up to it**
 text_held : (limits : Bounds) (own : Format) (known : Option Format) (n : ℕ) (uri : List ℕ) (heard : List Event) → own ≡ format_or_one known → (known ≡ None → ⊥) → up_to_editor n [] heard ≡ Some heard → first_no (terms_of limits own) heard ≡ None
@@ -59,6 +63,16 @@ text_held limits own known n uri heard fits some reached clean log b =
     )
 
 -- ---- the verdict came before it
+
+of_offence : (terms : Terms) (n : ℕ) (uri : List ℕ) (v : Verdict) (before : List Event) (e : Event) (after events : List Event) → count_of (is_of Editor) before < n → first_no terms before ≡ None → no_at terms before e ≡ Some v → events ≡ before ++ e ∷ after
+    → missing_answer v ≡ text_answer terms uri v (up_to_editor n [] events)
+of_offence terms n uri v before e after events few clean offends cut = by_reached (up_to_editor n [] events) (sym (ap (up_to_editor n []) cut))
+  where
+    by_reached : (o : Option (List Event)) → up_to_editor n [] (before ++ e ∷ after) ≡ o → missing_answer v ≡ text_answer terms uri v o
+    by_reached None is = refl
+    by_reached (Some upto) is =
+        let past = reached_past n before e after upto few is in
+        sym (ap (λ w. if is_some w then missing_answer v else held_answer (held terms uri (calls upto))) (ap (first_no terms) past.1 ∙ no_found terms [] before past.0 e v clean offends))
 
 text_ended : (limits : Bounds) (n : ℕ) (uri : List ℕ) (heard : List Event) (v : Verdict) → count_of (is_of Editor) heard < n → (log : List ℕ) → EndsAt limits log heard v → AnswersText limits log n uri (missing_answer v)
 text_ended limits n uri heard v few log (whole, is) = by_first (first_no (log_terms limits whole.format) whole.final.events) refl

@@ -165,9 +165,3 @@ tells_end s m i before now after stop end result same is f e =
     let at : EndAnswer (record f.mid { tape = m.tape }) now after stop end = subst (λ (x : State). EndAnswer x now after stop end) f.same e in
     subst (λ (x : Result (Option Record) LogFault). TellsFormat x i.format) (sym is)
     (subst (λ (x : State). TellsFormat (answer_of end) x.format) (sym (same ∙ f.same)) (tells_at f.mid m.tape f.now now after stop end f.found at))
-
-pub keeps_then : (a b c : Option Format) → KeepsFormat a b → KeepsFormat b c → KeepsFormat a c
-keeps_then a b c p q format is = q format (p format is)
-
-pub none_keeps : (a b : Option Format) → a ≡ None → KeepsFormat a b
-none_keeps a b none format is = let clash : Some format ≡ None = sym is ∙ none in absurd cc

@@ -12,9 +12,6 @@ pub i32_fits : (v : ℤ) → SFits w32 v → is_i32 v ≡ true
 i32_fits (pos n) f = lt-ltb n (2 ^ 31) f.sfits
 i32_fits (negsuc n) f = lt-ltb n (2 ^ 31) f.sfits
 
-is_true : (b : Bool) → b ≡ true → IsTrue b
-is_true b e = e
-
 pub fits_shown : (limits : Bounds) (v : ℤ) (uri text : List ℕ) (short small : Bool) → is_i32 v ≡ true → IsUtf8 uri → IsUtf8 text → short ≡ is_within 1 8192 (length uri) → short ≡ true → small ≡ is_within 0 limits.document (length text)
     → IsTrue small ↔ Fits limits (shown v uri text)
 fits_shown limits v uri text short small version one other is_short held is_small = (

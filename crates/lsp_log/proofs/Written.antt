@@ -34,9 +34,6 @@ chunk_parts side front back =
     ap (λ (n : ℕ). with_feed (head_line (chunk_head side n)) ++ (with_feed (front ++ back) ++ [])) (length-append front back)
     ∙ ap (λ (w : List ℕ). with_feed (head_line (chunk_head side (length front + length back))) ++ w) (append-nil (with_feed (front ++ back)) ∙ append_assoc front back (10 ∷ []))
 
-pub chunk_alone : (side : Side) (bytes : List ℕ) → spelling (chunk side bytes) ≡ spelling (chunk side (bytes ++ []))
-chunk_alone side bytes = ap (λ (w : List ℕ). spelling (chunk side w)) (sym (append-nil bytes))
-
 pub shown_parts : (version : ℤ) (uri text : List ℕ) → spelling (shown version uri text) ≡ with_feed (head_line (shown_head version (length uri) (length text))) ++ (with_feed uri ++ with_feed text)
 shown_parts version uri text = ap (λ (w : List ℕ). with_feed (head_line (shown_head version (length uri) (length text))) ++ (with_feed uri ++ w)) (append-nil (with_feed text))
 
