@@ -1,6 +1,7 @@
 -- A request of the editor's is open at the end just where no later message answers it, and `exit` was sent just where a message is it.
 use Rattle.std.proofs.Common.{◌≡◌, ℕ, ◌+◌, Bool, true, false, not, ◌&&◌, ◌||◌, true≢false, List, [], ◌∷◌, ◌++◌, length, Option, Some, None, is_some, refl, sym, ap, ◌∙◌}
 use Rattle.std.specs.Prelude.{if◌then◌else◌}
+use Rattle.std.proofs.lemmas.Bool.{and_parts}
 use Rattle.lsp_rpc.specs.Ident.{Ident}
 use Rattle.lsp_rpc.specs.Act.{Act, initialize, initialized, shutdown, exit, did_open, did_change, did_close, did_save, cancel, progress, early, register, other}
 use Rattle.lsp_types.specs.declared.side.Side.{Side}
@@ -11,7 +12,7 @@ use Rattle.lsp_session.specs.Requests.{names, is_answered, open_entry, open_requ
 use Rattle.lsp_session.specs.Sent.{Sent, same_side, request_of, request_by, answered_id, is_exit, sends}
 use Rattle.lsp_verdict.specs.BroughtToEnd.{IsAskedAt, AllAnswered, HasUnanswered, HasExit}
 use Rattle.lsp_verdict.specs.Kept.{Answers}
-use Rattle.lsp_verdict.proofs.Below.{and_left, or_true}
+use Rattle.lsp_verdict.proofs.Below.{or_true}
 use Rattle.lsp_verdict.proofs.Finding.{same_split}
 
 -- ---- an answer among later messages
@@ -158,7 +159,7 @@ some_open messages e es is =
           let cut = same_split a.before o.before (a.asked ∷ (a.between ++ a.reply ∷ a.after)) (o.asked ∷ o.after) a.asked_at (sym a.whole ∙ o.whole) in
           let asked : a.asked ≡ o.asked = cc cut.1 in
           let later : a.between ++ a.reply ∷ a.after ≡ o.after = cc cut.1 in
-          let named = and_left (names (answered_id Editor a.reply) o.call.0) _ (sym (answers_is a.asked a.reply a.between o.call (ap (λ (m : Sent). m.side) asked ∙ o.by) (ap (λ (m : Sent). request_of m.message) asked ∙ o.asks)) ∙ a.fits) in
+          let named = (and_parts (names (answered_id Editor a.reply) o.call.0) _ (sym (answers_is a.asked a.reply a.between o.call (ap (λ (m : Sent). m.side) asked ∙ o.by) (ap (λ (m : Sent). request_of m.message) asked ∙ o.asks)) ∙ a.fits)).0 in
           true≢false (sym (answered_by o.call.0 a.between a.reply a.after named) ∙ ap (is_answered Editor o.call.0) later ∙ o.left),
     )
 
