@@ -11,3 +11,9 @@ returns-in_err-change-in-DidChange-clause-rule g c =
     let fits : SFits w32 c.in-DidChange.version = search rules in
     let rule = simp to_z-of_z at c.in_err-change-in-DidChange.ensures.rule in
     rw p.1 (λ made stands. rw (p.2, c.in-DidChange.is, ← c.as_str-in-DidChange.ensures.value, ← c.as_slice.ensures.value) (rule made stands))
+
+pub returns-in_ok-change-in-DidChange-clause-accepted : goal.returns-in_ok-change-in-DidChange-clause-accepted
+returns-in_ok-change-in-DidChange-clause-accepted g c =
+    let fits : SFits w32 c.in-DidChange.version = search rules in
+    let accepted = simp to_z-of_z at c.in_ok-change-in-DidChange.ensures.accepted in
+    λ made stands. rw (c.in-DidChange.is, ← c.as_str-in-DidChange.ensures.value, ← c.as_slice.ensures.value) (accepted made stands)
