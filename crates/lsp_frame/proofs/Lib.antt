@@ -9,5 +9,6 @@ pub mod Canonical
 pub mod PlainHeaders
 pub mod Steps
 pub mod Pulls
+pub mod Passing
 pub mod Telling
 pub mod Writing

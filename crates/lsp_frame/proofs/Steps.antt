@@ -108,7 +108,7 @@ push_stands s piece bytes contents stands = record {
   held = subst (λ (f : Option ℕ). RestAt f (pushed s piece) (stands.rest ++ piece)) (sym (same_fault_kept s.fault s piece)) (rest_pushed s.fault s stands.rest piece refl stands.held);
 }
 
-open_rest : (s : State) (rest : List ℕ) → s.fault ≡ None → RestAt s.fault s rest → rest ≡ s.rest
+pub open_rest : (s : State) (rest : List ℕ) → s.fault ≡ None → RestAt s.fault s rest → rest ≡ s.rest
 open_rest s rest none held = let at : RestAt None s rest = subst (λ (f : Option ℕ). RestAt f s rest) none held in at
 
 frame_stands : (old new : State) (content bytes : List ℕ) (contents : List (List ℕ)) → GivesFrame old new content → StandsFor old bytes contents → StepOf new bytes contents (Ok (Some content))

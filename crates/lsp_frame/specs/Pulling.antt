@@ -1,7 +1,14 @@
 -- What a decoder takes of a source.
-use Rattle.std.specs.Prelude.{◌≡◌, ℕ, ◌≤◌, List, [], ◌++◌, length}
+use Rattle.std.specs.Prelude.{◌≡◌, ℕ, ◌<◌, ◌≤◌, List, [], ◌∷◌, ◌++◌, length, Bool, true, false, None, Result, Ok, Err}
+use Rattle.std.specs.Io.KnownBytes.{IsAtEnd}
+use Rattle.lsp_frame.specs.Frame.{IsFrame}
+use Rattle.lsp_frame.specs.Start.{StartsUnfinished}
 use Rattle.lsp_frame.specs.Told.{Told, Gave, KeepsBytes, after_failure}
-use Rattle.lsp_frame.specs.Decoder.{State, StandsFor, pushed}
+use Rattle.lsp_frame.specs.Decoder.{State, StandsFor, empty, pushed}
+use Rattle.lsp_frame.specs.declared.decoder.Missing.{Missing}
+use Rattle.lsp_frame.specs.declared.decoder.PullFault.{PullFault}
+use Rattle.lsp_frame.specs.declared.decoder.PullFault.TheVariants.{Read, Memory}
+use Rattle.lsp_frame.specs.declared.io.Failed.{Failed}
 
 -- the source gave a piece of n bytes, at most so many, which was pushed
 pub record Pulls (old new : State) (before after : Told) (most n : ℕ) : Type 0 where
@@ -19,3 +26,57 @@ pub record PullFails (old new : State) (before after : Told) : Type 0 where
   pub failures : after.failures ≡ after_failure before.failures
   pub pushed : new ≡ pushed old []
   pub stands : (bytes : List ℕ) (contents : List (List ℕ)) → StandsFor old bytes contents → StandsFor new bytes contents
+
+-- ---- a content that is let go
+
+-- the rest begins with a frame, of whose content bytes are missing
+pub record Misses (s : State) (missing : Missing) : Type 0 where
+  pub no_fault : s.fault ≡ None
+  pub begun : 0 < length s.rest
+  pub some : 0 < missing.bytes
+  pub whole : (piece : List ℕ) → length piece ≡ missing.bytes → (content : List ℕ) × IsFrame s.limits (s.rest ++ piece) content × (length content ≡ missing.content)
+  pub unfinished : (piece : List ℕ) → length piece < missing.bytes → StartsUnfinished s.limits (s.rest ++ piece)
+
+-- the source gave so many bytes
+pub record GavePast (before after : Told) (n : ℕ) : Type 0 where
+  pub piece : List ℕ
+  pub gave : Gave before after piece
+  pub failures : after.failures ≡ before.failures
+  pub count : length piece ≡ n
+
+-- the source failed before it had given so many bytes
+pub record FailsPast (before after : Told) (most : ℕ) : Type 0 where
+  pub middle : Told
+  pub n : ℕ
+  pub past : GavePast before middle n
+  pub fewer : n < most
+  pub keeps : KeepsBytes middle after
+  pub failures : after.failures ≡ after_failure middle.failures
+
+-- so many bytes were given, fewer only at the end of the source
+abbrev pub GoesPast : Told → Told → ℕ → Result ℕ Failed → Type 0
+GoesPast before after most (Ok n) = GavePast before after n × (n ≤ most) × (n < most → IsAtEnd after.bytes)
+GoesPast before after most (Err failed) = FailsPast before after most
+
+-- all that was missing was given, and so the content
+pub record PassesAll (old new : State) (before after : Told) (missing : Missing) : Type 0 where
+  pub past : GavePast before after missing.bytes
+  pub content : List ℕ
+  pub len : length content ≡ missing.content
+  pub let_go : new ≡ empty old.limits
+  pub stands : (bytes : List ℕ) (contents : List (List ℕ))
+      → StandsFor old bytes contents → StandsFor new (bytes ++ past.piece) (contents ++ content ∷ [])
+
+-- the source ended before
+pub record EndsBefore (old new : State) (before after : Told) (missing : Missing) : Type 0 where
+  pub n : ℕ
+  pub past : GavePast before after n
+  pub fewer : n < missing.bytes
+  pub end : IsAtEnd after.bytes
+  pub kept : new ≡ pushed old []
+
+abbrev pub Passes : State → State → Told → Told → Missing → Result Bool PullFault → Type 0
+Passes old new before after missing (Ok true) = PassesAll old new before after missing
+Passes old new before after missing (Ok false) = EndsBefore old new before after missing
+Passes old new before after missing (Err Read) = FailsPast before after missing.bytes × (new ≡ pushed old [])
+Passes old new before after missing (Err Memory) = (new ≡ old) × (after ≡ before)

@@ -1,11 +1,11 @@
 //! Frames from bytes that come in pieces (LSP 3.17, "Base Protocol").
-ghost use Rattle.std.specs.Prelude.{◌≡◌, ◌≤◌, ◌<◌, ◌+◌, ◌-◌, ◌^◌, ℕ, List, [], ◌++◌, length, take, drop, vec_len, Some, None, Err, Result, IsSome, IsOk, IfOk, OnOk, OnErr};
+ghost use Rattle.std.specs.Prelude.{◌≡◌, ◌≤◌, ◌<◌, ◌+◌, ◌-◌, ◌^◌, ℕ, List, [], ◌++◌, length, take, drop, vec_len, Some, None, Err, Result, IfSome, IsSome, IsOk, IfOk, OnOk, OnErr};
 ghost use Rattle.std.specs.Io.KnownBytes.{IsAtEnd};
 ghost use Rattle.std.specs.Borrow.{sem};
 ghost use Rattle.lsp_frame.specs.Frame.{Frames, IsStream};
 ghost use Rattle.lsp_frame.specs.Decoder.{empty, pushed, held_of, finish_of, StandsFor};
 ghost use Rattle.lsp_frame.specs.Buffer.{Advances, ReadsAhead, last_of};
-ghost use Rattle.lsp_frame.specs.Pulling.{Pulls, PullFails};
+ghost use Rattle.lsp_frame.specs.Pulling.{Pulls, PullFails, Misses, GoesPast, Passes};
 ghost use Rattle.lsp_frame.specs.Lending.{LendsContent};
 
 use crate::io::{Failed, Source};
@@ -16,6 +16,9 @@ use lsp_types::Memory;
 use std::alloc::{AllocError, Global};
 use std::marker::Model;
 use thiserror::Error;
+
+/// How many bytes of a content that is let go are asked of a source at once.
+const WINDOW: usize = 65_536;
 
 /// A fault of a stream of frames, by its rule:
 ///
@@ -63,6 +66,13 @@ impl From<Failed> for PullFault {
     fn from(_failed: Failed) -> PullFault {
         PullFault::Read
     }
+}
+
+/// A content of which the last bytes are missing: how long it is, and how many they are.
+#[derive(Clone, Copy)]
+pub struct Missing {
+    pub content: usize,
+    pub bytes: usize,
 }
 
 /// Takes the bytes of a stream in pieces of any size, and lends the contents of its frames one by one.
@@ -158,6 +168,23 @@ fn push_after(
     Ok(())
 }
 
+/// Takes so many bytes of a source, one window over another. It gives fewer only at its end.
+fn go_past<R: Source>(source: &mut R, window: &mut [u8], most: usize) -> Result<usize, Failed>
+    requires { 0 < length window.old }
+    ensures { GoesPast (R.told source.old) (R.told source.new) most result }
+{
+    let mut past = 0;
+    while past < most {
+        let wanted = window.len().min(most - past);
+        let count = source.pull(&mut window[..wanted])?;
+        if count == 0 {
+            return Ok(past);
+        }
+        past += count;
+    }
+    Ok(past)
+}
+
 impl Decoder {
     /// A decoder of a stream's first byte. It takes memory from `alloc` as bytes are pushed.
     pub fn new(alloc: Global, limits: Limits) -> Decoder
@@ -212,6 +239,46 @@ impl Decoder {
         let count = source.pull(&mut self.buffer[self.end..end])?;
         self.end += count;
         Ok(count)
+    }
+
+    /// The next content, where it was waited for and its last bytes are missing.
+    pub fn missing(&self) -> Option<Missing>
+        ensures { IfSome result (λ missing. Misses self.now missing) }
+    {
+        if self.fault.is_some() {
+            return None;
+        }
+        let size = self.ahead?;
+        let held = self.end - self.start - size.header;
+        if size.content <= held {
+            return None;
+        }
+        Some(Missing {
+            content: size.content,
+            bytes: size.content - held,
+        })
+    }
+
+    /// Takes what is missing of the next content straight from a source, and lets this content go: it is given, but not
+    /// lent, and never held as a whole. `false` where the source ended before, and nothing is given then.
+    pub fn pass<R: Source>(&mut self, source: &mut R, missing: Missing) -> Result<bool, PullFault>
+        requires { Misses self.old missing }
+        ensures { Passes self.old self.new (R.told source.old) (R.told source.new) missing result }
+    {
+        make_room(
+            &mut self.buffer,
+            self.start,
+            self.end,
+            missing.bytes.min(WINDOW),
+        )?;
+        self.end -= self.start;
+        self.start = 0;
+        if go_past(source, &mut self.buffer[self.end..], missing.bytes)? < missing.bytes {
+            return Ok(false);
+        }
+        self.end = 0;
+        self.ahead = None;
+        Ok(true)
     }
 
     fn append(&mut self, piece: &[u8]) -> Result<(), Memory>

@@ -21,7 +21,7 @@ mod start;
 mod write;
 
 pub use bytes::{after_byte, all_digits, number_up_to};
-pub use decoder::{Decoder, FrameFault, PullFault};
+pub use decoder::{Decoder, FrameFault, Missing, PullFault};
 pub use format::Format;
 pub use io::{Failed, Input, Output, Sink, Source};
 pub use laws::{

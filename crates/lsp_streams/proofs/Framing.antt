@@ -4,5 +4,6 @@ pub mod Lines
 pub mod Found
 pub mod Due
 pub mod Runs
+pub mod Long
 pub mod Endings
 pub mod Outputs

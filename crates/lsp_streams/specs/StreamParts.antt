@@ -11,15 +11,15 @@ use Rattle.lsp_verdict.specs.declared.outcome.Outcome.TheVariants.{Done, Stream}
 use Rattle.lsp_verdict.specs.declared.outcome.StreamFault.{StreamFault}
 use Rattle.lsp_verdict.specs.declared.outcome.StreamFault.TheVariants.{Rule}
 
--- the number of the frame, a space, the bytes of its content, and an end
-abbrev pub numbers : ℕ → List ℕ → List ℕ → List ℕ
-numbers frame content end = decimal frame ++ (codes " " ++ decimal (length content) ++ end)
+-- the number of the frame, a space, how many bytes its content has, and an end
+abbrev pub numbers : ℕ → ℕ → List ℕ → List ℕ
+numbers frame len end = decimal frame ++ (codes " " ++ decimal len ++ end)
 
 abbrev pub length_line : ℕ → List ℕ → List ℕ
-length_line frame content = numbers frame content (codes "\n")
+length_line frame content = numbers frame (length content) (codes "\n")
 
 abbrev pub kind_line : ℕ → List ℕ → List ℕ → List ℕ
-kind_line frame content words = numbers frame content (codes " ") ++ (words ++ codes "\n")
+kind_line frame content words = numbers frame (length content) (codes " ") ++ (words ++ codes "\n")
 
 -- the mode writes this part for the frame of this number and content
 abbrev pub IsPart : Mode → ℕ → List ℕ → List ℕ → Type 0

@@ -1,14 +1,17 @@
 -- What the steps of a run answer.
-use Rattle.std.specs.Prelude.{◌≡◌, ◌⊎◌, ℕ, ◌+◌, ◌≤◌, List, [], ◌∷◌, ◌++◌, length, Option, Some, None, false, Result, Ok, Err}
+use Rattle.std.specs.Prelude.{◌≡◌, ◌⊎◌, ℕ, ◌+◌, ◌≤◌, List, [], ◌∷◌, ◌++◌, length, Option, Some, None, Bool, true, false, Result, Ok, Err}
 use Rattle.lsp_frame.specs.Bounds.{Bounds}
 use Rattle.lsp_frame.specs.Frame.{Frames}
 use Rattle.lsp_frame.specs.Sink.{Wrote, Stopped}
-use Rattle.lsp_frame.specs.Told.{Told, Took}
+use Rattle.lsp_frame.specs.Told.{Told, Gave, Took}
+use Rattle.lsp_frame.specs.Pulling.{Misses}
+use Rattle.lsp_frame.specs.declared.decoder.Missing.{Missing}
 use Rattle.lsp_frame.specs.Decoder.{State, StandsFor, EndsWith}
-use Rattle.lsp_streams.specs.StreamParts.{IsPart, Refuses}
+use Rattle.lsp_streams.specs.StreamParts.{IsPart, Refuses, outcome_at}
 use Rattle.lsp_verdict.specs.RunIo.{HasRead, OfRead, source_failures, sink_failures}
-use Rattle.lsp_streams.specs.StreamRun.{HasParts}
+use Rattle.lsp_streams.specs.StreamRun.{fault_of, HasParts}
 use Rattle.lsp_verdict.specs.declared.outcome.Mode.{Mode}
+use Rattle.lsp_verdict.specs.declared.outcome.Mode.TheVariants.{Lengths}
 use Rattle.lsp_verdict.specs.declared.outcome.Outcome.{Outcome}
 use Rattle.lsp_verdict.specs.declared.outcome.RunFault.{RunFault}
 use Rattle.lsp_verdict.specs.declared.outcome.RunFault.TheVariants as faults
@@ -102,3 +105,40 @@ pub record BrokeOff (limits : Bounds) (mode : Mode) (before after sink_before si
 abbrev pub PartsAnswer : Bounds → Mode → Told → Told → Told → Told → Result Outcome RunFault → Type 0
 PartsAnswer limits mode before after sink_before sink_after (Ok outcome) = WroteParts limits mode before after sink_before sink_after outcome
 PartsAnswer limits mode before after sink_before sink_after (Err fault) = BrokeOff limits mode before after sink_before sink_after fault
+
+-- ---- a run so far
+
+pub record SoFar (limits : Bounds) (mode : Mode) (before now sink_before sink_now : Told) (d : State) (given read : ℕ) : Type 0 where
+  pub bytes : List ℕ
+  pub contents : List (List ℕ)
+  pub parts : List ℕ
+  pub took : Gave before now bytes
+  pub no_fault : now.failures ≡ before.failures
+  pub len : length bytes ≡ read
+  pub stands : StandsFor d bytes contents
+  pub are_parts : AreParts mode 1 contents parts
+  pub wrote : Wrote sink_before sink_now parts
+  pub count : given ≡ length contents
+  pub room : given + length d.rest ≤ read
+  pub within : read ≤ limits.log
+  pub same_limits : d.limits ≡ limits
+
+-- the same once the parts of all that was pushed are written
+pub record ToldAll (limits : Bounds) (mode : Mode) (before now sink_before sink_now : Told) (d : State) (given read : ℕ) : Type 0 where
+  pub so_far : SoFar limits mode before now sink_before sink_now d given read
+  pub ends : EndsWith d so_far.bytes so_far.contents None
+
+-- ---- a content of which only the length is due
+
+-- the content is measured, it is long, and no more is missing than may be read
+pub record IsLong (d : State) (mode : Mode) (left : ℕ) (missing : Missing) : Type 0 where
+  pub misses : Misses d missing
+  pub mode_is : mode ≡ Lengths
+  pub within : missing.bytes ≤ left
+
+-- the content was let go and its part written, or the source ended inside it, or a fault came
+abbrev pub LongAnswer : Bounds → Mode → Told → Told → Told → Told → State → ℕ → ℕ → Result Bool RunFault → Type 0
+LongAnswer limits mode before after sink_before sink_after d given read (Ok true) = SoFar limits mode before after sink_before sink_after d given read
+LongAnswer limits mode before after sink_before sink_after d given read (Ok false) =
+    (outcome : Outcome) → (d.fault ≡ None → outcome ≡ outcome_at (given + 1) (fault_of None false d.rest)) → WroteParts limits mode before after sink_before sink_after outcome
+LongAnswer limits mode before after sink_before sink_after d given read (Err fault) = BrokeOff limits mode before after sink_before sink_after fault

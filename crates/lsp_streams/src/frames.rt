@@ -1,18 +1,20 @@
 //! A run over one raw stream of frames (LSP 3.17, "Base Protocol"): one direction of what passed
 //! between an editor and a server.
-ghost use Rattle.std.specs.Prelude.{◌≡◌, ◌≤◌, ◌<◌, ◌+◌, ◌^◌, ◌∷◌, ◌++◌, [], ℕ, List, length, drop, decimal, None, false, Ok, IfOk, OnErr};
+ghost use Rattle.std.specs.Prelude.{◌≡◌, ◌≤◌, ◌<◌, ◌+◌, ◌^◌, ◌∷◌, ◌++◌, [], ℕ, List, length, drop, decimal, None, false, Ok, IfOk, IfSome, OnErr};
 ghost use Rattle.std.specs.Io.KnownBytes.{IsAtEnd};
-ghost use Rattle.lsp_frame.specs.Bounds.{IsInRange};
+ghost use Rattle.lsp_frame.specs.Bounds.{Bounds, IsInRange};
 ghost use Rattle.lsp_frame.specs.Decoder.{StandsFor};
 ghost use Rattle.lsp_frame.specs.Sink.{Writes};
-ghost use Rattle.lsp_frame.specs.Told.{Took};
+ghost use Rattle.lsp_frame.specs.Told.{Told, Took};
+ghost use Rattle.lsp_frame.specs.Pulling.{Misses};
 ghost use Rattle.lsp_streams.specs.StreamParts.{numbers, kind_line, outcome_at};
 ghost use Rattle.lsp_verdict.specs.RunIo.{OfRead, GaveAtMost, Tells, source_failures, sink_failures};
 ghost use Rattle.lsp_streams.specs.StreamRun.{fault_of, closing, IsRun, BeginsRun};
-ghost use Rattle.lsp_streams.specs.StreamSteps.{WritesPart, AreParts, Finds, PartsAnswer};
+ghost use Rattle.lsp_streams.specs.StreamSteps.{WritesPart, AreParts, Finds, PartsAnswer, ToldAll, IsLong, LongAnswer};
+ghost use Rattle.lsp_verdict.specs.declared.outcome.Mode.TheVariants.{Lengths};
 
 use itoa::write_digits;
-use lsp_frame::{Decoder, Limits, PullFault, Sink, Source, WriteFault, put_all, write_frame};
+use lsp_frame::{Decoder, Limits, Missing, Sink, Source, WriteFault, put_all, write_frame};
 use lsp_rpc::{OutlineReader, RpcFault};
 use lsp_verdict::{Mode, Outcome, RunFault, StreamFault, stream_report};
 use std::alloc::Global;
@@ -33,19 +35,14 @@ fn fill_number(line: &mut [u8], number: u64, end: usize) -> usize
 }
 
 /// Writes the frame's number, the length of its content in bytes, and the end.
-fn write_numbers<W: Sink>(
-    writer: &mut W,
-    frame: u64,
-    content: &[u8],
-    end: u8,
-) -> Result<(), WriteFault>
+fn write_numbers<W: Sink>(writer: &mut W, frame: u64, len: u64, end: u8) -> Result<(), WriteFault>
     ensures { Writes (W.told writer.old)
         (W.told writer.new)
-        result (numbers frame content.now (end ∷ [])) }
+        result (numbers frame len (end ∷ [])) }
 {
     // Filled from behind, so that the line is put at once.
     let mut line = [end; LINE];
-    let size = fill_number(&mut line, content.len() as u64, LINE - 1);
+    let size = fill_number(&mut line, len, LINE - 1);
     line[size - 1] = b' ';
     let start = fill_number(&mut line, frame, size - 1);
     put_all(writer, &line[start..])
@@ -62,7 +59,7 @@ fn write_kind_line<W: Sink>(
         (W.told writer.new)
         result (kind_line frame content.now words.now) }
 {
-    write_numbers(writer, frame, content, b' ')?;
+    write_numbers(writer, frame, content.len() as u64, b' ')?;
     put_all(writer, words)?;
     put_all(writer, b"\n")
 }
@@ -100,7 +97,7 @@ fn write_part<W: Sink>(
         result }
 {
     match mode {
-        Mode::Lengths => write_numbers(writer, frame, content, b'\n')?,
+        Mode::Lengths => write_numbers(writer, frame, content.len() as u64, b'\n')?,
         Mode::Canonical => write_frame(writer, content)?,
         Mode::Kinds => return write_kind(messages, writer, frame, content),
     }
@@ -137,6 +134,46 @@ fn write_found<W: Sink>(
             }
         }
     }
+}
+
+/// The next content, where only its length is due, many bytes of it are missing, and at most so
+/// many may be read.
+fn long_content(decoder: &Decoder, mode: Mode, left: u64) -> Option<Missing>
+    ensures { IfSome result (λ missing. IsLong decoder.now mode left missing) }
+{
+    if mode != Mode::Lengths {
+        return None;
+    }
+    let missing = decoder.missing()?;
+    if !(PIECE..=left).contains(&(missing.bytes as u64)) {
+        return None;
+    }
+    Some(missing)
+}
+
+/// Lets a long content go and writes its length. `false` where the source ended inside it.
+fn write_long<R: Source, W: Sink>(
+    decoder: &mut Decoder,
+    reader: &mut R,
+    writer: &mut W,
+    given: &mut u64,
+    missing: Missing,
+) -> Result<bool, RunFault>
+    requires missing { Misses decoder.old missing }
+    requires room { given.old < 2 ^ 63 }
+    ensures count { given.new ≤ given.old + 1 }
+    ensures answer { (limits : Bounds) (before sink_before : Told) (read : ℕ) →
+        ToldAll limits Lengths before (R.told reader.old) sink_before (W.told writer.old) decoder.old given.old read
+        → read + missing.bytes ≤ limits.log
+        → LongAnswer limits Lengths before (R.told reader.new) sink_before (W.told writer.new)
+        decoder.new given.new (read + missing.bytes) result }
+{
+    if !decoder.pass(reader, missing)? {
+        return Ok(false);
+    }
+    write_numbers(writer, *given + 1, missing.content as u64, b'\n')?;
+    *given += 1;
+    Ok(true)
 }
 
 /// The outcome where the source is at its end and the decoder has no whole frame left.
@@ -178,13 +215,16 @@ fn write_parts<R: Source, W: Sink>(
                 fault: StreamFault::Rule(rule),
             });
         }
+        if let Some(missing) = long_content(&decoder, mode, log - read) {
+            if !write_long(&mut decoder, reader, writer, &mut given, missing)? {
+                return Ok(outcome_at_end(&decoder, given));
+            }
+            read += missing.bytes as u64;
+            continue;
+        }
         // At the limit one byte more shows whether the stream goes on.
         let most = (log - read).min(PIECE).max(1) as u32;
-        let count = match decoder.pull(reader, most) {
-            Ok(count) => count,
-            Err(PullFault::Read) => return Err(RunFault::Read),
-            Err(PullFault::Memory) => return Err(RunFault::Memory),
-        };
+        let count = decoder.pull(reader, most)?;
         if count == 0 {
             return Ok(outcome_at_end(&decoder, given));
         }

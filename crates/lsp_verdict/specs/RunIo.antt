@@ -4,6 +4,8 @@ use Rattle.std.specs.Io.KnownBytes.{IsAtEnd}
 use Rattle.lsp_frame.specs.Bounds.{Bounds}
 use Rattle.lsp_frame.specs.Sink.{Wrote, Stopped}
 use Rattle.lsp_frame.specs.Told.{Told, Gave, Took, after_failure}
+use Rattle.lsp_frame.specs.declared.decoder.PullFault.{PullFault}
+use Rattle.lsp_frame.specs.declared.decoder.PullFault.TheVariants as pulls
 use Rattle.lsp_verdict.specs.declared.outcome.Outcome.{Outcome}
 use Rattle.lsp_verdict.specs.declared.outcome.RunFault.{RunFault}
 use Rattle.lsp_verdict.specs.declared.outcome.RunFault.TheVariants as faults
@@ -55,6 +57,11 @@ TellsSome old new bytes (Err faults.Memory) = WroteSome old new bytes
 TellsSome old new bytes (Err faults.Read) = ⊥
 
 -- ---- failures
+
+-- the fault of a run whose decoder could not pull
+abbrev pub of_pull : PullFault → RunFault
+of_pull pulls.Read = faults.Read
+of_pull pulls.Memory = faults.Memory
 
 -- a source has failed once more after a read fault, and no more after anything else
 abbrev pub failures_after : RunFault → ℕ → ℕ

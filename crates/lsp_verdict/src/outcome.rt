@@ -1,6 +1,6 @@
 //! What is asked of a run, and how it ends.
 use crate::verdict::Verdict;
-use lsp_frame::WriteFault;
+use lsp_frame::{PullFault, WriteFault};
 use lsp_rpc::Memory;
 use std::alloc::AllocError;
 use std::error::Error;
@@ -89,6 +89,20 @@ impl From<AllocError> for RunFault {
 
     fn from(_error: AllocError) -> RunFault {
         RunFault::Memory
+    }
+}
+
+impl From<PullFault> for RunFault {
+    ghost use Rattle.std.specs.Prelude.{◌≡◌};
+    ghost use Rattle.lsp_verdict.specs.RunIo.{of_pull};
+
+    ghost from_gives = { λ pull fault. fault ≡ of_pull pull };
+
+    fn from(fault: PullFault) -> RunFault {
+        match fault {
+            PullFault::Read => RunFault::Read,
+            PullFault::Memory => RunFault::Memory,
+        }
     }
 }
 

@@ -1,6 +1,6 @@
 -- A run over the parts of a stream so far, and its ends.
 use Rattle.std.specs.Prelude.{nat_lt}
-use Rattle.std.proofs.Common.{◌≡◌, ℕ, ◌+◌, ◌-◌, ◌≤◌, ◌<◌, List, [], ◌∷◌, ◌++◌, length, take, Bool, true, false, Option, Some, None, Err, refl, sym, ap, subst, ◌∙◌, append_assoc, arith, inl, inr}
+use Rattle.std.proofs.Common.{◌≡◌, ℕ, ◌+◌, ◌-◌, ◌≤◌, ◌<◌, List, [], ◌∷◌, ◌++◌, length, take, Bool, true, false, Option, Some, None, Result, Err, refl, sym, ap, subst, ◌∙◌, append_assoc, arith, inl, inr}
 use Rattle.std.specs.Io.KnownBytes.{IsAtEnd}
 use Rattle.std.proofs.lemmas.Bool.{false≢true, lt-ltb, le-ltb}
 use Rattle.std.proofs.lemmas.List.{append-nil, length-append, nil_from_length, take_all, take_at}
@@ -9,7 +9,9 @@ use Rattle.lsp_frame.specs.Frame.{Frames, IsStream}
 use Rattle.lsp_frame.specs.Sink.{Wrote}
 use Rattle.lsp_frame.specs.Told.{Told, Gave, KeepsBytes, after_failure}
 use Rattle.lsp_frame.specs.Decoder.{State, StandsFor, EndsWith, empty, pushed, pushed_at}
-use Rattle.lsp_frame.specs.Pulling.{Pulls}
+use Rattle.lsp_frame.specs.Pulling.{Pulls, PullFails}
+use Rattle.lsp_frame.specs.declared.decoder.PullFault.{PullFault}
+use Rattle.lsp_frame.specs.declared.decoder.PullFault.TheVariants as pulls
 use Rattle.lsp_frame.proofs.Frames.{frames_first, frames_more, faulty_more}
 use Rattle.lsp_frame.proofs.Readings.{some_stream}
 use Rattle.lsp_frame.proofs.Steps.{new_stands}
@@ -22,32 +24,12 @@ use Rattle.lsp_verdict.specs.declared.outcome.RunFault.{RunFault}
 use Rattle.lsp_verdict.specs.declared.outcome.RunFault.TheVariants as faults
 use Rattle.lsp_verdict.specs.declared.outcome.StreamFault.TheVariants.{Rule, TooLong}
 use Rattle.lsp_streams.specs.StreamParts.{Refuses, outcome_at, RunsThrough}
-use Rattle.lsp_verdict.specs.RunIo.{source_failures, sink_failures}
+use Rattle.lsp_verdict.specs.RunIo.{of_pull, source_failures, sink_failures}
 use Rattle.lsp_streams.specs.StreamRun.{fault_of, HasParts}
-use Rattle.lsp_streams.specs.StreamSteps.{AreParts, FoundAll, StopsAt, FoundFault, FoundBroken, Finds, WroteParts, BrokeOff}
+use Rattle.lsp_streams.specs.StreamSteps.{AreParts, FoundAll, StopsAt, FoundFault, FoundBroken, Finds, WroteParts, BrokeOff, SoFar, ToldAll}
 use Rattle.lsp_streams.proofs.Framing.Parts.{run_through, run_refused}
 use Rattle.lsp_streams.proofs.Framing.Due.{stream_front}
 use Rattle.lsp_streams.proofs.SameLimits.{frames_at, stream_at}
-
-pub record SoFar (limits : Bounds) (mode : Mode) (before now sink_before sink_now : Told) (d : State) (given read : ℕ) : Type 0 where
-  pub bytes : List ℕ
-  pub contents : List (List ℕ)
-  pub parts : List ℕ
-  pub took : Gave before now bytes
-  pub no_fault : now.failures ≡ before.failures
-  pub len : length bytes ≡ read
-  pub stands : StandsFor d bytes contents
-  pub are_parts : AreParts mode 1 contents parts
-  pub wrote : Wrote sink_before sink_now parts
-  pub count : given ≡ length contents
-  pub room : given + length d.rest ≤ read
-  pub within : read ≤ limits.log
-  pub same_limits : d.limits ≡ limits
-
--- the same once the parts of all that was pushed are written
-pub record ToldAll (limits : Bounds) (mode : Mode) (before now sink_before sink_now : Told) (d : State) (given read : ℕ) : Type 0 where
-  pub so_far : SoFar limits mode before now sink_before sink_now d given read
-  pub ends : EndsWith d so_far.bytes so_far.contents None
 
 pub told_all : (limits : Bounds) (mode : Mode) (before now sink_before sink_now sink_new : Told) (d e : State) (given given' read : ℕ) (so_far : SoFar limits mode before now sink_before sink_now d given read)
     → FoundAll e mode sink_now sink_new given' so_far.bytes so_far.parts → e.limits ≡ d.limits → given' + length e.rest ≤ given + length d.rest → ToldAll limits mode before now sink_before sink_new e given' read
@@ -75,7 +57,7 @@ told_all limits mode before now sink_before sink_now sink_new d e given given' r
 -- ---- faults of the reader, of the writer and of memory
 
 -- the run stopped while parts were written
-found_broke : (limits : Bounds) (mode : Mode) (before now sink_before sink_now sink_new : Told) (d e : State) (given read : ℕ) (fault : RunFault) (so_far : SoFar limits mode before now sink_before sink_now d given read)
+pub found_broke : (limits : Bounds) (mode : Mode) (before now sink_before sink_now sink_new : Told) (d e : State) (given read : ℕ) (fault : RunFault) (so_far : SoFar limits mode before now sink_before sink_now d given read)
     → FoundBroken e mode sink_now sink_new so_far.bytes so_far.parts fault → e.limits ≡ d.limits → source_failures (Err fault) before.failures ≡ before.failures → sink_failures (Err fault) sink_now.failures ≡ sink_failures (Err fault) sink_before.failures
     → BrokeOff limits mode before now sink_before sink_new fault
 found_broke limits mode before now sink_before sink_now sink_new d e given read fault so_far found same source sink =
@@ -170,6 +152,15 @@ read_broke limits mode before now after sink_before sink_now d given read told k
       source = failed ∙ ap after_failure so_far.no_fault;
       sink = so_far.wrote.failures;
     }
+
+abbrev failed_pull : PullFault → Result ℕ PullFault
+failed_pull fault = Err fault
+
+-- a pull took nothing
+pub pull_broke : (limits : Bounds) (mode : Mode) (before now after sink_before sink_now : Told) (d e : State) (given read : ℕ) (fault : PullFault) (told : ToldAll limits mode before now sink_before sink_now d given read)
+    → (failed_pull fault ≡ failed_pull pulls.Read → PullFails d e now after) → (failed_pull fault ≡ failed_pull pulls.Memory → (e ≡ d) × (after ≡ now)) → BrokeOff limits mode before after sink_before sink_now (of_pull fault)
+pull_broke limits mode before now after sink_before sink_now d e given read pulls.Read told failed refused = read_broke limits mode before now after sink_before sink_now d given read told (failed refl).keeps (failed refl).failures
+pull_broke limits mode before now after sink_before sink_now d e given read pulls.Memory told failed refused = memory_broke limits mode before now after sink_before sink_now d given read told (refused refl).1
 
 -- ---- the ends of a run
 
@@ -267,7 +258,7 @@ end_ran limits mode before now after sink_before sink_now d given read outcome t
       };
     }
 
-pushed_open : (d : State) (piece : List ℕ) → d.fault ≡ None → pushed d piece ≡ record d { kept = []; rest = d.rest ++ piece }
+pub pushed_open : (d : State) (piece : List ℕ) → d.fault ≡ None → pushed d piece ≡ record d { kept = []; rest = d.rest ++ piece }
 pushed_open d piece none = ap (λ (f : Option ℕ). pushed_at f d piece) none
 
 -- a pull that gave nothing, at the end of the source
@@ -315,7 +306,7 @@ too_long_ran limits mode before now after sink_before sink_now d given read byte
 
 -- ---- the next piece
 
-push_on : (limits : Bounds) (mode : Mode) (before now after sink_before sink_now : Told) (d e : State) (given read : ℕ) (piece : List ℕ) (told : ToldAll limits mode before now sink_before sink_now d given read)
+unfoldable pub push_on : (limits : Bounds) (mode : Mode) (before now after sink_before sink_now : Told) (d e : State) (given read : ℕ) (piece : List ℕ) (told : ToldAll limits mode before now sink_before sink_now d given read)
     → Gave now after piece → after.failures ≡ now.failures → e ≡ pushed d piece → StandsFor e (told.so_far.bytes ++ piece) told.so_far.contents → read + length piece ≤ limits.log
     → SoFar limits mode before after sink_before sink_now e given (read + length piece)
 push_on limits mode before now after sink_before sink_now d e given read piece told took no_fault is stands fits =

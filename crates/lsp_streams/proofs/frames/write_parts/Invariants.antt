@@ -1,5 +1,5 @@
 use Rattle.std.proofs.Common.{◌-◌, ◌+◌}
-use Rattle.lsp_streams.proofs.Framing.Runs.{SoFar}
+use Rattle.lsp_streams.specs.StreamSteps.{SoFar}
 use Rattle.lsp_streams.proofs.frames.write_parts.Given as goal
 
 abbrev pub invariant-loop-messages : goal.invariant-loop-messages
