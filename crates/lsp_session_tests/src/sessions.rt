@@ -6,7 +6,8 @@
 //! begins a new session.
 use lsp_rpc::{Id, RpcFault, Side, act_of, read};
 use lsp_session::{Pending, Refusal, Session};
-use std::test::Fail;
+use std::alloc::Global;
+use std::process::Abort;
 
 /// The contents, each behind its name.
 const CONTENTS: &str =
@@ -206,144 +207,127 @@ editor initialize 0
 editor exit 0
 lacks 303";
 
-fn content_of(name: &str) -> Option<&'static str> {
+/// The first word, and the others.
+fn split_word(line: &str) -> (&str, &str) {
+    line.split_once(' ').unwrap_or((line, ""))
+}
+
+fn content_of(name: &str) -> &'static str {
     for line in CONTENTS.lines() {
-        if let Some((found, content)) = line.split_once(' ') {
-            if found == name {
-                return Some(content);
-            }
+        let (found, content) = split_word(line);
+        if found == name {
+            return content;
         }
     }
-    None
+    ""
 }
 
-fn refusal_of(fault: RpcFault) -> Refusal {
+fn rule_of(fault: RpcFault) -> u16 {
     match fault {
-        RpcFault::Rule(rule) => Refusal::Rule(rule),
-        RpcFault::Memory => Refusal::Memory,
+        RpcFault::Rule(rule) => rule,
+        RpcFault::Memory => 1,
     }
 }
 
-fn admit(
-    rt: &HostRuntime,
-    session: &mut Session,
-    side: Side,
-    content: &str,
-) -> Result<(), Refusal> {
-    let message = read(rt.alloc(), content.as_bytes()).map_err(refusal_of)?;
-    let act = act_of(rt.alloc(), &message, side).map_err(refusal_of)?;
-    session.admit(side, &message, &act)
-}
-
-/// Runs a line of a message, and tells whether it breaks the rule that the line names.
-fn keeps_word(rt: &HostRuntime, session: &mut Session, line: &str) -> Option<bool> {
-    let (side, rest) = line.split_once(' ')?;
-    let (name, rule) = rest.split_once(' ')?;
-    let side = if side == "editor" {
-        Side::Editor
-    } else {
-        Side::Server
+/// The rule that a message breaks by itself or in a session; 0 stands for none, and 1 for want of memory.
+fn admitted(alloc: Global, session: &mut Session, side: Side, content: &str) -> u16 {
+    let message = match read(alloc, content.as_bytes()) {
+        Ok(message) => message,
+        Err(fault) => return rule_of(fault),
     };
-    let rule: u16 = rule.parse().ok()?;
-    let answer = match admit(rt, session, side, content_of(name)?) {
+    let act = match act_of(alloc, &message, side) {
+        Ok(act) => act,
+        Err(fault) => return rule_of(fault),
+    };
+    match session.admit(side, &message, &act) {
         Ok(()) => 0,
         Err(Refusal::Rule(rule)) => rule,
-        Err(Refusal::Memory) => return None,
-    };
-    Some(answer == rule)
+        Err(Refusal::Memory) => 1,
+    }
 }
 
-fn cancelled_of(pending: &Pending) -> usize {
-    (0..pending.len())
-        .filter(|index| pending.at(*index).is_some_and(|request| request.cancelled))
-        .count()
+/// Whether a text is this number.
+fn is_number(text: &str, number: u16) -> bool {
+    text.parse() == Ok(number)
 }
 
-fn state_of(rt: &HostRuntime, session: &Session) -> Result<String, Fail> {
-    let phase = session.phase();
-    let encoding = session.encoding();
-    let kind = session.sync_kind();
-    let editor = session.pending(Side::Editor);
-    let open = editor.len();
-    let cancelled = cancelled_of(editor);
-    let asked = session.pending(Side::Server).len();
-    Ok(format!(in rt.alloc(); "{phase:?} {encoding:?} {kind:?} {open} {cancelled} {asked}")?)
+/// Whether a message breaks the rule that is named behind it.
+fn keeps_rule(alloc: Global, session: &mut Session, side: Side, words: &str) -> bool {
+    let (name, rule) = split_word(words);
+    is_number(rule, admitted(alloc, session, side, content_of(name)))
 }
 
-/// The first line, counted from 0, that a session does not keep.
-fn first_broken(rt: &HostRuntime, sessions: &str) -> Result<Option<usize>, Fail> {
-    let mut session = Session::new(rt.alloc());
-    for (number, line) in sessions.lines().enumerate() {
-        let keeps = if line == "session" {
-            session = Session::new(rt.alloc());
-            true
-        } else if let Some(wanted) = line.strip_prefix("is ") {
-            state_of(rt, &session)?.as_str() == wanted
-        } else if let Some(wanted) = line.strip_prefix("lacks ") {
-            wanted.parse().ok() == Some(session.incomplete().unwrap_or(0))
-        } else {
-            keeps_word(rt, &mut session, line) == Some(true)
-        };
-        if !keeps {
-            return Ok(Some(number));
+fn cancelled_of(pending: &Pending) -> u64 {
+    let mut cancelled = 0u64;
+    for index in 0..pending.len() {
+        if pending.at(index).is_some_and(|request| request.cancelled) {
+            cancelled = cancelled.saturating_add(1);
         }
     }
-    Ok(None)
+    cancelled
 }
 
-#[test]
-fn a_request_is_open_until_the_other_side_answers_it(rt: HostRuntime) -> Result<(), Fail> {
-    assert_eq!(rt; first_broken(&rt, REQUESTS)?, None);
-    Ok(())
+fn state_of(alloc: Global, session: &Session) -> Option<String> {
+    let phase = session.phase();
+    let (encoding, kind) = (session.encoding(), session.sync_kind());
+    let editor = session.pending(Side::Editor);
+    let (open, cancelled) = (editor.len(), cancelled_of(editor));
+    let asked = session.pending(Side::Server).len();
+    format!(in alloc; "{phase:?} {encoding:?} {kind:?} {open} {cancelled} {asked}").ok()
 }
 
-#[test]
-fn the_handshake_waits_for_its_result(rt: HostRuntime) -> Result<(), Fail> {
-    assert_eq!(rt; first_broken(&rt, HANDSHAKES)?, None);
-    Ok(())
-}
-
-#[test]
-fn the_server_picks_what_was_offered(rt: HostRuntime) -> Result<(), Fail> {
-    assert_eq!(rt; first_broken(&rt, AGREEMENTS)?, None);
-    Ok(())
-}
-
-#[test]
-fn each_side_sends_what_the_lifecycle_allows(rt: HostRuntime) -> Result<(), Fail> {
-    assert_eq!(rt; first_broken(&rt, LIFECYCLE)?, None);
-    Ok(())
-}
-
-#[test]
-fn a_session_is_complete_once_all_is_answered_and_exit_was_sent(
-    rt: HostRuntime,
-) -> Result<(), Fail> {
-    assert_eq!(rt; first_broken(&rt, COMPLETE)?, None);
-    Ok(())
-}
-
-#[test]
-fn pending_keeps_the_order_of_asking(rt: HostRuntime) -> Result<(), Fail> {
-    let mut pending = Pending::new(rt.alloc());
-    for number in 0..9 {
-        pending.ask(&Id::Number(number), "textDocument/hover")?;
+fn is_in_state(alloc: Global, session: &Session, wanted: &str) -> bool {
+    match state_of(alloc, session) {
+        Some(state) => state.as_str() == wanted,
+        None => false,
     }
-    // The oldest is answered, asked again, and a later one is answered.
-    for number in [0, 1, 2] {
-        assert!(rt; pending.answer(&Id::Number(number)).is_some());
-        assert!(rt; pending.answer(&Id::Number(number)).is_none());
+}
+
+/// Whether a session keeps what a line says.
+fn keeps(alloc: Global, session: &mut Session, line: &str) -> bool {
+    let (word, rest) = split_word(line);
+    match word {
+        "is" => is_in_state(alloc, session, rest),
+        "lacks" => is_number(rest, session.incomplete().unwrap_or(0)),
+        "editor" => keeps_rule(alloc, session, Side::Editor, rest),
+        "server" => keeps_rule(alloc, session, Side::Server, rest),
+        _ => false,
     }
-    pending.ask(&Id::Number(1), "textDocument/hover")?;
-    assert!(rt; pending.ask(&Id::Number(4), "textDocument/hover") == Err(Refusal::Rule(302)));
-    assert!(rt; pending.answer(&Id::Number(5)).is_some());
-    assert!(rt; pending.cancel(&Id::Number(1)));
-    assert!(rt; !pending.cancel(&Id::Number(2)));
-    let wanted = [3, 4, 6, 7, 8, 1];
-    assert_eq!(rt; pending.len(), wanted.len());
-    for (index, number) in wanted.iter().enumerate() {
-        let request = pending.at(index).ok_or("missing")?;
-        assert!(rt; request.id == Id::Number(*number) && request.cancelled == (*number == 1));
+}
+
+fn check_sessions(rt: &impl Abort, alloc: Global, lines: &str) {
+    let mut session = Session::new(alloc);
+    for (number, line) in lines.lines().enumerate() {
+        if line == "session" {
+            session = Session::new(alloc);
+        } else {
+            let kept = keeps(alloc, &mut session, line);
+            assert!(rt; kept, "line {number}: {line}");
+        }
     }
-    Ok(())
+}
+
+#[test]
+fn a_request_is_open_until_the_other_side_answers_it(rt: HostRuntime) {
+    check_sessions(&rt, rt.alloc(), REQUESTS);
+}
+
+#[test]
+fn the_handshake_waits_for_its_result(rt: HostRuntime) {
+    check_sessions(&rt, rt.alloc(), HANDSHAKES);
+}
+
+#[test]
+fn the_server_picks_what_was_offered(rt: HostRuntime) {
+    check_sessions(&rt, rt.alloc(), AGREEMENTS);
+}
+
+#[test]
+fn each_side_sends_what_the_lifecycle_allows(rt: HostRuntime) {
+    check_sessions(&rt, rt.alloc(), LIFECYCLE);
+}
+
+#[test]
+fn a_session_is_complete_once_all_is_answered_and_exit_was_sent(rt: HostRuntime) {
+    check_sessions(&rt, rt.alloc(), COMPLETE);
 }

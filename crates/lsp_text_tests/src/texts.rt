@@ -56,19 +56,24 @@ const PLACES: [((u32, u32), [u64; 3]); 14] = [
     ((3, 0), [7, 7, 7]),
 ];
 
+fn check_places<S: TextStore>(rt: &impl Abort, store: &S) {
+    for ((line, column), wanted) in &PLACES {
+        let places = places_of(store, at(*line, *column));
+        assert!(rt; places == *wanted, "{line} {column}: {places:?}");
+    }
+}
+
+fn check_empty<S: TextStore>(rt: &impl Abort, store: &S) {
+    assert!(rt; store.line_count() == 1);
+    assert!(rt; chars_before(store, Encoding::Utf16, at(4, 4)) == 0);
+}
+
 fn resolves_units<S: TextStore>(rt: &impl Abort, alloc: Global) -> Result<(), Fail> {
     let store = S::from_text(alloc, "é\u{1F600}b\r\nc\r")?;
-    for ((line, column), places) in PLACES {
-        assert_eq!(rt;
-            places_of(&store, at(line, column)),
-            places,
-            "{line} {column}"
-        );
-    }
-    assert_eq!(rt; store.line_count(), 3);
+    check_places(rt, &store);
+    assert!(rt; store.line_count() == 3);
     let empty = S::from_text(alloc, "")?;
-    assert_eq!(rt; empty.line_count(), 1);
-    assert_eq!(rt; chars_before(&empty, Encoding::Utf16, at(4, 4)), 0);
+    check_empty(rt, &empty);
     Ok(())
 }
 
@@ -78,38 +83,33 @@ fn resolves_units_in_both(rt: HostRuntime) -> Result<(), Fail> {
     resolves_units::<Lined>(&rt, rt.alloc())
 }
 
+/// Whether a store and a copy of it have this text.
+fn has_text<S: TextStore>(alloc: Global, store: &S, text: &str) -> Option<bool> {
+    let copy = store.copy(alloc).ok()?;
+    Some(store.equals(text) & copy.equals(text))
+}
+
 /// What a store tells of its text: how many lines and bytes it has, the text, and whether a copy of it
 /// has the same.
-fn told<S: TextStore>(alloc: Global, store: &S) -> Result<String, Fail> {
-    let text = store.to_text(alloc)?;
-    let text = text.as_str();
+fn told<S: TextStore>(alloc: Global, store: &S) -> Option<String> {
+    let text = store.to_text(alloc).ok()?;
+    let same = has_text(alloc, store, text.as_str())?;
     let (lines, bytes) = (store.line_count(), store.byte_len());
-    let same = store.equals(text) & store.copy(alloc)?.equals(text);
-    Ok(format!(in alloc; "{lines} {bytes} {text:?} {same}")?)
+    format!(in alloc; "{lines} {bytes} {:?} {same}", text.as_str()).ok()
 }
 
-/// The answer to an edit. (Of a store's call no more is asked than that.)
-fn replace<S: TextStore>(
-    store: &mut S,
-    encoding: Encoding,
-    held: Span,
-    inserted: &str,
-) -> Result<(), TextFault> {
-    store.replace(encoding, held, inserted, 100)
-}
-
-/// What a store of this text tells after an edit.
-fn edited<S: TextStore>(
+/// An answer, and what a store tells then.
+fn told_after<S: TextStore>(
     alloc: Global,
-    text: &str,
-    held: Span,
-    inserted: &str,
-) -> Result<String, Fail> {
-    let mut store = S::from_text(alloc, text)?;
-    let answer = replace(&mut store, Encoding::Utf16, held, inserted);
-    let told = told(alloc, &store)?;
-    let told = told.as_str();
-    Ok(format!(in alloc; "{answer:?} {told}")?)
+    store: &S,
+    answer: Result<(), TextFault>,
+) -> Option<String> {
+    let told = told(alloc, store)?;
+    format!(in alloc; "{answer:?} {}", told.as_str()).ok()
+}
+
+fn check_told(rt: &impl Abort, told: Option<String>, wanted: &str) {
+    assert_eq!(rt; told.as_deref(), Some(wanted));
 }
 
 /// A text, a span, what is inserted there, and what is told then.
@@ -151,16 +151,20 @@ pub(super) const EDITS: [Edit; 9] = [
     ("ab", (0, 2), (0, 1), "x", r#"Err(Rule(606)) 1 2 "ab" true"#),
 ];
 
+/// What a store of a text tells after an edit.
+fn edited<S: TextStore>(alloc: Global, edit: &Edit) -> Option<String> {
+    let (text, first, second, inserted, _) = edit;
+    let mut store = S::from_text(alloc, text).ok()?;
+    let answer = store.replace(Encoding::Utf16, span(*first, *second), inserted, 100);
+    told_after(alloc, &store, answer)
+}
+
 #[test]
-fn edits_line_ends_in_both(rt: HostRuntime) -> Result<(), Fail> {
-    for (text, first, second, inserted, wanted) in EDITS {
-        let held = span(first, second);
-        let plain = edited::<Plain>(rt.alloc(), text, held, inserted)?;
-        assert_eq!(rt; plain.as_str(), wanted, "{text:?}");
-        let lined = edited::<Lined>(rt.alloc(), text, held, inserted)?;
-        assert_eq!(rt; lined.as_str(), wanted, "{text:?}");
+fn edits_line_ends_in_both(rt: HostRuntime) {
+    for edit in &EDITS {
+        check_told(&rt, edited::<Plain>(rt.alloc(), edit), edit.4);
+        check_told(&rt, edited::<Lined>(rt.alloc(), edit), edit.4);
     }
-    Ok(())
 }
 
 /// Texts that agree in front and behind, with line ends where they part.
@@ -181,102 +185,106 @@ const TEXTS: [&str; 14] = [
     "\n\n",
 ];
 
-/// The answer to a text put in the place of another, and what the store tells then.
-fn replaced<S: TextStore>(alloc: Global, text: &str, next: &str) -> Result<String, Fail> {
-    let mut store = S::from_text(alloc, text)?;
+/// What a store of a text tells once another is in its place.
+fn replaced<S: TextStore>(alloc: Global, text: &str, next: &str) -> Option<String> {
+    let mut store = S::from_text(alloc, text).ok()?;
     let answer = store.replace_all(next, 100);
-    let told = told(alloc, &store)?;
-    let told = told.as_str();
-    Ok(format!(in alloc; "{answer:?} {told}")?)
+    told_after(alloc, &store, answer)
 }
 
-/// Puts each of the texts in the place of each: it tells the same as if it stood in its own place.
-fn replaces_all<S: TextStore>(rt: &impl Abort, alloc: Global) -> Result<(), Fail> {
-    for next in TEXTS {
-        let fresh = S::from_text(alloc, next)?;
-        let told = told(alloc, &fresh)?;
-        let wanted = told.as_str();
-        for text in TEXTS {
-            let found = replaced::<S>(alloc, text, next)?;
-            assert_eq!(rt;
-                found.as_str().strip_prefix("Ok(()) "),
-                Some(wanted),
-                "{text:?}"
-            );
-        }
+/// What a store tells that has a text in its own place.
+fn fresh<S: TextStore>(alloc: Global, text: &str) -> Option<String> {
+    let store = S::from_text(alloc, text).ok()?;
+    told_after(alloc, &store, Ok(()))
+}
+
+/// Puts a text in the place of each: it tells the same as if it stood in its own place.
+fn replaces_each<S: TextStore>(rt: &impl Abort, alloc: Global, next: &str) -> Option<()> {
+    let wanted = fresh::<S>(alloc, next)?;
+    for text in &TEXTS {
+        check_told(rt, replaced::<S>(alloc, text, next), wanted.as_str());
     }
-    Ok(())
+    Some(())
 }
 
 #[test]
-fn replaces_all_in_both(rt: HostRuntime) -> Result<(), Fail> {
-    replaces_all::<Plain>(&rt, rt.alloc())?;
-    replaces_all::<Lined>(&rt, rt.alloc())
+fn replaces_all_in_both(rt: HostRuntime) {
+    for next in &TEXTS {
+        replaces_each::<Plain>(&rt, rt.alloc(), next).expect(&rt, "memory");
+        replaces_each::<Lined>(&rt, rt.alloc(), next).expect(&rt, "memory");
+    }
 }
 
-/// The answer to a change of a text, with a limit on its bytes, and the text then.
-fn changed<S: TextStore>(
-    alloc: Global,
-    text: &str,
-    held: Option<Span>,
-    inserted: &str,
-    limit: u64,
-) -> Result<String, Fail> {
-    let mut store = S::from_text(alloc, text)?;
-    let answer = change(&mut store, Encoding::Utf16, held, inserted, limit);
-    let text = store.to_text(alloc)?;
-    let text = text.as_str();
-    let same = store.equals(text);
-    let longer = store.equals("\u{1F600}\n");
-    Ok(format!(in alloc; "{answer:?} {text:?} {same} {longer}")?)
-}
+/// A text, a span of it or the whole, what is put there, a limit on its bytes, and what is told then: the
+/// answer, the text, whether the store has it, and whether it has a longer one.
+type Refusal = (&'static str, Option<Span>, &'static str, u64, &'static str);
+
+const START: Option<Span> = Some(Span {
+    first: Position { line: 0, column: 0 },
+    second: Position { line: 0, column: 0 },
+});
+
+const REVERSED: Option<Span> = Some(Span {
+    first: Position { line: 0, column: 2 },
+    second: Position { line: 0, column: 1 },
+});
 
 /// Refusals in their order, each of which leaves the text.
-fn refuses_in_order<S: TextStore>(rt: &impl Abort, alloc: Global) -> Result<(), Fail> {
-    let start = Some(span((0, 0), (0, 0)));
-    let reversed = Some(span((0, 2), (0, 1)));
-    for (text, held, inserted, limit, wanted) in [
-        ("abcd", start, "x", 4, r#"Err(Rule(607)) "abcd" true false"#),
-        (
-            "abcd",
-            reversed,
-            "xyz",
-            4,
-            r#"Err(Rule(606)) "abcd" true false"#,
-        ),
-        (
-            "abcd",
-            None,
-            "abcde",
-            4,
-            r#"Err(Rule(607)) "abcd" true false"#,
-        ),
-        ("abcd", None, "abcd", 4, r#"Ok(()) "abcd" true false"#),
-        ("😀", reversed, "", 9, r#"Err(Rule(605)) "😀" true false"#),
-    ] {
-        let found = changed::<S>(alloc, text, held, inserted, limit)?;
-        assert_eq!(rt; found.as_str(), wanted, "{text:?}");
-    }
-    Ok(())
+const REFUSALS: [Refusal; 5] = [
+    ("abcd", START, "x", 4, r#"Err(Rule(607)) "abcd" true false"#),
+    (
+        "abcd",
+        REVERSED,
+        "xyz",
+        4,
+        r#"Err(Rule(606)) "abcd" true false"#,
+    ),
+    (
+        "abcd",
+        None,
+        "abcde",
+        4,
+        r#"Err(Rule(607)) "abcd" true false"#,
+    ),
+    ("abcd", None, "abcd", 4, r#"Ok(()) "abcd" true false"#),
+    ("😀", REVERSED, "", 9, r#"Err(Rule(605)) "😀" true false"#),
+];
+
+/// The answer to a change of a text, and the text then.
+fn changed<S: TextStore>(alloc: Global, refusal: &Refusal) -> Option<String> {
+    let (text, held, inserted, limit, _) = refusal;
+    let mut store = S::from_text(alloc, text).ok()?;
+    let answer = change(&mut store, Encoding::Utf16, *held, inserted, *limit);
+    let text = store.to_text(alloc).ok()?;
+    let same = store.equals(text.as_str());
+    let longer = store.equals("\u{1F600}\n");
+    format!(in alloc; "{answer:?} {:?} {same} {longer}", text.as_str()).ok()
 }
 
 #[test]
-fn refuses_in_order_in_both(rt: HostRuntime) -> Result<(), Fail> {
-    refuses_in_order::<Plain>(&rt, rt.alloc())?;
-    refuses_in_order::<Lined>(&rt, rt.alloc())
+fn refuses_in_order_in_both(rt: HostRuntime) {
+    for refusal in &REFUSALS {
+        check_told(&rt, changed::<Plain>(rt.alloc(), refusal), refusal.4);
+        check_told(&rt, changed::<Lined>(rt.alloc(), refusal), refusal.4);
+    }
 }
 
 /// A span, and the text in its place.
 type Inserted = ((u32, u32), (u32, u32), &'static str);
 
-fn changes_of(alloc: Global, edits: &[Inserted]) -> Result<Vec<Change>, Fail> {
+fn change_of(alloc: Global, inserted: &Inserted) -> Option<Change> {
+    let (first, second, text) = inserted;
+    let text = String::from_str(alloc, text).ok()?;
+    let span = Some(span(*first, *second));
+    Some(Change { span, text })
+}
+
+fn changes_of(alloc: Global, edits: &[Inserted]) -> Option<Vec<Change>> {
     let mut changes = Vec::new(alloc);
-    for (first, second, inserted) in edits {
-        let text = String::from_str(alloc, inserted)?;
-        let span = Some(span(*first, *second));
-        changes.push(Change { span, text })?;
+    for inserted in edits {
+        changes.push(change_of(alloc, inserted)?).ok()?;
     }
-    Ok(changes)
+    Some(changes)
 }
 
 /// The answer to these changes of a text, made in order, and what the store tells then.
@@ -285,13 +293,11 @@ fn changed_by<S: TextStore>(
     encoding: Encoding,
     text: &str,
     edits: &[Inserted],
-) -> Result<String, Fail> {
-    let mut store = S::from_text(alloc, text)?;
+) -> Option<String> {
+    let mut store = S::from_text(alloc, text).ok()?;
     let changes = changes_of(alloc, edits)?;
     let answer = change_all(&mut store, encoding, changes.as_slice(), 100);
-    let told = told(alloc, &store)?;
-    let told = told.as_str();
-    Ok(format!(in alloc; "{answer:?} {told}")?)
+    told_after(alloc, &store, answer)
 }
 
 /// Positions past the ends, and edits that join a line end: changes in order, each made to the text
@@ -332,39 +338,89 @@ const COLUMNS: [(Encoding, u32, &str); 5] = [
     (Encoding::Utf16, 1, r#"Err(Rule(605)) 1 5 "😀a" true"#),
 ];
 
-fn changes_in_order<S: TextStore>(rt: &impl Abort, alloc: Global) -> Result<(), Fail> {
-    for (text, edits, wanted) in IN_ORDER {
-        let found = changed_by::<S>(alloc, Encoding::Utf16, text, edits)?;
-        assert_eq!(rt; found.as_str(), wanted);
+fn changes_in_order<S: TextStore>(rt: &impl Abort, alloc: Global) {
+    for (text, edits, wanted) in &IN_ORDER {
+        let told = changed_by::<S>(alloc, Encoding::Utf16, text, edits);
+        check_told(rt, told, wanted);
     }
-    for (encoding, column, wanted) in COLUMNS {
-        let edits: [Inserted; 1] = [((0, column), (0, column), "x")];
-        let found = changed_by::<S>(alloc, encoding, "\u{1F600}a", &edits)?;
-        assert_eq!(rt; found.as_str(), wanted);
-    }
-    Ok(())
 }
 
 #[test]
-fn changes_in_order_in_both(rt: HostRuntime) -> Result<(), Fail> {
-    changes_in_order::<Plain>(&rt, rt.alloc())?;
-    changes_in_order::<Lined>(&rt, rt.alloc())
+fn changes_in_order_in_both(rt: HostRuntime) {
+    changes_in_order::<Plain>(&rt, rt.alloc());
+    changes_in_order::<Lined>(&rt, rt.alloc());
+}
+
+fn inserts_in_columns<S: TextStore>(rt: &impl Abort, alloc: Global) {
+    for (encoding, column, wanted) in &COLUMNS {
+        let edits: [Inserted; 1] = [((0, *column), (0, *column), "x")];
+        let told = changed_by::<S>(alloc, *encoding, "\u{1F600}a", &edits);
+        check_told(rt, told, wanted);
+    }
 }
 
 #[test]
-fn measures_past_whole_groups(rt: HostRuntime) -> Result<(), Fail> {
-    for (unit, times, last, chars, utf16) in [
-        ("a", 31, "\u{1F600}", 32, 33),
-        ("a", 32, "é", 33, 33),
-        ("\u{1F600}", 40, "", 40, 80),
-        ("\u{1F600}", 1, "é a", 4, 5),
-        ("", 0, "", 0, 0),
-    ] {
-        let mut text = unit.repeat(rt.alloc(), times)?;
-        text.push_str(last)?;
-        assert_eq!(rt; measure(text.as_str()), Counts { chars, utf16 });
+fn columns_in_both(rt: HostRuntime) {
+    inserts_in_columns::<Plain>(&rt, rt.alloc());
+    inserts_in_columns::<Lined>(&rt, rt.alloc());
+}
+
+/// A unit so many times, what stands behind it, and how much of both there is.
+const MEASURED: [(&str, usize, &str, Counts); 5] = [
+    (
+        "a",
+        31,
+        "\u{1F600}",
+        Counts {
+            chars: 32,
+            utf16: 33,
+        },
+    ),
+    (
+        "a",
+        32,
+        "é",
+        Counts {
+            chars: 33,
+            utf16: 33,
+        },
+    ),
+    (
+        "\u{1F600}",
+        40,
+        "",
+        Counts {
+            chars: 40,
+            utf16: 80,
+        },
+    ),
+    ("\u{1F600}", 1, "é a", Counts { chars: 4, utf16: 5 }),
+    ("", 0, "", Counts { chars: 0, utf16: 0 }),
+];
+
+/// What is measured of a unit so many times with this behind it.
+fn measured(alloc: Global, unit: &str, times: usize, last: &str) -> Option<Counts> {
+    let mut text = unit.repeat(alloc, times).ok()?;
+    text.push_str(last).ok()?;
+    Some(measure(text.as_str()))
+}
+
+#[test]
+fn measures_past_whole_groups(rt: HostRuntime) {
+    for (unit, times, last, wanted) in &MEASURED {
+        let counts = measured(rt.alloc(), unit, *times, last);
+        assert!(rt; counts == Some(*wanted), "{unit:?} {times} times");
     }
-    Ok(())
+}
+
+/// The character of this number, of one to four bytes, and its units of UTF-16.
+fn character(number: u64) -> (char, u64) {
+    match number % 4 {
+        0 => ('a', 1),
+        1 => ('é', 1),
+        2 => ('漢', 1),
+        _ => ('\u{1F600}', 2),
+    }
 }
 
 /// Every prefix of a text of 200 characters of one to four bytes.
@@ -373,8 +429,11 @@ fn measures_every_prefix(rt: HostRuntime) -> Result<(), Fail> {
     let mut text = String::new(rt.alloc());
     let mut utf16 = 0;
     for chars in 0u64..201 {
-        assert_eq!(rt; measure(text.as_str()), Counts { chars, utf16 });
-        let (next, units) = [('a', 1), ('é', 1), ('漢', 1), ('\u{1F600}', 2)][(chars % 4) as usize];
+        assert!(rt;
+            measure(text.as_str()) == Counts { chars, utf16 },
+            "{chars}"
+        );
+        let (next, units) = character(chars);
         text.push(next)?;
         utf16 = utf16.saturating_add(units);
     }
@@ -387,31 +446,57 @@ fn steps_of(
     text: &str,
     held: Span,
     inserted: &str,
-) -> Result<(u64, bool, u64, u64), Fail> {
-    let mut store = Lined::from_text(alloc, text)?;
+) -> Option<(u64, bool, u64, u64)> {
+    let mut store = Lined::from_text(alloc, text).ok()?;
     let before = store.steps();
-    let answer = store.replace(Encoding::Utf16, held, inserted, 100000);
-    let copied = store.copy(alloc)?.steps();
-    Ok((before, answer.is_ok(), store.steps(), copied))
+    let is_done = store
+        .replace(Encoding::Utf16, held, inserted, 100000)
+        .is_ok();
+    let copy = store.copy(alloc).ok()?;
+    Some((before, is_done, store.steps(), copy.steps()))
+}
+
+/// An edit of a text takes no less and no more steps than this.
+fn check_steps(
+    rt: &impl Abort,
+    alloc: Global,
+    text: &str,
+    held: Span,
+    inserted: &str,
+    wanted: (bool, u64, u64),
+) {
+    let (done, least, most) = wanted;
+    let (before, is_done, steps, copied) = steps_of(alloc, text, held, inserted).expect(
+        rt, "memory",
+    );
+    assert!(rt;
+        before == 0 && copied == 0 && is_done == done,
+        "{steps} steps"
+    );
+    assert!(rt; least <= steps && steps <= most, "{steps} steps");
 }
 
 #[test]
 fn counts_what_it_touches(rt: HostRuntime) -> Result<(), Fail> {
-    let long = "ab\n".repeat(rt.alloc(), 10000)?;
-    for (text, first, second, inserted, done, least, most) in [
-        ("a\r", (1, 0), (1, 0), "\n", true, 1, 12),
-        ("a\rb\n", (1, 0), (1, 1), "", true, 0, 16),
-        ("ab", (0, 2), (0, 1), "x", false, 0, 12),
-        (long.as_str(), (5000, 1), (5000, 1), "x", true, 1, 28),
-    ] {
-        let (before, made, steps, copied) = steps_of(
-            rt.alloc(),
-            text,
-            span(first, second),
-            inserted,
-        )?;
-        assert_eq!(rt; (before, made, copied), (0, done, 0));
-        assert!(rt; least <= steps && steps <= most, "{steps} steps");
-    }
+    let alloc = rt.alloc();
+    check_steps(&rt, alloc, "a\r", span((1, 0), (1, 0)), "\n", (true, 1, 12));
+    check_steps(
+        &rt,
+        alloc,
+        "a\rb\n",
+        span((1, 0), (1, 1)),
+        "",
+        (true, 0, 16),
+    );
+    check_steps(&rt, alloc, "ab", span((0, 2), (0, 1)), "x", (false, 0, 12));
+    let long = "ab\n".repeat(alloc, 10000)?;
+    check_steps(
+        &rt,
+        alloc,
+        long.as_str(),
+        span((5000, 1), (5000, 1)),
+        "x",
+        (true, 1, 28),
+    );
     Ok(())
 }
