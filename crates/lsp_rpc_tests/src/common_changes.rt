@@ -1,7 +1,8 @@
 //! Edits of the editor's as they are mostly sent, read from their tokens, and others, which are read whole.
-use lsp_rpc::{Memory, Message, OutlineReader, Side, act_of, read};
+use crate::rows::check_row;
+use lsp_rpc::{Act, Message, OutlineReader, RpcFault, Side, act_of, read};
 use std::alloc::{AllocError, Global};
-use std::test::Fail;
+use std::process::Abort;
 
 fn method_of(message: &Message) -> &str {
     match message {
@@ -23,17 +24,36 @@ fn told_fast(
     format!(in alloc; "{:?} {method:?}", spoken.act)
 }
 
-/// What `read` with `act_of` tells of a content.
-fn told(alloc: Global, content: &[u8]) -> Result<String, AllocError> {
-    let message = match read(alloc, content) {
-        Ok(message) => message,
-        Err(fault) => return format!(in alloc; "{fault}"),
-    };
-    let method = method_of(&message);
-    match act_of(alloc, &message, Side::Editor) {
+fn told_act(alloc: Global, act: Result<Act, RpcFault>, method: &str) -> Result<String, AllocError> {
+    match act {
         Ok(act) => format!(in alloc; "{act:?} {method:?}"),
         Err(fault) => format!(in alloc; "{fault}"),
     }
+}
+
+/// What `read` with `act_of` tells of a content.
+fn told(alloc: Global, content: &[u8]) -> Result<String, AllocError> {
+    match read(alloc, content) {
+        Ok(message) => {
+            let act = act_of(alloc, &message, Side::Editor);
+            told_act(alloc, act, method_of(&message))
+        }
+        Err(fault) => format!(in alloc; "{fault}"),
+    }
+}
+
+/// Reads a content in both ways.
+fn check_both(
+    rt: &impl Abort,
+    alloc: Global,
+    reader: &mut OutlineReader,
+    content: &str,
+    (fast, slow): (&str, &str),
+) {
+    let read = told_fast(alloc, reader, content.as_bytes());
+    check_row(rt, content, read, fast);
+    let read = told(alloc, content.as_bytes());
+    check_row(rt, content, read, slow);
 }
 
 /// Contents that `read_change` reads, and what they tell.
@@ -174,15 +194,13 @@ const UNCOMMON: [(&str, &str); 24] = [
 ];
 
 /// A change beside a member in which arrays nest this deep.
-fn beside_nested(alloc: Global, depth: usize) -> Result<Vec<u8>, Memory> {
-    let mut content = Vec::new(alloc);
-    content.extend_from_slice(b"{\"x\":")?;
-    content.extend_from_slice(&[b'['; 128][..depth.min(128)])?;
-    content.extend_from_slice(&[b']'; 128][..depth.min(128)])?;
-    content.extend_from_slice(b",\"jsonrpc\":\"2.0\",\"method\":\"textDocument/didChange\",")?;
-    content.extend_from_slice(b"\"params\":{\"contentChanges\":[],\"textDocument\":")?;
-    content.extend_from_slice(b"{\"uri\":\"a\",\"version\":1}}}")?;
-    Ok(content)
+fn beside_nested(alloc: Global, depth: usize) -> Result<String, AllocError> {
+    let open = "[".repeat(alloc, depth)?;
+    let close = "]".repeat(alloc, depth)?;
+    let (open, close) = (open.as_str(), close.as_str());
+    format!(in alloc;
+        "{{\"x\":{open}{close},\"jsonrpc\":\"2.0\",\"method\":\"textDocument/didChange\",\"params\":{{\"contentChanges\":[],\"textDocument\":{{\"uri\":\"a\",\"version\":1}}}}}}"
+    )
 }
 
 /// How deep arrays nest, and what `read_change` and `read` tell then.
@@ -196,38 +214,26 @@ const NESTED: [(usize, &str, &str); 2] = [
 ];
 
 #[test]
-fn common_changes(rt: HostRuntime) -> Result<(), Fail> {
-    let alloc = rt.alloc();
-    let mut reader = OutlineReader::new(alloc);
-    for (content, act) in COMMON {
-        let content = content.as_bytes();
-        assert_eq!(rt; told_fast(alloc, &mut reader, content)?.as_str(), act);
-        assert_eq!(rt; told(alloc, content)?.as_str(), act);
+fn common_changes(rt: HostRuntime) {
+    let mut reader = OutlineReader::new(rt.alloc());
+    for (content, act) in &COMMON {
+        check_both(&rt, rt.alloc(), &mut reader, content, (act, act));
     }
-    Ok(())
 }
 
 #[test]
-fn uncommon_changes(rt: HostRuntime) -> Result<(), Fail> {
-    let alloc = rt.alloc();
-    let mut reader = OutlineReader::new(alloc);
-    for (content, act) in UNCOMMON {
-        let content = content.as_bytes();
-        assert_eq!(rt; told_fast(alloc, &mut reader, content)?.as_str(), "none");
-        assert_eq!(rt; told(alloc, content)?.as_str(), act);
+fn uncommon_changes(rt: HostRuntime) {
+    let mut reader = OutlineReader::new(rt.alloc());
+    for (content, act) in &UNCOMMON {
+        check_both(&rt, rt.alloc(), &mut reader, content, ("none", act));
     }
-    Ok(())
 }
 
 #[test]
-fn nesting_at_the_limit(rt: HostRuntime) -> Result<(), Fail> {
-    let alloc = rt.alloc();
-    let mut reader = OutlineReader::new(alloc);
-    for (depth, fast, slow) in NESTED {
-        let content = beside_nested(alloc, depth)?;
-        let content = content.as_slice();
-        assert_eq!(rt; told_fast(alloc, &mut reader, content)?.as_str(), fast);
-        assert_eq!(rt; told(alloc, content)?.as_str(), slow);
+fn nesting_at_the_limit(rt: HostRuntime) {
+    let mut reader = OutlineReader::new(rt.alloc());
+    for (depth, fast, slow) in &NESTED {
+        let content = beside_nested(rt.alloc(), *depth).expect(&rt, "memory");
+        check_both(&rt, rt.alloc(), &mut reader, content.as_str(), (fast, slow));
     }
-    Ok(())
 }

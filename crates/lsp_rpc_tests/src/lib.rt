@@ -9,3 +9,5 @@ mod common_changes;
 mod messages;
 #[cfg(test)]
 mod outlines;
+#[cfg(test)]
+mod rows;

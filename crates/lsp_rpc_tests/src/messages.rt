@@ -1,10 +1,11 @@
 //! Messages: the rules that contents break, what messages mean, and the words that name them.
+use crate::rows::check_row;
 use lsp_rpc::{
-    Id, Memory, Message, RpcFault, Side, act_of, copy_id, picked_of, read, same_id, take_act,
-    words_of,
+    Act, Id, Message, RpcFault, Side, act_of, copy_id, picked_of, read, same_id, take_act, words_of,
 };
 use serde_json::Value;
 use std::alloc::{AllocError, Global};
+use std::process::Abort;
 use std::test::Fail;
 
 /// The rule that a content breaks, or 0 for a message.
@@ -16,11 +17,9 @@ fn rule_of(alloc: Global, content: &[u8]) -> u16 {
     }
 }
 
-fn nested(alloc: Global, depth: usize) -> Result<Vec<u8>, Memory> {
-    let mut content = Vec::new(alloc);
-    content.extend_from_slice(&[b'['; 128][..depth.min(128)])?;
-    content.extend_from_slice(&[b']'; 128][..depth.min(128)])?;
-    Ok(content)
+fn check_rule(rt: &impl Abort, alloc: Global, content: &[u8], rule: u16) {
+    let found = rule_of(alloc, content);
+    assert!(rt; found == rule, "{found} for {rule}: {content:?}");
 }
 
 const CONTENTS: [(&str, u16); 25] = [
@@ -91,28 +90,42 @@ const CONTENTS: [(&str, u16); 25] = [
 ];
 
 #[test]
-fn contents_give_their_rules(rt: HostRuntime) -> Result<(), Fail> {
-    for (content, rule) in CONTENTS {
-        assert_eq!(rt; rule_of(rt.alloc(), content.as_bytes()), rule, "{content}");
+fn contents_give_their_rules(rt: HostRuntime) {
+    for (content, rule) in &CONTENTS {
+        check_rule(&rt, rt.alloc(), content.as_bytes(), *rule);
     }
-    Ok(())
+}
+
+fn nested(alloc: Global, depth: usize) -> Result<String, AllocError> {
+    let mut content = "[".repeat(alloc, depth)?;
+    for _ in 0..depth {
+        content.push(']')?;
+    }
+    Ok(content)
 }
 
 #[test]
 fn hostile_contents_give_their_rules(rt: HostRuntime) -> Result<(), Fail> {
     let alloc = rt.alloc();
-    assert_eq!(rt; rule_of(alloc, nested(alloc, 127)?.as_slice()), 202);
-    assert_eq!(rt; rule_of(alloc, nested(alloc, 128)?.as_slice()), 201);
-    assert_eq!(rt;
-        rule_of(alloc, b"{\"jsonrpc\":\"2.0\",\"method\":\"\xff\"}"),
-        201
+    check_rule(&rt, alloc, nested(alloc, 127)?.as_bytes(), 202);
+    check_rule(&rt, alloc, nested(alloc, 128)?.as_bytes(), 201);
+    check_rule(
+        &rt,
+        alloc,
+        b"{\"jsonrpc\":\"2.0\",\"method\":\"\xff\"}",
+        201,
     );
     Ok(())
 }
 
+fn meant(alloc: Global, side: Side, content: &str) -> Result<Act, RpcFault> {
+    let message = read(alloc, content.as_bytes())?;
+    act_of(alloc, &message, side)
+}
+
 /// What a message means on its side, or the rule that it breaks.
 fn meaning_of(alloc: Global, side: Side, content: &str) -> Result<String, AllocError> {
-    match read(alloc, content.as_bytes()).and_then(|message| act_of(alloc, &message, side)) {
+    match meant(alloc, side, content) {
         Ok(act) => format!(in alloc; "{act:?}"),
         Err(fault) => format!(in alloc; "{fault}"),
     }
@@ -302,67 +315,77 @@ const MEANINGS: [(Side, &str, &str); 36] = [
 ];
 
 #[test]
-fn messages_have_their_meanings(rt: HostRuntime) -> Result<(), Fail> {
-    for (side, content, meaning) in MEANINGS {
-        let found = meaning_of(rt.alloc(), side, content)?;
-        assert_eq!(rt; found.as_str(), meaning, "{content}");
+fn messages_have_their_meanings(rt: HostRuntime) {
+    for (side, content, meaning) in &MEANINGS {
+        check_row(
+            &rt,
+            content,
+            meaning_of(rt.alloc(), *side, content),
+            meaning,
+        );
     }
-    Ok(())
 }
 
-fn has_params(message: &Message) -> bool {
+/// What is said of the params that a message still has.
+fn params_of(message: &Message) -> &'static str {
     match message {
-        Message::Request { params, .. } | Message::Notification { params, .. } => params.is_some(),
-        Message::Response { .. } => false,
+        Message::Request { params: None, .. } | Message::Notification { params: None, .. } => "",
+        Message::Request { .. } | Message::Notification { .. } => " with params",
+        Message::Response { .. } => "",
     }
 }
 
-/// What a message means, taken out of it, and the words that then name the message.
-fn taken_of(alloc: Global, side: Side, content: &str) -> Result<String, RpcFault> {
-    let mut message = read(alloc, content.as_bytes())?;
-    let act = take_act(alloc, &mut message, side);
-    let words = match words_of(alloc, &message) {
-        Ok(words) => words,
-        Err(Memory) => return Err(RpcFault::Memory),
-    };
-    let left = if has_params(&message) {
-        " with params"
-    } else {
-        ""
-    };
+fn told_taken(
+    alloc: Global,
+    act: Result<Act, RpcFault>,
+    words: &str,
+    left: &str,
+) -> Result<String, AllocError> {
     match act {
-        Ok(act) => Ok(format!(in alloc; "{act:?} of {words}{left}")?),
-        Err(fault) => Ok(format!(in alloc; "{fault} of {words}{left}")?),
+        Ok(act) => format!(in alloc; "{act:?} of {words}{left}"),
+        Err(fault) => format!(in alloc; "{fault} of {words}{left}"),
     }
 }
+
+/// What a message of the editor means, taken out of it, and the words that then name the message.
+fn taken_of(alloc: Global, content: &str) -> Result<String, AllocError> {
+    let Ok(mut message) = read(alloc, content.as_bytes()) else {
+        return String::from_str(alloc, "no message");
+    };
+    let act = take_act(alloc, &mut message, Side::Editor);
+    let Ok(words) = words_of(alloc, &message) else {
+        return Err(AllocError);
+    };
+    told_taken(alloc, act, words.as_str(), params_of(&message))
+}
+
+const TAKEN: [(&str, &str); 4] = [
+    (
+        "{\"jsonrpc\":\"2.0\",\"id\":7,\"method\":\"initialize\",\"params\":{\"workDoneToken\":\"w\",\"capabilities\":{}}}",
+        "Initialize(Offer { encodings: None, token: Some(Text(\"w\")) }) of request 7 \"initialize\"",
+    ),
+    (
+        "{\"jsonrpc\":\"2.0\",\"method\":\"textDocument/didOpen\",\"params\":{\"textDocument\":{\"uri\":\"file:///a\",\"languageId\":\"x\",\"version\":1,\"text\":\"ab\"}}}",
+        "DidOpen { uri: \"file:///a\", version: 1, text: \"ab\" } of notification \"textDocument/didOpen\"",
+    ),
+    (
+        "{\"jsonrpc\":\"2.0\",\"method\":\"textDocument/didOpen\",\"params\":{\"textDocument\":{\"uri\":\"file:///a\",\"version\":1}}}",
+        "rule 209 of notification \"textDocument/didOpen\"",
+    ),
+    (
+        "{\"jsonrpc\":\"2.0\",\"id\":\"a\",\"result\":{}}",
+        "Other of result \"a\"",
+    ),
+];
 
 #[test]
-fn texts_are_moved_out_of_their_message(rt: HostRuntime) -> Result<(), Fail> {
-    let rows = [
-        (
-            "{\"jsonrpc\":\"2.0\",\"id\":7,\"method\":\"initialize\",\"params\":{\"workDoneToken\":\"w\",\"capabilities\":{}}}",
-            "Initialize(Offer { encodings: None, token: Some(Text(\"w\")) }) of request 7 \"initialize\"",
-        ),
-        (
-            "{\"jsonrpc\":\"2.0\",\"method\":\"textDocument/didOpen\",\"params\":{\"textDocument\":{\"uri\":\"file:///a\",\"languageId\":\"x\",\"version\":1,\"text\":\"ab\"}}}",
-            "DidOpen { uri: \"file:///a\", version: 1, text: \"ab\" } of notification \"textDocument/didOpen\"",
-        ),
-        (
-            "{\"jsonrpc\":\"2.0\",\"method\":\"textDocument/didOpen\",\"params\":{\"textDocument\":{\"uri\":\"file:///a\",\"version\":1}}}",
-            "rule 209 of notification \"textDocument/didOpen\"",
-        ),
-        (
-            "{\"jsonrpc\":\"2.0\",\"id\":\"a\",\"result\":{}}",
-            "Other of result \"a\"",
-        ),
-    ];
-    for (content, expected) in rows {
-        let found = taken_of(rt.alloc(), Side::Editor, content)?;
-        assert_eq!(rt; found.as_str(), expected, "{content}");
+fn texts_are_moved_out_of_their_message(rt: HostRuntime) {
+    for (content, wanted) in &TAKEN {
+        check_row(&rt, content, taken_of(rt.alloc(), content), wanted);
     }
-    Ok(())
 }
 
+/// What a result of `initialize` picks.
 fn picks_of(alloc: Global, answer: &Value) -> Result<String, AllocError> {
     match picked_of(alloc, answer) {
         Ok(picked) => format!(in alloc; "{picked:?}"),
@@ -370,79 +393,91 @@ fn picks_of(alloc: Global, answer: &Value) -> Result<String, AllocError> {
     }
 }
 
-#[test]
-fn results_pick_an_encoding_and_a_kind(rt: HostRuntime) -> Result<(), Fail> {
-    let rows = [
-        (
-            "{\"capabilities\":{\"textDocumentSync\":2}}",
-            "Picked { encoding: \"utf-16\", kind: Incremental }",
-        ),
-        (
-            "{\"capabilities\":{\"positionEncoding\":\"utf-8\",\"textDocumentSync\":{\"change\":1}}}",
-            "Picked { encoding: \"utf-8\", kind: Full }",
-        ),
-        (
-            "{\"capabilities\":{\"positionEncoding\":null,\"textDocumentSync\":{\"change\":null}}}",
-            "Picked { encoding: \"utf-16\", kind: Nothing }",
-        ),
-        (
-            "{\"capabilities\":{}}",
-            "Picked { encoding: \"utf-16\", kind: Nothing }",
-        ),
-        ("{\"capabilities\":{\"textDocumentSync\":3}}", "rule 501"),
-        (
-            "{\"capabilities\":{\"textDocumentSync\":{\"change\":\"1\"}}}",
-            "rule 501",
-        ),
-        ("{\"capabilities\":{\"positionEncoding\":8}}", "rule 501"),
-        ("{\"capabilities\":[]}", "rule 501"),
-        ("null", "rule 501"),
-    ];
-    for (answer, picks) in rows {
-        let found = picks_of(rt.alloc(), &Value::from_str(rt.alloc(), answer)?)?;
-        assert_eq!(rt; found.as_str(), picks, "{answer}");
+/// The same of its text.
+fn picks_in(alloc: Global, answer: &str) -> Result<String, AllocError> {
+    match Value::from_str(alloc, answer) {
+        Ok(value) => picks_of(alloc, &value),
+        Err(_) => String::from_str(alloc, "no value"),
     }
-    Ok(())
 }
 
+const PICKS: [(&str, &str); 9] = [
+    (
+        "{\"capabilities\":{\"textDocumentSync\":2}}",
+        "Picked { encoding: \"utf-16\", kind: Incremental }",
+    ),
+    (
+        "{\"capabilities\":{\"positionEncoding\":\"utf-8\",\"textDocumentSync\":{\"change\":1}}}",
+        "Picked { encoding: \"utf-8\", kind: Full }",
+    ),
+    (
+        "{\"capabilities\":{\"positionEncoding\":null,\"textDocumentSync\":{\"change\":null}}}",
+        "Picked { encoding: \"utf-16\", kind: Nothing }",
+    ),
+    (
+        "{\"capabilities\":{}}",
+        "Picked { encoding: \"utf-16\", kind: Nothing }",
+    ),
+    ("{\"capabilities\":{\"textDocumentSync\":3}}", "rule 501"),
+    (
+        "{\"capabilities\":{\"textDocumentSync\":{\"change\":\"1\"}}}",
+        "rule 501",
+    ),
+    ("{\"capabilities\":{\"positionEncoding\":8}}", "rule 501"),
+    ("{\"capabilities\":[]}", "rule 501"),
+    ("null", "rule 501"),
+];
+
 #[test]
-fn messages_have_their_words(rt: HostRuntime) -> Result<(), Fail> {
-    let rows = [
-        (
-            "{\"jsonrpc\":\"2.0\",\"id\":1,\"method\":\"initialize\",\"params\":{\"capabilities\":{}}}",
-            "request 1 \"initialize\"",
-        ),
-        (
-            "{\"jsonrpc\":\"2.0\",\"id\":2,\"method\":\"shutdown\",\"params\":null}",
-            "request 2 \"shutdown\"",
-        ),
-        (
-            "{\"jsonrpc\":\"2.0\",\"method\":\"exit\"}",
-            "notification \"exit\"",
-        ),
-        ("{\"jsonrpc\":\"2.0\",\"id\":2,\"result\":null}", "result 2"),
-        (
-            "{\"jsonrpc\":\"2.0\",\"id\":7,\"error\":{\"code\":-32800,\"message\":\"c\"}}",
-            "error 7 -32800",
-        ),
-        (
-            "{\"jsonrpc\":\"2.0\",\"id\":null,\"result\":null}",
-            "result null",
-        ),
-        (
-            "{\"jsonrpc\":\"2.0\",\"id\":\"a\\\"\\n\",\"method\":\"m\"}",
-            "request \"a\\\"\\n\" \"m\"",
-        ),
-    ];
-    for (content, words) in rows {
-        let message = read(rt.alloc(), content.as_bytes())?;
-        assert_eq!(rt;
-            words_of(rt.alloc(), &message)?.as_str(),
-            words,
-            "{content}"
-        );
+fn results_pick_an_encoding_and_a_kind(rt: HostRuntime) {
+    for (answer, picks) in &PICKS {
+        check_row(&rt, answer, picks_in(rt.alloc(), answer), picks);
     }
-    Ok(())
+}
+
+fn words_in(alloc: Global, content: &str) -> Result<String, AllocError> {
+    let Ok(message) = read(alloc, content.as_bytes()) else {
+        return String::from_str(alloc, "no message");
+    };
+    match words_of(alloc, &message) {
+        Ok(words) => Ok(words),
+        Err(_) => Err(AllocError),
+    }
+}
+
+const WORDS: [(&str, &str); 7] = [
+    (
+        "{\"jsonrpc\":\"2.0\",\"id\":1,\"method\":\"initialize\",\"params\":{\"capabilities\":{}}}",
+        "request 1 \"initialize\"",
+    ),
+    (
+        "{\"jsonrpc\":\"2.0\",\"id\":2,\"method\":\"shutdown\",\"params\":null}",
+        "request 2 \"shutdown\"",
+    ),
+    (
+        "{\"jsonrpc\":\"2.0\",\"method\":\"exit\"}",
+        "notification \"exit\"",
+    ),
+    ("{\"jsonrpc\":\"2.0\",\"id\":2,\"result\":null}", "result 2"),
+    (
+        "{\"jsonrpc\":\"2.0\",\"id\":7,\"error\":{\"code\":-32800,\"message\":\"c\"}}",
+        "error 7 -32800",
+    ),
+    (
+        "{\"jsonrpc\":\"2.0\",\"id\":null,\"result\":null}",
+        "result null",
+    ),
+    (
+        "{\"jsonrpc\":\"2.0\",\"id\":\"a\\\"\\n\",\"method\":\"m\"}",
+        "request \"a\\\"\\n\" \"m\"",
+    ),
+];
+
+#[test]
+fn messages_have_their_words(rt: HostRuntime) {
+    for (content, words) in &WORDS {
+        check_row(&rt, content, words_in(rt.alloc(), content), words);
+    }
 }
 
 #[test]
@@ -450,6 +485,7 @@ fn a_number_and_a_text_are_two_ids(rt: HostRuntime) -> Result<(), Fail> {
     let number = Id::Number(1);
     let text = Id::Text(String::from_str(rt.alloc(), "1")?);
     assert!(rt; !same_id(&number, &text));
-    assert!(rt; same_id(&copy_id(&text)?, &text));
+    let copy = copy_id(&text)?;
+    assert!(rt; same_id(&copy, &text));
     Ok(())
 }

@@ -1,8 +1,9 @@
 //! Contents read by their outline.
-use lsp_rpc::{Answer, Id, Memory, Message, OutlineReader, RpcFault, Side, words_of};
+use crate::rows::check_row;
+use lsp_rpc::{Answer, Id, Message, OutlineReader, RpcFault, Side, words_of};
 use serde_json::Value;
 use std::alloc::{AllocError, Global};
-use std::test::Fail;
+use std::process::Abort;
 
 /// The words of a content's message, or the rule that it breaks.
 fn words_or_rule(
@@ -67,49 +68,47 @@ const CONTENTS: [(&str, &str); 14] = [
 ];
 
 #[test]
-fn words_of_outlines(rt: HostRuntime) -> Result<(), Fail> {
-    let alloc = rt.alloc();
-    let mut reader = OutlineReader::new(alloc);
-    for (content, words) in CONTENTS {
-        assert_eq!(rt; words_or_rule(alloc, &mut reader, content)?.as_str(), words);
+fn words_of_outlines(rt: HostRuntime) {
+    let mut reader = OutlineReader::new(rt.alloc());
+    for (content, wanted) in &CONTENTS {
+        let words = words_or_rule(rt.alloc(), &mut reader, content);
+        check_row(&rt, content, words, wanted);
     }
-    Ok(())
+}
+
+/// The number of a request or of an answer; 0 stands for none.
+fn number_of(read: Result<Message, RpcFault>) -> i32 {
+    match read {
+        Ok(
+            Message::Request {
+                id: Id::Number(number),
+                ..
+            },
+        ) => number,
+        Ok(
+            Message::Response {
+                id: Some(Id::Number(number)),
+                ..
+            },
+        ) => -number,
+        _ => 0,
+    }
 }
 
 #[test]
-fn outlines_and_answers(rt: HostRuntime) -> Result<(), Fail> {
+fn outlines_and_answers(rt: HostRuntime) {
     let mut reader = OutlineReader::new(rt.alloc());
     let call = reader.read(b"{\"jsonrpc\":\"2.0\",\"id\":5,\"method\":\"m\",\"params\":{}}");
-    assert!(rt;
-        matches!(
-            call,
-            Ok(Message::Request {
-                id: Id::Number(5),
-                ..
-            })
-        )
-    );
+    assert!(rt; number_of(call) == 5);
     let answer = reader.read_answer(b"{\"jsonrpc\":\"2.0\",\"id\":5,\"result\":[]}");
-    assert!(rt;
-        matches!(
-            answer,
-            Ok(Message::Response {
-                id: Some(Id::Number(5)),
-                ..
-            })
-        )
-    );
-    Ok(())
+    assert!(rt; number_of(answer) == -5);
 }
 
 /// A content of more than 1,024 bytes.
-fn long_content(alloc: Global, before: &str, after: &str) -> Result<Vec<u8>, Memory> {
-    let mut content = Vec::new(alloc);
-    content.extend_from_slice(before.as_bytes())?;
-    for _ in 0..11 {
-        content.extend_from_slice(&[b'a'; 100])?;
-    }
-    content.extend_from_slice(after.as_bytes())?;
+fn long_content(alloc: Global, before: &str, after: &str) -> Result<String, AllocError> {
+    let mut content = "a".repeat(alloc, 1100)?;
+    content.insert_str(0, before)?;
+    content.push_str(after)?;
     Ok(content)
 }
 
@@ -128,15 +127,20 @@ fn kept_of(message: &Message) -> &'static str {
     }
 }
 
-/// The words of a message and what is kept of it, or the rule that its content breaks.
-fn told(alloc: Global, read: Result<Message, RpcFault>) -> Result<String, Memory> {
+/// The words of a message and what is kept of it.
+fn told_message(alloc: Global, message: &Message) -> Result<String, AllocError> {
+    let Ok(words) = words_of(alloc, message) else {
+        return Err(AllocError);
+    };
+    let kept = kept_of(message);
+    format!(in alloc; "{}, {kept}", words.as_str())
+}
+
+/// The same, or the rule that a content breaks.
+fn told(alloc: Global, read: Result<Message, RpcFault>) -> Result<String, AllocError> {
     match read {
-        Ok(message) => {
-            let words = words_of(alloc, &message)?;
-            let kept = kept_of(&message);
-            Ok(format!(in alloc; "{words}, {kept}")?)
-        }
-        Err(fault) => Ok(format!(in alloc; "{fault}")?),
+        Ok(message) => told_message(alloc, &message),
+        Err(fault) => format!(in alloc; "{fault}"),
     }
 }
 
@@ -234,17 +238,27 @@ const LONG: [(&str, &str, &str, &str); 15] = [
     ),
 ];
 
+/// Reads a content of which a long text is a part, in both ways.
+fn check_long(
+    rt: &impl Abort,
+    alloc: Global,
+    reader: &mut OutlineReader,
+    row: &(&str, &str, &str, &str),
+) {
+    let (before, after, outline, answer) = row;
+    let content = long_content(alloc, before, after).expect(rt, "memory");
+    let read = told(alloc, reader.read(content.as_bytes()));
+    check_row(rt, before, read, outline);
+    let read = told(alloc, reader.read_answer(content.as_bytes()));
+    check_row(rt, before, read, answer);
+}
+
 #[test]
-fn long_contents(rt: HostRuntime) -> Result<(), Fail> {
-    let alloc = rt.alloc();
-    let mut reader = OutlineReader::new(alloc);
-    for (before, after, outline, answer) in LONG {
-        let content = long_content(alloc, before, after)?;
-        let content = content.as_slice();
-        assert_eq!(rt; told(alloc, reader.read(content))?.as_str(), outline);
-        assert_eq!(rt; told(alloc, reader.read_answer(content))?.as_str(), answer);
+fn long_contents(rt: HostRuntime) {
+    let mut reader = OutlineReader::new(rt.alloc());
+    for row in &LONG {
+        check_long(&rt, rt.alloc(), &mut reader, row);
     }
-    Ok(())
 }
 
 /// What `read_call` tells of a content.
@@ -253,12 +267,14 @@ fn told_call(
     reader: &mut OutlineReader,
     side: Side,
     content: &str,
-) -> Result<String, Memory> {
+) -> Result<String, AllocError> {
     let Some(spoken) = reader.read_call(side, content.as_bytes()) else {
-        return Ok(String::from_str(alloc, "none")?);
+        return String::from_str(alloc, "none");
     };
-    let words = words_of(alloc, &spoken.message)?;
-    Ok(format!(in alloc; "{words}, {:?}", spoken.act)?)
+    let Ok(words) = words_of(alloc, &spoken.message) else {
+        return Err(AllocError);
+    };
+    format!(in alloc; "{}, {:?}", words.as_str(), spoken.act)
 }
 
 const CALLS: [(Side, &str, &str); 12] = [
@@ -321,14 +337,10 @@ const CALLS: [(Side, &str, &str); 12] = [
 ];
 
 #[test]
-fn calls_by_their_names(rt: HostRuntime) -> Result<(), Fail> {
-    let alloc = rt.alloc();
-    let mut reader = OutlineReader::new(alloc);
-    for (side, content, words) in CALLS {
-        assert_eq!(rt;
-            told_call(alloc, &mut reader, side, content)?.as_str(),
-            words
-        );
+fn calls_by_their_names(rt: HostRuntime) {
+    let mut reader = OutlineReader::new(rt.alloc());
+    for (side, content, wanted) in &CALLS {
+        let told = told_call(rt.alloc(), &mut reader, *side, content);
+        check_row(&rt, content, told, wanted);
     }
-    Ok(())
 }

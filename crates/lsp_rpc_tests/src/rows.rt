@@ -1,0 +1,15 @@
+//! What comes of a content, as text, beside what has to come of it.
+use std::alloc::AllocError;
+use std::process::Abort;
+
+/// What was told of a content has to be this.
+pub(super) fn check_row(
+    rt: &impl Abort,
+    content: &str,
+    told: Result<String, AllocError>,
+    wanted: &str,
+) {
+    let told = told.expect(rt, "memory");
+    let found = told.as_str();
+    assert!(rt; found == wanted, "{content}: {found} for {wanted}");
+}
