@@ -25,117 +25,131 @@ const FRAME: &[u8] =
 
 const WHOLE_FRAMES: u64 = 42;
 
-/// Runs over a reader without an end.
+/// What a run over a reader without an end writes, and the word for how it ends.
+fn run_over(
+    alloc: Global,
+    limits: Limits,
+    task: Task<'_>,
+    endless: &mut Endless<'_>,
+    written: &mut Vec<u8>,
+) -> &'static str {
+    let mut source = Input::new(endless);
+    let mut sink = Output::new(written);
+    let ended = run_task(alloc, task, &mut source, &mut sink, limits);
+    word_of(&ended)
+}
+
+/// Runs over a reader without an end: its first bytes, and then others over and over.
 fn check_endless(
     rt: &impl Abort,
     alloc: Global,
     limits: Limits,
     task: Task<'_>,
-    mut endless: Endless<'_>,
-    wanted: (&str, &str),
+    (first, again): (&[u8], &[u8]),
+    (wanted, word): (&str, &str),
 ) {
+    let mut endless = Endless::new(first, again);
     let mut written = Vec::new(alloc);
-    let ended = {
-        let mut source = Input::new(&mut endless);
-        let mut sink = Output::new(&mut written);
-        run_task(alloc, task, &mut source, &mut sink, limits)
-    };
-    let (bytes, word) = wanted;
-    assert_eq!(rt; word_of(&ended), word, "{task:?}");
-    assert_eq!(rt; written.as_slice(), bytes.as_bytes(), "{task:?}");
+    let ended = run_over(alloc, limits, task, &mut endless, &mut written);
+    assert!(rt;
+        ended == word && written.as_slice() == wanted.as_bytes(),
+        "{task:?}: {written:?}"
+    );
     assert!(rt; endless.given <= 4097, "{task:?}");
 }
 
-/// The same text so many times behind a first one, and then the last.
-fn repeated(
-    alloc: Global,
-    first: &[u8],
-    again: &[u8],
-    times: u64,
-    last: &str,
-) -> Result<String, Fail> {
-    let mut text = String::from_str(alloc, str::from_utf8(first)?)?;
+/// A first text, and another so many times behind it.
+fn repeated(alloc: Global, first: &[u8], again: &[u8], times: u64) -> Option<String> {
+    let mut text = String::from_str(alloc, str::from_utf8(first).ok()?).ok()?;
+    let again = str::from_utf8(again).ok()?;
     for _ in 0..times {
-        text.push_str(str::from_utf8(again)?)?;
+        text.push_str(again).ok()?;
     }
-    text.push_str(last)?;
-    Ok(text)
+    Some(text)
 }
 
 /// Lines that are numbered from 1, and then the last ones.
-fn numbered(alloc: Global, count: u64, words: &str, last: &str) -> Result<String, Fail> {
+fn numbered(alloc: Global, count: u64, words: &str, last: &str) -> Option<String> {
     let mut lines = String::new(alloc);
     for number in 1..count.saturating_add(1) {
-        writeln!(lines, "{number} {words}")?;
+        writeln!(lines, "{number} {words}").ok()?;
     }
-    lines.push_str(last)?;
-    Ok(lines)
+    lines.push_str(last).ok()?;
+    Some(lines)
+}
+
+fn small_limits(rt: &impl Abort) -> Limits {
+    Limits::new(64, 8, 4, 0, 4096).expect(rt, "limits")
+}
+
+fn wide_limits(rt: &impl Abort) -> Limits {
+    Limits::new(4096, 67_108_864, 1_048_576, 0, 4096).expect(rt, "limits")
+}
+
+/// Runs over a log of snapshots without an end.
+fn check_snapshots(rt: &impl Abort, alloc: Global, task: Task<'_>, wanted: &str) {
+    let bytes = (HEAD, SNAPSHOT);
+    check_endless(
+        rt,
+        alloc,
+        small_limits(rt),
+        task,
+        bytes,
+        (wanted, "bad-log"),
+    );
 }
 
 #[test]
 fn a_log_without_end_through_each_run(rt: HostRuntime) -> Result<(), Fail> {
     let alloc = rt.alloc();
-    let limits = Limits::new(64, 8, 4, 0, 4096).ok_or("limits")?;
-    let shown = numbered(alloc, WHOLE, "snapshot 1 0 \"a\"", REPORT)?;
-    let normal = repeated(alloc, HEAD, SNAPSHOT, WHOLE, "")?;
-    let text = Task::Text {
-        number: "1".parse::<NonZeroU64>()?,
-        uri: "a",
-    };
-    let rows = [
-        (Task::Check(Completeness::Ignored), REPORT),
-        (Task::Check(Completeness::Required), REPORT),
-        (Task::Show, shown.as_str()),
-        (Task::Normal, normal.as_str()),
-        (text, ""),
-    ];
-    for (task, written) in rows {
-        let endless = Endless::new(HEAD, SNAPSHOT);
-        check_endless(&rt, alloc, limits, task, endless, (written, "bad-log"));
-    }
+    let shown = numbered(alloc, WHOLE, "snapshot 1 0 \"a\"", REPORT).expect(&rt, "memory");
+    let normal = repeated(alloc, HEAD, SNAPSHOT, WHOLE).expect(&rt, "memory");
+    let number = "1".parse::<NonZeroU64>()?;
+    check_snapshots(&rt, alloc, Task::Check(Completeness::Ignored), REPORT);
+    check_snapshots(&rt, alloc, Task::Check(Completeness::Required), REPORT);
+    check_snapshots(&rt, alloc, Task::Show, shown.as_str());
+    check_snapshots(&rt, alloc, Task::Normal, normal.as_str());
+    check_snapshots(&rt, alloc, Task::Text { number, uri: "a" }, "");
     Ok(())
 }
 
+/// Whether no text is given behind a message of a log that is too long.
+fn is_refused(alloc: Global, limits: Limits, endless: &mut Endless<'_>) -> bool {
+    let mut source = Input::new(endless);
+    matches!(
+        text_after(alloc, &mut source, limits, 1, "a"),
+        Ok(TextAnswer::Refused(Verdict::BadLog {
+            number: 372,
+            fault: LogCode::L6,
+        }))
+    )
+}
+
 #[test]
-fn the_text_after_a_message_of_a_log_without_end(rt: HostRuntime) -> Result<(), Fail> {
-    let limits = Limits::new(64, 8, 4, 0, 4096).ok_or("limits")?;
+fn the_text_after_a_message_of_a_log_without_end(rt: HostRuntime) {
     let mut endless = Endless::new(HEAD, SNAPSHOT);
-    let answer = {
-        let mut source = Input::new(&mut endless);
-        text_after(rt.alloc(), &mut source, limits, 1, "a")
-    };
-    assert!(rt;
-        matches!(
-            answer,
-            Ok(TextAnswer::Refused(Verdict::BadLog {
-                number: 372,
-                fault: LogCode::L6,
-            }))
-        )
-    );
+    assert!(rt; is_refused(rt.alloc(), small_limits(&rt), &mut endless));
     assert!(rt; endless.given <= 4097);
-    Ok(())
+}
+
+/// Runs over a stream of frames without an end.
+fn check_frames(rt: &impl Abort, alloc: Global, mode: Mode, wanted: &str) {
+    let bytes = (b"".as_slice(), FRAME);
+    let task = Task::Frames(mode);
+    check_endless(rt, alloc, wide_limits(rt), task, bytes, (wanted, "fault"));
 }
 
 #[test]
-fn a_stream_without_end_in_each_mode(rt: HostRuntime) -> Result<(), Fail> {
+fn a_stream_without_end_in_each_mode(rt: HostRuntime) {
     let alloc = rt.alloc();
-    let limits = Limits::new(4096, 67_108_864, 1_048_576, 0, 4096).ok_or("limits")?;
     let report = "fault L6 frame 43\nlog too long\n";
-    let lengths = numbered(alloc, WHOLE_FRAMES, "75", report)?;
-    let kinds = numbered(alloc, WHOLE_FRAMES, "75 request 1 \"initialize\"", report)?;
-    let canonical = repeated(alloc, b"", FRAME, WHOLE_FRAMES, "")?;
-    let rows = [
-        (Mode::Lengths, lengths.as_str()),
-        (Mode::Kinds, kinds.as_str()),
-        (Mode::Canonical, canonical.as_str()),
-    ];
-    for (mode, written) in rows {
-        let endless = Endless::new(b"", FRAME);
-        let task = Task::Frames(mode);
-        check_endless(&rt, alloc, limits, task, endless, (written, "fault"));
-    }
-    Ok(())
+    let lengths = numbered(alloc, WHOLE_FRAMES, "75", report).expect(&rt, "memory");
+    let words = "75 request 1 \"initialize\"";
+    let kinds = numbered(alloc, WHOLE_FRAMES, words, report).expect(&rt, "memory");
+    let canonical = repeated(alloc, b"", FRAME, WHOLE_FRAMES).expect(&rt, "memory");
+    check_frames(&rt, alloc, Mode::Lengths, lengths.as_str());
+    check_frames(&rt, alloc, Mode::Kinds, kinds.as_str());
+    check_frames(&rt, alloc, Mode::Canonical, canonical.as_str());
 }
 
 /// Bytes without an end that are no log and no stream: a line, a record, a header part, a content.
@@ -178,11 +192,16 @@ const NEITHER: [(Task<'static>, &[u8], &[u8], &str, &str); 5] = [
 ];
 
 #[test]
-fn bytes_without_end(rt: HostRuntime) -> Result<(), Fail> {
-    let limits = Limits::new(4096, 67_108_864, 1_048_576, 0, 4096).ok_or("limits")?;
-    for (task, first, again, written, word) in NEITHER {
-        let endless = Endless::new(first, again);
-        check_endless(&rt, rt.alloc(), limits, task, endless, (written, word));
+fn bytes_without_end(rt: HostRuntime) {
+    let limits = wide_limits(&rt);
+    for (task, first, again, written, word) in &NEITHER {
+        check_endless(
+            &rt,
+            rt.alloc(),
+            limits,
+            *task,
+            (first, again),
+            (written, word),
+        );
     }
-    Ok(())
 }

@@ -5,7 +5,6 @@ use lsp_command::{Task, run_task};
 use lsp_judge::{Input, Limits, Output};
 use std::alloc::Global;
 use std::process::Abort;
-use std::test::*;
 
 /// How many bytes a reader gives a call, and a writer takes.
 const PIECE: usize = 16;

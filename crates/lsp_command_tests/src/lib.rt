@@ -6,9 +6,13 @@
 #[cfg(test)]
 mod command_lines;
 #[cfg(test)]
+mod documents;
+#[cfg(test)]
 mod endless;
 #[cfg(test)]
 mod faults;
+#[cfg(test)]
+mod formats;
 #[cfg(test)]
 mod hostile;
 #[cfg(test)]
@@ -21,3 +25,5 @@ mod runs;
 mod sessions;
 #[cfg(test)]
 mod streams;
+#[cfg(test)]
+mod views;

@@ -1,6 +1,5 @@
 //! Logs as texts: a line for each record, its content by the name of a template.
 use std::alloc::Global;
-use std::test::Fail;
 
 /// The contents that the sessions are made of: a line for each, its name first. `@` stands for the
 /// next word behind the name, `*` for the contents that are named behind each ` / `, by commas.
@@ -45,10 +44,9 @@ fn first_line(number: &str) -> &'static str {
 /// The content of this name.
 fn template(name: &str) -> Option<&'static str> {
     for line in TEMPLATES.lines() {
-        if let Some((found, content)) = line.split_once(' ') {
-            if found == name {
-                return Some(content);
-            }
+        let (found, content) = split_word(line);
+        if found == name {
+            return Some(content);
         }
     }
     None
@@ -60,71 +58,74 @@ pub(super) fn split_word(line: &str) -> (&str, &str) {
 }
 
 /// Writes a content, words in the places of its `@`.
-fn fill(content: &mut String, template: &str, words: &str) -> Result<(), Fail> {
+fn fill(content: &mut String, template: &str, words: &str) -> Option<()> {
     let mut words = words.split_whitespace();
     for (index, piece) in template.split('@').enumerate() {
         if index > 0 {
-            content.push_str(words.next().ok_or("a word is missing")?)?;
+            content.push_str(words.next()?).ok()?;
         }
-        content.push_str(piece)?;
+        content.push_str(piece).ok()?;
     }
-    Ok(())
+    Some(())
+}
+
+/// Writes the contents that stand in the place of a `*`.
+fn fill_others(content: &mut String, others: &str) -> Option<()> {
+    for (index, other) in others.split_terminator(" / ").enumerate() {
+        if index > 0 {
+            content.push(',').ok()?;
+        }
+        let (name, words) = split_word(other);
+        fill(content, template(name)?, words)?;
+    }
+    Some(())
 }
 
 /// The content that these words name.
-fn content_of(alloc: Global, words: &str) -> Result<String, Fail> {
+fn content_of(alloc: Global, words: &str) -> Option<String> {
     let (first, others) = words.split_once(" / ").unwrap_or((words, ""));
     let (name, words) = split_word(first);
-    let whole = template(name).ok_or("no such template")?;
+    let whole = template(name)?;
     let (front, back) = whole.split_once('*').unwrap_or((whole, ""));
     let mut content = String::new(alloc);
     fill(&mut content, front, words)?;
-    for (index, other) in others.split_terminator(" / ").enumerate() {
-        if index > 0 {
-            content.push(',')?;
-        }
-        let (name, words) = split_word(other);
-        fill(
-            &mut content,
-            template(name).ok_or("no such template")?,
-            words,
-        )?;
-    }
-    content.push_str(back)?;
-    Ok(content)
+    fill_others(&mut content, others)?;
+    content.push_str(back).ok()?;
+    Some(content)
 }
 
 /// The canonical frame of the content that these words name.
-pub(super) fn frame_of(alloc: Global, words: &str) -> Result<String, Fail> {
+pub(super) fn frame_of(alloc: Global, words: &str) -> Option<String> {
     let content = content_of(alloc, words)?;
     let content = content.as_str();
-    let length = content.len();
-    Ok(format!(in alloc; "Content-Length: {length}\r\n\r\n{content}")?)
+    format!(in alloc; "Content-Length: {}\r\n\r\n{content}", content.len()).ok()
 }
 
-/// Writes what follows a backslash.
-fn push_escaped(bytes: &mut Vec<u8>, text: &str) -> Result<(), Fail> {
-    for (name, byte) in [("r", b'\r'), ("n", b'\n'), ("xff", 0xff)] {
-        if let Some(rest) = text.strip_prefix(name) {
-            bytes.push(byte)?;
-            bytes.extend_from_slice(rest.as_bytes())?;
-            return Ok(());
+/// What stands for one byte behind a backslash.
+const ESCAPES: [(&str, u8); 3] = [("r", b'\r'), ("n", b'\n'), ("xff", 0xff)];
+
+/// The byte that a text begins with behind a backslash, and the rest of the text.
+fn split_escape(text: &str) -> Option<(u8, &str)> {
+    for (name, byte) in &ESCAPES {
+        if let Some(rest) = text.strip_prefix(*name) {
+            return Some((*byte, rest));
         }
     }
-    Err("no such escape")?
+    None
 }
 
-/// The bytes of a text in which `\r`, `\n` and `\xff` stand for one byte each.
-fn unescaped(alloc: Global, text: &str) -> Result<Vec<u8>, Fail> {
-    let mut bytes = Vec::new(alloc);
+/// Adds the bytes of a text in which `\r`, `\n` and `\xff` stand for one byte each.
+fn push_unescaped(bytes: &mut Vec<u8>, text: &str) -> Option<()> {
     for (index, piece) in text.split('\\').enumerate() {
-        if index == 0 {
-            bytes.extend_from_slice(piece.as_bytes())?;
-        } else {
-            push_escaped(&mut bytes, piece)?;
+        let mut plain = piece;
+        if index > 0 {
+            let (byte, rest) = split_escape(piece)?;
+            bytes.push(byte).ok()?;
+            plain = rest;
         }
+        bytes.extend_from_slice(plain.as_bytes()).ok()?;
     }
-    Ok(bytes)
+    Some(())
 }
 
 /// A log that is built line by line.
@@ -150,36 +151,46 @@ impl Log {
         self.bytes.as_slice()
     }
 
-    fn push(&mut self, text: &str) -> Result<(), Fail> {
-        Ok(self.bytes.extend_from_slice(text.as_bytes())?)
+    fn push(&mut self, text: &str) -> Option<()> {
+        self.bytes.extend_from_slice(text.as_bytes()).ok()
+    }
+
+    /// A record of these bytes of a side.
+    fn record(&mut self, side: &str, piece: &[u8]) -> Option<()> {
+        let head = format!(in self.alloc; "{side} {}\n", piece.len()).ok()?;
+        self.push(head.as_str())?;
+        self.bytes.extend_from_slice(piece).ok()?;
+        self.push("\n")
     }
 
     /// The canonical frame of the content that these words name, cut into records.
-    fn frame(&mut self, side: &str, words: &str) -> Result<(), Fail> {
+    fn frame(&mut self, side: &str, words: &str) -> Option<()> {
         let frame = frame_of(self.alloc, words)?;
         for piece in frame.as_bytes().chunks(self.most.max(1)) {
-            let length = piece.len();
-            let head = format!(in self.alloc; "{side} {length}\n")?;
-            self.push(head.as_str())?;
-            self.bytes.extend_from_slice(piece)?;
-            self.push("\n")?;
+            self.record(side, piece)?;
         }
-        Ok(())
+        Some(())
+    }
+
+    /// A frame outside of any record.
+    fn bare_frame(&mut self, words: &str) -> Option<()> {
+        let frame = frame_of(self.alloc, words)?;
+        self.push(frame.as_str())
     }
 
     /// A snapshot: its version, and its text in quotes.
-    fn snapshot(&mut self, words: &str) -> Result<(), Fail> {
-        let (version, text) = words.split_once(' ').ok_or("no text")?;
-        let text = unescaped(self.alloc, text.trim_matches('"'))?;
-        let length = text.len();
-        let head = format!(in self.alloc; "T {version} 9 {length}\nfile:///a\n")?;
+    fn snapshot(&mut self, words: &str) -> Option<()> {
+        let (version, text) = split_word(words);
+        let mut bytes = Vec::new(self.alloc);
+        push_unescaped(&mut bytes, text.trim_matches('"'))?;
+        let head = format!(in self.alloc; "T {version} 9 {}\nfile:///a\n", bytes.len()).ok()?;
         self.push(head.as_str())?;
-        self.bytes.extend_from_slice(text.as_slice())?;
+        self.bytes.extend_from_slice(bytes.as_slice()).ok()?;
         self.push("\n")
     }
 
     /// A frame whose header part has a field of so many letters.
-    fn long_header(&mut self, letters: usize) -> Result<(), Fail> {
+    fn long_header(&mut self, letters: usize) -> Option<()> {
         self.push("Content-Length: 2\r\nX: ")?;
         for _ in 0..letters {
             self.push("a")?;
@@ -188,46 +199,63 @@ impl Log {
     }
 
     /// A log that begins with this.
-    fn begin(&mut self, head: &str) -> Result<(), Fail> {
+    fn begin(&mut self, head: &str) -> Option<()> {
         self.bytes.clear();
         self.push(head)
     }
 
-    fn start(&mut self, format: &str) -> Result<(), Fail> {
+    fn start(&mut self, format: &str) -> Option<()> {
         self.begin(first_line(format))?;
-        for (side, words) in START {
+        for (side, words) in &START {
             self.frame(side, words)?;
         }
-        Ok(())
+        Some(())
+    }
+
+    /// The most bytes that a record has from here on.
+    fn cut(&mut self, most: &str) -> Option<()> {
+        self.most = most.parse().ok()?;
+        Some(())
+    }
+
+    /// Whether there are so many bytes.
+    fn has_length(&self, length: &str) -> Option<()> {
+        if length.parse() == Ok(self.bytes.len()) {
+            Some(())
+        } else {
+            None
+        }
     }
 
     /// Adds what a line says. A new log begins by `EMPTY`, by `HEAD` with its first line, by `START`
-    /// with that and the handshake; `HEAD 2` and `START 2` begin a log of format 2. `E` adds a message of the editor, `S` of the server, `T` a
-    /// snapshot, `+` bytes as they are; `:` says how many bytes there are. From `CUT` on, records of bytes
-    /// have so many bytes at most. `F` adds a frame outside of any record, `LONG` one whose
-    /// header part has a field of so many letters.
-    pub(super) fn add(&mut self, word: &str, rest: &str) -> Result<(), Fail> {
+    /// with that and the handshake; `HEAD 2` and `START 2` begin a log of format 2. `E` adds a message
+    /// of the editor, `S` of the server, `T` a snapshot, `+` bytes as they are; `:` says how many bytes
+    /// there are. From `CUT` on, records of bytes have so many bytes at most. `F` adds a frame outside
+    /// of any record, `LONG` one whose header part has a field of so many letters.
+    pub(super) fn add(&mut self, word: &str, rest: &str) -> Option<()> {
         match word {
             "EMPTY" => self.begin(""),
             "HEAD" => self.begin(first_line(rest)),
             "START" => self.start(rest),
             "E" | "S" => self.frame(word, rest),
-            "F" => {
-                let frame = frame_of(self.alloc, rest)?;
-                self.push(frame.as_str())
-            }
-            "LONG" => self.long_header(rest.parse()?),
+            "F" => self.bare_frame(rest),
+            "LONG" => self.long_header(rest.parse().ok()?),
             "T" => self.snapshot(rest),
-            "CUT" => {
-                self.most = rest.parse()?;
-                Ok(())
-            }
-            ":" if rest.parse() == Ok(self.bytes.len()) => Ok(()),
-            "+" => {
-                let bytes = unescaped(self.alloc, rest)?;
-                Ok(self.bytes.extend_from_slice(bytes.as_slice())?)
-            }
-            _ => Err("no such line")?,
+            "CUT" => self.cut(rest),
+            ":" => self.has_length(rest),
+            "+" => push_unescaped(&mut self.bytes, rest),
+            _ => None,
         }
     }
+}
+
+/// The log that these lines build, whose records of bytes have so many bytes at most.
+pub(super) fn log_of(alloc: Global, lines: &str, most: usize) -> Option<Log> {
+    let mut log = Log::new(alloc);
+    log.most = most;
+    for line in lines.lines() {
+        let (word, rest) = split_word(line);
+        log.add(word, rest)?;
+    }
+    Some(log)
 }
