@@ -3,6 +3,7 @@ use lsp_judge::{LogCode, OpenDocument, Summary, Verdict, Who, report_of};
 use lsp_rpc::{Encoding, Id, Side, SyncKind};
 use lsp_session::OpenRequest;
 use std::alloc::Global;
+use std::process::Abort;
 use std::test::Fail;
 
 /// The start of a session of so many messages of the editor and one of the server, in which
@@ -20,19 +21,19 @@ fn started(alloc: Global, editor: u64) -> Summary {
     }
 }
 
+fn check_report(rt: &impl Abort, alloc: Global, verdict: &Verdict, wanted: &str) {
+    let report = report_of(alloc, verdict).expect(rt, "memory");
+    assert!(rt; report.as_slice() == wanted.as_bytes(), "{wanted}");
+}
+
 #[test]
-fn report_of_nothing(rt: HostRuntime) -> Result<(), Fail> {
-    let verdict = Verdict::Yes(Summary {
-        editor: 0,
-        server: 0,
-        encoding: None,
-        sync: None,
-        ..started(rt.alloc(), 0)
-    });
-    let report = report_of(rt.alloc(), &verdict)?;
-    let expected = "yes\nmessages 0 0\nsnapshots 0 unmatched 0\nencoding - sync -\n";
-    assert_eq!(rt; report.as_slice(), expected.as_bytes());
-    Ok(())
+fn report_of_nothing(rt: HostRuntime) {
+    let mut summary = started(rt.alloc(), 0);
+    summary.server = 0;
+    summary.encoding = None;
+    summary.sync = None;
+    let wanted = "yes\nmessages 0 0\nsnapshots 0 unmatched 0\nencoding - sync -\n";
+    check_report(&rt, rt.alloc(), &Verdict::Yes(summary), wanted);
 }
 
 #[test]
@@ -45,10 +46,9 @@ fn report_with_an_open_document(rt: HostRuntime) -> Result<(), Fail> {
         version: 1,
         bytes: 2,
     })?;
-    let report = report_of(rt.alloc(), &Verdict::Yes(summary))?;
-    let expected =
+    let wanted =
         "yes\nmessages 5 2\nsnapshots 1 unmatched 0\nencoding utf-16 sync incremental\ndocument 1 2 \"file:///a\"\n";
-    assert_eq!(rt; report.as_slice(), expected.as_bytes());
+    check_report(&rt, rt.alloc(), &Verdict::Yes(summary), wanted);
     Ok(())
 }
 
@@ -61,32 +61,34 @@ fn report_with_a_cancelled_request(rt: HostRuntime) -> Result<(), Fail> {
         cancelled: true,
     };
     summary.requests.push((Side::Editor, request))?;
-    let report = report_of(rt.alloc(), &Verdict::Yes(summary))?;
-    let expected =
+    let wanted =
         "yes\nmessages 4 1\nsnapshots 0 unmatched 0\nencoding utf-16 sync incremental\nrequest editor 7 \"textDocument/hover\" cancelled\n";
-    assert_eq!(rt; report.as_slice(), expected.as_bytes());
+    check_report(&rt, rt.alloc(), &Verdict::Yes(summary), wanted);
     Ok(())
 }
 
 #[test]
-fn reports_of_no_and_of_a_bad_log(rt: HostRuntime) -> Result<(), Fail> {
+fn reports_of_no_and_of_a_bad_log(rt: HostRuntime) {
     let no = Verdict::No {
         rule: 302,
         who: Who::Editor,
         number: 4,
         event: 5,
     };
+    check_report(
+        &rt,
+        rt.alloc(),
+        &no,
+        "no 302 editor 4 event 5\nid is already open\n",
+    );
     let bad = Verdict::BadLog {
         number: 1,
         fault: LogCode::L3,
     };
-    let rows = [
-        (no, "no 302 editor 4 event 5\nid is already open\n"),
-        (bad, "bad log L3 record 1\nsize out of range\n"),
-    ];
-    for (verdict, expected) in rows {
-        let report = report_of(rt.alloc(), &verdict)?;
-        assert_eq!(rt; report.as_slice(), expected.as_bytes());
-    }
-    Ok(())
+    check_report(
+        &rt,
+        rt.alloc(),
+        &bad,
+        "bad log L3 record 1\nsize out of range\n",
+    );
 }

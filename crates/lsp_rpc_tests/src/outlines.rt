@@ -76,22 +76,22 @@ fn words_of_outlines(rt: HostRuntime) {
     }
 }
 
-/// The number of a request or of an answer; 0 stands for none.
-fn number_of(read: Result<Message, RpcFault>) -> i32 {
+/// The kind and the number of a request or of an answer; 0 stands for none.
+fn number_of(read: Result<Message, RpcFault>) -> (&'static str, i32) {
     match read {
         Ok(
             Message::Request {
                 id: Id::Number(number),
                 ..
             },
-        ) => number,
+        ) => ("request", number),
         Ok(
             Message::Response {
                 id: Some(Id::Number(number)),
                 ..
             },
-        ) => -number,
-        _ => 0,
+        ) => ("response", number),
+        _ => ("", 0),
     }
 }
 
@@ -99,9 +99,9 @@ fn number_of(read: Result<Message, RpcFault>) -> i32 {
 fn outlines_and_answers(rt: HostRuntime) {
     let mut reader = OutlineReader::new(rt.alloc());
     let call = reader.read(b"{\"jsonrpc\":\"2.0\",\"id\":5,\"method\":\"m\",\"params\":{}}");
-    assert!(rt; number_of(call) == 5);
+    assert!(rt; number_of(call) == ("request", 5));
     let answer = reader.read_answer(b"{\"jsonrpc\":\"2.0\",\"id\":5,\"result\":[]}");
-    assert!(rt; number_of(answer) == -5);
+    assert!(rt; number_of(answer) == ("response", 5));
 }
 
 /// A content of more than 1,024 bytes.
