@@ -1,6 +1,6 @@
 //! Edits of the editor's as they are mostly sent, read from their tokens, and others, which are read whole.
 use crate::rows::check_row;
-use lsp_rpc::{Act, Message, OutlineReader, RpcFault, Side, act_of, read};
+use lsp_rpc::{Act, Message, OutlineReader, RpcFault, Side, Spoken, act_of, read};
 use std::alloc::{AllocError, Global};
 use std::process::Abort;
 
@@ -11,17 +11,21 @@ fn method_of(message: &Message) -> &str {
     }
 }
 
+fn told_spoken(alloc: Global, spoken: &Spoken) -> Result<String, AllocError> {
+    let method = method_of(&spoken.message);
+    format!(in alloc; "{:?} {method:?}", spoken.act)
+}
+
 /// What `read_change` tells of a content.
 fn told_fast(
     alloc: Global,
     reader: &mut OutlineReader,
     content: &[u8],
 ) -> Result<String, AllocError> {
-    let Some(spoken) = reader.read_change(content) else {
-        return String::from_str(alloc, "none");
-    };
-    let method = method_of(&spoken.message);
-    format!(in alloc; "{:?} {method:?}", spoken.act)
+    match reader.read_change(content) {
+        Some(spoken) => told_spoken(alloc, &spoken),
+        None => String::from_str(alloc, "none"),
+    }
 }
 
 fn told_act(alloc: Global, act: Result<Act, RpcFault>, method: &str) -> Result<String, AllocError> {

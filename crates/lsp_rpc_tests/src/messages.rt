@@ -1,7 +1,7 @@
 //! Messages: the rules that contents break, what messages mean, and the words that name them.
-use crate::rows::check_row;
+use crate::rows::{check_row, words};
 use lsp_rpc::{
-    Act, Id, Message, RpcFault, Side, act_of, copy_id, picked_of, read, same_id, take_act, words_of,
+    Act, Id, Message, RpcFault, Side, act_of, copy_id, picked_of, read, same_id, take_act,
 };
 use serde_json::Value;
 use std::alloc::{AllocError, Global};
@@ -335,28 +335,35 @@ fn params_of(message: &Message) -> &'static str {
     }
 }
 
-fn told_taken(
-    alloc: Global,
-    act: Result<Act, RpcFault>,
-    words: &str,
-    left: &str,
-) -> Result<String, AllocError> {
+fn told_taken(alloc: Global, act: Result<Act, RpcFault>, name: &str) -> Result<String, AllocError> {
     match act {
-        Ok(act) => format!(in alloc; "{act:?} of {words}{left}"),
-        Err(fault) => format!(in alloc; "{fault} of {words}{left}"),
+        Ok(act) => format!(in alloc; "{act:?} of {name}"),
+        Err(fault) => format!(in alloc; "{fault} of {name}"),
     }
 }
 
+/// The words of a message, and what is said of its params.
+fn named(alloc: Global, message: &Message) -> Result<String, AllocError> {
+    let words = words(alloc, message)?;
+    let params = params_of(message);
+    format!(in alloc; "{}{params}", words.as_str())
+}
+
 /// What a message of the editor means, taken out of it, and the words that then name the message.
-fn taken_of(alloc: Global, content: &str) -> Result<String, AllocError> {
-    let Ok(mut message) = read(alloc, content.as_bytes()) else {
-        return String::from_str(alloc, "no message");
-    };
+fn taken_from(alloc: Global, mut message: Message) -> Result<String, AllocError> {
     let act = take_act(alloc, &mut message, Side::Editor);
-    let Ok(words) = words_of(alloc, &message) else {
-        return Err(AllocError);
-    };
-    told_taken(alloc, act, words.as_str(), params_of(&message))
+    match named(alloc, &message) {
+        Ok(name) => told_taken(alloc, act, name.as_str()),
+        Err(refused) => Err(refused),
+    }
+}
+
+/// The same of a content.
+fn taken_of(alloc: Global, content: &str) -> Result<String, AllocError> {
+    match read(alloc, content.as_bytes()) {
+        Ok(message) => taken_from(alloc, message),
+        Err(_) => String::from_str(alloc, "no message"),
+    }
 }
 
 const TAKEN: [(&str, &str); 4] = [
@@ -436,12 +443,9 @@ fn results_pick_an_encoding_and_a_kind(rt: HostRuntime) {
 }
 
 fn words_in(alloc: Global, content: &str) -> Result<String, AllocError> {
-    let Ok(message) = read(alloc, content.as_bytes()) else {
-        return String::from_str(alloc, "no message");
-    };
-    match words_of(alloc, &message) {
-        Ok(words) => Ok(words),
-        Err(_) => Err(AllocError),
+    match read(alloc, content.as_bytes()) {
+        Ok(message) => words(alloc, &message),
+        Err(_) => String::from_str(alloc, "no message"),
     }
 }
 
@@ -475,8 +479,8 @@ const WORDS: [(&str, &str); 7] = [
 
 #[test]
 fn messages_have_their_words(rt: HostRuntime) {
-    for (content, words) in &WORDS {
-        check_row(&rt, content, words_in(rt.alloc(), content), words);
+    for (content, wanted) in &WORDS {
+        check_row(&rt, content, words_in(rt.alloc(), content), wanted);
     }
 }
 

@@ -1,6 +1,6 @@
 //! Contents read by their outline.
-use crate::rows::check_row;
-use lsp_rpc::{Answer, Id, Message, OutlineReader, RpcFault, Side, words_of};
+use crate::rows::{check_row, words};
+use lsp_rpc::{Answer, Message, OutlineReader, RpcFault, Side, Spoken};
 use serde_json::Value;
 use std::alloc::{AllocError, Global};
 use std::process::Abort;
@@ -71,37 +71,9 @@ const CONTENTS: [(&str, &str); 14] = [
 fn words_of_outlines(rt: HostRuntime) {
     let mut reader = OutlineReader::new(rt.alloc());
     for (content, wanted) in &CONTENTS {
-        let words = words_or_rule(rt.alloc(), &mut reader, content);
-        check_row(&rt, content, words, wanted);
+        let told = words_or_rule(rt.alloc(), &mut reader, content);
+        check_row(&rt, content, told, wanted);
     }
-}
-
-/// The kind and the number of a request or of an answer; 0 stands for none.
-fn number_of(read: Result<Message, RpcFault>) -> (&'static str, i32) {
-    match read {
-        Ok(
-            Message::Request {
-                id: Id::Number(number),
-                ..
-            },
-        ) => ("request", number),
-        Ok(
-            Message::Response {
-                id: Some(Id::Number(number)),
-                ..
-            },
-        ) => ("response", number),
-        _ => ("", 0),
-    }
-}
-
-#[test]
-fn outlines_and_answers(rt: HostRuntime) {
-    let mut reader = OutlineReader::new(rt.alloc());
-    let call = reader.read(b"{\"jsonrpc\":\"2.0\",\"id\":5,\"method\":\"m\",\"params\":{}}");
-    assert!(rt; number_of(call) == ("request", 5));
-    let answer = reader.read_answer(b"{\"jsonrpc\":\"2.0\",\"id\":5,\"result\":[]}");
-    assert!(rt; number_of(answer) == ("response", 5));
 }
 
 /// A content of more than 1,024 bytes.
@@ -129,9 +101,7 @@ fn kept_of(message: &Message) -> &'static str {
 
 /// The words of a message and what is kept of it.
 fn told_message(alloc: Global, message: &Message) -> Result<String, AllocError> {
-    let Ok(words) = words_of(alloc, message) else {
-        return Err(AllocError);
-    };
+    let words = words(alloc, message)?;
     let kept = kept_of(message);
     format!(in alloc; "{}, {kept}", words.as_str())
 }
@@ -142,6 +112,21 @@ fn told(alloc: Global, read: Result<Message, RpcFault>) -> Result<String, AllocE
         Ok(message) => told_message(alloc, &message),
         Err(fault) => format!(in alloc; "{fault}"),
     }
+}
+
+fn check_begins(rt: &impl Abort, told: Result<String, AllocError>, wanted: &str) {
+    let told = told.expect(rt, "memory");
+    assert!(rt; told.as_str().starts_with(wanted), "{wanted}");
+}
+
+#[test]
+fn outlines_and_answers(rt: HostRuntime) {
+    let alloc = rt.alloc();
+    let mut reader = OutlineReader::new(alloc);
+    let call = reader.read(b"{\"jsonrpc\":\"2.0\",\"id\":5,\"method\":\"m\",\"params\":{}}");
+    check_begins(&rt, told(alloc, call), "request 5 \"m\", ");
+    let answer = reader.read_answer(b"{\"jsonrpc\":\"2.0\",\"id\":5,\"result\":[]}");
+    check_begins(&rt, told(alloc, answer), "result 5, ");
 }
 
 /// What stands before and behind a long text, and what `read` and `read_answer` tell.
@@ -261,6 +246,11 @@ fn long_contents(rt: HostRuntime) {
     }
 }
 
+fn told_spoken(alloc: Global, spoken: &Spoken) -> Result<String, AllocError> {
+    let words = words(alloc, &spoken.message)?;
+    format!(in alloc; "{}, {:?}", words.as_str(), spoken.act)
+}
+
 /// What `read_call` tells of a content.
 fn told_call(
     alloc: Global,
@@ -268,13 +258,10 @@ fn told_call(
     side: Side,
     content: &str,
 ) -> Result<String, AllocError> {
-    let Some(spoken) = reader.read_call(side, content.as_bytes()) else {
-        return String::from_str(alloc, "none");
-    };
-    let Ok(words) = words_of(alloc, &spoken.message) else {
-        return Err(AllocError);
-    };
-    format!(in alloc; "{}, {:?}", words.as_str(), spoken.act)
+    match reader.read_call(side, content.as_bytes()) {
+        Some(spoken) => told_spoken(alloc, &spoken),
+        None => String::from_str(alloc, "none"),
+    }
 }
 
 const CALLS: [(Side, &str, &str); 12] = [

@@ -4,7 +4,7 @@
 //! many requests of the editor are open and cancelled, and how many of the server are open. A line
 //! `lacks RULE` says what the session would lack if it ended there, 0 for nothing. A line `session`
 //! begins a new session.
-use lsp_rpc::{Id, RpcFault, Side, act_of, read};
+use lsp_rpc::{Act, Message, RpcFault, Side, act_of, read};
 use lsp_session::{Pending, Refusal, Session};
 use std::alloc::Global;
 use std::process::Abort;
@@ -229,20 +229,28 @@ fn rule_of(fault: RpcFault) -> u16 {
     }
 }
 
-/// The rule that a message breaks by itself or in a session; 0 stands for none, and 1 for want of memory.
-fn admitted(alloc: Global, session: &mut Session, side: Side, content: &str) -> u16 {
-    let message = match read(alloc, content.as_bytes()) {
-        Ok(message) => message,
-        Err(fault) => return rule_of(fault),
-    };
-    let act = match act_of(alloc, &message, side) {
-        Ok(act) => act,
-        Err(fault) => return rule_of(fault),
-    };
-    match session.admit(side, &message, &act) {
+/// The rule that a message breaks in a session; 0 stands for none, and 1 for want of memory.
+fn admit(session: &mut Session, side: Side, message: &Message, act: &Act) -> u16 {
+    match session.admit(side, message, act) {
         Ok(()) => 0,
         Err(Refusal::Rule(rule)) => rule,
         Err(Refusal::Memory) => 1,
+    }
+}
+
+/// The same, or the rule that it breaks by its params.
+fn admit_message(alloc: Global, session: &mut Session, side: Side, message: &Message) -> u16 {
+    match act_of(alloc, message, side) {
+        Ok(act) => admit(session, side, message, &act),
+        Err(fault) => rule_of(fault),
+    }
+}
+
+/// The same of a content.
+fn admitted(alloc: Global, session: &mut Session, side: Side, content: &str) -> u16 {
+    match read(alloc, content.as_bytes()) {
+        Ok(message) => admit_message(alloc, session, side, &message),
+        Err(fault) => rule_of(fault),
     }
 }
 
@@ -283,10 +291,17 @@ fn is_in_state(alloc: Global, session: &Session, wanted: &str) -> bool {
     }
 }
 
+/// Begins a new session.
+fn begin(alloc: Global, session: &mut Session) -> bool {
+    *session = Session::new(alloc);
+    true
+}
+
 /// Whether a session keeps what a line says.
 fn keeps(alloc: Global, session: &mut Session, line: &str) -> bool {
     let (word, rest) = split_word(line);
     match word {
+        "session" => begin(alloc, session),
         "is" => is_in_state(alloc, session, rest),
         "lacks" => is_number(rest, session.incomplete().unwrap_or(0)),
         "editor" => keeps_rule(alloc, session, Side::Editor, rest),
@@ -298,12 +313,8 @@ fn keeps(alloc: Global, session: &mut Session, line: &str) -> bool {
 fn check_sessions(rt: &impl Abort, alloc: Global, lines: &str) {
     let mut session = Session::new(alloc);
     for (number, line) in lines.lines().enumerate() {
-        if line == "session" {
-            session = Session::new(alloc);
-        } else {
-            let kept = keeps(alloc, &mut session, line);
-            assert!(rt; kept, "line {number}: {line}");
-        }
+        let kept = keeps(alloc, &mut session, line);
+        assert!(rt; kept, "line {number}: {line}");
     }
 }
 
