@@ -1,0 +1,119 @@
+//! Worked sessions through the runs that write more than a report.
+use crate::runs::check_sessions;
+use lsp_judge::Limits;
+use std::test::*;
+
+/// The events of a session, and a session whose first event offends.
+const EVENTS: &str = r#"START
+E OPEN 1 "ab"
+T 1 "ab"
+E SH
+S RES 2
+E EX
+> 1 editor request 1 "initialize"
+> 2 server result 1
+> 3 editor notification "initialized"
+> 4 editor notification "textDocument/didOpen"
+> 5 snapshot 1 2 "file:///a"
+> 6 editor request 2 "shutdown"
+> 7 server result 2
+> 8 editor notification "exit"
+> yes
+> messages 5 2
+> snapshots 1 unmatched 0
+> encoding utf-16 sync incremental
+> document 1 2 "file:///a"
+show yes
+HEAD
+E REQ 7
+> no 401 editor 1 event 1
+> editor message before initialize
+show no"#;
+
+#[test]
+fn the_events_of_a_session(rt: HostRuntime) {
+    check_sessions(&rt, rt.alloc(), EVENTS, Limits::profile());
+}
+
+/// The text of a document after a message of the editor, and what is said where there is none.
+const TEXTS: &str = r#"START
+E OPEN 1 "ab"
+T 1 "ab"
+E SH
+S RES 2
+E EX
+| ab
+text 3 file:///a done
+text 2 file:///a no-document
+text 6 file:///a too-few
+HEAD
+E REQ 7
+! no 401 editor 1 event 1
+! editor message before initialize
+text 1 file:///a no"#;
+
+#[test]
+fn the_text_after_a_message(rt: HostRuntime) {
+    check_sessions(&rt, rt.alloc(), TEXTS, Limits::profile());
+}
+
+/// The normal form of a session is the session with whole records, however it was cut; a fault ends
+/// it.
+const NORMAL_FORMS: &str = r#"START
+E OPEN 1 "ab"
+T 1 "ab"
+E SH
+S RES 2
+E EX
+: 698
+KEEP
+normal done
+KEEP
+CUT 1
+START
+E OPEN 1 "ab"
+T 1 "ab"
+E SH
+S RES 2
+E EX
+: 3755
+normal done
+CUT 1048576
+HEAD
+E REQ 7
+KEEP
+normal done
+HEAD
++ E 3\nabc\n
+> lsp-session 1
+! no 107 editor 1 event 1
+! stream ends inside a frame
+normal no
+EMPTY
++ lsp-session 9\n
+> lsp-session 1
+! bad log L1 record 0
+! bad first line
+normal bad-log"#;
+
+#[test]
+fn normal_forms(rt: HostRuntime) {
+    check_sessions(&rt, rt.alloc(), NORMAL_FORMS, Limits::profile());
+}
+
+/// A frame of 97 bytes in records of 33 and 64 bytes, and in its normal form where a record has 64
+/// bytes at most.
+const SHORT_RECORDS: &str = r#"CUT 64
+HEAD
+E I 1
+KEEP
+HEAD
++ E 33\nContent-Length: 75\r\n\r\n{"jsonrpc":\n
++ E 64\n"2.0","id":1,"method":"initialize","params":{"capabilities":{}}}\n
+normal done"#;
+
+#[test]
+fn normal_form_with_short_records(rt: HostRuntime) {
+    let limits = Limits::new(4096, 67_108_864, 64, 16_777_216, 1 << 40).expect(&rt, "limits");
+    check_sessions(&rt, rt.alloc(), SHORT_RECORDS, limits);
+}
