@@ -6,7 +6,8 @@ import random
 from pathlib import Path
 
 EXAMPLES = Path(__file__).resolve().parent.parent / "examples"
-LOGS = [path.read_bytes() for path in sorted(EXAMPLES.glob("*.log"))]
+HEADS = [b"lsp-session 1\n", b"lsp-session 2\n"]
+LOGS = [head + path.read_bytes()[len(head) :] for path in sorted(EXAMPLES.glob("*.log")) for head in HEADS]
 STREAMS = [path.read_bytes() for path in sorted(EXAMPLES.glob("*.bin"))]
 URIS = ["file:///a", "file:///b", "untitled:\u00e9", "", "file:///a%20b"]
 TEXTS = ["", "a", "ab\r\ncd", "a\rb\n", "\U0001f600a\u00e9\n", "x" * 300, "\n" * 50, "\u0000", "\ud7ff"]
@@ -90,7 +91,7 @@ def session(rng):
     yield b"E", b'{"jsonrpc":"2.0","id":0,"method":"initialize","params":{"capabilities":{}}}'
     yield b"S", b'{"jsonrpc":"2.0","id":0,"result":{"capabilities":{"textDocumentSync":%d}}}' % sync
     yield b"E", b'{"jsonrpc":"2.0","method":"initialized","params":{}}'
-    for version in range(rng.randrange(8)):
+    for version in range(rng.choice([0, 1, 2, 3, 4, 5, 6, 7, 20])):
         text = json.dumps(rng.choice(TEXTS[:5]))
         if version == 0:
             content = '{"jsonrpc":"2.0","method":"textDocument/didOpen","params":{"textDocument":{"uri":"file:///a","version":0,"languageId":"x","text":%s}}}' % text
@@ -102,7 +103,7 @@ def session(rng):
 
 
 def generated_log(rng):
-    out = [b"lsp-session 1\n"]
+    out = [rng.choice(HEADS)]
     for side, content in session(rng):
         whole = frame(rng, content)
         cut = rng.randrange(len(whole)) if rng.random() < 0.2 and whole else 0
@@ -111,7 +112,8 @@ def generated_log(rng):
                 out.append(b"%s %d\n%s\n" % (side, len(piece), piece))
         if rng.random() < 0.2:
             uri, text = rng.choice(URIS).encode(), rng.choice(TEXTS).encode("utf-8", "surrogatepass")
-            out.append(b"T %d %d %d\n%s\n%s\n" % (rng.randrange(9), len(uri), len(text), uri, text))
+            version = rng.randrange(rng.choice([9, 9, 20]))
+            out.append(b"T %d %d %d\n%s\n%s\n" % (version, len(uri), len(text), uri, text))
     return b"".join(out)
 
 
@@ -156,5 +158,6 @@ def case(seed):
         words = ["frames", "--as", rng.choice(["lengths", "canonical", "kinds"])]
     else:
         data = rng.choice(LOGS) if rng.random() < 0.05 else generated_log(rng)
-        words = rng.choice([["check"], ["check"], ["show"], ["normal"], ["text", str(1 + rng.randrange(12)), rng.choice(URIS[:2])]])
+        text = ["text", str(1 + rng.randrange(12)), rng.choice(URIS[:2])]
+        words = rng.choice([["check"], ["check"], ["check", "--complete"], ["show"], ["normal"], ["upgrade"], ["upgrade"], text])
     return words, damaged(rng, data)
