@@ -17,6 +17,9 @@ METHODS = [
     "textDocument/didOpen", "textDocument/didChange", "textDocument/didClose", "textDocument/didSave",
     "window/logMessage", "window/showMessageRequest", "client/registerCapability", "telemetry/event", "",
 ]
+ENCODINGS = ["utf-8", "utf-16", "utf-32"]
+FIELDS = [b"Content-Type: a; charset=utf-8\r\n", b"Content-Type: a; charset=x\r\n", b"X: y\r\n"]
+COMPLETE = ["check", "--complete"]
 SPOILS = [b"\x00", b"\n", b"\r", b"{", b"}", b'"', b"\\", b"\xff", b"0", b"9", b" ", b":", b"-", b"E", b"T"]
 
 
@@ -44,12 +47,17 @@ def params(rng, method):
     if rng.random() < 0.03:
         return rng.choice(NUMBERS)
     return {
-        "initialize": {"capabilities": {"general": {"positionEncodings": rng.sample(["utf-8", "utf-16", "utf-32", "x"], 2)}},
-                       "workDoneToken": number(rng)},
+        "initialize": {
+            "capabilities": {"general": {"positionEncodings": rng.sample([*ENCODINGS, "x"], 2)}},
+            "workDoneToken": number(rng),
+        },
         "$/cancelRequest": {"id": number(rng)},
         "$/progress": {"token": number(rng), "value": {}},
         "textDocument/didOpen": {"textDocument": document(rng)},
-        "textDocument/didChange": {"textDocument": document(rng), "contentChanges": [change(rng) for _ in range(rng.randrange(4))]},
+        "textDocument/didChange": {
+            "textDocument": document(rng),
+            "contentChanges": [change(rng) for _ in range(rng.randrange(4))],
+        },
         "textDocument/didClose": {"textDocument": document(rng)},
         "textDocument/didSave": {"textDocument": document(rng), "text": rng.choice(TEXTS)},
         "client/registerCapability": {"registrations": [{"id": "r", "method": rng.choice(METHODS)}]},
@@ -61,7 +69,8 @@ def message(rng):
     kind = rng.random()
     if kind < 0.3:
         value["id"] = number(rng)
-        value["result"] = {"capabilities": {"textDocumentSync": rng.randrange(4), "positionEncoding": rng.choice(["utf-8", "utf-16", "utf-32"])}}
+        picked = {"textDocumentSync": rng.randrange(4), "positionEncoding": rng.choice(ENCODINGS)}
+        value["result"] = {"capabilities": picked}
     elif kind < 0.35:
         value["id"] = number(rng)
         value["error"] = {"code": number(rng), "message": "m"}
@@ -81,7 +90,7 @@ def message(rng):
 def frame(rng, content):
     length = len(content) + (rng.choice([-1, 1, 10**12]) if rng.random() < 0.02 else 0)
     name = b"Content-Length" if rng.random() < 0.98 else rng.choice([b"content-length", b"Content-Lengt", b"X", b""])
-    extra = rng.choice([b"Content-Type: a; charset=utf-8\r\n", b"Content-Type: a; charset=x\r\n", b"X: y\r\n"]) if rng.random() < 0.05 else b""
+    extra = rng.choice(FIELDS) if rng.random() < 0.05 else b""
     return b"%s: %d\r\n%s\r\n%s" % (name, length, extra, content)
 
 
@@ -92,12 +101,13 @@ def session(rng):
     yield b"S", b'{"jsonrpc":"2.0","id":0,"result":{"capabilities":{"textDocumentSync":%d}}}' % sync
     yield b"E", b'{"jsonrpc":"2.0","method":"initialized","params":{}}'
     for version in range(rng.choice([0, 1, 2, 3, 4, 5, 6, 7, 20])):
-        text = json.dumps(rng.choice(TEXTS[:5]))
+        document, text = {"uri": "file:///a", "version": version}, rng.choice(TEXTS[:5])
         if version == 0:
-            content = '{"jsonrpc":"2.0","method":"textDocument/didOpen","params":{"textDocument":{"uri":"file:///a","version":0,"languageId":"x","text":%s}}}' % text
+            params = {"textDocument": {**document, "languageId": "x", "text": text}}
         else:
-            content = '{"jsonrpc":"2.0","method":"textDocument/didChange","params":{"textDocument":{"uri":"file:///a","version":%d},"contentChanges":[{"text":%s}]}}' % (version, text)
-        yield b"E", content.encode()
+            params = {"textDocument": document, "contentChanges": [{"text": text}]}
+        method = "textDocument/didChange" if version else "textDocument/didOpen"
+        yield b"E", json.dumps({"jsonrpc": "2.0", "method": method, "params": params}, separators=(",", ":")).encode()
     for _ in range(rng.choice([0, 0, 1, 2, 8])):
         yield rng.choice([b"E", b"S"]), message(rng)
 
@@ -159,5 +169,5 @@ def case(seed):
     else:
         data = rng.choice(LOGS) if rng.random() < 0.05 else generated_log(rng)
         text = ["text", str(1 + rng.randrange(12)), rng.choice(URIS[:2])]
-        words = rng.choice([["check"], ["check"], ["check", "--complete"], ["show"], ["normal"], ["upgrade"], ["upgrade"], text])
+        words = rng.choice([["check"], ["check"], COMPLETE, ["show"], ["normal"], ["upgrade"], ["upgrade"], text])
     return words, damaged(rng, data)

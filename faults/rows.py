@@ -8,21 +8,24 @@ sys.path.insert(0, str(Path(__file__).resolve().parent.parent / "commands"))
 sys.dont_write_bytecode = True
 
 import sessions  # noqa: E402
-from sessions import ANSWER, HEAD, HEAD_TWO, INITIALIZE, INITIALIZED, SHUTDOWN, editor, frame, server  # noqa: E402
+from sessions import ANSWER, HEAD, HEAD_TWO, INITIALIZE, INITIALIZED, editor, frame, server  # noqa: E402
 
 START = HEAD + INITIALIZE + ANSWER + INITIALIZED
 
 
 def notified(method, **params):
-    return editor(json.dumps({"jsonrpc": "2.0", "method": method, "params": params}, ensure_ascii=False, separators=(",", ":")))
+    message = {"jsonrpc": "2.0", "method": method, "params": params}
+    return editor(json.dumps(message, ensure_ascii=False, separators=(",", ":")))
 
 
 def opened(version, text, uri="file:///a"):
-    return notified("textDocument/didOpen", textDocument={"uri": uri, "languageId": "x", "version": version, "text": text})
+    document = {"uri": uri, "languageId": "x", "version": version, "text": text}
+    return notified("textDocument/didOpen", textDocument=document)
 
 
 def changed(version, *changes):
-    return notified("textDocument/didChange", textDocument={"uri": "file:///a", "version": version}, contentChanges=changes)
+    document = {"uri": "file:///a", "version": version}
+    return notified("textDocument/didChange", textDocument=document, contentChanges=changes)
 
 
 def part(line, column, last_line, last_column, text):
@@ -45,12 +48,10 @@ def answered(name):
 
 def handshake(encoding):
     """A session that agrees on this encoding."""
-    return (
-        HEAD
-        + editor('{"jsonrpc":"2.0","id":1,"method":"initialize","params":{"capabilities":{"general":{"positionEncodings":["%s"]}}}}' % encoding)
-        + server('{"jsonrpc":"2.0","id":1,"result":{"capabilities":{"positionEncoding":"%s","textDocumentSync":2}}}' % encoding)
-        + INITIALIZED
-    )
+    offer = '{"capabilities":{"general":{"positionEncodings":["%s"]}}}' % encoding
+    picked = '{"capabilities":{"positionEncoding":"%s","textDocumentSync":2}}' % encoding
+    asked = editor('{"jsonrpc":"2.0","id":1,"method":"initialize","params":%s}' % offer)
+    return HEAD + asked + server('{"jsonrpc":"2.0","id":1,"result":%s}' % picked) + INITIALIZED
 
 
 HOVER = editor('{"jsonrpc":"2.0","id":7,"method":"textDocument/hover","params":{}}')
@@ -59,6 +60,13 @@ REFUSED = server('{"jsonrpc":"2.0","id":7,"error":{"code":-32800,"message":"c"}}
 LATER = START + opened(3, "a") + snapshot(5, "b")
 IN_ORDER = [part(0, 0, 0, 1, ""), part(0, 1, 0, 1, "X")]
 FACE = "\U0001f600a"
+
+
+def face_changed(column):
+    """A letter that is put between two others."""
+    return opened(1, FACE) + changed(2, part(0, column, 0, column, "x")) + snapshot(2, "\U0001f600xa")
+
+
 AGREED = editor(
     '{"jsonrpc":"2.0","id":1,"method":"initialize","params":{"workDoneToken":"w",'
     '"capabilities":{"general":{"positionEncodings":["utf-8","utf-16"]}}}}'
@@ -71,6 +79,8 @@ REGISTERED = server(
     '[{"id":"r","method":"a"},{"id":"s","method":"b"}]}}'
 )
 
+MANY = START + opened(1, "a") + b"".join(changed(version, whole("a")) for version in range(2, 19))
+
 # Logs by what they show. Each record of bytes is one frame.
 LOGS = {
     "a session": sessions.WHOLE,
@@ -79,10 +89,9 @@ LOGS = {
     "line ends": START + opened(1, "a\rb\n") + changed(2, part(1, 0, 1, 1, "")) + changed(3, part(1, 0, 1, 0, "x"))
     + snapshot(3, "a\r\nx"),
     "a joined line end": START + opened(1, "a\r") + changed(2, part(1, 0, 1, 0, "\n")) + snapshot(2, "a\r\n"),
-    **{
-        f"columns in {encoding}": begun + opened(1, FACE) + changed(2, part(0, column, 0, column, "x")) + snapshot(2, "\U0001f600xa")
-        for encoding, column, begun in [("utf-8", 4, handshake("utf-8")), ("utf-16", 2, START), ("utf-32", 1, handshake("utf-32"))]
-    },
+    "columns in utf-8": handshake("utf-8") + face_changed(4),
+    "columns in utf-16": START + face_changed(2),
+    "columns in utf-32": handshake("utf-32") + face_changed(1),
     "a column inside a character": START + opened(1, FACE) + changed(2, part(0, 1, 0, 1, "x")),
     "changes in order": START + opened(1, "ab") + changed(2, *IN_ORDER) + snapshot(2, "bX"),
     "a change refused": START + opened(1, "ab") + changed(2, *IN_ORDER, part(0, 1, 0, 0, "")),
@@ -97,16 +106,18 @@ LOGS = {
     "requests of both sides": HEAD + AGREED + BEGUN + ASKED + PICKED + INITIALIZED + HOVER + REGISTERED
     + editor('{"jsonrpc":"2.0","id":"seven","result":null}') + opened(1, "é\ré\n")
     + changed(2, part(1, 0, 1, 2, "one\ntwo\rthree"), whole("whole\nother")) + changed(3, whole("")),
-    "an early snapshot of what is opened": START + opened(4, "other\ntext", "file:///b") + snapshot(3, "a\nb") + opened(3, "a\nb")
-    + changed(4, part(1, 0, 1, 1, "x"), part(0, 0, 0, 0, "y")) + snapshot(9, "later"),
+    "an early snapshot of what is opened": START + opened(4, "other\ntext", "file:///b") + snapshot(3, "a\nb")
+    + opened(3, "a\nb") + changed(4, part(1, 0, 1, 1, "x"), part(0, 0, 0, 0, "y")) + snapshot(9, "later"),
     "an early snapshot that differs from what is opened": START + snapshot(3, "a\nb") + opened(3, "a\nc"),
     "a session without an answer": sessions.UNANSWERED,
-    "a late snapshot": START + opened(3, "a") + changed(4, whole("b")) + snapshot(3, "a") + changed(5, whole("c")) + snapshot(4, "b"),
+    "a late snapshot": START + opened(3, "a") + changed(4, whole("b")) + snapshot(3, "a"),
+    "a late snapshot of each version": START + opened(3, "a") + changed(4, whole("b")) + snapshot(3, "a")
+    + changed(5, whole("c")) + snapshot(4, "b"),
     "a late snapshot that differs": START + opened(3, "a") + changed(4, whole("b")) + snapshot(3, "x"),
     "a snapshot of no version": START + opened(3, "a") + changed(4, whole("b")) + snapshot(2, "a"),
     "a snapshot between versions": START + opened(3, "a") + changed(5, whole("b")) + snapshot(4, "x"),
-    "more versions than are kept": START + opened(1, "a") + b"".join(changed(number, whole("a")) for number in range(2, 19))
-    + snapshot(2, "a"),
+    "as many versions as are kept": MANY + snapshot(2, "a"),
+    "more versions than are kept": MANY + snapshot(1, "a"),
 }
 
 # Each in both formats.
