@@ -38,15 +38,20 @@ abbrev pub text_rule : List Version → ℤ → Result Text ℕ → Option ℕ
 text_rule waits number (Err rule) = Some rule
 text_rule waits number (Ok t) = version_rule waits (versioned number t)
 
--- `didChange`: 602 not open; 603 the version does not rise; 604 not of the agreed kind; 605 to 607 a change is refused; 702
-abbrev pub change_rule : Terms → List Version → Encoding → SyncKind → ℤ → List Edit → Option Version → Option ℕ
-change_rule terms waits enc kind number cs None = Some 602
-change_rule terms waits enc kind number cs (Some v) =
+-- `didChange`: 602 not open; 603 the version does not rise; 604 not of the agreed kind; else what its changes break of the held text
+abbrev pub rule_of_change : SyncKind → ℤ → List Edit → (Version → Option ℕ) → Option Version → Option ℕ
+rule_of_change kind number cs broken None = Some 602
+rule_of_change kind number cs broken (Some v) =
     first_row (
     (not (int_lt v.number number), Some 603)
     ∷ (not (fits_kind kind cs), Some 604)
-    ∷ (true, text_rule waits number (applied terms.limit enc v.text cs))
+    ∷ (true, broken v)
     ∷ [])
+
+-- its changes break 605 to 607 where one is refused, or 702
+abbrev pub change_rule : Terms → List Version → Encoding → SyncKind → ℤ → List Edit → Option Version → Option ℕ
+change_rule terms waits enc kind number cs h =
+    rule_of_change kind number cs (λ v. text_rule waits number (applied terms.limit enc v.text cs)) h
 
 -- `didSave`: 608 the document is open, and the saved text is another than the held one
 abbrev pub save_rule : Option Text → Option Version → Option ℕ

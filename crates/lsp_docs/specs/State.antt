@@ -10,7 +10,7 @@ use Rattle.lsp_docs.specs.Calls.{Bytes, Call, uri_of}
 use Rattle.lsp_docs.specs.Documents.{Version, versioned, is_after, is_before, Held, documents}
 use Rattle.lsp_docs.specs.Kept.{kept, last_of}
 use Rattle.lsp_docs.specs.Snapshots.{waiting, versions_of}
-use Rattle.lsp_docs.specs.Rules.{rule_of, first_row, fits_kind, AreAccepted}
+use Rattle.lsp_docs.specs.Rules.{rule_of, rule_of_change, AreAccepted}
 use Rattle.lsp_docs.specs.Missed.{missed}
 
 -- the snapshots of one URI that wait
@@ -143,8 +143,7 @@ pub record IsChanged (old new : State) (uri : Bytes) (number : ℤ) (r : Result 
 
 -- the rules of a change that don't look at its text
 abbrev pub early_rule : SyncKind → ℤ → List Edit → Option Version → Option ℕ
-early_rule kind number cs None = Some 602
-early_rule kind number cs (Some v) = first_row ((not (int_lt v.number number), Some 603) ∷ (not (fits_kind kind cs), Some 604) ∷ [])
+early_rule kind number cs h = rule_of_change kind number cs (λ v. None) h
 
 -- ---- standing for a list of calls
 

@@ -1,11 +1,11 @@
 //! The judge of a recorded session: its events, which of them offends, and the verdict.
 //!
 //! `run_check` reads a log and writes the report of the verdict on it, `run_check_complete` that where
-//! its session has to be complete, and `run_show` writes a line for each event before that. `Judge`
-//! takes the records of a log one by one, `report_of` prints a verdict. `run_frames` reads one raw
-//! stream, one direction of a session, and says what its frames are. What a session is and means
-//! stands in `lsp_verdict`, the runs that judge nothing in `lsp_streams`; their public names are given
-//! on here.
+//! its session has to be complete, and `run_show` writes a line for each event before that.
+//! `run_upgrade` writes a log again in format 2, up to its verdict. `Judge` takes the records of a log
+//! one by one, `report_of` prints a verdict. `run_frames` reads one raw stream, one direction of a
+//! session, and says what its frames are. What a session is and means stands in `lsp_verdict`, the
+//! runs that judge nothing in `lsp_streams`; their public names are given on here.
 #![tactic(auto)]
 
 mod check;
@@ -36,9 +36,10 @@ pub use lsp_verdict::{
     Completeness, Mode, OpenDocument, Outcome, RunFault, StreamFault, Summary, Verdict, Who,
     bad_log_means_fault, both_yes_agree, complete_means_ended, complete_means_fault,
     cuts_dont_matter, cuts_leave_verdict, ended_means_complete, handshake_in_turn, kept_means_yes,
-    lack_is_named, no_names_the_first, one_complete_verdict, one_session, one_text, one_verdict,
-    only_order_offends, report_of, sessions_are_read, some_complete_verdict, some_session,
-    some_verdict, stream_report, yes_means_kept,
+    lack_is_named, no_names_the_first, one_complete_verdict, one_session, one_text, one_upgrade,
+    one_verdict, only_order_offends, report_of, sessions_are_read, some_complete_verdict,
+    some_session, some_upgrade, some_verdict, stream_report, upgrade_keeps_yes, upgrade_stays,
+    yes_means_kept,
 };
 pub use show::run_show;
 pub use show_laws::one_shown;

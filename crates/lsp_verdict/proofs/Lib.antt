@@ -25,5 +25,7 @@ pub mod RunReading
 pub mod JoinedStreams
 pub mod Entries
 pub mod Upgrading
+pub mod MoreKept
+pub mod UpgradeLaws
 pub mod OpenAtEnd
 pub mod Completing

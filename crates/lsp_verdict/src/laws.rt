@@ -2,7 +2,7 @@
 ghost use Rattle.lsp_verdict.specs.Headline.{BadLogMeansFault, KeptMeansYes, NoNamesTheFirst, YesMeansKept};
 ghost use Rattle.lsp_verdict.specs.Laws.{CutsDontMatter, CutsLeaveVerdict, EventsFirst, OffenceDecides, OneSession, OneVerdict, SidesAreStreams, SnapshotsAreShown, SomeFinal, SomeSession, SomeVerdict};
 ghost use Rattle.lsp_verdict.specs.TextAfter.{OneText};
-ghost use Rattle.lsp_verdict.specs.Upgraded.{OneUpgrade, SomeUpgrade};
+ghost use Rattle.lsp_verdict.specs.Upgraded.{OneUpgrade, SomeUpgrade, UpgradeKeepsYes, UpgradeStays};
 
 /// Yes means: the log has no fault, both streams are complete frames, no message breaks the
 /// lifecycle, every response answers one earlier open request and none is answered twice, the
@@ -97,4 +97,14 @@ pub fn some_upgrade()
 /// And one only.
 pub fn one_upgrade()
     ensures { OneUpgrade }
+{}
+
+/// Where the verdict is Yes, the upgrade has the same events, verdict and summary.
+pub fn upgrade_keeps_yes()
+    ensures { UpgradeKeepsYes }
+{}
+
+/// To upgrade what upgrade wrote changes nothing.
+pub fn upgrade_stays()
+    ensures { UpgradeStays }
 {}

@@ -1,0 +1,195 @@
+-- Calls that are accepted with no versions kept are accepted where some are, and come to the same.
+use Rattle.std.proofs.Common.{◌≡◌, ℕ, ◌+◌, Bool, true, false, not, List, [], ◌∷◌, ◌++◌, Option, Some, None, inl, inr, refl, sym, ap, subst, ◌∙◌, append_assoc, append-nil, arith}
+use Rattle.std.specs.Prelude.{ℤ, int_lt, nat_lt, is_some, ◌&&◌, ◌||◌, if◌then◌else◌, option_to_list}
+use Rattle.std.specs.List.{list_any, list_all}
+use Rattle.std.specs.Option.{option_or}
+use Rattle.std.specs.Ordering.{int_eq}
+use Rattle.std.specs.Str.{bytes_eq}
+use Rattle.std.proofs.lemmas.Int.{ints}
+use Rattle.lsp_types.specs.declared.position.Encoding.{Encoding}
+use Rattle.lsp_types.specs.declared.change.SyncKind.{SyncKind}
+use Rattle.lsp_text.specs.Edits.{Edit, applied}
+use Rattle.lsp_docs.specs.Calls.{Bytes, Call, opens, changes, closes, saves, shows, is_close, uri_of}
+use Rattle.lsp_docs.specs.Documents.{Version, versioned, is_after, is_at, opening, text_or, revised, revised_by, held_since, held, Held, as_held, held_entry, documents}
+use Rattle.lsp_docs.specs.Kept.{last_of, kept}
+use Rattle.lsp_docs.specs.Laws.{held_rule, rises}
+use Rattle.lsp_docs.specs.Rules.{differs, first_row, version_rule, fits_kind, text_rule, show_rule, change_rule, save_rule, call_rule, AreAcceptedFrom, AreAccepted}
+use Rattle.lsp_docs.specs.Snapshots.{Shown, is_ahead, waits, shown_entry, waiting_in, waiting, versions_of, holds_number, has_number, comes_to, is_compared, unmatched_entry, unmatched_in, unmatched}
+use Rattle.lsp_docs.specs.Terms.{Terms}
+use Rattle.lsp_docs.specs.Texts.{Text, byte_len}
+use Rattle.lsp_docs.proofs.Past.{nothing-past, kept-rises, rule-none_kept, compared-none_kept}
+use Rattle.lsp_docs.proofs.Rising.{last-empty}
+use Rattle.lsp_docs.proofs.Words.{both_parts}
+
+module _ (t u : Terms) (same : t.limit ≡ u.limit) where
+  -- ---- what is held doesn't depend on how many are kept
+
+  revised_same : (uri : Bytes) (v : Version) (c : Call) → revised t uri v c ≡ revised u uri v c
+  revised_same uri v (opens x number text) = refl
+  revised_same uri v (changes enc kind x number cs) = ap (λ l. if bytes_eq uri x then versioned number (text_or v.text (applied l enc v.text cs)) else v) same
+  revised_same uri v (closes x) = refl
+  revised_same uri v (saves x text) = refl
+  revised_same uri v (shows x number text) = refl
+
+  revised_by_same : (uri : Bytes) (v : Version) (cs : List Call) → revised_by t uri v cs ≡ revised_by u uri v cs
+  revised_by_same uri v [] = refl
+  revised_by_same uri v (c ∷ cs) = ap (λ w. revised_by t uri w cs) (revised_same uri v c) ∙ revised_by_same uri (revised u uri v c) cs
+
+  held_since_same : (uri : Bytes) (after : List Call) (o : Option Version) → held_since t uri after o ≡ held_since u uri after o
+  held_since_same uri after None = refl
+  held_since_same uri after (Some v) = ap (λ w. if list_any (is_close uri) after then None else Some w) (revised_by_same uri v after)
+
+  pub held_same : (uri : Bytes) (calls : List Call) → held t uri calls ≡ held u uri calls
+  held_same uri [] = refl
+  held_same uri (c ∷ after) = ap (λ o. option_or o (held t uri after)) (held_since_same uri after (opening uri c)) ∙ ap (option_or (held_since u uri after (opening uri c))) (held_same uri after)
+
+  held_entry_same : (c : Call) (after : List Call) → held_entry t c after ≡ held_entry u c after
+  held_entry_same (opens uri number text) after = ap (as_held uri) (held_since_same uri after (Some (versioned number text)))
+  held_entry_same (changes enc kind x number cs) after = refl
+  held_entry_same (closes x) after = refl
+  held_entry_same (saves x text) after = refl
+  held_entry_same (shows x number text) after = refl
+
+  pub documents_same : (calls : List Call) → documents t calls ≡ documents u calls
+  documents_same [] = refl
+  documents_same (c ∷ after) = ap (λ d. d ++ documents t after) (held_entry_same c after) ∙ ap (λ d. held_entry u c after ++ d) (documents_same after)
+
+  -- nor what waits
+
+  shown_entry_same : (all : List Call) (c : Call) (after : List Call) → shown_entry t all c after ≡ shown_entry u all c after
+  shown_entry_same all (opens uri number text) after = refl
+  shown_entry_same all (changes enc kind x number cs) after = refl
+  shown_entry_same all (closes x) after = refl
+  shown_entry_same all (saves x text) after = refl
+  shown_entry_same all (shows uri number text) after =
+      ap (λ h. if is_ahead number h && not (list_any (is_close uri) after) then record { uri = uri; version = versioned number text } ∷ [] else []) (held_same uri all)
+
+  waiting_in_same : (all calls : List Call) → waiting_in t all calls ≡ waiting_in u all calls
+  waiting_in_same all [] = refl
+  waiting_in_same all (c ∷ after) = ap (λ w. w ++ waiting_in t all after) (shown_entry_same all c after) ∙ ap (λ w. shown_entry u all c after ++ w) (waiting_in_same all after)
+
+  waiting_same : (calls : List Call) → waiting t calls ≡ waiting u calls
+  waiting_same calls = waiting_in_same calls calls
+
+-- ---- no kept version is that of a snapshot that is not late
+
+behind : (w v n : ℤ) → int_lt w v ≡ true → int_lt n v ≡ false → int_eq w n ≡ false
+behind w v n less late = grind (arith, ints)
+
+last_after : (m : ℤ) (xs : List Version) (x : Version) → list_all (is_after m) (xs ++ x ∷ []) ≡ true → int_lt m x.number ≡ true
+last_after m [] x e = (both_parts (int_lt m x.number) true e).0
+last_after m (y ∷ xs) x e = last_after m xs x (both_parts (int_lt m y.number) (list_all (is_after m) (xs ++ x ∷ [])) e).1
+
+none_at : (ks : List Version) (v : Version) (n : ℤ) → rises (ks ++ v ∷ []) ≡ true → int_lt n v.number ≡ false → list_any (is_at n) ks ≡ false
+none_at [] v n up late = refl
+none_at (k ∷ ks) v n up late =
+    let parts = both_parts (list_all (is_after k.number) (ks ++ v ∷ [])) (rises (ks ++ v ∷ [])) up in
+    let first = behind k.number v.number n (last_after k.number ks v parts.0) late in
+    ap (λ b. b || list_any (is_at n) ks) first ∙ none_at ks v n parts.1 late
+
+neither : (a b : Bool) → (a || b) ≡ false → (a ≡ false) × (b ≡ false)
+neither true b e = absurd cc
+neither false b e = (refl, e)
+
+none_differs : (ks : List Version) (n : ℤ) (text : Text) → list_any (is_at n) ks ≡ false → list_any (λ w. differs w (versioned n text)) ks ≡ false
+none_differs [] n text none = refl
+none_differs (k ∷ ks) n text none =
+    let parts = neither (int_eq k.number n) (list_any (is_at n) ks) none in
+    ap (λ b. (b && not (bytes_eq k.text text)) || list_any (λ w. differs w (versioned n text)) ks) parts.0 ∙ none_differs ks n text parts.1
+
+rows_pass : (a b : Bool) → first_row ((a, Some 701) ∷ (b, Some 702) ∷ []) ≡ None → (a ≡ false) × (b ≡ false)
+rows_pass true b e = absurd cc
+rows_pass false true e = absurd cc
+rows_pass false false e = (refl, refl)
+
+and_false : (a : Bool) → (a && false) ≡ false
+and_false true = refl
+and_false false = refl
+
+-- a snapshot that the held version alone lets pass
+shown_passes : (n : ℤ) (text : Text) (ks : List Version) (h : Option Version) → rises (ks ++ option_to_list h) ≡ true → held_rule n text h ≡ None → show_rule n text ks h ≡ None
+shown_passes n text ks None up none = refl
+shown_passes n text ks (Some v) up none =
+    let rows = rows_pass (int_lt n v.number) (differs v (versioned n text)) none in
+    let late : (list_all (is_after n) ks && int_lt n v.number) ≡ false = ap (λ b. list_all (is_after n) ks && b) rows.0 ∙ and_false (list_all (is_after n) ks) in
+    let other : (list_any (λ w. differs w (versioned n text)) ks || differs v (versioned n text)) ≡ false =
+    ap (λ b. b || differs v (versioned n text)) (none_differs ks n text (none_at ks v n up rows.0)) ∙ rows.1 in
+    ap (λ b. first_row ((b, Some 701) ∷ (list_any (λ w. differs w (versioned n text)) ks || differs v (versioned n text), Some 702) ∷ [])) late
+    ∙ ap (λ b. first_row ((false, Some 701) ∷ (b, Some 702) ∷ [])) other
+
+-- is of no kept version
+shown_at : (n : ℤ) (text : Text) (ks : List Version) (h : Option Version) → rises (ks ++ option_to_list h) ≡ true → (h ≡ None → ks ≡ []) → held_rule n text h ≡ None → has_number n ks h ≡ holds_number n h
+shown_at n text ks None up empty none = ap (λ vs. list_any (is_at n) vs || false) (empty refl)
+shown_at n text ks (Some v) up empty none =
+    let rows = rows_pass (int_lt n v.number) (differs v (versioned n text)) none in
+    ap (λ b. b || int_eq v.number n) (none_at ks v n up rows.0)
+
+accepted_more : (u : Terms) (done before : List Call) (c : Call) → AreAcceptedFrom u done before → call_rule u (done ++ before) c ≡ None → AreAcceptedFrom u done (before ++ c ∷ [])
+accepted_more u done [] c accepted one = (subst (λ w. call_rule u w c ≡ None) (append-nil done) one, tt)
+accepted_more u done (x ∷ before) c accepted one =
+    (accepted.0, accepted_more u (done ++ x ∷ []) before c accepted.1 (subst (λ w. call_rule u w c ≡ None) (sym (append_assoc done (x ∷ []) before)) one))
+
+-- ---- with nothing kept, and with more
+
+module _ (t u : Terms) (same : t.limit ≡ u.limit) (none_kept : t.kept ≡ 0) where
+  change_same : (ws : List Version) (enc : Encoding) (kind : SyncKind) (n : ℤ) (cs : List Edit) (h : Option Version) → change_rule t ws enc kind n cs h ≡ change_rule u ws enc kind n cs h
+  change_same ws enc kind n cs None = refl
+  change_same ws enc kind n cs (Some v) =
+      ap (λ l. first_row ((not (int_lt v.number n), Some 603) ∷ (not (fits_kind kind cs), Some 604) ∷ (true, text_rule ws n (applied l enc v.text cs)) ∷ [])) same
+
+  waits_same : (uri : Bytes) (before : List Call) → versions_of uri (waiting t before) ≡ versions_of uri (waiting u before)
+  waits_same uri before = ap (versions_of uri) (waiting_same t u same before)
+
+  -- a call that is accepted with nothing kept is accepted
+  call_passes : (before : List Call) (c : Call) → AreAccepted u before → call_rule t before c ≡ None → call_rule u before c ≡ None
+  call_passes before (opens uri n text) accepted e =
+      sym (
+      ap (λ h. first_row ((is_some h, Some 601) ∷ (nat_lt t.limit (byte_len text), Some 607) ∷ (true, version_rule (versions_of uri (waiting t before)) (versioned n text)) ∷ [])) (held_same t u same uri before)
+      ∙ ap (λ l. first_row ((is_some (held u uri before), Some 601) ∷ (nat_lt l (byte_len text), Some 607) ∷ (true, version_rule (versions_of uri (waiting t before)) (versioned n text)) ∷ [])) same
+      ∙ ap (λ w. first_row ((is_some (held u uri before), Some 601) ∷ (nat_lt u.limit (byte_len text), Some 607) ∷ (true, version_rule w (versioned n text)) ∷ [])) (waits_same uri before))
+      ∙ e
+  call_passes before (changes enc kind uri n cs) accepted e =
+      sym (
+      ap (change_rule t (versions_of uri (waiting t before)) enc kind n cs) (held_same t u same uri before)
+      ∙ change_same (versions_of uri (waiting t before)) enc kind n cs (held u uri before)
+      ∙ ap (λ w. change_rule u w enc kind n cs (held u uri before)) (waits_same uri before))
+      ∙ e
+  call_passes before (closes uri) accepted e = ap (λ h. if is_some h then None else Some 602) (sym (held_same t u same uri before)) ∙ e
+  call_passes before (saves uri text) accepted e = ap (save_rule text) (sym (held_same t u same uri before)) ∙ e
+  call_passes before (shows uri n text) accepted e =
+      shown_passes n text (kept u uri before) (held u uri before) (kept-rises u uri before accepted)
+      (ap (held_rule n text) (sym (held_same t u same uri before)) ∙ sym (rule-none_kept t before uri n text none_kept) ∙ e)
+
+  -- and so are all
+  pub calls_pass : (before after : List Call) → AreAccepted u before → AreAcceptedFrom t before after → AreAcceptedFrom u before after
+  calls_pass before [] accepted from = tt
+  calls_pass before (c ∷ after) accepted from =
+      let one = call_passes before c accepted from.0 in
+      (one, calls_pass (before ++ c ∷ []) after (accepted_more u [] before c accepted one) from.1)
+
+  none_past : (uri : Bytes) (before : List Call) → held u uri before ≡ None → kept u uri before ≡ []
+  none_past uri before none = ap (last_of u.kept) (nothing-past u uri before none) ∙ last-empty u.kept
+
+  entry_same : (before : List Call) (c : Call) (after : List Call) → AreAccepted u before → call_rule t before c ≡ None → unmatched_entry t before c after ≡ unmatched_entry u before c after
+  entry_same before (opens uri n text) after accepted e = refl
+  entry_same before (changes enc kind uri n cs) after accepted e = refl
+  entry_same before (closes uri) after accepted e = refl
+  entry_same before (saves uri text) after accepted e = refl
+  entry_same before (shows uri n text) after accepted e =
+      let held_here = ap (held_rule n text) (sym (held_same t u same uri before)) ∙ sym (rule-none_kept t before uri n text none_kept) ∙ e in
+      let here : has_number n (kept u uri before) (held u uri before) ≡ holds_number n (held u uri before) = shown_at n text (kept u uri before) (held u uri before) (kept-rises u uri before accepted) (none_past uri before) held_here in
+      let compared : is_compared t before uri n after ≡ is_compared u before uri n after =
+      compared-none_kept t before after uri n none_kept
+      ∙ ap (λ h. holds_number n h || comes_to uri n after) (held_same t u same uri before)
+      ∙ ap (λ b. b || comes_to uri n after) (sym here) in
+      ap (λ b. if b then 0 else 1) compared
+
+  unmatched_from : (before after : List Call) → AreAccepted u before → AreAcceptedFrom t before after → unmatched_in t before after ≡ unmatched_in u before after
+  unmatched_from before [] accepted from = refl
+  unmatched_from before (c ∷ after) accepted from =
+      let one = call_passes before c accepted from.0 in
+      ap (λ n. n + unmatched_in t (before ++ c ∷ []) after) (entry_same before c after accepted from.0)
+      ∙ ap (λ n. unmatched_entry u before c after + n) (unmatched_from (before ++ c ∷ []) after (accepted_more u [] before c accepted one) from.1)
+
+  pub unmatched_same : (calls : List Call) → AreAccepted t calls → unmatched t calls ≡ unmatched u calls
+  unmatched_same calls accepted = unmatched_from [] calls tt accepted
