@@ -109,6 +109,7 @@ LOGS = {
     "an early snapshot of what is opened": START + opened(4, "other\ntext", "file:///b") + snapshot(3, "a\nb")
     + opened(3, "a\nb") + changed(4, part(1, 0, 1, 1, "x"), part(0, 0, 0, 0, "y")) + snapshot(9, "later"),
     "an early snapshot that differs from what is opened": START + snapshot(3, "a\nb") + opened(3, "a\nc"),
+    "a whole text that is longer": START + opened(1, "a") + changed(2, whole("first line\nsecond line\rthird line")),
     "a session without an answer": sessions.UNANSWERED,
     "a late snapshot": START + opened(3, "a") + changed(4, whole("b")) + snapshot(3, "a"),
     "a late snapshot of each version": START + opened(3, "a") + changed(4, whole("b")) + snapshot(3, "a")
@@ -158,6 +159,9 @@ STREAMS = {
     "no digit": numbered(b""),
     "a content that is too long": EXIT + numbered(b"67108865"),
 }
+
+# A content that is pushed in parts.
+LONG = frame('{"jsonrpc":"2.0","method":"exit","extra":"%s"}' % ("x" * 20_000))
 
 # The rules that a stream can break; 0 stands for one that is too long.
 STREAM_RULES = [0, 101, 102, 103, 104, 105, 106, 107, 201, 202, 203, 204, 205, 206, 207, 208]
