@@ -6,7 +6,8 @@ import random
 from pathlib import Path
 
 EXAMPLES = Path(__file__).resolve().parent.parent / "examples"
-LOGS = [path.read_bytes() for path in sorted(EXAMPLES.glob("*.log"))]
+HEADS = [b"lsp-session 1\n", b"lsp-session 2\n"]
+LOGS = [head + path.read_bytes()[len(head) :] for path in sorted(EXAMPLES.glob("*.log")) for head in HEADS]
 STREAMS = [path.read_bytes() for path in sorted(EXAMPLES.glob("*.bin"))]
 URIS = ["file:///a", "file:///b", "untitled:\u00e9", "", "file:///a%20b"]
 TEXTS = ["", "a", "ab\r\ncd", "a\rb\n", "\U0001f600a\u00e9\n", "x" * 300, "\n" * 50, "\u0000", "\ud7ff"]
@@ -16,6 +17,9 @@ METHODS = [
     "textDocument/didOpen", "textDocument/didChange", "textDocument/didClose", "textDocument/didSave",
     "window/logMessage", "window/showMessageRequest", "client/registerCapability", "telemetry/event", "",
 ]
+ENCODINGS = ["utf-8", "utf-16", "utf-32"]
+FIELDS = [b"Content-Type: a; charset=utf-8\r\n", b"Content-Type: a; charset=x\r\n", b"X: y\r\n"]
+COMPLETE = ["check", "--complete"]
 SPOILS = [b"\x00", b"\n", b"\r", b"{", b"}", b'"', b"\\", b"\xff", b"0", b"9", b" ", b":", b"-", b"E", b"T"]
 
 
@@ -43,12 +47,17 @@ def params(rng, method):
     if rng.random() < 0.03:
         return rng.choice(NUMBERS)
     return {
-        "initialize": {"capabilities": {"general": {"positionEncodings": rng.sample(["utf-8", "utf-16", "utf-32", "x"], 2)}},
-                       "workDoneToken": number(rng)},
+        "initialize": {
+            "capabilities": {"general": {"positionEncodings": rng.sample([*ENCODINGS, "x"], 2)}},
+            "workDoneToken": number(rng),
+        },
         "$/cancelRequest": {"id": number(rng)},
         "$/progress": {"token": number(rng), "value": {}},
         "textDocument/didOpen": {"textDocument": document(rng)},
-        "textDocument/didChange": {"textDocument": document(rng), "contentChanges": [change(rng) for _ in range(rng.randrange(4))]},
+        "textDocument/didChange": {
+            "textDocument": document(rng),
+            "contentChanges": [change(rng) for _ in range(rng.randrange(4))],
+        },
         "textDocument/didClose": {"textDocument": document(rng)},
         "textDocument/didSave": {"textDocument": document(rng), "text": rng.choice(TEXTS)},
         "client/registerCapability": {"registrations": [{"id": "r", "method": rng.choice(METHODS)}]},
@@ -60,7 +69,8 @@ def message(rng):
     kind = rng.random()
     if kind < 0.3:
         value["id"] = number(rng)
-        value["result"] = {"capabilities": {"textDocumentSync": rng.randrange(4), "positionEncoding": rng.choice(["utf-8", "utf-16", "utf-32"])}}
+        picked = {"textDocumentSync": rng.randrange(4), "positionEncoding": rng.choice(ENCODINGS)}
+        value["result"] = {"capabilities": picked}
     elif kind < 0.35:
         value["id"] = number(rng)
         value["error"] = {"code": number(rng), "message": "m"}
@@ -80,7 +90,7 @@ def message(rng):
 def frame(rng, content):
     length = len(content) + (rng.choice([-1, 1, 10**12]) if rng.random() < 0.02 else 0)
     name = b"Content-Length" if rng.random() < 0.98 else rng.choice([b"content-length", b"Content-Lengt", b"X", b""])
-    extra = rng.choice([b"Content-Type: a; charset=utf-8\r\n", b"Content-Type: a; charset=x\r\n", b"X: y\r\n"]) if rng.random() < 0.05 else b""
+    extra = rng.choice(FIELDS) if rng.random() < 0.05 else b""
     return b"%s: %d\r\n%s\r\n%s" % (name, length, extra, content)
 
 
@@ -90,19 +100,20 @@ def session(rng):
     yield b"E", b'{"jsonrpc":"2.0","id":0,"method":"initialize","params":{"capabilities":{}}}'
     yield b"S", b'{"jsonrpc":"2.0","id":0,"result":{"capabilities":{"textDocumentSync":%d}}}' % sync
     yield b"E", b'{"jsonrpc":"2.0","method":"initialized","params":{}}'
-    for version in range(rng.randrange(8)):
-        text = json.dumps(rng.choice(TEXTS[:5]))
+    for version in range(rng.choice([0, 1, 2, 3, 4, 5, 6, 7, 20])):
+        document, text = {"uri": "file:///a", "version": version}, rng.choice(TEXTS[:5])
         if version == 0:
-            content = '{"jsonrpc":"2.0","method":"textDocument/didOpen","params":{"textDocument":{"uri":"file:///a","version":0,"languageId":"x","text":%s}}}' % text
+            params = {"textDocument": {**document, "languageId": "x", "text": text}}
         else:
-            content = '{"jsonrpc":"2.0","method":"textDocument/didChange","params":{"textDocument":{"uri":"file:///a","version":%d},"contentChanges":[{"text":%s}]}}' % (version, text)
-        yield b"E", content.encode()
+            params = {"textDocument": document, "contentChanges": [{"text": text}]}
+        method = "textDocument/didChange" if version else "textDocument/didOpen"
+        yield b"E", json.dumps({"jsonrpc": "2.0", "method": method, "params": params}, separators=(",", ":")).encode()
     for _ in range(rng.choice([0, 0, 1, 2, 8])):
         yield rng.choice([b"E", b"S"]), message(rng)
 
 
 def generated_log(rng):
-    out = [b"lsp-session 1\n"]
+    out = [rng.choice(HEADS)]
     for side, content in session(rng):
         whole = frame(rng, content)
         cut = rng.randrange(len(whole)) if rng.random() < 0.2 and whole else 0
@@ -111,7 +122,8 @@ def generated_log(rng):
                 out.append(b"%s %d\n%s\n" % (side, len(piece), piece))
         if rng.random() < 0.2:
             uri, text = rng.choice(URIS).encode(), rng.choice(TEXTS).encode("utf-8", "surrogatepass")
-            out.append(b"T %d %d %d\n%s\n%s\n" % (rng.randrange(9), len(uri), len(text), uri, text))
+            version = rng.randrange(rng.choice([9, 9, 20]))
+            out.append(b"T %d %d %d\n%s\n%s\n" % (version, len(uri), len(text), uri, text))
     return b"".join(out)
 
 
@@ -156,5 +168,6 @@ def case(seed):
         words = ["frames", "--as", rng.choice(["lengths", "canonical", "kinds"])]
     else:
         data = rng.choice(LOGS) if rng.random() < 0.05 else generated_log(rng)
-        words = rng.choice([["check"], ["check"], ["show"], ["normal"], ["text", str(1 + rng.randrange(12)), rng.choice(URIS[:2])]])
+        text = ["text", str(1 + rng.randrange(12)), rng.choice(URIS[:2])]
+        words = rng.choice([["check"], ["check"], COMPLETE, ["show"], ["normal"], ["upgrade"], ["upgrade"], text])
     return words, damaged(rng, data)
