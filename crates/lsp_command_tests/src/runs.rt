@@ -141,7 +141,8 @@ fn run_of<'a>(word: &str, rest: &'a str) -> Option<(Task<'a>, &'a str)> {
 fn check_by(
     rt: &impl Abort,
     alloc: Global,
-    (task, limits): (Task<'_>, Limits),
+    task: Task<'_>,
+    limits: Limits,
     log: Pieces<'_>,
     wanted: &[u8],
 ) {
@@ -154,11 +155,17 @@ fn check_by(
 
 /// Runs over a log by readers that give a byte, a few or many a call, then by one that fails at each
 /// call, and into a writer that fails at each.
-fn check_log(rt: &impl Abort, alloc: Global, run: (Task<'_>, Limits), log: &[u8], wanted: &[u8]) {
-    check_by(rt, alloc, run, Pieces::new(log, 1), wanted);
-    check_by(rt, alloc, run, Pieces::new(log, 7), wanted);
-    check_by(rt, alloc, run, Pieces::new(log, 4096), wanted);
-    let (task, limits) = run;
+fn check_log(
+    rt: &impl Abort,
+    alloc: Global,
+    task: Task<'_>,
+    limits: Limits,
+    log: &[u8],
+    wanted: &[u8],
+) {
+    for most in &[1, 7, 4096] {
+        check_by(rt, alloc, task, limits, Pieces::new(log, *most), wanted);
+    }
     let told = check_faults(rt, alloc, limits, task, log);
     assert!(rt; wanted.starts_with(told.written.as_slice()), "{task:?}");
     assert!(rt; wanted.ends_with(told.ended.as_bytes()), "{task:?}");
@@ -174,7 +181,7 @@ pub(super) fn check_sessions(rt: &impl Abort, alloc: Global, lines: &str, limits
             wanted
                 .extend_from_slice(end.as_bytes())
                 .expect(rt, "memory");
-            check_log(rt, alloc, (task, limits), log.bytes(), wanted.as_slice());
+            check_log(rt, alloc, task, limits, log.bytes(), wanted.as_slice());
             wanted.clear();
         } else {
             take_line(&mut log, &mut wanted, word, rest).expect(rt, "a line");
