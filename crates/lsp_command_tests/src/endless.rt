@@ -13,6 +13,9 @@ use std::test::*;
 /// The first line, and a snapshot of no document, over and over: with 4,096 bytes 371 of them are whole.
 const HEAD: &[u8] = b"lsp-session 1\n";
 
+/// The first line of a log of format 2.
+const HEAD_TWO: &[u8] = b"lsp-session 2\n";
+
 const SNAPSHOT: &[u8] = b"T 1 1 0\na\n\n";
 
 const WHOLE: u64 = 371;
@@ -86,9 +89,9 @@ fn wide_limits(rt: &impl Abort) -> Limits {
     Limits::new(4096, 67_108_864, 1_048_576, 0, 4096).expect(rt, "limits")
 }
 
-/// Runs over a log of snapshots without an end.
-fn check_snapshots(rt: &impl Abort, alloc: Global, task: Task<'_>, wanted: &str) {
-    let bytes = (HEAD, SNAPSHOT);
+/// Runs over a log of snapshots without an end, behind this first line.
+fn check_snapshots(rt: &impl Abort, alloc: Global, head: &[u8], task: Task<'_>, wanted: &str) {
+    let bytes = (head, SNAPSHOT);
     check_endless(
         rt,
         alloc,
@@ -105,12 +108,30 @@ fn a_log_without_end_through_each_run(rt: HostRuntime) -> Result<(), Fail> {
     let shown = numbered(alloc, WHOLE, "snapshot 1 0 \"a\"", REPORT).expect(&rt, "memory");
     let normal = repeated(alloc, HEAD, SNAPSHOT, WHOLE).expect(&rt, "memory");
     let number = "1".parse::<NonZeroU64>()?;
-    check_snapshots(&rt, alloc, Task::Check(Completeness::Ignored), REPORT);
-    check_snapshots(&rt, alloc, Task::Check(Completeness::Required), REPORT);
-    check_snapshots(&rt, alloc, Task::Show, shown.as_str());
-    check_snapshots(&rt, alloc, Task::Normal, normal.as_str());
-    check_snapshots(&rt, alloc, Task::Text { number, uri: "a" }, "");
+    check_snapshots(&rt, alloc, HEAD, Task::Check(Completeness::Ignored), REPORT);
+    check_snapshots(
+        &rt,
+        alloc,
+        HEAD,
+        Task::Check(Completeness::Required),
+        REPORT,
+    );
+    check_snapshots(&rt, alloc, HEAD, Task::Show, shown.as_str());
+    check_snapshots(&rt, alloc, HEAD, Task::Normal, normal.as_str());
+    check_snapshots(&rt, alloc, HEAD, Task::Text { number, uri: "a" }, "");
     Ok(())
+}
+
+#[test]
+fn a_log_without_end_in_format_two(rt: HostRuntime) {
+    let alloc = rt.alloc();
+    let upgraded = repeated(alloc, HEAD_TWO, SNAPSHOT, WHOLE).expect(&rt, "memory");
+    let upgraded = upgraded.as_str();
+    check_snapshots(&rt, alloc, HEAD, Task::Upgrade, upgraded);
+    check_snapshots(&rt, alloc, HEAD_TWO, Task::Upgrade, upgraded);
+    check_snapshots(&rt, alloc, HEAD_TWO, Task::Normal, upgraded);
+    let task = Task::Check(Completeness::Ignored);
+    check_snapshots(&rt, alloc, HEAD_TWO, task, REPORT);
 }
 
 /// Whether no text is given behind a message of a log that is too long.
