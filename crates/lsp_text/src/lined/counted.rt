@@ -16,11 +16,14 @@ use std::alloc::{AllocError, Global};
 use std::marker::Model;
 use std::rc::Rc;
 
+/// The bytes by which a copy that is edited may grow in place.
+const ROOM: usize = 64;
+
 /// A line with its end, and its counts.
 #[derive(Drop)]
 pub(super) struct CountedLine {
     // The line, and then its end, which copies of the line share.
-    text: Rc<String>,
+    text: Rc<RoomyText>,
     // The bytes, the characters and the units of UTF-16 before the end.
     body: usize,
     chars: u64,
@@ -49,7 +52,7 @@ impl CountedLine {
         let mut whole = String::with_capacity(alloc, text.len() + end.len())?;
         whole.push_str(text)?;
         whole.push_str(end)?;
-        let shared = Rc::new(alloc, whole)?;
+        let shared = Rc::new(alloc, RoomyText { text: whole, alloc })?;
         let counts = measure(text);
         Ok(CountedLine {
             text: shared,
@@ -155,27 +158,56 @@ impl CountedLine {
     }
 }
 
-// A text that others may hold too.
-fn shared_str(shared: &Rc<String>) -> &str
-    ensures value { result.now ≡ string_bytes shared.now.value }
+/// A text that is copied in order to be edited, so that its copy has room for more.
+#[derive(Drop)]
+struct RoomyText {
+    text: String,
+    alloc: Global,
+}
+
+impl Clone for RoomyText {
+    ghost use Rattle.std.specs.String.{string_bytes};
+
+    ghost is_clone = { λ old copy. string_bytes copy.text ≡ string_bytes old.text };
+
+    fn clone(&self) -> Result<RoomyText, AllocError> {
+        Ok(RoomyText {
+            text: roomy_copy(self.alloc, self.text.as_str())?,
+            alloc: self.alloc,
+        })
+    }
+}
+
+/// A text again, with room for some bytes more.
+pub(super) fn roomy_copy(alloc: Global, text: &str) -> Result<String, AllocError>
+    ensures { IfOk result (λ copy. string_bytes copy ≡ text.now) }
 {
-    let text: &String = shared;
-    text.as_str()
+    let mut copy = String::with_capacity(alloc, text.len().saturating_add(ROOM))?;
+    copy.push_str(text)?;
+    Ok(copy)
+}
+
+// A text that others may hold too.
+fn shared_str(shared: &Rc<RoomyText>) -> &str
+    ensures value { result.now ≡ string_bytes shared.now.value.text }
+{
+    let held: &RoomyText = shared;
+    held.text.as_str()
 }
 
 // Puts a text in the place of some bytes of a text that others may hold too, in one of its own.
 fn replace_shared(
-    shared: &mut Rc<String>,
+    shared: &mut Rc<RoomyText>,
     from: usize,
     to: usize,
     text: &str,
 ) -> Result<(), AllocError>
     requires order { from ≤ to }
-    requires from_boundary { IsCharBoundary (string_bytes shared.old.value) from }
-    requires to_boundary { IsCharBoundary (string_bytes shared.old.value) to }
-    ensures ok { OnOk result (string_bytes shared.new.value ≡ replace_range (string_bytes shared.old.value) from to text.now) }
-    ensures err { OnErr result (string_bytes shared.new.value ≡ string_bytes shared.old.value) }
+    requires from_boundary { IsCharBoundary (string_bytes shared.old.value.text) from }
+    requires to_boundary { IsCharBoundary (string_bytes shared.old.value.text) to }
+    ensures ok { OnOk result (string_bytes shared.new.value.text ≡ replace_range (string_bytes shared.old.value.text) from to text.now) }
+    ensures err { OnErr result (string_bytes shared.new.value.text ≡ string_bytes shared.old.value.text) }
 {
-    let whole = Rc::make_mut(shared)?;
-    whole.replace_range(from..to, text)
+    let own = Rc::make_mut(shared)?;
+    own.text.replace_range(from..to, text)
 }

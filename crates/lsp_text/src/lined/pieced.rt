@@ -325,7 +325,7 @@ fn copies(alloc: Global, pieces: &[CountedLine]) -> Result<Vec<CountedLine>, All
 {
     let mut copies = Vec::with_capacity(alloc, pieces.len())?;
     for piece in pieces {
-        copies.push(piece.share()?)?;
+        copies.push_reserved(piece.share()?);
     }
     Ok(copies)
 }

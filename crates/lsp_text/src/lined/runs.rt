@@ -127,7 +127,7 @@ pub(super) fn share_all(alloc: Global, runs: &[SharedRun]) -> Result<Vec<SharedR
 {
     let mut shared = Vec::with_capacity(alloc, runs.len())?;
     for run in runs {
-        shared.push(run.share()?)?;
+        shared.push_reserved(run.share()?);
     }
     Ok(shared)
 }

@@ -9,6 +9,7 @@ ghost use Rattle.lsp_text.specs.Rewriting.{with_text};
 ghost use Rattle.lsp_text.specs.Tables.{counts_of, len_of, counts_after, cut_by, IsTable};
 ghost use lib.Utf8.{encodes, scalars};
 
+use super::counted::roomy_copy;
 use super::lent::LentPiece;
 use crate::counts::{Counts, measure};
 use lsp_types::Encoding;
@@ -133,7 +134,7 @@ impl ShortLines {
         ensures { IfOk result (λ copy. copy ≡ lines.now) }
     {
         Ok(ShortLines {
-            text: String::from_str(alloc, lines.text)?,
+            text: roomy_copy(alloc, lines.text)?,
             table: Vec::from_slice(alloc, lines.table)?,
         })
     }

@@ -8,5 +8,5 @@ use Rattle.lsp_text.proofs.lined.counted.CountedLine.as_str.Goals as goal
 
 pub returns : goal.returns
 returns c =
-    let text = c.self.inside.text.value in
+    let text = c.self.inside.text.value.text in
     ap chars c.shared_str.ensures.value ∙ chars-cut (string_bytes text) c.self.inside.body (IsUtf8-string_bytes text) c.self.invariant.boundary ∙ ap spelled c.self.view_is

@@ -10,8 +10,8 @@ use Rattle.lsp_text.proofs.lined.counted.CountedLine.body_len.Goals as goal
 
 pub returns : goal.returns
 returns c =
-    let bs = string_bytes c.self.inside.text.value in
+    let bs = string_bytes c.self.inside.text.value.text in
     let body = c.self.inside.body in
     let b = c.self.invariant.boundary in
-    sym (length-take-le body bs b.0) ∙ sym (units-utf8_text (take body bs) (IsUtf8-take bs body (IsUtf8-string_bytes c.self.inside.text.value) b))
+    sym (length-take-le body bs b.0) ∙ sym (units-utf8_text (take body bs) (IsUtf8-take bs body (IsUtf8-string_bytes c.self.inside.text.value.text) b))
     ∙ ap (λ (l : Line). units Utf8 l.text) c.self.view_is

@@ -12,7 +12,7 @@ overflow_sub-end c = omega (arith, ap length c.shared_str.ensures.value, c.self.
 
 pub overflow_add-result : goal.overflow_add-result
 overflow_add-result c =
-    let bs = string_bytes c.self.inside.text.value in
+    let bs = string_bytes c.self.inside.text.value.text in
     let body = c.self.inside.body in
     let b = c.self.invariant.boundary in
     record {
@@ -21,7 +21,7 @@ overflow_add-result c =
             arith,
             ap length c.shared_str.ensures.value,
             c.self.invariant.chars_are,
-            length-chars_le (take body bs) (IsUtf8-take bs body (IsUtf8-string_bytes c.self.inside.text.value) b),
+            length-chars_le (take body bs) (IsUtf8-take bs body (IsUtf8-string_bytes c.self.inside.text.value.text) b),
             length-take-le body bs b.0,
             b.0,
             c.shared_str.type_inv,
@@ -30,7 +30,7 @@ overflow_add-result c =
 
 pub returns : goal.returns
 returns c =
-    let bs = string_bytes c.self.inside.text.value in
+    let bs = string_bytes c.self.inside.text.value.text in
     let body = c.self.inside.body in
     let b = c.self.invariant.boundary in
     omega (
@@ -38,7 +38,7 @@ returns c =
       ap length c.shared_str.ensures.value,
       c.self.invariant.chars_are,
       c.self.invariant.end_is,
-      units-utf8_text (drop body bs) (IsUtf8-drop bs body (IsUtf8-string_bytes c.self.inside.text.value) b),
+      units-utf8_text (drop body bs) (IsUtf8-drop bs body (IsUtf8-string_bytes c.self.inside.text.value.text) b),
       length-drop body bs,
       length-append (chars (take body bs)) (chars (drop body bs)),
       ap (λ (l : Line). length (spelled l)) c.self.view_is,

@@ -10,7 +10,7 @@ use Rattle.lsp_text.proofs.lined.counted.CountedLine.len.Goals as goal
 
 pub returns : goal.returns
 returns c =
-    let bs = string_bytes c.self.inside.text.value in
-    ap length c.shared_str.ensures.value ∙ sym (units-utf8_text bs (IsUtf8-string_bytes c.self.inside.text.value))
-    ∙ ap (units Utf8) (chars-cut bs c.self.inside.body (IsUtf8-string_bytes c.self.inside.text.value) c.self.invariant.boundary)
+    let bs = string_bytes c.self.inside.text.value.text in
+    ap length c.shared_str.ensures.value ∙ sym (units-utf8_text bs (IsUtf8-string_bytes c.self.inside.text.value.text))
+    ∙ ap (units Utf8) (chars-cut bs c.self.inside.body (IsUtf8-string_bytes c.self.inside.text.value.text) c.self.invariant.boundary)
     ∙ ap (λ (l : Line). units Utf8 (spelled l)) c.self.view_is

@@ -12,10 +12,10 @@ invariant_of-result c =
     let text = c.args.text.now in
     let end = c.args.end.now in
     let n = length text in
-    let whole : string_bytes c.in_ok-shared.shared.value ≡ text ++ end =
-    ap string_bytes c.in_ok-shared.ensures.ok ∙ c.in_ok-push_str-2.ensures.bytes ∙ ap (λ (x : List ℕ). x ++ end) (c.in_ok-push_str.ensures.bytes ∙ ap (λ (x : List ℕ). x ++ text) c.in_ok-whole.ensures.bytes) in
-    let front : take n (string_bytes c.in_ok-shared.shared.value) ≡ text = ap (take n) whole ∙ take_at text end n refl in
-    let back : drop n (string_bytes c.in_ok-shared.shared.value) ≡ end = ap (drop n) whole ∙ drop_at text end n refl in
+    let whole : string_bytes c.in_ok-shared.shared.value.text ≡ text ++ end =
+    ap (λ r. string_bytes r.text) c.in_ok-shared.ensures.ok ∙ c.in_ok-push_str-2.ensures.bytes ∙ ap (λ (x : List ℕ). x ++ end) (c.in_ok-push_str.ensures.bytes ∙ ap (λ (x : List ℕ). x ++ text) c.in_ok-whole.ensures.bytes) in
+    let front : take n (string_bytes c.in_ok-shared.shared.value.text) ≡ text = ap (take n) whole ∙ take_at text end n refl in
+    let back : drop n (string_bytes c.in_ok-shared.shared.value.text) ≡ end = ap (drop n) whole ∙ drop_at text end n refl in
     record {
       boundary = IsCharBoundary-at_seam _ text end whole c.utf8.end;
       chars_are = c.measure-counts.ensures.chars ∙ ap (λ (x : List ℕ). length (chars x)) (sym front);

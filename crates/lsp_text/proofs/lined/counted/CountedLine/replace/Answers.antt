@@ -14,43 +14,43 @@ use Rattle.lsp_text.proofs.Widths.{units-utf32}
 use Rattle.lsp_text.proofs.lined.counted.CountedLine.replace.Goals as goal
 use Rattle.lsp_text.proofs.lined.counted.CountedLine.replace.Goals.{After-shared_str, After-shared_str-3}
 
-can : (c : After-shared_str) → CanReplace (string_bytes c.self.inside.text.value) c.args.self.now c.self.inside.body c.args.from c.args.to
+can : (c : After-shared_str) → CanReplace (string_bytes c.self.inside.text.value.text) c.args.self.now c.self.inside.body c.args.from c.args.to
 can c =
-    can_replace (string_bytes c.self.inside.text.value) c.args.self.now c.self.inside.body c.args.from c.args.to (IsUtf8-string_bytes c.self.inside.text.value) c.self.invariant.boundary (ap (λ (l : Line). l.text) c.self.view_is) c.requires.order
+    can_replace (string_bytes c.self.inside.text.value.text) c.args.self.now c.self.inside.body c.args.from c.args.to (IsUtf8-string_bytes c.self.inside.text.value.text) c.self.invariant.boundary (ap (λ (l : Line). l.text) c.self.view_is) c.requires.order
     c.requires.from_boundary c.requires.to_boundary
 
-bytes_now : (c : After-shared_str-3) → string_bytes c.replace_shared.new.shared.value ≡ replace_range (string_bytes c.self.inside.text.value) c.args.from c.args.to c.args.text.now
+bytes_now : (c : After-shared_str-3) → string_bytes c.replace_shared.new.shared.value.text ≡ replace_range (string_bytes c.self.inside.text.value.text) c.args.from c.args.to c.args.text.now
 bytes_now c = c.in_ok-replace_shared.ensures.ok
 
-replaced : (c : After-shared_str-3) → CanReplace (string_bytes c.self.inside.text.value) c.args.self.now c.self.inside.body c.args.from c.args.to →
-    IsReplaced (string_bytes c.self.inside.text.value) c.args.text.now c.split_at-2.result.1.now c.self.inside.body c.args.from c.args.to (length c.shared_str-3.result.now - (length c.shared_str.result.now - c.self.inside.body))
+replaced : (c : After-shared_str-3) → CanReplace (string_bytes c.self.inside.text.value.text) c.args.self.now c.self.inside.body c.args.from c.args.to →
+    IsReplaced (string_bytes c.self.inside.text.value.text) c.args.text.now c.split_at-2.result.1.now c.self.inside.body c.args.from c.args.to (length c.shared_str-3.result.now - (length c.shared_str.result.now - c.self.inside.body))
 replaced c k =
-    is_replaced (string_bytes c.self.inside.text.value) c.args.text.now c.split_at-2.result.1.now c.self.inside.body c.args.from c.args.to (length c.shared_str-3.result.now - (length c.shared_str.result.now - c.self.inside.body))
-    (IsUtf8-string_bytes c.self.inside.text.value) c.utf8.text c.self.invariant.boundary c.requires.order k.from_line k.to_line
+    is_replaced (string_bytes c.self.inside.text.value.text) c.args.text.now c.split_at-2.result.1.now c.self.inside.body c.args.from c.args.to (length c.shared_str-3.result.now - (length c.shared_str.result.now - c.self.inside.body))
+    (IsUtf8-string_bytes c.self.inside.text.value.text) c.utf8.text c.self.invariant.boundary c.requires.order k.from_line k.to_line
     (c.split_at-2.ensures.back ∙ ap (drop c.args.from) (c.split_at.ensures.front ∙ ap (take c.args.to) c.shared_str-2.ensures.value))
     (omega (arith, ap length (c.shared_str-3.ensures.value ∙ bytes_now c), ap length c.shared_str.ensures.value))
 
 -- the characters before the end, and their units
 record AreCounted (c : After-shared_str-3) : Type 0 where
-  line : take (length c.shared_str-3.result.now - (length c.shared_str.result.now - c.self.inside.body)) (string_bytes c.replace_shared.new.shared.value) ≡ replace_range (take c.self.inside.body (string_bytes c.self.inside.text.value)) c.args.from c.args.to c.args.text.now
-  end : drop (length c.shared_str-3.result.now - (length c.shared_str.result.now - c.self.inside.body)) (string_bytes c.replace_shared.new.shared.value) ≡ drop c.self.inside.body (string_bytes c.self.inside.text.value)
+  line : take (length c.shared_str-3.result.now - (length c.shared_str.result.now - c.self.inside.body)) (string_bytes c.replace_shared.new.shared.value.text) ≡ replace_range (take c.self.inside.body (string_bytes c.self.inside.text.value.text)) c.args.from c.args.to c.args.text.now
+  end : drop (length c.shared_str-3.result.now - (length c.shared_str.result.now - c.self.inside.body)) (string_bytes c.replace_shared.new.shared.value.text) ≡ drop c.self.inside.body (string_bytes c.self.inside.text.value.text)
   fewer_chars : c.measure-removed.result.chars ≤ c.self.inside.chars
   fewer_utf16 : c.measure-removed.result.utf16 ≤ c.self.inside.utf16
-  chars_now : c.self.inside.chars - c.measure-removed.result.chars + c.measure-inserted.result.chars ≡ length (chars (take (length c.shared_str-3.result.now - (length c.shared_str.result.now - c.self.inside.body)) (string_bytes c.replace_shared.new.shared.value)))
-  utf16_now : c.self.inside.utf16 - c.measure-removed.result.utf16 + c.measure-inserted.result.utf16 ≡ units Utf16 (chars (take (length c.shared_str-3.result.now - (length c.shared_str.result.now - c.self.inside.body)) (string_bytes c.replace_shared.new.shared.value)))
-  chars_fit : length (chars (take (length c.shared_str-3.result.now - (length c.shared_str.result.now - c.self.inside.body)) (string_bytes c.replace_shared.new.shared.value))) ≤ length c.shared_str-3.result.now
-  utf16_fit : units Utf16 (chars (take (length c.shared_str-3.result.now - (length c.shared_str.result.now - c.self.inside.body)) (string_bytes c.replace_shared.new.shared.value))) ≤ length c.shared_str-3.result.now
+  chars_now : c.self.inside.chars - c.measure-removed.result.chars + c.measure-inserted.result.chars ≡ length (chars (take (length c.shared_str-3.result.now - (length c.shared_str.result.now - c.self.inside.body)) (string_bytes c.replace_shared.new.shared.value.text)))
+  utf16_now : c.self.inside.utf16 - c.measure-removed.result.utf16 + c.measure-inserted.result.utf16 ≡ units Utf16 (chars (take (length c.shared_str-3.result.now - (length c.shared_str.result.now - c.self.inside.body)) (string_bytes c.replace_shared.new.shared.value.text)))
+  chars_fit : length (chars (take (length c.shared_str-3.result.now - (length c.shared_str.result.now - c.self.inside.body)) (string_bytes c.replace_shared.new.shared.value.text))) ≤ length c.shared_str-3.result.now
+  utf16_fit : units Utf16 (chars (take (length c.shared_str-3.result.now - (length c.shared_str.result.now - c.self.inside.body)) (string_bytes c.replace_shared.new.shared.value.text))) ≤ length c.shared_str-3.result.now
 
-counted : (c : After-shared_str-3) → CanReplace (string_bytes c.self.inside.text.value) c.args.self.now c.self.inside.body c.args.from c.args.to → AreCounted c
+counted : (c : After-shared_str-3) → CanReplace (string_bytes c.self.inside.text.value.text) c.args.self.now c.self.inside.body c.args.from c.args.to → AreCounted c
 counted c k =
     let r = replaced c k in
-    let bs = string_bytes c.self.inside.text.value in
+    let bs = string_bytes c.self.inside.text.value.text in
     let body = c.self.inside.body in
     let now = (length c.shared_str-3.result.now - (length c.shared_str.result.now - c.self.inside.body)) in
     let new = replace_range (take body bs) c.args.from c.args.to c.args.text.now in
-    let front : take now (string_bytes c.replace_shared.new.shared.value) ≡ new = ap (take now) (bytes_now c) ∙ r.front in
-    let chars_line : length (chars (take now (string_bytes c.replace_shared.new.shared.value))) ≡ units Utf32 (chars new) = ap (λ (x : List ℕ). length (chars x)) front ∙ sym (units-utf32 (chars new)) in
-    let utf16_line : units Utf16 (chars (take now (string_bytes c.replace_shared.new.shared.value))) ≡ units Utf16 (chars new) = ap (λ (x : List ℕ). units Utf16 (chars x)) front in
+    let front : take now (string_bytes c.replace_shared.new.shared.value.text) ≡ new = ap (take now) (bytes_now c) ∙ r.front in
+    let chars_line : length (chars (take now (string_bytes c.replace_shared.new.shared.value.text))) ≡ units Utf32 (chars new) = ap (λ (x : List ℕ). length (chars x)) front ∙ sym (units-utf32 (chars new)) in
+    let utf16_line : units Utf16 (chars (take now (string_bytes c.replace_shared.new.shared.value.text))) ≡ units Utf16 (chars new) = ap (λ (x : List ℕ). units Utf16 (chars x)) front in
     let whole : length c.shared_str-3.result.now ≡ length (replace_range bs c.args.from c.args.to c.args.text.now) = ap length (c.shared_str-3.ensures.value ∙ bytes_now c) in
     let short : length new ≤ length c.shared_str-3.result.now = omega (arith, ap length r.front, length-take now (replace_range bs c.args.from c.args.to c.args.text.now)) in
     let removed : c.measure-removed.result.chars ≡ units Utf32 (chars c.split_at-2.result.1.now) = c.measure-removed.ensures.chars ∙ sym (units-utf32 (chars c.split_at-2.result.1.now)) in
@@ -87,8 +87,8 @@ overflow_sub-self c =
     omega (
       arith,
       ap length r.back,
-      length-drop (length c.shared_str-3.result.now - (length c.shared_str.result.now - c.self.inside.body)) (replace_range (string_bytes c.self.inside.text.value) c.args.from c.args.to c.args.text.now),
-      length-drop c.self.inside.body (string_bytes c.self.inside.text.value),
+      length-drop (length c.shared_str-3.result.now - (length c.shared_str.result.now - c.self.inside.body)) (replace_range (string_bytes c.self.inside.text.value.text) c.args.from c.args.to c.args.text.now),
+      length-drop c.self.inside.body (string_bytes c.self.inside.text.value.text),
       ap length (c.shared_str-3.ensures.value ∙ bytes_now c),
       ap length c.shared_str.ensures.value,
     )
@@ -128,8 +128,8 @@ returns-clause-ok c =
     let at = goal.at.returns-clause-ok c in
     let k = counted at.After-shared_str-3 (can at.After-shared_str) in
     let old = can at.After-shared_str in
-    let line_is : chars (take (length c.shared_str-3.result.now - (length c.shared_str.result.now - c.self.inside.body)) (string_bytes c.replace_shared.new.shared.value)) ≡ chars (replace_range (encodes c.args.self.now.text) c.args.from c.args.to c.args.text.now) =
+    let line_is : chars (take (length c.shared_str-3.result.now - (length c.shared_str.result.now - c.self.inside.body)) (string_bytes c.replace_shared.new.shared.value.text)) ≡ chars (replace_range (encodes c.args.self.now.text) c.args.from c.args.to c.args.text.now) =
     ap chars k.line ∙ ap (λ (x : List ℕ). chars (replace_range x c.args.from c.args.to c.args.text.now)) (sym old.line) in
-    let end_is : chars (drop (length c.shared_str-3.result.now - (length c.shared_str.result.now - c.self.inside.body)) (string_bytes c.replace_shared.new.shared.value)) ≡ c.args.self.now.end = ap chars k.end ∙ ap (λ (l : Line). l.end) c.self.view_is in
-    ap (λ (x : List ℕ). let l : Line = record { text = x; end = chars (drop (length c.shared_str-3.result.now - (length c.shared_str.result.now - c.self.inside.body)) (string_bytes c.replace_shared.new.shared.value)) } in l) line_is
+    let end_is : chars (drop (length c.shared_str-3.result.now - (length c.shared_str.result.now - c.self.inside.body)) (string_bytes c.replace_shared.new.shared.value.text)) ≡ c.args.self.now.end = ap chars k.end ∙ ap (λ (l : Line). l.end) c.self.view_is in
+    ap (λ (x : List ℕ). let l : Line = record { text = x; end = chars (drop (length c.shared_str-3.result.now - (length c.shared_str.result.now - c.self.inside.body)) (string_bytes c.replace_shared.new.shared.value.text)) } in l) line_is
     ∙ ap (λ (x : List ℕ). let l : Line = record { text = chars (replace_range (encodes c.args.self.now.text) c.args.from c.args.to c.args.text.now); end = x } in l) end_is
