@@ -14,10 +14,10 @@ ghost use Rattle.lsp_rpc.specs.Words.{words_of as spec_words_of};
 
 use crate::act::Spoken;
 use crate::content::{assemble, read};
-use crate::did_change::spoken_change;
 use crate::fault::RpcFault;
 use crate::message::Message;
 use crate::methods::act_of;
+use crate::notices::spoken_change;
 use crate::numbers::natural_of;
 use crate::parts::Parts;
 use crate::skip::{MAX_DEPTH, skip};
