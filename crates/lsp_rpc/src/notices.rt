@@ -27,7 +27,7 @@ const VERSION: &str = "2.0";
 
 /// Which notification changes the documents.
 #[derive(Clone, Copy)]
-pub(crate) enum Notice {
+enum Notice {
     Opened,
     Changed,
     Closed,
@@ -62,7 +62,7 @@ fn next_notice(reader: &mut Reader<'_>) -> Option<Notice>
 
 /// The members of a text document's item or identifier.
 #[derive(Drop)]
-pub(crate) struct DocumentParts {
+struct DocumentParts {
     uri: Option<String>,
     version: Option<i32>,
     text: Option<String>,
@@ -104,7 +104,7 @@ impl Gathered for DocumentParts {
 
 /// The members of the params.
 #[derive(Drop)]
-pub(crate) struct ParamsParts {
+struct ParamsParts {
     document: Option<DocumentParts>,
     changes: Option<Vec<Change>>,
 }
@@ -143,8 +143,9 @@ impl Gathered for ParamsParts {
 }
 
 fn opened(document: DocumentParts) -> Option<Act>
-    ensures { option_map (λ act. act_view act) result ≡ params.all_three did_open
-        (spec.document_view document).uri document.version (spec.document_view document).text }
+    ensures { let told = spec.document_view document in
+        option_map (λ act. act_view act) result
+        ≡ params.all_three did_open told.uri told.version told.text }
 {
     Some(Act::DidOpen {
         uri: document.uri?,
@@ -154,9 +155,9 @@ fn opened(document: DocumentParts) -> Option<Act>
 }
 
 fn changed(document: DocumentParts, changes: Option<Vec<Change>>) -> Option<Act>
-    ensures { option_map (λ act. act_view act) result ≡ params.all_three did_change
-        (spec.document_view document).uri document.version
-        (option_map (λ v. changes_view v.items) changes) }
+    ensures { let told = spec.document_view document in
+        option_map (λ act. act_view act) result
+        ≡ params.all_three did_change told.uri told.version (option_map (λ v. changes_view v.items) changes) }
 {
     Some(Act::DidChange {
         uri: document.uri?,
@@ -166,8 +167,8 @@ fn changed(document: DocumentParts, changes: Option<Vec<Change>>) -> Option<Act>
 }
 
 fn closed(document: DocumentParts) -> Option<Act>
-    ensures { option_map (λ act. act_view act) result
-        ≡ option_map did_close (spec.document_view document).uri }
+    ensures { let told = spec.document_view document in
+        option_map (λ act. act_view act) result ≡ option_map did_close told.uri }
 {
     Some(Act::DidClose { uri: document.uri? })
 }
