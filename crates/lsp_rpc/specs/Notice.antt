@@ -1,11 +1,10 @@
 -- What a message that changes the documents, read token by token, has told so far.
 use Rattle.std.specs.Prelude.{◌≡◌, ℕ, ℤ, List, Bool, if◌then◌else◌, Option, Some, None, option_map, option_and_then, string_bytes, codes}
 use Rattle.serde_json.specs.Data.{Data, Members, object, string}
-use Rattle.serde_json.specs.Find.{get_member}
 use Rattle.lsp_rpc.specs.Act.{Text, Act, Change, did_open, did_change, did_close}
 use Rattle.lsp_rpc.specs.Message.{Message}
 use Rattle.lsp_rpc.specs.Outline.{without_params}
-use Rattle.lsp_rpc.specs.Params.{required, both, all_three, array_of, change_at, uri_at, version_at, text_at, act_at}
+use Rattle.lsp_rpc.specs.Params.{required, all_three, array_of, change_at, uri_at, version_at, text_at, act_at}
 use Rattle.lsp_rpc.specs.Reading.{IsMessage}
 use Rattle.lsp_rpc.specs.Shape.{member}
 use Rattle.lsp_rpc.specs.View.{changes_view}
