@@ -173,7 +173,7 @@ fn read_spoken(
     Ok(Spoken { message, act })
 }
 
-/// A change of a document, where the content is one of the common form.
+/// A message that changes the documents, where the content is one of the common form.
 fn change_in(messages: &mut OutlineReader, side: Side, content: &[u8]) -> Option<Spoken>
     ensures { (session : SpecSession) → IfSome result (λ spoken. Says session side content.now (message_view spoken.message) (act_view spoken.act)) }
 {
