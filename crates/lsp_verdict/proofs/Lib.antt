@@ -29,3 +29,6 @@ pub mod MoreKept
 pub mod UpgradeLaws
 pub mod OpenAtEnd
 pub mod Completing
+pub mod Offending
+pub mod Surveying
+pub mod Quiet

@@ -62,12 +62,12 @@ by_reading side bytes (inr (rule, breaks)) = (fault side rule, (refl, inl breaks
 pub some_event : (side : Side) (bytes : List ℕ) → (e : Event) × ReadsAs side bytes e
 some_event side bytes = by_reading side bytes (message_or_rule bytes)
 
-one_read : (raw : Raw) (e f : Event) → Reads raw e → Reads raw f → e ≡ f
+pub one_read : (raw : Raw) (e f : Event) → Reads raw e → Reads raw f → e ≡ f
 one_read (content side bytes) e f p q = one_event side bytes e f p q
 one_read (broken side rule) e f p q = p ∙ sym q
 one_read (show n uri t) e f p q = p ∙ sym q
 
-some_read : (raw : Raw) → (e : Event) × Reads raw e
+pub some_read : (raw : Raw) → (e : Event) × Reads raw e
 some_read (content side bytes) = some_event side bytes
 some_read (broken side rule) = (fault side rule, refl)
 some_read (show n uri t) = (snapshot uri n _, refl)

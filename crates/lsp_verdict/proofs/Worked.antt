@@ -6,3 +6,4 @@ pub mod Reports
 pub mod Shown
 pub mod Texts
 pub mod Interleavings
+pub mod Offences

@@ -23,3 +23,6 @@ pub mod Upgraded
 pub mod Complete
 pub mod BroughtToEnd
 pub mod CompleteLaws
+pub mod Offences
+pub mod Survey
+pub mod OffenceLaws

@@ -13,6 +13,7 @@ mod entry;
 mod interleaving_laws;
 mod laws;
 mod names;
+mod offence_laws;
 mod outcome;
 mod report;
 mod texts;
@@ -35,6 +36,10 @@ pub use laws::{
     upgrade_stays, yes_means_kept,
 };
 pub use names::side_name;
+pub use offence_laws::{
+    all_are_kept, first_listed, kept_are_others, kept_offend_nowhere, listed_offend,
+    nothing_listed, one_survey, some_survey, survey_agrees,
+};
 pub use outcome::{Mode, Outcome, RunFault, StreamFault};
 pub use report::{report_of, stream_report};
 pub use verdict::{OpenDocument, Summary, Verdict, Who, who_of};

@@ -1,8 +1,8 @@
 -- What the bytes of a record bring, once their contents were gone past.
 use Rattle.std.specs.Prelude.{map}
-use Rattle.std.proofs.Common.{◌≡◌, ℕ, ◌+◌, ◌<◌, List, [], ◌∷◌, ◌++◌, length, Bool, true, false, Option, Some, None, Result, Ok, Err, is_some, refl, sym, subst, append-nil, arith}
+use Rattle.std.proofs.Common.{◌≡◌, ℕ, ◌+◌, ◌<◌, List, [], ◌∷◌, ◌++◌, length, Bool, true, Option, Some, None, Result, Ok, Err, is_some, refl, sym, subst, append-nil, arith}
 use Rattle.lsp_frame.specs.Bounds.{Bounds}
-use Rattle.lsp_frame.specs.Decoder.{State, StandsFor, EndsWith}
+use Rattle.lsp_frame.specs.Decoder.{State, EndsWith}
 use Rattle.lsp_frame.specs.Frame.{IsStream}
 use Rattle.lsp_types.specs.declared.side.Side.{Side}
 use Rattle.lsp_streams.specs.Event.{event_at}

@@ -1,10 +1,9 @@
 -- Going past the contents that a decoder holds, one after another.
 use Rattle.std.specs.Prelude.{map}
-use Rattle.std.proofs.Common.{◌≡◌, ℕ, ◌+◌, ◌<◌, List, [], ◌∷◌, ◌++◌, length, Bool, true, false, Some, None, Ok, Err, refl, sym, ap, subst, ◌∙◌, append_assoc, append-nil, arith}
+use Rattle.std.proofs.Common.{◌≡◌, ℕ, ◌+◌, ◌<◌, List, [], ◌∷◌, ◌++◌, length, true, false, Some, None, Ok, Err, refl, sym, ap, subst, ◌∙◌, append_assoc, append-nil, arith}
 use Rattle.std.proofs.lemmas.List.{map-append, length-map, length_push}
-use Rattle.lsp_frame.specs.Bounds.{Bounds}
 use Rattle.lsp_frame.specs.Decoder.{State, StandsFor, Next}
-use Rattle.lsp_frame.specs.Frame.{Frames, IsStream}
+use Rattle.lsp_frame.specs.Frame.{IsStream}
 use Rattle.lsp_types.specs.declared.side.Side.{Side}
 use Rattle.lsp_streams.specs.EventSteps.{GaveAll, GaveUpTo}
 use Rattle.lsp_verdict.specs.Placed.{Raw, content, broken, new_fault}

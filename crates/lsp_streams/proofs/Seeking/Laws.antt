@@ -3,10 +3,10 @@ use Rattle.std.specs.Option.{IsSomeAnd}
 use Rattle.std.specs.Prelude.{MatchOption}
 use Rattle.std.proofs.Common.{◌≡◌, ℕ, ◌-◌, List, [], Option, Some, None, slice_get, refl, sym, ap, subst, ◌∙◌}
 use Rattle.std.proofs.lemmas.Slice.Zip.{AllZip-right}
-use Rattle.lsp_frame.specs.Bounds.{Bounds, IsInRange}
+use Rattle.lsp_frame.specs.Bounds.{Bounds}
 use Rattle.lsp_log.specs.Log.{Record}
 use Rattle.lsp_log.specs.declared.fault.LogCode.{LogCode}
-use Rattle.lsp_streams.specs.Event.{content_of, outcome_of, content_at, outcome_at, event_at, IsEvent}
+use Rattle.lsp_streams.specs.Event.{content_of, outcome_of, content_at, outcome_at, event_at}
 use Rattle.lsp_streams.specs.EventLaws.{SomeEvent, OneEvent, EventIsNumbered}
 use Rattle.lsp_verdict.specs.Event.{Event}
 use Rattle.lsp_verdict.specs.Placed.{Raw, Placed, Reads}

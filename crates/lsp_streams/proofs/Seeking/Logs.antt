@@ -1,14 +1,13 @@
 -- The event of a log, against those of the records that were read.
 use Rattle.std.specs.Io.KnownBytes.{IsAtEnd}
-use Rattle.std.proofs.Common.{◌≡◌, ℕ, ◌+◌, ◌-◌, ◌<◌, ◌≤◌, List, [], ◌∷◌, ◌++◌, length, Option, Some, None, Result, Ok, Err, refl, sym, ap, subst, ◌∙◌, arith}
+use Rattle.std.proofs.Common.{◌≡◌, ℕ, ◌-◌, ◌≤◌, List, [], ◌++◌, length, Option, Some, None, Result, Ok, Err, sym, ap, subst, ◌∙◌, arith}
 use Rattle.std.proofs.lemmas.Option.{slice_get_past}
-use Rattle.lsp_frame.specs.Bounds.{Bounds, IsInRange}
+use Rattle.lsp_frame.specs.Bounds.{Bounds}
 use Rattle.lsp_frame.specs.Told.{Told}
 use Rattle.lsp_frame.specs.declared.format.Format.{Format}
 use Rattle.lsp_log.specs.Log.{Record, IsLog}
 use Rattle.lsp_log.specs.Reader as reader
 use Rattle.lsp_log.specs.Reader.{StandsFor}
-use Rattle.lsp_log.specs.Records.{record_view}
 use Rattle.lsp_log.specs.declared.fault.LogCode.{LogCode}
 use Rattle.lsp_streams.specs.Event.{content_at, outcome_of, outcome_at, without, event_at, IsEvent, BeginsEvent}
 use Rattle.lsp_streams.specs.EventSteps.{HasPassed, HasFound, SeeksRecord, SoFar, Found, BrokeOff, SeeksEntry}
@@ -16,14 +15,11 @@ use Rattle.lsp_streams.specs.declared.event.Answer.{Answer}
 use Rattle.lsp_streams.specs.declared.event.Search.{Search}
 use Rattle.lsp_verdict.specs.Entries as entries
 use Rattle.lsp_verdict.specs.Entries.{IsAt, HasRecords, HasFirst, EntryIs}
-use Rattle.lsp_verdict.specs.Placed.{Raw, content, broken, show, Placed}
+use Rattle.lsp_verdict.specs.Placed.{Raw, content, broken, show}
 use Rattle.lsp_verdict.specs.RunIo.{OfRead, failures_after}
-use Rattle.lsp_verdict.specs.declared.entry.Entry.{Entry}
-use Rattle.lsp_verdict.specs.declared.entry.Entry.TheVariants as entry
 use Rattle.lsp_verdict.specs.declared.outcome.Outcome.{Outcome}
-use Rattle.lsp_verdict.specs.declared.outcome.Outcome.TheVariants.{Done, Judged, NoContent, FewerEvents}
+use Rattle.lsp_verdict.specs.declared.outcome.Outcome.TheVariants.{Judged, FewerEvents}
 use Rattle.lsp_verdict.specs.declared.outcome.RunFault.{RunFault}
-use Rattle.lsp_verdict.specs.declared.outcome.RunFault.TheVariants as faults
 use Rattle.lsp_verdict.specs.declared.verdict.Verdict.TheVariants.{BadLog}
 use Rattle.lsp_verdict.proofs.Entries.{is_first, at_start}
 use Rattle.lsp_verdict.proofs.Outcomes.{placed_front}

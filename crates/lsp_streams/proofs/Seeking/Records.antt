@@ -1,6 +1,6 @@
 -- The events of records, with one record more.
 use Rattle.std.specs.Prelude.{ℤ}
-use Rattle.std.proofs.Common.{◌≡◌, ℕ, ◌+◌, ◌-◌, ◌<◌, List, [], ◌∷◌, ◌++◌, length, Bool, false, Option, Some, None, Result, Ok, Err, refl, sym, ap, subst, ◌∙◌, length-append, arith}
+use Rattle.std.proofs.Common.{◌≡◌, ℕ, ◌+◌, ◌-◌, ◌<◌, List, [], ◌∷◌, ◌++◌, length, Bool, false, Option, Some, None, Result, Ok, Err, refl, sym, ap, subst, length-append, arith}
 use Rattle.std.proofs.lemmas.List.{length_push}
 use Rattle.lsp_frame.specs.Bounds.{Bounds, IsInRange}
 use Rattle.lsp_frame.specs.Decoder as decoder
@@ -12,7 +12,7 @@ use Rattle.lsp_streams.specs.EventSteps.{Answers, IsSpent, BringsAnswer, HasPass
 use Rattle.lsp_streams.specs.declared.event.Answer.{Answer}
 use Rattle.lsp_streams.specs.declared.event.Search.{Search}
 use Rattle.lsp_streams.specs.declared.event.Stream.{Stream}
-use Rattle.lsp_verdict.specs.Placed.{Raw, show, Brings, Placed, joined}
+use Rattle.lsp_verdict.specs.Placed.{Raw, show, Brings, joined}
 use Rattle.lsp_verdict.specs.declared.outcome.RunFault.{RunFault}
 use Rattle.lsp_verdict.proofs.Drained.{new_drained}
 use Rattle.lsp_verdict.proofs.OneRecord.{joined_own, joined_server, joined_editor, joined_shown}

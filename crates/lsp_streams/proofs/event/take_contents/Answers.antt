@@ -1,4 +1,4 @@
-use Rattle.std.proofs.Common.{◌≡◌, ◌+◌, refl, ◌∙◌, arith}
+use Rattle.std.proofs.Common.{◌≡◌, ◌∙◌, arith}
 use Rattle.lsp_verdict.specs.Placed.{content, broken}
 use Rattle.lsp_streams.proofs.Framing.Found.{frame_step}
 use Rattle.lsp_streams.proofs.Seeking.Contents.{one_past, all_past, fault_past, fault_found, content_found}

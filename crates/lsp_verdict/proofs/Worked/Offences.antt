@@ -1,0 +1,149 @@
+-- Worked sessions that offend more than once: all their offences, and which of these follow from an earlier one.
+use Rattle.std.proofs.Common.{◌≡◌, ℕ, ◌∷◌, [], List, ◌++◌, refl}
+use Rattle.std.specs.Prelude.{codes, map, Bool, true, false, Option, Some, None}
+use Rattle.std.specs.Float.Numeral.{scan_numeral}
+use Rattle.std.specs.Str.{chars}
+use Rattle.std.specs.Fmt.{digits}
+use Rattle.json.specs.Json.{value}
+use Rattle.json.specs.Lex.{punctuate, lex}
+use Rattle.json.specs.Text.{content}
+use Rattle.json.specs.Word.{word, after_number}
+use Rattle.json.specs.Print.{escape_byte}
+use Rattle.serde_json.specs.Read.{number_of}
+use Rattle.lsp_log.specs.declared.fault.LogCode.{LogCode}
+use Rattle.lsp_log.specs.declared.fault.LogCode.TheVariants.{L4}
+use Rattle.lsp_types.specs.declared.side.Side.TheVariants.{Editor}
+use Rattle.lsp_verdict.specs.Event.{Event, fault}
+use Rattle.lsp_verdict.specs.Offences.{Noted, Offence, offences}
+use Rattle.lsp_verdict.specs.Survey.{found_in, all_report}
+use Rattle.lsp_verdict.specs.Verdict.{no, bad_log, summary}
+use Rattle.lsp_verdict.specs.declared.completeness.Completeness.{Completeness}
+use Rattle.lsp_verdict.specs.declared.completeness.Completeness.TheVariants.{Ignored, Required}
+use Rattle.lsp_verdict.specs.declared.verdict.Who.{Who}
+use Rattle.lsp_verdict.specs.declared.verdict.Who.TheVariants as who
+use Rattle.lsp_verdict.proofs.Worked.Templates.{terms, A, A1, I1, N1, START, OPEN, CHG, REP, FULL, CLOSE, SAVE, REQ, RES, LOG, SH, EX, T}
+
+-- events none of which is an `initialize` that does not have its shape
+abbrev noted : List Event → List Noted
+noted events = map (λ (e : Event). let n : Noted = record { event = e; asks = false } in n) events
+
+abbrev all_of : List Event → List Offence
+all_of events = offences terms (noted events)
+
+abbrev cause : ℕ → Who → ℕ → ℕ → Offence
+cause rule by number event = record { no = no rule by number event; follows = false }
+
+abbrev after_it : ℕ → Who → ℕ → ℕ → Offence
+after_it rule by number event = record { no = no rule by number event; follows = true }
+
+keeps_the_rules : all_of (START ++ OPEN (codes "1") (codes "ab") ∷ T 1 (codes "ab") ∷ SH ∷ RES (codes "2") ∷ EX ∷ []) ≡ []
+unfolding value punctuate lex content word after_number number_of scan_numeral chars
+keeps_the_rules = refl
+
+-- ---- documents
+
+-- the version of a change stays: the document is lost, so the snapshots behind it follow, until a whole text comes
+abbrev drifted : List Event
+drifted =
+    START ++ OPEN (codes "1") (codes "ab") ∷ CHG (codes "1") (REP (codes "0") (codes "0") (codes "0") (codes "0") (codes "x"))
+    ∷ CHG (codes "2") (REP (codes "0") (codes "0") (codes "0") (codes "0") (codes "y"))
+    ∷ T 2 (codes "yxab") ∷ T 2 (codes "yxab") ∷ SAVE (codes "yxab") ∷ []
+
+drifts_once : all_of drifted ≡ cause 603 who.Editor 4 5 ∷ after_it 702 who.Snapshot 1 7 ∷ after_it 702 who.Snapshot 2 8 ∷ after_it 608 who.Editor 6 9 ∷ []
+unfolding value punctuate lex content word after_number number_of scan_numeral chars
+drifts_once = refl
+
+found_again : all_of (drifted ++ CHG (codes "3") (FULL (codes "c")) ∷ T 3 (codes "c") ∷ T 3 (codes "d") ∷ [])
+    ≡ cause 603 who.Editor 4 5 ∷ after_it 702 who.Snapshot 1 7 ∷ after_it 702 who.Snapshot 2 8 ∷ after_it 608 who.Editor 6 9 ∷ cause 702 who.Snapshot 4 12 ∷ []
+unfolding value punctuate lex content word after_number number_of scan_numeral chars
+found_again = refl
+
+-- a version that stays without a change loses nothing, so a snapshot behind it is an offence of its own
+nothing_lost : all_of (START ++ OPEN (codes "1") (codes "ab") ∷ CHG (codes "1") [] ∷ T 1 (codes "c") ∷ [])
+    ≡ cause 603 who.Editor 4 5 ∷ cause 702 who.Snapshot 1 6 ∷ []
+unfolding value punctuate lex content word after_number number_of scan_numeral chars
+nothing_lost = refl
+
+-- changes of a document that was never opened; once it is, they are judged by themselves
+never_opened : all_of (START ++ CHG (codes "1") (FULL (codes "a")) ∷ CHG (codes "2") (FULL (codes "b")) ∷ OPEN (codes "3") (codes "c") ∷ CLOSE ∷ CLOSE ∷ [])
+    ≡ cause 602 who.Editor 3 4 ∷ after_it 602 who.Editor 4 5 ∷ cause 602 who.Editor 7 8 ∷ []
+unfolding value punctuate lex content word after_number number_of scan_numeral chars
+never_opened = refl
+
+-- ---- the handshake
+
+-- an answer that is refused: all that wants a handshake follows, until an answer settles it
+refused_answer : all_of (I1 ∷ A (codes "1") (codes "{\"textDocumentSync\":3}") ∷ N1 ∷ REQ ∷ LOG ∷ RES (codes "7") ∷ A1 ∷ N1 ∷ RES (codes "7") ∷ [])
+    ≡ cause 501 who.Server 1 2 ∷ after_it 402 who.Editor 2 3 ∷ after_it 402 who.Editor 3 4 ∷ after_it 301 who.Server 3 6 ∷ cause 301 who.Server 5 9 ∷ []
+unfolding value punctuate lex content word after_number number_of scan_numeral chars
+refused_answer = refl
+
+-- an `initialize` without its shape, and another message of a bad shape: only behind the first is the handshake lost
+abbrev bad_initialize : Noted
+bad_initialize = record { event = fault Editor 209; asks = true }
+
+refused_initialize : offences terms (bad_initialize ∷ noted (REQ ∷ []))
+    ≡ cause 209 who.Editor 1 1 ∷ after_it 401 who.Editor 2 2 ∷ []
+unfolding value punctuate lex content word after_number number_of scan_numeral chars
+refused_initialize = refl
+
+refused_otherwise : all_of (fault Editor 209 ∷ REQ ∷ [])
+    ≡ cause 209 who.Editor 1 1 ∷ cause 401 who.Editor 2 2 ∷ []
+unfolding value punctuate lex content word after_number number_of scan_numeral chars
+refused_otherwise = refl
+
+-- a session without a handshake: each offence is one of its own
+no_handshake : all_of (REQ ∷ LOG ∷ RES (codes "7") ∷ [])
+    ≡ cause 401 who.Editor 1 1 ∷ cause 411 who.Server 1 2 ∷ cause 301 who.Server 2 3 ∷ []
+unfolding value punctuate lex content word after_number number_of scan_numeral chars
+no_handshake = refl
+
+-- ---- how sessions end
+
+abbrev ends : Completeness → List Event → Option (ℕ × LogCode) → Bool → Bool → List Offence
+ends completeness events flaw editor server = found_in completeness terms (noted events) (record { log_fault = flaw; editor_rest = editor; server_rest = server })
+
+both_inside : ends Ignored (START ++ REQ ∷ REQ ∷ []) None true true
+    ≡ cause 302 who.Editor 4 5 ∷ cause 107 who.Editor 5 6 ∷ cause 107 who.Server 2 6 ∷ []
+unfolding value punctuate lex content word after_number number_of scan_numeral chars
+both_inside = refl
+
+-- behind a fault of its frames a side has no rest, and a log with a fault ends nowhere
+frames_at_fault : ends Required (START ++ fault Editor 102 ∷ []) None true true
+    ≡ cause 102 who.Editor 3 4 ∷ cause 107 who.Server 2 5 ∷ []
+unfolding value punctuate lex content word after_number number_of scan_numeral chars
+frames_at_fault = refl
+
+log_at_fault : ends Required (START ++ REQ ∷ REQ ∷ []) (Some (6, L4)) true true
+    ≡ cause 302 who.Editor 4 5 ∷ []
+unfolding value punctuate lex content word after_number number_of scan_numeral chars
+log_at_fault = refl
+
+-- what is lacking is asked of the kept events
+exit_missing : ends Required (START ++ OPEN (codes "1") (codes "ab") ∷ OPEN (codes "1") (codes "ab") ∷ SH ∷ RES (codes "2") ∷ []) None false false
+    ≡ cause 601 who.Editor 4 5 ∷ cause 407 who.Editor 6 8 ∷ []
+unfolding value punctuate lex content word after_number number_of scan_numeral chars
+exit_missing = refl
+
+-- ---- what is said
+
+abbrev said : Bool → List Event → List ℕ
+said every events = all_report every (ends Ignored events None false false) None (summary terms events)
+
+causes_are_said : said false drifted ≡ codes "no 603 editor 4 event 5\nversion does not rise\noffences 4 following 3\n"
+unfolding value punctuate lex content word after_number number_of scan_numeral chars digits escape_byte
+causes_are_said = refl
+
+every_one_is_said : said true (START ++ CHG (codes "1") (FULL (codes "a")) ∷ CHG (codes "2") (FULL (codes "b")) ∷ [])
+    ≡ codes "no 602 editor 3 event 4\ndocument is not open\nno 602 editor 4 event 5 follows\ndocument is not open\noffences 2 following 1\n"
+unfolding value punctuate lex content word after_number number_of scan_numeral chars digits escape_byte
+every_one_is_said = refl
+
+nothing_is_said : said false [] ≡ codes "yes\nmessages 0 0\nsnapshots 0 unmatched 0\nencoding - sync -\n"
+unfolding digits escape_byte
+nothing_is_said = refl
+
+fault_is_said : all_report true (ends Ignored (REQ ∷ []) (Some (2, L4)) false false) (Some (bad_log 2 L4)) (summary terms (REQ ∷ []))
+    ≡ codes "no 401 editor 1 event 1\neditor message before initialize\nbad log L4 record 2\nrecord cut short or its line end missing\noffences 1 following 0\n"
+unfolding value punctuate lex content word after_number number_of scan_numeral chars digits escape_byte
+fault_is_said = refl

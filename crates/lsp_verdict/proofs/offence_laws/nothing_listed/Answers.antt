@@ -1,0 +1,5 @@
+use Rattle.lsp_verdict.proofs.Offending as proved
+use Rattle.lsp_verdict.proofs.offence_laws.nothing_listed.Goals as goal
+
+pub returns : goal.returns
+returns c = proved.nothing_listed

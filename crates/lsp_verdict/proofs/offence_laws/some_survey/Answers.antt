@@ -1,0 +1,5 @@
+use Rattle.lsp_verdict.proofs.Surveying as proved
+use Rattle.lsp_verdict.proofs.offence_laws.some_survey.Goals as goal
+
+pub returns : goal.returns
+returns c = proved.some_survey
