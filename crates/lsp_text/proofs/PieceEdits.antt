@@ -11,7 +11,7 @@ use Rattle.lsp_text.specs.Lines.{Line, spelled, open_line}
 use Rattle.lsp_text.specs.Places.{units}
 use Rattle.lsp_text.specs.Rewriting.{with_text}
 use Rattle.lsp_text.specs.Pieces.{bodies, piece_at, IsFound, IsReplacedIn}
-use Rattle.lsp_text.specs.declared.lined.pieced.Found.{Found}
+use Rattle.lsp_text.specs.declared.lined.pieces.Found.{Found}
 use Rattle.lsp_text.proofs.Counting.{units-append, units-utf8, units-utf8_text, scalars-parts}
 use Rattle.lsp_text.proofs.HeldText.{same_front}
 use Rattle.lsp_text.proofs.LineEdits.{replace_before, utf8_replaced, boundary_in_all}

@@ -2,9 +2,11 @@
 
 mod counted;
 mod fresh;
+mod groups;
 pub(crate) mod lent;
 pub(crate) mod lines;
 mod pieced;
+mod pieces;
 mod run;
 mod runs;
 mod short;

@@ -2,7 +2,7 @@ use Rattle.std.proofs.Common.{◌≡◌, ◌≤◌, ◌+◌, ◌-◌, length, ta
 use Rattle.lsp_types.specs.declared.position.Encoding.TheVariants.{Utf8}
 use Rattle.lsp_text.specs.Places.{units}
 use Rattle.lsp_text.specs.Pieces.{bodies}
-use Rattle.lsp_text.proofs.lined.pieced.find.Given as goal
+use Rattle.lsp_text.proofs.lined.pieces.find.Given as goal
 
 abbrev pub invariant-loop-index : goal.invariant-loop-index
 invariant-loop-index l =

@@ -5,7 +5,7 @@ use Rattle.lsp_text.proofs.Counting.{units-append}
 use Rattle.lsp_text.specs.Pieces.{bodies}
 use Rattle.std.proofs.Common.{take}
 use Rattle.lsp_text.proofs.Pieces.{bodies_to, units_to_le}
-use Rattle.lsp_text.proofs.lined.pieced.find.Goals as goal
+use Rattle.lsp_text.proofs.lined.pieces.find.Goals as goal
 
 pub overflow_add-bytes : goal.overflow_add-bytes
 overflow_add-bytes c =

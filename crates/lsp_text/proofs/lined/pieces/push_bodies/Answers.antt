@@ -3,7 +3,7 @@ use Rattle.std.specs.String.{string_bytes}
 use Rattle.std.proofs.lemmas.Str.{encodes-chars}
 use lib.Utf8.{encodes}
 use Rattle.lsp_text.proofs.Pieces.{pushed_more}
-use Rattle.lsp_text.proofs.lined.pieced.push_bodies.Goals as goal
+use Rattle.lsp_text.proofs.lined.pieces.push_bodies.Goals as goal
 
 pub loop-piece-preserved : goal.loop-piece-preserved
 loop-piece-preserved c =

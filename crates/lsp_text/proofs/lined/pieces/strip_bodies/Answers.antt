@@ -4,7 +4,7 @@ use lib.Utf8.{encodes}
 use Rattle.lsp_text.specs.Pieces.{bodies}
 use Rattle.lsp_text.proofs.Pieces.{stripped_more, goes_on}
 use Rattle.lsp_text.proofs.Stripping.{after_front, after_front_utf8}
-use Rattle.lsp_text.proofs.lined.pieced.strip_bodies.Goals as goal
+use Rattle.lsp_text.proofs.lined.pieces.strip_bodies.Goals as goal
 
 pub returns-in_err-rest : goal.returns-in_err-rest
 returns-in_err-rest c =
