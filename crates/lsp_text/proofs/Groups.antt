@@ -1,21 +1,22 @@
 -- Pieces of a line in groups: where one is, and what changes with it.
 use Rattle.std.proofs.Common.{◌≡◌, ◌<◌, ◌≤◌, ◌+◌, ◌-◌, ℕ, List, [], ◌∷◌, ◌++◌, length, take, drop, get_or, set, refl, sym, ap, subst, ◌∙◌, ⊎_elim, arith, append_assoc, length-append}
 use Rattle.std.proofs.Math.Seq.{take-nil}
-use Rattle.std.proofs.lemmas.List.{append-nil, take_more, take-append-drop, take_all, get_or_default, get_or_past, length-take-le, at_drop_more}
+use Rattle.std.proofs.lemmas.List.{append-nil, take_more, take-append-drop, take_all, get_or_default, get_or_past, get_or-set_same, length-take-le, at_drop_more}
 use Rattle.std.proofs.lemmas.Bool.{cases_lt}
+use Rattle.std.specs.Str.{chars, IsUtf8}
 use Rattle.std.proofs.lemmas.Str.{encodes-append}
 use lib.Utf8.{encodes}
 use Rattle.lsp_types.specs.declared.position.Encoding.{Encoding}
 use Rattle.lsp_types.specs.declared.position.Encoding.TheVariants.{Utf8}
-use Rattle.lsp_text.specs.Lines.{Line}
+use Rattle.lsp_text.specs.Lines.{Line, open_line}
 use Rattle.lsp_text.specs.Places.{units}
 use Rattle.lsp_text.specs.Pieces.{bodies, IsFound}
-use Rattle.lsp_text.specs.Groups.{before, index_of, found_of, IsInGroups, IsFoundIn, IsFoundGroup}
+use Rattle.lsp_text.specs.Groups.{edited, edited_piece, before, index_of, found_of, IsInGroups, IsFoundIn, IsFoundGroup, IsCutFrom}
 use Rattle.lsp_text.specs.Runs.{joined_runs, IsPlaceInRuns}
 use Rattle.lsp_text.specs.declared.lined.groups.InGroups.{InGroups}
 use Rattle.lsp_text.specs.declared.lined.pieces.Found.{Found}
 use Rattle.lsp_text.specs.declared.lined.runs.InRuns.{InRuns}
-use Rattle.lsp_text.proofs.Counting.{units-append}
+use Rattle.lsp_text.proofs.Counting.{units-append, units-utf8_text}
 use Rattle.lsp_text.proofs.HeldText.{same_front}
 use Rattle.lsp_text.proofs.Pieces.{bodies-append, units_to_le as pieces_to_le}
 use Rattle.lsp_text.proofs.RunPlaces.{joined-append, joined_get, take_joined, drop_joined, joined_set, joined_to}
@@ -222,3 +223,43 @@ bytes_behind gs at h lt =
     let part = drop (at.piece + 1) (get_or gs at.group []) in
     let back = joined_runs (drop (at.group + 1) gs) in
     ap (λ (x : List Line). encodes (bodies x)) (rest_pieces gs at h lt) ∙ ap encodes (bodies-append part back) ∙ encodes-append (bodies part) (bodies back)
+
+-- an edit of the piece at a place is one of that piece among all
+pub edited_there : (gs : List (List Line)) (at : InGroups) (g new : List Line) (from to : ℕ) (s : List ℕ) → IsInGroups gs at → at.group < length gs → g ≡ get_or gs at.group g → new ≡ edited g at.piece from to s →
+    joined_runs (set gs at.group new) ≡ set (joined_runs gs) (index_of gs at) (edited_piece (get_or (joined_runs gs) (index_of gs at) (open_line [])) from to s)
+edited_there gs at g new from to s h lt is made =
+    let held = get_or gs at.group [] in
+    let same : g ≡ held = is ∙ get_or_default gs at.group g [] lt in
+    let q = edited_piece (get_or held at.piece (open_line [])) from to s in
+    ap (λ (x : List Line). joined_runs (set gs at.group x)) (made ∙ ap (λ (x : List Line). edited x at.piece from to s) same) ∙ set_there gs at q h lt
+    ∙ ap (λ (p : Line). set (joined_runs gs) (index_of gs at) (edited_piece p from to s)) (sym (piece_there gs at (open_line []) h))
+
+-- a group, one of whose pieces is another, has no more bytes than all pieces then
+pub set_group_le : (gs : List (List Line)) (at : InGroups) (p : Line) → IsInGroups gs at → at.group < length gs →
+    units Utf8 (bodies (set (get_or gs at.group []) at.piece p)) ≤ units Utf8 (bodies (set (joined_runs gs) (index_of gs at) p))
+set_group_le gs at p h lt =
+    let g = set (get_or gs at.group []) at.piece p in
+    let all = set gs at.group g in
+    let there : get_or all at.group [] ≡ g = get_or-set_same gs at.group g [] lt in
+    omega (
+      arith,
+      group_le Utf8 all at.group,
+      ap (λ (x : List Line). units Utf8 (bodies x)) there,
+      ap (λ (x : List Line). units Utf8 (bodies x)) (set_there gs at p h lt),
+    )
+
+-- pieces cut from the front of a text, and more from what comes after them
+pub cut_next : (text rest next : List ℕ) (ps qs all : List Line) → IsCutFrom text ps rest → IsCutFrom rest qs next → all ≡ ps ++ qs → IsCutFrom text all next
+cut_next text rest next ps qs all first second is =
+    record {
+      parts =
+          ap (λ (x : List Line). bodies x ++ chars next) is ∙ ap (λ (x : List ℕ). x ++ chars next) (bodies-append ps qs) ∙ append_assoc (bodies ps) (bodies qs) (chars next)
+          ∙ ap (λ (x : List ℕ). bodies ps ++ x) second.parts ∙ first.parts;
+      utf8 = second.utf8;
+      bound = omega (arith, first.bound, second.bound);
+    }
+
+-- the bytes of pieces that were cut
+pub cut_bytes : (text rest : List ℕ) (ps : List Line) → IsUtf8 text → IsCutFrom text ps rest → units Utf8 (bodies ps) + length rest ≡ length text
+cut_bytes text rest ps u h =
+    omega (arith, ap (units Utf8) h.parts, units-append Utf8 (bodies ps) (chars rest), units-utf8_text rest h.utf8, units-utf8_text text u)

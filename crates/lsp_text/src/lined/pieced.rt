@@ -10,7 +10,7 @@ ghost use Rattle.lsp_text.specs.Offsets.{IsOffset};
 ghost use Rattle.lsp_text.specs.Rewriting.{with_text};
 ghost use Rattle.lsp_text.specs.Pieces.{bodies, BeginsOtherwise, IsReplacedIn};
 ghost use Rattle.lsp_text.specs.Fronts.{groups_in, bytes_in};
-ghost use Rattle.lsp_text.specs.Groups.{index_of, piece_of, IsInGroups, IsCutFrom};
+ghost use Rattle.lsp_text.specs.Groups.{index_of, edited, piece_of, IsInGroups, IsCutFrom};
 ghost use Rattle.lsp_text.specs.Runs.{joined_runs};
 ghost use lib.Utf8.{encodes, scalars};
 
@@ -274,8 +274,9 @@ fn replace_in(
     requires before_end { to ≤ units Encoding.Utf8 (piece_of front.old.groups.items at).text }
     requires from_boundary { IsCharBoundary (encodes (piece_of front.old.groups.items at).text) from }
     requires to_boundary { IsCharBoundary (encodes (piece_of front.old.groups.items at).text) to }
-    requires count { front.old.bytes ≡ units Encoding.Utf8 (bodies (joined_runs front.old.groups.items)) }
+    requires bytes { to - from ≤ front.old.bytes }
     requires fits { front.old.bytes - (to - from) + length text.now < 2 ^ 64 }
+    requires group_fits { units Encoding.Utf8 (bodies (edited (slice_index_or front.old.groups.items at.group []) at.piece from to text.now)) < 2 ^ 64 }
     ensures ok { OnOk result (IsReplacedIn (joined_runs front.old.groups.items) front.old.bytes (index_of front.old.groups.items at) from to text.now (joined_runs front.new.groups.items) front.new.bytes) }
     ensures err { OnErr result ((front.new.groups.items ≡ front.old.groups.items) × (front.new.bytes ≡ front.old.bytes)) }
 {
