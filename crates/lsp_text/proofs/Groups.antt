@@ -146,41 +146,41 @@ pub found_in : (gs : List (List Line)) (enc : Encoding) (column : ℕ) (f p : Fo
     at ≡ record { group = f.index; piece = p.index; bytes = f.bytes + p.bytes; left = p.left } → IsFoundIn gs enc column at
 found_in gs enc column f p at ps h is found made =
     subst (λ (x : InGroups). IsFoundIn gs enc column x) (sym made) (
-      let at : InGroups = record { group = f.index; piece = p.index; bytes = f.bytes + p.bytes; left = p.left } in
-      let k : IsFound (get_or gs f.index []) enc f.left p = subst (λ (x : List Line). IsFound x enc f.left p) is found in
-      let g = get_or gs f.index [] in
-      let front = joined_runs (take f.index gs) in
-      let part = take p.index g in
-      let inside : f.index < length gs → p.index < length g =
-      λ lt. ⊎_elim (λ less. less)
-      (λ past. absurd (omega (arith, h.inside lt, k.left_is, ap (λ (x : List Line). units enc (bodies x)) (take_all p.index g past))))
-      (cases_lt p.index (length g)) in
-      let place : IsInGroups gs at = record { within = h.within; bound = k.within; inside = inside } in
-      let first : bodies (take (index_of gs at) (joined_runs gs)) ≡ bodies front ++ bodies part = ap bodies (first_pieces gs at place) ∙ bodies-append front part in
-      let sum : (e : Encoding) → units e (bodies (take (index_of gs at) (joined_runs gs))) ≡ units e (bodies front) + units e (bodies part) =
-      λ e. ap (units e) first ∙ units-append e (bodies front) (bodies part) in
-      record {
-        place = place;
-        found =
-            record {
-              within =
-                  omega (
-                    arith,
-                    ap length (first_pieces gs at place),
-                    ap length (sym (take-append-drop (index_of gs at) (joined_runs gs))),
-                    ap length (take-append-drop (index_of gs at) (joined_runs gs)),
-                    length-append (take (index_of gs at) (joined_runs gs)) (drop (index_of gs at) (joined_runs gs)),
-                  );
-              bytes_are = omega (arith, h.bytes_are, k.bytes_are, sum Utf8);
-              left_is = omega (arith, h.left_is, k.left_is, sum enc);
-              inside =
-                  λ last lt.
-                  ⊎_elim
-                  (λ less. let there = piece_there gs at last place in omega (arith, k.inside last (inside less), ap (λ (l : Line). units enc l.text) there))
-                  (λ past. absurd (omega (arith, past_all gs at past)))
-                  (cases_lt f.index (length gs));
-            };
-      }
+    let at : InGroups = record { group = f.index; piece = p.index; bytes = f.bytes + p.bytes; left = p.left } in
+    let k : IsFound (get_or gs f.index []) enc f.left p = subst (λ (x : List Line). IsFound x enc f.left p) is found in
+    let g = get_or gs f.index [] in
+    let front = joined_runs (take f.index gs) in
+    let part = take p.index g in
+    let inside : f.index < length gs → p.index < length g =
+    λ lt. ⊎_elim (λ less. less)
+    (λ past. absurd (omega (arith, h.inside lt, k.left_is, ap (λ (x : List Line). units enc (bodies x)) (take_all p.index g past))))
+    (cases_lt p.index (length g)) in
+    let place : IsInGroups gs at = record { within = h.within; bound = k.within; inside = inside } in
+    let first : bodies (take (index_of gs at) (joined_runs gs)) ≡ bodies front ++ bodies part = ap bodies (first_pieces gs at place) ∙ bodies-append front part in
+    let sum : (e : Encoding) → units e (bodies (take (index_of gs at) (joined_runs gs))) ≡ units e (bodies front) + units e (bodies part) =
+    λ e. ap (units e) first ∙ units-append e (bodies front) (bodies part) in
+    record {
+      place = place;
+      found =
+          record {
+            within =
+                omega (
+                  arith,
+                  ap length (first_pieces gs at place),
+                  ap length (sym (take-append-drop (index_of gs at) (joined_runs gs))),
+                  ap length (take-append-drop (index_of gs at) (joined_runs gs)),
+                  length-append (take (index_of gs at) (joined_runs gs)) (drop (index_of gs at) (joined_runs gs)),
+                );
+            bytes_are = omega (arith, h.bytes_are, k.bytes_are, sum Utf8);
+            left_is = omega (arith, h.left_is, k.left_is, sum enc);
+            inside =
+                λ last lt.
+                ⊎_elim
+                (λ less. let there = piece_there gs at last place in omega (arith, k.inside last (inside less), ap (λ (l : Line). units enc l.text) there))
+                (λ past. absurd (omega (arith, past_all gs at past)))
+                (cases_lt f.index (length gs));
+          };
+    }
     )
 
 -- the bytes of groups, one after another

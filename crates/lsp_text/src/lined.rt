@@ -1,5 +1,7 @@
 //! A text as its lines, each with its counts.
 
+mod chunk;
+mod chunks;
 mod counted;
 mod fresh;
 mod groups;

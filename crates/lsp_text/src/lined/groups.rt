@@ -228,11 +228,7 @@ pub(super) fn pieces_of(groups: &[Group], index: usize) -> &[CountedLine]
 }
 
 /// The piece at a place, or the last.
-pub(super) fn piece<'a>(
-    groups: &'a [Group],
-    last: &'a CountedLine,
-    at: InGroups,
-) -> &'a CountedLine
+pub(super) fn piece<'a>(groups: &'a [Group], last: &'a CountedLine, at: InGroups) -> &'a CountedLine
     requires { IsInGroups groups.now at }
     ensures { result.now ≡ piece_at (joined_runs groups.now) last.now (index_of groups.now at) }
 {
@@ -240,11 +236,7 @@ pub(super) fn piece<'a>(
 }
 
 // The piece of that number, or the last.
-fn piece_in<'a>(
-    pieces: &'a [CountedLine],
-    last: &'a CountedLine,
-    index: usize,
-) -> &'a CountedLine
+fn piece_in<'a>(pieces: &'a [CountedLine], last: &'a CountedLine, index: usize) -> &'a CountedLine
     ensures { result.now ≡ piece_at pieces.now last.now index }
 {
     match pieces.get(index) {

@@ -24,13 +24,13 @@ use std::alloc::{AllocError, Global};
 use std::marker::Model;
 
 /// The bytes of a piece that is cut off, at most.
-const PIECE: usize = 4096;
+const PIECE: usize = 1024;
 
 /// The bytes up to which a piece grows in place.
-const MOST: usize = 8192;
+const MOST: usize = 2048;
 
 /// The pieces of a group, at most.
-const GROUP: usize = 16;
+const GROUP: usize = 32;
 
 /// A line with its end, of which a long one is kept in pieces.
 #[derive(Drop)]
@@ -246,7 +246,7 @@ fn cut_off<'a>(alloc: Global, text: &'a str) -> Result<CutOff<'a>, AllocError>
     requires { length text.now < 2 ^ 64 }
     ensures { IfOk result (λ cut. IsCutFrom text.now cut.group cut.rest.now) }
 {
-    let mut pieces = Vec::with_capacity(alloc, GROUP)?;
+    let mut pieces = Vec::with_capacity(alloc, GROUP.min(text.len() / PIECE + 1))?;
     let mut rest = text;
     while rest.len() > PIECE && pieces.len() < GROUP {
         let (piece, tail) = rest.split_at(rest.floor_char_boundary(PIECE));

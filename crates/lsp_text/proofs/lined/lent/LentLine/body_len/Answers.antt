@@ -6,6 +6,7 @@ use Rattle.lsp_text.specs.Pieces.{bodies}
 use Rattle.lsp_text.proofs.Counting.{units-append}
 use Rattle.lsp_text.specs.Runs.{joined_runs}
 use Rattle.lsp_text.proofs.lined.lent.LentLine.body_len.Goals as goal
+
 pub overflow_add-result : goal.overflow_add-result
 overflow_add-result c =
     let i = c.self.invariant in record { fits = omega (arith, i.fits, units-append Utf8 c.self.inside.last.text c.self.inside.last.end) }

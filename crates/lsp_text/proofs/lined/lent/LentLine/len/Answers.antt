@@ -6,6 +6,7 @@ use Rattle.lsp_text.specs.Pieces.{bodies}
 use Rattle.lsp_text.proofs.Counting.{units-append}
 use Rattle.lsp_text.specs.Runs.{joined_runs}
 use Rattle.lsp_text.proofs.lined.lent.LentLine.len.Goals as goal
+
 pub returns-clause-value : goal.returns-clause-value
 returns-clause-value c =
     let last = c.self.inside.last in

@@ -11,6 +11,7 @@ use Rattle.lsp_text.specs.Groups.{index_of, found_of}
 use Rattle.lsp_text.specs.Runs.{joined_runs}
 use Rattle.lsp_text.proofs.lined.lent.LentLine.offset_of.Goals as goal
 use Rattle.lsp_text.proofs.lined.lent.LentLine.offset_of.Goals.{After-offset_of}
+
 here : (c : After-offset_of) → IsHere c.args.encoding (joined_runs c.self.inside.front.now) c.self.inside.last c.piece-piece.result c.args.column (found_of c.self.inside.front.now c.locate-found.result)
 here c =
     is_here c.args.encoding (joined_runs c.self.inside.front.now) (joined_runs c.self.inside.front.now) (joined_runs c.self.inside.front.now) c.self.inside.last c.piece-piece.result c.args.column (found_of c.self.inside.front.now c.locate-found.result) c.self.invariant.scalar refl c.locate-found.ensures.found

@@ -12,6 +12,7 @@ use Rattle.lsp_text.specs.Groups.{index_of, found_of}
 use Rattle.lsp_text.specs.Runs.{joined_runs}
 use Rattle.lsp_text.proofs.lined.lent.LentLine.push_after.Goals as goal
 use Rattle.lsp_text.proofs.lined.lent.LentLine.push_after.Goals.{After-body, After-as_str-2}
+
 at_piece : (c : After-body) → IsInPiece (joined_runs c.self.inside.front.now) c.self.inside.last c.piece.result c.args.offset (found_of c.self.inside.front.now c.locate-found.result) c.body.result.now
 at_piece c =
     let front = joined_runs c.self.inside.front.now in

@@ -8,6 +8,7 @@ use Rattle.lsp_text.specs.Groups.{index_of, found_of}
 use Rattle.lsp_text.specs.Runs.{joined_runs}
 use Rattle.lsp_text.proofs.lined.lent.LentLine.push_before.Goals as goal
 use Rattle.lsp_text.proofs.lined.lent.LentLine.push_before.Goals.{After-body}
+
 at_piece : (c : After-body) → IsInPiece (joined_runs c.self.inside.front.now) c.self.inside.last c.piece.result c.args.offset (found_of c.self.inside.front.now c.locate-found.result) c.body.result.now
 at_piece c =
     line_pieces (joined_runs c.self.inside.front.now) (joined_runs c.self.inside.front.now) (joined_runs c.self.inside.front.now) c.self.inside.last c.piece.result c.args.self.now c.args.offset (found_of c.self.inside.front.now c.locate-found.result) c.body.result.now c.self.view_is c.self.invariant.scalar refl

@@ -7,6 +7,7 @@ use Rattle.lsp_text.specs.Pieces.{bodies}
 use Rattle.lsp_text.proofs.Pieces.{line_bytes_are, on_pushed}
 use Rattle.lsp_text.specs.Runs.{joined_runs}
 use Rattle.lsp_text.proofs.lined.lent.LentLine.push_to.Goals as goal
+
 pub returns-clause-bytes : goal.returns-clause-bytes
 returns-clause-bytes c =
     let front = joined_runs c.self.inside.front.now in
