@@ -24,13 +24,13 @@ use std::alloc::{AllocError, Global};
 use std::marker::Model;
 
 /// The bytes of a piece that is cut off, at most.
-const PIECE: usize = 1024;
+const PIECE: usize = 4096;
 
 /// The bytes up to which a piece grows in place.
-const MOST: usize = 2048;
+const MOST: usize = 8192;
 
 /// The pieces of a group, at most.
-const GROUP: usize = 32;
+const GROUP: usize = 16;
 
 /// A line with its end, of which a long one is kept in pieces.
 #[derive(Drop)]
