@@ -1,5 +1,5 @@
 -- Pieces of a line in groups: where one is, and what changes with it.
-use Rattle.std.proofs.Common.{◌≡◌, ◌<◌, ◌≤◌, ◌+◌, ◌-◌, ℕ, List, [], ◌∷◌, ◌++◌, length, take, drop, get_or, set, refl, sym, ap, subst, ◌∙◌, ⊎_elim, arith, append_assoc, length-append}
+use Rattle.std.proofs.Common.{◌≡◌, ◌<◌, ◌≤◌, ◌+◌, ℕ, List, [], ◌∷◌, ◌++◌, length, take, drop, get_or, set, sym, ap, subst, ◌∙◌, ⊎_elim, arith, append_assoc, length-append}
 use Rattle.std.proofs.Math.Seq.{take-nil}
 use Rattle.std.proofs.lemmas.List.{append-nil, take_more, take-append-drop, take_all, get_or_default, get_or_past, get_or-set_same, length-take-le, at_drop_more}
 use Rattle.std.proofs.lemmas.Bool.{cases_lt}
@@ -11,7 +11,7 @@ use Rattle.lsp_types.specs.declared.position.Encoding.TheVariants.{Utf8}
 use Rattle.lsp_text.specs.Lines.{Line, open_line}
 use Rattle.lsp_text.specs.Places.{units}
 use Rattle.lsp_text.specs.Pieces.{bodies, IsFound}
-use Rattle.lsp_text.specs.Groups.{edited, edited_piece, before, index_of, found_of, IsInGroups, IsFoundIn, IsFoundGroup, IsCutFrom}
+use Rattle.lsp_text.specs.Groups.{edited, edited_piece, before, index_of, IsInGroups, IsFoundIn, IsFoundGroup, IsCutFrom}
 use Rattle.lsp_text.specs.Runs.{joined_runs, IsPlaceInRuns}
 use Rattle.lsp_text.specs.declared.lined.groups.InGroups.{InGroups}
 use Rattle.lsp_text.specs.declared.lined.pieces.Found.{Found}

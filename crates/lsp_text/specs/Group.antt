@@ -1,5 +1,5 @@
 -- What a group of pieces stands for.
-use Rattle.std.specs.Prelude.{◌≡◌, ◌<◌, ◌^◌, List}
+use Rattle.std.specs.Prelude.{◌≡◌, List}
 use Rattle.lsp_text.specs.Lines.{Line}
 use Rattle.lsp_text.specs.Pieces.{bodies}
 use Rattle.lsp_text.specs.Groups.{widths_of}

@@ -1,4 +1,4 @@
-use Rattle.std.proofs.Common.{◌≡◌, ◌++◌, ◌+◌, ◌-◌, [], List, length, take, drop, arith, ap, sym, ◌∙◌}
+use Rattle.std.proofs.Common.{◌≡◌, ◌++◌, ◌+◌, ◌-◌, List, take, drop, arith, ap, sym, ◌∙◌}
 use Rattle.std.specs.Str.{chars}
 use Rattle.lsp_text.specs.Lines.{Line}
 use Rattle.lsp_text.specs.Runs.{joined_runs}

@@ -1,4 +1,4 @@
-use Rattle.std.proofs.Common.{◌≡◌, List, ap, arith}
+use Rattle.std.proofs.Common.{List, ap, arith}
 use Rattle.std.proofs.lemmas.List.{take_all}
 use Rattle.lsp_types.specs.declared.position.Encoding.TheVariants.{Utf8}
 use Rattle.lsp_text.specs.Lines.{Line, text_of}

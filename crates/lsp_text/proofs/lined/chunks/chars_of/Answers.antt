@@ -1,4 +1,4 @@
-use Rattle.std.proofs.Common.{◌≡◌, List, length, ap, arith, ◌∙◌}
+use Rattle.std.proofs.Common.{List, length, ap, arith}
 use Rattle.std.proofs.lemmas.List.{take_all}
 use Rattle.lsp_text.specs.Lines.{Line, text_of}
 use Rattle.lsp_text.proofs.HeldText.{chars_more}

@@ -1,4 +1,4 @@
-use Rattle.std.proofs.Common.{◌≡◌, ◌+◌, ◌-◌, ℕ, Option, Some, None, length, arith}
+use Rattle.std.proofs.Common.{◌≡◌, ℕ, Option, Some, None, arith}
 use Rattle.std.specs.Option.{SomeIff, IfSome}
 use Rattle.std.proofs.lemmas.Option.{IfSome_then}
 use Rattle.lsp_text.proofs.RunPlaces.{count_spliced}

@@ -1,4 +1,4 @@
-use Rattle.std.proofs.Common.{List, length, take, get_or, [], arith, ap}
+use Rattle.std.proofs.Common.{List, take, arith, ap}
 use Rattle.lsp_types.specs.declared.position.Encoding.TheVariants.{Utf8, Utf32}
 use Rattle.lsp_text.specs.Lines.{Line}
 use Rattle.lsp_text.specs.Places.{units}

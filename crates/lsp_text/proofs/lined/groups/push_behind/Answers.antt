@@ -1,4 +1,4 @@
-use Rattle.std.proofs.Common.{◌≡◌, ◌++◌, ◌+◌, ◌-◌, List, ℕ, [], take, drop, get_or, length, ap, sym, ◌∙◌, append_assoc}
+use Rattle.std.proofs.Common.{◌≡◌, ◌++◌, ◌+◌, List, ℕ, [], drop, get_or, ap, sym, ◌∙◌, append_assoc}
 use Rattle.std.specs.String.{string_bytes}
 use lib.Utf8.{encodes}
 use Rattle.lsp_text.specs.Lines.{Line}

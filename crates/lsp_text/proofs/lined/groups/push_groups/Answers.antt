@@ -1,6 +1,5 @@
-use Rattle.std.proofs.Common.{take, ap, sym, ◌∙◌, ◌++◌, List, ℕ, append_assoc}
+use Rattle.std.proofs.Common.{ap, ◌∙◌, ◌++◌, List}
 use Rattle.std.specs.String.{string_bytes}
-use Rattle.std.proofs.lemmas.Str.{encodes-append}
 use lib.Utf8.{encodes}
 use Rattle.lsp_text.specs.Lines.{Line}
 use Rattle.lsp_text.specs.Pieces.{bodies}

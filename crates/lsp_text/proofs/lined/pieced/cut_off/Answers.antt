@@ -1,4 +1,4 @@
-use Rattle.std.proofs.Common.{◌≡◌, List, ℕ, length, arith, ap, sym, subst, ◌∙◌}
+use Rattle.std.proofs.Common.{List, ℕ, length, arith, ap, sym, subst, ◌∙◌}
 use Rattle.std.specs.Str.{chars, IsUtf8}
 use Rattle.std.proofs.lemmas.Str.{chars-nil, IsUtf8-drop}
 use Rattle.lsp_types.specs.declared.position.Encoding.TheVariants.{Utf8}

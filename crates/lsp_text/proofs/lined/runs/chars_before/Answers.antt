@@ -1,4 +1,4 @@
-use Rattle.std.proofs.Common.{◌≡◌, ◌+◌, ◌++◌, List, length, take, arith, ap, length-append}
+use Rattle.std.proofs.Common.{◌≡◌, ◌+◌, List, length, take, arith, ap, length-append}
 use Rattle.std.proofs.lemmas.List.{take_all}
 use Rattle.lsp_text.specs.Lines.{Line, text_of}
 use Rattle.lsp_text.specs.Runs.{joined_runs}

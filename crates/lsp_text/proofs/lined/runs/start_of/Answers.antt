@@ -1,6 +1,6 @@
-use Rattle.std.proofs.Common.{◌≡◌, ◌+◌, ◌++◌, List, length, take, arith, ap}
+use Rattle.std.proofs.Common.{◌≡◌, ◌+◌, take, arith, ap}
 use Rattle.lsp_types.specs.declared.position.Encoding.TheVariants.{Utf8}
-use Rattle.lsp_text.specs.Lines.{Line, text_of}
+use Rattle.lsp_text.specs.Lines.{text_of}
 use Rattle.lsp_text.specs.Places.{units}
 use Rattle.lsp_text.specs.Runs.{joined_runs}
 use Rattle.lsp_text.proofs.Counting.{units-append}

@@ -7,8 +7,7 @@ use Rattle.lsp_text.specs.Lines.{Line, spelled}
 use Rattle.lsp_text.specs.Places.{units}
 use Rattle.lsp_text.specs.Pieces.{bodies}
 use Rattle.lsp_text.proofs.Counting.{units-append, scalars-parts}
-use Rattle.lsp_text.proofs.HeldText.{length_le_units}
-use Rattle.lsp_text.proofs.Pieces.{length_to_le, line_pieces, front_chars_le, IsInPiece}
+use Rattle.lsp_text.proofs.Pieces.{line_pieces, front_chars_le, IsInPiece}
 use Rattle.lsp_text.specs.Groups.{index_of, found_of}
 use Rattle.lsp_text.specs.Runs.{joined_runs}
 use Rattle.lsp_text.proofs.lined.lent.LentLine.chars_before.Goals as goal

@@ -1,7 +1,6 @@
-use Rattle.std.proofs.Common.{◌≡◌, ◌++◌, ◌+◌, ◌-◌, refl, List, ℕ, length, take, drop, arith, ap, sym, subst, ◌∙◌, append_assoc}
+use Rattle.std.proofs.Common.{◌≡◌, ◌++◌, ◌+◌, refl, List, ℕ, drop, ap, sym, subst, ◌∙◌, append_assoc}
 use Rattle.std.specs.Str.{IsCharBoundary}
 use Rattle.std.specs.String.{string_bytes}
-use Rattle.std.proofs.lemmas.Str.{encodes-chars}
 use lib.Utf8.{encodes}
 use Rattle.lsp_text.specs.Lines.{Line, spelled}
 use Rattle.lsp_text.specs.Pieces.{bodies}
