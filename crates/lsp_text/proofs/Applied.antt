@@ -4,7 +4,6 @@ use Rattle.std.proofs.lemmas.List.{at_drop_more, map_more, map-append, take-appe
 use Rattle.lsp_types.specs.declared.position.Encoding.{Encoding}
 use Rattle.lsp_types.specs.declared.change.Change.{Change}
 use Rattle.lsp_text.specs.declared.fault.TextFault.{TextFault}
-use Rattle.lsp_text.specs.declared.fault.TextFault.TheVariants.{Rule, Memory}
 use Rattle.lsp_text.specs.Edits.{Edit, changed, and_then, applied, IsFaultOf, FailsAfter}
 use Rattle.lsp_text.specs.Changes.{edit_of, edits_of}
 

@@ -10,7 +10,7 @@ use Rattle.lsp_text.specs.Places.{units}
 use Rattle.lsp_text.specs.Runs.{joined_runs}
 use Rattle.lsp_text.proofs.Counting.{units-append}
 use Rattle.lsp_text.proofs.Cuts.{text_of-append}
-use Rattle.lsp_text.proofs.RunPlaces.{joined-append}
+use Rattle.lsp_text.proofs.RunPlaces.{joined-append, take_in}
 
 -- the text of runs
 abbrev pub text_in : List (List Line) → List ℕ
@@ -103,3 +103,66 @@ pub chars_to_le : (rs : List (List Line)) (i : ℕ) → length (text_in (take i 
 chars_to_le rs i =
     let all : text_in (take i rs) ++ text_in (drop i rs) ≡ text_in rs = sym (text_in-append (take i rs) (drop i rs)) ∙ ap text_in (take-append-drop i rs) in
     omega (arith, length_le_units (text_in rs), ap length all, length-append (text_in (take i rs)) (text_in (drop i rs)))
+
+-- the text before a line, by the runs before its run and the lines before it there
+pub text_before : (rs : List (List Line)) (i n k : ℕ) (r : List Line) → n < length rs → r ≡ get_or rs n r → k ≤ length r → length (joined_runs (take n rs)) + k ≡ i →
+    text_of (take i (joined_runs rs)) ≡ text_in (take n rs) ++ text_of (take k r)
+text_before rs i n k r lt is le sum = ap text_of (take_in rs i n k r lt is le sum) ∙ text_of-append (joined_runs (take n rs)) (take k r)
+
+-- the text of the first lines is a part of that of all
+pub text_parts : (ls : List Line) (i : ℕ) → text_of ls ≡ text_of (take i ls) ++ text_of (drop i ls)
+text_parts ls i = ap text_of (sym (take-append-drop i ls)) ∙ text_of-append (take i ls) (drop i ls)
+
+pub bytes_to_le : (ls : List Line) (i : ℕ) → units Utf8 (text_of (take i ls)) ≤ units Utf8 (text_of ls)
+bytes_to_le ls i = omega (arith, ap (units Utf8) (text_parts ls i), units-append Utf8 (text_of (take i ls)) (text_of (drop i ls)))
+
+pub length_to_le : (ls : List Line) (i : ℕ) → length (text_of (take i ls)) ≤ length (text_of ls)
+length_to_le ls i = omega (arith, ap length (text_parts ls i), length-append (text_of (take i ls)) (text_of (drop i ls)))
+
+-- runs pushed behind a text, one after another
+pub pushed_more : (rs : List (List Line)) (i : ℕ) (r : List Line) (was now now2 : List ℕ) → i < length rs → r ≡ get_or rs i r → now ≡ was ++ encodes (text_in (take i rs)) → now2 ≡ now ++ encodes (text_of r) →
+    now2 ≡ was ++ encodes (text_in (take (i + 1) rs))
+pushed_more rs i r was now now2 lt is h more =
+    more ∙ ap (λ (x : List ℕ). x ++ encodes (text_of r)) h ∙ append_assoc was (encodes (text_in (take i rs))) (encodes (text_of r))
+    ∙ ap (λ (x : List ℕ). was ++ x) (sym (encodes-append (text_in (take i rs)) (text_of r)) ∙ ap encodes (sym (text_to rs i r lt is)))
+
+-- bytes that begin with runs go on with the next one
+pub goes_on : (rs : List (List Line)) (i : ℕ) (r : List Line) (bytes rest more : List ℕ) → i < length rs → r ≡ get_or rs i r → bytes ≡ encodes (text_in (take i rs)) ++ rest → bytes ≡ encodes (text_in rs) ++ more →
+    rest ≡ encodes (text_of r) ++ (encodes (text_in (drop (i + 1) rs)) ++ more)
+goes_on rs i r bytes rest more lt is h all =
+    let front = encodes (text_in (take i rs)) in
+    let held = encodes (text_of r) in
+    let back = encodes (text_in (drop (i + 1) rs)) in
+    let parts : text_in rs ≡ text_in (take i rs) ++ (text_of r ++ text_in (drop (i + 1) rs)) =
+    ap text_in (sym (take-append-drop i rs)) ∙ text_in-append (take i rs) (drop i rs) ∙ ap (λ (x : List ℕ). text_in (take i rs) ++ x) (text_from rs i r lt is) in
+    let whole : encodes (text_in rs) ≡ front ++ (held ++ back) =
+    ap encodes parts ∙ encodes-append (text_in (take i rs)) (text_of r ++ text_in (drop (i + 1) rs)) ∙ ap (λ (x : List ℕ). front ++ x) (encodes-append (text_of r) (text_in (drop (i + 1) rs))) in
+    same_front front rest (held ++ (back ++ more))
+    (sym h ∙ all ∙ ap (λ (x : List ℕ). x ++ more) whole ∙ append_assoc front (held ++ back) more ∙ ap (λ (x : List ℕ). front ++ x) (append_assoc held back more))
+
+-- the first runs have no more bytes or characters than all
+pub runs_bytes_le : (rs : List (List Line)) (n : ℕ) → units Utf8 (text_in (take n rs)) ≤ units Utf8 (text_in rs)
+runs_bytes_le rs n =
+    omega (
+      arith,
+      ap (units Utf8) (ap text_in (sym (take-append-drop n rs)) ∙ text_in-append (take n rs) (drop n rs)),
+      units-append Utf8 (text_in (take n rs)) (text_in (drop n rs)),
+    )
+
+pub runs_length_le : (rs : List (List Line)) (n : ℕ) → length (text_in (take n rs)) ≤ length (text_in rs)
+runs_length_le rs n =
+    omega (
+      arith,
+      ap length (ap text_in (sym (take-append-drop n rs)) ∙ text_in-append (take n rs) (drop n rs)),
+      length-append (text_in (take n rs)) (text_in (drop n rs)),
+    )
+
+-- a run has no more bytes than all
+pub run_bytes_le : (rs : List (List Line)) (n : ℕ) (r : List Line) → n < length rs → r ≡ get_or rs n r → units Utf8 (text_of r) ≤ units Utf8 (text_in rs)
+run_bytes_le rs n r lt is =
+    omega (
+      arith,
+      ap (units Utf8) (ap text_in (sym (take-append-drop n rs)) ∙ text_in-append (take n rs) (drop n rs)),
+      units-append Utf8 (text_in (take n rs)) (text_in (drop n rs)),
+      bytes_more rs n r lt is,
+    )

@@ -22,5 +22,6 @@ pub mod HeldText
 pub mod Stripping
 pub mod LineEnds
 pub mod RunPlaces
+pub mod Groups
 pub mod Tables
 pub mod Spans

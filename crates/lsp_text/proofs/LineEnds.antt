@@ -1,13 +1,12 @@
 -- No place lies between a CR and a LF that end a line together.
-use Rattle.std.proofs.Common.{◌≡◌, ◌⊎◌, ◌<◌, ◌≤◌, ◌+◌, ◌-◌, ℕ, zero, suc, get_or, true, false, List, [], ◌∷◌, ◌++◌, length, take, drop, refl, sym, ap, subst, ◌∙◌, inl, inr, ⊎_elim, arith, length-append, length-drop, append_assoc}
+use Rattle.std.proofs.Common.{◌≡◌, ◌⊎◌, ◌<◌, ◌≤◌, ◌+◌, ℕ, zero, suc, get_or, true, false, List, [], ◌∷◌, ◌++◌, length, take, drop, refl, sym, ap, subst, ◌∙◌, inl, inr, ⊎_elim, arith, length-append, length-drop, append_assoc}
 use Rattle.std.proofs.lemmas.Bool.{false≢true, cases_lt}
 use Rattle.std.proofs.lemmas.List.{append-nil, take_at, drop_at, drop-append-le, same_from_push}
-use Rattle.lsp_types.specs.declared.position.Encoding.{Encoding}
-use Rattle.lsp_text.specs.Lines.{Line, open_line, spelled, text_of, lines_of, is_feed, is_return, starts_with_feed, has_no_line_end, IsEndBefore, AreEnded, IsCut}
+use Rattle.lsp_text.specs.Lines.{Line, open_line, spelled, text_of, lines_of, is_feed, is_return, starts_with_feed, has_no_line_end, IsEndBefore, AreEnded}
 use Rattle.lsp_types.specs.declared.position.Encoding.TheVariants.{Utf8}
 use Rattle.lsp_text.specs.Steps.{line_at}
 use Rattle.lsp_text.proofs.LineEdits.{end_units}
-use Rattle.lsp_text.specs.Places.{units, IsPlaceInLine, Denotes, NoneInsideLineEnd}
+use Rattle.lsp_text.specs.Places.{units, NoneInsideLineEnd}
 use Rattle.lsp_text.proofs.Cuts.{IsCut-lines_of, text_of-append, whole_parts}
 use Rattle.lsp_text.proofs.Positions.{text_of-lines_of}
 

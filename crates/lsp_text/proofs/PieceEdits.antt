@@ -11,13 +11,13 @@ use Rattle.lsp_text.specs.Lines.{Line, spelled, open_line}
 use Rattle.lsp_text.specs.Places.{units}
 use Rattle.lsp_text.specs.Rewriting.{with_text}
 use Rattle.lsp_text.specs.Pieces.{bodies, piece_at, IsFound, IsReplacedIn}
-use Rattle.lsp_text.specs.declared.lined.pieced.Found.{Found}
+use Rattle.lsp_text.specs.declared.lined.pieces.Found.{Found}
 use Rattle.lsp_text.proofs.Counting.{units-append, units-utf8, units-utf8_text, scalars-parts}
 use Rattle.lsp_text.proofs.HeldText.{same_front}
 use Rattle.lsp_text.proofs.LineEdits.{replace_before, utf8_replaced, boundary_in_all}
 use Rattle.lsp_text.proofs.Pieces.{bodies-append, IsHere, IsInPiece, line_pieces, is_here, are_text, boundary_in_part, replaced_in_part, parts_inside}
 
-scalars_both : (xs ys : List ℕ) → scalars xs ≡ true → scalars ys ≡ true → scalars (xs ++ ys) ≡ true
+pub scalars_both : (xs ys : List ℕ) → scalars xs ≡ true → scalars ys ≡ true → scalars (xs ++ ys) ≡ true
 scalars_both [] ys h k = k
 scalars_both (x ∷ xs) ys h k =
     let p : (scalar x ≡ true) × (scalars xs ≡ true) = and_parts (scalar x) (scalars xs) h in

@@ -16,7 +16,7 @@ use Rattle.lsp_text.specs.Lines.{Line, spelled}
 use Rattle.lsp_text.specs.Places.{units, units_of_char, place_in_line}
 use Rattle.lsp_text.specs.Offsets.{IsOffset}
 use Rattle.lsp_text.specs.Pieces.{bodies, piece_at, BeginsOtherwise, IsFound}
-use Rattle.lsp_text.specs.declared.lined.pieced.Found.{Found}
+use Rattle.lsp_text.specs.declared.lined.pieces.Found.{Found}
 use Rattle.lsp_text.proofs.Counting.{units-append, units-utf8, is_offset, scalars-parts}
 use Rattle.lsp_text.proofs.Denoting.{past}
 use Rattle.lsp_text.proofs.LineEdits.{boundary_in_front, replace_before, utf8_replaced}

@@ -3,7 +3,7 @@ use Rattle.std.proofs.Common.{◌≡◌, ◌<◌, ◌≤◌, ◌+◌, ◌-◌, �
 use Rattle.std.proofs.lemmas.List.{append-nil, drop_more, take_more, take-append-drop, set_at, set-append_left, set-append_right, get_or_append_left, get_or-append_right, length-take-le, get_or_default, drop-append-le, take-append-le, drop-drop}
 use Rattle.std.proofs.lemmas.Grind.{flat_map-append}
 use Rattle.std.proofs.Math.Seq.{take-append-add, drop-append-add}
-use Rattle.std.specs.List.{flat_map, splice}
+use Rattle.std.specs.List.{splice}
 use Rattle.std.proofs.lemmas.Bool.{cases_lt}
 use Rattle.lsp_types.specs.declared.position.Encoding.TheVariants.{Utf8}
 use Rattle.lsp_text.specs.Lines.{Line, open_line, text_of}
@@ -107,6 +107,18 @@ joined_splice rs fresh i j a b new p q is =
     ∙ ap (λ (x : List Line). before ++ x) (append_assoc head (new ++ tail) after ∙ ap (λ (x : List Line). head ++ x) (append_assoc new tail after))
     ∙ sym (append_assoc before head (new ++ (tail ++ after)))
     ∙ ap (λ (x : List Line). x ++ (new ++ (tail ++ after))) (sym (take_joined rs i a p)) ∙ ap (λ (x : List Line). take i (joined_runs rs) ++ (new ++ x)) (sym (drop_joined rs j b q))
+
+-- the first runs, and the first lines of the next one
+pub take_in : (rs : List (List Line)) (i n k : ℕ) (run : List Line) → n < length rs → run ≡ get_or rs n run → k ≤ length run → length (joined_runs (take n rs)) + k ≡ i →
+    take i (joined_runs rs) ≡ joined_runs (take n rs) ++ take k run
+take_in rs i n k run lt is le sum =
+    let front = joined_runs (take n rs) in
+    let held = get_or rs n [] in
+    let rest = joined_runs (drop (n + 1) rs) in
+    let same : run ≡ held = is ∙ get_or_default rs n run [] lt in
+    let within : k ≤ length held = omega (arith, ap length same) in
+    ap (λ (m : ℕ). take m (joined_runs rs)) (sym sum) ∙ ap (take (length front + k)) (joined_at rs n lt) ∙ take-append-add front (held ++ rest) k
+    ∙ ap (λ (x : List Line). front ++ x) (take-append-le k held rest within ∙ ap (take k) (sym same))
 
 -- the number of lines where runs take the place of others, and of those that go
 pub count_spliced : (rs fresh : List (List Line)) (i j : ℕ) → i ≤ j → j ≤ length rs →
@@ -236,3 +248,23 @@ pub run_apart : (run : List Line) (i : ℕ) (l : Line) → i < length run → l 
 run_apart run i l lt is =
     append_assoc (take i run) (l ∷ []) (drop (i + 1) run) ∙ ap (λ (x : Line). take i run ++ x ∷ drop (i + 1) run) is
     ∙ ap (λ (x : List Line). take i run ++ x) (sym (drop_more run i (open_line []) lt)) ∙ take-append-drop i run
+
+-- a run's lines among others: those before it, and those after it
+pub about_run : (rs : List (List Line)) (i : ℕ) (at : InRuns) (run : List Line) → IsPlaceInRuns rs i at → run ≡ get_or rs at.run run → (joined_runs (take at.run rs) ++ run) ++ joined_runs (drop (at.run + 1) rs) ≡ joined_runs rs
+about_run rs i at run p is =
+    let front = joined_runs (take at.run rs) in
+    let rest = joined_runs (drop (at.run + 1) rs) in
+    append_assoc front run rest ∙ ap (λ (x : List Line). front ++ (x ++ rest)) (run_at rs i at run p is) ∙ sym (joined_at rs at.run p.run)
+
+-- the lines before one among runs, others, and those after another among runs
+pub about_lines : (head tail : List (List Line)) (i j : ℕ) (a b : InRuns) (from to new : List Line) → IsPlaceInRuns head i a → IsPlaceInRuns tail j b → from ≡ get_or head a.run from → to ≡ get_or tail b.run to →
+    (joined_runs (take a.run head) ++ ((take a.line from ++ new) ++ drop (b.line + 1) to)) ++ joined_runs (drop (b.run + 1) tail) ≡ (take i (joined_runs head) ++ new) ++ drop (j + 1) (joined_runs tail)
+about_lines head tail i j a b from to new p q first second =
+    let before = joined_runs (take a.run head) in
+    let after = joined_runs (drop (b.run + 1) tail) in
+    let x = take a.line from in
+    let y = drop (b.line + 1) to in
+    let front : before ++ x ≡ take i (joined_runs head) = ap (λ (r : List Line). before ++ take a.line r) (run_at head i a from p first) ∙ sym (take_joined head i a p) in
+    let back : y ++ after ≡ drop (j + 1) (joined_runs tail) = ap (λ (r : List Line). drop (b.line + 1) r ++ after) (run_at tail j b to q second) ∙ sym (drop_joined tail j b q) in
+    ap (λ (z : List Line). z ++ after) (sym (append_assoc before (x ++ new) y) ∙ ap (λ (z : List Line). z ++ y) (sym (append_assoc before x new)))
+    ∙ append_assoc ((before ++ x) ++ new) y after ∙ ap (λ (z : List Line). (z ++ new) ++ (y ++ after)) front ∙ ap (λ (z : List Line). (take i (joined_runs head) ++ new) ++ z) back

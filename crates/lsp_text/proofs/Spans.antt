@@ -1,15 +1,13 @@
 -- Lines of a text, cut span by span.
-use Rattle.std.proofs.Common.{◌≡◌, ◌<◌, ◌≤◌, ◌+◌, ◌-◌, ℕ, Bool, true, false, cond, List, [], ◌∷◌, ◌++◌, length, take, map, Bor, Option, Some, None, suc, refl, sym, ap, subst, ◌∙◌, arith, append_assoc, length-append}
+use Rattle.std.proofs.Common.{◌≡◌, ◌<◌, ◌≤◌, ◌+◌, ◌-◌, ℕ, Bool, true, false, List, [], ◌∷◌, ◌++◌, length, take, Bor, Option, Some, None, suc, refl, sym, ap, subst, ◌∙◌, arith, append_assoc, length-append}
 use Rattle.std.proofs.lemmas.List.{append-nil, take_at, map-append, length-map, length-take}
 use Rattle.std.proofs.Math.Seq.{take-append-add}
 use Rattle.std.specs.Option.{is_some}
 use Rattle.std.proofs.lemmas.Bool.{false≢true}
 use Rattle.std.specs.Str.{chars, IsUtf8, IsCharBoundary}
-use Rattle.std.proofs.lemmas.Str.{chars-nil, encodes-append, encodes-chars, chars-encodes, scalars-chars, IsUtf8-append, IsCharBoundary-at_seam, chars-append}
+use Rattle.std.proofs.lemmas.Str.{encodes-append, encodes-chars, scalars-chars, IsUtf8-append, IsCharBoundary-at_seam, chars-append}
 use lib.Utf8.{encodes, scalars}
-use Rattle.lsp_types.specs.declared.position.Encoding.TheVariants.{Utf8}
 use Rattle.lsp_text.specs.Lines.{Line, open_line, spelled, text_of, lines_of, has_no_line_end}
-use Rattle.lsp_text.specs.Places.{units}
 use Rattle.lsp_text.specs.Rewriting.{but_last}
 use Rattle.lsp_text.specs.FirstLine.{IsFirstLine}
 use Rattle.lsp_text.specs.Tables.{counts_of, cut_by, IsTable}
@@ -20,10 +18,10 @@ use Rattle.lsp_text.specs.declared.cut.FirstLine.{FirstLine}
 use Rattle.lsp_text.specs.declared.lined.short.LineCounts.{LineCounts}
 use Rattle.lsp_text.specs.declared.lined.span.Span.{Span}
 use Rattle.lsp_text.proofs.Cuts.{HasFirst, lines_of-HasFirst, lines_of-no_end, text_of-append}
-use Rattle.lsp_text.proofs.Counting.{units-utf8_text, scalars-parts, length-chars_le}
+use Rattle.lsp_text.proofs.Counting.{length-chars_le}
 use Rattle.lsp_text.proofs.Stripping.{utf8_past}
 use Rattle.lsp_text.proofs.Positions.{lines_of-first, rest_shorter}
-use Rattle.lsp_text.proofs.Tables.{counts_from, scalars-both, cut_by_table}
+use Rattle.lsp_text.proofs.Tables.{scalars-both, cut_by_table}
 use Rattle.lsp_text.proofs.RunPlaces.{pushed_run}
 
 pub none_cut : (followed : Bool) (text : List ℕ) → IsUtf8 text → IsCutTo followed text [] text

@@ -1,6 +1,6 @@
 -- Lines in one text, cut by a table.
-use Rattle.std.proofs.Common.{◌≡◌, ◌<◌, ◌≤◌, ◌+◌, ◌-◌, ◌^◌, ℕ, true, List, [], ◌∷◌, ◌++◌, length, take, drop, get_or, set, map, refl, sym, ap, subst, ◌∙◌, arith, length-append}
-use Rattle.std.proofs.lemmas.List.{append_assoc, map-append, take_at, drop_at, take-append-drop, drop_more, set_at, length-take-le, length-map, map-set, get_or-map, length-drop}
+use Rattle.std.proofs.Common.{◌≡◌, ◌<◌, ◌≤◌, ◌+◌, ◌-◌, ℕ, true, List, [], ◌∷◌, ◌++◌, length, take, drop, get_or, set, map, refl, sym, ap, subst, ◌∙◌, arith, length-append}
+use Rattle.std.proofs.lemmas.List.{append_assoc, map-append, take_at, drop_at, take-append-drop, drop_more, set_at, length-take-le, map-set, get_or-map}
 use Rattle.std.proofs.lemmas.List.Sums.{sum_by-cons}
 use Rattle.std.specs.List.{sum_by, replace_range, take-map, drop-map}
 use Rattle.std.specs.Str.{chars, IsUtf8, IsCharBoundary}
@@ -17,7 +17,7 @@ use Rattle.lsp_text.proofs.Counting.{units-append, units-utf8, units-utf8_text, 
 use Rattle.lsp_text.proofs.Cuts.{text_of-append}
 use Rattle.lsp_text.proofs.Positions.{text_of-lines_of}
 use Rattle.lsp_text.proofs.Pieces.{are_text, replaced_bytes}
-use Rattle.lsp_text.proofs.LineEdits.{CanReplace, can_replace, IsReplaced, is_replaced, replace_before, utf8_replaced}
+use Rattle.lsp_text.proofs.LineEdits.{CanReplace, can_replace, is_replaced, replace_before, utf8_replaced}
 use Rattle.lsp_text.proofs.Widths.{units-utf32}
 
 line_in_of : (l : Line) (bs : List ℕ) → scalars (spelled l) ≡ true → bs ≡ encodes (spelled l) → line_in (counts_of l) bs ≡ l

@@ -11,7 +11,7 @@ use Rattle.lsp_types.specs.declared.position.Encoding.{Encoding}
 use Rattle.lsp_types.specs.declared.position.Encoding.TheVariants.{Utf8, Utf16, Utf32}
 use Rattle.lsp_text.specs.Places.{units, units_of_char, place_in_line}
 use Rattle.lsp_text.specs.Offsets.{IsOffset, IsSkipped}
-use Rattle.lsp_text.proofs.Counting.{units-append, units-utf8, units-utf8_text, is_offset, seam}
+use Rattle.lsp_text.proofs.Counting.{units-append, units-utf8, units-utf8_text, units-utf16_le, is_offset, seam}
 use Rattle.lsp_text.proofs.Denoting.{IsBefore, past, place_in_line-complete, place_in_line-sound}
 use Rattle.lsp_text.proofs.HeldText.{length_le_units}
 use Rattle.lsp_text.proofs.Positions.{take-add_here}
@@ -20,6 +20,12 @@ use Rattle.lsp_text.proofs.Splices.{chars-cut}
 pub units-utf32 : (cs : List ℕ) → units Utf32 cs ≡ length cs
 units-utf32 [] = refl
 units-utf32 (c ∷ cs) = omega (arith, units-utf32 cs)
+
+-- a text has no more units than bytes
+pub units_le_bytes : (enc : Encoding) (cs : List ℕ) → units enc cs ≤ units Utf8 cs
+units_le_bytes Utf8 cs = omega arith
+units_le_bytes Utf16 cs = omega (arith, units-utf16_le cs, units-utf8 cs)
+units_le_bytes Utf32 cs = omega (arith, units-utf32 cs, length_le_units cs)
 
 -- a character of one byte has one unit
 one_unit : (enc : Encoding) (c : ℕ) → units_of_char Utf8 c ≡ 1 → units_of_char enc c ≡ 1

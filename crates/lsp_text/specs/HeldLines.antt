@@ -6,10 +6,10 @@ use Rattle.lsp_text.specs.Places.{units}
 use Rattle.lsp_text.specs.Runs.{joined_runs}
 use Rattle.lsp_text.specs.declared.lined.lines.Lines.TheInside.{Inside}
 
--- the runs are the lines of their text, and these and its bytes are counted
+-- the chunks are the lines of their text, and these and its bytes are counted
 pub record AreHeld (a : Inside) : Type 0 where
-  pub lines : lines_of (text_of (joined_runs a.runs.items)) ≡ joined_runs a.runs.items
-  pub count_is : a.count ≡ length (joined_runs a.runs.items)
+  pub lines : lines_of (text_of (joined_runs a.chunks.items)) ≡ joined_runs a.chunks.items
+  pub count_is : a.count ≡ length (joined_runs a.chunks.items)
   pub countable : a.count < 2 ^ 64
-  pub bytes_are : a.bytes ≡ units Utf8 (text_of (joined_runs a.runs.items))
+  pub bytes_are : a.bytes ≡ units Utf8 (text_of (joined_runs a.chunks.items))
   pub fits : a.bytes < 2 ^ 64

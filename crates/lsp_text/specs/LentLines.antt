@@ -1,5 +1,5 @@
 -- What lent lines stand for.
-use Rattle.std.specs.Prelude.{◌≡◌, ◌<◌, ◌^◌, List, length}
+use Rattle.std.specs.Prelude.{◌<◌, ◌^◌, List, length}
 use Rattle.lsp_text.specs.Lines.{Line}
 use Rattle.lsp_text.specs.Tables.{cut_by, IsTable}
 use Rattle.lsp_text.specs.declared.lined.short.LentLines.TheInside.{Inside}

@@ -7,6 +7,9 @@ pub mod LineEnd
 pub mod Offsets
 pub mod CountedLine
 pub mod Pieces
+pub mod Groups
+pub mod Group
+pub mod Fronts
 pub mod PiecedLine
 pub mod LentPiece
 pub mod LentLine

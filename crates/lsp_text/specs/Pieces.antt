@@ -1,5 +1,5 @@
 -- Pieces of a line.
-use Rattle.std.specs.Prelude.{◌≡◌, ◌<◌, ◌≤◌, ◌+◌, ℕ, List, [], Option, Box, ◌++◌, length, take, slice_index_or, slice_set, ◌-◌}
+use Rattle.std.specs.Prelude.{◌≡◌, ◌<◌, ◌≤◌, ◌+◌, ℕ, List, [], ◌++◌, length, take, slice_index_or, slice_set, ◌-◌}
 use Rattle.std.specs.List.{flat_map, replace_range}
 use Rattle.std.specs.Str.{chars}
 use lib.Utf8.{encodes}
@@ -8,23 +8,11 @@ use Rattle.lsp_types.specs.declared.position.Encoding.TheVariants.{Utf8}
 use Rattle.lsp_text.specs.Lines.{Line, open_line}
 use Rattle.lsp_text.specs.Places.{units}
 use Rattle.lsp_text.specs.Rewriting.{with_text}
-use Rattle.std.specs.declared.option.Option.TheVariants.{Some, None}
-use Rattle.std.specs.declared.alloc.Global.{Global}
-use Rattle.lsp_text.specs.declared.lined.pieced.Found.{Found}
-use Rattle.lsp_text.specs.declared.lined.pieced.Front.{Front}
+use Rattle.lsp_text.specs.declared.lined.pieces.Found.{Found}
 
 -- the characters of pieces
 abbrev pub bodies : List Line → List ℕ
 bodies ps = flat_map (λ (p : Line). p.text) ps
-
--- the pieces of a front, and its count of bytes
-abbrev pub pieces_in : Option (Box Front Global) → List Line
-pieces_in None = []
-pieces_in (Some b) = b.value.pieces.items
-
-abbrev pub bytes_in : Option (Box Front Global) → ℕ
-bytes_in None = 0
-bytes_in (Some b) = b.value.bytes
 
 -- piece `i`, or the last
 abbrev pub piece_at : List Line → Line → ℕ → Line

@@ -1,10 +1,14 @@
 //! A text as its lines, each with its counts.
 
+mod chunk;
+mod chunks;
 mod counted;
 mod fresh;
+mod groups;
 pub(crate) mod lent;
 pub(crate) mod lines;
 mod pieced;
+mod pieces;
 mod run;
 mod runs;
 mod short;

@@ -214,14 +214,14 @@ const WIDE: &str = "漢字かな\u{1F600}var x=1;é𠮷野한국어f(a,b);ж ";
 const JOINT: Span = Span {
     first: Position {
         line: 0,
-        column: 100000,
+        column: 1000000,
     },
     second: Position { line: 1, column: 0 },
 };
 
 /// A span in a long line: in each 16th turn it may be long.
 fn long_span(seed: &mut u32, turn: u32) -> Span {
-    let column = scattered(seed) % 30000;
+    let column = scattered(seed) % 90000;
     let units = scattered(seed) % if turn % 16 == 0 { 9000 } else { 6 };
     Span {
         first: at(0, column),
@@ -250,8 +250,8 @@ fn tell_long_line<S: TextStore>(
     for turn in 0u32..400 {
         let held = long_span(&mut seed, turn);
         let inserted = long_piece(&mut seed, turn, long);
-        tell_edit(store, told, encoding, held, inserted, 80000)?;
-        tell_edit(store, told, encoding, JOINT, "", 80000)?;
+        tell_edit(store, told, encoding, held, inserted, 240000)?;
+        tell_edit(store, told, encoding, JOINT, "", 240000)?;
         if turn % 16 == 0 {
             tell_text(alloc, store, told)?;
         }
@@ -263,7 +263,7 @@ fn tell_long_line<S: TextStore>(
 /// What a store tells where edits are made in one long line.
 fn long_line_edits<S: TextStore>(alloc: Global, encoding: Encoding, seed: u32) -> Option<String> {
     let long = repeated(alloc, &[WIDE], 80)?;
-    let text = repeated(alloc, &[long.as_str()], 8)?;
+    let text = repeated(alloc, &[long.as_str()], 24)?;
     let mut store = S::from_text(alloc, text.as_str()).ok()?;
     let mut told = String::new(alloc);
     tell_long_line(alloc, &mut store, &mut told, encoding, long.as_str(), seed)?;

@@ -89,30 +89,30 @@ fn cut_short<'a>(alloc: Global, text: &'a str, followed: bool) -> Result<CutOff<
     })
 }
 
-/// The first lines of a run, the lines of a text, and the last lines of a run behind them, in runs.
+/// Puts the first lines of a run, the lines of a text, and the last lines of a run behind other runs.
 pub(super) fn between(
     alloc: Global,
+    runs: &mut Vec<SharedRun>,
     first: &SharedRun,
     front: usize,
     text: &str,
     followed: bool,
     second: &SharedRun,
     back: usize,
-) -> Result<Vec<SharedRun>, AllocError>
+) -> Result<(), AllocError>
     requires front { front ≤ length first.now }
     requires back { back ≤ length second.now }
-    ensures { IfOk result (λ runs. joined_runs runs.items ≡ (take front first.now ++ lines_before followed (chars text.now)) ++ drop back second.now) }
+    ensures { OnOk result (joined_runs runs.new.items ≡ joined_runs runs.old.items ++ ((take front first.now ++ lines_before followed (chars text.now)) ++ drop back second.now)) }
 {
-    let mut runs = Vec::new(alloc);
     let one = in_one(alloc, first, front, text, followed, second, back)?;
     if let Some(run) = one {
         runs.push(run)?;
-        return Ok(runs);
+        return Ok(());
     }
-    push_part(alloc, &mut runs, first, 0, front)?;
-    cut_into(alloc, &mut runs, text, followed)?;
-    push_part(alloc, &mut runs, second, back, second.count())?;
-    Ok(runs)
+    push_part(alloc, runs, first, 0, front)?;
+    cut_into(alloc, runs, text, followed)?;
+    push_part(alloc, runs, second, back, second.count())?;
+    Ok(())
 }
 
 // The same in one run, where that is short.
@@ -183,19 +183,23 @@ fn push_part(
     Ok(())
 }
 
-/// The same lines in runs, of which one has a line alone, in pieces.
-pub(super) fn apart(alloc: Global, run: &SharedRun, i: usize) -> Result<Vec<SharedRun>, AllocError>
+/// Puts the lines of a run behind other runs, one of them alone in a run, in pieces.
+pub(super) fn apart(
+    alloc: Global,
+    runs: &mut Vec<SharedRun>,
+    run: &SharedRun,
+    i: usize,
+) -> Result<(), AllocError>
     requires line { i < length run.now }
     requires end { units Encoding.Utf8 (slice_index_or run.now i (open_line [])).end ≡ length (slice_index_or run.now i (open_line [])).end }
-    ensures { IfOk result (λ runs. joined_runs runs.items ≡ run.now) }
+    ensures { OnOk result (joined_runs runs.new.items ≡ joined_runs runs.old.items ++ run.now) }
 {
     let count = run.count();
     let line = in_pieces(alloc, &run.line(i))?;
-    let mut runs = Vec::new(alloc);
-    push_part(alloc, &mut runs, run, 0, i)?;
+    push_part(alloc, runs, run, 0, i)?;
     runs.push(SharedRun::of_long(alloc, line)?)?;
-    push_part(alloc, &mut runs, run, i + 1, count)?;
-    Ok(runs)
+    push_part(alloc, runs, run, i + 1, count)?;
+    Ok(())
 }
 
 /// Whether so many bytes more make a run of short lines too long.

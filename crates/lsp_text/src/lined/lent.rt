@@ -7,10 +7,14 @@ ghost use Rattle.lsp_text.specs.Lines.{spelled};
 ghost use Rattle.lsp_text.specs.Places.{units, place_in_line};
 ghost use Rattle.lsp_text.specs.Offsets.{IsOffset};
 ghost use Rattle.lsp_text.specs.Pieces.{piece_at};
+ghost use Rattle.lsp_text.specs.Groups.{index_of, IsInGroups};
+ghost use Rattle.lsp_text.specs.Runs.{joined_runs};
 ghost use lib.Utf8.{encodes, scalars};
 
 use super::counted::CountedLine;
-use super::pieced::{chars_in, find, push_bodies};
+use super::groups::{
+    Group, InGroups, chars_before, locate, pieces_of, push_before, push_behind, push_groups,
+};
 use crate::columns::offset_in_counted;
 use crate::counts::measure;
 use lsp_types::Encoding;
@@ -105,7 +109,7 @@ impl<'a> LentPiece<'a> {
 /// A line with its end that is lent: its last piece with the end, and those before it.
 #[derive(Drop)]
 pub(crate) struct LentLine<'a> {
-    pub(super) front: &'a [CountedLine],
+    pub(super) front: &'a [Group],
     // The bytes of the pieces before the last.
     pub(super) bytes: usize,
     pub(super) last: LentPiece<'a>,
@@ -157,11 +161,11 @@ impl<'a> LentLine<'a> {
         ensures { result ≡ length (chars (take offset (encodes self.now.text))) }
     {
         let front = self.front;
-        let found = find(front, Encoding::Utf8, offset as u64);
-        let (before, _) = piece(front, &self.last, found.index)
+        let found = locate(front, Encoding::Utf8, offset as u64);
+        let (before, _) = piece(front, &self.last, found)
             .body()
             .split_at(found.left as usize);
-        chars_in(&front[..found.index]) + measure(before).chars
+        chars_before(front, found) + measure(before).chars
     }
 
     /// The bytes of the line before a column, or `None` where the column lies inside a character.
@@ -170,8 +174,8 @@ impl<'a> LentLine<'a> {
         ensures place { MatchOption result (place_in_line encoding self.now.text column ≡ None) (IsOffset encoding (encodes self.now.text) column) }
     {
         let front = self.front;
-        let found = find(front, encoding, column as u64);
-        let piece = piece(front, &self.last, found.index);
+        let found = locate(front, encoding, column as u64);
+        let piece = piece(front, &self.last, found);
         let offset = piece.offset_of(encoding, found.left as u32)?;
         Some(found.bytes + offset)
     }
@@ -181,7 +185,7 @@ impl<'a> LentLine<'a> {
         ensures scalar { scalars (spelled self.now) ≡ true }
         ensures bytes { OnOk result (string_bytes out.new ≡ string_bytes out.old ++ encodes (spelled self.now)) }
     {
-        push_bodies(self.front, out)?;
+        push_groups(self.front, out)?;
         out.push_str(self.last.as_str())
     }
 
@@ -192,9 +196,9 @@ impl<'a> LentLine<'a> {
         ensures { OnOk result (string_bytes out.new ≡ string_bytes out.old ++ take offset (encodes (spelled self.now))) }
     {
         let front = self.front;
-        let found = find(front, Encoding::Utf8, offset as u64);
-        push_bodies(&front[..found.index], out)?;
-        let (before, _) = piece(front, &self.last, found.index)
+        let found = locate(front, Encoding::Utf8, offset as u64);
+        push_before(front, found, out)?;
+        let (before, _) = piece(front, &self.last, found)
             .body()
             .split_at(found.left as usize);
         out.push_str(before)
@@ -207,11 +211,13 @@ impl<'a> LentLine<'a> {
         ensures { OnOk result (string_bytes out.new ≡ string_bytes out.old ++ drop offset (encodes (spelled self.now))) }
     {
         let front = self.front;
-        let found = find(front, Encoding::Utf8, offset as u64);
-        if found.index < front.len() {
-            let (_, after) = front[found.index].body().split_at(found.left as usize);
+        let found = locate(front, Encoding::Utf8, offset as u64);
+        if found.group < front.len() {
+            let (_, after) = piece(front, &self.last, found)
+                .body()
+                .split_at(found.left as usize);
             out.push_str(after)?;
-            push_bodies(&front[found.index + 1..], out)?;
+            push_behind(front, found, out)?;
             return out.push_str(self.last.as_str());
         }
         let (_, after) = self.last.as_str().split_at(found.left as usize);
@@ -219,8 +225,16 @@ impl<'a> LentLine<'a> {
     }
 }
 
+// The piece at a place, or the last.
+fn piece<'a>(groups: &'a [Group], last: &LentPiece<'a>, at: InGroups) -> LentPiece<'a>
+    requires { IsInGroups groups.now at }
+    ensures { result ≡ piece_at (joined_runs groups.now) last.now (index_of groups.now at) }
+{
+    piece_in(pieces_of(groups, at.group), last, at.piece)
+}
+
 // The piece of that number, or the last.
-fn piece<'a>(pieces: &'a [CountedLine], last: &LentPiece<'a>, index: usize) -> LentPiece<'a>
+fn piece_in<'a>(pieces: &'a [CountedLine], last: &LentPiece<'a>, index: usize) -> LentPiece<'a>
     ensures { result ≡ piece_at pieces.now last.now index }
 {
     match pieces.get(index) {

@@ -8,20 +8,20 @@ ghost use Rattle.lsp_text.specs.Places.{units};
 ghost use Rattle.lsp_text.specs.Steps.{raised, line_at, line_bytes, line_number};
 ghost use Rattle.lsp_text.specs.Rewriting.{rewritten, line_after, StandsApart, StaysInLine};
 
-use super::fresh::{apart, between, cut_into, is_filled};
-use super::lent::LentLine;
-use super::run::SharedRun;
-use super::runs::{
+use super::chunk::{Chunk, apart, between, chunks_of};
+use super::chunks::{
     bytes_between, chars_of, count_after, count_in, joined, locate, put, share_all, spell,
 };
+use super::fresh::cut_into;
+use super::lent::LentLine;
 use lsp_types::{Encoding, Position};
 use std::alloc::{AllocError, Global};
 use std::marker::Model;
 
-/// The lines of a text, in runs, and how many lines and bytes there are.
+/// The lines of a text, in chunks of runs, and how many lines and bytes there are.
 pub(crate) struct Lines {
     alloc: Global,
-    runs: Vec<SharedRun>,
+    chunks: Vec<Chunk>,
     count: usize,
     bytes: u64,
 }
@@ -35,7 +35,7 @@ impl Model for Lines {
     ghost use Rattle.lsp_text.specs.Lines.{text_of};
     ghost use Rattle.lsp_text.specs.Runs.{joined_runs};
 
-    ghost view = { λ a. text_of (joined_runs a.runs.items) };
+    ghost view = { λ a. text_of (joined_runs a.chunks.items) };
 
     ghost invariant = { AreHeld };
 }
@@ -44,7 +44,7 @@ impl Drop for Lines {
     fn drop(self) {
         let Lines {
             alloc: _,
-            runs: _,
+            chunks: _,
             count: _,
             bytes: _,
         } = self;
@@ -58,12 +58,13 @@ impl Lines {
     {
         let mut runs = Vec::new(alloc);
         cut_into(alloc, &mut runs, text, false)?;
-        let Some(count) = count_in(&runs) else {
+        let chunks = chunks_of(alloc, runs)?;
+        let Some(count) = count_in(&chunks) else {
             return Err(AllocError);
         };
         Ok(Lines {
             alloc,
-            runs,
+            chunks,
             count,
             bytes: text.len() as u64,
         })
@@ -75,7 +76,7 @@ impl Lines {
     {
         Ok(Lines {
             alloc,
-            runs: share_all(alloc, &self.runs)?,
+            chunks: share_all(alloc, &self.chunks)?,
             count: self.count,
             bytes: self.bytes,
         })
@@ -106,11 +107,11 @@ impl Lines {
         requires within { last < length (lines_of self.now) }
         ensures { result ≡ units Encoding.Utf8 (text_of (slice_range (lines_of self.now) first (last + 1))) }
     {
-        let a = locate(&self.runs, first);
-        let b = locate(&self.runs, last);
-        let before = self.runs[a.run].start_of(a.line);
-        let through = self.runs[b.run].start_of(b.line + 1);
-        bytes_between(&self.runs, a.run, b.run) + through as u64 - before as u64
+        let a = locate(&self.chunks, first);
+        let b = locate(&self.chunks, last);
+        let before = self.chunks[a.run].start_of(a.line);
+        let through = self.chunks[b.run].start_of(b.line + 1);
+        bytes_between(&self.chunks, a.run, b.run) + through as u64 - before as u64
     }
 
     /// Lends a line and its end, and counts their bytes.
@@ -119,8 +120,8 @@ impl Lines {
         ensures value { result ≡ line_at i self.now }
         ensures counted { steps.new ≡ raised steps.old (line_bytes self.now i) }
     {
-        let at = locate(&self.runs, i);
-        let line = self.runs[at.run].line(at.line);
+        let at = locate(&self.chunks, i);
+        let line = self.chunks[at.run].line(at.line);
         steps.add(line.len());
         line
     }
@@ -130,8 +131,8 @@ impl Lines {
         requires { i < length (lines_of self.now) }
         ensures { result ≡ line_at i self.now }
     {
-        let at = locate(&self.runs, i);
-        self.runs[at.run].line(at.line)
+        let at = locate(&self.chunks, i);
+        self.chunks[at.run].line(at.line)
     }
 
     /// The characters of the lines before one.
@@ -140,22 +141,22 @@ impl Lines {
         ensures value { result ≡ length (text_of (take i (lines_of self.now))) }
         ensures room { length self.now < 2 ^ 64 }
     {
-        let at = locate(&self.runs, i);
-        chars_of(&self.runs[..at.run]) + self.runs[at.run].chars_before(at.line)
+        let at = locate(&self.chunks, i);
+        chars_of(&self.chunks[..at.run]) + self.chunks[at.run].chars_before(at.line)
     }
 
     /// Whether the lines spell a text.
     pub(super) fn spell(&self, text: &str) -> bool
         ensures { IsTrue result ↔ (self.now ≡ chars text.now) }
     {
-        spell(&self.runs, text)
+        spell(&self.chunks, text)
     }
 
     /// The text of the lines, in a `String` of its own.
     pub(super) fn to_text(&self, alloc: Global) -> Result<String, AllocError>
         ensures { IfOk result (λ text. chars (string_bytes text) ≡ self.now) }
     {
-        joined(alloc, &self.runs, self.bytes as usize)
+        joined(alloc, &self.chunks, self.bytes as usize)
     }
 
     /// Puts a text in the place of the lines from `first` to `last`; the whole has `bytes` bytes then.
@@ -174,14 +175,14 @@ impl Lines {
         ensures err { OnErr result (self.new ≡ self.old) }
     {
         let followed = self.count - last > 1;
-        let a = locate(&self.runs, first);
-        let b = locate(&self.runs, last);
-        let (front, back) = (&self.runs[a.run], &self.runs[b.run]);
+        let a = locate(&self.chunks, first);
+        let b = locate(&self.chunks, last);
+        let (front, back) = (&self.chunks[a.run], &self.chunks[b.run]);
         let fresh = between(self.alloc, front, a.line, text, followed, back, b.line + 1)?;
-        let Some(count) = count_after(self.count, &self.runs, a.run, b.run + 1, &fresh) else {
+        let Some(count) = count_after(self.count, &self.chunks, a.run, b.run + 1, &fresh) else {
             return Err(AllocError);
         };
-        put(&mut self.runs, a.run, b.run + 1, fresh)?;
+        put(&mut self.chunks, a.run, b.run + 1, fresh)?;
         self.count = count;
         self.bytes = bytes;
         Ok(())
@@ -214,7 +215,7 @@ impl Lines {
         self.edit_run(i, from, to, text, bytes)
     }
 
-    // The same in the run that the line is in.
+    // The same in the chunk that the line is in.
     fn edit_run(
         &mut self,
         i: usize,
@@ -228,8 +229,8 @@ impl Lines {
         ensures ok { OnOk result (self.new ≡ rewritten self.old i i (line_after self.old i from to text.now)) }
         ensures err { OnErr result (self.new ≡ self.old) }
     {
-        let at = locate(&self.runs, i);
-        self.runs[at.run].replace(at.line, from, to, text)?;
+        let at = locate(&self.chunks, i);
+        self.chunks[at.run].replace(at.line, from, to, text)?;
         self.bytes = bytes;
         Ok(())
     }
@@ -239,12 +240,12 @@ impl Lines {
         requires { i < length (lines_of self.old) }
         ensures { self.new ≡ self.old }
     {
-        let at = locate(&self.runs, i);
-        if !is_filled(&self.runs[at.run], more) {
+        let at = locate(&self.chunks, i);
+        if !self.chunks[at.run].is_filled(at.line, more) {
             return Ok(());
         }
-        let fresh = apart(self.alloc, &self.runs[at.run], at.line)?;
-        put(&mut self.runs, at.run, at.run + 1, fresh)?;
+        let fresh = apart(self.alloc, &self.chunks[at.run], at.line)?;
+        put(&mut self.chunks, at.run, at.run + 1, fresh)?;
         Ok(())
     }
 

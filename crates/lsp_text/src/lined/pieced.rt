@@ -8,10 +8,16 @@ ghost use Rattle.lsp_text.specs.Lines.{spelled, open_line};
 ghost use Rattle.lsp_text.specs.Places.{units, place_in_line};
 ghost use Rattle.lsp_text.specs.Offsets.{IsOffset};
 ghost use Rattle.lsp_text.specs.Rewriting.{with_text};
-ghost use Rattle.lsp_text.specs.Pieces.{bodies, piece_at, pieces_in, bytes_in, BeginsOtherwise, IsFound, IsReplacedIn};
+ghost use Rattle.lsp_text.specs.Pieces.{bodies, BeginsOtherwise, IsReplacedIn};
+ghost use Rattle.lsp_text.specs.Fronts.{groups_in, bytes_in};
+ghost use Rattle.lsp_text.specs.Groups.{index_of, edited, piece_of, IsInGroups, IsCutFrom};
+ghost use Rattle.lsp_text.specs.Runs.{joined_runs};
 ghost use lib.Utf8.{encodes, scalars};
 
 use super::counted::CountedLine;
+use super::groups::{
+    Group, InGroups, chars_in, locate, piece, push_groups, share_all, strip_groups,
+};
 use super::lent::LentLine;
 use lsp_types::Encoding;
 use std::alloc::{AllocError, Global};
@@ -23,6 +29,9 @@ const PIECE: usize = 4096;
 /// The bytes up to which a piece grows in place.
 const MOST: usize = 8192;
 
+/// The pieces of a group, at most.
+const GROUP: usize = 16;
+
 /// A line with its end, of which a long one is kept in pieces.
 #[derive(Drop)]
 pub(super) struct PiecedLine {
@@ -32,10 +41,10 @@ pub(super) struct PiecedLine {
     last: CountedLine,
 }
 
-/// The pieces of a line before its last, and their bytes.
+/// The pieces of a line before its last, in groups, and their bytes.
 #[derive(Drop)]
 struct Front {
-    pieces: Vec<CountedLine>,
+    groups: Vec<Group>,
     bytes: usize,
 }
 
@@ -58,28 +67,28 @@ impl PiecedLine {
         requires end { units Encoding.Utf8 (chars end.now) ≡ length (chars end.now) }
         ensures { IfOk result (λ line. line ≡ record { text = chars text.now; end = chars end.now }) }
     {
-        let mut pieces = Vec::new(alloc);
+        let mut groups = Vec::new(alloc);
         let mut rest = text;
         while rest.len() > PIECE {
-            let (piece, tail) = rest.split_at(rest.floor_char_boundary(PIECE));
-            if piece.is_empty() {
+            let cut = cut_off(alloc, rest)?;
+            if cut.rest.len() == rest.len() {
                 break;
             }
-            pieces.push(CountedLine::new(alloc, piece, "")?)?;
-            rest = tail;
+            groups.push(cut.group)?;
+            rest = cut.rest;
         }
         let last = CountedLine::new(alloc, rest, end)?;
-        let front = front_of(alloc, pieces, text.len() - rest.len())?;
+        let front = front_of(alloc, groups, text.len() - rest.len())?;
         Ok(PiecedLine { front, last })
     }
 
-    /// The same line, whose pieces are held once more.
+    /// The same line, whose groups of pieces are held once more.
     pub(super) fn copy(&self, alloc: Global) -> Result<PiecedLine, AllocError>
         ensures { IfOk result (λ line. line ≡ self.now) }
     {
-        let pieces = copies(alloc, pieces(&self.front))?;
+        let groups = share_all(alloc, groups(&self.front))?;
         let last = self.last.share()?;
-        let front = front_of(alloc, pieces, bytes(&self.front))?;
+        let front = front_of(alloc, groups, bytes(&self.front))?;
         Ok(PiecedLine { front, last })
     }
 
@@ -88,7 +97,7 @@ impl PiecedLine {
         ensures { result ≡ self.now }
     {
         LentLine {
-            front: pieces(&self.front),
+            front: groups(&self.front),
             bytes: bytes(&self.front),
             last: self.last.lend(),
         }
@@ -106,7 +115,7 @@ impl PiecedLine {
     pub(super) fn count(&self) -> u64
         ensures { result ≡ length (spelled self.now) }
     {
-        chars_in(pieces(&self.front)) + self.last.count()
+        chars_in(groups(&self.front)) + self.last.count()
     }
 
     /// Writes the line and its end behind a text.
@@ -114,7 +123,7 @@ impl PiecedLine {
         ensures scalar { scalars (spelled self.now) ≡ true }
         ensures bytes { OnOk result (string_bytes out.new ≡ string_bytes out.old ++ encodes (spelled self.now)) }
     {
-        push_bodies(pieces(&self.front), out)?;
+        push_groups(groups(&self.front), out)?;
         out.push_str(self.last.as_str())
     }
 
@@ -122,7 +131,7 @@ impl PiecedLine {
     pub(super) fn strip<'a>(&self, text: &'a str) -> Option<&'a str>
         ensures { MatchOption result (BeginsOtherwise (encodes (spelled self.now)) text.now) (λ rest. text.now ≡ encodes (spelled self.now) ++ rest.now) }
     {
-        let rest = strip_bodies(pieces(&self.front), text)?;
+        let rest = strip_groups(groups(&self.front), text)?;
         rest.strip_prefix(self.last.as_str())
     }
 
@@ -142,21 +151,21 @@ impl PiecedLine {
         ensures ok { OnOk result (self.new ≡ with_text self.old (chars (replace_range (encodes self.old.text) from to text.now))) }
         ensures err { OnErr result (self.new ≡ self.old) }
     {
-        let front = pieces(&self.front);
-        let found = find(front, Encoding::Utf8, from as u64);
+        let front = groups(&self.front);
+        let found = locate(front, Encoding::Utf8, from as u64);
         let start = found.left as usize;
         let end = start + (to - from);
-        let len = piece(front, &self.last, found.index).body_len();
+        let len = piece(front, &self.last, found).body_len();
         if end > len || MOST - MOST.min(len) < text.len() {
             return self.rebuild(alloc, from, to, text);
         }
-        if found.index == front.len() {
+        if found.group == front.len() {
             return self.last.replace(start, end, text);
         }
         let Some(front) = &mut self.front else {
             return Ok(());
         };
-        replace_in(front, found.index, start, end, text)
+        replace_in(front, found, start, end, text)
     }
 
     // The same by cutting the line anew.
@@ -188,13 +197,13 @@ impl PiecedLine {
     }
 }
 
-// The pieces of a front.
-fn pieces(front: &Option<Box<Front>>) -> &[CountedLine]
-    ensures { result.now ≡ pieces_in front.now }
+// The groups of a front.
+fn groups(front: &Option<Box<Front>>) -> &[Group]
+    ensures { result.now ≡ groups_in front.now }
 {
     match front {
         None => &[],
-        Some(front) => &front.pieces,
+        Some(front) => &front.groups,
     }
 }
 
@@ -208,124 +217,70 @@ fn bytes(front: &Option<Box<Front>>) -> usize
     }
 }
 
-// A front of some pieces, if there are any.
+// A front of some groups, if there are any.
 fn front_of(
     alloc: Global,
-    pieces: Vec<CountedLine>,
+    groups: Vec<Group>,
     bytes: usize,
 ) -> Result<Option<Box<Front>>, AllocError>
-    requires { bytes ≡ units Encoding.Utf8 (bodies pieces.items) }
-    ensures pieces { IfOk result (λ front. pieces_in front ≡ pieces.items) }
+    requires { bytes ≡ units Encoding.Utf8 (bodies (joined_runs groups.items)) }
+    ensures groups { IfOk result (λ front. groups_in front ≡ groups.items) }
     ensures bytes { IfOk result (λ front. bytes_in front ≡ bytes) }
 {
-    if pieces.is_empty() {
+    if groups.is_empty() {
         return Ok(None);
     }
-    let front = Box::new(alloc, Front { pieces, bytes })?;
+    let front = Box::new(alloc, Front { groups, bytes })?;
     Ok(Some(front))
+}
+
+/// The first pieces of a text, and what comes after them.
+#[derive(Drop)]
+struct CutOff<'a> {
+    group: Group,
+    rest: &'a str,
+}
+
+// A group of pieces of a long text, and what comes after them.
+fn cut_off<'a>(alloc: Global, text: &'a str) -> Result<CutOff<'a>, AllocError>
+    requires { length text.now < 2 ^ 64 }
+    ensures { IfOk result (λ cut. IsCutFrom text.now cut.group cut.rest.now) }
+{
+    let mut pieces = Vec::with_capacity(alloc, GROUP.min(text.len() / PIECE + 1))?;
+    let mut rest = text;
+    while rest.len() > PIECE && pieces.len() < GROUP {
+        let (piece, tail) = rest.split_at(rest.floor_char_boundary(PIECE));
+        if piece.is_empty() {
+            break;
+        }
+        pieces.push(CountedLine::new(alloc, piece, "")?)?;
+        rest = tail;
+    }
+    let group = Group::of(alloc, pieces)?;
+    Ok(CutOff { group, rest })
 }
 
 // Puts a text in the place of some bytes of a piece.
 fn replace_in(
     front: &mut Front,
-    index: usize,
+    at: InGroups,
     from: usize,
     to: usize,
     text: &str,
 ) -> Result<(), AllocError>
-    requires index { index < length front.old.pieces.items }
+    requires place { IsInGroups front.old.groups.items at }
+    requires inside { at.group < length front.old.groups.items }
     requires order { from ≤ to }
-    requires before_end { to ≤ units Encoding.Utf8 (slice_index_or front.old.pieces.items index (open_line [])).text }
-    requires from_boundary { IsCharBoundary (encodes (slice_index_or front.old.pieces.items index (open_line [])).text) from }
-    requires to_boundary { IsCharBoundary (encodes (slice_index_or front.old.pieces.items index (open_line [])).text) to }
+    requires before_end { to ≤ units Encoding.Utf8 (piece_of front.old.groups.items at).text }
+    requires from_boundary { IsCharBoundary (encodes (piece_of front.old.groups.items at).text) from }
+    requires to_boundary { IsCharBoundary (encodes (piece_of front.old.groups.items at).text) to }
     requires bytes { to - from ≤ front.old.bytes }
     requires fits { front.old.bytes - (to - from) + length text.now < 2 ^ 64 }
-    ensures ok { OnOk result (IsReplacedIn front.old.pieces.items front.old.bytes index from to text.now front.new.pieces.items front.new.bytes) }
-    ensures err { OnErr result ((front.new.pieces.items ≡ front.old.pieces.items) × (front.new.bytes ≡ front.old.bytes)) }
+    requires group_fits { units Encoding.Utf8 (bodies (edited (slice_index_or front.old.groups.items at.group []) at.piece from to text.now)) < 2 ^ 64 }
+    ensures ok { OnOk result (IsReplacedIn (joined_runs front.old.groups.items) front.old.bytes (index_of front.old.groups.items at) from to text.now (joined_runs front.new.groups.items) front.new.bytes) }
+    ensures err { OnErr result ((front.new.groups.items ≡ front.old.groups.items) × (front.new.bytes ≡ front.old.bytes)) }
 {
-    front.pieces[index].replace(from, to, text)?;
+    front.groups[at.group].replace(at.piece, from, to, text)?;
     front.bytes = front.bytes - (to - from) + text.len();
     Ok(())
-}
-
-/// The piece in which a column falls, the bytes before that piece, and the column in it.
-#[derive(Clone, Copy)]
-pub(super) struct Found {
-    pub(super) index: usize,
-    pub(super) bytes: usize,
-    pub(super) left: u64,
-}
-
-// The piece in which a column falls, or the one behind these.
-pub(super) fn find(pieces: &[CountedLine], encoding: Encoding, column: u64) -> Found
-    requires { units Encoding.Utf8 (bodies pieces.now) < 2 ^ 64 }
-    ensures { IsFound pieces.now encoding column result }
-{
-    let mut index = 0;
-    let mut bytes = 0;
-    let mut left = column;
-    while index < pieces.len() {
-        let width = pieces[index].width(encoding);
-        if left < width {
-            break;
-        }
-        left -= width;
-        bytes += pieces[index].body_len();
-        index += 1;
-    }
-    Found { index, bytes, left }
-}
-
-// The piece of that number, or the last.
-fn piece<'a>(pieces: &'a [CountedLine], last: &'a CountedLine, index: usize) -> &'a CountedLine
-    ensures { result.now ≡ piece_at pieces.now last.now index }
-{
-    match pieces.get(index) {
-        Some(piece) => piece,
-        None => last,
-    }
-}
-
-// The characters of pieces.
-pub(super) fn chars_in(pieces: &[CountedLine]) -> u64
-    requires { length (bodies pieces.now) < 2 ^ 64 }
-    ensures { result ≡ length (bodies pieces.now) }
-{
-    let mut chars = 0;
-    for piece in pieces {
-        chars += piece.width(Encoding::Utf32);
-    }
-    chars
-}
-
-// Writes pieces behind a text.
-pub(super) fn push_bodies(pieces: &[CountedLine], out: &mut String) -> Result<(), AllocError>
-    ensures { OnOk result (string_bytes out.new ≡ string_bytes out.old ++ encodes (bodies pieces.now)) }
-{
-    for piece in pieces {
-        out.push_str(piece.body())?;
-    }
-    Ok(())
-}
-
-// What comes after pieces in a text that begins with them.
-fn strip_bodies<'a>(pieces: &[CountedLine], text: &'a str) -> Option<&'a str>
-    ensures { MatchOption result (BeginsOtherwise (encodes (bodies pieces.now)) text.now) (λ rest. text.now ≡ encodes (bodies pieces.now) ++ rest.now) }
-{
-    let mut rest = text;
-    for piece in pieces {
-        rest = rest.strip_prefix(piece.body())?;
-    }
-    Some(rest)
-}
-
-// The same pieces again.
-fn copies(alloc: Global, pieces: &[CountedLine]) -> Result<Vec<CountedLine>, AllocError>
-    ensures { IfOk result (λ copies. copies.items ≡ pieces.now) }
-{
-    let mut copies = Vec::with_capacity(alloc, pieces.len())?;
-    for piece in pieces {
-        copies.push_reserved(piece.share()?);
-    }
-    Ok(copies)
 }

@@ -1,7 +1,4 @@
-use Rattle.std.proofs.Common.{◌≤◌, ◌<◌, List, ℕ, length, get_or, refl, arith, ap, subst, sym, ◌∙◌}
-use Rattle.std.proofs.lemmas.List.{get_or_default}
-use Rattle.std.specs.Str.{IsCharBoundary}
-use Rattle.lsp_text.specs.Offsets.{IsSkipped, IsPassed}
+use Rattle.std.proofs.Common.{arith}
 use Rattle.lsp_text.proofs.Blocks.{byte_passed, passed_at_start, passed_at_end}
 use Rattle.lsp_text.proofs.columns.skip_blocks.Goals as goal
 

@@ -1,4 +1,4 @@
-use Rattle.std.proofs.Common.{◌≡◌, ◌+◌, ℕ, List, take, drop, ap, sym, ◌∙◌}
+use Rattle.std.proofs.Common.{◌+◌, ℕ, ap, sym, ◌∙◌}
 use Rattle.lsp_types.specs.declared.position.Encoding.TheVariants.{Utf8}
 use Rattle.lsp_text.specs.Lines.{Line, lines_of, text_of, spelled}
 use Rattle.lsp_text.specs.Places.{units}

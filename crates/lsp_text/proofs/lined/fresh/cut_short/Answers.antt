@@ -1,4 +1,4 @@
-use Rattle.std.proofs.Common.{refl, sym, ap, length, arith, ◌∙◌}
+use Rattle.std.proofs.Common.{refl, ap, length, arith, ◌∙◌}
 use Rattle.lsp_text.proofs.Tables.{is_tabled}
 use Rattle.lsp_text.proofs.Spans.{cut_span, count_by_table}
 use Rattle.lsp_text.proofs.lined.fresh.cut_short.Goals as goal

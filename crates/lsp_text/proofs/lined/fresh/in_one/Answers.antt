@@ -1,4 +1,4 @@
-use Rattle.std.proofs.Common.{◌≡◌, ◌++◌, List, length, take, drop, refl, sym, ap, arith, ◌∙◌}
+use Rattle.std.proofs.Common.{◌≡◌, ◌++◌, List, take, drop, refl, sym, ap, arith, ◌∙◌}
 use Rattle.std.specs.Str.{chars}
 use Rattle.lsp_text.specs.Lines.{Line}
 use Rattle.lsp_text.specs.Tables.{cut_by}

@@ -1,4 +1,4 @@
-use Rattle.std.proofs.Common.{◌≡◌, refl, ap, arith, true, ◌∙◌}
+use Rattle.std.proofs.Common.{refl, ap, arith, ◌∙◌}
 use lib.Utf8.{scalars}
 use Rattle.lsp_types.specs.declared.position.Encoding.TheVariants.{Utf8}
 use Rattle.lsp_text.specs.Lines.{Line, spelled}

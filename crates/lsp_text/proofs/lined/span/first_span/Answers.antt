@@ -1,11 +1,9 @@
-use Rattle.std.proofs.Common.{◌≡◌, ℕ, List, [], refl, arith, sym, ap, subst, ◌<◌, length, ◌∙◌}
-use Rattle.std.specs.Str.{chars, IsUtf8}
+use Rattle.std.proofs.Common.{List, refl, arith, sym, subst, ◌<◌, length}
+use Rattle.std.specs.Str.{IsUtf8}
 use Rattle.std.proofs.lemmas.Str.{IsUtf8-take}
 use Rattle.lsp_text.specs.Spans.{IsCutTo}
 use Rattle.lsp_text.specs.declared.lined.short.LineCounts.{LineCounts}
 use Rattle.lsp_text.proofs.Counting.{units-utf8_text}
-use Rattle.lsp_text.proofs.Positions.{rest_shorter}
-use Rattle.lsp_text.proofs.LineEdits.{end_units}
 use Rattle.lsp_text.proofs.Tables.{counts_from}
 use Rattle.lsp_text.proofs.Spans.{none_cut, cut_next, are_cut_off, span_before, plain_line}
 use Rattle.lsp_text.proofs.lined.span.first_span.Goals as goal

@@ -4,6 +4,7 @@ use Rattle.lsp_text.specs.Lines.{Line}
 use Rattle.lsp_text.specs.Places.{units}
 use Rattle.lsp_text.specs.Pieces.{bodies}
 use Rattle.lsp_text.proofs.Counting.{units-append}
+use Rattle.lsp_text.specs.Runs.{joined_runs}
 use Rattle.lsp_text.proofs.lined.lent.LentLine.body_len.Goals as goal
 
 pub overflow_add-result : goal.overflow_add-result
@@ -16,5 +17,5 @@ returns c =
       arith,
       c.self.invariant.bytes_are,
       ap (λ (l : Line). units Utf8 l.text) c.self.view_is,
-      units-append Utf8 (bodies c.self.inside.front.now) c.self.inside.last.text,
+      units-append Utf8 (bodies (joined_runs c.self.inside.front.now)) c.self.inside.last.text,
     )

@@ -7,43 +7,36 @@ use Rattle.lsp_text.specs.Lines.{Line, spelled}
 use Rattle.lsp_text.specs.Places.{units}
 use Rattle.lsp_text.specs.Pieces.{bodies}
 use Rattle.lsp_text.proofs.Counting.{units-append, scalars-parts}
-use Rattle.lsp_text.proofs.HeldText.{length_le_units}
-use Rattle.lsp_text.proofs.Pieces.{length_to_le, line_pieces, front_chars_le, IsInPiece}
+use Rattle.lsp_text.proofs.Pieces.{line_pieces, front_chars_le, IsInPiece}
+use Rattle.lsp_text.specs.Groups.{index_of, found_of}
+use Rattle.lsp_text.specs.Runs.{joined_runs}
 use Rattle.lsp_text.proofs.lined.lent.LentLine.chars_before.Goals as goal
 use Rattle.lsp_text.proofs.lined.lent.LentLine.chars_before.Goals.{After-body, After-measure}
 
-at_piece : (c : After-body) → IsInPiece c.self.inside.front.now c.self.inside.last c.piece.result c.args.offset c.find-found.result c.body.result.now
+at_piece : (c : After-body) → IsInPiece (joined_runs c.self.inside.front.now) c.self.inside.last c.piece.result c.args.offset (found_of c.self.inside.front.now c.locate-found.result) c.body.result.now
 at_piece c =
-    line_pieces c.self.inside.front.now c.self.inside.front.now c.self.inside.front.now c.self.inside.last c.piece.result c.args.self.now c.args.offset c.find-found.result c.body.result.now c.self.view_is c.self.invariant.scalar refl
-    c.find-found.ensures refl c.piece.ensures c.body.utf8 c.body.ensures c.requires.before_end c.requires.boundary
+    line_pieces (joined_runs c.self.inside.front.now) (joined_runs c.self.inside.front.now) (joined_runs c.self.inside.front.now) c.self.inside.last c.piece.result c.args.self.now c.args.offset (found_of c.self.inside.front.now c.locate-found.result) c.body.result.now c.self.view_is c.self.invariant.scalar refl
+    c.locate-found.ensures.found refl c.piece.ensures c.body.utf8 c.body.ensures c.requires.before_end c.requires.boundary
 
 pub split_at-requires : goal.split_at-requires
 split_at-requires c = (at_piece (goal.at.split_at-requires c).After-body).boundary
 
-pub chars_in-requires : goal.chars_in-requires
-chars_in-requires c =
-    let i = c.self.invariant in
-    omega (
-      arith,
-      i.fits,
-      i.bytes_are,
-      length_le_units (bodies c.self.inside.front.now),
-      length_to_le c.self.inside.front.now c.find-found.result.index,
-    )
+pub chars_before-requires-clause-fits : goal.chars_before-requires-clause-fits
+chars_before-requires-clause-fits c = let i = c.self.invariant in omega (arith, i.fits, i.bytes_are)
 
-sum : (c : After-measure) → IsInPiece c.self.inside.front.now c.self.inside.last c.piece.result c.args.offset c.find-found.result c.body.result.now → c.chars_in.result + c.measure.result.chars ≡ length (chars (take c.args.offset (encodes c.args.self.now.text)))
+sum : (c : After-measure) → IsInPiece (joined_runs c.self.inside.front.now) c.self.inside.last c.piece.result c.args.offset (found_of c.self.inside.front.now c.locate-found.result) c.body.result.now → c.chars_before.result + c.measure.result.chars ≡ length (chars (take c.args.offset (encodes c.args.self.now.text)))
 sum c k =
-    let pre = bodies (take c.find-found.result.index c.self.inside.front.now) in
-    let part = take c.find-found.result.left (encodes c.piece.result.text) in
+    let pre = bodies (take (index_of c.self.inside.front.now c.locate-found.result) (joined_runs c.self.inside.front.now)) in
+    let part = take c.locate-found.result.left (encodes c.piece.result.text) in
     let all : chars (take c.args.offset (encodes c.args.self.now.text)) ≡ pre ++ chars part =
     ap (λ (l : Line). chars (take c.args.offset (encodes l.text))) (sym c.self.view_is) ∙ ap chars k.byte.front ∙ chars-append (encodes pre) part k.byte.pre_utf8 ∙ ap (λ (x : List ℕ). x ++ chars part) k.byte.pre_chars in
     omega (
       arith,
       ap length all,
       length-append pre (chars part),
-      c.chars_in.ensures,
+      c.chars_before.ensures,
       c.measure.ensures.chars,
-      ap (λ (x : List ℕ). length (chars x)) (c.split_at.ensures.front ∙ ap (take c.find-found.result.left) k.body_is),
+      ap (λ (x : List ℕ). length (chars x)) (c.split_at.ensures.front ∙ ap (take c.locate-found.result.left) k.body_is),
     )
 
 pub overflow_add-result : goal.overflow_add-result
@@ -60,7 +53,7 @@ overflow_add-result c =
             i.fits,
             i.bytes_are,
             ap (λ (l : Line). units Utf8 l.text) c.self.view_is,
-            units-append Utf8 (bodies c.self.inside.front.now) c.self.inside.last.text,
+            units-append Utf8 (bodies (joined_runs c.self.inside.front.now)) c.self.inside.last.text,
             units-append Utf8 c.self.inside.last.text c.self.inside.last.end,
           );
     }

@@ -4,12 +4,13 @@ use Rattle.lsp_text.specs.Lines.{Line, spelled}
 use Rattle.lsp_text.specs.Places.{units}
 use Rattle.lsp_text.specs.Pieces.{bodies}
 use Rattle.lsp_text.proofs.Counting.{units-append}
+use Rattle.lsp_text.specs.Runs.{joined_runs}
 use Rattle.lsp_text.proofs.lined.lent.LentLine.len.Goals as goal
 
 pub returns-clause-value : goal.returns-clause-value
 returns-clause-value c =
     let last = c.self.inside.last in
-    let front = bodies c.self.inside.front.now in
+    let front = bodies (joined_runs c.self.inside.front.now) in
     omega (
       arith,
       c.self.invariant.bytes_are,

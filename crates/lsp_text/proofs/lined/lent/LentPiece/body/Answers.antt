@@ -1,5 +1,5 @@
-use Rattle.std.proofs.Common.{sym, subst, ap, take, List, ℕ, ◌∙◌}
-use Rattle.std.specs.Str.{chars, IsCharBoundary}
+use Rattle.std.proofs.Common.{ap, ◌∙◌}
+use Rattle.std.specs.Str.{chars}
 use Rattle.lsp_text.specs.Lines.{Line}
 use Rattle.lsp_text.proofs.lined.lent.LentPiece.body.Goals as goal
 

@@ -1,7 +1,6 @@
 use Rattle.std.proofs.Common.{take, ap, sym, ◌∙◌}
-use Rattle.std.specs.String.{string_bytes}
 use Rattle.std.proofs.lemmas.List.{length-take-le}
-use Rattle.std.proofs.lemmas.Str.{IsUtf8-string_bytes, IsUtf8-take}
+use Rattle.std.proofs.lemmas.Str.{IsUtf8-take}
 use Rattle.lsp_types.specs.declared.position.Encoding.TheVariants.{Utf8}
 use Rattle.lsp_text.specs.Lines.{Line}
 use Rattle.lsp_text.specs.Places.{units}

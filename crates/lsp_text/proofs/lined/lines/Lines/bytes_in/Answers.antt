@@ -3,23 +3,34 @@ use Rattle.lsp_types.specs.declared.position.Encoding.TheVariants.{Utf8}
 use Rattle.lsp_text.specs.Lines.{Line, lines_of, text_of}
 use Rattle.lsp_text.specs.Places.{units}
 use Rattle.lsp_text.specs.Runs.{joined_runs, IsPlaceInRuns}
+use Rattle.lsp_text.proofs.HeldText.{run_bytes_le}
 use Rattle.lsp_text.proofs.RunPlaces.{run_at, runs_ordered, bytes_between, bytes_through_le, bytes_slice_le}
 use Rattle.lsp_text.proofs.lined.lines.Lines.bytes_in.Goals as goal
 use Rattle.lsp_text.proofs.lined.lines.Lines.bytes_in.Goals.{After-locate-b, After-bytes_between}
 
-first_place : (c : After-locate-b) → IsPlaceInRuns c.self.inside.runs.items c.args.first c.locate-a.result
+first_place : (c : After-locate-b) → IsPlaceInRuns c.self.inside.chunks.items c.args.first c.locate-a.result
 first_place c = subst (λ (x : List (List Line)). IsPlaceInRuns x c.args.first c.locate-a.result) c.deref.ensures.value c.locate-a.ensures
 
-last_place : (c : After-locate-b) → IsPlaceInRuns c.self.inside.runs.items c.args.last c.locate-b.result
+last_place : (c : After-locate-b) → IsPlaceInRuns c.self.inside.chunks.items c.args.last c.locate-b.result
 last_place c = subst (λ (x : List (List Line)). IsPlaceInRuns x c.args.last c.locate-b.result) c.deref-2.ensures.value c.locate-b.ensures
 
 ordered : (c : After-locate-b) → c.locate-a.result.run ≤ c.locate-b.result.run
-ordered c = runs_ordered c.self.inside.runs.items c.args.first c.args.last c.locate-a.result c.locate-b.result (first_place c) (last_place c) c.requires.order
+ordered c = runs_ordered c.self.inside.chunks.items c.args.first c.args.last c.locate-a.result c.locate-b.result (first_place c) (last_place c) c.requires.order
+
+pub start_of-before-requires-clause-fits : goal.start_of-before-requires-clause-fits
+start_of-before-requires-clause-fits c =
+    let p = first_place (goal.at.start_of-before-requires-clause-fits c).After-locate-b in
+    omega (arith, c.self.invariant.bytes_are, c.self.invariant.fits, run_bytes_le c.self.inside.chunks.items c.locate-a.result.run c.index.result.now p.run c.index.ensures)
+
+pub start_of-through-requires-clause-fits : goal.start_of-through-requires-clause-fits
+start_of-through-requires-clause-fits c =
+    let p = last_place (goal.at.start_of-through-requires-clause-fits c).After-locate-b in
+    omega (arith, c.self.invariant.bytes_are, c.self.invariant.fits, run_bytes_le c.self.inside.chunks.items c.locate-b.result.run c.index-2.result.now p.run c.index-2.ensures)
 
 pub overflow_add-b : goal.overflow_add-b
 overflow_add-b c =
     let p = last_place (goal.at.overflow_add-b c).After-locate-b in
-    let lines : lines_of c.args.self.now ≡ joined_runs c.self.inside.runs.items = ap lines_of (sym c.self.view_is) ∙ c.self.invariant.lines in
+    let lines : lines_of c.args.self.now ≡ joined_runs c.self.inside.chunks.items = ap lines_of (sym c.self.view_is) ∙ c.self.invariant.lines in
     record { fits = omega (arith, p.number, c.requires.within, ap length lines, c.self.invariant.count_is, c.self.invariant.countable) }
 
 pub bytes_between-requires-clause-order : goal.bytes_between-requires-clause-order
@@ -32,7 +43,7 @@ bytes_between-requires-clause-within c =
 pub bytes_between-requires-clause-fits : goal.bytes_between-requires-clause-fits
 bytes_between-requires-clause-fits c =
     let at = (goal.at.bytes_between-requires-clause-fits c).After-locate-b in
-    let rs = c.self.inside.runs.items in
+    let rs = c.self.inside.chunks.items in
     let a = c.locate-a.result.run in
     let b = c.locate-b.result.run in
     omega (
@@ -45,12 +56,12 @@ bytes_between-requires-clause-fits c =
     )
 
 -- the bytes up to the last line, in its run, and those of the runs before that
-through : (c : After-bytes_between) → IsPlaceInRuns c.self.inside.runs.items c.args.last c.locate-b.result →
+through : (c : After-bytes_between) → IsPlaceInRuns c.self.inside.chunks.items c.args.last c.locate-b.result →
     c.bytes_between.result + c.start_of-through.result
-    ≡ units Utf8 (text_of (joined_runs (take (c.locate-b.result.run - c.locate-a.result.run) (drop c.locate-a.result.run c.self.inside.runs.items))))
-    + units Utf8 (text_of (take (c.locate-b.result.line + 1) (get_or c.self.inside.runs.items c.locate-b.result.run [])))
+    ≡ units Utf8 (text_of (joined_runs (take (c.locate-b.result.run - c.locate-a.result.run) (drop c.locate-a.result.run c.self.inside.chunks.items))))
+    + units Utf8 (text_of (take (c.locate-b.result.line + 1) (get_or c.self.inside.chunks.items c.locate-b.result.run [])))
 through c last =
-    let rs = c.self.inside.runs.items in
+    let rs = c.self.inside.chunks.items in
     let a = c.locate-a.result.run in
     let b = c.locate-b.result.run in
     omega (
@@ -61,10 +72,10 @@ through c last =
       ap (λ (x : List Line). units Utf8 (text_of (take (c.locate-b.result.line + 1) x))) (run_at rs c.args.last c.locate-b.result c.index-2.result.now last c.index-2.ensures),
     )
 
-sum : (c : After-bytes_between) → IsPlaceInRuns c.self.inside.runs.items c.args.first c.locate-a.result → IsPlaceInRuns c.self.inside.runs.items c.args.last c.locate-b.result →
-    c.bytes_between.result + c.start_of-through.result ≡ c.start_of-before.result + units Utf8 (text_of (take (c.args.last + 1 - c.args.first) (drop c.args.first (joined_runs c.self.inside.runs.items))))
+sum : (c : After-bytes_between) → IsPlaceInRuns c.self.inside.chunks.items c.args.first c.locate-a.result → IsPlaceInRuns c.self.inside.chunks.items c.args.last c.locate-b.result →
+    c.bytes_between.result + c.start_of-through.result ≡ c.start_of-before.result + units Utf8 (text_of (take (c.args.last + 1 - c.args.first) (drop c.args.first (joined_runs c.self.inside.chunks.items))))
 sum c first last =
-    let rs = c.self.inside.runs.items in
+    let rs = c.self.inside.chunks.items in
     omega (
       arith,
       through c last,
@@ -78,7 +89,7 @@ overflow_add-result c =
     let at = goal.at.overflow_add-result c in
     let first = first_place at.After-locate-b in
     let last = last_place at.After-locate-b in
-    let rs = c.self.inside.runs.items in
+    let rs = c.self.inside.chunks.items in
     record {
       fits =
           omega (
@@ -99,6 +110,6 @@ overflow_sub-result c =
 pub returns : goal.returns
 returns c =
     let at = goal.at.returns c in
-    let lines : lines_of c.args.self.now ≡ joined_runs c.self.inside.runs.items = ap lines_of (sym c.self.view_is) ∙ c.self.invariant.lines in
+    let lines : lines_of c.args.self.now ≡ joined_runs c.self.inside.chunks.items = ap lines_of (sym c.self.view_is) ∙ c.self.invariant.lines in
     let s = sum at.After-bytes_between (first_place at.After-locate-b) (last_place at.After-locate-b) in
     omega (arith, s, ap (λ (x : List Line). units Utf8 (text_of (take (c.args.last + 1 - c.args.first) (drop c.args.first x)))) lines)

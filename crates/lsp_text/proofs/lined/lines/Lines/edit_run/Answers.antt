@@ -14,16 +14,16 @@ use Rattle.lsp_text.proofs.LineEdits.{IsLineEdit, is_line_edit, line_units_le}
 use Rattle.lsp_text.proofs.lined.lines.Lines.edit_run.Goals as goal
 use Rattle.lsp_text.proofs.lined.lines.Lines.edit_run.Goals.{After-index_mut, In_ok-replace}
 
-held : (c : After-index_mut) → lines_of c.args.self.now ≡ joined_runs c.self.inside.runs.items
+held : (c : After-index_mut) → lines_of c.args.self.now ≡ joined_runs c.self.inside.chunks.items
 held c = ap lines_of (sym c.self.view_is) ∙ c.self.invariant.lines
 
-place_is : (c : After-index_mut) → IsPlaceInRuns c.self.inside.runs.items c.args.i c.locate-at.result
+place_is : (c : After-index_mut) → IsPlaceInRuns c.self.inside.chunks.items c.args.i c.locate-at.result
 place_is c = subst (λ (rs : List (List Line)). IsPlaceInRuns rs c.args.i c.locate-at.result) c.deref.ensures.value c.locate-at.ensures
 
 -- the line of the text is that of its run
 line_is : (c : After-index_mut) → get_or c.index_mut.result.now c.locate-at.result.line (open_line []) ≡ line_at c.args.i c.args.self.now
 line_is c =
-    line_there c.self.inside.runs.items c.args.i c.locate-at.result c.index_mut.result.now (open_line []) (place_is c) c.index_mut.ensures.value ∙ ap (λ (ls : List Line). get_or ls c.args.i (open_line [])) (sym (held c))
+    line_there c.self.inside.chunks.items c.args.i c.locate-at.result c.index_mut.result.now (open_line []) (place_is c) c.index_mut.ensures.value ∙ ap (λ (ls : List Line). get_or ls c.args.i (open_line [])) (sym (held c))
 
 place : (c : After-index_mut) → IsLineEdit c.args.self.now c.args.i c.args.from c.args.to c.args.text.now (with_text (line_at c.args.i c.args.self.now) (chars (replace_range (encodes (line_at c.args.i c.args.self.now).text) c.args.from c.args.to c.args.text.now)))
 place c = is_line_edit c.args.self.now c.args.i c.args.from c.args.to c.args.text.now _ c.utf8.text c.requires.stays refl
@@ -63,10 +63,10 @@ edited c =
     (ap (λ (l : Line). with_text l (chars (replace_range (encodes l.text) c.args.from c.args.to c.args.text.now))) (line_is c))
 
 -- the lines with the edited one
-lines_are : (c : In_ok-replace) → IsPlaceInRuns c.self.inside.runs.items c.args.i c.locate-at.result → lines_of c.args.self.now ≡ joined_runs c.self.inside.runs.items → (l : Line) →
-    c.replace.new.self ≡ set c.index_mut.result.now c.locate-at.result.line l → joined_runs (set c.self.inside.runs.items c.locate-at.result.run c.replace.new.self) ≡ set (lines_of c.args.self.now) c.args.i l
+lines_are : (c : In_ok-replace) → IsPlaceInRuns c.self.inside.chunks.items c.args.i c.locate-at.result → lines_of c.args.self.now ≡ joined_runs c.self.inside.chunks.items → (l : Line) →
+    c.replace.new.self ≡ set c.index_mut.result.now c.locate-at.result.line l → joined_runs (set c.self.inside.chunks.items c.locate-at.result.run c.replace.new.self) ≡ set (lines_of c.args.self.now) c.args.i l
 lines_are c p lines l made =
-    set_there c.self.inside.runs.items c.args.i c.locate-at.result c.index_mut.result.now c.replace.new.self l p c.index_mut.ensures.value made ∙ ap (λ (x : List Line). set x c.args.i l) (sym lines)
+    set_there c.self.inside.chunks.items c.args.i c.locate-at.result c.index_mut.result.now c.replace.new.self l p c.index_mut.ensures.value made ∙ ap (λ (x : List Line). set x c.args.i l) (sym lines)
 
 pub invariant_of-self-2 : goal.invariant_of-self-2
 invariant_of-self-2 c =

@@ -1,4 +1,4 @@
-use Rattle.std.proofs.Common.{◌≡◌, ◌<◌, [], List, length, get_or, arith, ap, sym, subst, ◌∙◌}
+use Rattle.std.proofs.Common.{◌≡◌, [], List, length, get_or, ap, sym, subst, ◌∙◌}
 use Rattle.lsp_types.specs.declared.position.Encoding.TheVariants.{Utf8}
 use Rattle.lsp_text.specs.Lines.{Line, open_line, lines_of, text_of}
 use Rattle.lsp_text.specs.Places.{units}
@@ -9,21 +9,21 @@ use Rattle.lsp_text.proofs.RunPlaces.{line_there, run_at, joined_same}
 use Rattle.lsp_text.proofs.lined.lines.Lines.make_room.Goals as goal
 use Rattle.lsp_text.proofs.lined.lines.Lines.make_room.Goals.{After-locate-at, In_ok-put}
 
-place : (c : After-locate-at) → IsPlaceInRuns c.self.inside.runs.items c.args.i c.locate-at.result
+place : (c : After-locate-at) → IsPlaceInRuns c.self.inside.chunks.items c.args.i c.locate-at.result
 place c = subst (λ (x : List (List Line)). IsPlaceInRuns x c.args.i c.locate-at.result) c.deref.ensures.value c.locate-at.ensures
 
 pub apart-requires-clause-end : goal.apart-requires-clause-end
 apart-requires-clause-end c =
     let t = c.args.self.now in
-    let rs = c.self.inside.runs.items in
+    let rs = c.self.inside.chunks.items in
     let lines : lines_of t ≡ joined_runs rs = ap lines_of (sym c.self.view_is) ∙ c.self.invariant.lines in
     let line : get_or c.index-2.result.now c.locate-at.result.line (open_line []) ≡ line_at c.args.i t =
     line_there rs c.args.i c.locate-at.result c.index-2.result.now (open_line []) (place (goal.at.apart-requires-clause-end c).After-locate-at) c.index-2.ensures ∙ ap (λ (x : List Line). get_or x c.args.i (open_line [])) (sym lines) in
     subst (λ (l : Line). units Utf8 l.end ≡ length l.end) (sym line) (end_bytes_of t c.args.i c.requires)
 
-same : (c : In_ok-put) → IsPlaceInRuns c.self.inside.runs.items c.args.i c.locate-at.result → joined_runs c.put.new.runs.items ≡ joined_runs c.self.inside.runs.items
+same : (c : In_ok-put) → IsPlaceInRuns c.self.inside.chunks.items c.args.i c.locate-at.result → joined_runs c.put.new.chunks.items ≡ joined_runs c.self.inside.chunks.items
 same c p =
-    let rs = c.self.inside.runs.items in
+    let rs = c.self.inside.chunks.items in
     ap joined_runs c.in_ok-put.ensures.ok ∙ joined_same rs c.in_ok-fresh.fresh.items c.locate-at.result.run p.run (c.in_ok-fresh.ensures ∙ run_at rs c.args.i c.locate-at.result c.index-2.result.now p c.index-2.ensures)
 
 pub invariant_of-self-2 : goal.invariant_of-self-2

@@ -2,14 +2,16 @@ use Rattle.std.proofs.Common.{◌++◌, arith, ap}
 use Rattle.lsp_types.specs.declared.position.Encoding.TheVariants.{Utf8}
 use Rattle.lsp_text.specs.Lines.{Line, spelled}
 use Rattle.lsp_text.specs.Places.{units}
-use Rattle.lsp_text.specs.Pieces.{pieces_in, bodies}
+use Rattle.lsp_text.specs.Pieces.{bodies}
+use Rattle.lsp_text.specs.Fronts.{groups_in}
+use Rattle.lsp_text.specs.Runs.{joined_runs}
 use Rattle.lsp_text.proofs.Counting.{units-append}
 use Rattle.lsp_text.proofs.lined.pieced.PiecedLine.len.Goals as goal
 
 pub returns-clause-value : goal.returns-clause-value
 returns-clause-value c =
     let last = c.self.inside.last in
-    let front = bodies (pieces_in c.self.inside.front) in
+    let front = bodies (joined_runs (groups_in c.self.inside.front)) in
     omega (
       arith,
       c.self.invariant.bytes_are,

@@ -1,7 +1,6 @@
-use Rattle.std.proofs.Common.{◌≡◌, ◌<◌, ◌^◌, ◌-◌, ℕ, List, length, take, drop, arith, ap, subst, ◌∙◌}
-use Rattle.std.specs.List.{sum_by}
+use Rattle.std.proofs.Common.{◌-◌, List, length, take, drop, arith, subst, ◌∙◌}
 use Rattle.lsp_text.specs.Lines.{Line}
-use Rattle.lsp_text.specs.Tables.{IsTable, len_of}
+use Rattle.lsp_text.specs.Tables.{IsTable}
 use Rattle.lsp_text.proofs.HeldText.{tail_is}
 use Rattle.lsp_text.proofs.Tables.{AreSplit, are_split, IsPart, is_part, fits_table, start_is}
 use Rattle.lsp_text.proofs.lined.short.LentLines.back.Goals as goal

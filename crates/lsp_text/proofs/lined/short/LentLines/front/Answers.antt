@@ -1,7 +1,6 @@
-use Rattle.std.proofs.Common.{◌≡◌, ◌<◌, ◌^◌, ℕ, List, length, take, refl, arith, ap, subst, ◌∙◌}
-use Rattle.std.specs.List.{sum_by}
+use Rattle.std.proofs.Common.{List, take, refl, arith, subst, ◌∙◌}
 use Rattle.lsp_text.specs.Lines.{Line}
-use Rattle.lsp_text.specs.Tables.{IsTable, len_of}
+use Rattle.lsp_text.specs.Tables.{IsTable}
 use Rattle.lsp_text.proofs.Tables.{AreSplit, are_split, IsPart, is_part, fits_table, start_is}
 use Rattle.lsp_text.proofs.lined.short.LentLines.front.Goals as goal
 use Rattle.lsp_text.proofs.lined.short.LentLines.front.Goals.{After-start_of, After-split_at}

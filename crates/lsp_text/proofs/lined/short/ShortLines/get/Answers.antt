@@ -1,11 +1,11 @@
-use Rattle.std.proofs.Common.{◌≡◌, ◌<◌, ℕ, [], List, length, get_or, take, drop, arith, ap, sym, subst, ◌∙◌}
+use Rattle.std.proofs.Common.{◌≡◌, ℕ, [], List, length, get_or, take, drop, arith, ap, sym, subst, ◌∙◌}
 use Rattle.std.specs.List.{sum_by}
 use Rattle.std.specs.Str.{IsCharBoundary}
 use Rattle.std.specs.String.{string_bytes}
 use Rattle.lsp_types.specs.declared.position.Encoding.TheVariants.{Utf8}
-use Rattle.lsp_text.specs.Lines.{Line, open_line, spelled, text_of}
+use Rattle.lsp_text.specs.Lines.{Line, open_line, text_of}
 use Rattle.lsp_text.specs.Places.{units}
-use Rattle.lsp_text.specs.Tables.{IsTable, len_of, counts_of}
+use Rattle.lsp_text.specs.Tables.{IsTable, len_of}
 use Rattle.lsp_text.specs.declared.lined.short.LineCounts.{LineCounts}
 use Rattle.lsp_text.proofs.Tables.{is_in_table, IsCutOut, is_cut_out, fits_table, start_is, counts_at}
 use Rattle.lsp_text.proofs.lined.short.ShortLines.get.Goals as goal

@@ -1,17 +1,16 @@
-use Rattle.std.proofs.Common.{◌≡◌, ◌<◌, ◌≤◌, ◌+◌, ℕ, [], List, length, get_or, set, take, drop, arith, ap, sym, refl, subst, ◌∙◌}
+use Rattle.std.proofs.Common.{◌≡◌, ◌+◌, ℕ, [], List, length, get_or, set, take, drop, arith, ap, sym, refl, subst, ◌∙◌}
 use Rattle.std.specs.List.{replace_range}
 use Rattle.std.specs.Str.{chars, IsCharBoundary}
 use Rattle.std.specs.String.{string_bytes}
 use lib.Utf8.{encodes}
-use Rattle.lsp_types.specs.declared.position.Encoding.TheVariants.{Utf8, Utf16}
+use Rattle.lsp_types.specs.declared.position.Encoding.TheVariants.{Utf8}
 use Rattle.lsp_text.specs.Lines.{Line, open_line, spelled, text_of}
-use Rattle.lsp_text.specs.Places.{units}
 use Rattle.lsp_text.specs.Rewriting.{with_text}
-use Rattle.lsp_text.specs.Tables.{IsTable, counts_of, counts_after, cut_by}
+use Rattle.lsp_text.specs.Tables.{IsTable, counts_after}
 use Rattle.lsp_text.specs.declared.lined.short.LineCounts.{LineCounts}
 use Rattle.lsp_text.proofs.Counting.{units-append, units-utf8, units-utf16_le}
 use Rattle.lsp_text.proofs.HeldText.{length_le_units}
-use Rattle.lsp_text.proofs.Tables.{IsInTable, is_in_table, IsCutOut, is_cut_out, IsEdited, is_edited, edited_table, boundary_of_line, cut_by_table, is_tabled}
+use Rattle.lsp_text.proofs.Tables.{IsInTable, is_in_table, IsEdited, is_edited, edited_table, boundary_of_line, cut_by_table, is_tabled}
 use Rattle.lsp_text.proofs.lined.short.ShortLines.replace.Goals as goal
 use Rattle.lsp_text.proofs.lined.short.ShortLines.replace.Goals.{After-get-line, After-split_at-2}
 

@@ -1,9 +1,0 @@
-use Rattle.std.proofs.Common.{◌≡◌, take}
-use Rattle.std.specs.Str.{chars}
-use Rattle.std.specs.String.{string_bytes}
-use Rattle.lsp_text.specs.Lines.{text_of}
-use Rattle.lsp_text.specs.Runs.{joined_runs}
-use Rattle.lsp_text.proofs.lined.runs.joined.Given as goal
-
-abbrev pub invariant-loop-run : goal.invariant-loop-run
-invariant-loop-run l = chars (string_bytes l.text) ≡ text_of (joined_runs (take l.run-index l.runs))
