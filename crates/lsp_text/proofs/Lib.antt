@@ -24,3 +24,6 @@ pub mod LineEnds
 pub mod RunPlaces
 pub mod Tables
 pub mod Spans
+pub mod Differences
+pub mod LineStarts
+pub mod LinePlaces

@@ -10,6 +10,7 @@ mod changes;
 mod columns;
 mod counts;
 mod cut;
+mod difference;
 mod edit;
 mod fault;
 mod lanes;
@@ -21,10 +22,11 @@ mod store;
 
 pub use changes::{change, change_all};
 pub use counts::{Counts, measure};
+pub use difference::{Difference, first_difference};
 pub use fault::TextFault;
 pub use laws::{
-    characters_denote, line_ends_are_whole, lines_are_the_cut, lines_of_joined, places_are_denoted,
-    positions_denote_one_place,
+    characters_denote, line_ends_are_whole, lines_are_the_cut, lines_of_joined, one_difference,
+    places_are_denoted, positions_denote_one_place,
 };
 pub use lined::Lined;
 pub use plain::Plain;
