@@ -25,5 +25,7 @@ pub mod RunPlaces
 pub mod Tables
 pub mod Spans
 pub mod Differences
+pub mod WorkedDifferences
 pub mod LineStarts
 pub mod LinePlaces
+pub mod PlacePositions

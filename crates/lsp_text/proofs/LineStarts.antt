@@ -22,7 +22,7 @@ length-before_line cs [] h = absurd (cc h.are)
 length-before_line cs (l ∷ ls) h = refl
 
 -- a text with no line end adds none
-count-whole : (x u : List ℕ) → has_no_line_end x ≡ true → length (lines_of (x ++ u)) ≡ length (lines_of u)
+pub count-whole : (x u : List ℕ) → has_no_line_end x ≡ true → length (lines_of (x ++ u)) ≡ length (lines_of u)
 count-whole x u h = ap length (lines_of-whole x u h) ∙ length-before_line x (lines_of u) (lines_of-HasFirst u)
 
 -- nor does a CR before a LF

@@ -1,9 +1,9 @@
 -- The place at which two texts, lists of characters, first differ, and the line in which a place lies.
-use Rattle.std.specs.Prelude.{◌≡◌, ◌≢◌, ◌⊎◌, ◌-◌, ◌^◌, ℕ, List, length, take, drop, min, slice_get}
+use Rattle.std.specs.Prelude.{◌≡◌, ◌≢◌, ◌⊎◌, ◌<◌, ◌≤◌, ◌+◌, ◌-◌, ◌^◌, ℕ, List, ◌∷◌, ◌++◌, length, take, drop, min, slice_get}
 use Rattle.lsp_types.specs.declared.position.Encoding.{Encoding}
 use Rattle.lsp_types.specs.declared.position.Position.{Position}
 use Rattle.lsp_text.specs.Lines.{lines_of, text_of, spelled}
-use Rattle.lsp_text.specs.Places.{units}
+use Rattle.lsp_text.specs.Places.{units, Denotes}
 use Rattle.lsp_text.specs.Steps.{line_at}
 
 -- the first n characters are the same, and at n they differ, or one text ends there and the other goes on
@@ -39,3 +39,16 @@ line_before_place t n = drop (length (text_of (take (line_number_at t n) (lines_
 -- the line's number and the units before the place there, each at most 2^32 - 1
 abbrev pub position_at : Encoding → List ℕ → ℕ → Position
 position_at enc t n = record { line = min (line_number_at t n) (2 ^ 32 - 1); column = min (units enc (line_before_place t n)) (2 ^ 32 - 1) }
+
+-- the place lies between a CR and a LF
+pub record LiesInsideEnd (t : List ℕ) (n : ℕ) : Type 0 where
+  pub before : List ℕ
+  pub after : List ℕ
+  pub text : t ≡ before ++ 13 ∷ 10 ∷ after
+  pub place : n ≡ length before + 1
+
+-- every other place of a text is the one that its position denotes, where the position's numbers are below 2^32
+abbrev pub PlacesHavePositions : Type 0
+PlacesHavePositions =
+    (enc : Encoding) (t : List ℕ) (n : ℕ) → n ≤ length t → (LiesInsideEnd t n → ⊥) →
+    line_number_at t n < 2 ^ 32 → units enc (line_before_place t n) < 2 ^ 32 → Denotes enc t (position_at enc t n) n

@@ -17,24 +17,24 @@ use memchr::memrchr2;
 /// How many bytes are compared at once.
 const BLOCK: usize = 256;
 
-/// Where a held text and another one first differ: at the first character that is not the same, or where one of
-/// them ends and the other goes on. The characters before that place are the same in both.
+/// Where a held text and another one first differ: at the first character that is not the same in both, or where
+/// one of them ends and the other goes on. The characters before that place are the same.
 #[derive(Clone, Copy, Debug, PartialEq, Eq)]
 pub struct Difference<'a, 'b> {
-    /// The place in the held text. Its column counts all units of its line before the place, so it is past the
-    /// line's text where the place lies between a CR and a LF that end the line together: the CR counts as one.
-    /// A number past 2^32 - 1 is told as that one.
+    /// The place in the held text. The column counts units of the encoding. Where the place lies between a CR and
+    /// a LF, these end the place's line together, and the column counts the CR, as one unit. A number past
+    /// 2^32 - 1 is told as that one.
     pub at: Position,
-    /// The line of the held text in which the place lies, with its line end. The end of a text lies in its last
-    /// line, which is empty behind a line end.
+    /// The line of the held text in which the place lies, its line end included. The end of a text lies in the
+    /// last line, which is empty behind a line end.
     pub held: &'a str,
-    /// The line of the other text in which the place lies there. Its number is another one where the place lies
-    /// between a CR and a LF in one text, and behind a CR that ends a line in the other.
+    /// The same of the other text. Its number differs where the place lies between a CR and a LF in one of the
+    /// texts, and so behind a CR that ends a line by itself in the other.
     pub other: &'b str,
 }
 
-/// Where a held text and another one first differ, or `None` where they are equal. It looks once at the bytes that
-/// are the same, once more for the lines that end there, and at one line of each text. It takes no memory.
+/// Where a held text and another one first differ, or `None` where they are equal. It goes once over the bytes that
+/// are the same, once more to count the lines that end there, and over one line of each text.
 pub fn first_difference<'a, 'b>(
     held: &'a str,
     other: &'b str,

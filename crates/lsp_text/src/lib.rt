@@ -26,7 +26,7 @@ pub use difference::{Difference, first_difference};
 pub use fault::TextFault;
 pub use laws::{
     characters_denote, line_ends_are_whole, lines_are_the_cut, lines_of_joined, one_difference,
-    places_are_denoted, positions_denote_one_place,
+    places_are_denoted, places_have_positions, positions_denote_one_place,
 };
 pub use lined::Lined;
 pub use plain::Plain;

@@ -8,8 +8,7 @@ returns c =
     let at = c.args.at in
     let block : (at + 256) - at ≡ 256 = omega arith in
     let part : List ℕ → ℕ → List ℕ = λ xs n. take n (drop at xs) in
-    let same = slice_eq-Decides Decides-eqb (part c.args.a.now ((at + 256) - at)) (part c.args.b.now ((at + 256) - at)) c.eq.result c.eq.ensures in
-    (
+    let same = slice_eq-Decides Decides-eqb (part c.args.a.now ((at + 256) - at)) (part c.args.b.now ((at + 256) - at)) c.eq.result c.eq.ensures in (
       λ t. ap (part c.args.a.now) (sym block) ∙ same.0 t ∙ ap (part c.args.b.now) block,
       λ e. same.1 (ap (part c.args.a.now) block ∙ e ∙ ap (part c.args.b.now) (sym block)),
     )
