@@ -1,18 +1,15 @@
 -- The line in which a place lies, found back from the place in the bytes of its text.
-use Rattle.std.proofs.Common.{◌≡◌, ◌⊎◌, ◌<◌, ◌≤◌, ◌+◌, ◌-◌, ℕ, Bool, true, false, List, [], ◌∷◌, ◌++◌, length, get_or, take, drop, Option, Some, None, refl, sym, ap, subst, ◌∙◌, inl, inr, ⊎_elim, arith, length-append, append_assoc}
-use Rattle.std.proofs.lemmas.List.{append-nil, append_cancel_left, drop-drop, drop_at, drop_more, get_or-append-add, get_or-drop, get_or-take, length-drop, length-take-le, same_from_push, take-append-drop, take_at, take_more}
+use Rattle.std.proofs.Common.{◌≡◌, ◌⊎◌, ◌<◌, ◌≤◌, ◌+◌, ◌-◌, ℕ, true, List, [], ◌∷◌, ◌++◌, length, get_or, take, drop, refl, sym, ap, subst, ◌∙◌, inl, inr, ⊎_elim, arith}
+use Rattle.std.proofs.lemmas.List.{drop-drop, drop_more, get_or-drop, get_or-take, length-drop, length-take-le, same_from_push, take-append-drop, take_more}
 use Rattle.std.proofs.lemmas.Bool.{false≢true, false_from_ne_true, cases_lt, eqb-true, or_cases}
 use Rattle.std.specs.Str.{chars, IsUtf8, IsCharBoundary}
 use Rattle.std.proofs.lemmas.Str.{chars-append, chars-nil, IsUtf8-take, IsUtf8-drop, IsUtf8-between, IsCharBoundary-start, IsCharBoundary-before_ascii, IsCharBoundary-after_ascii}
 use lib.Utf8.{encode}
 use Rattle.memchr.specs.Find.{is_byte2, Passes, Nowhere, NoneAfter}
-use Rattle.lsp_text.specs.Lines.{Line, open_line, text_of, spelled, lines_of, before_line, starts_with_feed, has_no_line_end, is_feed, is_return, EndsWith, EndsWithLineEnd, AreJoined}
-use Rattle.lsp_text.specs.Steps.{line_at}
-use Rattle.lsp_text.specs.Difference.{line_number_at, line_around, line_before_place}
+use Rattle.lsp_text.specs.Lines.{Line, lines_of, before_line, starts_with_feed, has_no_line_end, is_feed, is_return, AreJoined}
 use Rattle.lsp_text.specs.Parting.{IsInsideEnd, IsSearchEnd, IsLineStart}
-use Rattle.lsp_text.proofs.Cuts.{HasFirst, lines_of-HasFirst, lines_of-whole, text_of-append}
+use Rattle.lsp_text.proofs.Cuts.{HasFirst, lines_of-HasFirst, lines_of-whole}
 use Rattle.lsp_text.proofs.LineBytes.{ends, ascii_from_end, starts_with_feed-text, has_no_line_end-text}
-use Rattle.lsp_text.proofs.Positions.{text_of-lines_of}
 use Rattle.lsp_text.proofs.Recut.{lines_are_joined}
 
 -- ---- how many lines a text has

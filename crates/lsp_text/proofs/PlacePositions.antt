@@ -1,11 +1,10 @@
 -- The position of a place denotes it, unless it lies between a CR and a LF.
-use Rattle.std.proofs.Common.{◌≡◌, ◌<◌, ◌≤◌, ◌+◌, ◌-◌, ◌^◌, ℕ, true, false, List, [], ◌∷◌, ◌++◌, length, take, drop, min, zero, suc, refl, sym, ap, subst, ◌∙◌, inl, inr, ⊎_elim, arith, length-append, append_assoc}
-use Rattle.std.proofs.lemmas.List.{append-nil, drop-append-le, drop-drop, drop_at, take-append-le, take_at, drop-take}
+use Rattle.std.proofs.Common.{◌≡◌, ◌<◌, ◌≤◌, ◌+◌, ◌-◌, ℕ, true, false, List, [], ◌∷◌, ◌++◌, length, take, drop, zero, suc, refl, sym, ap, subst, ◌∙◌, inl, inr, ⊎_elim, arith, length-append, append_assoc}
+use Rattle.std.proofs.lemmas.List.{drop-append-le, drop-drop, drop_at, take-append-le, take_at, drop-take}
 use Rattle.std.proofs.lemmas.Bool.{cases_lt}
-use Rattle.lsp_types.specs.declared.position.Encoding.{Encoding}
 use Rattle.lsp_text.specs.Lines.{Line, open_line, text_of, spelled, lines_of, has_no_line_end, is_feed, is_return, IsEndBefore, AreEnded, IsCut}
-use Rattle.lsp_text.specs.Places.{units, Denotes, IsPlaceInLine}
-use Rattle.lsp_text.specs.Difference.{line_number_at, line_before_place, position_at, LiesInsideEnd, PlacesHavePositions}
+use Rattle.lsp_text.specs.Places.{units}
+use Rattle.lsp_text.specs.Difference.{line_number_at, line_before_place, LiesInsideEnd, PlacesHavePositions}
 use Rattle.lsp_text.proofs.Cuts.{IsCut-lines_of, lines_of-end, lines_of-ended, lines_of-no_end, text_of-append, whole_parts}
 use Rattle.lsp_text.proofs.LineStarts.{count-whole}
 use Rattle.lsp_text.proofs.Positions.{text_of-lines_of}

@@ -3,7 +3,7 @@
 //! [`TextStore`] says what a store of a text is, and [`change`] and [`change_all`] make the changes of
 //! a `textDocument/didChange` in any of them. [`Plain`] keeps a text in one `String`. [`Lined`] keeps
 //! its lines, and an edit touches no others than those of its span and the one before. [`measure`]
-//! counts characters and units of UTF-16.
+//! counts characters and units of UTF-16, and [`first_difference`] tells where two texts first differ.
 #![tactic(auto)]
 
 mod changes;

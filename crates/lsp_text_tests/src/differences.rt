@@ -36,7 +36,11 @@ fn told(alloc: Global, held: &str, other: &str) -> Option<String> {
     let chars = first_difference(held, other, third)?;
     let at = bytes.at;
     let columns = (at.column, pairs.at.column, chars.at.column);
-    format!(in alloc; "{} {} {} {} {:?} {:?}", at.line, columns.0, columns.1, columns.2, bytes.held, bytes.other).ok()
+    format!(in alloc;
+        "{} {} {} {} {:?} {:?}",
+        at.line, columns.0, columns.1, columns.2, bytes.held, bytes.other
+    )
+    .ok()
 }
 
 /// Lines and the last one of two texts that are the same for longer than is compared at once.

@@ -1,4 +1,4 @@
-use Rattle.std.proofs.Common.{◌≡◌, ◌-◌, ◌^◌, ℕ, length, take, drop, min, arith, ap, ◌∙◌}
+use Rattle.std.proofs.Common.{◌≡◌, ◌-◌, ◌^◌, ℕ, length, take, min, arith, ap, ◌∙◌}
 use Rattle.std.specs.Str.{chars}
 use Rattle.lsp_types.specs.declared.position.Position.{Position}
 use Rattle.lsp_text.specs.Lines.{lines_of}

@@ -1,4 +1,4 @@
-use Rattle.std.proofs.Common.{◌+◌, ◌++◌, take, drop, take-add, arith, refl, ap, sym, ◌∙◌}
+use Rattle.std.proofs.Common.{◌++◌, take, drop, take-add, arith, refl, ap, sym, ◌∙◌}
 use Rattle.lsp_text.proofs.difference.same_blocks.Goals as goal
 
 pub loop-at-preserved : goal.loop-at-preserved
