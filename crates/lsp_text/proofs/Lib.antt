@@ -25,3 +25,8 @@ pub mod RunPlaces
 pub mod Groups
 pub mod Tables
 pub mod Spans
+pub mod Differences
+pub mod WorkedDifferences
+pub mod LineStarts
+pub mod LinePlaces
+pub mod PlacePositions

@@ -24,3 +24,5 @@ pub mod Rewriting
 pub mod Steps
 pub mod Spots
 pub mod Counted
+pub mod Difference
+pub mod Parting

@@ -1,5 +1,6 @@
 //! Laws of the definitions. Each function has no code: its contract is the law.
 
+ghost use Rattle.lsp_text.specs.Difference.{OneDifference, PlacesHavePositions};
 ghost use Rattle.lsp_text.specs.Lines.{LinesAreTheCut, LinesOfJoined};
 ghost use Rattle.lsp_text.specs.Places.{PlacesAreDenoted, OnePlaceAtMost, NoneInsideLineEnd, CharactersDenote};
 
@@ -33,4 +34,15 @@ pub fn line_ends_are_whole()
 /// Where columns count characters (UTF-32), each position denotes a place.
 pub fn characters_denote()
     ensures { CharactersDenote }
+{}
+
+/// Two texts are equal and nowhere first differ, or they first differ at exactly one place.
+pub fn one_difference()
+    ensures { OneDifference }
+{}
+
+/// The position of a place denotes it, unless the place lies between a CR and a LF, or the line's number or
+/// the column is past 2^32 - 1.
+pub fn places_have_positions()
+    ensures { PlacesHavePositions }
 {}

@@ -3,13 +3,14 @@
 //! [`TextStore`] says what a store of a text is, and [`change`] and [`change_all`] make the changes of
 //! a `textDocument/didChange` in any of them. [`Plain`] keeps a text in one `String`. [`Lined`] keeps
 //! its lines, and an edit touches no others than those of its span and the one before. [`measure`]
-//! counts characters and units of UTF-16.
+//! counts characters and units of UTF-16, and [`first_difference`] tells where two texts first differ.
 #![tactic(auto)]
 
 mod changes;
 mod columns;
 mod counts;
 mod cut;
+mod difference;
 mod edit;
 mod fault;
 mod lanes;
@@ -21,10 +22,11 @@ mod store;
 
 pub use changes::{change, change_all};
 pub use counts::{Counts, measure};
+pub use difference::{Difference, first_difference};
 pub use fault::TextFault;
 pub use laws::{
-    characters_denote, line_ends_are_whole, lines_are_the_cut, lines_of_joined, places_are_denoted,
-    positions_denote_one_place,
+    characters_denote, line_ends_are_whole, lines_are_the_cut, lines_of_joined, one_difference,
+    places_are_denoted, places_have_positions, positions_denote_one_place,
 };
 pub use lined::Lined;
 pub use plain::Plain;

@@ -107,8 +107,8 @@ impl TextStore for Plain {
     }
 }
 
-// The lines of a text.
-fn count_lines(text: &str) -> u64
+/// The lines of a text.
+pub(crate) fn count_lines(text: &str) -> u64
     ensures { result ≡ length (lines_of (chars text.now)) }
 {
     let mut count = 1;

@@ -4,6 +4,8 @@
 #![tactic(auto)]
 
 #[cfg(test)]
+mod differences;
+#[cfg(test)]
 mod stores;
 #[cfg(test)]
 mod texts;

@@ -108,7 +108,7 @@ fn told_after<S: TextStore>(
     format!(in alloc; "{answer:?} {}", told.as_str()).ok()
 }
 
-fn check_told(rt: &impl Abort, told: Option<String>, wanted: &str) {
+pub(super) fn check_told(rt: &impl Abort, told: Option<String>, wanted: &str) {
     assert_eq!(rt; told.as_deref(), Some(wanted));
 }
 

@@ -1,0 +1,36 @@
+-- Where two texts part, and where a line begins, in their bytes.
+use Rattle.std.specs.Prelude.{◌≡◌, ◌⊎◌, ◌<◌, ◌≤◌, ◌+◌, ◌-◌, ℕ, List, length, take, drop, slice_index}
+use Rattle.std.specs.Str.{chars, IsCharBoundary}
+use Rattle.lsp_text.specs.Lines.{lines_of, AreJoined}
+use Rattle.lsp_text.specs.Difference.{IsFirstDifference}
+
+-- the first n bytes of both are there, and the same
+pub record AreSameTo (a b : List ℕ) (n : ℕ) : Type 0 where
+  pub left : n ≤ length a
+  pub right : n ≤ length b
+  pub same : take n a ≡ take n b
+
+-- the texts first differ behind so many bytes
+pub record IsParting (a b : List ℕ) (offset : ℕ) : Type 0 where
+  pub left : IsCharBoundary a offset
+  pub right : IsCharBoundary b offset
+  pub same : take offset a ≡ take offset b
+  pub first : IsFirstDifference (chars a) (chars b) (length (chars (take offset a)))
+
+-- a CR stands before the place, and a LF behind it
+pub record IsInsideEnd (bs : List ℕ) (offset : ℕ) : Type 0 where
+  pub some : 0 < offset
+  pub more : offset < length bs
+  pub return : slice_index bs (offset - 1) ≡ 13
+  pub feed : slice_index bs offset ≡ 10
+
+-- the bytes before a place, without the CR where it lies inside a line end
+abbrev pub IsSearchEnd : List ℕ → ℕ → ℕ → Type 0
+IsSearchEnd bs offset end = (IsInsideEnd bs offset × (end + 1 ≡ offset)) ⊎ ((IsInsideEnd bs offset → ⊥) × (end ≡ offset))
+
+-- the line in which the place lies begins behind `start` bytes: as many lines follow from there as from the place
+pub record IsLineStart (bs : List ℕ) (offset start : ℕ) : Type 0 where
+  pub within : start ≤ offset
+  pub boundary : IsCharBoundary bs start
+  pub lines : AreJoined (chars (take start bs)) (chars (drop start bs))
+  pub inside : length (lines_of (chars (drop start bs))) ≡ length (lines_of (chars (drop offset bs)))
