@@ -65,8 +65,8 @@ def yes(messages, snapshots, lines):
     return (head + "encoding utf-16 sync incremental\n" + "".join(f"{line}\n" for line in lines)).encode()
 
 
-def many_documents(count=1000):
-    """Documents that are opened in order, of which every third is closed and some are opened again."""
+def many_documents(count=2000):
+    """Documents that are opened in order, of which every third is closed and some are opened again: 1,400 are left."""
     log, held, sent = [START], {}, 2
     for number in range(count):
         held[f"file:///{number}"] = (number, f"text {number}\n")
@@ -82,8 +82,8 @@ def many_documents(count=1000):
     return b"".join(log), yes((sent, 1), (0, 0), lines)
 
 
-def many_requests(count=1000):
-    """Requests of both sides, answered in another order; some are cancelled, and some stay open."""
+def many_requests(count=2400):
+    """Requests of both sides, answered in another order; some are cancelled, and 1,200 of each side stay open."""
     log, numbers = [START], list(range(10, 10 + count))
     for number in numbers:
         log.append(message(b"E", id=number, method="textDocument/hover", params={}))
@@ -187,11 +187,11 @@ def padded(size):
 
 
 def small():
-    """Sessions of a thousand of each kind, and of records of the greatest size."""
+    """Sessions of more than a thousand of each kind, and of records of the greatest size."""
     for name, (log, report) in [
-        ("a thousand documents", many_documents()),
-        ("a thousand requests", many_requests()),
-        ("a thousand snapshots", many_snapshots()),
+        ("many documents", many_documents()),
+        ("many requests", many_requests()),
+        ("many snapshots", many_snapshots()),
     ]:
         yield name, ["check"], log, 0, report, b""
         yield name, ["normal"], log, 0, log, b""

@@ -222,6 +222,31 @@ fn a_header_part_has_at_most_4096_bytes(rt: HostRuntime) {
     check_streams(&rt, rt.alloc(), &rows);
 }
 
+/// A frame whose content has so many bytes, and the first two of another frame behind it.
+fn long_content(alloc: Global, bytes: usize) -> Result<Vec<u8>, AllocError> {
+    let head = format!(in alloc; "Content-Length: {bytes}\r\n\r\n")?;
+    let mut stream = Vec::from_slice(alloc, head.as_bytes())?;
+    stream.resize(stream.len().saturating_add(bytes), b'a')?;
+    stream.extend_from_slice(b"Co")?;
+    Ok(stream)
+}
+
+/// Pushes a content of three million bytes, and two more, in pieces of this length.
+fn check_long(rt: &impl Abort, alloc: Global, stream: &[u8], step: usize)
+    requires { 0 < step }
+{
+    let told = told_of(alloc, stream, step);
+    assert!(rt; told.as_deref() == Some("3000000 fault 107"), "by {step}");
+}
+
+#[test]
+fn a_piece_has_any_length(rt: HostRuntime) {
+    let stream = long_content(rt.alloc(), 3000000).expect(&rt, "memory");
+    check_long(&rt, rt.alloc(), stream.as_slice(), 4000000);
+    check_long(&rt, rt.alloc(), stream.as_slice(), 1500000);
+    check_long(&rt, rt.alloc(), stream.as_slice(), 65536);
+}
+
 const CONTENT: &[u8] =
     b"{\"jsonrpc\":\"2.0\",\"id\":1,\"method\":\"initialize\",\"params\":{\"capabilities\":{}}}";
 

@@ -440,63 +440,67 @@ fn measures_every_prefix(rt: HostRuntime) -> Result<(), Fail> {
     Ok(())
 }
 
-/// The steps of a new store of a text, whether it takes an edit, and its steps and those of a copy then.
-fn steps_of(
-    alloc: Global,
-    text: &str,
-    held: Span,
-    inserted: &str,
-) -> Option<(u64, bool, u64, u64)> {
+/// A text, a span, what is inserted there, and what a store tells of its steps: those before the edit, the
+/// answer, those behind it, and those of a copy. An edit is lent the line of its first position and, where
+/// that is another one, the line of its second; where it brings or takes away a line end, or leaves nothing
+/// in its line, also the line before. To the bytes of these, line ends included, those inserted are added.
+const STEPS: [Edit; 14] = [
+    ("abcdefghi\nx", (0, 4), (0, 4), "xyz", "0 Ok(()) 13 0"),
+    ("abcdefghi\nx", (0, 2), (0, 5), "", "0 Ok(()) 20 0"),
+    ("abcdefghi\nx", (0, 2), (0, 5), "xyz", "0 Ok(()) 23 0"),
+    ("abcdefghi\nx", (7, 0), (7, 0), "y", "0 Ok(()) 2 0"),
+    ("漢字", (0, 1), (0, 1), "é", "0 Ok(()) 8 0"),
+    ("ab\ncd\nef\n", (0, 1), (1, 1), "", "0 Ok(()) 6 0"),
+    ("ab\ncd\nef\n", (1, 1), (2, 1), "x", "0 Ok(()) 10 0"),
+    ("ab\ncd\nef\ngh", (1, 0), (3, 1), "xyz\n", "0 Ok(()) 12 0"),
+    ("ab\ncdef\ng", (1, 2), (1, 2), "\n", "0 Ok(()) 9 0"),
+    ("a\nb\n", (1, 0), (1, 1), "", "0 Ok(()) 6 0"),
+    ("a\r", (1, 0), (1, 0), "\n", "0 Ok(()) 3 0"),
+    ("a\rb\n", (1, 0), (1, 1), "", "0 Ok(()) 6 0"),
+    ("ab", (0, 2), (0, 1), "x", "0 Err(Rule(606)) 4 0"),
+    ("\u{1F600}", (0, 1), (0, 2), "x", "0 Err(Rule(605)) 4 0"),
+];
+
+/// What a store of a text tells of its steps before an edit and behind it.
+fn counted(alloc: Global, edit: &Edit) -> Option<String> {
+    let (text, first, second, inserted, _) = edit;
     let mut store = Lined::from_text(alloc, text).ok()?;
     let before = store.steps();
-    let is_done = store
-        .replace(Encoding::Utf16, held, inserted, 100000)
-        .is_ok();
+    let answer = store.replace(Encoding::Utf16, span(*first, *second), inserted, 100000);
     let copy = store.copy(alloc).ok()?;
-    Some((before, is_done, store.steps(), copy.steps()))
-}
-
-/// An edit of a text takes no less and no more steps than this.
-fn check_steps(
-    rt: &impl Abort,
-    alloc: Global,
-    text: &str,
-    held: Span,
-    inserted: &str,
-    wanted: (bool, u64, u64),
-) {
-    let (done, least, most) = wanted;
-    let (before, is_done, steps, copied) = steps_of(alloc, text, held, inserted).expect(
-        rt, "memory",
-    );
-    assert!(rt;
-        before == 0 && copied == 0 && is_done == done,
-        "{steps} steps"
-    );
-    assert!(rt; least <= steps && steps <= most, "{steps} steps");
+    format!(in alloc; "{before} {answer:?} {} {}", store.steps(), copy.steps()).ok()
 }
 
 #[test]
-fn counts_what_it_touches(rt: HostRuntime) -> Result<(), Fail> {
-    let alloc = rt.alloc();
-    check_steps(&rt, alloc, "a\r", span((1, 0), (1, 0)), "\n", (true, 1, 12));
-    check_steps(
-        &rt,
-        alloc,
-        "a\rb\n",
-        span((1, 0), (1, 1)),
-        "",
-        (true, 0, 16),
-    );
-    check_steps(&rt, alloc, "ab", span((0, 2), (0, 1)), "x", (false, 0, 12));
-    let long = "ab\n".repeat(alloc, 10000)?;
-    check_steps(
-        &rt,
-        alloc,
-        long.as_str(),
-        span((5000, 1), (5000, 1)),
-        "x",
-        (true, 1, 28),
-    );
-    Ok(())
+fn counts_each_byte_lent_or_inserted_once(rt: HostRuntime) {
+    for edit in &STEPS {
+        check_told(&rt, counted(rt.alloc(), edit), edit.4);
+    }
+}
+
+/// Types so many letters, each in front of the last, and tells the steps behind each; then puts a whole new text
+/// there, which adds none.
+fn tell_typed(store: &mut Lined, told: &mut String, line: u32, letters: u32) -> Option<()> {
+    let held = span((line, 1), (line, 1));
+    for _ in 0..letters {
+        store.replace(Encoding::Utf16, held, "x", 100000).ok()?;
+        write!(told, "{} ", store.steps()).ok()?;
+    }
+    store.replace_all("abc", 100000).ok()?;
+    write!(told, "{}", store.steps()).ok()
+}
+
+/// What a store of a text tells of its steps where letters are typed in a line.
+fn typed(alloc: Global, text: &str, line: u32, letters: u32) -> Option<String> {
+    let mut store = Lined::from_text(alloc, text).ok()?;
+    let mut told = String::new(alloc);
+    tell_typed(&mut store, &mut told, line, letters)?;
+    Some(told)
+}
+
+#[test]
+fn steps_add_up(rt: HostRuntime) {
+    check_told(&rt, typed(rt.alloc(), "ab", 0, 3), "3 7 12 12");
+    let long = "ab\n".repeat(rt.alloc(), 10000).expect(&rt, "memory");
+    check_told(&rt, typed(rt.alloc(), long.as_str(), 5000, 3), "4 9 15 15");
 }

@@ -1,0 +1,123 @@
+//! A judge that is asked for its verdict more than once.
+use lsp_judge::{Judge, Limits, Verdict, report_of};
+use lsp_log::Record;
+use lsp_rpc::Side;
+use lsp_text::Lined;
+use std::alloc::Global;
+use std::process::Abort;
+
+fn tell_verdict(alloc: Global, told: &mut Vec<u8>, verdict: &Verdict) -> Option<()> {
+    let report = report_of(alloc, verdict).ok()?;
+    told.extend_from_slice(report.as_slice()).ok()
+}
+
+/// Adds the report of the verdict on what the judge took.
+fn tell_finish(alloc: Global, judge: &mut Judge<Lined>, told: &mut Vec<u8>) -> Option<()> {
+    let verdict = judge.finish().ok()?;
+    tell_verdict(alloc, told, &verdict)
+}
+
+/// Takes bytes of the editor, and adds the report of the answer, if there is one.
+fn tell_take(
+    alloc: Global,
+    judge: &mut Judge<Lined>,
+    told: &mut Vec<u8>,
+    bytes: &[u8],
+) -> Option<()> {
+    let record = Record::Bytes {
+        side: Side::Editor,
+        bytes: Vec::from_slice(alloc, bytes).ok()?,
+    };
+    match judge.take(record).ok()? {
+        Some(verdict) => tell_verdict(alloc, told, &verdict),
+        None => Some(()),
+    }
+}
+
+/// Takes the records, and adds the report of the verdict twice: before the first and behind each.
+fn tell_all(
+    alloc: Global,
+    judge: &mut Judge<Lined>,
+    told: &mut Vec<u8>,
+    records: &[&[u8]],
+) -> Option<()> {
+    tell_finish(alloc, judge, told)?;
+    tell_finish(alloc, judge, told)?;
+    for bytes in records {
+        tell_take(alloc, judge, told, bytes)?;
+        tell_finish(alloc, judge, told)?;
+        tell_finish(alloc, judge, told)?;
+    }
+    Some(())
+}
+
+/// The same on a new judge.
+fn tell_new(alloc: Global, told: &mut Vec<u8>, records: &[&[u8]]) -> Option<()> {
+    let mut judge = Judge::new(alloc, Limits::profile());
+    tell_all(alloc, &mut judge, told, records)
+}
+
+fn check_told(rt: &impl Abort, alloc: Global, records: &[&[u8]], wanted: &str) {
+    let mut told = Vec::new(alloc);
+    tell_new(alloc, &mut told, records).expect(rt, "memory");
+    assert!(rt; told.as_slice() == wanted.as_bytes(), "{wanted}");
+}
+
+const INITIALIZE: &[u8] =
+    b"Content-Length: 75\r\n\r\n{\"jsonrpc\":\"2.0\",\"id\":1,\"method\":\"initialize\",\"params\":{\"capabilities\":{}}}";
+
+/// What is said where nothing was taken, and behind that request.
+const YES: &str = "\
+yes
+messages 0 0
+snapshots 0 unmatched 0
+encoding - sync -
+yes
+messages 0 0
+snapshots 0 unmatched 0
+encoding - sync -
+yes
+messages 1 0
+snapshots 0 unmatched 0
+encoding - sync -
+request editor 1 \"initialize\"
+yes
+messages 1 0
+snapshots 0 unmatched 0
+encoding - sync -
+request editor 1 \"initialize\"
+";
+
+#[test]
+fn a_judge_is_as_before_after_yes(rt: HostRuntime) {
+    check_told(&rt, rt.alloc(), &[INITIALIZE], YES);
+}
+
+/// What is said where nothing was taken, and behind three bytes that begin a frame: once it was given, also
+/// where the rest of the frame is taken.
+const NO: &str = "\
+yes
+messages 0 0
+snapshots 0 unmatched 0
+encoding - sync -
+yes
+messages 0 0
+snapshots 0 unmatched 0
+encoding - sync -
+no 107 editor 1 event 1
+stream ends inside a frame
+no 107 editor 1 event 1
+stream ends inside a frame
+no 107 editor 1 event 1
+stream ends inside a frame
+no 107 editor 1 event 1
+stream ends inside a frame
+no 107 editor 1 event 1
+stream ends inside a frame
+";
+
+#[test]
+fn a_no_is_given_for_good(rt: HostRuntime) {
+    let records = [b"Con".as_slice(), b"tent-Length: 0\r\n\r\n"];
+    check_told(&rt, rt.alloc(), &records, NO);
+}
