@@ -20,6 +20,11 @@ def server(content):
     return b"S %d\n%s\n" % (len(frame(content)), frame(content))
 
 
+def content(record):
+    """What the one frame of a record holds."""
+    return record.partition(b"\r\n\r\n")[2][:-1]
+
+
 HEAD = b"lsp-session 1\n"
 INITIALIZE = editor('{"jsonrpc":"2.0","id":1,"method":"initialize","params":{"capabilities":{}}}')
 ANSWER = server('{"jsonrpc":"2.0","id":1,"result":{"capabilities":{"textDocumentSync":2}}}')
@@ -58,6 +63,10 @@ WHOLE_LINES = b"""1 editor request 1 "initialize"
 8 editor notification "exit"
 """
 
+# What each of its events holds.
+WHOLE_CONTENTS = [content(INITIALIZE), content(ANSWER), content(INITIALIZED), content(OPEN), b"ab"]
+WHOLE_CONTENTS += [content(SHUTDOWN), content(STOPPED), content(EXIT)]
+
 # The same with an exit too many.
 EXITS = WHOLE + EXIT
 EXITS_REPORT = b"no 406 editor 6 event 9\neditor message after exit\n"
@@ -70,6 +79,9 @@ KILLED_REPORT = b"no 407 editor 5 event 8\nexit is missing\n"
 # A rest that is no whole frame.
 REST = HEAD + b"E 3\nabc\n"
 REST_REPORT = b"no 107 editor 1 event 1\nstream ends inside a frame\n"
+
+# A header part that is none, and behind it a message of either side.
+BROKEN = HEAD + b"E 4\n\r\n\r\n\n" + EXIT + STOPPED
 
 
 def in_bytes(log):

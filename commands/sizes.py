@@ -215,6 +215,7 @@ def large():
     most = padded(CONTENT)
     log = START + cut(b"S", framed(most))
     yield "a content of the greatest size", ["check"], log, 0, yes((2, 2), (0, 0), []), b""
+    yield "a content of the greatest size", ["event", "4"], log, 0, most, b""
     yield "a content of the greatest size", ["frames"], framed(most), 0, b"1 %d\n" % CONTENT, b""
     words = b'1 %d notification "window/logMessage"\n' % CONTENT
     yield "a content of the greatest size", ["frames", "--as", "kinds"], framed(most), 0, words, b""

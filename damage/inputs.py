@@ -169,5 +169,7 @@ def case(seed):
     else:
         data = rng.choice(LOGS) if rng.random() < 0.05 else generated_log(rng)
         text = ["text", str(1 + rng.randrange(12)), rng.choice(URIS[:2])]
-        words = rng.choice([["check"], ["check"], COMPLETE, ["show"], ["normal"], ["upgrade"], ["upgrade"], text])
+        event = ["event", str(1 + rng.randrange(12))]
+        judged = [["check"], ["check"], COMPLETE, ["show"], ["upgrade"], ["upgrade"], text]
+        words = rng.choice([*judged, ["normal"], event])
     return words, damaged(rng, data)

@@ -2,7 +2,7 @@
 use Rattle.std.specs.Prelude.{ℕ, Bool, ◌||◌, List, [], ◌∷◌, ◌++◌, Option, Some, None, Result, Ok, Err, codes, nat_eq, zero, suc, if◌then◌else◌}
 use Rattle.std.specs.List.{starts_with}
 use Rattle.lsp_verdict.specs.declared.outcome.Outcome.{Outcome}
-use Rattle.lsp_verdict.specs.declared.outcome.Outcome.TheVariants.{Done, Judged, Stream, NoDocument, TooFew}
+use Rattle.lsp_verdict.specs.declared.outcome.Outcome.TheVariants.{Done, Judged, Stream, NoDocument, TooFew, NoContent, FewerEvents}
 use Rattle.lsp_verdict.specs.declared.outcome.RunFault.{RunFault}
 use Rattle.lsp_verdict.specs.declared.verdict.Verdict.{Verdict}
 use Rattle.lsp_verdict.specs.declared.verdict.Verdict.TheVariants.{Yes, No, BadLog}
@@ -63,4 +63,6 @@ hint_of (Ok (Stream frame fault)) bytes = stream_hint bytes
 hint_of (Ok Done) bytes = None
 hint_of (Ok NoDocument) bytes = None
 hint_of (Ok TooFew) bytes = None
+hint_of (Ok NoContent) bytes = None
+hint_of (Ok FewerEvents) bytes = None
 hint_of (Err fault) bytes = None

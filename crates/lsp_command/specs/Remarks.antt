@@ -5,18 +5,20 @@ use Rattle.lsp_verdict.specs.Report.{report}
 use Rattle.lsp_verdict.specs.StreamReport.{stream_report}
 use Rattle.lsp_verdict.specs.declared.outcome.Mode.TheVariants.{Canonical}
 use Rattle.lsp_verdict.specs.declared.outcome.Outcome.{Outcome}
-use Rattle.lsp_verdict.specs.declared.outcome.Outcome.TheVariants.{Done, Judged, Stream, NoDocument, TooFew}
+use Rattle.lsp_verdict.specs.declared.outcome.Outcome.TheVariants.{Done, Judged, Stream, NoDocument, TooFew, NoContent, FewerEvents}
 use Rattle.lsp_verdict.specs.declared.outcome.RunFault.{RunFault}
 use Rattle.lsp_verdict.specs.declared.outcome.RunFault.TheVariants.{Read, Write, Memory}
 use Rattle.lsp_verdict.specs.declared.verdict.Verdict.{Verdict}
 use Rattle.lsp_verdict.specs.declared.verdict.Verdict.TheVariants.{Yes}
 use Rattle.lsp_command.specs.declared.task.Task.{Task}
-use Rattle.lsp_command.specs.declared.task.Task.TheVariants.{Text, Normal, Upgrade, Frames}
+use Rattle.lsp_command.specs.declared.task.Task.TheVariants.{Text, Event, Normal, Upgrade, Frames}
 
 -- the fixed words for how a run ended
 abbrev pub remark_of : Result Outcome RunFault → Option (List ℕ)
 remark_of (Ok NoDocument) = Some (codes "no such document")
 remark_of (Ok TooFew) = Some (codes "fewer editor messages")
+remark_of (Ok NoContent) = Some (codes "no content")
+remark_of (Ok FewerEvents) = Some (codes "fewer events")
 remark_of (Ok Done) = None
 remark_of (Ok (Judged v)) = None
 remark_of (Ok (Stream frame fault)) = None
@@ -29,9 +31,10 @@ abbrev pub report_refused : Verdict → Option (List ℕ)
 report_refused (Yes s) = None
 report_refused v = Some (report (verdict_view v))
 
--- the report that stands apart from what was asked for: that of a verdict in `text` and `normal`, of one that is no Yes in `upgrade`, and that of a stream in `frames --as canonical`
+-- the report that stands apart from what was asked for: that of a verdict in `text`, `event` and `normal`, of one that is no Yes in `upgrade`, and that of a stream in `frames --as canonical`
 abbrev pub report_apart : Task → Outcome → Option (List ℕ)
 report_apart (Text number uri) (Judged v) = Some (report (verdict_view v))
+report_apart (Event number) (Judged v) = Some (report (verdict_view v))
 report_apart Normal (Judged v) = Some (report (verdict_view v))
 report_apart Upgrade (Judged v) = report_refused v
 report_apart (Frames Canonical) (Stream frame fault) = Some (stream_report frame fault)

@@ -3,12 +3,12 @@ use Rattle.std.specs.Prelude.{ℕ, Result, Ok, Err}
 use Rattle.clap.specs.declared.error.kind.ErrorKind.{ErrorKind}
 use Rattle.clap.specs.declared.error.kind.ErrorKind.TheVariants as kinds
 use Rattle.lsp_verdict.specs.declared.outcome.Outcome.{Outcome}
-use Rattle.lsp_verdict.specs.declared.outcome.Outcome.TheVariants.{Done, Judged, Stream, NoDocument, TooFew}
+use Rattle.lsp_verdict.specs.declared.outcome.Outcome.TheVariants.{Done, Judged, Stream, NoDocument, TooFew, NoContent, FewerEvents}
 use Rattle.lsp_verdict.specs.declared.outcome.RunFault.{RunFault}
 use Rattle.lsp_verdict.specs.declared.outcome.RunFault.TheVariants.{Read, Write, Memory}
 use Rattle.lsp_verdict.specs.declared.verdict.Verdict.TheVariants.{Yes, No, BadLog}
 
--- 0 yes or done, 1 no, 2 a bad log or a bad stream, 3 a read or write fault, 4 out of memory, 5 no such document or too few messages
+-- 0 yes or done, 1 no, 2 a bad log or a bad stream, 3 a read or write fault, 4 out of memory, 5 no such document or content, or too few messages or events
 abbrev pub status_of : Result Outcome RunFault → ℕ
 status_of (Ok Done) = 0
 status_of (Ok (Judged (Yes s))) = 0
@@ -17,6 +17,8 @@ status_of (Ok (Judged (BadLog number code))) = 2
 status_of (Ok (Stream frame fault)) = 2
 status_of (Ok NoDocument) = 5
 status_of (Ok TooFew) = 5
+status_of (Ok NoContent) = 5
+status_of (Ok FewerEvents) = 5
 status_of (Err Read) = 3
 status_of (Err Write) = 3
 status_of (Err Memory) = 4

@@ -7,6 +7,7 @@ use Rattle.lsp_frame.specs.Bounds.{Bounds}
 use Rattle.lsp_frame.specs.Told.{Told, KeepsBytes, Took}
 use Rattle.lsp_judge.specs.Answered.{IsReportCut}
 use Rattle.lsp_verdict.specs.Given.{verdict_view}
+use Rattle.lsp_streams.specs.Event.{IsEvent, BeginsEvent}
 use Rattle.lsp_streams.specs.Normal.{EndsNormal, BeginsNormal}
 use Rattle.lsp_verdict.specs.Complete.{IsVerdictBy}
 use Rattle.lsp_verdict.specs.Report.{report}
@@ -26,7 +27,7 @@ use Rattle.lsp_verdict.specs.declared.verdict.Summary.{Summary}
 use Rattle.lsp_verdict.specs.declared.verdict.Verdict.{Verdict}
 use Rattle.lsp_verdict.specs.declared.verdict.Verdict.TheVariants as verdicts
 use Rattle.lsp_command.specs.declared.task.Task.{Task}
-use Rattle.lsp_command.specs.declared.task.Task.TheVariants.{Check, Show, Text, Normal, Upgrade, Frames}
+use Rattle.lsp_command.specs.declared.task.Task.TheVariants.{Check, Show, Text, Event, Normal, Upgrade, Frames}
 
 -- what a source and a sink tell before a run and after it
 pub record Ports : Type 0 where
@@ -78,6 +79,14 @@ pub record ToldText (limits : Bounds) (p : Ports) (number : ℕ) (uri : List ℕ
   pub write_fault : result ≡ Err faults.Write → (text : List ℕ) × AppendsFront p.sink_before p.sink_after (encodes text)
       × Read limits p (λ log. AnswersText limits log number uri (text_is text))
 
+-- `event`: what is due for the event of the number, or after a fault what begins it
+pub record GaveEvent (limits : Bounds) (p : Ports) (number : ℕ) (result : Result Outcome RunFault) : Type 0 where
+  pub written : IfOk result (λ outcome. (out : List ℕ) × Wrote p out × Read limits p (λ log. IsEvent limits log number out outcome))
+  pub ended : result ≡ Ok outcomes.FewerEvents → IsAtEnd p.source_after.bytes
+  pub fault : OnErr result ((out : List ℕ) × Wrote p out × Read limits p (λ log. BeginsEvent limits log number out))
+  pub read_fault : result ≡ Err faults.Read → IsSilent p
+  pub memory : result ≡ Err faults.Memory → IsSilent p
+
 -- `normal`: the normal form of the log read, or after a fault what begins it
 pub record Normalized (limits : Bounds) (p : Ports) (result : Result Outcome RunFault) : Type 0 where
   pub written : IfOk result (λ outcome. (out : List ℕ) × Wrote p out × Read limits p (λ log. EndsNormal limits log out outcome))
@@ -103,6 +112,7 @@ abbrev pub Answers : Bounds → Task → Ports → Result Outcome RunFault → T
 Answers limits (Check completeness) p result = Checked completeness limits p result
 Answers limits Show p result = Showed limits p result
 Answers limits (Text number uri) p result = ToldText limits p (non_zero_u64_get number) uri.now result
+Answers limits (Event number) p result = GaveEvent limits p (non_zero_u64_get number) result
 Answers limits Normal p result = Normalized limits p result
 Answers limits Upgrade p result = Upgraded limits p result
 Answers limits (Frames mode) p result = Framed limits p mode result

@@ -42,22 +42,37 @@ pub record IsFlag (value : Option (List ℕ)) (set : Bool) : Type 0 where
 abbrev pub AsksCheck : Found → Option Task → Type 0
 AsksCheck found asked = (set : Bool) × IsFlag (one_text found (codes "complete")) set × (asked ≡ Some (tasks.Check (completeness_of set)))
 
+-- the words give this number
+abbrev pub GivesNumber : Found → ℕ → Type 0
+GivesNumber found number = (digits : List ℕ) × (one_text found (codes "number") ≡ Some digits)
+    × (number ≡ digits_value 10 (without_leading_plus digits))
+
 -- the text of a URI after the editor's message of a number, both as the words give them
 abbrev pub AsksText : Found → Task → Type 0
-AsksText found (tasks.Text number uri) = (first_value found (codes "uri") ≡ Some uri.now)
-    × ((digits : List ℕ) × (one_text found (codes "number") ≡ Some digits)
-    × (non_zero_u64_get number ≡ digits_value 10 (without_leading_plus digits)))
+AsksText found (tasks.Text number uri) = (first_value found (codes "uri") ≡ Some uri.now) × (GivesNumber found (non_zero_u64_get number))
 AsksText found (tasks.Check completeness) = ⊥
 AsksText found tasks.Show = ⊥
+AsksText found (tasks.Event number) = ⊥
 AsksText found tasks.Normal = ⊥
 AsksText found tasks.Upgrade = ⊥
 AsksText found (tasks.Frames mode) = ⊥
+
+-- what the event of a number holds, as the words give it
+abbrev pub AsksEvent : Found → Task → Type 0
+AsksEvent found (tasks.Event number) = GivesNumber found (non_zero_u64_get number)
+AsksEvent found (tasks.Check completeness) = ⊥
+AsksEvent found tasks.Show = ⊥
+AsksEvent found (tasks.Text number uri) = ⊥
+AsksEvent found tasks.Normal = ⊥
+AsksEvent found tasks.Upgrade = ⊥
+AsksEvent found (tasks.Frames mode) = ⊥
 
 -- **what the command of a name asks for**, with what was found of its arguments
 pub record HasTask (name : List ℕ) (found : Found) (asked : Option Task) : Type 0 where
   pub check : name ≡ codes "check" → AsksCheck found asked
   pub show : name ≡ codes "show" → asked ≡ Some tasks.Show
   pub text : name ≡ codes "text" → IfSome asked (AsksText found)
+  pub event : name ≡ codes "event" → IfSome asked (AsksEvent found)
   pub normal : name ≡ codes "normal" → asked ≡ Some tasks.Normal
   pub upgrade : name ≡ codes "upgrade" → asked ≡ Some tasks.Upgrade
   pub frames : name ≡ codes "frames" → asked ≡ Some (tasks.Frames (mode_of (first_value found (codes "as"))))

@@ -14,6 +14,8 @@ pub fn remark_of(ended: &Result<Outcome, RunFault>) -> Option<&'static str>
     match ended {
         Ok(Outcome::NoDocument) => Some("no such document"),
         Ok(Outcome::TooFew) => Some("fewer editor messages"),
+        Ok(Outcome::NoContent) => Some("no content"),
+        Ok(Outcome::FewerEvents) => Some("fewer events"),
         Ok(_) => None,
         Err(RunFault::Read) => Some("lspcheck: read fault"),
         Err(RunFault::Write) => Some("lspcheck: write fault"),
@@ -21,9 +23,9 @@ pub fn remark_of(ended: &Result<Outcome, RunFault>) -> Option<&'static str>
     }
 }
 
-/// The report of a fault, where it is not part of what the task writes: `text`, `normal`, `upgrade`
-/// and `frames --as canonical` write what was asked for and nothing else. Yes is no fault of a log
-/// that was upgraded.
+/// The report of a fault, where it is not part of what the task writes: `text`, `event`, `normal`,
+/// `upgrade` and `frames --as canonical` write what was asked for and nothing else. Yes is no fault of a
+/// log that was upgraded.
 ///
 /// # Errors
 /// `Memory` where memory was refused, and nothing else.
@@ -40,9 +42,10 @@ pub fn report_apart(
             Ok(Some(stream_report(alloc, *frame, *fault)?))
         }
         (Outcome::Judged(Verdict::Yes(_)), Task::Upgrade) => Ok(None),
-        (Outcome::Judged(verdict), Task::Text { .. } | Task::Normal | Task::Upgrade) => {
-            Ok(Some(report_of(alloc, verdict)?))
-        }
+        (
+            Outcome::Judged(verdict),
+            Task::Text { .. } | Task::Event { .. } | Task::Normal | Task::Upgrade,
+        ) => Ok(Some(report_of(alloc, verdict)?)),
         _ => Ok(None),
     }
 }

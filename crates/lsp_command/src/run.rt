@@ -9,8 +9,8 @@ use crate::outlet::Outlet;
 use crate::task::Task;
 use lsp_frame::{Limits, Sink, Source};
 use lsp_judge::{
-    Completeness, Outcome, RunFault, run_check, run_check_complete, run_frames, run_normal,
-    run_show, run_text, run_upgrade,
+    Completeness, Outcome, RunFault, run_check, run_check_complete, run_event, run_frames,
+    run_normal, run_show, run_text, run_upgrade,
 };
 use std::alloc::Global;
 use std::io::{Read, Write};
@@ -37,6 +37,7 @@ pub fn run_task<R: Source, W: Sink>(
         Task::Check(Completeness::Required) => run_check_complete(alloc, source, sink, limits),
         Task::Show => run_show(alloc, source, sink, limits),
         Task::Text { number, uri } => run_text(alloc, source, sink, limits, number.get(), uri),
+        Task::Event { number } => run_event(alloc, source, sink, limits, number.get()),
         Task::Normal => run_normal(alloc, source, sink, limits),
         Task::Upgrade => run_upgrade(alloc, source, sink, limits),
         Task::Frames(mode) => run_frames(alloc, source, sink, limits, mode),

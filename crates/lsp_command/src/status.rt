@@ -16,6 +16,7 @@ pub fn status_of(ended: &Result<Outcome, RunFault>) -> u8
         Err(RunFault::Read | RunFault::Write) => 3,
         Err(RunFault::Memory) => 4,
         Ok(Outcome::NoDocument | Outcome::TooFew) => 5,
+        Ok(Outcome::NoContent | Outcome::FewerEvents) => 5,
     }
 }
 

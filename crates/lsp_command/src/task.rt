@@ -12,6 +12,8 @@ pub enum Task<'a> {
     /// To write the text of the document with this URI, as it is after the editor's message of this
     /// number.
     Text { number: NonZeroU64, uri: &'a str },
+    /// To write what the event of this number holds.
+    Event { number: NonZeroU64 },
     /// To write the normal form of a log.
     Normal,
     /// To write a log again in format 2.

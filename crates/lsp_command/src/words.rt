@@ -2,7 +2,7 @@
 ghost use Rattle.std.specs.Prelude.{◌≡◌, ℕ, List, IfOk, IfSome, Some, codes, option_map};
 ghost use Rattle.clap.specs.Matches.{first_value, found_of};
 ghost use Rattle.clap.specs.declared.parser.matches.Found.{Found};
-ghost use Rattle.lsp_command.specs.Words.{Asks, AsksCheck, AsksText, completeness_of, file_of, mode_of};
+ghost use Rattle.lsp_command.specs.Words.{Asks, AsksCheck, AsksEvent, AsksText, completeness_of, file_of, mode_of};
 
 use crate::task::{Request, Task};
 use clap::error::ErrorKind;
@@ -22,19 +22,21 @@ Examples:
   lspcheck check session.log                 the verdict on a recorded session
   lspcheck show session.log | tail           the events before it
   lspcheck text 12 file:///a.c session.log   what the server should hold then
+  lspcheck event 8 session.log               the content that a verdict speaks of
   lspcheck frames --as kinds server.bin      what one raw stream is made of
 
 Exit status:
   0 yes or done        3 read or write fault
   1 no                 4 out of memory
-  2 bad log or stream  5 no such document, or fewer editor messages
+  2 bad log or stream  5 no such document or content, or fewer messages or events
                        64 words that do not parse
 
 The rules, the lines of a report and how to record a session stand in the pages
 docs/RULES.md, docs/REPORT.md and docs/LOG_FORMAT.md of the repository.";
 
-/// The greatest number of a message that can be asked for: no log has more messages than bytes.
-const MOST_MESSAGES: i64 = 1_099_511_627_776;
+/// The greatest number of a message or an event that can be asked for: no log has more of them than
+/// bytes.
+const MOST_EVENTS: i64 = 1_099_511_627_776;
 
 /// The argument that names the log.
 fn log_file<'a>(alloc: Global) -> Arg<'a> {
@@ -64,7 +66,7 @@ fn text<'a>(alloc: Global) -> Result<Command<'a>, AllocError> {
     let number = Arg::new(alloc, "number")
         .value_name("N")
         .required(true)
-        .value_parser(value_parser!(u64).range(1..=MOST_MESSAGES))
+        .value_parser(value_parser!(u64).range(1..=MOST_EVENTS))
         .help("The number of a message of the editor, from 1");
     let uri = Arg::new(alloc, "uri")
         .value_name("URI")
@@ -74,6 +76,18 @@ fn text<'a>(alloc: Global) -> Result<Command<'a>, AllocError> {
         .about("Writes the text of a document after a message of the editor")
         .arg(number)?
         .arg(uri)?
+        .arg(log_file(alloc))
+}
+
+fn event<'a>(alloc: Global) -> Result<Command<'a>, AllocError> {
+    let number = Arg::new(alloc, "number")
+        .value_name("N")
+        .required(true)
+        .value_parser(value_parser!(u64).range(1..=MOST_EVENTS))
+        .help("The number of an event, from 1");
+    Command::new(alloc, "event")
+        .about("Writes the content of one event of a recorded session")
+        .arg(number)?
         .arg(log_file(alloc))
 }
 
@@ -115,6 +129,7 @@ fn command_line<'a>(alloc: Global) -> Result<Command<'a>, AllocError> {
         .subcommand(check(alloc)?)?
         .subcommand(show(alloc)?)?
         .subcommand(text(alloc)?)?
+        .subcommand(event(alloc)?)?
         .subcommand(normal(alloc)?)?
         .subcommand(upgrade(alloc)?)?
         .subcommand(frames(alloc)?)
@@ -147,6 +162,7 @@ fn task_of<'a>(name: &str, arguments: &ArgMatches<'a>) -> Option<Task<'a>>
     ensures check { name.now ≡ codes "check" → AsksCheck (found_of arguments.now) result }
     ensures show { name.now ≡ codes "show" → result ≡ Some Task.Show }
     ensures text { name.now ≡ codes "text" → IfSome result (AsksText (found_of arguments.now)) }
+    ensures event { name.now ≡ codes "event" → IfSome result (AsksEvent (found_of arguments.now)) }
     ensures normal { name.now ≡ codes "normal" → result ≡ Some Task.Normal }
     ensures upgrade { name.now ≡ codes "upgrade" → result ≡ Some Task.Upgrade }
     ensures frames { name.now ≡ codes "frames"
@@ -158,6 +174,9 @@ fn task_of<'a>(name: &str, arguments: &ArgMatches<'a>) -> Option<Task<'a>>
         "text" => Some(Task::Text {
             number: arguments.get_one::<NonZeroU64>("number")?,
             uri: arguments.get_str("uri")?,
+        }),
+        "event" => Some(Task::Event {
+            number: arguments.get_one::<NonZeroU64>("number")?,
         }),
         "normal" => Some(Task::Normal),
         "upgrade" => Some(Task::Upgrade),

@@ -27,6 +27,14 @@ text 0 u = 64
 text -1 u = 64
 text x u = 64
 text 1 = 64
+event 8 = Event { number: 8 } None
+event +8 a.log = Event { number: 8 } Some("a.log")
+event 1099511627776 - = Event { number: 1099511627776 } None
+event 1099511627777 = 64
+event 0 = 64
+event x = 64
+event = 64
+event 1 a b = 64
 normal = Normal None
 normal a.log = Normal Some("a.log")
 normal --as lengths = 64
@@ -42,7 +50,8 @@ frames --as kinds --as kinds = 64
 other = 64
 help = 0
 --help = 0
-text --help = 0"#;
+text --help = 0
+event --help = 0"#;
 
 /// The words of a line, the program's name first.
 fn words_in(alloc: Global, line: &str) -> Option<Vec<String>> {

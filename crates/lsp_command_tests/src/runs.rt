@@ -39,6 +39,8 @@ pub(super) fn word_of(ended: &Ended) -> &'static str {
         Ok(Outcome::Stream { .. }) => "fault",
         Ok(Outcome::NoDocument) => "no-document",
         Ok(Outcome::TooFew) => "too-few",
+        Ok(Outcome::NoContent) => "no-content",
+        Ok(Outcome::FewerEvents) => "fewer-events",
         Err(RunFault::Read) => "read-fault",
         Err(RunFault::Write) => "write-fault",
         Err(RunFault::Memory) => "out-of-memory",
@@ -113,7 +115,14 @@ fn text_of(rest: &str) -> Option<(Task<'_>, &str)> {
     Some((Task::Text { number, uri }, end))
 }
 
-/// The task of a word, but for a text.
+/// The task that asks for an event, and the rest of its line.
+fn event_of(rest: &str) -> Option<(Task<'_>, &str)> {
+    let (number, end) = split_word(rest);
+    let number = number.parse::<NonZeroU64>().ok()?;
+    Some((Task::Event { number }, end))
+}
+
+/// The task of a word, but for a text or an event.
 fn task_of(word: &str) -> Option<Task<'static>> {
     match word {
         "=" => Some(Task::Check(Completeness::Ignored)),
@@ -130,11 +139,11 @@ fn task_of(word: &str) -> Option<Task<'static>> {
 
 /// The task of a line that asks for a run, and the word for how it has to end.
 fn run_of<'a>(word: &str, rest: &'a str) -> Option<(Task<'a>, &'a str)> {
-    if word == "text" {
-        return text_of(rest);
+    match word {
+        "text" => text_of(rest),
+        "event" => event_of(rest),
+        _ => Some((task_of(word)?, rest)),
     }
-    let task = task_of(word)?;
-    Some((task, rest))
 }
 
 /// Runs over a log by a reader that gives so many bytes a call.

@@ -57,6 +57,94 @@ fn the_text_after_a_message(rt: HostRuntime) {
     check_sessions(&rt, rt.alloc(), TEXTS, Limits::profile());
 }
 
+/// What each event holds, of a session whose ninth event offends and whose tenth is no message.
+const EVENT_CONTENTS: &str = r#"START
+E OPEN 1 "ab"
+T 1 "ab"
+E SH
+S RES 2
+E EX
+E EX
++ S 24\nContent-Length: 3\r\n\r\n{"x\n
+T 0 "c\nd"
+| {"jsonrpc":"2.0","id":1,"method":"initialize","params":{"capabilities":{}}}
+event 1 done
+| {"jsonrpc":"2.0","id":1,"result":{"capabilities":{"textDocumentSync":2}}}
+event 2 done
+| {"jsonrpc":"2.0","method":"textDocument/didOpen","params":{"textDocument":{"uri":"file:///a","languageId":"x","version":1,"text":"ab"}}}
+event 4 done
+| ab
+event 5 done
+| {"jsonrpc":"2.0","id":2,"result":null}
+event 7 done
+| {"jsonrpc":"2.0","method":"exit"}
+event 9 done
+| {"x
+event 10 done
+> c
+| d
+event 11 done
+event 12 fewer-events
+event 1099511627776 fewer-events"#;
+
+#[test]
+fn the_contents_of_events(rt: HostRuntime) {
+    check_sessions(&rt, rt.alloc(), EVENT_CONTENTS, Limits::profile());
+}
+
+/// Events in records of one byte, faults of the frames of each side, and logs that end before the
+/// event.
+const FEWER_EVENTS: &str = r#"CUT 1
+START
+E OPEN 1 "ab"
+T 1 "ab"
+| ab
+event 5 done
+| {"jsonrpc":"2.0","method":"initialized","params":{}}
+event 3 done
+event 6 fewer-events
+CUT 100
+HEAD
++ E 4\n\r\n\r\n\n
+S LOG
+E REQ 7
+T 1 "x"
+event 1 no-content
+| {"jsonrpc":"2.0","method":"window/logMessage","params":{"type":3,"message":"m"}}
+event 2 done
+| x
+event 3 done
++ S 2\n\r\n\n
++ S 2\n\r\n\n
+S LOG
+E REQ 7
+event 4 no-content
+event 5 fewer-events
+T 1 ""
+event 5 done
+event 6 fewer-events
+HEAD 2
++ E 3\nabc\n
+event 1 fewer-events
+HEAD
+E REQ 7
++ X\n
+| {"jsonrpc":"2.0","id":7,"method":"textDocument/hover","params":{}}
+event 1 done
+! bad log L2 record 2
+! bad record line
+event 2 bad-log
+EMPTY
++ lsp-session 9\n
+! bad log L1 record 0
+! bad first line
+event 1 bad-log"#;
+
+#[test]
+fn fewer_events(rt: HostRuntime) {
+    check_sessions(&rt, rt.alloc(), FEWER_EVENTS, Limits::profile());
+}
+
 /// The normal form of a session is the session with whole records, however it was cut; a fault ends
 /// it.
 const NORMAL_FORMS: &str = r#"START

@@ -1,10 +1,10 @@
 -- Queue by URI: what is kept and added.
-use Rattle.std.proofs.Common.{◌≡◌, ◌+◌, Bool, false, List, [], ◌∷◌, ◌++◌, filter, length, refl, sym, ap, ◌∙◌, inl, inr, arith, length-append}
+use Rattle.std.proofs.Common.{◌≡◌, ◌+◌, Bool, false, List, [], ◌∷◌, filter, length, refl, sym, ap, ◌∙◌, inl, inr, arith}
 use Rattle.std.specs.Str.{bytes_eq}
 use Rattle.lsp_docs.specs.Calls.{Bytes}
 use Rattle.lsp_docs.specs.Documents.{Version}
 use Rattle.lsp_docs.specs.State.{Queue, queue_of, keep_in, total}
-use Rattle.lsp_docs.proofs.Words.{true_or_false, uri_is, uri_same}
+use Rattle.lsp_docs.proofs.Words.{true_or_false, uri_is}
 
 pub queue-kept : (u : Bytes) (p : Version → Bool) (ns : List Queue) → queue_of u (keep_in u p ns) ≡ filter p (queue_of u ns)
 queue-kept u p [] = refl

@@ -1,8 +1,8 @@
 -- The map of the waiting snapshots beside the queues that it stands for.
-use Rattle.std.proofs.Common.{◌≡◌, ℕ, List, [], ◌∷◌, ◌++◌, ◌+◌, length, map, Option, Some, None, inl, inr, Bool, true, false, cond, refl, sym, ap, ◌∙◌, string_bytes, String, Global, filter, true≢false, subst, arith, length-append, zero, suc, ◌<◌}
+use Rattle.std.proofs.Common.{◌≡◌, ℕ, List, [], ◌∷◌, ◌++◌, ◌+◌, length, map, Option, Some, None, inl, inr, Bool, true, false, cond, refl, sym, ap, ◌∙◌, string_bytes, String, Global, filter, true≢false, subst, arith, length-append, zero, suc}
 use Rattle.std.proofs.lemmas.Option.{same_Some, none-some}
 use Rattle.std.specs.String.{string_eq}
-use Rattle.std.specs.Map.{lookup, set_value, remove_entry}
+use Rattle.std.specs.Map.{lookup, set_value}
 use Rattle.std.specs.Str.{bytes_eq}
 use Rattle.std.specs.Map.{keys_of, values_of, KeepsOthers}
 use Rattle.std.specs.Prelude.{slice_get}

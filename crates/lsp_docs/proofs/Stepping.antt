@@ -20,7 +20,7 @@ use Rattle.lsp_docs.specs.Kept.{past, last_of, kept}
 use Rattle.lsp_docs.specs.Snapshots.{is_ahead, has_number, shown_entry, waiting, versions_of}
 use Rattle.lsp_docs.specs.Missed.{missed_at}
 use Rattle.lsp_docs.specs.Rules.{rule_of, call_rule, version_rule, text_rule, differs, fits_kind, change_rule}
-use Rattle.lsp_docs.specs.State.{State, Waits, held_in, set_in, without, queue_of, reached, missed_one, Kept, kept_in, KeepsSame, KeepsOn, KeepsNone, Stands, rule_at, text_in, changed_at, early_rule, IsAdded, IsReleased, capped, SameVersions}
+use Rattle.lsp_docs.specs.State.{State, Waits, held_in, set_in, without, queue_of, reached, missed_one, Kept, kept_in, KeepsSame, KeepsOn, KeepsNone, Stands, rule_at, text_in, changed_at, early_rule, IsAdded, IsReleased, capped}
 use Rattle.lsp_docs.specs.Fault.{Names}
 use Rattle.lsp_docs.specs.Answer.{answer_of}
 use Rattle.lsp_docs.specs.declared.snapshot.Match.{Match}

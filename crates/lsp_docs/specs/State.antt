@@ -1,5 +1,5 @@
 -- What documents hold, and the calls that this stands for.
-use Rattle.std.specs.Prelude.{◌≡◌, ℕ, ℤ, ◌+◌, ◌-◌, ◌^◌, ◌≤◌, min, int_lt, List, [], ◌∷◌, ◌++◌, filter, length, Bool, false, if◌then◌else◌, not, Option, Some, None, option_to_list, Result, Ok}
+use Rattle.std.specs.Prelude.{◌≡◌, ℕ, ℤ, ◌+◌, ◌-◌, ◌^◌, ◌≤◌, min, List, [], ◌∷◌, ◌++◌, filter, length, Bool, false, if◌then◌else◌, Option, Some, None, option_to_list, Result, Ok}
 use Rattle.std.specs.Str.{bytes_eq}
 use Rattle.lsp_types.specs.declared.position.Encoding.{Encoding}
 use Rattle.lsp_types.specs.declared.change.SyncKind.{SyncKind}

@@ -1,14 +1,13 @@
 -- A content whose last bytes a source gives, and that is let go.
 use Rattle.std.proofs.Common.{◌≡◌, ℕ, ◌+◌, ◌-◌, ◌<◌, ◌≤◌, List, [], ◌∷◌, ◌++◌, length, take, drop, Option, Some, None, refl, sym, ap, subst, ◌∙◌, arith, append-nil}
-use Rattle.std.proofs.lemmas.List.{length-append, length-take, length-drop, take-append-drop, take_all}
-use Rattle.std.specs.Io.KnownBytes.{IsAtEnd}
+use Rattle.std.proofs.lemmas.List.{length-append, length-take, length-drop, take_all}
 use Rattle.lsp_frame.specs.Bounds.{Bounds}
 use Rattle.lsp_frame.specs.Header.{blank_line}
 use Rattle.lsp_frame.specs.Frame.{IsFrame}
 use Rattle.lsp_frame.specs.Start.{StartsWithHeader}
-use Rattle.lsp_frame.specs.Told.{Told, Gave, KeepsBytes, after_failure}
+use Rattle.lsp_frame.specs.Told.{Told, Gave}
 use Rattle.lsp_frame.specs.Decoder.{State, StandsFor, empty}
-use Rattle.lsp_frame.specs.Pulling.{Misses, GavePast, FailsPast, PassesAll}
+use Rattle.lsp_frame.specs.Pulling.{Misses, GavePast, PassesAll}
 use Rattle.lsp_frame.specs.declared.decoder.Missing.{Missing}
 use Rattle.lsp_frame.specs.declared.start.FrameSize.{FrameSize}
 use Rattle.lsp_frame.proofs.Frames.{frames_more, frames_push}

@@ -1,9 +1,9 @@
 -- Puts one after another.
 use Rattle.std.proofs.Common.{◌≡◌, ℕ, List, [], ◌++◌, take, drop, Result, Ok, Err, refl, sym, ap, ◌∙◌, append_assoc}
 use Rattle.std.proofs.lemmas.List.{take-append-drop}
-use Rattle.lsp_frame.specs.Told.{Told, Took, KeepsBytes, after_failure}
+use Rattle.lsp_frame.specs.Told.{Told, Took, after_failure}
 use Rattle.lsp_frame.specs.Sink.{Wrote, Stopped, Writes}
-use Rattle.lsp_frame.proofs.Telling.{took_nothing, took_then, took_kept}
+use Rattle.lsp_frame.proofs.Telling.{took_nothing, took_then}
 
 pub wrote_nothing : (a : Told) → Wrote a a []
 wrote_nothing a = record { took = took_nothing a; failures = refl }

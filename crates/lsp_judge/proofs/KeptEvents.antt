@@ -9,7 +9,7 @@ use Rattle.lsp_verdict.specs.LookBack.{first_from}
 use Rattle.lsp_verdict.specs.Shown.{kept, kept_by, kept_within}
 use Rattle.lsp_verdict.specs.Verdict.{Verdict, yes, Ending, offence, no_by, no_at, first_no, bad_log_of, rest_of, summary, verdict}
 use Rattle.lsp_verdict.proofs.Finding.{found, map_some}
-use Rattle.lsp_verdict.proofs.LookBackLemmas.{first_of-append, or_none_parts}
+use Rattle.lsp_verdict.proofs.LookBackLemmas.{first_of-append}
 use Rattle.lsp_verdict.proofs.Verdicts.{no_found}
 
 pub take_front : {A : Type 0} (xs ys : List A) → take (length xs) (xs ++ ys) ≡ xs

@@ -1,6 +1,5 @@
 -- The events of a log, heard one by one up to its verdict.
-use Rattle.std.proofs.Common.{◌≡◌, ◌<◌, ◌≤◌, ◌+◌, ◌-◌, ◌^◌, ℕ, List, [], ◌∷◌, ◌++◌, Option, Some, None, Result, Ok, Err, inl, inr, ◌⊎◌, refl, sym, ap, subst, ◌∙◌, append_assoc, append-nil, length, length-append, arith}
-use Rattle.std.specs.Prelude.{unwrap_or}
+use Rattle.std.proofs.Common.{◌≡◌, ◌<◌, ◌≤◌, ◌+◌, ◌-◌, ℕ, List, [], ◌∷◌, ◌++◌, Option, Some, None, inl, inr, ◌⊎◌, refl, sym, ap, subst, ◌∙◌, append_assoc, append-nil, length, length-append, arith}
 use Rattle.std.specs.List.{AllZip}
 use Rattle.lsp_frame.specs.Bounds.{Bounds, IsInRange}
 use Rattle.lsp_frame.specs.Told.{Told}
@@ -10,11 +9,8 @@ use Rattle.lsp_docs.specs.Terms.{Terms, terms_of}
 use Rattle.lsp_log.specs.Log.{Record, IsLog}
 use Rattle.lsp_log.specs.Reader as reader
 use Rattle.lsp_log.specs.Reader.{empty}
-use Rattle.lsp_log.specs.Records.{record_view}
 use Rattle.lsp_log.specs.declared.fault.LogCode.{LogCode}
-use Rattle.lsp_log.specs.declared.record.Record as record_code
-use Rattle.lsp_docs.specs.State.{capped}
-use Rattle.lsp_verdict.specs.Complete.{IsCompleteFinal, IsCompleteVerdict, IsFinalBy, IsVerdictBy, completed}
+use Rattle.lsp_verdict.specs.Complete.{IsCompleteVerdict, IsFinalBy, IsVerdictBy, completed}
 use Rattle.lsp_verdict.specs.Event.{Event}
 use Rattle.lsp_verdict.specs.Given.{verdict_view, as_given}
 use Rattle.lsp_verdict.specs.Laws.{merged}
@@ -22,7 +18,7 @@ use Rattle.lsp_verdict.specs.Outcome.{IsFinal, IsVerdict, Offends, format_or_one
 use Rattle.lsp_verdict.specs.Placed.{Raw, Placed, IsSession, Reads}
 use Rattle.lsp_verdict.specs.RunIo.{OfRead}
 use Rattle.lsp_verdict.specs.Shown.{kept, kept_within}
-use Rattle.lsp_verdict.specs.Verdict.{Verdict, Summary, yes, no, first_no, no_at}
+use Rattle.lsp_verdict.specs.Verdict.{Verdict, Summary, yes, no, first_no}
 use Rattle.lsp_verdict.specs.declared.completeness.Completeness.{Completeness}
 use Rattle.lsp_verdict.specs.declared.completeness.Completeness.TheVariants.{Ignored, Required}
 use Rattle.lsp_verdict.specs.declared.outcome.RunFault.{RunFault}
@@ -39,7 +35,7 @@ use Rattle.lsp_verdict.proofs.Sessions.{same_session}
 use Rattle.lsp_verdict.proofs.Verdicts.{no_found}
 use Rattle.lsp_verdict.specs.Entries as entries
 use Rattle.lsp_verdict.specs.Entries.{IsAt, HasRecords, HasFirst, IsKnown}
-use Rattle.lsp_judge.specs.Hearing.{IsHeard, IsHearing, OffendsAfter, Stops}
+use Rattle.lsp_judge.specs.Hearing.{IsHearing, OffendsAfter, Stops}
 use Rattle.lsp_judge.specs.LogEvents.{EndsAt, EndsBy, BeginsWith, SoFar, Found, BrokeOff, IsIdle, Ready}
 use Rattle.lsp_judge.specs.Rulings.{verdict_in}
 use Rattle.lsp_judge.specs.Standing as judge

@@ -1,5 +1,5 @@
 -- The events of records, heard one by one.
-use Rattle.std.proofs.Common.{◌≡◌, ◌<◌, ◌+◌, ℕ, List, [], ◌∷◌, ◌++◌, Option, Some, None, inl, inr, refl, sym, ap, subst, ◌∙◌, append_assoc, append-nil, length, arith}
+use Rattle.std.proofs.Common.{◌≡◌, ℕ, List, [], ◌∷◌, ◌++◌, Option, Some, None, inl, inr, refl, sym, ap, subst, ◌∙◌, append_assoc, append-nil}
 use Rattle.std.specs.Prelude.{map, ℤ, String, string_bytes, chars}
 use Rattle.std.specs.List.{AllZip}
 use Rattle.std.proofs.lemmas.List.{append_cancel_left}
@@ -14,17 +14,15 @@ use Rattle.lsp_session.specs.State as session
 use Rattle.lsp_docs.specs.State as docs
 use Rattle.lsp_docs.specs.Terms.{Terms, terms_of}
 use Rattle.lsp_log.specs.Log.{Record, chunk, shown}
-use Rattle.lsp_verdict.specs.Contents.{ReadsAs}
 use Rattle.lsp_verdict.specs.Drained.{IsDrained}
-use Rattle.lsp_verdict.specs.Event.{Event, message, fault, snapshot}
-use Rattle.lsp_verdict.specs.Given.{as_given}
+use Rattle.lsp_verdict.specs.Event.{Event, message, snapshot}
 use Rattle.lsp_verdict.specs.Placed.{Raw, content, broken, show, new_fault, Brings, Placed, Reads, IsSession, joined}
-use Rattle.lsp_verdict.specs.Verdict.{Verdict, first_no, no_at}
+use Rattle.lsp_verdict.specs.Verdict.{first_no, no_at}
 use Rattle.lsp_verdict.specs.declared.counts.Counts.{Counts}
-use Rattle.lsp_judge.specs.Hearing.{IsHeard, HasDue, Awaits, IsHearing, HearsNext, OffendsAfter, Stops}
-use Rattle.lsp_judge.specs.Next.{HeardOne, HeardNone, HeardNext, IsNext, StoppedNext, HeardSnapshot, turn_after}
+use Rattle.lsp_judge.specs.Hearing.{HasDue, Awaits, IsHearing, HearsNext, Stops}
+use Rattle.lsp_judge.specs.Next.{HeardNone, HeardNext, IsNext, StoppedNext, HeardSnapshot, turn_after}
 use Rattle.lsp_judge.specs.Rulings.{IsNoAt}
-use Rattle.lsp_judge.specs.Standing.{State, Follows, IsOpen, AreLimits, HasOffence, Rules}
+use Rattle.lsp_judge.specs.Standing.{State, Follows, IsOpen, AreLimits, Rules}
 use Rattle.lsp_judge.specs.declared.heard.Heard.{Heard}
 use Rattle.lsp_judge.specs.declared.heard.Heard.TheVariants.{Message, Snapshot}
 use Rattle.lsp_judge.specs.declared.heard.Turn.{Turn}

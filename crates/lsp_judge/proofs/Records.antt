@@ -1,35 +1,23 @@
 -- One more record, and for which records a judge stands.
-use Rattle.std.proofs.Common.{◌≡◌, ℕ, List, [], ◌∷◌, ◌++◌, Option, Some, None, inl, inr, refl, sym, ap, subst, ◌∙◌, append_assoc, append-nil, length, arith}
-use Rattle.std.proofs.lemmas.List.{length-append}
-use Rattle.std.specs.Prelude.{ℤ, chars, option_map, if◌then◌else◌, Bool, true, false}
-use Rattle.std.specs.List.{AllZip}
+use Rattle.std.proofs.Common.{◌≡◌, List, [], ◌++◌, Option, Some, None, refl, sym, ap, subst, ◌∙◌}
+use Rattle.std.specs.Prelude.{option_map}
 use Rattle.lsp_frame.specs.Bounds.{Bounds, IsInRange}
 use Rattle.lsp_frame.specs.Decoder as decoder
 use Rattle.lsp_frame.specs.declared.format.Format.{Format}
-use Rattle.lsp_frame.specs.Frame.{Begins, Breaks}
-use Rattle.lsp_frame.specs.Header.{blank_line}
-use Rattle.lsp_types.specs.declared.side.Side.{Side}
-use Rattle.lsp_types.specs.declared.side.Side.TheVariants.{Editor, Server}
-use Rattle.lsp_session.specs.Sent.{same_side}
 use Rattle.lsp_docs.specs.Terms.{Terms, terms_of}
-use Rattle.lsp_log.specs.Log.{Record, chunk, shown}
-use Rattle.lsp_verdict.specs.Event.{Event, snapshot}
+use Rattle.lsp_log.specs.Log.{Record}
+use Rattle.lsp_verdict.specs.Event.{Event}
 use Rattle.lsp_verdict.specs.Given.{as_given}
-use Rattle.lsp_verdict.specs.Placed.{Raw, show, Brings, PlacedAfter, IsSession, Reads, joined}
-use Rattle.lsp_judge.specs.Rulings.{IsNoAt, verdict_in}
+use Rattle.lsp_verdict.specs.Placed.{IsSession}
+use Rattle.lsp_judge.specs.Rulings.{verdict_in}
 use Rattle.lsp_judge.specs.Standing.{Follows, State, IsFitted, IsOpen, HasOffence, Rules, AreLimits, Keeps, StandsBy, Stands}
-use Rattle.lsp_verdict.specs.Drained.{IsDrained}
 use Rattle.lsp_verdict.specs.Verdict.{Verdict, no, no_at, first_no}
 use Rattle.lsp_judge.specs.declared.ruling.Ruling.{Ruling}
 use Rattle.lsp_judge.specs.declared.ruling.Ruling.TheVariants.{No, BadLog, Memory}
 use Rattle.lsp_verdict.proofs.LookBackLemmas.{first_of-more}
-use Rattle.lsp_verdict.proofs.OneEvent.{lists_join}
 use Rattle.lsp_verdict.proofs.Outcomes.{session_front}
-use Rattle.lsp_verdict.proofs.PlacedLemmas.{placed-snoc}
 use Rattle.lsp_verdict.proofs.Sessions.{some_session, same_session}
-use Rattle.lsp_verdict.proofs.Verdicts.{no_found}
-use Rattle.lsp_verdict.proofs.OneRecord.{joined_own, joined_server, joined_editor, joined_shown, session_bytes, session_shown}
-use Rattle.lsp_verdict.proofs.Drained.{drained_along, new_drained}
+use Rattle.lsp_verdict.proofs.Drained.{new_drained}
 
 -- ---- what is known once an event offends
 

@@ -1,7 +1,6 @@
 -- What a call ensures, of a result that is handed on.
-use Rattle.std.proofs.Common.{◌≡◌, ℕ, List, Option, Some, None, Result, Ok, Err, refl}
-use Rattle.std.specs.Prelude.{OnOk, IfErr, IfOk}
-use Rattle.lsp_frame.specs.Decoder.{State, pushed, pushed_at}
+use Rattle.std.proofs.Common.{Result, Ok, Err}
+use Rattle.std.specs.Prelude.{IfErr, IfOk}
 
 pub if_err : {X E : Type 0} (r : Result X E) (P Q : E → Type 0) → ((e : E) → P e → Q e) → IfErr r P → IfErr r Q
 if_err (Ok x) P Q f p = p

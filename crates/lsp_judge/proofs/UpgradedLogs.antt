@@ -1,6 +1,6 @@
 -- The records of a log, written in format 2 as the judge accepts them.
-use Rattle.std.proofs.Common.{◌≡◌, ℕ, List, [], ◌∷◌, ◌++◌, Option, Some, None, Result, Ok, Err, inl, inr, refl, sym, ap, subst, ◌∙◌, append_assoc, append-nil}
-use Rattle.std.specs.Prelude.{option_map, option_and_then}
+use Rattle.std.proofs.Common.{◌≡◌, ℕ, List, [], ◌∷◌, ◌++◌, Option, Some, None, Result, Ok, Err, refl, sym, ap, subst, ◌∙◌, append_assoc, append-nil}
+use Rattle.std.specs.Prelude.{option_map}
 use Rattle.lsp_frame.specs.Bounds.{Bounds, IsInRange, profile}
 use Rattle.lsp_frame.specs.Sink.{Wrote, Stopped}
 use Rattle.lsp_frame.specs.Told.{Told, Took, after_failure}
@@ -19,9 +19,9 @@ use Rattle.lsp_verdict.specs.Event.{Event}
 use Rattle.lsp_verdict.specs.Given.{verdict_view, as_given}
 use Rattle.lsp_verdict.specs.Outcome.{IsFinal, IsVerdict, Offends, format_or_one}
 use Rattle.lsp_verdict.specs.Placed.{IsSession}
-use Rattle.lsp_verdict.specs.RunIo.{OfRead, failures_after, source_failures, sink_failures}
+use Rattle.lsp_verdict.specs.RunIo.{OfRead, failures_after, sink_failures}
 use Rattle.lsp_verdict.specs.Upgraded.{upgraded, AreAccepted, HasAccepted, IsUpgraded, BeginsUpgraded}
-use Rattle.lsp_verdict.specs.Verdict.{Verdict, yes, first_no}
+use Rattle.lsp_verdict.specs.Verdict.{Verdict, first_no}
 use Rattle.lsp_verdict.specs.declared.outcome.Outcome.{Outcome}
 use Rattle.lsp_verdict.specs.declared.outcome.Outcome.TheVariants.{Judged}
 use Rattle.lsp_verdict.specs.declared.outcome.RunFault.{RunFault}
@@ -45,7 +45,7 @@ use Rattle.lsp_judge.specs.declared.ruling.Ruling.TheVariants.{No, BadLog, Memor
 use Rattle.lsp_judge.proofs.Answering.{as_some, judged_as}
 use Rattle.lsp_judge.proofs.Finals.{open_clean}
 use Rattle.lsp_judge.proofs.LogEvents.{ready_stands, known_self, refitted}
-use Rattle.lsp_judge.proofs.Pulling.{open_hearing, hearing_open}
+use Rattle.lsp_judge.proofs.Pulling.{open_hearing}
 use Rattle.lsp_judge.proofs.Records.{is_open}
 
 -- ---- what a judge that gave nothing knows of its records

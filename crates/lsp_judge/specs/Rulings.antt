@@ -1,6 +1,5 @@
 -- What a judge gives for good, in the words of verdicts.
-use Rattle.std.specs.Prelude.{◌≡◌, ℕ, List, Option, Some, None, Result, Ok, Err}
-use Rattle.lsp_types.specs.declared.memory.Memory as memory
+use Rattle.std.specs.Prelude.{◌≡◌, List, Option, Some, None}
 use Rattle.lsp_docs.specs.Terms.{Terms}
 use Rattle.lsp_judge.specs.declared.ruling.Ruling.{Ruling}
 use Rattle.lsp_judge.specs.declared.ruling.Ruling.TheVariants.{No, BadLog, Memory}

@@ -25,11 +25,20 @@ use lsp_verdict::{Completeness, Entry, RunFault, Verdict, next_entry};
 use std::alloc::Global;
 
 /// Reads the events of a log one by one, up to its verdict.
-#[derive(Drop)]
 pub(crate) struct EventReader {
     log: LogReader,
     judge: Judge<Lined>,
     completeness: Completeness,
+}
+
+impl Drop for EventReader {
+    fn drop(self) {
+        let EventReader {
+            log: _,
+            judge: _,
+            completeness: _,
+        } = self;
+    }
 }
 
 /// What a log has next.

@@ -117,11 +117,26 @@ impl<S: TextStore> Events<S> {
             → Refuses side content.now self.old.docs.terms events fault) }
     {
         let spoken = spoken_in(alloc, &self.session, &mut self.messages, side, content)?;
+        self.follow(side, &spoken)?;
+        Ok(spoken.message)
+    }
+
+    /// Admits the message that a content is, and takes over what it says of a document.
+    fn follow(&mut self, side: Side, spoken: &Spoken) -> Result<(), Fault>
+        ensures terms { self.new.docs.terms ≡ self.old.docs.terms }
+        ensures counts { self.new.counts ≡ self.old.counts }
+        ensures ok { OnOk result ((content : List ℕ) (events : List Event) → Says self.old.session side content (message_view spoken.now.message) (act_view spoken.now.act)
+            → Holds self.old.session self.old.docs events
+            → Hears side content (message_view spoken.now.message) self.old.docs.terms self.new.session self.new.docs events) }
+        ensures rule { IfErr result (λ fault. (content : List ℕ) (events : List Event) → Says self.old.session side content (message_view spoken.now.message) (act_view spoken.now.act)
+            → Holds self.old.session self.old.docs events
+            → Refuses side content self.old.docs.terms events fault) }
+    {
         let encoding = self.session.encoding().unwrap_or(Encoding::Utf16);
         let kind = self.session.sync_kind().unwrap_or(SyncKind::Nothing);
         self.session.admit(side, &spoken.message, &spoken.act)?;
         apply(&mut self.docs, encoding, kind, &spoken.act)?;
-        Ok(spoken.message)
+        Ok(())
     }
 }
 
@@ -158,7 +173,7 @@ fn read_spoken(
     Ok(Spoken { message, act })
 }
 
-/// A change of a document, where the content is one of the common form.
+/// A message that changes the documents, where the content is one of the common form.
 fn change_in(messages: &mut OutlineReader, side: Side, content: &[u8]) -> Option<Spoken>
     ensures { (session : SpecSession) → IfSome result (λ spoken. Says session side content.now (message_view spoken.message) (act_view spoken.act)) }
 {

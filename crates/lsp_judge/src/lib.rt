@@ -29,8 +29,8 @@ pub use judge::Judge;
 pub use lsp_frame::{Format, Input, Limits, Output};
 pub use lsp_log::LogCode;
 pub use lsp_streams::{
-    normal_form_keeps_events, normal_form_keeps_verdict, normal_form_stays, one_normal_form,
-    one_run, run_frames, run_normal, some_run,
+    event_is_numbered, normal_form_keeps_events, normal_form_keeps_verdict, normal_form_stays,
+    one_event, one_normal_form, one_run, run_event, run_frames, run_normal, some_event, some_run,
 };
 pub use lsp_verdict::{
     Completeness, Mode, OpenDocument, Outcome, RunFault, StreamFault, Summary, Verdict, Who,

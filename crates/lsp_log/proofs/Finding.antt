@@ -9,7 +9,7 @@ use Rattle.lsp_log.specs.Log.{spelling, with_feed, head_line, head_of, parts_of,
 use Rattle.lsp_log.specs.Tape.{Held, Taken}
 use Rattle.lsp_log.specs.Stops.{FoundAnswer, FirstAnswer}
 use Rattle.lsp_log.specs.Records.{record_view}
-use Rattle.lsp_log.specs.Reader.{State, ahead, StandsFor, Given, Gives, Tells, LacksRoom, records_with, kept_by, TellsFormat, KeepsFormat, FitsProgress, answer_of}
+use Rattle.lsp_log.specs.Reader.{State, ahead, StandsFor, Given, Gives, Tells, LacksRoom, records_with, kept_by, TellsFormat, FitsProgress, answer_of}
 use Rattle.lsp_log.specs.Ending.{Starts, started, starts, FoundFrom, FindAnswer, StartAnswer, EndAnswer, next_number}
 use Rattle.lsp_log.specs.declared.fault.LogFault.{LogFault}
 use Rattle.lsp_log.specs.declared.fault.LogFault.TheVariants as log_fault

@@ -1,8 +1,6 @@
 -- What a tape holds after it was read into and given from.
 use Rattle.std.proofs.Common.{◌≡◌, Bool, true, false, ℕ, zero, suc, ◌+◌, ◌-◌, ◌<◌, ◌≤◌, List, [], ◌∷◌, ◌++◌, length, take, drop, refl, sym, ap, subst, ◌∙◌, append_assoc, append-nil, arith}
-use Rattle.std.proofs.lemmas.List.{length-append, length-take, length-drop, take-append-le, take_at}
-use Rattle.std.proofs.lemmas.List.Edits.{take-paste}
-use Rattle.std.specs.List.{copy_within}
+use Rattle.std.proofs.lemmas.List.{length-append, length-take, length-drop, take_at}
 use borrow.Rule.Slice.PartMut.{put_mid}
 use Rattle.lsp_frame.specs.Told.{Told, after_failure}
 use Rattle.lsp_frame.proofs.Telling.{gave_nothing, gave_then}

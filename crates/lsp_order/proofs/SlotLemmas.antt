@@ -1,5 +1,5 @@
 -- Slots and the index of their keys, as keys enter and leave.
-use Rattle.std.proofs.Common.{◌≡◌, ℕ, zero, suc, ◌+◌, ◌≤◌, ◌<◌, List, [], ◌∷◌, ◌++◌, length, length-append, filter, Bool, true, false, not, ◌||◌, cond, true≢false, Option, Some, None, is_some, option_map, unwrap_or, inl, inr, ◌⊎◌, refl, sym, ap, ◌∙◌, subst, arith, take, add-one}
+use Rattle.std.proofs.Common.{◌≡◌, ℕ, zero, suc, ◌+◌, ◌≤◌, ◌<◌, List, [], ◌∷◌, ◌++◌, length, length-append, filter, Bool, true, false, not, ◌||◌, cond, true≢false, Option, Some, None, is_some, option_map, inl, inr, refl, sym, ap, ◌∙◌, subst, arith, take, add-one}
 use Rattle.std.specs.Prelude.{if◌then◌else◌, slice_get, slice_set}
 use Rattle.std.specs.Cmp.{IsEquivalence}
 use Rattle.std.specs.List.{list_any}
@@ -7,7 +7,7 @@ use Rattle.std.specs.Map.{lookup}
 use Rattle.std.specs.Option.{option_or}
 use Rattle.std.proofs.lemmas.Bool.{cases_Bool, or_parts}
 use Rattle.std.proofs.lemmas.Option.{none-some, same_Some}
-use Rattle.lsp_order.specs.Slots.{keys_in, key_at, slot_key, holds, place, renumbered, AllDiffer, ArePlaces, IsKept}
+use Rattle.lsp_order.specs.Slots.{keys_in, key_at, holds, place, renumbered, AllDiffer, ArePlaces, IsKept}
 
 -- ---- options
 

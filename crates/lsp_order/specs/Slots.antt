@@ -2,7 +2,7 @@
 use Rattle.std.specs.Prelude.{◌≡◌, ℕ, suc, List, [], ◌∷◌, length, Bool, false, if◌then◌else◌, Option, Some, None, slice_get, unwrap_or}
 use Rattle.std.specs.List.{list_any}
 use Rattle.std.specs.Map.{lookup}
-use Rattle.std.specs.Option.{option_or, option_map, option_and_then}
+use Rattle.std.specs.Option.{option_or, option_map}
 
 -- a place that was noted before, with the new place in its stead, if there is one
 abbrev pub renumbered : Option ℕ → Option ℕ → Option ℕ

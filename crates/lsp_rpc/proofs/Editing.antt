@@ -1,17 +1,11 @@
--- What a `textDocument/didChange` that is read token by token tells, member by member.
-use Rattle.std.proofs.Common.{◌≡◌, ℕ, pos, ◌^◌, ◌<◌, List, [], ◌∷◌, ◌++◌, true, false, Option, Some, None, option_map, option_and_then, codes, nat_lt, bytes_eq, refl, sym, ap, ◌∙◌, append_assoc, arith}
+-- What an object that is read token by token tells, member by member, and an array of changes, item by item.
+use Rattle.std.proofs.Common.{◌≡◌, ℕ, pos, ◌^◌, ◌<◌, List, [], ◌∷◌, ◌++◌, true, false, Option, Some, None, option_map, nat_lt, bytes_eq, refl, sym, ap, ◌∙◌, append_assoc, arith}
 use Rattle.std.proofs.lemmas.Bool.Decides.{nat_tests}
-use Rattle.serde_json.specs.Data.{Data, null, boolean, number, unsigned, string, array, object, Items, item, Members, put}
+use Rattle.serde_json.specs.Data.{Data, number, unsigned, Items, item, Members, put}
 use Rattle.serde_json.specs.Find.{get_member}
 use Rattle.serde_json.proofs.Views.{get_member-put, get_member-put_other}
-use Rattle.lsp_rpc.specs.Act.{Act}
-use Rattle.lsp_rpc.specs.Edit.{IsChange}
-use Rattle.lsp_rpc.specs.Message.{Message, notification}
-use Rattle.lsp_rpc.specs.Outline.{without_params}
-use Rattle.lsp_rpc.specs.Params.{all_of, did_change_at, act_at}
-use Rattle.lsp_rpc.specs.Reading.{IsMessage}
+use Rattle.lsp_rpc.specs.Params.{all_of}
 use Rattle.lsp_rpc.specs.Shape.{as_integer}
-use Rattle.lsp_types.specs.declared.side.Side.TheVariants.{Editor}
 use Rattle.lsp_rpc.proofs.Outlining.{differ}
 
 pub small_natural : (n : ℕ) → n < 2 ^ 31 → as_integer (number (unsigned n)) ≡ Some (pos n)
@@ -65,25 +59,3 @@ pub one_more : {X : Type 0} (shape : Data → Option X) (front : Items → Items
 one_more shape front done d x reads before rest =
     let read : all_of shape (item d rest) ≡ option_map (λ more. x ∷ more) (all_of shape rest) = rw reads in
     before (item d rest) ∙ ap (option_map (λ more. done ++ more)) read ∙ behind done x (all_of shape rest)
-
--- ---- the message
-
-of_object : (o : Option Data) (act : Act) → option_and_then did_change_at o ≡ Some act → (ms : Members) × (o ≡ Some (object ms)) × (did_change_at (object ms) ≡ Some act)
-of_object None act h = absurd (cc)
-of_object (Some null) act h = absurd (cc)
-of_object (Some (boolean b)) act h = absurd (cc)
-of_object (Some (number n)) act h = absurd (cc)
-of_object (Some (string s)) act h = absurd (cc)
-of_object (Some (array ds)) act h = absurd (cc)
-of_object (Some (object ms)) act h = (ms, refl, h)
-
-is_message : (ms params : Members) → get_member (codes "jsonrpc") ms ≡ Some (string (codes "2.0")) → get_member (codes "method") ms ≡ Some (string (codes "textDocument/didChange"))
-    → get_member (codes "id") ms ≡ None → get_member (codes "params") ms ≡ Some (object params) → IsMessage (object ms) (notification (codes "textDocument/didChange") (Some (object params)))
-is_message ms params version method id is = record { keeps_rules = rw (version, method, id, is); made = rw (method, id, is) }
-
--- the members make a notification that means the act
-pub is_change : (ms : Members) (act : Act) → IsChange ms act
-    → (whole : Message) × IsMessage (object ms) whole × (without_params whole ≡ notification (codes "textDocument/didChange") None) × (act_at Editor whole ≡ Some act)
-is_change ms act h =
-    let params = of_object (get_member (codes "params") ms) act h.2 in
-    (notification (codes "textDocument/didChange") (Some (object params.0)), is_message ms params.0 h.0 h.1 h.3 params.1, refl, params.2)

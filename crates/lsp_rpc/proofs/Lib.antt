@@ -3,5 +3,6 @@ pub mod Readings
 pub mod Skipping
 pub mod Outlining
 pub mod Editing
+pub mod Noticing
 pub mod Calls
 pub mod ShortNumerals

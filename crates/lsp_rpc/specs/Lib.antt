@@ -10,4 +10,4 @@ pub mod View
 pub mod Fault
 pub mod Laws
 pub mod Outline
-pub mod Edit
+pub mod Notice

@@ -9,7 +9,6 @@
 mod act;
 mod changes;
 mod content;
-mod did_change;
 mod documents;
 mod edits;
 mod fault;
@@ -19,6 +18,7 @@ mod laws;
 mod members;
 mod message;
 mod methods;
+mod notices;
 mod numbers;
 mod outline;
 mod params;

@@ -14,10 +14,10 @@ ghost use Rattle.lsp_rpc.specs.Words.{words_of as spec_words_of};
 
 use crate::act::Spoken;
 use crate::content::{assemble, read};
-use crate::did_change::spoken_change;
 use crate::fault::RpcFault;
 use crate::message::Message;
 use crate::methods::act_of;
+use crate::notices::spoken_change;
 use crate::numbers::natural_of;
 use crate::parts::Parts;
 use crate::skip::{MAX_DEPTH, skip};
@@ -285,10 +285,10 @@ impl OutlineReader {
         }
     }
 
-    /// Reads a `textDocument/didChange` of the editor (LSP 3.17, Text Document Synchronization) with
-    /// what it means. `None` where the content is another message or none, where its members have an
-    /// uncommon form, and where memory was refused: [`read`] and [`take_act`](crate::take_act) tell
-    /// what it is.
+    /// Reads a message of the editor that changes its documents, a `textDocument/didOpen`,
+    /// `didChange` or `didClose` (LSP 3.17, Text Document Synchronization), with what it means.
+    /// `None` where the content is another message or none, where its members have an uncommon form,
+    /// and where memory was refused: [`read`] and [`take_act`](crate::take_act) tell what it is.
     pub fn read_change(&mut self, content: &[u8]) -> Option<Spoken>
         ensures { IfSome result (λ spoken. (whole : SpecMessage) × reading.Reads content.now whole
             × (message_view spoken.message ≡ without_params whole)

@@ -1,4 +1,5 @@
-//! Edits of the editor's as they are mostly sent, read from their tokens, and others, which are read whole.
+//! Messages that change documents, as they are mostly sent, read from their tokens, and others, which
+//! are read whole.
 use crate::rows::check_row;
 use lsp_rpc::{Act, Message, OutlineReader, RpcFault, Side, Spoken, act_of, read};
 use std::alloc::{AllocError, Global};
@@ -61,7 +62,7 @@ fn check_both(
 }
 
 /// Contents that `read_change` reads, and what they tell.
-const COMMON: [(&str, &str); 9] = [
+const COMMON: [(&str, &str); 13] = [
     (
         "{\"jsonrpc\":\"2.0\",\"method\":\"textDocument/didChange\",\"params\":{\"textDocument\":{\"uri\":\"file:///a\",\"version\":2},\"contentChanges\":[{\"range\":{\"start\":{\"line\":3,\"character\":4},\"end\":{\"line\":5,\"character\":6}},\"rangeLength\":0,\"text\":\"x\"}]}}",
         "DidChange { uri: \"file:///a\", version: 2, changes: [Change { span: Some(Span { first: Position { line: 3, column: 4 }, second: Position { line: 5, column: 6 } }), text: \"x\" }] } \"textDocument/didChange\"",
@@ -98,10 +99,26 @@ const COMMON: [(&str, &str); 9] = [
         "{\"json\\u0072pc\":\"2\\u002e0\",\"m\\u0065thod\":\"textDocument\\/didChange\",\"params\":{\"textDocument\":{\"\\u0075ri\":\"file:\\/\\/\\/\\u0061\",\"version\":1},\"contentChanges\":[{\"text\":\"\\ud83d\\ude00q\"}]}}",
         "DidChange { uri: \"file:///a\", version: 1, changes: [Change { span: None, text: \"😀q\" }] } \"textDocument/didChange\"",
     ),
+    (
+        "{\"jsonrpc\":\"2.0\",\"method\":\"textDocument/didOpen\",\"params\":{\"textDocument\":{\"uri\":\"file:///a\",\"languageId\":\"c\",\"version\":1,\"text\":\"one\\ntwo\\n\"}}}",
+        "DidOpen { uri: \"file:///a\", version: 1, text: \"one\\ntwo\\n\" } \"textDocument/didOpen\"",
+    ),
+    (
+        "{\"params\":{\"x\":1,\"textDocument\":{\"text\":\"\",\"version\":2147483647,\"x\":[{}],\"uri\":\"\",\"text\":\"b\"}},\"jsonrpc\":\"2.0\",\"method\":\"textDocument/didOpen\"}",
+        "DidOpen { uri: \"\", version: 2147483647, text: \"b\" } \"textDocument/didOpen\"",
+    ),
+    (
+        "{\"jsonrpc\":\"2.0\",\"method\":\"textDocument/didClose\",\"params\":{\"textDocument\":{\"uri\":\"file:///a\"}}}",
+        "DidClose { uri: \"file:///a\" } \"textDocument/didClose\"",
+    ),
+    (
+        "{\"jsonrpc\":\"2.0\",\"method\":\"textDocument/didOpen\",\"method\":\"textDocument/didClose\",\"params\":{\"textDocument\":{\"uri\":\"a\",\"version\":1},\"contentChanges\":[]}}",
+        "DidClose { uri: \"a\" } \"textDocument/didClose\"",
+    ),
 ];
 
 /// Contents that are left to `read`, and what they tell.
-const UNCOMMON: [(&str, &str); 24] = [
+const UNCOMMON: [(&str, &str); 33] = [
     (
         "{\"jsonrpc\":\"2.0\",\"method\":\"textDocument/didChange\",\"params\":{\"textDocument\":{\"uri\":\"a\",\"version\":-3},\"contentChanges\":[]}}",
         "DidChange { uri: \"a\", version: -3, changes: [] } \"textDocument/didChange\"",
@@ -123,8 +140,44 @@ const UNCOMMON: [(&str, &str); 24] = [
         "Other \"textDocument/didChange\"",
     ),
     (
-        "{\"jsonrpc\":\"2.0\",\"method\":\"textDocument/didClose\",\"params\":{\"textDocument\":{\"uri\":\"a\",\"version\":1},\"contentChanges\":[]}}",
+        "{\"jsonrpc\":\"2.0\",\"method\":\"textDocument/didSave\",\"params\":{\"textDocument\":{\"uri\":\"a\",\"version\":1},\"contentChanges\":[]}}",
+        "DidSave { uri: \"a\", text: None } \"textDocument/didSave\"",
+    ),
+    (
+        "{\"jsonrpc\":\"2.0\",\"method\":\"textDocument/didOpen\",\"params\":{\"textDocument\":{\"uri\":\"a\",\"version\":-1,\"text\":\"t\"}}}",
+        "DidOpen { uri: \"a\", version: -1, text: \"t\" } \"textDocument/didOpen\"",
+    ),
+    (
+        "{\"jsonrpc\":\"2.0\",\"method\":\"textDocument/didClose\",\"params\":{\"textDocument\":{\"uri\":\"a\",\"version\":null}}}",
         "DidClose { uri: \"a\" } \"textDocument/didClose\"",
+    ),
+    (
+        "{\"jsonrpc\":\"2.0\",\"id\":1,\"method\":\"textDocument/didClose\",\"params\":{\"textDocument\":{\"uri\":\"a\"}}}",
+        "Other \"textDocument/didClose\"",
+    ),
+    (
+        "{\"jsonrpc\":\"2.0\",\"method\":\"textDocument/didOpen\",\"params\":{\"textDocument\":{\"uri\":\"a\",\"version\":1},\"text\":\"t\"}}",
+        "rule 209",
+    ),
+    (
+        "{\"jsonrpc\":\"2.0\",\"method\":\"textDocument/didOpen\",\"params\":{\"textDocument\":{\"uri\":\"a\",\"text\":\"t\"}}}",
+        "rule 209",
+    ),
+    (
+        "{\"jsonrpc\":\"2.0\",\"method\":\"textDocument/didOpen\",\"params\":{\"textDocument\":{\"version\":1,\"text\":\"t\"}}}",
+        "rule 209",
+    ),
+    (
+        "{\"jsonrpc\":\"2.0\",\"method\":\"textDocument/didClose\",\"params\":{\"textDocument\":{\"version\":1,\"text\":\"t\"}}}",
+        "rule 209",
+    ),
+    (
+        "{\"jsonrpc\":\"2.0\",\"method\":\"textDocument/didClose\",\"params\":{\"uri\":\"a\"}}",
+        "rule 209",
+    ),
+    (
+        "{\"jsonrpc\":\"2.0\",\"method\":\"textDocument/didClose\"}",
+        "rule 209",
     ),
     (
         "{\"jsonrpc\":\"2.0\",\"params\":{\"textDocument\":{\"uri\":\"a\",\"version\":1},\"contentChanges\":[]},\"method\":\"exit\"}",

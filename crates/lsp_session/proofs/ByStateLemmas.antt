@@ -1,5 +1,5 @@
 -- What a session finds by what it keeps is what the list of messages says.
-use Rattle.std.proofs.Common.{◌≡◌, ℕ, List, ◌∷◌, [], Bool, true, false, not, ◌&&◌, ◌||◌, Option, Some, None, is_some, option_and_then, refl}
+use Rattle.std.proofs.Common.{◌≡◌, ℕ, List, ◌∷◌, [], Bool, true, false, not, ◌&&◌, ◌||◌, Option, Some, None, is_some, refl}
 use Rattle.lsp_rpc.specs.Act.{Act}
 use Rattle.lsp_rpc.specs.Message.{Message}
 use Rattle.lsp_types.specs.declared.side.Side.{Side}
@@ -7,7 +7,7 @@ use Rattle.lsp_types.specs.declared.side.Side.TheVariants.{Editor, Server}
 use Rattle.lsp_session.specs.ByState as by_state
 use Rattle.lsp_session.specs.Handshake.{Settled, first_settled, is_done, is_empty, open_initializes, was_sent}
 use Rattle.lsp_session.specs.Lifecycle.{is_early, lifecycle_rule, reports_on}
-use Rattle.lsp_session.specs.Negotiation.{agreed, agreed_at, first_row}
+use Rattle.lsp_session.specs.Negotiation.{first_row}
 use Rattle.lsp_session.specs.Requests.{open_requests, request_rule}
 use Rattle.lsp_session.specs.Rules.{rule_after}
 use Rattle.lsp_session.specs.Sent.{Sent, is_exit, is_initialize, is_initialized, is_response, is_shutdown, other_side}

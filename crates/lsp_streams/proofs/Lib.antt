@@ -1,3 +1,4 @@
 pub mod SameLimits
 pub mod Framing
 pub mod Forming
+pub mod Seeking

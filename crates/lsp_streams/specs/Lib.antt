@@ -5,3 +5,6 @@ pub mod StreamLaws
 pub mod Normal
 pub mod NormalSteps
 pub mod NormalLaws
+pub mod Event
+pub mod EventSteps
+pub mod EventLaws

@@ -19,7 +19,7 @@ use Rattle.lsp_verdict.specs.Entries.{IsAt}
 use Rattle.lsp_verdict.specs.declared.entry.Entry.{Entry}
 use Rattle.lsp_verdict.specs.declared.entry.Entry.TheVariants as entries
 use Rattle.lsp_verdict.specs.declared.outcome.Outcome.{Outcome}
-use Rattle.lsp_verdict.specs.declared.outcome.Outcome.TheVariants.{Done, Judged, Stream, NoDocument, TooFew}
+use Rattle.lsp_verdict.specs.declared.outcome.Outcome.TheVariants.{Done, Judged, Stream, NoDocument, TooFew, NoContent, FewerEvents}
 use Rattle.lsp_verdict.specs.declared.outcome.RunFault.{RunFault}
 use Rattle.lsp_verdict.specs.declared.outcome.RunFault.TheVariants as faults
 use Rattle.lsp_verdict.specs.Given.{verdict_view, as_given}
@@ -49,6 +49,8 @@ CarriesCapped (Judged v) fault = option_map as_given fault ≡ Some (verdict_vie
 CarriesCapped (Stream frame fault) _ = ⊥
 CarriesCapped NoDocument fault = ⊥
 CarriesCapped TooFew fault = ⊥
+CarriesCapped NoContent fault = ⊥
+CarriesCapped FewerEvents fault = ⊥
 
 -- the records of these events, as they are written
 abbrev pub spelled : ℕ → List Raw → List ℕ

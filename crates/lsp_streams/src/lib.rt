@@ -1,12 +1,17 @@
-//! The runs that judge nothing: the frames of one raw stream, and the normal form of a log.
+//! The runs that judge nothing: the frames of one raw stream, the normal form of a log, and the content
+//! of one of its events.
 #![tactic(auto)]
 
+mod event;
+mod event_laws;
 mod frames;
 mod normal;
 mod normal_laws;
 mod pieces;
 mod stream_laws;
 
+pub use event::run_event;
+pub use event_laws::{event_is_numbered, one_event, some_event};
 pub use frames::run_frames;
 pub use normal::run_normal;
 pub use normal_laws::{

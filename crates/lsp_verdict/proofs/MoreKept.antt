@@ -1,5 +1,5 @@
 -- Calls that are accepted with no versions kept are accepted where some are, and come to the same.
-use Rattle.std.proofs.Common.{◌≡◌, ℕ, ◌+◌, Bool, true, false, not, List, [], ◌∷◌, ◌++◌, Option, Some, None, inl, inr, refl, sym, ap, subst, ◌∙◌, append_assoc, append-nil, arith}
+use Rattle.std.proofs.Common.{◌≡◌, ◌+◌, Bool, true, false, not, List, [], ◌∷◌, ◌++◌, Option, Some, None, refl, sym, ap, subst, ◌∙◌, append_assoc, append-nil, arith}
 use Rattle.std.specs.Prelude.{ℤ, int_lt, nat_lt, is_some, ◌&&◌, ◌||◌, if◌then◌else◌, option_to_list}
 use Rattle.std.specs.List.{list_any, list_all}
 use Rattle.std.specs.Option.{option_or}
@@ -9,12 +9,12 @@ use Rattle.std.proofs.lemmas.Int.{ints}
 use Rattle.lsp_types.specs.declared.position.Encoding.{Encoding}
 use Rattle.lsp_types.specs.declared.change.SyncKind.{SyncKind}
 use Rattle.lsp_text.specs.Edits.{Edit, applied}
-use Rattle.lsp_docs.specs.Calls.{Bytes, Call, opens, changes, closes, saves, shows, is_close, uri_of}
-use Rattle.lsp_docs.specs.Documents.{Version, versioned, is_after, is_at, opening, text_or, revised, revised_by, held_since, held, Held, as_held, held_entry, documents}
+use Rattle.lsp_docs.specs.Calls.{Bytes, Call, opens, changes, closes, saves, shows, is_close}
+use Rattle.lsp_docs.specs.Documents.{Version, versioned, is_after, is_at, opening, text_or, revised, revised_by, held_since, held, as_held, held_entry, documents}
 use Rattle.lsp_docs.specs.Kept.{last_of, kept}
 use Rattle.lsp_docs.specs.Laws.{held_rule, rises}
 use Rattle.lsp_docs.specs.Rules.{differs, first_row, version_rule, fits_kind, text_rule, show_rule, change_rule, save_rule, call_rule, AreAcceptedFrom, AreAccepted}
-use Rattle.lsp_docs.specs.Snapshots.{Shown, is_ahead, waits, shown_entry, waiting_in, waiting, versions_of, holds_number, has_number, comes_to, is_compared, unmatched_entry, unmatched_in, unmatched}
+use Rattle.lsp_docs.specs.Snapshots.{is_ahead, shown_entry, waiting_in, waiting, versions_of, holds_number, has_number, comes_to, is_compared, unmatched_entry, unmatched_in, unmatched}
 use Rattle.lsp_docs.specs.Terms.{Terms}
 use Rattle.lsp_docs.specs.Texts.{Text, byte_len}
 use Rattle.lsp_docs.proofs.Past.{nothing-past, kept-rises, rule-none_kept, compared-none_kept}

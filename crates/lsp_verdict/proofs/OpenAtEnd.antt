@@ -10,8 +10,7 @@ use Rattle.lsp_session.specs.Entry.{Entry}
 use Rattle.lsp_session.specs.Handshake.{was_sent}
 use Rattle.lsp_session.specs.Requests.{names, is_answered, open_entry, open_requests, answers, answers_request}
 use Rattle.lsp_session.specs.Sent.{Sent, same_side, request_of, request_by, answered_id, is_exit, sends}
-use Rattle.lsp_verdict.specs.BroughtToEnd.{IsAskedAt, AllAnswered, HasUnanswered, HasExit}
-use Rattle.lsp_verdict.specs.Kept.{Answers}
+use Rattle.lsp_verdict.specs.BroughtToEnd.{AllAnswered, HasUnanswered, HasExit}
 use Rattle.lsp_verdict.proofs.Below.{or_true}
 use Rattle.lsp_verdict.proofs.Finding.{same_split}
 

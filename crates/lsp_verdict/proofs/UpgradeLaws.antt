@@ -1,5 +1,5 @@
 -- What upgrade wrote: it keeps a Yes, and is its own upgrade.
-use Rattle.std.proofs.Common.{◌≡◌, ℕ, ◌+◌, ◌≤◌, Bool, List, [], ◌∷◌, ◌++◌, Option, Some, None, refl, sym, ap, subst, ◌∙◌, append_assoc, append-nil, length, length-append, arith}
+use Rattle.std.proofs.Common.{◌≡◌, ℕ, ◌≤◌, List, [], ◌∷◌, ◌++◌, Option, Some, None, refl, sym, ap, subst, ◌∙◌, append-nil, length, length-append, arith}
 use Rattle.std.specs.Prelude.{map, option_map, option_and_then}
 use Rattle.std.specs.List.{flat_map, cons_option, AllByRecursion}
 use Rattle.std.specs.Option.{option_or}
@@ -8,9 +8,7 @@ use Rattle.std.proofs.lemmas.List.{length-take}
 use Rattle.lsp_frame.specs.Bounds.{Bounds, IsInRange}
 use Rattle.lsp_frame.specs.declared.format.Format.{Format}
 use Rattle.lsp_frame.specs.declared.format.Format.TheVariants.{One, Two}
-use Rattle.lsp_session.specs.Rules.{rule_after}
 use Rattle.lsp_docs.specs.Calls.{Call}
-use Rattle.lsp_docs.specs.Documents.{documents}
 use Rattle.lsp_docs.specs.Rules.{call_rule, AreAcceptedFrom}
 use Rattle.lsp_docs.specs.Snapshots.{unmatched}
 use Rattle.lsp_docs.specs.Terms.{Terms, terms_of}
@@ -18,11 +16,11 @@ use Rattle.lsp_log.specs.Log.{Record, Fits, spelling, first_line, IsLog}
 use Rattle.lsp_log.specs.declared.fault.LogCode.{LogCode}
 use Rattle.lsp_log.proofs.OneLog.{written_is_read}
 use Rattle.lsp_verdict.specs.Calls.{call_at, calls}
-use Rattle.lsp_verdict.specs.Event.{Event, message, fault, snapshot, sent_in}
+use Rattle.lsp_verdict.specs.Event.{Event, message, fault, snapshot}
 use Rattle.lsp_verdict.specs.LookBack.{first_from, each_from}
-use Rattle.lsp_verdict.specs.Outcome.{IsFinal, IsVerdict, ending, format_or_one}
-use Rattle.lsp_verdict.specs.Upgraded.{upgraded, AreAccepted, HasAccepted, IsUpgraded, UpgradeKeepsYes, UpgradeStays}
-use Rattle.lsp_verdict.specs.Verdict.{Verdict, Summary, Ending, yes, offence, document_rule, document_of, no_by, no_at, first_no, summary, verdict}
+use Rattle.lsp_verdict.specs.Outcome.{IsFinal, ending, format_or_one}
+use Rattle.lsp_verdict.specs.Upgraded.{upgraded, AreAccepted, IsUpgraded, UpgradeKeepsYes, UpgradeStays}
+use Rattle.lsp_verdict.specs.Verdict.{Summary, Ending, yes, offence, document_rule, document_of, no_by, no_at, first_no, summary, verdict}
 use Rattle.lsp_verdict.proofs.CallsMade.{calls_accepted}
 use Rattle.lsp_verdict.proofs.Finding.{map_none}
 use Rattle.lsp_verdict.proofs.LogEnds.{head_long}

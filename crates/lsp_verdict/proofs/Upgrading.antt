@@ -1,22 +1,21 @@
 -- A log written again in format 2: that there is one such, and how it goes on.
-use Rattle.std.proofs.Common.{◌≡◌, ℕ, List, [], ◌∷◌, ◌++◌, Option, Some, None, inl, inr, refl, sym, ap, subst, ◌∙◌, append_assoc, append-nil}
+use Rattle.std.proofs.Common.{◌≡◌, List, [], ◌∷◌, ◌++◌, Option, Some, None, refl, sym, ap, subst, ◌∙◌, append_assoc, append-nil}
 use Rattle.std.specs.List.{flat_map}
 use Rattle.std.proofs.lemmas.Grind.{flat_map-append}
-use Rattle.lsp_frame.specs.Bounds.{Bounds, IsInRange}
+use Rattle.lsp_frame.specs.Bounds.{Bounds}
 use Rattle.lsp_frame.specs.declared.format.Format.{Format}
 use Rattle.lsp_frame.specs.declared.format.Format.TheVariants.{Two}
-use Rattle.lsp_docs.specs.Terms.{Terms, terms_of}
+use Rattle.lsp_docs.specs.Terms.{terms_of}
 use Rattle.lsp_log.specs.Log.{Record, spelling, first_line}
 use Rattle.lsp_verdict.specs.Event.{Event}
-use Rattle.lsp_verdict.specs.Laws.{merged}
-use Rattle.lsp_verdict.specs.Outcome.{IsVerdict, Offends, format_or_one, log_terms}
+use Rattle.lsp_verdict.specs.Outcome.{Offends, format_or_one}
 use Rattle.lsp_verdict.specs.Placed.{IsSession}
-use Rattle.lsp_verdict.specs.Upgraded.{upgraded, AreAccepted, StopsAt, HasAccepted, IsUpgraded, BeginsUpgraded, SomeUpgrade, OneUpgrade}
+use Rattle.lsp_verdict.specs.Upgraded.{upgraded, AreAccepted, StopsAt, HasAccepted, SomeUpgrade, OneUpgrade}
 use Rattle.lsp_verdict.specs.Verdict.{Verdict, first_no}
 use Rattle.lsp_verdict.proofs.Below.{one_log}
 use Rattle.lsp_verdict.proofs.Logs.{some_verdict, one_verdict}
 use Rattle.lsp_verdict.proofs.Outcomes.{session_front}
-use Rattle.lsp_verdict.proofs.Sessions.{same_session, some_session}
+use Rattle.lsp_verdict.proofs.Sessions.{some_session}
 use Rattle.lsp_verdict.proofs.Verdicts.{nothing_offends, nothing_found}
 use Rattle.lsp_verdict.proofs.LookBackLemmas.{first_of-more}
 

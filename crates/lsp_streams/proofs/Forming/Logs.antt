@@ -28,7 +28,7 @@ use Rattle.lsp_verdict.specs.Verdict.{Verdict, bad_log}
 use Rattle.lsp_verdict.specs.declared.entry.Entry.{Entry}
 use Rattle.lsp_verdict.specs.declared.entry.Entry.TheVariants as entry
 use Rattle.lsp_verdict.specs.declared.outcome.Outcome.{Outcome}
-use Rattle.lsp_verdict.specs.declared.outcome.Outcome.TheVariants.{Done, Judged, Stream, NoDocument, TooFew}
+use Rattle.lsp_verdict.specs.declared.outcome.Outcome.TheVariants.{Done, Judged, Stream, NoDocument, TooFew, NoContent, FewerEvents}
 use Rattle.lsp_verdict.specs.declared.outcome.RunFault.{RunFault}
 use Rattle.lsp_verdict.specs.declared.outcome.RunFault.TheVariants as faults
 use Rattle.lsp_verdict.specs.declared.verdict.Verdict.TheVariants as given
@@ -121,6 +121,8 @@ carried (Judged w) v carries e = absurd cc
 carried (Stream frame fault) v carries e = absurd cc
 carried NoDocument v carries e = absurd cc
 carried TooFew v carries e = absurd cc
+carried NoContent v carries e = absurd cc
+carried FewerEvents v carries e = absurd cc
 
 late_source : (fault : RunFault) (n : ℕ) → IsLate fault → n ≡ source_failures (Err fault) n
 late_source faults.Read n late = absurd late

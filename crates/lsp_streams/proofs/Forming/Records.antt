@@ -31,10 +31,10 @@ use Rattle.lsp_verdict.proofs.Drained.{drained_along, new_drained}
 
 -- ---- events of one record more
 
-placed_more : (limits : Bounds) (side : Side) (rs : List Record) (bytes : List ℕ) (raws now : List Raw) → Placed limits rs raws → Brings limits side (joined side rs) bytes now → Placed limits (rs ++ chunk side bytes ∷ []) (raws ++ now)
+pub placed_more : (limits : Bounds) (side : Side) (rs : List Record) (bytes : List ℕ) (raws now : List Raw) → Placed limits rs raws → Brings limits side (joined side rs) bytes now → Placed limits (rs ++ chunk side bytes ∷ []) (raws ++ now)
 placed_more limits side rs bytes raws now placed brings = placed-snoc limits [] [] rs (chunk side bytes) raws now placed (placed_one limits side rs bytes now brings)
 
-placed_shown : (limits : Bounds) (rs : List Record) (n : ℤ) (uri text : List ℕ) (raws : List Raw) → Placed limits rs raws → Placed limits (rs ++ shown n uri text ∷ []) (raws ++ show n uri text ∷ [])
+pub placed_shown : (limits : Bounds) (rs : List Record) (n : ℤ) (uri text : List ℕ) (raws : List Raw) → Placed limits rs raws → Placed limits (rs ++ shown n uri text ∷ []) (raws ++ show n uri text ∷ [])
 placed_shown limits rs n uri text raws placed = placed-snoc limits [] [] rs (shown n uri text) raws (show n uri text ∷ []) placed ([], refl, refl)
 
 wrote_more : (size : ℕ) (raws now : List Raw) (start mid new : Told) → first_broken raws ≡ None → Wrote start mid (spelled size raws) → Wrote mid new (spelled size now) → Wrote start new (spelled size (raws ++ now))

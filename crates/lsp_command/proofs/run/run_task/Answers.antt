@@ -37,3 +37,12 @@ returns-in-Text-clause-answers g c = rw (c.in-Text.is, ← c.get.ensures.value) 
   memory = c.run_text.ensures.memory;
   write_fault = c.run_text.ensures.write_fault;
 })
+
+pub returns-in-Event-clause-answers : goal.returns-in-Event-clause-answers
+returns-in-Event-clause-answers g c = rw (c.in-Event.is, ← c.get-in-Event.ensures.value) (record {
+  written = c.run_event.ensures.written;
+  ended = c.run_event.ensures.ended;
+  fault = c.run_event.ensures.fault;
+  read_fault = c.run_event.ensures.read_fault;
+  memory = c.run_event.ensures.memory;
+})

@@ -13,6 +13,7 @@ returns c =
           check = λ e. subst (AsksCheck (found_of c.in-Some.arguments.now)) is (c.task_of.ensures.check e);
           show = λ e. sym is ∙ c.task_of.ensures.show e;
           text = λ e. c.in-Some-task_of.ensures.text e;
+          event = λ e. c.in-Some-task_of.ensures.event e;
           normal = λ e. sym is ∙ c.task_of.ensures.normal e;
           upgrade = λ e. sym is ∙ c.task_of.ensures.upgrade e;
           frames = λ e. sym is ∙ c.task_of.ensures.frames e;

@@ -1,4 +1,4 @@
-use Rattle.std.proofs.Common.{◌∙◌, ap, sym, w32, length, filter, ◌∷◌, []}
+use Rattle.std.proofs.Common.{◌∙◌, ap, sym, w32, length, filter}
 use Rattle.std.proofs.lemmas.Int.{to_z-of_z}
 use mir.Val.{SFits}
 use Rattle.lsp_docs.specs.Stored.{text_of, versions_in}

@@ -1,8 +1,7 @@
-use Rattle.std.proofs.Common.{◌≡◌, sym, ap, ◌∙◌, true, w32}
+use Rattle.std.proofs.Common.{sym, ◌∙◌, w32}
 use Rattle.std.proofs.lemmas.Int.{to_z-of_z}
 use mir.Val.{SFits}
-use Rattle.lsp_docs.specs.Stored.{is_first_within, first_before}
-use Rattle.lsp_docs.proofs.Due.{IsDropped, dropped_next, dropped_left, dropped_count}
+use Rattle.lsp_docs.proofs.Due.{dropped_next, dropped_left, dropped_count}
 use Rattle.lsp_docs.proofs.queue.drop_until.Goals as goal
 
 pub loop-texts-preserved : goal.loop-texts-preserved

@@ -1,4 +1,3 @@
-use Rattle.std.proofs.Common.{◌∙◌}
 use Rattle.std.proofs.lemmas.Result.{err_from_is_err_and}
 use Rattle.lsp_judge.proofs.UpgradedLogs.{head_written, head_failed, one_written, one_failed, all_upgraded, broke_upgraded}
 use Rattle.lsp_judge.proofs.upgrade.upgrade_records.Goals as goal

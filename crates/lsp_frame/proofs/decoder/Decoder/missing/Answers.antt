@@ -1,6 +1,4 @@
-use Rattle.std.proofs.Common.{arith, ◌≡◌, ◌∙◌, sym, ap, length-take}
-use Rattle.std.proofs.lemmas.List.{length-drop}
-use Rattle.lsp_frame.specs.Decoder.{State}
+use Rattle.std.proofs.Common.{arith, ◌∙◌, sym}
 use Rattle.lsp_frame.proofs.Passing.{misses_at}
 use Rattle.lsp_frame.proofs.Pulls.{not_some}
 use Rattle.lsp_frame.proofs.decoder.Decoder.missing.Goals as goal

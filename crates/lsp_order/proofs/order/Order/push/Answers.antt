@@ -1,4 +1,4 @@
-use Rattle.std.proofs.Common.{◌≡◌, ◌≤◌, ◌++◌, ◌∷◌, [], length, false, sym, ap, arith, ◌∙◌, Some}
+use Rattle.std.proofs.Common.{◌++◌, ◌∷◌, [], ap, arith, ◌∙◌, Some}
 use Rattle.std.specs.List.{list_any}
 use Rattle.lsp_order.specs.Slots.{keys_in}
 use Rattle.lsp_order.proofs.SlotLemmas.{IsKept-push, keys_in-length, keys_in-push}

@@ -1,4 +1,4 @@
-use Rattle.std.proofs.Common.{◌≡◌, filter, length, not, sym, ap, subst, arith, ◌∙◌}
+use Rattle.std.proofs.Common.{filter, length, not, sym, ap, subst, arith, ◌∙◌}
 use Rattle.lsp_order.specs.Slots.{ArePlaces, keys_in, AllDiffer}
 use Rattle.lsp_order.proofs.SlotLemmas.{AllDiffer-filter, ArePlaces-removed, gone-already, keys_in-removed, one-removed, within-removed}
 use Rattle.lsp_order.proofs.order.Order.remove.Goals as goal
