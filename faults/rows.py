@@ -102,6 +102,7 @@ LOGS = {
     "a request answered": START + CANCELLED + REFUSED,
     "a request answered twice": START + CANCELLED + REFUSED + REFUSED,
     "an answer to the text 7": START + CANCELLED + answered('"7"'),
+    "an answer to null": START + CANCELLED + answered("null"),
     "a request asked twice": START + HOVER + HOVER,
     "requests of both sides": HEAD + AGREED + BEGUN + ASKED + PICKED + INITIALIZED + HOVER + REGISTERED
     + editor('{"jsonrpc":"2.0","id":"seven","result":null}') + opened(1, "é\ré\n")

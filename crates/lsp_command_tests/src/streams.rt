@@ -53,6 +53,35 @@ show bad-log
 normal bad-log
 ! bad log L1 record 0
 ! bad first line
+text 3 file:///a bad-log
+> bad log L1 record 0
+> bad first line
+complete bad-log
+> lsp-session 2
+! bad log L1 record 0
+! bad first line
+upgrade bad-log
+EMPTY
++ Content-Length: 10\r\n\r\n{"a":"é"}
+> bad log L1 record 0
+> bad first line
+= bad-log
+> bad log L1 record 0
+> bad first line
+complete bad-log
+> bad log L1 record 0
+> bad first line
+show bad-log
+> lsp-session 1
+! bad log L1 record 0
+! bad first line
+normal bad-log
+> lsp-session 2
+! bad log L1 record 0
+! bad first line
+upgrade bad-log
+! bad log L1 record 0
+! bad first line
 text 3 file:///a bad-log"#;
 
 /// Contents that are whole, and streams that end inside a frame.
