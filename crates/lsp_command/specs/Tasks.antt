@@ -63,6 +63,7 @@ pub record Showed (limits : Bounds) (p : Ports) (result : Result Outcome RunFaul
   pub judged : IfOk result (λ outcome. (v : Verdict) × (outcome ≡ outcomes.Judged v))
   pub shown : (v : Verdict) → result ≡ Ok (outcomes.Judged v)
       → (out : List ℕ) × Wrote p out × Read limits p (λ log. IsShown limits log (verdict_view v) out)
+  pub ended : (s : Summary) → result ≡ Ok (outcomes.Judged (verdicts.Yes s)) → IsAtEnd p.source_after.bytes
   pub fault : OnErr result ((out : List ℕ) × Wrote p out × Read limits p (λ log. BeginsShown limits log out))
 
 -- `text`: the text that is held for the URI after the editor's message of the number, and nothing else
