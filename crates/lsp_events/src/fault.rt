@@ -16,10 +16,7 @@ pub enum Refused {
     /// The message offends this rule, 301 to 702. Its params are left out, and the value of a result
     /// where no `initialize` is open.
     #[error("rule {rule}")]
-    Message {
-        rule: u16,
-        spoken: Spoken,
-    },
+    Message { rule: u16, spoken: Spoken },
     /// Memory was refused.
     #[error("out of memory")]
     Memory,

@@ -22,10 +22,7 @@ use std::alloc::Global;
 
 /// What the events have come to. The open documents and requests are made ready for a walk over all of
 /// them, which changes nothing that is seen.
-pub fn summary_of<S: TextStore>(
-    alloc: Global,
-    events: &mut Events<S>,
-) -> Result<Summary, Memory>
+pub fn summary_of<S: TextStore>(alloc: Global, events: &mut Events<S>) -> Result<Summary, Memory>
     ensures session { events.new.session ≡ events.old.session }
     ensures docs { events.new.docs ≡ events.old.docs }
     ensures counts { events.new.counts ≡ events.old.counts }
