@@ -12,6 +12,7 @@ mod counts;
 mod entry;
 mod interleaving_laws;
 mod laws;
+mod lines;
 mod names;
 mod offence_laws;
 mod outcome;
@@ -35,6 +36,7 @@ pub use laws::{
     one_verdict, some_final, some_session, some_upgrade, some_verdict, upgrade_keeps_yes,
     upgrade_stays, yes_means_kept,
 };
+pub use lines::Lines;
 pub use names::side_name;
 pub use offence_laws::{
     all_are_kept, first_listed, kept_are_others, kept_offend_nowhere, listed_offend,
