@@ -13,6 +13,7 @@ mod entry;
 mod interleaving_laws;
 mod laws;
 mod names;
+mod offence;
 mod offence_laws;
 mod outcome;
 mod report;
@@ -36,6 +37,7 @@ pub use laws::{
     upgrade_stays, yes_means_kept,
 };
 pub use names::side_name;
+pub use offence::{Offence, found_report, offence_report};
 pub use offence_laws::{
     all_are_kept, first_listed, kept_are_others, kept_offend_nowhere, listed_offend,
     nothing_listed, one_survey, some_survey, survey_agrees,

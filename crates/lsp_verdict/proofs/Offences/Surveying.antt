@@ -29,7 +29,7 @@ use Rattle.lsp_verdict.proofs.Below.{one_log, some_log, some_stream, one_message
 use Rattle.lsp_verdict.proofs.Completing.{one_complete_verdict}
 use Rattle.lsp_verdict.proofs.Logs.{one_verdict}
 use Rattle.lsp_verdict.proofs.LookBackLemmas.{or_none_parts}
-use Rattle.lsp_verdict.proofs.Offending.{all_are_kept, first_listed, nothing_listed}
+use Rattle.lsp_verdict.proofs.Offences.Offending.{all_are_kept, first_listed, nothing_listed}
 use Rattle.lsp_verdict.proofs.OneEvent.{one_read, some_read}
 use Rattle.lsp_verdict.proofs.Outcomes.{one_rest}
 use Rattle.lsp_verdict.proofs.PlacedLemmas.{one_placed}
