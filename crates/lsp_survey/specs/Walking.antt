@@ -27,12 +27,16 @@ use Rattle.lsp_verdict.specs.declared.verdict.Who.{Who}
 
 -- ---- what is held
 
--- **a walk has heard these events**, and passed over each that offends behind the kept ones before it
-pub record Walks (w : Walk) (notes : List Noted) : Type 0 where
-  pub holds : Holds w.events.session w.events.docs (kept_of w.events.docs.terms (events_of notes))
+-- on these terms a walk has heard these events
+pub record WalksBy (terms : Terms) (w : Walk) (notes : List Noted) : Type 0 where
+  pub holds : Holds w.events.session w.events.docs (kept_of terms (events_of notes))
   pub counted : AreCounts w.events.counts (events_of notes)
-  pub noted : (uri : List ℕ) → note_in w.notes.map.entries uri ≡ note_of w.events.docs.terms uri (events_of notes)
-  pub is_broken : w.broken ≡ is_some (first_of (broken_by w.events.docs.terms) notes)
+  pub noted : (uri : List ℕ) → note_in w.notes.map.entries uri ≡ note_of terms uri (events_of notes)
+  pub is_broken : w.broken ≡ is_some (first_of (broken_by terms) notes)
+
+-- **a walk has heard these events**, and passed over each that offends behind the kept ones before it
+abbrev pub Walks : Walk → List Noted → Type 0
+Walks w notes = WalksBy w.events.docs.terms w notes
 
 -- ---- one more event
 

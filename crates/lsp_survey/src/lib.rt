@@ -7,17 +7,11 @@
 #![tactic(auto)]
 
 mod asks;
-mod end;
 mod listing;
 mod note;
 mod offending;
 mod rules;
-mod run;
 mod said;
 mod survey;
-mod survey_reader;
-mod tally;
 mod walk;
 
-pub use listing::Listing;
-pub use run::run_survey;

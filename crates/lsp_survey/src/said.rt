@@ -1,5 +1,5 @@
 //! What messages and snapshots say of documents, and what they leave of the notes.
-ghost use Rattle.std.specs.Prelude.{◌≡◌, List, Option, Some, None, OnOk, is_none, option_map};
+ghost use Rattle.std.specs.Prelude.{◌≡◌, Some, None, OnOk, is_none, option_map, true};
 ghost use Rattle.std.specs.List.{list_any};
 ghost use Rattle.lsp_docs.specs.Calls.{Call, uri_of};
 ghost use Rattle.lsp_rpc.specs.View.{act_view};
