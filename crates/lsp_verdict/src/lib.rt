@@ -14,6 +14,7 @@ mod interleaving_laws;
 mod laws;
 mod lines;
 mod names;
+mod offence;
 mod offence_laws;
 mod outcome;
 mod report;
@@ -38,6 +39,7 @@ pub use laws::{
 };
 pub use lines::Lines;
 pub use names::side_name;
+pub use offence::{Offence, found_report, offence_report};
 pub use offence_laws::{
     all_are_kept, first_listed, kept_are_others, kept_offend_nowhere, listed_offend,
     nothing_listed, one_survey, some_survey, survey_agrees,
