@@ -4,5 +4,8 @@
 #![tactic(auto)]
 
 mod fact;
+mod lines;
+mod messages;
 
 pub use fact::Fact;
+pub use messages::{content_facts, lack_facts, session_facts};

@@ -35,7 +35,7 @@ pub use laws::{
     one_verdict, some_final, some_session, some_upgrade, some_verdict, upgrade_keeps_yes,
     upgrade_stays, yes_means_kept,
 };
-pub use names::side_name;
+pub use names::{kind_name, side_name};
 pub use offence_laws::{
     all_are_kept, first_listed, kept_are_others, kept_offend_nowhere, listed_offend,
     nothing_listed, one_survey, some_survey, survey_agrees,
