@@ -55,7 +55,7 @@ fn text_front(bytes: &[u8]) -> &str
 pub fn content_facts(alloc: Global, content: &[u8]) -> Result<Vec<Fact>, Memory>
     ensures { IfOk result (λ facts. facts_view facts.items ≡ spec.content_facts content.now) }
 {
-    let shown = content.len().min(SHOWN_BYTES);
+    let shown = SHOWN_BYTES.min(content.len());
     let text = text_front(&content[..shown]);
     only(alloc, Fact::Begins(String::from_str(alloc, text)?))
 }
