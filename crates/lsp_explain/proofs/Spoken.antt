@@ -1,5 +1,5 @@
 -- What is said of a message that was heard is what is said of the message.
-use Rattle.std.proofs.Common.{◌≡◌, ℕ, List, [], ◌∷◌, Option, refl, sym, ap, ◌∙◌}
+use Rattle.std.proofs.Common.{◌≡◌, ◌⊎◌, ℕ, List, [], ◌∷◌, Option, inl, inr, refl, sym, ap, ◌∙◌}
 use Rattle.std.specs.Prelude.{if◌then◌else◌, decimal}
 use Rattle.lsp_rpc.specs.Act.{Act}
 use Rattle.lsp_rpc.specs.Ident.{Ident}
@@ -7,7 +7,7 @@ use Rattle.lsp_rpc.specs.Message.{Message, request, notification, response, resu
 use Rattle.lsp_rpc.specs.Outline.{outline, without_params}
 use Rattle.lsp_rpc.specs.Words.{words_of}
 use Rattle.lsp_types.specs.declared.side.Side.{Side}
-use Rattle.lsp_session.specs.Handshake.{Settled, open_initializes, is_empty, phase, settled_among, settled_by}
+use Rattle.lsp_session.specs.Handshake.{Settled, open_initializes, phase, settled_among, settled_by}
 use Rattle.lsp_session.specs.OpenInitialize.{Initialize}
 use Rattle.lsp_session.specs.Sent.{Sent}
 use Rattle.lsp_verdict.specs.Offences.{is_within}
@@ -15,7 +15,6 @@ use Rattle.lsp_verdict.specs.Report.{line, side_name}
 use Rattle.lsp_verdict.specs.Shown.{message_line}
 use Rattle.lsp_explain.specs.Fact.{Fact, has_id, in_phase}
 use Rattle.lsp_explain.specs.MessageFacts.{id_in, session_facts, settled_facts, register_facts}
-use Rattle.lsp_explain.specs.Spoken.{IsSpoken}
 
 id_in-outline : (m : Message) → id_in m ≡ id_in (outline m)
 id_in-outline (request id method params) = refl
@@ -45,26 +44,29 @@ facts_by rule before id settled act =
 abbrev message_line_of : ℕ → Side → List ℕ → List ℕ
 message_line_of number side words = line (decimal number ∷ side_name side ∷ words ∷ [])
 
-module _ (before : List Sent) (m : Sent) (side : Side) (said : Message) (act : Act) (h : IsSpoken before m side said act) where
+-- a message was heard as this: but for its params, and, where no `initialize` is open, but for the value of a result
+module _ (before : List Sent) (m : Sent) (side : Side) (said : Message) (act : Act)
+    (by : m.side ≡ side) (same : outline m.message ≡ outline said) (means : m.act ≡ act) (whole : (open_initializes before ≡ []) ⊎ (said ≡ without_params m.message)) where
   same_id : id_in m.message ≡ id_in said
-  same_id = id_in-outline m.message ∙ ap id_in h.same ∙ sym (id_in-outline said)
+  same_id = id_in-outline m.message ∙ ap id_in same ∙ sym (id_in-outline said)
 
-  same_settled : (open_ones : List Initialize) → open_initializes before ≡ open_ones → settled_among open_ones m.side m.message ≡ settled_among open_ones side said
-  same_settled [] none = refl
-  same_settled (i ∷ others) some =
-    settled-without_params (i ∷ others) m.side m.message
-    ∙ ap (λ x. settled_among (i ∷ others) m.side x) (sym (h.whole (ap is_empty some)))
-    ∙ ap (λ s. settled_among (i ∷ others) s said) h.by
+  same_settled : (open_initializes before ≡ []) ⊎ (said ≡ without_params m.message) → settled_by before m ≡ settled_among (open_initializes before) side said
+  same_settled (inl none) =
+      ap (λ is. settled_among is m.side m.message) none ∙ sym (ap (λ is. settled_among is side said) none)
+  same_settled (inr is) =
+      settled-without_params (open_initializes before) m.side m.message
+      ∙ ap (λ x. settled_among (open_initializes before) m.side x) (sym is)
+      ∙ ap (λ s. settled_among (open_initializes before) s said) by
 
   -- the facts on it
   pub same_facts : (rule : ℕ) → session_facts rule before m ≡ session_facts rule before (record { side = side; message = said; act = act })
   same_facts rule =
-    ap (λ i. facts_by rule before i (settled_by before m) m.act) same_id
-    ∙ ap (λ s. facts_by rule before (id_in said) s m.act) (same_settled (open_initializes before) refl)
-    ∙ ap (λ a. facts_by rule before (id_in said) (settled_among (open_initializes before) side said) a) h.means
+      ap (λ i. facts_by rule before i (settled_by before m) m.act) same_id
+      ∙ ap (λ s. facts_by rule before (id_in said) s m.act) (same_settled whole)
+      ∙ ap (λ a. facts_by rule before (id_in said) (settled_among (open_initializes before) side said) a) means
 
   -- its line
   pub same_line : (number : ℕ) → message_line number m.side m.message ≡ message_line number side said
   same_line number =
-    ap (λ s. message_line number s m.message) h.by
-    ∙ ap (λ words. message_line_of number side words) (words_of-outline m.message ∙ ap words_of h.same ∙ sym (words_of-outline said))
+      ap (λ s. message_line number s m.message) by
+      ∙ ap (λ words. message_line_of number side words) (words_of-outline m.message ∙ ap words_of same ∙ sym (words_of-outline said))

@@ -1,4 +1,3 @@
 pub mod Fact
 pub mod Lines
 pub mod MessageFacts
-pub mod Spoken

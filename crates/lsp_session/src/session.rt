@@ -316,11 +316,7 @@ impl Session {
     }
 
     /// The offer of the open `initialize`, and the result that answers it, where the message is that.
-    fn settled_by<'a>(
-        &'a self,
-        side: Side,
-        message: &'a Message,
-    ) -> Option<(&'a Offer, &'a Value)>
+    fn settled_by<'a>(&'a self, side: Side, message: &'a Message) -> Option<(&'a Offer, &'a Value)>
         ensures { option_map (λ s. settled_view s.0.now s.1.now) result
             ≡ handshake.settled_among self.now.initializes side (message_view message.now) }
     {
