@@ -1,6 +1,6 @@
 //! Snapshots, and how they compare with a text.
 
-ghost use Rattle.std.specs.Prelude.{◌≡◌, [], ◌++◌, ◌∷◌, length, not, string_bytes, IfOk, OnOk, OnErr};
+ghost use Rattle.std.specs.Prelude.{◌≡◌, [], ◌++◌, ◌∷◌, ◌&&◌, length, not, true, false, string_bytes, IfOk, MatchOption, OnOk, OnErr};
 ghost use Rattle.std.specs.List.{list_any};
 ghost use Rattle.std.specs.Str.{chars, bytes_eq};
 ghost use Rattle.lsp_docs.specs.Stored.{text_of, texts_of};
@@ -68,6 +68,14 @@ impl Texts {
     {
         any_differs(self.texts.as_slice(), store)
     }
+
+    /// The first that is another text than this one.
+    pub(crate) fn other(&self, text: &str) -> Option<&str>
+        ensures { MatchOption result (list_any (λ t. not (bytes_eq (chars text.now) t)) self.now ≡ false)
+            (λ other. list_any (λ t. not (bytes_eq (chars text.now) t) && bytes_eq t (chars other.now)) self.now ≡ true) }
+    {
+        first_other(self.texts.as_slice(), text)
+    }
 }
 
 /// Whether one is another text than the store has.
@@ -82,4 +90,24 @@ fn is_other<S: TextStore>(text: &String, store: &S) -> bool
     ensures { result ≡ not (bytes_eq (S.content store.now) (text_of text.now)) }
 {
     !store.equals(text.as_str())
+}
+
+/// The first that is another text than this one.
+fn first_other<'a>(texts: &'a [String], text: &str) -> Option<&'a str>
+    ensures { MatchOption result (list_any (λ t. not (bytes_eq (chars text.now) (text_of t))) texts.now ≡ false)
+        (λ other. list_any (λ t. not (bytes_eq (chars text.now) (text_of t)) && bytes_eq (text_of t) (chars other.now)) texts.now ≡ true) }
+{
+    for other in texts {
+        if is_not(other, text) {
+            return Some(other.as_str());
+        }
+    }
+    None
+}
+
+/// Whether it is another text than this one.
+fn is_not(other: &String, text: &str) -> bool
+    ensures { result ≡ not (bytes_eq (chars text.now) (text_of other.now)) }
+{
+    other.as_str() != text
 }
