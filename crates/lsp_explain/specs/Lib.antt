@@ -1,1 +1,2 @@
 pub mod Fact
+pub mod DocumentFacts

@@ -27,3 +27,4 @@ pub mod Counted
 pub mod Difference
 pub mod Parting
 pub mod InsideCharacter
+pub mod Sizes

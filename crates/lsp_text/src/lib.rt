@@ -4,7 +4,7 @@
 //! a `textDocument/didChange` in any of them. [`Plain`] keeps a text in one `String`. [`Lined`] keeps
 //! its lines, and an edit touches no others than those of its span and the one before. [`measure`]
 //! counts characters and units of UTF-16, [`first_difference`] tells where two texts first differ, and
-//! [`line_at`], [`width_of`] and [`char_inside`] read a text by its lines and columns.
+//! [`line_at`], [`width_of`], [`char_inside`] and [`size_with`] read a text by its lines and columns.
 #![tactic(auto)]
 
 mod changes;
@@ -32,5 +32,5 @@ pub use laws::{
 };
 pub use lined::Lined;
 pub use plain::Plain;
-pub use reading::{char_inside, line_at, width_of};
+pub use reading::{char_inside, line_at, size_with, width_of};
 pub use store::{Place, TextStore};

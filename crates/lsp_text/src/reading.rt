@@ -1,16 +1,18 @@
-//! What is read of a text by itself: a line by its number, the units of a text, and the character inside which a
-//! position lies.
+//! What is read of a text by itself: a line by its number, the units of a text, the character inside which a position
+//! lies, and the bytes that a change would lead to.
 
-ghost use Rattle.std.specs.Prelude.{◌≡◌, true, option_map, slice_get, is_some, MatchOption};
+ghost use Rattle.std.specs.Prelude.{◌≡◌, true, Some, option_map, slice_get, is_some, MatchOption};
 ghost use Rattle.std.specs.Str.{chars};
 ghost use Rattle.lsp_text.specs.Lines.{lines_of};
 ghost use Rattle.lsp_text.specs.Places.{units, place_in_line, place_of};
 ghost use Rattle.lsp_text.specs.InsideCharacter.{FallsInside, LiesInside};
+ghost use Rattle.lsp_text.specs.Sizes.{IsSizeWith, IsNeverMade};
 
 use crate::columns::units_of;
 use crate::counts::measure;
 use crate::cut::FirstLine;
-use lsp_types::{Encoding, Position};
+use crate::plain::offset_of;
+use lsp_types::{Encoding, Position, Span};
 
 /// The line of this number, from 0, without its line end, or `None` where the text has no such line (LSP 3.17, "Text
 /// Documents").
@@ -68,4 +70,33 @@ fn char_in_line(line: &str, encoding: Encoding, column: u32) -> Option<char>
         left -= width;
     }
     None
+}
+
+/// The bytes of UTF-8 that a text would have with a change: with an insertion in the place of a span, or of the whole
+/// text where there is none. `None` where no limit lets the change be made: a position lies inside a character, or the
+/// span is reversed.
+pub fn size_with(
+    text: &str,
+    encoding: Encoding,
+    span: Option<Span>,
+    insertion: &str,
+) -> Option<u64>
+    ensures { MatchOption result (IsNeverMade encoding (chars text.now) span (chars insertion.now)) (IsSizeWith encoding (chars text.now) span (chars insertion.now)) }
+{
+    match span {
+        Some(span) => size_between(text, encoding, span, insertion),
+        None => Some(insertion.len() as u64),
+    }
+}
+
+// The same with an insertion in the place of a span.
+fn size_between(text: &str, encoding: Encoding, span: Span, insertion: &str) -> Option<u64>
+    ensures { MatchOption result (IsNeverMade encoding (chars text.now) (Some span) (chars insertion.now)) (IsSizeWith encoding (chars text.now) (Some span) (chars insertion.now)) }
+{
+    let first = offset_of(text, encoding, span.first)?;
+    let second = offset_of(text, encoding, span.second)?;
+    if second < first {
+        return None;
+    }
+    Some((first + insertion.len() + (text.len() - second)) as u64)
 }
