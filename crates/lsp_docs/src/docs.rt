@@ -1,6 +1,6 @@
 //! The open documents of a session.
 
-ghost use Rattle.std.specs.Prelude.{◌≡◌, [], ◌++◌, ◌∷◌, List, None, Some, Ok, true, false, length, not, map, slice_get, is_some, MatchOption, if◌then◌else◌, nat_lt, IfErr, IfOk, OnOk, OnErr, option_map};
+ghost use Rattle.std.specs.Prelude.{◌≡◌, [], ◌++◌, ◌∷◌, List, None, Some, Ok, true, false, length, not, map, slice_get, is_some, if◌then◌else◌, nat_lt, IfErr, IfOk, OnOk, OnErr, option_map};
 ghost use Rattle.std.specs.List.{list_any};
 ghost use Rattle.std.specs.Str.{chars};
 ghost use Rattle.lsp_docs.specs.declared.fault.DocFault.TheVariants.{Rule};
@@ -11,7 +11,7 @@ ghost use Rattle.lsp_docs.specs.Documents.{versioned, held, documents};
 ghost use Rattle.lsp_docs.specs.Kept.{kept};
 ghost use Rattle.lsp_docs.specs.Opened.{or_nothing};
 ghost use Rattle.lsp_docs.specs.Snapshots.{waiting, unmatched, versions_of};
-ghost use Rattle.lsp_docs.specs.Others.{is_other, other_than};
+ghost use Rattle.lsp_docs.specs.Others.{FindsOther, other_than};
 ghost use Rattle.lsp_docs.specs.Rules.{differs, show_rule, text_rule, call_rule};
 ghost use Rattle.lsp_docs.specs.State.{capped, held_in, kept_in, queue_of, set_in, changed_at, early_rule, IsChanged, with_held, Stands};
 ghost use Rattle.lsp_docs.specs.Fault.{Names, IsRule, Breaks};
@@ -163,9 +163,8 @@ impl<S: TextStore> Docs<S> {
     /// The text of a snapshot that waits for this version of a URI and has another text than this one: what refuses an
     /// opening or a change by 702. Of several it is any one.
     pub fn waiting_other(&self, uri: &str, version: i32, text: &str) -> Option<&str>
-        ensures { (calls : List Call) → Stands self.now calls → MatchOption result
-            (list_any (differs (versioned version (chars text.now))) (versions_of uri.now (waiting self.now.terms calls)) ≡ false)
-            (λ other. list_any (is_other (versioned version (chars text.now)) (chars other.now)) (versions_of uri.now (waiting self.now.terms calls)) ≡ true) }
+        ensures { (calls : List Call) → Stands self.now calls
+            → FindsOther (versioned version (chars text.now)) (versions_of uri.now (waiting self.now.terms calls)) result }
     {
         self.waiting.other(uri, version, text)
     }

@@ -1,9 +1,10 @@
 //! Snapshots, and how they compare with a text.
 
-ghost use Rattle.std.specs.Prelude.{◌≡◌, [], ◌++◌, ◌∷◌, ◌&&◌, length, not, true, false, string_bytes, IfOk, MatchOption, OnOk, OnErr};
+ghost use Rattle.std.specs.Prelude.{◌≡◌, [], ◌++◌, ◌∷◌, length, not, string_bytes, IfOk, OnOk, OnErr};
 ghost use Rattle.std.specs.List.{list_any};
 ghost use Rattle.std.specs.Str.{chars, bytes_eq};
 ghost use Rattle.lsp_docs.specs.Stored.{text_of, texts_of};
+ghost use Rattle.lsp_docs.specs.Others.{FindsText};
 
 use lsp_text::TextStore;
 use std::alloc::{AllocError, Global};
@@ -71,8 +72,7 @@ impl Texts {
 
     /// The first that is another text than this one.
     pub(crate) fn other(&self, text: &str) -> Option<&str>
-        ensures { MatchOption result (list_any (λ t. not (bytes_eq (chars text.now) t)) self.now ≡ false)
-            (λ other. list_any (λ t. not (bytes_eq (chars text.now) t) && bytes_eq t (chars other.now)) self.now ≡ true) }
+        ensures { FindsText (chars text.now) self.now result }
     {
         first_other(self.texts.as_slice(), text)
     }
@@ -94,8 +94,7 @@ fn is_other<S: TextStore>(text: &String, store: &S) -> bool
 
 /// The first that is another text than this one.
 fn first_other<'a>(texts: &'a [String], text: &str) -> Option<&'a str>
-    ensures { MatchOption result (list_any (λ t. not (bytes_eq (chars text.now) (text_of t))) texts.now ≡ false)
-        (λ other. list_any (λ t. not (bytes_eq (chars text.now) (text_of t)) && bytes_eq (text_of t) (chars other.now)) texts.now ≡ true) }
+    ensures { FindsText (chars text.now) (texts_of texts.now) result }
 {
     for other in texts {
         if is_not(other, text) {

@@ -1,13 +1,13 @@
 //! The snapshots that wait for their versions.
 
-ghost use Rattle.std.specs.Prelude.{◌≡◌, ◌+◌, [], true, false, length, filter, None, MatchOption, OnOk, OnErr, string_bytes};
+ghost use Rattle.std.specs.Prelude.{◌≡◌, ◌+◌, [], length, filter, None, OnOk, OnErr, string_bytes};
 ghost use Rattle.std.specs.List.{list_any};
 ghost use Rattle.std.specs.Map.{lookup};
 ghost use Rattle.std.specs.Str.{chars, bytes_eq};
 ghost use Rattle.lsp_docs.specs.Documents.{versioned, is_after, is_at, is_before};
 ghost use Rattle.lsp_docs.specs.State.{capped, queue_of, keep_in, IsAdded, IsReleased, total, reached, missed_one};
 ghost use Rattle.lsp_docs.specs.Rules.{differs};
-ghost use Rattle.lsp_docs.specs.Others.{is_other};
+ghost use Rattle.lsp_docs.specs.Others.{FindsOther};
 ghost use Rattle.lsp_docs.specs.Stored.{text_of, queues_in};
 
 use crate::queue::SnapshotQueue;
@@ -67,8 +67,7 @@ impl Waiting {
 
     /// The text of a snapshot of a URI that waits for this version and has another text than this one.
     pub(crate) fn other(&self, uri: &str, version: i32, text: &str) -> Option<&str>
-        ensures { MatchOption result (list_any (differs (versioned version (chars text.now))) (queue_of uri.now self.now.queues) ≡ false)
-            (λ other. list_any (is_other (versioned version (chars text.now)) (chars other.now)) (queue_of uri.now self.now.queues) ≡ true) }
+        ensures { FindsOther (versioned version (chars text.now)) (queue_of uri.now self.now.queues) result }
     {
         match self.snapshots.get(uri) {
             Some(queue) => queue.other(version, text),
