@@ -1,3 +1,4 @@
 pub mod Fact
 pub mod Lines
 pub mod MessageFacts
+pub mod DocumentFacts
