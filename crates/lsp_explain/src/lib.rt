@@ -6,6 +6,8 @@
 mod fact;
 mod lines;
 mod messages;
+mod scope;
 
 pub use fact::Fact;
 pub use messages::{content_facts, lack_facts, session_facts};
+pub use scope::Scope;
