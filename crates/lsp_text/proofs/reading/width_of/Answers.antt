@@ -4,7 +4,7 @@ use Rattle.lsp_types.specs.declared.position.Encoding.{Encoding}
 use Rattle.lsp_text.specs.Places.{units}
 use Rattle.lsp_text.proofs.Counting.{units-utf8_text}
 use Rattle.lsp_text.proofs.Widths.{units-utf32}
-use Rattle.lsp_text.proofs.difference.width_of.Goals as goal
+use Rattle.lsp_text.proofs.reading.width_of.Goals as goal
 
 pub returns-in-Utf8 : goal.returns-in-Utf8
 returns-in-Utf8 c = sym (units-utf8_text c.args.text.now c.utf8.text) ∙ ap (λ (e : Encoding). units e (chars c.args.text.now)) (sym c.in-Utf8.is)

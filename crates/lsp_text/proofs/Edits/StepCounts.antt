@@ -11,7 +11,7 @@ use Rattle.lsp_text.specs.Steps.{raised, line_at, RisesWithin, line_bytes, line_
 use Rattle.lsp_text.specs.Spots.{line_before}
 use Rattle.lsp_text.proofs.Cuts.{text_of-append}
 use Rattle.lsp_text.proofs.Counting.{units-append, units-utf8_text}
-use Rattle.lsp_text.proofs.Spotting.{line_number_lt}
+use Rattle.lsp_text.proofs.Edits.Spotting.{line_number_lt}
 
 min-twice : (most count a b : ℕ) → min (min (count + a) most + b) most ≡ min (count + (a + b)) most
 min-twice most count a b = omega arith

@@ -6,7 +6,7 @@ use Rattle.lsp_text.specs.Lines.{Line, open_line, text_of, spelled, lines_of, ha
 use Rattle.lsp_text.specs.Places.{units}
 use Rattle.lsp_text.specs.Difference.{line_number_at, line_before_place, LiesInsideEnd, PlacesHavePositions}
 use Rattle.lsp_text.proofs.Cuts.{IsCut-lines_of, lines_of-end, lines_of-ended, lines_of-no_end, text_of-append, whole_parts}
-use Rattle.lsp_text.proofs.LineStarts.{count-whole}
+use Rattle.lsp_text.proofs.Differing.LineStarts.{count-whole}
 use Rattle.lsp_text.proofs.Positions.{text_of-lines_of}
 
 no_end-drop : (x : List ℕ) (n : ℕ) → has_no_line_end x ≡ true → has_no_line_end (drop n x) ≡ true

@@ -16,8 +16,8 @@ use Rattle.lsp_text.specs.Steps.{line_at}
 use Rattle.lsp_text.specs.Spots.{IsIn, IsSpot, front_of, rest_of, place_from, line_before, middle_text, LeavesLine}
 use Rattle.lsp_text.specs.declared.spot.Spot.{Spot}
 use Rattle.lsp_text.proofs.Counting.{units-append, units-utf8, units-utf8_text}
-use Rattle.lsp_text.proofs.Rewrites.{units-parts}
-use Rattle.lsp_text.proofs.Splicing.{lead, take_place, drop_place, splice-rewritten, middle-StandsApart, place_lt}
+use Rattle.lsp_text.proofs.Edits.Rewrites.{units-parts}
+use Rattle.lsp_text.proofs.Edits.Splicing.{lead, take_place, drop_place, splice-rewritten, middle-StandsApart, place_lt}
 
 -- what stands before a spot in its line, and what from it on
 spot_front : (t : List ℕ) (s : Spot) → IsIn t s → take (length (chars (front_of t s))) (spelled (line_at s.number t)) ≡ chars (front_of t s)

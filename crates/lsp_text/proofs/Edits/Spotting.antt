@@ -22,7 +22,7 @@ use Rattle.lsp_text.proofs.Positions.{slice_get-drop, slice_get-past, text_of-li
 use Rattle.lsp_text.proofs.Splices.{chars-cut}
 use Rattle.lsp_text.proofs.LineEdits.{boundary_in_all}
 use Rattle.lsp_text.proofs.Widths.{is_front}
-use Rattle.lsp_text.proofs.Splicing.{text_about}
+use Rattle.lsp_text.proofs.Edits.Splicing.{text_about}
 
 pub some_line : (t : List ℕ) → 0 < length (lines_of t)
 some_line t = let h = lines_of-HasFirst t in omega (arith, ap length h.are)
