@@ -14,6 +14,7 @@ mod interleaving_laws;
 mod laws;
 mod lines;
 mod names;
+mod offence;
 mod offence_laws;
 mod outcome;
 mod report;
@@ -37,7 +38,8 @@ pub use laws::{
     upgrade_stays, yes_means_kept,
 };
 pub use lines::Lines;
-pub use names::side_name;
+pub use names::{kind_name, side_name};
+pub use offence::{Offence, found_report, offence_report};
 pub use offence_laws::{
     all_are_kept, first_listed, kept_are_others, kept_offend_nowhere, listed_offend,
     nothing_listed, one_survey, some_survey, survey_agrees,
