@@ -95,6 +95,60 @@ REST_REPORT = b"no 107 editor 1 event 1\nstream ends inside a frame\n"
 BROKEN = HEAD + b"E 4\n\r\n\r\n\n" + EXIT + STOPPED
 
 
+def changed(version, *changes):
+    """The record of a `didChange` with these changes."""
+    return editor(
+        '{"jsonrpc":"2.0","method":"textDocument/didChange","params":{"textDocument":'
+        '{"uri":"file:///a","version":%d},"contentChanges":[%s]}}' % (version, ",".join(changes))
+    )
+
+
+def shown(version, text):
+    """The record of a snapshot."""
+    return b"T %d 9 %d\nfile:///a\n%s\n" % (version, len(text), text)
+
+
+REVERSED = '{"range":{"start":{"line":0,"character":2},"end":{"line":0,"character":1}},"text":"x"}'
+RENEWED = '{"text":"new"}'
+
+# A session in which five events offend: the document is lost at the second, so that the third follows from it.
+WRONGS = HEAD + INITIALIZE + ANSWER + INITIALIZED + OPEN + changed(1) + SNAPSHOT + changed(2, REVERSED)
+WRONGS += shown(1, b"xx") + changed(3, RENEWED) + shown(3, b"old") + SHUTDOWN + STOPPED + EXIT + EXIT
+STAYS = b"no 603 editor 4 event 5\nversion does not rise\n"
+WRONG_LINES = STAYS + b"no 606 editor 5 event 7\nrange is reversed\n"
+WRONG_LATER = b"no 702 snapshot 3 event 10\nsnapshot differs\nno 406 editor 9 event 14\neditor message after exit\n"
+WRONG_FOLLOWS = b"no 702 snapshot 2 event 8 follows\nsnapshot differs\n"
+
+# A handshake that is lost at its first message.
+UNSHAKEN = HEAD + editor('{"jsonrpc":"2.0","id":1,"method":"initialize","params":[]}') + ANSWER + INITIALIZED + EXIT
+UNSHAKEN_LINES = b"no 209 editor 1 event 1\nbad params of an interpreted method\n"
+UNSHAKEN_FOLLOW = b"no 301 server 1 event 2 follows\nresponse to no open request\n"
+UNSHAKEN_FOLLOW += b"no 401 editor 2 event 3 follows\neditor message before initialize\n"
+
+# Rests of both sides.
+RESTS = REST + b"S 3\nabc\n"
+
+# What is listed of a log: of the causes, of every offence, and how many there are; with the status of the first.
+OFFENCES = [
+    (WRONGS, WRONG_LINES + WRONG_LATER, WRONG_LINES + WRONG_FOLLOWS + WRONG_LATER, b"offences 5 following 1\n"),
+    (UNSHAKEN, UNSHAKEN_LINES, UNSHAKEN_LINES + UNSHAKEN_FOLLOW, b"offences 3 following 2\n"),
+    (EXITS, EXITS_REPORT, EXITS_REPORT, b"offences 1 following 0\n"),
+    (REST, REST_REPORT, REST_REPORT, b"offences 1 following 0\n"),
+    (
+        RESTS,
+        REST_REPORT + REST_REPORT.replace(b"editor", b"server"),
+        REST_REPORT + REST_REPORT.replace(b"editor", b"server"),
+        b"offences 2 following 0\n",
+    ),
+    (
+        BROKEN,
+        b"no 102 editor 1 event 1\nbad header line\nno 301 server 1 event 2\nresponse to no open request\n",
+        b"no 102 editor 1 event 1\nbad header line\nno 301 server 1 event 2\nresponse to no open request\n",
+        b"offences 2 following 0\n",
+    ),
+]
+
+
 def in_bytes(log):
     """The log with each record of bytes cut into records of one byte."""
     cut, at = [HEAD], len(HEAD)

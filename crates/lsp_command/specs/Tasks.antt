@@ -15,6 +15,8 @@ use Rattle.lsp_verdict.specs.RunIo.{OfRead, AppendsFront}
 use Rattle.lsp_verdict.specs.Shown.{text_is, no_document, too_few, refused}
 use Rattle.lsp_judge.specs.ShownLog.{IsShown, BeginsShown}
 use Rattle.lsp_streams.specs.StreamRun.{IsRun, BeginsRun}
+use Rattle.lsp_survey.specs.Reported.{IsReported, BeginsReported}
+use Rattle.lsp_survey.specs.declared.listing.Listing.{Listing}
 use Rattle.lsp_verdict.specs.TextAfter.{AnswersText}
 use Rattle.lsp_verdict.specs.Upgraded.{IsUpgraded, BeginsUpgraded}
 use Rattle.lsp_verdict.specs.declared.completeness.Completeness.{Completeness}
@@ -28,7 +30,7 @@ use Rattle.lsp_verdict.specs.declared.verdict.Summary.{Summary}
 use Rattle.lsp_verdict.specs.declared.verdict.Verdict.{Verdict}
 use Rattle.lsp_verdict.specs.declared.verdict.Verdict.TheVariants as verdicts
 use Rattle.lsp_command.specs.declared.task.Task.{Task}
-use Rattle.lsp_command.specs.declared.task.Task.TheVariants.{Check, Show, Text, Event, Normal, Upgrade, Frames}
+use Rattle.lsp_command.specs.declared.task.Task.TheVariants.{Check, Survey, Show, Text, Event, Normal, Upgrade, Frames}
 
 -- what a source and a sink tell before a run and after it
 pub record Ports : Type 0 where
@@ -58,6 +60,15 @@ pub record Checked (completeness : Completeness) (limits : Bounds) (p : Ports) (
   pub read_fault : result ≡ Err faults.Read → IsSilent p
   pub memory : result ≡ Err faults.Memory → IsSilent p
   pub write_fault : result ≡ Err faults.Write → IsReportCut completeness limits p.source_before p.source_after p.sink_before p.sink_after
+
+-- `check --all`: the verdict on the log read, whose session has to be complete or not, and the report of all that is wrong with it, or after a fault what begins that
+pub record Surveyed (completeness : Completeness) (listing : Listing) (limits : Bounds) (p : Ports) (result : Result Outcome RunFault) : Type 0 where
+  pub judged : IfOk result (λ outcome. (v : Verdict) × (outcome ≡ outcomes.Judged v))
+  pub verdict : (v : Verdict) → result ≡ Ok (outcomes.Judged v) → Read limits p (λ log. IsVerdictBy completeness limits log (verdict_view v))
+  pub written : (v : Verdict) → result ≡ Ok (outcomes.Judged v)
+      → (out : List ℕ) × Wrote p out × Read limits p (λ log. IsReported completeness limits listing log (verdict_view v) out)
+  pub ended : (s : Summary) → result ≡ Ok (outcomes.Judged (verdicts.Yes s)) → IsAtEnd p.source_after.bytes
+  pub fault : OnErr result ((out : List ℕ) × Wrote p out × Read limits p (λ log. BeginsReported completeness limits listing log out))
 
 -- `show`: the verdict on the log read, the lines of the events before its place, short or long, and its report
 pub record Showed (lines : Lines) (limits : Bounds) (p : Ports) (result : Result Outcome RunFault) : Type 0 where
@@ -112,6 +123,7 @@ pub record Framed (limits : Bounds) (p : Ports) (mode : Mode) (result : Result O
 -- **each task is the run of its name**, with its arguments, on this input and into this output
 abbrev pub Answers : Bounds → Task → Ports → Result Outcome RunFault → Type 0
 Answers limits (Check completeness) p result = Checked completeness limits p result
+Answers limits (Survey completeness listing) p result = Surveyed completeness listing limits p result
 Answers limits (Show lines) p result = Showed lines limits p result
 Answers limits (Text number uri) p result = ToldText limits p (non_zero_u64_get number) uri.now result
 Answers limits (Event number) p result = GaveEvent limits p (non_zero_u64_get number) result

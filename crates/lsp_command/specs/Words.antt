@@ -11,6 +11,8 @@ use Rattle.lsp_verdict.specs.declared.lines.Lines.{Lines}
 use Rattle.lsp_verdict.specs.declared.lines.Lines.TheVariants.{Short, Long}
 use Rattle.lsp_verdict.specs.declared.outcome.Mode.{Mode}
 use Rattle.lsp_verdict.specs.declared.outcome.Mode.TheVariants.{Lengths, Canonical, Kinds}
+use Rattle.lsp_survey.specs.declared.listing.Listing.{Listing}
+use Rattle.lsp_survey.specs.declared.listing.Listing.TheVariants.{Causes, Every}
 use Rattle.lsp_command.specs.declared.task.Request.{Request}
 use Rattle.lsp_command.specs.declared.task.Task.{Task}
 use Rattle.lsp_command.specs.declared.task.Task.TheVariants as tasks
@@ -40,9 +42,23 @@ pub record IsFlag (value : Option (List ℕ)) (set : Bool) : Type 0 where
   pub refused : value ≡ Some (codes "false") → set ≡ false
   pub absent : value ≡ None → set ≡ false
 
--- the verdict on a log, whose session has to be complete where the option for it is set
-abbrev pub AsksCheck : Found → Option Task → Type 0
-AsksCheck found asked = (set : Bool) × IsFlag (one_text found (codes "complete")) set × (asked ≡ Some (tasks.Check (completeness_of set)))
+-- which offences are listed, where any but the first are: all that follow from none, or every one
+abbrev pub listing_of : Bool → Bool → Option Listing
+listing_of all every = if every then Some Every else if all then Some Causes else None
+
+abbrev pub check_of : Completeness → Option Listing → Task
+check_of completeness None = tasks.Check completeness
+check_of completeness (Some listing) = tasks.Survey completeness listing
+
+-- the verdict on a log, or its offences where an option for these is set; its session has to be complete where the option for that is set
+pub record AsksCheck (found : Found) (asked : Option Task) : Type 0 where
+  pub complete : Bool
+  pub all : Bool
+  pub every : Bool
+  pub complete_is : IsFlag (one_text found (codes "complete")) complete
+  pub all_is : IsFlag (one_text found (codes "all")) all
+  pub every_is : IsFlag (one_text found (codes "every")) every
+  pub is : asked ≡ Some (check_of (completeness_of complete) (listing_of all every))
 
 abbrev pub lines_of : Bool → Lines
 lines_of true = Long
@@ -61,6 +77,7 @@ GivesNumber found number = (digits : List ℕ) × (one_text found (codes "number
 abbrev pub AsksText : Found → Task → Type 0
 AsksText found (tasks.Text number uri) = (first_value found (codes "uri") ≡ Some uri.now) × (GivesNumber found (non_zero_u64_get number))
 AsksText found (tasks.Check completeness) = ⊥
+AsksText found (tasks.Survey completeness listing) = ⊥
 AsksText found (tasks.Show lines) = ⊥
 AsksText found (tasks.Event number) = ⊥
 AsksText found tasks.Normal = ⊥
@@ -71,6 +88,7 @@ AsksText found (tasks.Frames mode) = ⊥
 abbrev pub AsksEvent : Found → Task → Type 0
 AsksEvent found (tasks.Event number) = GivesNumber found (non_zero_u64_get number)
 AsksEvent found (tasks.Check completeness) = ⊥
+AsksEvent found (tasks.Survey completeness listing) = ⊥
 AsksEvent found (tasks.Show lines) = ⊥
 AsksEvent found (tasks.Text number uri) = ⊥
 AsksEvent found tasks.Normal = ⊥

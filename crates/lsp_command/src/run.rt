@@ -13,6 +13,7 @@ use lsp_judge::{
     Completeness, Outcome, RunFault, run_check, run_check_complete, run_event, run_frames,
     run_normal, run_show, run_text, run_upgrade,
 };
+use lsp_survey::run_survey;
 use std::alloc::Global;
 use std::io::{Read, Write};
 
@@ -36,6 +37,9 @@ pub fn run_task<R: Source, W: Sink>(
     match task {
         Task::Check(Completeness::Ignored) => run_check(alloc, source, sink, limits),
         Task::Check(Completeness::Required) => run_check_complete(alloc, source, sink, limits),
+        Task::Survey(completeness, listing) => {
+            run_survey(alloc, source, sink, limits, completeness, listing)
+        }
         Task::Show(lines) => run_show(alloc, source, sink, limits, lines),
         Task::Text { number, uri } => run_text(alloc, source, sink, limits, number.get(), uri),
         Task::Event { number } => run_event(alloc, source, sink, limits, number.get()),

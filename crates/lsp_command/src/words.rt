@@ -2,12 +2,13 @@
 ghost use Rattle.std.specs.Prelude.{◌≡◌, ℕ, List, IfOk, IfSome, Some, codes, option_map};
 ghost use Rattle.clap.specs.Matches.{first_value, found_of};
 ghost use Rattle.clap.specs.declared.parser.matches.Found.{Found};
-ghost use Rattle.lsp_command.specs.Words.{Asks, AsksCheck, AsksEvent, AsksShow, AsksText, completeness_of, file_of, lines_of, mode_of};
+ghost use Rattle.lsp_command.specs.Words.{Asks, AsksCheck, AsksEvent, AsksShow, AsksText, check_of, completeness_of, file_of, lines_of, listing_of, mode_of};
 
 use crate::task::{Request, Task};
 use clap::error::ErrorKind;
 use clap::{Arg, ArgAction, ArgMatches, Command, Error, value_parser};
 use lsp_judge::{Completeness, Lines, Mode};
+use lsp_survey::Listing;
 use std::alloc::{AllocError, Global};
 use std::num::NonZeroU64;
 
@@ -20,6 +21,7 @@ const VERSION: &str = "1.0.0 (rattle-kit-13b logic dac8208d650f15bf)";
 const MORE: &str = "\
 Examples:
   lspcheck check session.log                 the verdict on a recorded session
+  lspcheck check --all session.log           all that is wrong with it
   lspcheck show session.log | tail           the events before it
   lspcheck text 12 file:///a.c session.log   what the server should hold then
   lspcheck event 8 session.log               the content that a verdict speaks of
@@ -50,9 +52,19 @@ fn check<'a>(alloc: Global) -> Result<Command<'a>, AllocError> {
         .long("complete")
         .action(ArgAction::SetTrue)
         .help("Yes only where each request of the editor is answered and exit was sent");
+    let all = Arg::new(alloc, "all")
+        .long("all")
+        .action(ArgAction::SetTrue)
+        .help("Goes on behind an offence, and lists all that follow from no earlier one");
+    let every = Arg::new(alloc, "every")
+        .long("every")
+        .action(ArgAction::SetTrue)
+        .help("Lists every offence, also those that follow from an earlier one");
     Command::new(alloc, "check")
         .about("Judges a recorded session, and reports the verdict")
         .arg(complete)?
+        .arg(all)?
+        .arg(every)?
         .arg(log_file(alloc))
 }
 
@@ -162,6 +174,30 @@ fn completeness_of(set: bool) -> Completeness
     }
 }
 
+/// Which offences are listed, where any but the first are: the options for all and for every one are
+/// set or not.
+fn listing_of(all: bool, every: bool) -> Option<Listing>
+    ensures { result ≡ listing_of all every }
+{
+    if every {
+        Some(Listing::Every)
+    } else if all {
+        Some(Listing::Causes)
+    } else {
+        None
+    }
+}
+
+/// The verdict on a session, or a list of its offences.
+fn check_of<'a>(completeness: Completeness, listing: Option<Listing>) -> Task<'a>
+    ensures { result ≡ check_of completeness listing }
+{
+    match listing {
+        Some(listing) => Task::Survey(completeness, listing),
+        None => Task::Check(completeness),
+    }
+}
+
 /// What the lines of events tell, where the option for long ones is set or not.
 fn lines_of(set: bool) -> Lines
     ensures { result ≡ lines_of set }
@@ -181,7 +217,10 @@ fn task_of<'a>(name: &str, arguments: &ArgMatches<'a>) -> Option<Task<'a>>
         → result ≡ Some (Task.Frames (mode_of (first_value (found_of arguments.now) (codes "as")))) }
 {
     match name {
-        "check" => Some(Task::Check(completeness_of(arguments.get_flag("complete")))),
+        "check" => Some(check_of(
+            completeness_of(arguments.get_flag("complete")),
+            listing_of(arguments.get_flag("all"), arguments.get_flag("every")),
+        )),
         "show" => Some(Task::Show(lines_of(arguments.get_flag("long")))),
         "text" => Some(Task::Text {
             number: arguments.get_one::<NonZeroU64>("number")?,

@@ -13,6 +13,12 @@ check --complete = Check(Required) None
 check --complete a.log = Check(Required) Some("a.log")
 check a.log --complete = Check(Required) Some("a.log")
 check -- --complete = Check(Ignored) Some("--complete")
+check --all = Survey(Ignored, Causes) None
+check --every a.log = Survey(Ignored, Every) Some("a.log")
+check a.log --all --every = Survey(Ignored, Every) Some("a.log")
+check --complete --all - = Survey(Required, Causes) None
+check --all --all = 64
+show --all = 64
 check --complete --complete = 64
 check --complete=true = 64
 check a b = 64

@@ -5,6 +5,7 @@ use lsp_command::{Task, run_task};
 use lsp_judge::{
     Completeness, Input, Limits, Lines, LogCode, Mode, Output, TextAnswer, Verdict, text_after,
 };
+use lsp_survey::Listing;
 use std::alloc::Global;
 use std::num::NonZeroU64;
 use std::process::Abort;
@@ -116,6 +117,8 @@ fn a_log_without_end_through_each_run(rt: HostRuntime) -> Result<(), Fail> {
         Task::Check(Completeness::Required),
         REPORT,
     );
+    let survey = Task::Survey(Completeness::Ignored, Listing::Every);
+    check_snapshots(&rt, alloc, HEAD, survey, REPORT);
     check_snapshots(&rt, alloc, HEAD, Task::Show(Lines::Short), shown.as_str());
     check_snapshots(&rt, alloc, HEAD, Task::Normal, normal.as_str());
     check_snapshots(&rt, alloc, HEAD, Task::Text { number, uri: "a" }, "");

@@ -5,6 +5,10 @@ use crate::logs::{Log, split_word};
 use crate::readers::Pieces;
 use lsp_command::{Task, report_apart, run_task};
 use lsp_judge::{Completeness, Input, Limits, Lines, Mode, Outcome, Output, RunFault, Verdict};
+use lsp_judge::{
+    Completeness, Input, Limits, Lines, Mode, Outcome, Output, RunFault, Verdict,
+};
+use lsp_survey::Listing;
 use std::alloc::Global;
 use std::num::NonZeroU64;
 use std::process::Abort;
@@ -127,6 +131,9 @@ fn task_of(word: &str) -> Option<Task<'static>> {
     match word {
         "=" => Some(Task::Check(Completeness::Ignored)),
         "complete" => Some(Task::Check(Completeness::Required)),
+        "all" => Some(Task::Survey(Completeness::Ignored, Listing::Causes)),
+        "every" => Some(Task::Survey(Completeness::Ignored, Listing::Every)),
+        "all-complete" => Some(Task::Survey(Completeness::Required, Listing::Causes)),
         "show" => Some(Task::Show(Lines::Short)),
         "long" => Some(Task::Show(Lines::Long)),
         "normal" => Some(Task::Normal),

@@ -35,6 +35,79 @@ fn the_events_of_a_session(rt: HostRuntime) {
     check_sessions(&rt, rt.alloc(), EVENTS, Limits::profile());
 }
 
+/// The events of a session by long lines, which tell the document of a message.
+const LONG_LINES: &str = r#"START
+E OPEN 3 "ab"
+E CHG 4 / FULL "x"
+T 4 "x"
+S LOG
+E SAVE "x"
+T 4 "x"
+E CLOSE
+> 1 editor request 1 "initialize" 1
+> 2 server result 1 1
+> 3 editor notification "initialized" 2
+> 4 editor notification "textDocument/didOpen" 3 "file:///a" 3
+> 5 editor notification "textDocument/didChange" 4 "file:///a" 4
+> 6 snapshot 4 1 "file:///a" 1
+> 7 server notification "window/logMessage" 2
+> 8 editor notification "textDocument/didSave" 5 "file:///a"
+> 9 snapshot 4 1 "file:///a" 2
+> 10 editor notification "textDocument/didClose" 6 "file:///a"
+> yes
+> messages 6 2
+> snapshots 2 unmatched 0
+> encoding utf-16 sync incremental
+long yes"#;
+
+#[test]
+fn the_events_by_long_lines(rt: HostRuntime) {
+    check_sessions(&rt, rt.alloc(), LONG_LINES, Limits::profile());
+}
+
+/// A session in which four events offend, the third since the second lost the document.
+const OFFENCES: &str = r#"START
+E OPEN 1 "ab"
+E CHG 1
+T 1 "ab"
+E CHG 2 / REP 0 2 0 1 "x"
+T 1 "xx"
+E CHG 3 / FULL "new"
+T 3 "old"
+> no 603 editor 4 event 5
+> version does not rise
+> no 606 editor 5 event 7
+> range is reversed
+> no 702 snapshot 3 event 10
+> snapshot differs
+> offences 4 following 1
+all no
+> no 603 editor 4 event 5
+> version does not rise
+> no 606 editor 5 event 7
+> range is reversed
+> no 702 snapshot 2 event 8 follows
+> snapshot differs
+> no 702 snapshot 3 event 10
+> snapshot differs
+> offences 4 following 1
+every no
+> no 603 editor 4 event 5
+> version does not rise
+> no 606 editor 5 event 7
+> range is reversed
+> no 702 snapshot 3 event 10
+> snapshot differs
+> no 407 editor 7 event 11
+> exit is missing
+> offences 5 following 1
+all-complete no"#;
+
+#[test]
+fn the_offences_of_a_session(rt: HostRuntime) {
+    check_sessions(&rt, rt.alloc(), OFFENCES, Limits::profile());
+}
+
 /// The text of a document after a message of the editor, and what is said where there is none.
 const TEXTS: &str = r#"START
 E OPEN 1 "ab"

@@ -26,6 +26,15 @@ returns-in-Check-Required-clause-answers g c =
       write_fault = c.run_check_complete.ensures.write_fault;
     })
 
+pub returns-in-Survey-clause-answers : goal.returns-in-Survey-clause-answers
+returns-in-Survey-clause-answers g c = rw c.in-Survey.is (record {
+  judged = c.run_survey.ensures.judged;
+  verdict = c.run_survey.ensures.verdict;
+  written = c.run_survey.ensures.written;
+  ended = c.run_survey.ensures.ended;
+  fault = c.run_survey.ensures.fault;
+})
+
 pub returns-in-Show-clause-answers : goal.returns-in-Show-clause-answers
 returns-in-Show-clause-answers g c = rw c.in-Show.is (record {
   judged = c.run_show.ensures.judged;
