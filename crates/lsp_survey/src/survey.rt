@@ -48,7 +48,8 @@ impl Stream {
 
     /// Takes bytes. Behind a fault of the frames they bring nothing.
     fn push(&mut self, bytes: &[u8]) -> Result<(), Memory>
-        ensures { OnOk result ((limits : Bounds) (side : Side) (sent : List ℕ) → IsSpent limits self.old.ended self.old.decoder sent
+        ensures ended { self.new.ended ≡ self.old.ended }
+        ensures pushes { OnOk result ((limits : Bounds) (side : Side) (sent : List ℕ) → IsSpent limits self.old.ended self.old.decoder sent
             → Pushes limits side self.new.ended self.new.decoder sent bytes.now) }
     {
         if self.ended {
@@ -88,7 +89,7 @@ impl Survey {
     /// A survey of a log of this format that took no record.
     pub(crate) fn of_format(alloc: Global, limits: Limits, format: Format) -> Survey
         ensures format { result.format ≡ format }
-        ensures surveys { Surveys limits result [] [] }
+        ensures surveys { Surveys limits result [] [] [] }
         ensures idle { result.turn ≡ None }
     {
         let _document = limits.document();
@@ -117,8 +118,8 @@ impl Survey {
     /// Hears the next event of the records taken; none where all were heard.
     pub(crate) fn hear(&mut self) -> Result<Option<Heard>, Memory>
         ensures format { self.new.format ≡ self.old.format }
-        ensures answer { IfOk result (λ answer. (limits : Bounds) (records : List log.Record) (before : List Noted) → Surveys limits self.old records before
-            → HearsHere limits self.new records before answer) }
+        ensures answer { IfOk result (λ answer. (limits : Bounds) (records : List log.Record) (past : List Raw) (before : List Noted) → Surveys limits self.old records past before
+            → HearsHere limits self.new records past before answer) }
     {
         let Some(side) = self.turn.take() else {
             return Ok(None);
@@ -145,8 +146,8 @@ impl Survey {
     pub(crate) fn take(&mut self, next: Record) -> Result<Option<Heard>, Memory>
         requires idle { self.old.turn ≡ None }
         ensures format { self.new.format ≡ self.old.format }
-        ensures answer { IfOk result (λ answer. (limits : Bounds) (records : List log.Record) (before : List Noted) → Surveys limits self.old records before
-            → TakesOne limits self.new (records ++ record_view next ∷ []) before answer) }
+        ensures answer { IfOk result (λ answer. (limits : Bounds) (records : List log.Record) (past : List Raw) (before : List Noted) → Surveys limits self.old records past before
+            → TakesOne limits self.new (records ++ record_view next ∷ []) past before answer) }
     {
         match next {
             Record::Bytes {
@@ -176,7 +177,7 @@ impl Survey {
     /// lacks to be complete.
     pub(crate) fn ends(&self, completeness: Completeness) -> Result<Vec<Offence>, Memory>
         requires idle { self.now.turn ≡ None }
-        ensures { IfOk result (λ listed. (limits : Bounds) (records : List log.Record) (notes : List Noted) (editor server : List ℕ) → Surveys limits self.now records notes
+        ensures { IfOk result (λ listed. (limits : Bounds) (records : List log.Record) (past : List Raw) (notes : List Noted) (editor server : List ℕ) → Surveys limits self.now records past notes
             → HasRest limits (joined Side.Editor records) editor → HasRest limits (joined Side.Server records) server
             → map offence_view listed.items
             ≡ map (λ v. given_offence (by_itself v)) (ends_listed completeness self.now.walk.events.docs.terms (events_of notes) (ending None editor server))) }
