@@ -1,0 +1,4 @@
+pub mod Fact
+pub mod Lines
+pub mod MessageFacts
+pub mod DocumentFacts
