@@ -1,13 +1,14 @@
 -- A survey of records, with one record more, and with one event more.
-use Rattle.std.specs.Prelude.{◌||◌, String, string_bytes, chars, ℤ}
+use Rattle.std.specs.Prelude.{◌||◌, IfOk, String, string_bytes, chars, ℤ}
 use Rattle.std.specs.Global.{Global}
 use Rattle.std.specs.List.{AllZip, list_any}
-use Rattle.std.proofs.Common.{◌≡◌, ℕ, Bool, true, false, List, [], ◌∷◌, ◌++◌, Option, Some, None, refl, sym, ap, subst, ◌∙◌, append_assoc, append-nil}
+use Rattle.std.proofs.Common.{◌≡◌, ℕ, Bool, true, false, List, [], ◌∷◌, ◌++◌, Option, Some, None, Result, Ok, Err, refl, sym, ap, subst, ◌∙◌, append_assoc, append-nil}
 use Rattle.lsp_docs.specs.Terms.{Terms, terms_of}
 use Rattle.lsp_frame.specs.Bounds.{Bounds, IsInRange}
 use Rattle.lsp_frame.specs.Decoder as decoder
 use Rattle.lsp_frame.specs.declared.format.Format.{Format}
 use Rattle.lsp_log.specs.Log.{Record, chunk, shown}
+use Rattle.lsp_types.specs.declared.memory.Memory.{Memory}
 use Rattle.lsp_types.specs.declared.side.Side.{Side}
 use Rattle.lsp_types.specs.declared.side.Side.TheVariants.{Editor, Server}
 use Rattle.lsp_session.specs.Sent.{same_side}
@@ -273,3 +274,9 @@ server_heard limits s t w turn rs past notes (Some given) is turns same_terms to
         awaits = subst (λ (u : Option Side). Awaits limits u (record s { server = t; walk = w; turn = turn }) rs one.later) (sym turns) (one.left, a.1);
       };
     }
+
+-- where there is no event, it is nobody's turn
+pub idle_after : (side : Side) (turn : Option Side) (r : Result (Option Heard) Memory) → IfOk r (λ answer. turn ≡ turn_after side answer) → r ≡ Ok None → turn ≡ None
+idle_after side turn (Ok None) told e = told
+idle_after side turn (Ok (Some given)) told e = absurd cc
+idle_after side turn (Err fault) told e = absurd cc

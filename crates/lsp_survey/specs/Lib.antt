@@ -1,3 +1,4 @@
 pub mod Notes
 pub mod Walking
 pub mod Surveys
+pub mod Reads

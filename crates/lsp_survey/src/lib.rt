@@ -13,5 +13,10 @@ mod offending;
 mod rules;
 mod said;
 mod survey;
+mod survey_reader;
 mod walk;
 
+
+pub use listing::Listing;
+pub use offending::{Found, Heard, Offending};
+pub use survey_reader::{End, Next, SurveyReader};

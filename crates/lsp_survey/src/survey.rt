@@ -1,5 +1,5 @@
 //! Takes the records of a log one by one, and hears the events that they bring, past each that offends.
-ghost use Rattle.std.specs.Prelude.{◌≡◌, ◌++◌, ◌∷◌, [], List, None, true, false, ℕ, map, if◌then◌else◌, IfOk, OnOk};
+ghost use Rattle.std.specs.Prelude.{◌≡◌, ◌++◌, ◌∷◌, [], List, None, true, false, ℕ, map, if◌then◌else◌, Ok, IfOk, OnOk};
 ghost use Rattle.lsp_docs.specs.Terms.{terms_of};
 ghost use Rattle.lsp_events.specs.Standing.{Holds};
 ghost use Rattle.lsp_frame.specs.Bounds.{Bounds};
@@ -80,7 +80,7 @@ pub(crate) struct Survey {
     format: Format,
     editor: Stream,
     server: Stream,
-    walk: Walk,
+    pub walk: Walk,
     /// The side whose events are still to be heard.
     turn: Option<Side>,
 }
@@ -106,7 +106,8 @@ impl Survey {
 
     /// Becomes a survey of this format: where it is for another, one that took no record.
     pub(crate) fn follow_format(&mut self, format: Format)
-        ensures { IsFitted format self.old self.new }
+        ensures fitted { IsFitted format self.old self.new }
+        ensures idle { self.old.turn ≡ None → self.new.turn ≡ None }
     {
         if is_same(self.format, format) {
             return;
@@ -118,6 +119,7 @@ impl Survey {
     /// Hears the next event of the records taken; none where all were heard.
     pub(crate) fn hear(&mut self) -> Result<Option<Heard>, Memory>
         ensures format { self.new.format ≡ self.old.format }
+        ensures idle { result ≡ Ok None → self.new.turn ≡ None }
         ensures answer { IfOk result (λ answer. (limits : Bounds) (records : List log.Record) (past : List Raw) (before : List Noted) → Surveys limits self.old records past before
             → HearsHere limits self.new records past before answer) }
     {
