@@ -6,3 +6,4 @@ pub mod FrameRules
 pub mod Streaming
 pub mod Taking
 pub mod Ending
+pub mod Reading
