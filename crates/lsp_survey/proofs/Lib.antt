@@ -7,3 +7,4 @@ pub mod Streaming
 pub mod Taking
 pub mod Ending
 pub mod Reading
+pub mod LogEnds
