@@ -2,7 +2,7 @@
 use Rattle.std.specs.Prelude.{map, option_map, option_to_list, if◌then◌else◌}
 use Rattle.std.specs.Io.KnownBytes.{IsAtEnd}
 use Rattle.std.specs.List.{AllZip, cons_option}
-use Rattle.std.proofs.Common.{◌≡◌, ◌⊎◌, ℕ, ◌+◌, ◌<◌, ◌≤◌, ◌^◌, Bool, true, false, List, [], ◌∷◌, ◌++◌, length, length-append, Option, Some, None, Result, Ok, Err, inl, inr, refl, sym, ap, subst, ◌∙◌, append_assoc, append-nil, arith}
+use Rattle.std.proofs.Common.{◌≡◌, ◌⊎◌, ℕ, ◌+◌, ◌-◌, ◌<◌, ◌≤◌, ◌^◌, Bool, true, false, List, [], ◌∷◌, ◌++◌, length, length-append, Option, Some, None, Result, Ok, Err, inl, inr, refl, sym, ap, subst, ◌∙◌, append_assoc, append-nil, arith}
 use Rattle.std.proofs.lemmas.List.{length-map, map-append}
 use Rattle.lsp_docs.specs.Terms.{Terms, terms_of}
 use Rattle.lsp_events.specs.Standing.{Follows, Holds}
@@ -15,13 +15,14 @@ use Rattle.lsp_log.specs.Reader as reader
 use Rattle.lsp_log.specs.declared.fault.LogCode.{LogCode}
 use Rattle.lsp_types.specs.declared.side.Side.{Side}
 use Rattle.lsp_types.specs.declared.side.Side.TheVariants.{Editor, Server}
-use Rattle.lsp_survey.specs.Reads.{BeginsSurvey, SoFar, Finds, IsHeardAs, found_in, GaveEvent, Ended, BrokeOff, PullsHere, Ready}
+use Rattle.lsp_survey.specs.Reads.{BeginsSurvey, SoFar, Finds, IsHeardAs, found_in, GaveEvent, Ended, BrokeOff, Gives, PullsHere, Ready}
 use Rattle.lsp_survey.specs.Surveys.{Awaits, Surveys, HearsOne, HearsHere, IsFitted, IsRefitted}
 use Rattle.lsp_survey.specs.Walking.{IsHeard, Offends}
 use Rattle.lsp_survey.specs.declared.offending.Heard.{Heard}
 use Rattle.lsp_survey.specs.declared.offending.Heard.TheVariants as heard
 use Rattle.lsp_survey.specs.declared.survey.Survey.{Survey}
 use Rattle.lsp_survey.specs.declared.survey_reader.End.{End}
+use Rattle.lsp_survey.specs.declared.survey_reader.Next.{Next}
 use Rattle.lsp_survey.specs.declared.survey_reader.SurveyReader.{SurveyReader}
 use Rattle.lsp_verdict.specs.Entries as entries
 use Rattle.lsp_verdict.specs.Entries.{IsAt, HasRecords, HasFirst, IsKnown}
@@ -306,3 +307,29 @@ heard_here completeness limits e s start now past before found None same so here
 heard_here completeness limits e s start now past before found (Some given) same so here =
     event_given limits (record e { survey = s }) start now so.records past before found given so.at so.same (same ∙ so.format) so.surveys.range (so_far_few completeness limits e start now past before found so)
     (so.lists ∙ ap (λ (f : Format). offences (terms_of limits f) before) (sym same)) here
+
+-- ---- whether or not the session has to be complete
+
+pub broke_by : (k m : Completeness) (limits : Bounds) (start now : Told) (found : List Offence) (fault : RunFault) → k ≡ m → BrokeOff k limits start now found fault → BrokeOff m limits start now found fault
+broke_by k m limits start now found fault same broke = subst (λ (c : Completeness). BrokeOff c limits start now found fault) same broke
+
+pub gives_by : (k m : Completeness) (limits : Bounds) (e : SurveyReader) (start now : Told) (past : List Raw) (notes : List Noted) (found : List Offence) (given : Next) → k ≡ m → Gives k limits e start now past notes found given → Gives m limits e start now past notes found given
+gives_by k m limits e start now past notes found given same gives = subst (λ (c : Completeness). Gives c limits e start now past notes found given) same gives
+
+-- ---- how many events were heard
+
+module _ (limits : Bounds) (e : SurveyReader) (start now : Told) (past : List Raw) (notes : List Noted) (found : List Offence) (so : SoFar limits e start now past notes found) where
+  pub so_far_counts : e.survey.walk.events.counts.all ≡ length notes
+  so_far_counts = omega (arith, so.surveys.walks.counted.all, so_far_few Ignored limits e start now past notes found so, so.surveys.range.log_high, length-map notes (λ (n : Noted). n.event))
+
+-- one more leaves fewer
+pub fewer : (limits : Bounds) (e f : SurveyReader) (start now last : Told) (past more : List Raw) (notes : List Noted) (n : Noted) (found others : List Offence) → SoFar limits e start now past notes found → SoFar limits f start last more (notes ++ n ∷ []) others
+    → limits.log + 1 - f.survey.walk.events.counts.all < limits.log + 1 - e.survey.walk.events.counts.all
+fewer limits e f start now last past more notes n found others p q =
+    omega (
+      arith,
+      so_far_counts limits e start now past notes found p,
+      so_far_counts limits f start last more (notes ++ n ∷ []) others q,
+      so_far_few Ignored limits f start last more (notes ++ n ∷ []) others q,
+      length-append notes (n ∷ []),
+    )
