@@ -18,7 +18,6 @@ mod survey_reader;
 mod tally;
 mod walk;
 
-
 pub use listing::Listing;
 pub use offending::{Found, Heard, Offending};
 pub use run::run_survey;

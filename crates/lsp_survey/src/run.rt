@@ -231,11 +231,7 @@ fn closing_of(
 }
 
 /// The verdict where nothing is listed.
-fn sound(
-    alloc: Global,
-    events: &mut SurveyReader,
-    bad: Option<Verdict>,
-) -> Result<Verdict, Memory>
+fn sound(alloc: Global, events: &mut SurveyReader, bad: Option<Verdict>) -> Result<Verdict, Memory>
     ensures { IfOk result (λ verdict. (notes : List Noted)
         → Follows events.old.survey.walk.events.session events.old.survey.walk.events.docs events.old.survey.walk.events.counts (events_of notes)
         → as_given (yes (summary events.old.survey.walk.events.docs.terms (events_of notes))) ≡ yes (summary events.old.survey.walk.events.docs.terms (events_of notes))
@@ -243,10 +239,7 @@ fn sound(
 {
     match bad {
         Some(verdict) => Ok(verdict),
-        None => Ok(Verdict::Yes(summary_of(
-            alloc,
-            &mut events.survey.walk.events,
-        )?)),
+        None => Ok(Verdict::Yes(summary_of(alloc, &mut events.survey.walk.events)?)),
     }
 }
 
