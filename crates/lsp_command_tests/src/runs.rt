@@ -5,9 +5,6 @@ use crate::logs::{Log, split_word};
 use crate::readers::Pieces;
 use lsp_command::{Task, report_apart, run_task};
 use lsp_judge::{Completeness, Input, Limits, Lines, Mode, Outcome, Output, RunFault, Verdict};
-use lsp_judge::{
-    Completeness, Input, Limits, Lines, Mode, Outcome, Output, RunFault, Verdict,
-};
 use lsp_survey::Listing;
 use std::alloc::Global;
 use std::num::NonZeroU64;

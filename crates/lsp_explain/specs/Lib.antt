@@ -1,4 +1,0 @@
-pub mod Fact
-pub mod Lines
-pub mod MessageFacts
-pub mod DocumentFacts
