@@ -5,8 +5,9 @@ use Rattle.lsp_frame.specs.Bounds.{Bounds}
 use Rattle.lsp_frame.specs.Told.{Told, Gave}
 use Rattle.lsp_frame.specs.declared.format.Format.{Format}
 use Rattle.lsp_log.specs.Log.{Record, IsLog}
+use Rattle.lsp_log.specs.Place.{place_of, found_behind}
 use Rattle.lsp_log.specs.Reader as reader
-use Rattle.lsp_log.specs.Reader.{kept_by, StandsFor}
+use Rattle.lsp_log.specs.Reader.{kept_by, shown_by, StandsFor}
 use Rattle.lsp_log.specs.Records.{record_view}
 use Rattle.lsp_log.specs.declared.fault.LogCode.{LogCode}
 use Rattle.lsp_verdict.specs.RunIo.{OfRead, failures_after}
@@ -54,6 +55,11 @@ EntryIs r limits start now known records (Ok (entry.Record next)) = IsAt r start
 EntryIs r limits start now known records (Ok entry.End) = HasRecords limits start now r.format records None × IsAtEnd now.bytes
 EntryIs r limits start now known records (Ok (entry.Bad number fault)) = HasRecords limits start now r.format records (Some (number, fault))
 EntryIs r limits start now known records (Err fault) = BrokeOff limits start now known records fault
+
+-- where the log has its fault, the reader says how many bytes stand before it, and shows the line of the log read that stands there
+abbrev pub FaultIs : reader.State → Bounds → Told → Told → List Record → Result Entry RunFault → Type 0
+FaultIs r limits start now records (Ok (entry.Bad number fault)) = (r.place ≡ place_of r.format records) × OfRead limits start now (λ log. shown_by r ≡ found_behind limits r.format records log)
+FaultIs r limits start now records answer = Unit {0}
 
 abbrev pub IsRecord : Entry → Type 0
 IsRecord (entry.Record next) = Unit {0}

@@ -3,7 +3,7 @@ ghost use Rattle.std.specs.Prelude.{◌≡◌, ◌<◌, List, IfOk};
 ghost use Rattle.lsp_frame.specs.Told.{Told};
 ghost use Rattle.lsp_log.specs.Log as logs;
 ghost use Rattle.lsp_log.specs.Reader.{ahead, KeepsFormat};
-ghost use Rattle.lsp_verdict.specs.Entries.{IsAt, EntryIs, IfRecord};
+ghost use Rattle.lsp_verdict.specs.Entries.{IsAt, EntryIs, FaultIs, IfRecord};
 
 use crate::outcome::RunFault;
 use lsp_frame::Source;
@@ -37,6 +37,9 @@ pub fn next_entry<R: Source>(log: &mut LogReader, reader: &mut R) -> Result<Entr
     ensures less { IfOk result (λ entry. IfRecord entry (ahead log.new < ahead log.old)) }
     ensures answer { (start : Told) (records : List logs.Record) → IsAt log.old start (R.told reader.old) records
         → EntryIs log.new log.old.limits start (R.told reader.new) log.old.format records result }
+    // Of a fault the reader knows the place, and what stands there.
+    ensures found { (start : Told) (records : List logs.Record) → IsAt log.old start (R.told reader.old) records
+        → FaultIs log.new log.old.limits start (R.told reader.new) records result }
 {
     match log.next(reader) {
         Ok(Some(record)) => Ok(Entry::Record(record)),

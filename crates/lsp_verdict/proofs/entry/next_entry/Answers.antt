@@ -1,4 +1,4 @@
-use Rattle.lsp_verdict.proofs.Entries.{record_next, end_next, bad_next, read_broke, memory_broke}
+use Rattle.lsp_verdict.proofs.Entries.{record_next, end_next, bad_next, bad_found, read_broke, memory_broke}
 use Rattle.lsp_verdict.proofs.entry.next_entry.Goals as goal
 
 pub returns-in-Ok-Some-clause-answer : goal.returns-in-Ok-Some-clause-answer
@@ -27,3 +27,8 @@ pub returns-in-Err-Memory-clause-answer : goal.returns-in-Err-Memory-clause-answ
 returns-in-Err-Memory-clause-answer g c = λ start records a.
     let next = c.in-Err-Memory.ensures in
     memory_broke _ _ start _ _ records a next.limits (rw c.in-Err-Memory.field-0-is at (next.gives a.unread a.bytes records a.stands))
+
+pub returns-in-Err-Bad-clause-found : goal.returns-in-Err-Bad-clause-found
+returns-in-Err-Bad-clause-found g c = λ start records a.
+    let next = c.in-Err-Bad.ensures in
+    bad_found _ _ start _ _ records a next.limits c.in-Err-Bad.number c.in-Err-Bad.code (rw c.in-Err-Bad.field-0-is at (next.gives a.unread a.bytes records a.stands))
