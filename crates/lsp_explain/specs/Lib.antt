@@ -2,3 +2,4 @@ pub mod Fact
 pub mod Lines
 pub mod MessageFacts
 pub mod DocumentFacts
+pub mod Explained

@@ -3,9 +3,11 @@
 //! A [`Fact`] is one line of an explanation.
 #![tactic(auto)]
 
+mod documents;
 mod fact;
 mod lines;
 mod messages;
+mod offending;
 mod scope;
 
 pub use fact::Fact;
