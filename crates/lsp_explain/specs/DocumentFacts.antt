@@ -1,6 +1,6 @@
 -- The facts on a call that breaks a rule on documents: 601 to 608, 701, 702.
-use Rattle.std.specs.Prelude.{◌≡◌, ◌⊎◌, ◌+◌, ℕ, ℤ, List, [], ◌∷◌, ◌++◌, length, take, map, slice_get, Bool, true, false, not, is_some, is_none, if◌then◌else◌, Option, Some, None, option_map, option_to_list, Result, Ok, Err}
-use Rattle.std.specs.List.{list_any, position_or_len}
+use Rattle.std.specs.Prelude.{◌≡◌, ◌⊎◌, ◌+◌, ℕ, ℤ, List, [], ◌∷◌, ◌++◌, length, take, map, slice_get, Bool, true, false, is_some, is_none, if◌then◌else◌, Option, Some, None, option_map, option_to_list, Result, Ok, Err}
+use Rattle.std.specs.List.{list_any, prefix_len}
 use Rattle.lsp_types.specs.declared.position.Encoding.{Encoding}
 use Rattle.lsp_types.specs.declared.position.Position.{Position}
 use Rattle.lsp_types.specs.declared.position.Span.{Span}
@@ -60,7 +60,7 @@ fits Incremental edit = true
 
 -- how many changes stand before the first that is not of the kind
 abbrev pub fitting : SyncKind → List Edit → ℕ
-fitting kind cs = position_or_len (λ c. not (fits kind c)) cs
+fitting kind cs = prefix_len (fits kind) cs
 
 -- the length of the line in the text that the changes before it make, unless one of them is refused
 abbrev pub made_length : Encoding → Option Span → Result Text ℕ → List Fact
@@ -89,20 +89,32 @@ pub record IsStray (enc : Encoding) (t : Text) (span : Option Span) (facts : Lis
   pub lies : LiesInside enc t (stray enc t of) char
   pub are : facts ≡ line_length enc t (stray enc t of) ++ falls_inside (char ∷ []) ∷ []
 
--- 607: the bytes that the text would have
+-- 607: the bytes that the text would have, and how many it may have
 pub record IsTooLong (limit : ℕ) (enc : Encoding) (t : Text) (edit : Edit) (facts : List Fact) : Type 0 where
   pub size : ℕ
   pub would : IsSizeWith enc t edit.span edit.text size
-  pub are : facts ≡ first_length enc t edit.span ++ would_have size ∷ may_have limit ∷ []
+  pub are : facts ≡ would_have size ∷ may_have limit ∷ []
 
--- what is said of a change that this rule refuses on the text `t`
-abbrev pub AreRefusing : ℕ → Encoding → Text → Edit → ℕ → List Fact → Type 0
-AreRefusing limit enc t edit rule facts =
+-- with the length of the line in which the span begins
+pub record IsLongWithLine (limit : ℕ) (enc : Encoding) (t : Text) (edit : Edit) (facts : List Fact) : Type 0 where
+  pub sizes : List Fact
+  pub long : IsTooLong limit enc t edit sizes
+  pub are : facts ≡ first_length enc t edit.span ++ sizes
+
+-- why this rule refuses a change of the text `t`
+abbrev pub IsReason : ℕ → Encoding → Text → Edit → ℕ → List Fact → Type 0
+IsReason limit enc t edit rule facts =
     ((rule ≡ 605) × IsStray enc t edit.span facts)
     ⊎ (((rule ≡ 606) × (facts ≡ first_length enc t edit.span))
-    ⊎ ((rule ≡ 607) × IsTooLong limit enc t edit facts))
+    ⊎ ((rule ≡ 607) × IsLongWithLine limit enc t edit facts))
 
--- change n, from 0, is the first that fails, by this rule, on the text that those before it make
+-- change n, from 0, and why this rule refuses it
+pub record IsRefused (limit : ℕ) (enc : Encoding) (t : Text) (n : ℕ) (edit : Edit) (rule : ℕ) (facts : List Fact) : Type 0 where
+  pub reason : List Fact
+  pub says : IsReason limit enc t edit rule reason
+  pub are : facts ≡ fails (n + 1) edit.span ∷ reason
+
+-- the first change that fails, by this rule, on the text that those before it make
 pub record IsFailing (limit : ℕ) (enc : Encoding) (t : Text) (cs : List Edit) (rule : ℕ) (facts : List Fact) : Type 0 where
   pub n : ℕ
   pub text : Text
@@ -110,9 +122,7 @@ pub record IsFailing (limit : ℕ) (enc : Encoding) (t : Text) (cs : List Edit) 
   pub edit : Edit
   pub here : slice_get cs n ≡ Some edit
   pub failed : changed enc text edit.span edit.text limit ≡ Err rule
-  pub more : List Fact
-  pub says : AreRefusing limit enc text edit rule more
-  pub are : facts ≡ fails (n + 1) edit.span ∷ more
+  pub refused : IsRefused limit enc text n edit rule facts
 
 -- ---- 608 and 702: texts that differ
 

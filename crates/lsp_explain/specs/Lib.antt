@@ -1,2 +1,4 @@
 pub mod Fact
 pub mod DocumentFacts
+pub mod Making
+pub mod Comparing
