@@ -3,3 +3,5 @@ pub mod Lines
 pub mod MessageFacts
 pub mod DocumentFacts
 pub mod Explained
+pub mod Making
+pub mod Comparing

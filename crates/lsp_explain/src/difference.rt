@@ -2,7 +2,6 @@
 
 ghost use Rattle.std.specs.Prelude.{◌≡◌, ◌≢◌, ◌∷◌, ◌++◌, [], IfOk, OnOk};
 ghost use Rattle.std.specs.Str.{chars};
-ghost use Rattle.lsp_explain.specs.Fact.{recorded_line, saved_line};
 ghost use Rattle.lsp_explain.specs.DocumentFacts.{AreApart};
 ghost use Rattle.lsp_explain.specs.Comparing.{line_fact};
 

@@ -1,9 +1,8 @@
 //! Facts as they are gathered.
 
-ghost use Rattle.std.specs.Prelude.{◌≡◌, [], ◌∷◌, ◌++◌, option_map, slice_get, OnOk};
+ghost use Rattle.std.specs.Prelude.{◌≡◌, ◌<◌, ◌^◌, ◌+◌, [], ◌∷◌, ◌++◌, OnOk};
 ghost use Rattle.std.specs.Str.{chars};
-ghost use Rattle.lsp_explain.specs.Fact.{of_uri, held_line, recorded_line, saved_line, falls_inside};
-ghost use Rattle.lsp_explain.specs.Fact.{fact_view, facts_view};
+ghost use Rattle.lsp_explain.specs.Fact.{of_uri, fails, held_line, recorded_line, saved_line, falls_inside, fact_view, facts_view};
 ghost use Rattle.lsp_explain.specs.DocumentFacts.{line_length, first_length};
 
 use crate::fact::Fact;
@@ -67,6 +66,17 @@ impl FactList {
     {
         let uri = String::from_str(self.alloc(), uri)?;
         self.push(Fact::Uri(uri))
+    }
+
+    /// Adds the change behind so many others.
+    pub(crate) fn push_change(&mut self, count: usize, span: Option<Span>) -> Result<(), Memory>
+        requires { count + 1 < 2 ^ 64 }
+        ensures { OnOk result (self.new ≡ self.old ++ fails (count + 1) span ∷ []) }
+    {
+        self.push(Fact::Change {
+            which: count as u64 + 1,
+            span,
+        })
     }
 
     /// Adds the character into which a column falls.

@@ -1,11 +1,11 @@
 //! Changes of a document, made one after another until one fails.
 
-ghost use Rattle.std.specs.Prelude.{◌≡◌, ◌×◌, ℕ, true, false, Ok, Err, IfOk};
+ghost use Rattle.std.specs.Prelude.{◌≡◌, ℕ, true, false, Ok, Err, IfOk};
 ghost use Rattle.std.specs.Str.{chars};
 ghost use Rattle.std.specs.String.{string_bytes};
 ghost use Rattle.lsp_text.specs.Edits.{changed};
 ghost use Rattle.lsp_text.specs.Changes.{edits_of};
-ghost use Rattle.lsp_explain.specs.Making.{AreMade};
+ghost use Rattle.lsp_explain.specs.Making.{IsMade};
 
 use lsp_text::{TextFault, TextStore, change};
 use lsp_types::{Change, Encoding, Memory};
@@ -28,7 +28,7 @@ pub(crate) fn make<S: TextStore>(
     changes: &[Change],
     limit: u64,
 ) -> Result<Made, Memory>
-    ensures { IfOk result (λ made. AreMade limit encoding (S.content store.now) (edits_of changes.now) made.count (chars (string_bytes made.text))) }
+    ensures { IfOk result (λ made. IsMade limit encoding (S.content store.now) (edits_of changes.now) made.count (chars (string_bytes made.text))) }
 {
     let mut copy = store.copy(alloc)?;
     let count = make_in(&mut copy, encoding, changes, limit)?;
@@ -43,7 +43,7 @@ fn make_in<S: TextStore>(
     changes: &[Change],
     limit: u64,
 ) -> Result<usize, Memory>
-    ensures { IfOk result (λ count. AreMade limit encoding (S.content store.old) (edits_of changes.now) count (S.content store.new)) }
+    ensures { IfOk result (λ count. IsMade limit encoding (S.content store.old) (edits_of changes.now) count (S.content store.new)) }
 {
     let mut count = 0;
     while count < changes.len() {

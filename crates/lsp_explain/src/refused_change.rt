@@ -1,13 +1,12 @@
 //! Facts on a change that is not of the agreed kind, or that fails.
 
-ghost use Rattle.std.specs.Prelude.{◌≡◌, ◌≢◌, ◌×◌, ℕ, true, not, None, Some, Err, if◌then◌else◌, IfOk, OnOk, Option, is_some, slice_get};
-ghost use Rattle.std.specs.List.{position_or_len};
+ghost use Rattle.std.specs.Prelude.{◌≡◌, ◌<◌, ◌^◌, ◌+◌, Err, IfOk};
 ghost use Rattle.std.specs.Str.{chars};
 ghost use Rattle.std.specs.String.{string_bytes};
-ghost use Rattle.lsp_text.specs.Edits.{changed, applied};
+ghost use Rattle.lsp_text.specs.Edits.{changed};
 ghost use Rattle.lsp_text.specs.Changes.{edit_of, edits_of};
-ghost use Rattle.lsp_explain.specs.DocumentFacts.{fits, fitting, kind_facts, stray, IsStray, IsTooLong, AreRefusing, IsFailing};
-ghost use Rattle.lsp_explain.specs.Making.{Adds};
+ghost use Rattle.lsp_explain.specs.DocumentFacts.{fits, fitting, kind_facts, stray, IsStray, IsTooLong, IsReason, IsRefused};
+ghost use Rattle.lsp_explain.specs.Making.{HasStray};
 
 use crate::fact::Fact;
 use crate::fact_list::FactList;
@@ -36,16 +35,12 @@ pub(crate) fn misfit<S: TextStore>(
     let mut facts = FactList::new(alloc);
     facts.push(Fact::Sync(kind))?;
     let count = count_fitting(kind, changes);
-    let Some(change) = changes.get(count) else {
-        return Ok(facts);
-    };
-    facts.push(Fact::Change {
-        which: count as u64 + 1,
-        span: change.span,
-    })?;
-    let made = make(alloc, store, encoding, &changes[..count], limit)?;
-    if made.count == count {
-        facts.push_first_length(made.text.as_str(), encoding, change.span)?;
+    if count < changes.len() {
+        facts.push_change(count, changes[count].span)?;
+        let made = make(alloc, store, encoding, &changes[..count], limit)?;
+        if made.count == count {
+            facts.push_first_length(made.text.as_str(), encoding, changes[count].span)?;
+        }
     }
     Ok(facts)
 }
@@ -71,7 +66,7 @@ fn fits_kind(kind: SyncKind, change: &Change) -> bool
     }
 }
 
-/// The facts on a change that this rule refuses on the text that those before it made.
+/// The facts on the change behind so many others that this rule refuses, on the text that those made.
 pub(crate) fn refused(
     alloc: Global,
     encoding: Encoding,
@@ -81,36 +76,87 @@ pub(crate) fn refused(
     rule: u16,
     limit: u64,
 ) -> Result<FactList, Memory>
+    requires { count + 1 < 2 ^ 64 }
     ensures { IfOk result (λ facts. changed encoding (chars text.now) change.now.span (chars (string_bytes change.now.text)) limit ≡ Err rule
-        → Fails limit encoding (chars text.now) count (edit_of change.now) rule facts) }
+        → IsRefused limit encoding (chars text.now) count (edit_of change.now) rule facts) }
 {
     let mut facts = FactList::new(alloc);
-    facts.push(Fact::Change {
-        which: count as u64 + 1,
-        span: change.span,
-    })?;
-    push_reason(&mut facts, encoding, text, change, rule, limit)?;
+    facts.push_change(count, change.span)?;
+    facts.append(reason(alloc, encoding, text, change, rule, limit)?)?;
     Ok(facts)
 }
 
-/// Adds why this rule refuses a change.
-fn push_reason(
-    facts: &mut FactList,
+/// Why this rule refuses a change of a text.
+fn reason(
+    alloc: Global,
     encoding: Encoding,
     text: &str,
     change: &Change,
     rule: u16,
     limit: u64,
-) -> Result<(), Memory>
-    ensures { OnOk result (changed encoding (chars text.now) change.now.span (chars (string_bytes change.now.text)) limit ≡ Err rule
-        → Adds (AreRefusing limit encoding (chars text.now) (edit_of change.now) rule) facts.old facts.new) }
+) -> Result<FactList, Memory>
+    ensures { IfOk result (λ facts. changed encoding (chars text.now) change.now.span (chars (string_bytes change.now.text)) limit ≡ Err rule
+        → IsReason limit encoding (chars text.now) (edit_of change.now) rule facts) }
 {
     if rule == INSIDE_CHARACTER {
-        return push_stray(facts, encoding, text, change.span);
+        return stray_facts(alloc, encoding, text, change.span);
     }
+    let mut facts = FactList::new(alloc);
     facts.push_first_length(text, encoding, change.span)?;
     if rule == OVER_LIMIT {
-        return push_size(facts, encoding, text, change, limit);
+        facts.append(size_facts(alloc, encoding, text, change, limit)?)?;
     }
-    Ok(())
+    Ok(facts)
+}
+
+/// The line of the position of a span that lies inside a character, and that character.
+fn stray_facts(
+    alloc: Global,
+    encoding: Encoding,
+    text: &str,
+    span: Option<Span>,
+) -> Result<FactList, Memory>
+    ensures { IfOk result (λ facts. HasStray encoding (chars text.now) span → IsStray encoding (chars text.now) span facts) }
+{
+    let mut facts = FactList::new(alloc);
+    let Some(span) = span else {
+        return Ok(facts);
+    };
+    let position = stray_of(text, encoding, span);
+    facts.push_length(text, encoding, position)?;
+    if let Some(c) = char_inside(text, encoding, position) {
+        facts.push_inside(c)?;
+    }
+    Ok(facts)
+}
+
+/// The position of a span that lies inside a character: the first, unless that denotes a place.
+fn stray_of(text: &str, encoding: Encoding, span: Span) -> Position
+    ensures { result ≡ stray encoding (chars text.now) span }
+{
+    if char_inside(text, encoding, span.first).is_some() {
+        span.first
+    } else {
+        span.second
+    }
+}
+
+/// The bytes of UTF-8 that a text would have with a change, and how many it may have.
+fn size_facts(
+    alloc: Global,
+    encoding: Encoding,
+    text: &str,
+    change: &Change,
+    limit: u64,
+) -> Result<FactList, Memory>
+    ensures { IfOk result (λ facts. changed encoding (chars text.now) change.now.span (chars (string_bytes change.now.text)) limit ≡ Err OVER_LIMIT
+        → IsTooLong limit encoding (chars text.now) (edit_of change.now) facts) }
+{
+    let mut facts = FactList::new(alloc);
+    let Some(size) = size_with(text, encoding, change.span, change.text.as_str()) else {
+        return Ok(facts);
+    };
+    facts.push(Fact::Bytes(size))?;
+    facts.push(Fact::Limit(limit))?;
+    Ok(facts)
 }

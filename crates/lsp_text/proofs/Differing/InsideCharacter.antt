@@ -1,7 +1,7 @@
 -- The character inside which a column of a line lies, and a position of a text.
 use Rattle.std.proofs.Common.{◌≡◌, ◌<◌, ◌≤◌, ◌+◌, ◌-◌, ℕ, true, List, [], ◌∷◌, ◌++◌, length, get_or, take, drop, Option, Some, None, refl, sym, ap, subst, ◌∙◌, inl, inr, ⊎_elim, arith}
 use Rattle.std.proofs.lemmas.Bool.{cond-true, cond-false, lt-ltb, le-ltb, cases_lt}
-use Rattle.std.proofs.lemmas.List.{append-nil, take-append-drop, take_more, take_all, at_drop_more}
+use Rattle.std.proofs.lemmas.List.{take-append-drop, take_more, at_drop_more}
 use Rattle.std.specs.Option.{option_map, is_some}
 use Rattle.std.specs.List.{slice_get}
 use Rattle.lsp_types.specs.declared.position.Encoding.{Encoding}
@@ -10,7 +10,7 @@ use Rattle.lsp_text.specs.Lines.{Line, lines_of, text_of}
 use Rattle.lsp_text.specs.Places.{units, units_of_char, place_in_line, place_at, place_of}
 use Rattle.lsp_text.specs.InsideCharacter.{FallsInside, LiesInside, PositionsLieInside}
 use Rattle.lsp_text.proofs.Counting.{units-append}
-use Rattle.lsp_text.proofs.Denoting.{units_some, past, place_in_line-complete}
+use Rattle.lsp_text.proofs.Denoting.{past, place_in_line-complete}
 
 no_place : (enc : Encoding) (before : List ℕ) (c : ℕ) (after : List ℕ) (column : ℕ) → units enc before < column → column < units enc before + units_of_char enc c →
     place_in_line enc (before ++ c ∷ after) column ≡ None

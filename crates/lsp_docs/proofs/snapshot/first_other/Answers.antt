@@ -1,4 +1,4 @@
-use Rattle.std.proofs.Common.{◌≡◌, Bool, true, false, List, ap, sym, ◌∙◌, arith, String}
+use Rattle.std.proofs.Common.{◌≡◌, Bool, true, ap, sym, ◌∙◌, arith, String}
 use Rattle.std.specs.Global.{Global}
 use Rattle.std.specs.Prelude.{not}
 use Rattle.std.specs.List.{list_any}

@@ -1,9 +1,6 @@
-use Rattle.std.proofs.Common.{◌≡◌, ℕ, Option, Some, None, Err, inl, inr, ◌⊎◌, sym, ap, ◌∙◌}
+use Rattle.std.proofs.Common.{inl, inr, sym}
 use Rattle.std.specs.List.{replace_range}
 use Rattle.std.specs.Str.{chars}
-use Rattle.lsp_text.specs.Places.{place_of}
-use Rattle.lsp_text.specs.Sizes.{IsNeverMade, IsSizeWith}
-use Rattle.lsp_text.specs.Offsets.{IsTextOffset}
 use Rattle.lsp_text.proofs.Splices.{replaced-between, replaced-reversed, units-replaced, no_first, no_second}
 use Rattle.lsp_text.proofs.reading.size_between.Goals as goal
 

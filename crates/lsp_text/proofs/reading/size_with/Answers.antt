@@ -1,6 +1,5 @@
-use Rattle.std.proofs.Common.{◌≡◌, ℕ, List, Option, None, refl, sym, subst}
+use Rattle.std.proofs.Common.{None, refl, sym}
 use Rattle.std.specs.Str.{chars}
-use Rattle.lsp_types.specs.declared.position.Span.{Span}
 use Rattle.lsp_text.specs.Sizes.{IsSizeWith}
 use Rattle.lsp_text.proofs.Counting.{units-utf8_text}
 use Rattle.lsp_text.proofs.reading.size_with.Goals as goal

@@ -1,8 +1,8 @@
-use Rattle.std.proofs.Common.{◌≡◌, List, Option, Some, None, ap, sym, ◌∙◌, w32, option_map}
+use Rattle.std.proofs.Common.{Some, None, ap, sym, ◌∙◌, w32, option_map}
 use Rattle.std.proofs.lemmas.Int.{to_z-of_z}
 use Rattle.std.specs.Str.{chars}
 use mir.Val.{SFits}
-use Rattle.lsp_docs.specs.Documents.{Version, versioned, held}
+use Rattle.lsp_docs.specs.Documents.{versioned}
 use Rattle.lsp_docs.specs.Kept.{kept}
 use Rattle.lsp_docs.specs.Opened.{or_nothing}
 use Rattle.lsp_docs.specs.Others.{other_than}

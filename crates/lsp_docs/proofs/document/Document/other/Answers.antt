@@ -1,8 +1,8 @@
-use Rattle.std.proofs.Common.{◌≡◌, Some, ap, sym, ◌∙◌, w32}
+use Rattle.std.proofs.Common.{sym, ◌∙◌, w32}
 use Rattle.std.proofs.lemmas.Int.{to_z-of_z}
 use Rattle.std.specs.Str.{chars}
 use mir.Val.{SFits}
-use Rattle.lsp_docs.specs.Documents.{Version, versioned}
+use Rattle.lsp_docs.specs.Documents.{versioned}
 use Rattle.lsp_docs.proofs.Others.{found-first, found-behind}
 use Rattle.lsp_docs.proofs.document.Document.other.Goals as goal
 

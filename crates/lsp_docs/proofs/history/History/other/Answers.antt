@@ -1,4 +1,4 @@
-use Rattle.std.proofs.Common.{◌≡◌, ap, sym, ◌∙◌, w32, map}
+use Rattle.std.proofs.Common.{ap, sym, ◌∙◌, w32}
 use Rattle.std.proofs.lemmas.Int.{to_z-of_z}
 use Rattle.std.specs.List.{find}
 use Rattle.std.specs.Option.{option_map}

@@ -1,4 +1,4 @@
-use Rattle.std.proofs.Common.{◌≡◌, List, Option, None, subst, sym, ap, ◌∙◌, w32}
+use Rattle.std.proofs.Common.{List, subst, sym, ap, ◌∙◌, w32}
 use Rattle.std.proofs.lemmas.Int.{to_z-of_z}
 use Rattle.std.specs.List.{list_any}
 use Rattle.std.specs.Str.{chars}

@@ -1,4 +1,4 @@
-use Rattle.std.proofs.Common.{◌≡◌, List, subst, sym, ap, ◌∙◌, w32}
+use Rattle.std.proofs.Common.{List, subst, sym, ap, w32}
 use Rattle.std.proofs.lemmas.Int.{to_z-of_z}
 use Rattle.std.specs.List.{list_any}
 use Rattle.std.specs.Str.{chars}
@@ -6,7 +6,6 @@ use mir.Val.{SFits}
 use Rattle.lsp_docs.specs.Documents.{Version, versioned}
 use Rattle.lsp_docs.specs.Rules.{differs}
 use Rattle.lsp_docs.specs.Others.{FindsOther}
-use Rattle.lsp_docs.specs.State.{queue_of}
 use Rattle.lsp_docs.proofs.Queues.{queue_of-there, queue_of-absent}
 use Rattle.lsp_docs.proofs.waiting.Waiting.other.Goals as goal
 
