@@ -35,7 +35,7 @@ pub fn run_task<R: Source, W: Sink>(
     match task {
         Task::Check(Completeness::Ignored) => run_check(alloc, source, sink, limits),
         Task::Check(Completeness::Required) => run_check_complete(alloc, source, sink, limits),
-        Task::Show => run_show(alloc, source, sink, limits),
+        Task::Show(lines) => run_show(alloc, source, sink, limits, lines),
         Task::Text { number, uri } => run_text(alloc, source, sink, limits, number.get(), uri),
         Task::Event { number } => run_event(alloc, source, sink, limits, number.get()),
         Task::Normal => run_normal(alloc, source, sink, limits),

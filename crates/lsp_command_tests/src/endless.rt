@@ -116,7 +116,7 @@ fn a_log_without_end_through_each_run(rt: HostRuntime) -> Result<(), Fail> {
         Task::Check(Completeness::Required),
         REPORT,
     );
-    check_snapshots(&rt, alloc, HEAD, Task::Show, shown.as_str());
+    check_snapshots(&rt, alloc, HEAD, Task::Show(Lines::Short), shown.as_str());
     check_snapshots(&rt, alloc, HEAD, Task::Normal, normal.as_str());
     check_snapshots(&rt, alloc, HEAD, Task::Text { number, uri: "a" }, "");
     let number = "372".parse::<NonZeroU64>()?;

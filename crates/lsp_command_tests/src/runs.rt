@@ -127,7 +127,8 @@ fn task_of(word: &str) -> Option<Task<'static>> {
     match word {
         "=" => Some(Task::Check(Completeness::Ignored)),
         "complete" => Some(Task::Check(Completeness::Required)),
-        "show" => Some(Task::Show),
+        "show" => Some(Task::Show(Lines::Short)),
+        "long" => Some(Task::Show(Lines::Long)),
         "normal" => Some(Task::Normal),
         "upgrade" => Some(Task::Upgrade),
         "lengths" => Some(Task::Frames(Mode::Lengths)),

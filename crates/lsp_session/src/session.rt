@@ -161,6 +161,15 @@ impl Session {
         }
     }
 
+    /// Whether a result has answered an `initialize` (LSP 3.17, "Initialize Request"), so that the
+    /// handshake is settled.
+    pub fn is_done(&self) -> bool
+        ensures { (before : List Sent) → Stands self.now before
+            → result ≡ handshake.is_done before }
+    {
+        self.agreed.is_some()
+    }
+
     /// Whether an `initialize` waits for its response, so that the value of a result may matter.
     pub fn awaits_initialize(&self) -> bool
         ensures { (before : List Sent) → Stands self.now before

@@ -19,10 +19,10 @@ use Rattle.lsp_verdict.proofs.LookBackLemmas.{first_of-snoc, first_of-append, ea
 -- ---- the events that are kept
 
 -- one event more
-abbrev more : Terms → List Event → Event → List Event
+abbrev pub more : Terms → List Event → Event → List Event
 more terms kept e = if is_some (offence terms kept e) then kept else kept ++ e ∷ []
 
-kept_more : (terms : Terms) (before xs : List Event) (e : Event) → kept_after terms before (xs ++ e ∷ []) ≡ more terms (kept_after terms before xs) e
+pub kept_more : (terms : Terms) (before xs : List Event) (e : Event) → kept_after terms before (xs ++ e ∷ []) ≡ more terms (kept_after terms before xs) e
 kept_more terms before [] e = refl
 kept_more terms before (x ∷ xs) e = kept_more terms (more terms before x) xs e
 
