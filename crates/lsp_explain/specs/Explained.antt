@@ -1,5 +1,5 @@
 -- What is said of a log that offends: with its offences, the events that offend and the facts on them.
-use Rattle.std.specs.Prelude.{◌≡◌, ℕ, ◌+◌, List, [], ◌∷◌, ◌++◌, map, filter, take, length, Bool, true, false, ◌==◌, nat_lt, not, if◌then◌else◌, Option, Some, None, option_map, unwrap_or, decimal}
+use Rattle.std.specs.Prelude.{◌≡◌, ℕ, ◌+◌, List, [], ◌∷◌, ◌++◌, map, filter, take, length, Bool, true, false, ◌==◌, nat_lt, not, if◌then◌else◌, Option, Some, None, option_map, unwrap_or, codes, decimal}
 use Rattle.std.specs.List.{AllZip, flat_map}
 use Rattle.lsp_frame.specs.Bounds.{Bounds}
 use Rattle.lsp_frame.specs.declared.format.Format.{Format}
@@ -24,7 +24,7 @@ use Rattle.lsp_verdict.specs.Verdict.{Verdict, yes, no, bad_log, Summary, summar
 use Rattle.lsp_verdict.specs.declared.completeness.Completeness.{Completeness}
 use Rattle.lsp_explain.specs.DocumentFacts.{AreDocumentFacts}
 use Rattle.lsp_explain.specs.Fact.{Fact, in_record}
-use Rattle.lsp_explain.specs.Lines.{fact_line, fact_lines, event_words, event_line}
+use Rattle.lsp_explain.specs.Lines.{fact_line, fact_lines, event_line}
 use Rattle.lsp_explain.specs.MessageFacts.{content_facts, session_facts, lack_facts}
 use Rattle.lsp_explain.specs.declared.scope.Scope.{Scope}
 use Rattle.lsp_explain.specs.declared.scope.Scope.TheVariants.{First, All}
@@ -108,7 +108,7 @@ pub record Explains (terms : Terms) (b : Breach) (e : Explained) : Type 0 where
 
 -- the place at which no event stands, whose it is
 abbrev pub end_event : Verdict → List ℕ
-end_event (no rule by count event) = event_words (line (decimal event ∷ who_name by ∷ []))
+end_event (no rule by count event) = line (codes "event" ∷ decimal event ∷ who_name by ∷ [])
 end_event (yes s) = []
 end_event (bad_log at code) = []
 

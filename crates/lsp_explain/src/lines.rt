@@ -7,7 +7,6 @@ ghost use Rattle.lsp_rpc.specs.Ident.{id_view};
 ghost use Rattle.lsp_docs.specs.Texts.{byte_len};
 ghost use Rattle.lsp_rpc.specs.View.{message_view, texts_view};
 ghost use Rattle.lsp_verdict.specs.Report.{line};
-ghost use Rattle.lsp_verdict.specs.Shown.{message_line, snapshot_line};
 ghost use Rattle.lsp_explain.specs.Fact.{fact_view, facts_view, has_kind, differs_at, fails, in_phase, has_id, waits, keeps, offers};
 ghost use Rattle.lsp_explain.specs.Lines as spec;
 
@@ -214,7 +213,7 @@ pub(crate) fn push_message_event(
     message: &Message,
 ) -> Result<(), Memory>
     ensures { OnOk result (string_bytes lines.new
-        ≡ string_bytes lines.old ++ spec.event_words (message_line number side (message_view message.now))) }
+        ≡ string_bytes lines.old ++ spec.message_event number side (message_view message.now)) }
 {
     let name = side_name(side);
     let words = words_of(alloc, message)?;
@@ -224,7 +223,7 @@ pub(crate) fn push_message_event(
 
 /// Adds the line of an event of which nothing can be named but whose it is.
 pub(crate) fn push_side_event(lines: &mut String, number: u64, side: Side) -> Result<(), Memory>
-    ensures { OnOk result (string_bytes lines.new ≡ string_bytes lines.old ++ spec.event_words (spec.side_line number side)) }
+    ensures { OnOk result (string_bytes lines.new ≡ string_bytes lines.old ++ spec.side_event number side) }
 {
     let name = side_name(side);
     writeln!(lines, "event {number} {name}")?;
@@ -247,7 +246,7 @@ pub(crate) fn push_snapshot_event(
     text: &str,
 ) -> Result<(), Memory>
     ensures { OnOk result (string_bytes lines.new
-        ≡ string_bytes lines.old ++ spec.event_words (snapshot_line number uri.now version (chars text.now))) }
+        ≡ string_bytes lines.old ++ spec.snapshot_event number uri.now version (chars text.now)) }
 {
     let bytes = byte_count(text);
     write!(lines, "event {number} snapshot {version} {bytes} ")?;

@@ -22,7 +22,7 @@ const FIRST_ON_DOCUMENTS: u16 = 601;
 
 /// What is said of a message of a side that offends by this rule, 301 to 702. Session and documents hold
 /// the kept events before it.
-fn message_facts<S: TextStore>(
+pub(crate) fn message_facts<S: TextStore>(
     alloc: Global,
     session: &Session,
     docs: &Docs<S>,
@@ -43,7 +43,7 @@ fn message_facts<S: TextStore>(
 }
 
 /// What is said of a snapshot that offends by this rule.
-fn shown_facts<S: TextStore>(
+pub(crate) fn shown_facts<S: TextStore>(
     alloc: Global,
     session: &Session,
     docs: &Docs<S>,
