@@ -12,8 +12,9 @@ use Rattle.lsp_rpc.specs.Words.{id_text, response_id_text, words_of}
 use Rattle.lsp_session.specs.declared.phase.Phase.{Phase}
 use Rattle.lsp_session.specs.declared.phase.Phase.TheVariants as phases
 use Rattle.lsp_verdict.specs.Event.{Event, message, fault, snapshot}
-use Rattle.lsp_verdict.specs.Report.{line, side_name, kind_name}
+use Rattle.lsp_verdict.specs.Report.{line, side_name, who_name, kind_name}
 use Rattle.lsp_verdict.specs.Shown.{snapshot_words}
+use Rattle.lsp_verdict.specs.declared.verdict.Who.{Who}
 use Rattle.lsp_explain.specs.Fact.{Fact, of_uri, holds, sends, has_changes, has_kind, fails, line_has, falls_inside, would_have, may_have, differs_at, held_line, recorded_line, saved_line, keeps, has_id, in_phase, offers, picks, registers, waits, begins, in_record}
 
 -- ---- words
@@ -90,3 +91,7 @@ abbrev pub event_line : ℕ → Event → List ℕ
 event_line number (message m) = message_event number m.side m.message
 event_line number (fault side rule) = side_event number side
 event_line number (snapshot uri version text) = snapshot_event number uri version text
+
+-- the place at which no event stands, and whose the next one would be
+abbrev pub end_event : ℕ → Who → List ℕ
+end_event number by = line (codes "event" ∷ decimal number ∷ who_name by ∷ [])

@@ -3,23 +3,32 @@ ghost use Rattle.std.specs.Prelude.{◌≡◌, ◌++◌, ℕ, List, Some, IfOk, 
 ghost use Rattle.lsp_docs.specs.Terms.{Terms};
 ghost use Rattle.lsp_events.specs.Standing.{Holds};
 ghost use Rattle.lsp_survey.specs.Walking.{IsOffending};
-ghost use Rattle.lsp_verdict.specs.Event.{Event};
+ghost use Rattle.lsp_session.specs.State.{Stands};
+ghost use Rattle.lsp_verdict.specs.Event.{Event, sent_in};
+ghost use Rattle.lsp_verdict.specs.Given.{offence_view};
 ghost use Rattle.lsp_verdict.specs.Placed.{Raw, Reads};
-ghost use Rattle.lsp_verdict.specs.Verdict.{offence};
-ghost use Rattle.lsp_explain.specs.Explained.{AreFacts};
+ghost use Rattle.lsp_verdict.specs.Verdict.{offence, no};
+ghost use Rattle.lsp_verdict.specs.declared.verdict.Who.{Who};
+ghost use Rattle.lsp_explain.specs.Explained.{AreFacts, end_explained, end_facts, said_of};
 ghost use Rattle.lsp_explain.specs.Fact.{Fact as SpecFact, facts_view};
 ghost use Rattle.lsp_explain.specs.Lines.{event_line, fact_lines};
 
 use crate::fact::Fact;
-use crate::lines::{push_facts, push_message_event, push_side_event, push_snapshot_event};
-use crate::messages::content_facts;
+use crate::lines::{
+    push_end_event, push_facts, push_message_event, push_side_event, push_snapshot_event,
+};
+use crate::messages::{content_facts, lack_facts};
 use crate::offending::{message_facts, shown_facts};
 use lsp_docs::Docs;
 use lsp_rpc::Memory;
 use lsp_session::Session;
 use lsp_survey::{Found, Offending};
 use lsp_text::TextStore;
+use lsp_verdict::Offence;
 use std::alloc::Global;
+
+/// A stream that ends inside a frame.
+const ENDS_INSIDE: u16 = 107;
 
 /// The facts on what offends by this rule. Session and documents hold the kept events before it.
 fn facts_of<S: TextStore>(
@@ -88,5 +97,31 @@ pub(crate) fn push_said<S: TextStore>(
     let Found { offence, offending } = found;
     push_event(alloc, lines, offence.event, offending)?;
     let facts = facts_of(alloc, session, docs, offending, offence.rule)?;
+    push_facts(alloc, lines, facts.as_slice())
+}
+
+/// The facts on how a session ends that breaks this rule: 107 has none, 303 and 407 those on what it lacks.
+fn end_facts(alloc: Global, session: &Session, rule: u16) -> Result<Vec<Fact>, Memory>
+    ensures { IfOk result (λ facts. (kept : List Event) (who : Who) (number event : ℕ) → Stands session.now (sent_in kept)
+        → facts_view facts.items ≡ end_facts kept (no rule who number event)) }
+{
+    if rule == ENDS_INSIDE {
+        return Ok(Vec::new(alloc));
+    }
+    lack_facts(alloc, session)
+}
+
+/// Adds what is said of how a session ends. It stands for the kept events.
+pub(crate) fn push_end(
+    alloc: Global,
+    lines: &mut String,
+    session: &Session,
+    end: &Offence,
+) -> Result<(), Memory>
+    ensures { OnOk result ((kept : List Event) → Stands session.now (sent_in kept)
+        → string_bytes lines.new ≡ string_bytes lines.old ++ said_of (end_explained kept (offence_view end.now).no)) }
+{
+    push_end_event(lines, end.event, end.who)?;
+    let facts = end_facts(alloc, session, end.rule)?;
     push_facts(alloc, lines, facts.as_slice())
 }
