@@ -1,5 +1,5 @@
 -- What each task answers and writes: what the run of its name does with its arguments.
-use Rattle.std.specs.Prelude.{◌≡◌, ◌⊎◌, ℕ, List, Result, Ok, Err, IfOk, OnOk, OnErr, IsOk}
+use Rattle.std.specs.Prelude.{◌≡◌, ◌⊎◌, ℕ, List, Result, Ok, Err, IfOk, OnErr, IsOk}
 use Rattle.std.specs.Io.KnownBytes.{IsAtEnd}
 use lib.Utf8.{encodes}
 use Rattle.std.specs.Int.NonZero.{non_zero_u64_get}

@@ -3,7 +3,7 @@ use crate::readers::Endless;
 use crate::runs::word_of;
 use lsp_command::{Task, run_task};
 use lsp_judge::{
-    Completeness, Input, Limits, LogCode, Mode, Output, TextAnswer, Verdict, text_after,
+    Completeness, Input, Limits, Lines, LogCode, Mode, Output, TextAnswer, Verdict, text_after,
 };
 use std::alloc::Global;
 use std::num::NonZeroU64;

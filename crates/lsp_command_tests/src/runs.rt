@@ -4,7 +4,9 @@ use crate::faults::check_faults;
 use crate::logs::{Log, split_word};
 use crate::readers::Pieces;
 use lsp_command::{Task, report_apart, run_task};
-use lsp_judge::{Completeness, Input, Limits, Mode, Outcome, Output, RunFault, Verdict};
+use lsp_judge::{
+    Completeness, Input, Limits, Lines, Mode, Outcome, Output, RunFault, Verdict,
+};
 use std::alloc::Global;
 use std::num::NonZeroU64;
 use std::process::Abort;

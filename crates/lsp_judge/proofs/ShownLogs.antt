@@ -18,7 +18,7 @@ use Rattle.lsp_verdict.specs.declared.outcome.RunFault.TheVariants as faults
 use Rattle.lsp_verdict.specs.declared.outcome.Outcome.{Outcome}
 use Rattle.lsp_verdict.specs.declared.outcome.Outcome.TheVariants.{Judged}
 use Rattle.lsp_verdict.specs.declared.verdict.Verdict as code
-use Rattle.lsp_verdict.specs.Event.{Event, message, fault, snapshot}
+use Rattle.lsp_verdict.specs.Event.{Event, message, fault as broken, snapshot}
 use Rattle.lsp_verdict.specs.Given.{verdict_view}
 use Rattle.lsp_verdict.specs.LookBack.{each_of, each_from}
 use Rattle.lsp_verdict.specs.Outcome.{IsVerdict}
@@ -62,9 +62,9 @@ module _ (lines : Lines) where
       ap (flat_map (λ shown. shown)) (each_of-snoc (line_at lines) xs x)
       ∙ flat_map-append (λ shown. shown) (each_of (line_at lines) xs) (cons_option (line_at lines xs x) [])
       ∙ ap (λ l. lines_of lines xs ++ l) (
-          alone (line_at lines xs x)
-          ∙ ap (λ n. unwrap_or (event_line lines n (count_of (belongs_to (whose x)) xs + 1) x) []) (sym is.0)
-          ∙ ap (λ n. unwrap_or (event_line lines place.event n x) []) (sym is.1)
+      alone (line_at lines xs x)
+      ∙ ap (λ n. unwrap_or (event_line lines n (count_of (belongs_to (whose x)) xs + 1) x) []) (sym is.0)
+      ∙ ap (λ n. unwrap_or (event_line lines place.event n x) []) (sym is.1)
       )
 
 -- ---- a log
@@ -95,8 +95,8 @@ own_is (message m) = by_side m.side
     by_side : (s : Side) → belongs_to (who_of s) (message (record m { side = s })) ≡ true
     by_side Editor = refl
     by_side Server = refl
-own_is (fault Editor rule) = refl
-own_is (fault Server rule) = refl
+own_is (broken Editor rule) = refl
+own_is (broken Server rule) = refl
 own_is (snapshot uri number text) = refl
 
 -- an event is one more of its own

@@ -37,12 +37,7 @@ fn push_uri(alloc: Global, text: &mut String, uri: &str) -> Result<(), Memory>
 }
 
 /// Adds the URI of a document and the version that it is opened at or changed to.
-fn push_version(
-    alloc: Global,
-    text: &mut String,
-    uri: &str,
-    version: i32,
-) -> Result<(), Memory>
+fn push_version(alloc: Global, text: &mut String, uri: &str, version: i32) -> Result<(), Memory>
     ensures { OnOk result (string_bytes text.new
         ≡ string_bytes text.old ++ spaced (quoted uri.now ∷ signed_decimal version ∷ [])) }
 {

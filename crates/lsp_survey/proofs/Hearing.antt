@@ -124,7 +124,7 @@ module _ (old mid new : Walk) (notes : List Noted) (number : ℤ) (uri text : St
       → PassesOver mid new who.Snapshot rule false says (λ o. o ≡ what.Snapshot number uri text) given → Hears raw old.events.docs.terms new notes given
   late_heard rule holds is passes =
       passed_over raw old mid new notes shown who.Snapshot rule says Utf16 Nothing (λ o. o ≡ what.Snapshot number uri text) given walks counts same broken_is same_terms holds (refl, refl) refl is refl
-      (λ o e. subst (IsOffending raw old.events.docs.terms (kept_of old.events.docs.terms (events_of notes)) rule) (sym e) (refl, (refl, refl))) passes
+      (λ o e. subst (IsOffending raw old.events.docs.terms (kept_of old.events.docs.terms (events_of notes)) rule) (sym e) (refl, refl, refl)) passes
 
   pub shown_heard : Holds mid.events.session mid.events.docs (kept_of old.events.docs.terms (events_of notes) ++ shown.event ∷ []) → rule_at old.events.docs.terms (events_of notes) shown.event ≡ None
       → given ≡ heard.Kept → Counted mid new who.Snapshot None false → AreAfter None (says Utf16 Nothing) mid.notes.map.entries new.notes.map.entries → Hears raw old.events.docs.terms new notes given

@@ -103,9 +103,6 @@ impl Survey {
         }
     }
 
-    /// What the events heard have come to.
-    pub(crate) fn walk(&mut self) -> &mut Walk { &mut self.walk }
-
     /// Becomes a survey of this format: where it is for another, one that took no record.
     pub(crate) fn follow_format(&mut self, format: Format)
         ensures { IsFitted format self.old self.new }

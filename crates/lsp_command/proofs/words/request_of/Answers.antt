@@ -1,4 +1,4 @@
-use Rattle.std.proofs.Common.{◌≡◌, ◌∙◌, IfSome, Some, sym, ap, subst, option_map}
+use Rattle.std.proofs.Common.{◌≡◌, ◌∙◌, Some, sym, ap, subst}
 use Rattle.clap.specs.Matches.{found_of}
 use Rattle.lsp_command.specs.Words.{AsksCheck, AsksShow, file_of}
 use Rattle.lsp_command.proofs.words.request_of.Goals as goal

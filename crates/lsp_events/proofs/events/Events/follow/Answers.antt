@@ -9,7 +9,7 @@ use Rattle.lsp_session.specs.State as session
 use Rattle.lsp_docs.specs.State as docs
 use Rattle.lsp_verdict.specs.Calls.{calls}
 use Rattle.lsp_verdict.specs.Event.{sent_in}
-use Rattle.lsp_verdict.proofs.Quiet.{leaves_session}
+use Rattle.lsp_verdict.proofs.Offences.Quiet.{leaves_session}
 use Rattle.lsp_events.proofs.Apart.{same_act, same_outline, whole_left, carried, rule_named}
 use Rattle.lsp_events.proofs.Hearing.{message_refused, call_refused, heard}
 use Rattle.lsp_events.proofs.events.Events.follow.Goals as goal
