@@ -1,2 +1,3 @@
 pub mod Differing
-pub mod Making
+pub mod MadeChanges
+pub mod Refusals
