@@ -1,7 +1,8 @@
 pub mod Differing
 pub mod Explaining
 pub mod FirstOffence
-pub mod Making
+pub mod MadeChanges
+pub mod Refusals
 pub mod Refused
 pub mod Spoken
 pub mod Worked

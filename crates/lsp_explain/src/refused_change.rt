@@ -1,11 +1,12 @@
 //! Facts on a change that is not of the agreed kind, or that fails.
 
-ghost use Rattle.std.specs.Prelude.{◌≡◌, ◌<◌, ◌^◌, ◌+◌, Err, IfOk};
+ghost use Rattle.std.specs.Prelude.{◌≡◌, ◌<◌, ◌^◌, ◌+◌, length, slice_get, Err, IfOk};
+ghost use Rattle.std.specs.List.{prefix_len};
 ghost use Rattle.std.specs.Str.{chars};
 ghost use Rattle.std.specs.String.{string_bytes};
 ghost use Rattle.lsp_text.specs.Edits.{changed};
 ghost use Rattle.lsp_text.specs.Changes.{edit_of, edits_of};
-ghost use Rattle.lsp_explain.specs.DocumentFacts.{fits, fitting, kind_facts, stray, IsStray, IsTooLong, IsReason, IsRefused};
+ghost use Rattle.lsp_explain.specs.DocumentFacts.{fits, misfit_facts, kind_facts, stray, IsStray, IsTooLong, IsReason, IsRefused};
 ghost use Rattle.lsp_explain.specs.Making.{HasStray};
 
 use crate::fact::Fact;
@@ -35,19 +36,40 @@ pub(crate) fn misfit<S: TextStore>(
     let mut facts = FactList::new(alloc);
     facts.push(Fact::Sync(kind))?;
     let count = count_fitting(kind, changes);
-    if count < changes.len() {
-        facts.push_change(count, changes[count].span)?;
-        let made = make(alloc, store, encoding, &changes[..count], limit)?;
-        if made.count == count {
-            facts.push_first_length(made.text.as_str(), encoding, changes[count].span)?;
-        }
+    if changes.len() <= count {
+        return Ok(facts);
     }
+    facts.append(misfit_at(alloc, store, encoding, changes, count, limit)?)?;
+    Ok(facts)
+}
+
+/// The facts on the change behind so many others, which is not of the kind: its span, and the length of the line in which
+/// that begins, where the changes before it can be made.
+fn misfit_at<S: TextStore>(
+    alloc: Global,
+    store: &S,
+    encoding: Encoding,
+    changes: &[Change],
+    count: usize,
+    limit: u64,
+) -> Result<FactList, Memory>
+    requires { count < length changes.now }
+    ensures { IfOk result (λ facts. facts ≡ misfit_facts limit encoding (S.content store.now) (edits_of changes.now) count (slice_get (edits_of changes.now) count)) }
+{
+    let mut facts = FactList::new(alloc);
+    let span = changes[count].span;
+    facts.push_change(count, span)?;
+    let made = make(alloc, store, encoding, &changes[..count], limit)?;
+    if made.count < count {
+        return Ok(facts);
+    }
+    facts.push_first_length(made.text.as_str(), encoding, span)?;
     Ok(facts)
 }
 
 /// How many changes stand before the first that is not of the kind.
 fn count_fitting(kind: SyncKind, changes: &[Change]) -> usize
-    ensures { result ≡ fitting kind (edits_of changes.now) }
+    ensures { result ≡ prefix_len (λ change. fits kind (edit_of change)) changes.now }
 {
     changes
         .iter()
@@ -124,9 +146,10 @@ fn stray_facts(
     };
     let position = stray_of(text, encoding, span);
     facts.push_length(text, encoding, position)?;
-    if let Some(c) = char_inside(text, encoding, position) {
-        facts.push_inside(c)?;
-    }
+    let Some(c) = char_inside(text, encoding, position) else {
+        return Ok(facts);
+    };
+    facts.push_inside(c)?;
     Ok(facts)
 }
 
@@ -134,10 +157,9 @@ fn stray_facts(
 fn stray_of(text: &str, encoding: Encoding, span: Span) -> Position
     ensures { result ≡ stray encoding (chars text.now) span }
 {
-    if char_inside(text, encoding, span.first).is_some() {
-        span.first
-    } else {
-        span.second
+    match char_inside(text, encoding, span.first) {
+        Some(_) => span.first,
+        None => span.second,
     }
 }
 

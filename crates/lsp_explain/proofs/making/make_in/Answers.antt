@@ -1,6 +1,6 @@
 use Rattle.std.proofs.Common.{◌≡◌, ◌≤◌, ℕ, ◌+◌, ap, sym, ◌∙◌, arith}
 use Rattle.lsp_text.proofs.Edits.Applied.{none_made, one_more_made}
-use Rattle.lsp_explain.proofs.Making.{all_made, next_fails}
+use Rattle.lsp_explain.proofs.MadeChanges.{all_made, next_fails}
 use Rattle.lsp_explain.proofs.making.make_in.Goals as goal
 
 pub returns-then-not-branch : goal.returns-then-not-branch

@@ -11,7 +11,7 @@ use Rattle.lsp_explain.proofs.fact_list.FactList.push_inside.Goals as goal
 pub returns : goal.returns
 returns c =
     let ch = c.args.c in
-    let is : scalar ch ≡ true = c.ranges.c.scalar in
+    let is : scalar ch ≡ true = c.ranges.c.0 in
     let bytes : string_bytes c.push.new.self ≡ encodes (ch ∷ []) =
     c.in_ok-push.ensures.bytes ∙ ap (λ bs. bs ++ encode ch) c.new-text.ensures.bytes ∙ sym (append-nil (encode ch)) in
     let same : chars (string_bytes c.push.new.self) ≡ ch ∷ [] = ap chars bytes ∙ chars-encodes (ch ∷ []) (and_from (scalar ch) true is refl) in
