@@ -9,7 +9,7 @@ use Rattle.lsp_verdict.specs.LookBack.{each_from, each_of}
 use Rattle.lsp_verdict.specs.Offences.{Noted, Offence, IsNoted, events_of, rule_at, offence_by, offence_at, offences}
 use Rattle.lsp_verdict.specs.Placed.{Raw}
 use Rattle.lsp_verdict.proofs.LookBackLemmas.{each_from-append, each_of-snoc}
-use Rattle.lsp_explain.specs.Explained.{Heard, Breach, Explained, Explains, raws_of, notes_of, breach_at, breaches, is_cause, in_scope}
+use Rattle.lsp_explain.specs.Explained.{Heard, Breach, Explained, Explains, raws_of, notes_of, breach, breach_at, breaches, is_cause, in_scope}
 use Rattle.lsp_explain.specs.declared.scope.Scope.{Scope}
 use Rattle.lsp_explain.specs.declared.scope.Scope.TheVariants.{First, All}
 
@@ -42,9 +42,6 @@ hears note (raw ∷ raws) =
     record { heard = record { raw = raw; note = first.0 } ∷ rest.heard; are = ap (λ w. raw ∷ w) rest.are; noted = (first.1, rest.noted) }
 
 -- ---- those that offend
-
-abbrev pub breach : List Heard → Heard → ℕ → Breach
-breach before h rule = record { before = before; here = h; rule = rule }
 
 abbrev pub offence_of : Terms → Breach → Offence
 offence_of terms b = offence_by terms (notes_of b.before) b.here.note b.rule

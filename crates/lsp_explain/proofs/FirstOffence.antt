@@ -18,9 +18,9 @@ use Rattle.lsp_verdict.specs.declared.completeness.Completeness.{Completeness}
 use Rattle.lsp_verdict.proofs.Below.{some_stream}
 use Rattle.lsp_verdict.proofs.Outcomes.{placed_front}
 use Rattle.lsp_verdict.proofs.Sessions.{some_placed}
-use Rattle.lsp_explain.specs.Explained.{Heard, Breach, Explained, Explains, raws_of, notes_of, breach_at, breaches, in_scope, end_explained, shown_in, IsExplained}
+use Rattle.lsp_explain.specs.Explained.{Heard, Breach, Explained, Explains, raws_of, notes_of, breach, breach_at, breaches, in_scope, end_explained, shown_in, IsExplained}
 use Rattle.lsp_explain.specs.declared.scope.Scope.TheVariants.{First}
-use Rattle.lsp_explain.proofs.Explaining.{Hears, hears, breach, offence_of, offences_are, breaches-first, raws-append, noted-append}
+use Rattle.lsp_explain.proofs.Explaining.{Hears, hears, offence_of, offences_are, breaches-first, raws-append, noted-append}
 
 -- what is explained of a log of which this offence is the first
 pub record IsFirst (completeness : Completeness) (limits : Bounds) (log : List ℕ) (o : Offence) (e : Explained) : Type 0 where

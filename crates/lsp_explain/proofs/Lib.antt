@@ -1,8 +1,12 @@
 pub mod Differing
+pub mod EndOfLog
 pub mod Explaining
 pub mod FirstOffence
 pub mod MadeChanges
 pub mod Refusals
 pub mod Refused
+pub mod SaidFacts
 pub mod Spoken
+pub mod Telling
+pub mod ToldFirst
 pub mod Worked

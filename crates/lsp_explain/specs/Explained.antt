@@ -48,9 +48,11 @@ pub record Breach : Type 0 where
   pub here : Heard
   pub rule : ℕ
 
+abbrev pub breach : List Heard → Heard → ℕ → Breach
+breach before h rule = record { before = before; here = h; rule = rule }
+
 abbrev pub breach_at : Terms → List Heard → Heard → Option Breach
-breach_at terms before h =
-    option_map (λ rule. let b : Breach = record { before = before; here = h; rule = rule } in b) (rule_at terms (events_of (notes_of before)) h.note.event)
+breach_at terms before h = option_map (breach before h) (rule_at terms (events_of (notes_of before)) h.note.event)
 
 -- all of them
 abbrev pub breaches : Terms → List Heard → List Breach

@@ -3,5 +3,6 @@ pub mod Lines
 pub mod MessageFacts
 pub mod DocumentFacts
 pub mod Explained
+pub mod RunSteps
 pub mod Making
 pub mod Comparing
