@@ -1,3 +1,4 @@
 pub mod Differing
 pub mod MadeChanges
 pub mod Refusals
+pub mod DocumentRules
