@@ -1,3 +1,5 @@
+pub mod Spoken
+pub mod Worked
 pub mod Differing
 pub mod MadeChanges
 pub mod Refusals

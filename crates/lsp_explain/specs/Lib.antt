@@ -1,4 +1,6 @@
 pub mod Fact
+pub mod Lines
+pub mod MessageFacts
 pub mod DocumentFacts
 pub mod Making
 pub mod Comparing

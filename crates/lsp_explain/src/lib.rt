@@ -7,8 +7,13 @@ mod difference;
 mod documents;
 mod fact;
 mod fact_list;
+mod lines;
 mod making;
+mod messages;
 mod refused_change;
+mod scope;
 
 pub use documents::{act_facts, snapshot_facts};
 pub use fact::Fact;
+pub use messages::{content_facts, lack_facts, session_facts};
+pub use scope::Scope;

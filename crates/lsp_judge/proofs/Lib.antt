@@ -1,7 +1,4 @@
-pub mod Edits
-pub mod Apart
-pub mod Hearing
-pub mod Following
+pub mod Ruled
 pub mod NextContent
 pub mod Records
 pub mod Pulling

@@ -1,11 +1,10 @@
 pub mod Answered
-pub mod Faults
 pub mod Rulings
 pub mod Standing
 pub mod Next
 pub mod Hearing
 pub mod TextAnswers
 pub mod LogEvents
+pub mod LineWords
 pub mod ShownLog
 pub mod UpgradedLog
-pub mod Apart

@@ -29,6 +29,4 @@ pub mod MoreKept
 pub mod UpgradeLaws
 pub mod OpenAtEnd
 pub mod Completing
-pub mod Offending
-pub mod Surveying
-pub mod Quiet
+pub mod Offences

@@ -4,6 +4,8 @@ use Rattle.lsp_types.specs.declared.side.Side.{Side}
 use Rattle.lsp_session.specs.Entry.{Entry, request_view}
 use Rattle.lsp_session.specs.declared.pending.OpenRequest.{OpenRequest}
 use Rattle.lsp_docs.specs.State.{capped}
+use Rattle.lsp_verdict.specs.Offences as offences
+use Rattle.lsp_verdict.specs.declared.offence.Offence.{Offence}
 use Rattle.lsp_verdict.specs.declared.verdict.OpenDocument.{OpenDocument}
 use Rattle.lsp_verdict.specs.declared.verdict.Summary as code
 use Rattle.lsp_verdict.specs.declared.verdict.Verdict as verdict
@@ -38,3 +40,10 @@ abbrev pub as_given : Verdict → Verdict
 as_given (yes s) = yes (record s { editor = capped s.editor; server = capped s.server; snapshots = capped s.snapshots; unmatched = capped s.unmatched })
 as_given (no rule who count event) = no rule who (capped count) (capped event)
 as_given (bad_log at fault) = bad_log (capped at) fault
+
+abbrev pub offence_view : Offence → offences.Offence
+offence_view o = record { no = no o.rule o.who o.number o.event; follows = o.follows }
+
+-- an offence with its counts as the code gives them
+abbrev pub given_offence : offences.Offence → offences.Offence
+given_offence o = record { no = as_given o.no; follows = o.follows }

@@ -12,7 +12,9 @@ mod counts;
 mod entry;
 mod interleaving_laws;
 mod laws;
+mod lines;
 mod names;
+mod offence;
 mod offence_laws;
 mod outcome;
 mod report;
@@ -35,7 +37,9 @@ pub use laws::{
     one_verdict, some_final, some_session, some_upgrade, some_verdict, upgrade_keeps_yes,
     upgrade_stays, yes_means_kept,
 };
-pub use names::side_name;
+pub use lines::Lines;
+pub use names::{kind_name, side_name};
+pub use offence::{Offence, found_report, offence_report};
 pub use offence_laws::{
     all_are_kept, first_listed, kept_are_others, kept_offend_nowhere, listed_offend,
     nothing_listed, one_survey, some_survey, survey_agrees,

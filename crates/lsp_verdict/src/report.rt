@@ -134,7 +134,13 @@ fn summary_report(alloc: Global, summary: &Summary) -> Result<Vec<u8>, Memory>
     Ok(report.into_bytes())
 }
 
-fn no_report(alloc: Global, rule: u16, who: Who, number: u64, event: u64) -> Result<Vec<u8>, Memory>
+pub(crate) fn no_report(
+    alloc: Global,
+    rule: u16,
+    who: Who,
+    number: u64,
+    event: u64,
+) -> Result<Vec<u8>, Memory>
     ensures { IfOk result (λ bytes. bytes.items ≡ report (no rule who number event)) }
 {
     let name = who_name(who);

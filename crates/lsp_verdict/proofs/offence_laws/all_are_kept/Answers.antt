@@ -1,4 +1,4 @@
-use Rattle.lsp_verdict.proofs.Offending as proved
+use Rattle.lsp_verdict.proofs.Offences.Offending as proved
 use Rattle.lsp_verdict.proofs.offence_laws.all_are_kept.Goals as goal
 
 pub returns : goal.returns

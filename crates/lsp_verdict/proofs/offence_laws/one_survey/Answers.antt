@@ -1,4 +1,4 @@
-use Rattle.lsp_verdict.proofs.Surveying as proved
+use Rattle.lsp_verdict.proofs.Offences.Surveying as proved
 use Rattle.lsp_verdict.proofs.offence_laws.one_survey.Goals as goal
 
 pub returns : goal.returns

@@ -1,0 +1,4 @@
+pub mod Noting
+pub mod Passing
+pub mod Hearing
+pub mod Tails
