@@ -1,6 +1,9 @@
-pub mod Spoken
-pub mod Worked
 pub mod Differing
+pub mod Explaining
+pub mod FirstOffence
 pub mod MadeChanges
 pub mod Refusals
 pub mod DocumentRules
+pub mod Refused
+pub mod Spoken
+pub mod Worked

@@ -1,6 +1,6 @@
 -- What is said of a message that was heard is what is said of the message.
 use Rattle.std.proofs.Common.{◌≡◌, ◌⊎◌, ℕ, List, [], ◌∷◌, Option, inl, inr, refl, sym, ap, ◌∙◌}
-use Rattle.std.specs.Prelude.{if◌then◌else◌, decimal}
+use Rattle.std.specs.Prelude.{if◌then◌else◌, codes, decimal}
 use Rattle.lsp_rpc.specs.Act.{Act}
 use Rattle.lsp_rpc.specs.Ident.{Ident}
 use Rattle.lsp_rpc.specs.Message.{Message, request, notification, response, result, error}
@@ -12,8 +12,8 @@ use Rattle.lsp_session.specs.OpenInitialize.{Initialize}
 use Rattle.lsp_session.specs.Sent.{Sent}
 use Rattle.lsp_verdict.specs.Offences.{is_within}
 use Rattle.lsp_verdict.specs.Report.{line, side_name}
-use Rattle.lsp_verdict.specs.Shown.{message_line}
 use Rattle.lsp_explain.specs.Fact.{Fact, has_id, in_phase}
+use Rattle.lsp_explain.specs.Lines.{message_event}
 use Rattle.lsp_explain.specs.MessageFacts.{id_in, session_facts, settled_facts, register_facts}
 
 id_in-outline : (m : Message) → id_in m ≡ id_in (outline m)
@@ -41,8 +41,8 @@ facts_by rule before id settled act =
     else (if is_within 501 503 rule then settled_facts settled
     else register_facts act))
 
-abbrev message_line_of : ℕ → Side → List ℕ → List ℕ
-message_line_of number side words = line (decimal number ∷ side_name side ∷ words ∷ [])
+abbrev message_event_of : ℕ → Side → List ℕ → List ℕ
+message_event_of number side words = line (codes "event" ∷ decimal number ∷ side_name side ∷ words ∷ [])
 
 -- a message was heard as this: but for its params, and, where no `initialize` is open, but for the value of a result
 module _ (before : List Sent) (m : Sent) (side : Side) (said : Message) (act : Act)
@@ -66,7 +66,7 @@ module _ (before : List Sent) (m : Sent) (side : Side) (said : Message) (act : A
       ∙ ap (λ a. facts_by rule before (id_in said) (settled_among (open_initializes before) side said) a) means
 
   -- its line
-  pub same_line : (number : ℕ) → message_line number m.side m.message ≡ message_line number side said
+  pub same_line : (number : ℕ) → message_event number m.side m.message ≡ message_event number side said
   same_line number =
-      ap (λ s. message_line number s m.message) by
-      ∙ ap (λ words. message_line_of number side words) (words_of-outline m.message ∙ ap words_of same ∙ sym (words_of-outline said))
+      ap (λ s. message_event number s m.message) by
+      ∙ ap (λ words. message_event_of number side words) (words_of-outline m.message ∙ ap words_of same ∙ sym (words_of-outline said))

@@ -1,5 +1,5 @@
 -- What is said of a log that offends: with its offences, the events that offend and the facts on them.
-use Rattle.std.specs.Prelude.{◌≡◌, ℕ, ◌+◌, List, [], ◌∷◌, ◌++◌, map, filter, take, length, Bool, true, false, ◌==◌, nat_lt, not, if◌then◌else◌, Option, Some, None, option_map, unwrap_or, decimal}
+use Rattle.std.specs.Prelude.{◌≡◌, ℕ, ◌+◌, List, [], ◌∷◌, ◌++◌, map, filter, take, length, Bool, true, false, ◌==◌, nat_lt, not, if◌then◌else◌, Option, Some, None, option_map, unwrap_or}
 use Rattle.std.specs.List.{AllZip, flat_map}
 use Rattle.lsp_frame.specs.Bounds.{Bounds}
 use Rattle.lsp_frame.specs.declared.format.Format.{Format}
@@ -18,13 +18,13 @@ use Rattle.lsp_verdict.specs.Offences.{Noted, Offence, IsNoted, events_of, kept_
 use Rattle.lsp_verdict.specs.Outcome.{HasRest, ending, log_terms}
 use Rattle.lsp_verdict.specs.Placed as placed
 use Rattle.lsp_verdict.specs.Placed.{Raw, broken, show, Placed, joined}
-use Rattle.lsp_verdict.specs.Report.{line, who_name, report}
+use Rattle.lsp_verdict.specs.Report.{report}
 use Rattle.lsp_verdict.specs.Survey.{no_lines, found_in, found_line, ends_listed, first_verdict}
 use Rattle.lsp_verdict.specs.Verdict.{Verdict, yes, no, bad_log, Summary, summary, Ending, bad_log_of, no_by}
 use Rattle.lsp_verdict.specs.declared.completeness.Completeness.{Completeness}
 use Rattle.lsp_explain.specs.DocumentFacts.{AreDocumentFacts}
 use Rattle.lsp_explain.specs.Fact.{Fact, in_record}
-use Rattle.lsp_explain.specs.Lines.{fact_line, fact_lines, event_words, event_line}
+use Rattle.lsp_explain.specs.Lines.{fact_line, fact_lines, event_line, end_event}
 use Rattle.lsp_explain.specs.MessageFacts.{content_facts, session_facts, lack_facts}
 use Rattle.lsp_explain.specs.declared.scope.Scope.{Scope}
 use Rattle.lsp_explain.specs.declared.scope.Scope.TheVariants.{First, All}
@@ -106,11 +106,11 @@ pub record Explains (terms : Terms) (b : Breach) (e : Explained) : Type 0 where
 
 -- ---- how a session ends
 
--- the place at which no event stands, whose it is
-abbrev pub end_event : Verdict → List ℕ
-end_event (no rule by count event) = event_words (line (decimal event ∷ who_name by ∷ []))
-end_event (yes s) = []
-end_event (bad_log at code) = []
+-- the place of a No at which no event stands
+abbrev pub end_line : Verdict → List ℕ
+end_line (no rule by count event) = end_event event by
+end_line (yes s) = []
+end_line (bad_log at code) = []
 
 -- 303 and 407 say what waits after the kept events, and 107 nothing
 abbrev pub end_facts : List Event → Verdict → List Fact
@@ -119,7 +119,7 @@ end_facts kept (yes s) = []
 end_facts kept (bad_log at code) = []
 
 abbrev pub end_explained : List Event → Verdict → Explained
-end_explained kept v = record { no = v; event = end_event v; facts = end_facts kept v }
+end_explained kept v = record { no = v; event = end_line v; facts = end_facts kept v }
 
 -- ---- the report
 

@@ -2,5 +2,6 @@ pub mod Fact
 pub mod Lines
 pub mod MessageFacts
 pub mod DocumentFacts
+pub mod Explained
 pub mod Making
 pub mod Comparing

@@ -1,5 +1,5 @@
 -- The lines of an explanation.
-use Rattle.std.specs.Prelude.{ℕ, List, [], ◌∷◌, ◌++◌, Option, Some, None, codes, decimal}
+use Rattle.std.specs.Prelude.{ℕ, ℤ, List, [], ◌∷◌, ◌++◌, Option, Some, None, codes, decimal}
 use Rattle.std.specs.List.{flat_map}
 use Rattle.std.specs.Fmt.{signed_decimal}
 use lib.Utf8.{encodes}
@@ -7,12 +7,14 @@ use Rattle.json.specs.Print.{quoted}
 use Rattle.lsp_types.specs.declared.position.Position.{Position}
 use Rattle.lsp_types.specs.declared.position.Span.{Span}
 use Rattle.lsp_types.specs.declared.side.Side.{Side}
-use Rattle.lsp_rpc.specs.Words.{id_text, response_id_text}
+use Rattle.lsp_rpc.specs.Message.{Message}
+use Rattle.lsp_rpc.specs.Words.{id_text, response_id_text, words_of}
 use Rattle.lsp_session.specs.declared.phase.Phase.{Phase}
 use Rattle.lsp_session.specs.declared.phase.Phase.TheVariants as phases
 use Rattle.lsp_verdict.specs.Event.{Event, message, fault, snapshot}
-use Rattle.lsp_verdict.specs.Report.{line, side_name, kind_name}
-use Rattle.lsp_verdict.specs.Shown.{message_line, snapshot_line}
+use Rattle.lsp_verdict.specs.Report.{line, side_name, who_name, kind_name}
+use Rattle.lsp_verdict.specs.Shown.{snapshot_words}
+use Rattle.lsp_verdict.specs.declared.verdict.Who.{Who}
 use Rattle.lsp_explain.specs.Fact.{Fact, of_uri, holds, sends, has_changes, has_kind, fails, line_has, falls_inside, would_have, may_have, differs_at, held_line, recorded_line, saved_line, keeps, has_id, in_phase, offers, picks, registers, waits, begins, in_record}
 
 -- ---- words
@@ -73,19 +75,23 @@ fact_lines facts = flat_map fact_line facts
 
 -- ---- the event
 
+-- a message of this number, as it is shown
+abbrev pub message_event : ℕ → Side → Message → List ℕ
+message_event number side message = line (codes "event" ∷ decimal number ∷ side_name side ∷ words_of message ∷ [])
+
 -- where no message can be named, the side alone is
-abbrev pub side_line : ℕ → Side → List ℕ
-side_line number side = line (decimal number ∷ side_name side ∷ [])
+abbrev pub side_event : ℕ → Side → List ℕ
+side_event number side = line (codes "event" ∷ decimal number ∷ side_name side ∷ [])
 
--- the event of this number: as it is shown, or of a fault whose it is
-abbrev pub words_of : ℕ → Event → List ℕ
-words_of number (message m) = message_line number m.side m.message
-words_of number (fault side rule) = side_line number side
-words_of number (snapshot uri version text) = snapshot_line number uri version text
+abbrev pub snapshot_event : ℕ → List ℕ → ℤ → List ℕ → List ℕ
+snapshot_event number uri version text = line (codes "event" ∷ snapshot_words number uri version text)
 
--- a line behind the word for an event
-abbrev pub event_words : List ℕ → List ℕ
-event_words words = codes "event " ++ words
-
+-- **the line that names the event of this number**: as it is shown, or of a fault whose it is
 abbrev pub event_line : ℕ → Event → List ℕ
-event_line number event = event_words (words_of number event)
+event_line number (message m) = message_event number m.side m.message
+event_line number (fault side rule) = side_event number side
+event_line number (snapshot uri version text) = snapshot_event number uri version text
+
+-- the place at which no event stands, and whose the next one would be
+abbrev pub end_event : ℕ → Who → List ℕ
+end_event number by = line (codes "event" ∷ decimal number ∷ who_name by ∷ [])

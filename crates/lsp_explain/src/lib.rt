@@ -10,6 +10,7 @@ mod fact_list;
 mod lines;
 mod making;
 mod messages;
+mod offending;
 mod refused_change;
 mod scope;
 

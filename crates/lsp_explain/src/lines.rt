@@ -6,8 +6,7 @@ ghost use Rattle.json.specs.Print.{quoted};
 ghost use Rattle.lsp_rpc.specs.Ident.{id_view};
 ghost use Rattle.lsp_docs.specs.Texts.{byte_len};
 ghost use Rattle.lsp_rpc.specs.View.{message_view, texts_view};
-ghost use Rattle.lsp_verdict.specs.Report.{line};
-ghost use Rattle.lsp_verdict.specs.Shown.{message_line, snapshot_line};
+ghost use Rattle.lsp_verdict.specs.Report.{line, who_name};
 ghost use Rattle.lsp_explain.specs.Fact.{fact_view, facts_view, has_kind, differs_at, fails, in_phase, has_id, waits, keeps, offers};
 ghost use Rattle.lsp_explain.specs.Lines as spec;
 
@@ -15,7 +14,7 @@ use crate::fact::Fact;
 use lsp_rpc::{Id, Memory, Message, push_id, push_quoted, words_of};
 use lsp_session::Phase;
 use lsp_types::{Position, Side, Span, SyncKind};
-use lsp_verdict::{kind_name, side_name};
+use lsp_verdict::{Who, kind_name, side_name};
 use std::alloc::Global;
 use std::fmt::Write;
 
@@ -214,7 +213,7 @@ pub(crate) fn push_message_event(
     message: &Message,
 ) -> Result<(), Memory>
     ensures { OnOk result (string_bytes lines.new
-        ≡ string_bytes lines.old ++ spec.event_words (message_line number side (message_view message.now))) }
+        ≡ string_bytes lines.old ++ spec.message_event number side (message_view message.now)) }
 {
     let name = side_name(side);
     let words = words_of(alloc, message)?;
@@ -224,7 +223,7 @@ pub(crate) fn push_message_event(
 
 /// Adds the line of an event of which nothing can be named but whose it is.
 pub(crate) fn push_side_event(lines: &mut String, number: u64, side: Side) -> Result<(), Memory>
-    ensures { OnOk result (string_bytes lines.new ≡ string_bytes lines.old ++ spec.event_words (spec.side_line number side)) }
+    ensures { OnOk result (string_bytes lines.new ≡ string_bytes lines.old ++ spec.side_event number side) }
 {
     let name = side_name(side);
     writeln!(lines, "event {number} {name}")?;
@@ -247,10 +246,29 @@ pub(crate) fn push_snapshot_event(
     text: &str,
 ) -> Result<(), Memory>
     ensures { OnOk result (string_bytes lines.new
-        ≡ string_bytes lines.old ++ spec.event_words (snapshot_line number uri.now version (chars text.now))) }
+        ≡ string_bytes lines.old ++ spec.snapshot_event number uri.now version (chars text.now)) }
 {
     let bytes = byte_count(text);
     write!(lines, "event {number} snapshot {version} {bytes} ")?;
     push_quoted(alloc, lines, uri)?;
     Ok(lines.push_str("\n")?)
+}
+
+fn who_name(who: Who) -> &'static str
+    ensures { result.now ≡ who_name who }
+{
+    match who {
+        Who::Editor => "editor",
+        Who::Server => "server",
+        Who::Snapshot => "snapshot",
+    }
+}
+
+/// Adds the line of a place at which no event stands: its number, from 1, and whose the next one would be.
+pub(crate) fn push_end_event(lines: &mut String, number: u64, who: Who) -> Result<(), Memory>
+    ensures { OnOk result (string_bytes lines.new ≡ string_bytes lines.old ++ spec.end_event number who) }
+{
+    let name = who_name(who);
+    writeln!(lines, "event {number} {name}")?;
+    Ok(())
 }
