@@ -1,6 +1,6 @@
 -- What a call breaks, as the facts on it are gathered.
 use Rattle.std.proofs.Common.{◌≡◌, ◌≢◌, ◌⊎◌, ◌<◌, ◌≤◌, ◌+◌, ℕ, Bool, true, false, cond, ◌&&◌, ◌||◌, List, [], ◌∷◌, ◌++◌, length, take, Option, Some, None, Result, Ok, Err, refl, sym, ap, subst, ◌∙◌, inl, inr, arith, true≢false, append_assoc}
-use Rattle.std.specs.Prelude.{ℤ, int_lt, nat_lt, not, is_some, if◌then◌else◌, slice_get, option_to_list}
+use Rattle.std.specs.Prelude.{map, ℤ, int_lt, nat_lt, not, is_some, if◌then◌else◌, slice_get, option_to_list}
 use Rattle.std.specs.List.{find, list_any, list_all}
 use Rattle.std.specs.Option.{option_map}
 use Rattle.std.specs.Ordering.{int_eq}
@@ -12,7 +12,11 @@ use Rattle.lsp_types.specs.declared.change.SyncKind.{SyncKind}
 use Rattle.lsp_text.specs.Edits.{Edit, changed, applied}
 use Rattle.lsp_docs.specs.Texts.{Text}
 use Rattle.lsp_docs.specs.Terms.{Terms}
-use Rattle.lsp_docs.specs.Calls.{Call}
+use Rattle.lsp_docs.specs.Calls.{Call, saves}
+use Rattle.lsp_rpc.specs.View.{changes_view}
+use Rattle.lsp_types.specs.declared.change.Change.{Change}
+use Rattle.lsp_text.specs.Changes as changes
+use Rattle.lsp_verdict.specs.Calls.{edit_of}
 use Rattle.lsp_docs.specs.Documents.{Version, versioned, is_after}
 use Rattle.lsp_docs.specs.Rules.{differs, version_rule, text_rule, fits_kind, change_rule, show_rule, call_rule}
 use Rattle.lsp_docs.specs.Others.{is_other, differs_from, other_in, other_than}
@@ -91,11 +95,11 @@ show_breaks number t ks (Some v) rule e =
     elim (row_breaks (list_all (is_after number) ks && int_lt number v.number) (list_any (λ w. differs w s) ks || differs v s) rule e) [
       | inl is ↦ inl is
       | inr is ↦ (
-        let some : list_any (differs_from s) (ks ++ v ∷ []) ≡ true =
-        list_any-append (differs_from s) ks (v ∷ []) ∙ (ap (λ b. list_any (differs_from s) ks || b) (or_false (differs v s)) ∙ is.1) in
-        let found = find_some (differs_from s) (ks ++ v ∷ []) some in
-        inr (is.0, found.0.text, some_text (find (differs_from s) (ks ++ v ∷ [])) found.0 found.1)
-      )
+          let some : list_any (differs_from s) (ks ++ v ∷ []) ≡ true =
+          list_any-append (differs_from s) ks (v ∷ []) ∙ (ap (λ b. list_any (differs_from s) ks || b) (or_false (differs v s)) ∙ is.1) in
+          let found = find_some (differs_from s) (ks ++ v ∷ []) some in
+          inr (is.0, found.0.text, some_text (find (differs_from s) (ks ++ v ∷ [])) found.0 found.1)
+          )
     ]
 
 pub show_explained : (enc : Encoding) (number : ℤ) (t : Text) (ks : List Version) (h : Option Version) (rule : ℕ) (u : Text) (facts : List Fact) → (rule ≡ 701 → ⊥) → show_rule number t ks h ≡ Some rule
@@ -180,3 +184,16 @@ pub explains : (terms : Terms) (enc : Encoding) (calls : List Call) (made : Call
 explains terms enc calls made rule facts told call is e =
     let same : made ≡ call = cc in
     subst (λ (x : Call). AreDocumentFacts terms enc calls x rule facts) same (told (ap (λ (x : Call). call_rule terms calls x) same ∙ e))
+
+-- a save without a text breaks no rule
+pub save_explained : (terms : Terms) (enc : Encoding) (calls : List Call) (uri : List ℕ) (rule : ℕ) (facts : List Fact) (call : Call) → (let o : Option Call = Some (saves uri None) in o) ≡ Some call
+    → call_rule terms calls call ≡ Some rule → AreDocumentFacts terms enc calls call rule facts
+save_explained terms enc calls uri rule facts call is e =
+    let same : saves uri None ≡ call = cc in
+    let k : None ≡ Some rule = ap (λ (x : Call). call_rule terms calls x) same ∙ e in
+    absurd (cc)
+
+-- the changes of an act, as the definitions of texts see them
+pub edits_seen : (cs : List Change) → changes.edits_of cs ≡ map edit_of (changes_view cs)
+edits_seen [] = refl
+edits_seen (c ∷ cs) = ap (λ es. changes.edit_of c ∷ es) (edits_seen cs)

@@ -1,6 +1,6 @@
 //! Facts on calls that break a rule on documents.
 
-ghost use Rattle.std.specs.Prelude.{◌≡◌, ◌∷◌, ℕ, List, true, Some, IfOk, option_map};
+ghost use Rattle.std.specs.Prelude.{◌≡◌, ◌∷◌, ℕ, List, true, Some, IfOk};
 ghost use Rattle.std.specs.List.{list_any};
 ghost use Rattle.std.specs.Str.{chars};
 ghost use Rattle.lsp_rpc.specs.View.{act_view};
@@ -57,16 +57,42 @@ pub fn act_facts<S: TextStore>(
     match act {
         Act::DidOpen { uri, version, text } => {
             let version = *version;
-            opening(alloc, docs, encoding, uri.as_str(), version, text.as_str(), rule)
+            opening(
+                alloc,
+                docs,
+                encoding,
+                uri.as_str(),
+                version,
+                text.as_str(),
+                rule,
+            )
         }
-        Act::DidChange { uri, version, changes } => {
+        Act::DidChange {
+            uri,
+            version,
+            changes,
+        } => {
             let version = *version;
-            changing(alloc, docs, encoding, kind, uri.as_str(), version, changes.as_slice(), rule)
+            let changes = changes.as_slice();
+            let facts = changing(
+                alloc,
+                docs,
+                encoding,
+                kind,
+                uri.as_str(),
+                version,
+                changes,
+                rule,
+            )?;
+            Ok(facts)
         }
         Act::DidClose { uri } => closing(alloc, docs, encoding, uri.as_str()),
         Act::DidSave { uri, text } => {
-            let text = text.as_ref().map(|text| text.as_str());
-            saving(alloc, docs, encoding, uri.as_str(), text)
+            let Some(text) = text else {
+                return Ok(Vec::new(alloc));
+            };
+            let facts = saving(alloc, docs, encoding, uri.as_str(), text.as_str())?;
+            Ok(facts)
         }
         _ => Ok(Vec::new(alloc)),
     }
@@ -218,7 +244,15 @@ fn of_change<S: TextStore>(
     let text = made.text.as_str();
     let count = made.count;
     if count < changes.len() {
-        let facts = refused(alloc, encoding, text, count, &changes[count], rule, docs.limit())?;
+        let facts = refused(
+            alloc,
+            encoding,
+            text,
+            count,
+            &changes[count],
+            rule,
+            docs.limit(),
+        )?;
         return Ok(facts);
     }
     let facts = refuted(alloc, docs, encoding, uri, version, text)?;
@@ -239,22 +273,20 @@ fn closing<S: TextStore>(
     Ok(facts.into_facts())
 }
 
-/// What is said of a save.
+/// What is said of a save with a text.
 fn saving<S: TextStore>(
     alloc: Global,
     docs: &Docs<S>,
     encoding: Encoding,
     uri: &str,
-    text: Option<&str>,
+    text: &str,
 ) -> Result<Vec<Fact>, Memory>
     ensures { IfOk result (λ facts. (calls : List Call) (rule : ℕ) → Stands docs.now calls
-        → call_rule docs.now.terms calls (saves uri.now (option_map (λ t. chars t.now) text.entry)) ≡ Some rule
-        → AreDocumentFacts docs.now.terms encoding calls (saves uri.now (option_map (λ t. chars t.now) text.entry)) rule (facts_view facts.items)) }
+        → call_rule docs.now.terms calls (saves uri.now (Some (chars text.now))) ≡ Some rule
+        → AreDocumentFacts docs.now.terms encoding calls (saves uri.now (Some (chars text.now))) rule (facts_view facts.items)) }
 {
     let mut facts = head(alloc, docs, uri)?;
-    if let Some(text) = text {
-        facts.append(of_save(alloc, docs, encoding, uri, text)?)?;
-    }
+    facts.append(of_save(alloc, docs, encoding, uri, text)?)?;
     Ok(facts.into_facts())
 }
 
@@ -302,11 +334,7 @@ fn of_snapshot<S: TextStore>(
 }
 
 /// The versions that are kept of a URI, where there are any.
-fn kept_facts<S: TextStore>(
-    alloc: Global,
-    docs: &Docs<S>,
-    uri: &str,
-) -> Result<FactList, Memory>
+fn kept_facts<S: TextStore>(alloc: Global, docs: &Docs<S>, uri: &str) -> Result<FactList, Memory>
     ensures { IfOk result (λ facts. (calls : List Call) → Stands docs.now calls → facts ≡ kept_fact (kept docs.now.terms uri.now calls)) }
 {
     let mut facts = FactList::new(alloc);
