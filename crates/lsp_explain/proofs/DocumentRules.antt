@@ -1,6 +1,6 @@
 -- What a call breaks, as the facts on it are gathered.
-use Rattle.std.proofs.Common.{◌≡◌, ◌≢◌, ◌⊎◌, ◌<◌, ◌≤◌, ◌+◌, ℕ, Bool, true, false, cond, ◌&&◌, ◌||◌, List, [], ◌∷◌, ◌++◌, length, take, Option, Some, None, Result, Ok, Err, refl, sym, ap, subst, ◌∙◌, inl, inr, arith, true≢false, append_assoc}
-use Rattle.std.specs.Prelude.{map, ℤ, int_lt, nat_lt, not, is_some, if◌then◌else◌, slice_get, option_to_list}
+use Rattle.std.proofs.Common.{◌≡◌, ◌≢◌, ◌⊎◌, ◌≤◌, ℕ, Bool, true, false, cond, ◌&&◌, ◌||◌, List, [], ◌∷◌, ◌++◌, length, Option, Some, None, Result, Ok, Err, refl, sym, ap, subst, ◌∙◌, inl, inr, true≢false}
+use Rattle.std.specs.Prelude.{map, ℤ, int_lt, not, if◌then◌else◌, slice_get, option_to_list}
 use Rattle.std.specs.List.{find, list_any, list_all}
 use Rattle.std.specs.Option.{option_map}
 use Rattle.std.specs.Ordering.{int_eq}
@@ -18,11 +18,11 @@ use Rattle.lsp_types.specs.declared.change.Change.{Change}
 use Rattle.lsp_text.specs.Changes as changes
 use Rattle.lsp_verdict.specs.Calls.{edit_of}
 use Rattle.lsp_docs.specs.Documents.{Version, versioned, is_after}
-use Rattle.lsp_docs.specs.Rules.{differs, version_rule, text_rule, fits_kind, change_rule, show_rule, call_rule}
-use Rattle.lsp_docs.specs.Others.{is_other, differs_from, other_in, other_than}
+use Rattle.lsp_docs.specs.Rules.{differs, text_rule, fits_kind, change_rule, show_rule, call_rule}
+use Rattle.lsp_docs.specs.Others.{is_other, differs_from, other_than}
 use Rattle.lsp_docs.proofs.Words.{true_or_false, both_parts}
 use Rattle.lsp_explain.specs.Fact.{Fact}
-use Rattle.lsp_explain.specs.DocumentFacts.{IsRefused, IsRefuted, IsRefuting, IsRefutedText, IsFailing, AreApart, AreOfChange, AreOfSnapshot, AreDocumentFacts}
+use Rattle.lsp_explain.specs.DocumentFacts.{IsRefused, IsRefuted, AreApart, AreOfChange, AreOfSnapshot, AreDocumentFacts}
 use Rattle.lsp_explain.specs.Fact.{recorded_line}
 use Rattle.lsp_explain.specs.Making.{IsRejected, IsMade}
 use Rattle.lsp_explain.proofs.MadeChanges.{fails_there, makes_all}

@@ -1,14 +1,14 @@
-use Rattle.std.proofs.Common.{◌≡◌, ℕ, List, Option, Some, None, ap, sym, ◌∙◌, w32, rules}
+use Rattle.std.proofs.Common.{ℕ, List, Some, ap, sym, ◌∙◌, w32, rules}
 use Rattle.std.proofs.lemmas.Int.{to_z-of_z}
-use Rattle.std.specs.Prelude.{string_bytes, chars, option_map}
+use Rattle.std.specs.Prelude.{string_bytes}
 use mir.Val.{SFits}
 use Rattle.lsp_rpc.specs.View.{act_view}
 use Rattle.lsp_text.specs.Edits.{Edit}
 use Rattle.lsp_text.specs.Changes.{edits_of}
-use Rattle.lsp_docs.specs.Calls.{Call, changes, saves}
+use Rattle.lsp_docs.specs.Calls.{changes}
 use Rattle.lsp_verdict.specs.Calls.{call_of}
 use Rattle.lsp_explain.specs.Fact.{facts_view}
-use Rattle.lsp_explain.proofs.DocumentRules.{explains, save_explained, edits_seen}
+use Rattle.lsp_explain.proofs.DocumentRules.{explains, edits_seen}
 use Rattle.lsp_explain.proofs.documents.act_facts.Goals as goal
 
 pub returns-in_ok-facts-in-DidChange : goal.returns-in_ok-facts-in-DidChange

@@ -1,10 +1,10 @@
-use Rattle.std.proofs.Common.{◌≡◌, ℕ, List, [], ◌∷◌, ◌++◌, ap, sym, ◌∙◌, w32, append_assoc}
+use Rattle.std.proofs.Common.{◌≡◌, [], ◌∷◌, ◌++◌, ap, sym, ◌∙◌, w32, append_assoc}
 use Rattle.std.proofs.lemmas.Int.{to_z-of_z}
 use Rattle.std.specs.Prelude.{length}
 use mir.Val.{SFits}
 use Rattle.lsp_text.specs.Changes.{edits_of}
 use Rattle.lsp_docs.specs.Documents.{held}
-use Rattle.lsp_explain.specs.Fact.{Fact, of_uri, sends, has_changes}
+use Rattle.lsp_explain.specs.Fact.{of_uri, sends, has_changes}
 use Rattle.lsp_explain.specs.DocumentFacts.{held_fact}
 use Rattle.lsp_explain.proofs.MadeChanges.{as_many}
 use Rattle.lsp_explain.proofs.documents.changing.Goals as goal

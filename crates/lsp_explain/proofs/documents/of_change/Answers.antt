@@ -1,4 +1,4 @@
-use Rattle.std.proofs.Common.{◌≡◌, ℕ, List, Option, Some, Err, ap, sym, subst, ◌∙◌, w32}
+use Rattle.std.proofs.Common.{◌≡◌, ℕ, Err, ap, sym, subst, w32}
 use Rattle.std.proofs.lemmas.Int.{to_z-of_z}
 use Rattle.std.specs.Prelude.{string_bytes}
 use Rattle.std.specs.Str.{chars}
@@ -6,7 +6,7 @@ use mir.Val.{SFits}
 use Rattle.lsp_text.specs.Edits.{changed}
 use Rattle.lsp_text.specs.Changes.{edit_of, edits_of}
 use Rattle.lsp_docs.specs.Texts.{Text}
-use Rattle.lsp_docs.specs.Documents.{held, versioned}
+use Rattle.lsp_docs.specs.Documents.{held}
 use Rattle.lsp_docs.specs.Snapshots.{waiting, versions_of}
 use Rattle.lsp_explain.specs.DocumentFacts.{IsRefused}
 use Rattle.lsp_explain.specs.Making.{IsMade}

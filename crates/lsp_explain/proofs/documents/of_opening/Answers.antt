@@ -1,10 +1,10 @@
-use Rattle.std.proofs.Common.{◌≡◌, ℕ, List, [], ◌∷◌, ◌++◌, inl, inr, ap, sym, ◌∙◌}
+use Rattle.std.proofs.Common.{[], ◌∷◌, ◌++◌, inl, inr, ap, sym, ◌∙◌}
 use Rattle.std.specs.Prelude.{length}
 use Rattle.std.specs.Str.{chars}
 use Rattle.lsp_types.specs.declared.position.Encoding.TheVariants.{Utf8}
 use Rattle.lsp_text.specs.Places.{units}
 use Rattle.lsp_text.proofs.Counting.{units-utf8_text}
-use Rattle.lsp_explain.specs.Fact.{Fact, would_have, may_have}
+use Rattle.lsp_explain.specs.Fact.{would_have, may_have}
 use Rattle.lsp_explain.proofs.documents.of_opening.Goals as goal
 
 pub returns-then-rule-eq-OVER_LIMIT : goal.returns-then-rule-eq-OVER_LIMIT
