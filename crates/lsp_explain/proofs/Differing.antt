@@ -1,12 +1,12 @@
 -- Where two texts first differ, said once of several things.
-use Rattle.std.proofs.Common.{◌≡◌, ◌≢◌, ℕ, List, [], ◌∷◌, ◌++◌, ap, subst, sym, ◌∙◌, ◌⊎◌, ⊎_elim}
+use Rattle.std.proofs.Common.{◌≡◌, ℕ, List, [], ◌∷◌, ap, sym, ◌∙◌, ⊎_elim}
 use Rattle.lsp_types.specs.declared.position.Encoding.{Encoding}
 use Rattle.lsp_types.specs.declared.position.Position.{Position}
 use Rattle.lsp_text.specs.Difference.{IsFirstDifference, IsOnlyDifference, DifferFirst, position_at, line_around}
 use Rattle.lsp_text.proofs.Differing.Differences.{one_difference}
 use Rattle.lsp_docs.specs.Texts.{Text}
 use Rattle.lsp_explain.specs.Fact.{Fact, differs_at, held_line}
-use Rattle.lsp_explain.specs.DocumentFacts.{AreApart, difference_facts}
+use Rattle.lsp_explain.specs.DocumentFacts.{AreApart}
 
 -- two texts first differ at one place
 same_place : (a b : List ℕ) (m n : ℕ) → IsFirstDifference a b m → IsFirstDifference a b n → m ≡ n

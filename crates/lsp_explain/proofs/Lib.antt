@@ -4,6 +4,7 @@ pub mod Explaining
 pub mod FirstOffence
 pub mod MadeChanges
 pub mod Refusals
+pub mod DocumentRules
 pub mod Refused
 pub mod SaidFacts
 pub mod Spoken

@@ -1,7 +1,7 @@
 -- Changes made one after another, until one fails.
-use Rattle.std.proofs.Common.{◌≡◌, ◌<◌, ◌≤◌, ◌+◌, ℕ, zero, suc, List, [], ◌∷◌, ◌++◌, length, take, drop, get_or, map, cond, Option, Some, None, Result, Ok, Err, refl, sym, ap, subst, ◌∙◌, arith}
+use Rattle.std.proofs.Common.{◌≡◌, ◌<◌, ◌≤◌, ◌+◌, ℕ, zero, suc, List, [], ◌∷◌, ◌++◌, length, take, drop, get_or, cond, Option, Some, None, Ok, Err, refl, sym, ap, subst, ◌∙◌, arith}
 use Rattle.std.proofs.lemmas.List.{take-map, take_all, length-take-le}
-use Rattle.std.proofs.lemmas.Option.{slice_get-map, slice_get-get_or, get_or_from_slice_get}
+use Rattle.std.proofs.lemmas.Option.{slice_get-map, slice_get-get_or}
 use Rattle.std.specs.List.{slice_get, prefix_len}
 use Rattle.std.specs.Option.{option_map}
 use Rattle.lsp_types.specs.declared.position.Encoding.{Encoding}
@@ -115,3 +115,13 @@ pub misfit_here : (limit : ℕ) (enc : Encoding) (t : Text) (cs : List Change) (
 misfit_here limit enc t cs n c more lt is e =
     let here : slice_get (edits_of cs) n ≡ Some (edit_of c) = slice_get-map edit_of cs n ∙ ap (option_map edit_of) (slice_get-get_or cs n c lt ∙ ap Some (sym is)) in
     sym (ap (misfit_facts limit enc t (edits_of cs) n) here ∙ ap (λ (l : List Fact). fails (n + 1) (edit_of c).span ∷ l) e)
+
+-- the change at a place, as an edit
+pub here_at : (cs : List Change) (n : ℕ) (c : Change) → n < length cs → c ≡ get_or cs n c → slice_get (edits_of cs) n ≡ Some (edit_of c)
+here_at cs n c lt is = slice_get-map edit_of cs n ∙ ap (option_map edit_of) (slice_get-get_or cs n c lt ∙ ap Some (sym is))
+
+pub all_seen : (cs : List Change) (n : ℕ) → length cs ≤ n → length (edits_of cs) ≤ n
+all_seen cs n le = omega (arith, seen_length cs)
+
+pub as_many : (cs : List Change) → length (edits_of cs) ≡ length cs
+as_many cs = seen_length cs

@@ -53,10 +53,10 @@ pub on_document : (terms : Terms) (kept : List Event) (m : Sent) (act : Act) (ru
 on_document terms kept m act rule facts enc kind least offends means agreed sent_so says =
     let b = breaks_call terms kept m rule least offends in
     let said : call_of enc kind act ≡ Some b.call =
-        ap (λ e. call_of e kind act) agreed ∙ ap (λ k. call_of (unwrap_or (encoding (sent_in kept)) Utf16) k act) sent_so
-        ∙ ap (λ a. call_of (unwrap_or (encoding (sent_in kept)) Utf16) (unwrap_or (sync_kind (sent_in kept)) Nothing) a) (sym means) ∙ b.says in
+    ap (λ e. call_of e kind act) agreed ∙ ap (λ k. call_of (unwrap_or (encoding (sent_in kept)) Utf16) k act) sent_so
+    ∙ ap (λ a. call_of (unwrap_or (encoding (sent_in kept)) Utf16) (unwrap_or (sync_kind (sent_in kept)) Nothing) a) (sym means) ∙ b.says in
     let there : AreCallFacts terms kept rule (Some b.call) facts =
-        subst (λ e. AreDocumentFacts terms e (calls kept) b.call rule facts) agreed (says b.call said b.breaks) in
+    subst (λ e. AreDocumentFacts terms e (calls kept) b.call rule facts) agreed (says b.call said b.breaks) in
     let is : nat_lt rule 601 ≡ false = grind (arith, nat_tests) in
     subst (λ t. AreFactsBy t terms kept m rule facts) (sym is) (subst (λ c. AreCallFacts terms kept rule c facts) (sym b.says) there)
 

@@ -1,6 +1,6 @@
 //! Facts on calls that break a rule on documents.
 
-ghost use Rattle.std.specs.Prelude.{◌≡◌, ◌∷◌, ℕ, List, true, Some, IfOk, option_map};
+ghost use Rattle.std.specs.Prelude.{◌≡◌, ◌∷◌, ℕ, List, true, Some, IfOk};
 ghost use Rattle.std.specs.List.{list_any};
 ghost use Rattle.std.specs.Str.{chars};
 ghost use Rattle.lsp_rpc.specs.View.{act_view};
@@ -54,23 +54,48 @@ pub fn act_facts<S: TextStore>(
     ensures { IfOk result (λ facts. (calls : List Call) (call : Call) → Stands docs.now calls → call_of encoding kind (act_view act.now) ≡ Some call
         → call_rule docs.now.terms calls call ≡ Some rule → AreDocumentFacts docs.now.terms encoding calls call rule (facts_view facts.items)) }
 {
-    let facts = match act {
+    match act {
         Act::DidOpen { uri, version, text } => {
             let version = *version;
-            opening(alloc, docs, encoding, uri.as_str(), version, text.as_str(), rule)?
+            opening(
+                alloc,
+                docs,
+                encoding,
+                uri.as_str(),
+                version,
+                text.as_str(),
+                rule,
+            )
         }
-        Act::DidChange { uri, version, changes } => {
+        Act::DidChange {
+            uri,
+            version,
+            changes,
+        } => {
             let version = *version;
-            changing(alloc, docs, encoding, kind, uri.as_str(), version, changes.as_slice(), rule)?
+            let changes = changes.as_slice();
+            let facts = changing(
+                alloc,
+                docs,
+                encoding,
+                kind,
+                uri.as_str(),
+                version,
+                changes,
+                rule,
+            )?;
+            Ok(facts)
         }
-        Act::DidClose { uri } => head(alloc, docs, uri.as_str())?,
+        Act::DidClose { uri } => closing(alloc, docs, encoding, uri.as_str()),
         Act::DidSave { uri, text } => {
-            let text = text.as_ref().map(|text| text.as_str());
-            saving(alloc, docs, encoding, uri.as_str(), text)?
+            let Some(text) = text else {
+                return Ok(Vec::new(alloc));
+            };
+            let facts = saving(alloc, docs, encoding, uri.as_str(), text.as_str())?;
+            Ok(facts)
         }
-        _ => FactList::new(alloc),
-    };
-    Ok(facts.into_facts())
+        _ => Ok(Vec::new(alloc)),
+    }
 }
 
 /// What is said of a snapshot that breaks this rule, under the encoding that was agreed. The documents are those before
@@ -114,14 +139,14 @@ fn opening<S: TextStore>(
     version: i32,
     text: &str,
     rule: u16,
-) -> Result<FactList, Memory>
+) -> Result<Vec<Fact>, Memory>
     ensures { IfOk result (λ facts. (calls : List Call) → Stands docs.now calls → call_rule docs.now.terms calls (opens uri.now version (chars text.now)) ≡ Some rule
-        → AreDocumentFacts docs.now.terms encoding calls (opens uri.now version (chars text.now)) rule facts) }
+        → AreDocumentFacts docs.now.terms encoding calls (opens uri.now version (chars text.now)) rule (facts_view facts.items)) }
 {
     let mut facts = head(alloc, docs, uri)?;
     facts.push(Fact::Sent(version))?;
     facts.append(of_opening(alloc, docs, encoding, uri, version, text, rule)?)?;
-    Ok(facts)
+    Ok(facts.into_facts())
 }
 
 /// What is said of an opening under its rule.
@@ -162,10 +187,11 @@ fn refuted<S: TextStore>(
         → list_any (differs (versioned version (chars text.now))) (versions_of uri.now (waiting docs.now.terms calls)) ≡ true
         → IsRefuted encoding (versions_of uri.now (waiting docs.now.terms calls)) (versioned version (chars text.now)) facts) }
 {
-    match docs.waiting_other(uri, version, text) {
-        Some(other) => difference(alloc, encoding, text, other, Against::Recorded),
-        None => Ok(FactList::new(alloc)),
-    }
+    let Some(other) = docs.waiting_other(uri, version, text) else {
+        return Ok(FactList::new(alloc));
+    };
+    let facts = difference(alloc, encoding, text, other, Against::Recorded)?;
+    Ok(facts)
 }
 
 /// What is said of a change.
@@ -178,16 +204,16 @@ fn changing<S: TextStore>(
     version: i32,
     changes: &[Change],
     rule: u16,
-) -> Result<FactList, Memory>
+) -> Result<Vec<Fact>, Memory>
     ensures { IfOk result (λ facts. (calls : List Call) → Stands docs.now calls
         → call_rule docs.now.terms calls (changes_by encoding kind uri.now version (edits_of changes.now)) ≡ Some rule
-        → AreDocumentFacts docs.now.terms encoding calls (changes_by encoding kind uri.now version (edits_of changes.now)) rule facts) }
+        → AreDocumentFacts docs.now.terms encoding calls (changes_by encoding kind uri.now version (edits_of changes.now)) rule (facts_view facts.items)) }
 {
     let mut facts = head(alloc, docs, uri)?;
     facts.push(Fact::Sent(version))?;
     facts.push(Fact::Changes(changes.len() as u64))?;
     facts.append(of_change(alloc, docs, encoding, kind, uri, version, changes, rule)?)?;
-    Ok(facts)
+    Ok(facts.into_facts())
 }
 
 /// What is said of a change under its rule.
@@ -218,28 +244,50 @@ fn of_change<S: TextStore>(
     let text = made.text.as_str();
     let count = made.count;
     if count < changes.len() {
-        return refused(alloc, encoding, text, count, &changes[count], rule, docs.limit());
+        let facts = refused(
+            alloc,
+            encoding,
+            text,
+            count,
+            &changes[count],
+            rule,
+            docs.limit(),
+        )?;
+        return Ok(facts);
     }
-    refuted(alloc, docs, encoding, uri, version, text)
+    let facts = refuted(alloc, docs, encoding, uri, version, text)?;
+    Ok(facts)
 }
 
-/// What is said of a save.
+/// What is said of a close.
+fn closing<S: TextStore>(
+    alloc: Global,
+    docs: &Docs<S>,
+    encoding: Encoding,
+    uri: &str,
+) -> Result<Vec<Fact>, Memory>
+    ensures { IfOk result (λ facts. (calls : List Call) (rule : ℕ) → Stands docs.now calls → call_rule docs.now.terms calls (closes uri.now) ≡ Some rule
+        → AreDocumentFacts docs.now.terms encoding calls (closes uri.now) rule (facts_view facts.items)) }
+{
+    let facts = head(alloc, docs, uri)?;
+    Ok(facts.into_facts())
+}
+
+/// What is said of a save with a text.
 fn saving<S: TextStore>(
     alloc: Global,
     docs: &Docs<S>,
     encoding: Encoding,
     uri: &str,
-    text: Option<&str>,
-) -> Result<FactList, Memory>
+    text: &str,
+) -> Result<Vec<Fact>, Memory>
     ensures { IfOk result (λ facts. (calls : List Call) (rule : ℕ) → Stands docs.now calls
-        → call_rule docs.now.terms calls (saves uri.now (option_map (λ t. chars t.now) text.entry)) ≡ Some rule
-        → AreDocumentFacts docs.now.terms encoding calls (saves uri.now (option_map (λ t. chars t.now) text.entry)) rule facts) }
+        → call_rule docs.now.terms calls (saves uri.now (Some (chars text.now))) ≡ Some rule
+        → AreDocumentFacts docs.now.terms encoding calls (saves uri.now (Some (chars text.now))) rule (facts_view facts.items)) }
 {
     let mut facts = head(alloc, docs, uri)?;
-    if let Some(text) = text {
-        facts.append(of_save(alloc, docs, encoding, uri, text)?)?;
-    }
-    Ok(facts)
+    facts.append(of_save(alloc, docs, encoding, uri, text)?)?;
+    Ok(facts.into_facts())
 }
 
 /// What is said of a saved text that is not the held one.
@@ -281,15 +329,12 @@ fn of_snapshot<S: TextStore>(
         return Ok(FactList::new(alloc));
     };
     let held = store.to_text(alloc)?;
-    difference(alloc, encoding, held.as_str(), text, Against::Recorded)
+    let facts = difference(alloc, encoding, held.as_str(), text, Against::Recorded)?;
+    Ok(facts)
 }
 
 /// The versions that are kept of a URI, where there are any.
-fn kept_facts<S: TextStore>(
-    alloc: Global,
-    docs: &Docs<S>,
-    uri: &str,
-) -> Result<FactList, Memory>
+fn kept_facts<S: TextStore>(alloc: Global, docs: &Docs<S>, uri: &str) -> Result<FactList, Memory>
     ensures { IfOk result (λ facts. (calls : List Call) → Stands docs.now calls → facts ≡ kept_fact (kept docs.now.terms uri.now calls)) }
 {
     let mut facts = FactList::new(alloc);

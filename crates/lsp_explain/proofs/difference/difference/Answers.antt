@@ -1,6 +1,6 @@
-use Rattle.std.proofs.Common.{◌≡◌, List, [], ◌∷◌, ◌++◌, ap, sym, ◌∙◌, subst}
+use Rattle.std.proofs.Common.{◌≡◌, [], ◌∷◌, ◌++◌, ap, sym, ◌∙◌, subst}
 use Rattle.std.specs.Str.{chars}
-use Rattle.lsp_explain.specs.Fact.{Fact, differs_at, held_line}
+use Rattle.lsp_explain.specs.Fact.{differs_at, held_line}
 use Rattle.lsp_explain.specs.DocumentFacts.{AreApart}
 use Rattle.lsp_explain.specs.Comparing.{line_fact}
 use Rattle.lsp_explain.proofs.Differing.{are_apart}

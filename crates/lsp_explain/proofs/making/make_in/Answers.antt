@@ -1,5 +1,5 @@
-use Rattle.std.proofs.Common.{◌≡◌, ◌≤◌, ℕ, ◌+◌, ap, sym, ◌∙◌, arith}
-use Rattle.lsp_text.proofs.Edits.Applied.{none_made, one_more_made}
+use Rattle.std.proofs.Common.{arith}
+use Rattle.lsp_text.proofs.Edits.Applied.{one_more_made}
 use Rattle.lsp_explain.proofs.MadeChanges.{all_made, next_fails}
 use Rattle.lsp_explain.proofs.making.make_in.Goals as goal
 

@@ -1,8 +1,8 @@
-use Rattle.std.proofs.Common.{◌≡◌, List, [], ◌∷◌, ◌++◌, ap, sym, ◌∙◌}
+use Rattle.std.proofs.Common.{[], ◌∷◌, ◌++◌, ap, sym, ◌∙◌}
 use Rattle.std.specs.Prelude.{slice_get}
 use Rattle.lsp_text.specs.Changes.{edits_of}
-use Rattle.lsp_explain.specs.Fact.{Fact, has_kind}
-use Rattle.lsp_explain.specs.DocumentFacts.{fitting, misfit_facts}
+use Rattle.lsp_explain.specs.Fact.{has_kind}
+use Rattle.lsp_explain.specs.DocumentFacts.{misfit_facts}
 use Rattle.lsp_explain.proofs.MadeChanges.{fitting_seen, no_misfit}
 use Rattle.lsp_explain.proofs.refused_change.misfit.Goals as goal
 

@@ -1,11 +1,8 @@
-use Rattle.std.proofs.Common.{◌≡◌, ◌+◌, List, [], ◌∷◌, ◌++◌, ap, sym, subst, get_or, ◌∙◌, arith}
-use Rattle.std.specs.Prelude.{take, string_bytes}
+use Rattle.std.proofs.Common.{◌≡◌, ◌+◌, [], ◌∷◌, ◌++◌, ap, get_or, ◌∙◌}
+use Rattle.std.specs.Prelude.{string_bytes}
 use Rattle.std.specs.Str.{chars}
-use Rattle.lsp_types.specs.declared.change.Change.{Change}
-use Rattle.lsp_text.specs.Changes.{edits_of}
-use Rattle.lsp_explain.specs.Fact.{Fact, fails}
+use Rattle.lsp_explain.specs.Fact.{fails}
 use Rattle.lsp_explain.specs.DocumentFacts.{first_length}
-use Rattle.lsp_explain.specs.Making.{IsMade}
 use Rattle.lsp_explain.proofs.MadeChanges.{unmade_length, whole_length, misfit_here}
 use Rattle.lsp_explain.proofs.refused_change.misfit_at.Goals as goal
 

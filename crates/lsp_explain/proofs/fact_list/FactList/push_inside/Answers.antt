@@ -1,11 +1,11 @@
-use Rattle.std.proofs.Common.{◌≡◌, [], ◌∷◌, ◌++◌, List, ℕ, Bool, true, ap, sym, ◌∙◌, refl, subst}
+use Rattle.std.proofs.Common.{◌≡◌, [], ◌∷◌, ◌++◌, List, ℕ, true, ap, sym, ◌∙◌, refl, subst}
 use Rattle.std.proofs.lemmas.Bool.{and_from}
 use Rattle.std.proofs.lemmas.List.{append-nil}
 use Rattle.std.proofs.lemmas.Str.{chars-encodes}
 use Rattle.std.specs.Prelude.{OnOk, string_bytes}
 use Rattle.std.specs.Str.{chars}
-use lib.Utf8.{encode, encodes, scalar, scalars}
-use Rattle.lsp_explain.specs.Fact.{Fact, falls_inside}
+use lib.Utf8.{encode, encodes, scalar}
+use Rattle.lsp_explain.specs.Fact.{falls_inside}
 use Rattle.lsp_explain.proofs.fact_list.FactList.push_inside.Goals as goal
 
 pub returns : goal.returns
