@@ -2,3 +2,10 @@ pub mod Noting
 pub mod Passing
 pub mod Hearing
 pub mod Tails
+pub mod FrameRules
+pub mod Streaming
+pub mod Taking
+pub mod Ending
+pub mod Reading
+pub mod LogEnds
+pub mod Reporting

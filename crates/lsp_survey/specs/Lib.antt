@@ -1,3 +1,5 @@
 pub mod Notes
 pub mod Walking
 pub mod Surveys
+pub mod Reads
+pub mod Reported

@@ -1,0 +1,31 @@
+use Rattle.std.proofs.Common.{◌∙◌}
+use Rattle.std.proofs.lemmas.Result.{err_from_is_err_and}
+use Rattle.lsp_survey.proofs.Reading.{broke_by, gives_by}
+use Rattle.lsp_survey.proofs.survey_reader.SurveyReader.next.Goals as goal
+
+pub returns-in_err-heard-clause-answer : goal.returns-in_err-heard-clause-answer
+returns-in_err-heard-clause-answer g c =
+    let p = err_from_is_err_and c.from_residual.result c.from_residual.ensures.1 in
+    let inv = c.loop-heard.invariant in
+    rw (p.1, p.2) (λ limits start past before found so.
+    broke_by c.loop-heard.self.completeness c.args.self.now.completeness limits start _ found _ inv.completeness (c.in_err-heard.ensures.answer limits start _ past before found (inv.so_far limits start past before found so)))
+
+pub returns-in-Some-clause-answer : goal.returns-in-Some-clause-answer
+returns-in-Some-clause-answer g c = λ limits start past before found so.
+    rw c.in-Some.is at (c.in_ok-heard.ensures.answer limits start _ past before found (c.loop-heard.invariant.so_far limits start past before found so))
+
+pub returns-in_err-next-clause-answer : goal.returns-in_err-next-clause-answer
+returns-in_err-next-clause-answer g c =
+    let from = c.from_residual-in_err-next in
+    let p = err_from_is_err_and from.result from.ensures.1 in
+    let inv = c.loop-heard.invariant in
+    rw (p.1, p.2) (λ limits start past before found so.
+    let idle = rw c.in_default.is at (c.in_ok-heard.ensures.answer limits start _ past before found (inv.so_far limits start past before found so)) in
+    broke_by c.hear.new.self.completeness c.args.self.now.completeness limits start _ found _ (c.in_ok-heard.ensures.completeness ∙ inv.completeness) (c.in_err-next.ensures.answer limits start past before found idle))
+
+pub returns-in-Some-2-clause-answer : goal.returns-in-Some-2-clause-answer
+returns-in-Some-2-clause-answer g c = λ limits start past before found so.
+    let inv = c.loop-heard.invariant in
+    let idle = rw c.in_default.is at (c.in_ok-heard.ensures.answer limits start _ past before found (inv.so_far limits start past before found so)) in
+    gives_by c.hear.new.self.completeness c.args.self.now.completeness limits c.take_entry.new.self start _ past before found c.in-Some-2.next (c.in_ok-heard.ensures.completeness ∙ inv.completeness)
+    (rw c.in-Some-2.is at (c.in_ok-next.ensures.answer limits start past before found idle))
