@@ -2,6 +2,7 @@ pub mod Differing
 pub mod EndOfLog
 pub mod Explaining
 pub mod FirstOffence
+pub mod Judged
 pub mod MadeChanges
 pub mod Refusals
 pub mod DocumentRules

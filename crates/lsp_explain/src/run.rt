@@ -85,10 +85,7 @@ fn explain<R: Source>(
     ensures answer { ExplainsLog Scope.First completeness limits (R.told reader.old) (R.told reader.new) result }
 {
     let mut events = SurveyReader::new(alloc, limits, completeness);
-    match scope {
-        Scope::First => explain_first(alloc, &mut events, reader),
-        Scope::All => explain_first(alloc, &mut events, reader),
-    }
+    explain_first(alloc, &mut events, reader)
 }
 
 /// Reads a log up to the first event that offends, or to its end, and finds what explains the verdict.

@@ -8,4 +8,3 @@ pub mod Taking
 pub mod Ending
 pub mod Reading
 pub mod LogEnds
-pub mod Reporting

@@ -2,4 +2,3 @@ pub mod Notes
 pub mod Walking
 pub mod Surveys
 pub mod Reads
-pub mod Reported

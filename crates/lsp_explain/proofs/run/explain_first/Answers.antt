@@ -1,9 +1,10 @@
-use Rattle.std.proofs.Common.{[], ◌∙◌, ap, subst}
+use Rattle.std.proofs.Common.{[], ◌∷◌, ◌++◌, ◌∙◌, ap, subst}
 use Rattle.std.specs.Prelude.{Ok}
 use Rattle.std.proofs.lemmas.Result.{err_from_is_err_and}
-use Rattle.lsp_survey.specs.Reads.{GaveEvent, Ended}
+use Rattle.lsp_survey.specs.Reads.{GaveEvent, Ended, found_in}
+use Rattle.lsp_survey.proofs.Reading.{fewer}
 use Rattle.lsp_explain.specs.Explained.{raws_of, notes_of}
-use Rattle.lsp_explain.proofs.ToldFirst.{told_first, refused, refused_end, end_told, heard_more}
+use Rattle.lsp_explain.proofs.ToldFirst.{told_first, refused, refused_end, end_told, heard_more, broke}
 use Rattle.lsp_explain.proofs.run.explain_first.Goals as goal
 
 pub returns-in_err-explanation-in-Event : goal.returns-in_err-explanation-in-Event
@@ -56,3 +57,19 @@ returns-in-End g c =
     let ended = rw c.in-End.is at (c.in_ok-heard.ensures.answer limits start (raws_of inv.hs) (notes_of inv.hs) [] inv.so_far) in
     let own = subst (λ k. Ended k limits c.next.new.self start now (raws_of inv.hs) (notes_of inv.hs) [] c.in-End.end) inv.wanted ended in
     record { answer = end_told c.args.events.now.completeness limits c.next.new.self start now inv.hs c.in-End.end c.in_ok-explain_end-in-End.field-0 own c.in_ok-explain_end-in-End.ensures }
+
+pub returns-in_err-heard : goal.returns-in_err-heard
+returns-in_err-heard g c =
+    let p = err_from_is_err_and c.from_residual.result c.from_residual.ensures.1 in
+    let inv = c.loop-heard.invariant in
+    let limits = c.args.events.now.survey.limits in
+    let start = g.R.Source.told c.args.reader.now in
+    record { answer = rw (p.1, p.2) (broke _ limits start _ [] _ (c.in_err-heard.ensures.answer limits start (raws_of inv.hs) (notes_of inv.hs) [] inv.so_far)) }
+
+pub loop-heard-smaller : goal.loop-heard-smaller
+loop-heard-smaller g c =
+    let inv = c.loop-heard.invariant in
+    let limits = c.args.events.now.survey.limits in
+    let start = g.R.Source.told c.args.reader.now in
+    let gave = rw c.in-Event.is at (c.in_ok-heard.ensures.answer limits start (raws_of inv.hs) (notes_of inv.hs) [] inv.so_far) in
+    fewer limits c.loop-heard.events c.next.new.self start (g.R.Source.told c.loop-heard.reader) (g.R.Source.told c.next.new.reader) (raws_of inv.hs) (raws_of inv.hs ++ gave.raw ∷ []) (notes_of inv.hs) gave.n [] ([] ++ found_in c.in-Event.heard) inv.so_far gave.so_far
