@@ -103,7 +103,7 @@ module _ (completeness : Completeness) (limits : Bounds) (e : SurveyReader) (sta
             (subst (λ (w : List Offence). IsSurveyOf completeness limits log w (option_map verdict_view end.bad) terms (raws_of hs) (notes_of hs)) is sv) (sym ended.lists);
         judges = judges;
         says = says;
-      }) ended.of_read
+      }) ended.whole
 
   abbrev AtEnd : Type 0
   AtEnd = (t : code.Summary) → x.verdict ≡ verdicts.Yes t → IsAtEnd now.bytes
@@ -111,7 +111,7 @@ module _ (completeness : Completeness) (limits : Bounds) (e : SurveyReader) (sta
   -- a fault of the log is no Yes
   no_flaw : (v : code_verdict.Verdict) (t : code.Summary) → end.bad ≡ Some v → verdict_view v ≡ verdict_view (verdicts.Yes t) → ⊥
   no_flaw v t some is =
-      let read = ended.of_read in
+      let read = ended.whole in
       let sv = read.holds read.bytes ([], sym (append-nil read.bytes), λ met. refl) in
       by_flaw sv.survey.log_fault (ap (option_map verdict_view) (sym some) ∙ sv.survey.bad_is)
     where

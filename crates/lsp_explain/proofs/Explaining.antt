@@ -1,17 +1,14 @@
 -- The events of a log that offend, and what is explained of them.
-use Rattle.std.specs.Prelude.{map, filter, take, not, option_map, if◌then◌else◌}
+use Rattle.std.specs.Prelude.{map, option_map}
 use Rattle.std.specs.List.{AllZip, cons_option}
 use Rattle.std.proofs.Common.{◌≡◌, ℕ, ◌+◌, Bool, true, false, List, [], ◌∷◌, ◌++◌, length, Option, Some, None, refl, sym, ap, ◌∙◌, subst, append_assoc, append-nil}
 use Rattle.std.proofs.lemmas.List.{map-append}
-use Rattle.std.proofs.lemmas.List.Elements.{filter-append}
 use Rattle.lsp_docs.specs.Terms.{Terms}
 use Rattle.lsp_verdict.specs.LookBack.{each_from, each_of}
 use Rattle.lsp_verdict.specs.Offences.{Noted, Offence, IsNoted, events_of, rule_at, offence_by, offence_at, offences}
 use Rattle.lsp_verdict.specs.Placed.{Raw}
 use Rattle.lsp_verdict.proofs.LookBackLemmas.{each_from-append, each_of-snoc}
-use Rattle.lsp_explain.specs.Explained.{Heard, Breach, Explained, Explains, raws_of, notes_of, breach, breach_at, breaches, is_cause, in_scope}
-use Rattle.lsp_explain.specs.declared.scope.Scope.{Scope}
-use Rattle.lsp_explain.specs.declared.scope.Scope.TheVariants.{First, All}
+use Rattle.lsp_explain.specs.Explained.{Heard, Breach, raws_of, notes_of, breach, breach_at, breaches}
 
 -- ---- events with what they were before they were read
 
@@ -83,34 +80,3 @@ breaches-first terms hs later h rule clean is =
     each_from-append (breach_at terms) [] hs (h ∷ later)
     ∙ ap (λ w. w ++ each_from (breach_at terms) hs (h ∷ later)) clean
     ∙ ap (λ (o : Option ℕ). cons_option (option_map (breach hs h) o) (each_from (breach_at terms) (hs ++ h ∷ []) later)) is
-
--- ---- what is explained of them
-
-pub zip_push : {A B : Type 0} (R : A → B → Type 0) (xs : List A) (ys : List B) (x : A) (y : B) → AllZip R xs ys → R x y → AllZip R (xs ++ x ∷ []) (ys ++ y ∷ [])
-zip_push R [] [] x y p q = (q, tt)
-zip_push R [] (w ∷ ys) x y p q = absurd p
-zip_push R (v ∷ xs) [] x y p q = absurd p
-zip_push R (v ∷ xs) (w ∷ ys) x y p q = (p.0, zip_push R xs ys x y p.1 q)
-
-module _ (terms : Terms) (hs : List Heard) (h : Heard) (said : List Explained) (so_far : AllZip (Explains terms) (in_scope All terms (breaches terms hs)) said) where
-  abbrev Said : List Breach → List Explained → Type 0
-  Said found es = AllZip (Explains terms) (in_scope All terms found) es
-
-  pub said-kept : rule_at terms (events_of (notes_of hs)) h.note.event ≡ None → Said (breaches terms (hs ++ h ∷ [])) said
-  said-kept is = subst (λ w. Said w said) (sym (breaches-kept terms hs h is)) so_far
-
-  by_cause : (rule : ℕ) (b : Bool) → is_cause terms (breach hs h rule) ≡ b → filter (is_cause terms) (breaches terms hs ++ breach hs h rule ∷ []) ≡ in_scope All terms (breaches terms hs) ++ (if b then breach hs h rule ∷ [] else [])
-  by_cause rule b is = filter-append (is_cause terms) (breaches terms hs) (breach hs h rule ∷ []) ∙ ap (λ t. in_scope All terms (breaches terms hs) ++ (if t then breach hs h rule ∷ [] else [])) is
-
-  -- a cause is explained
-  pub said-push : (rule : ℕ) (e : Explained) → rule_at terms (events_of (notes_of hs)) h.note.event ≡ Some rule → is_cause terms (breach hs h rule) ≡ true → Explains terms (breach hs h rule) e → Said (breaches terms (hs ++ h ∷ [])) (said ++ e ∷ [])
-  said-push rule e is cause explains =
-      subst (λ w. Said w (said ++ e ∷ [])) (sym (breaches-push terms hs h rule is))
-      (subst (λ w. AllZip (Explains terms) w (said ++ e ∷ [])) (sym (by_cause rule true cause))
-      (zip_push (Explains terms) (in_scope All terms (breaches terms hs)) said (breach hs h rule) e so_far explains))
-
-  -- what follows is not
-  pub said-follows : (rule : ℕ) → rule_at terms (events_of (notes_of hs)) h.note.event ≡ Some rule → is_cause terms (breach hs h rule) ≡ false → Said (breaches terms (hs ++ h ∷ [])) said
-  said-follows rule is follows =
-      subst (λ w. Said w said) (sym (breaches-push terms hs h rule is))
-      (subst (λ w. AllZip (Explains terms) w said) (sym (by_cause rule false follows ∙ append-nil (in_scope All terms (breaches terms hs)))) so_far)

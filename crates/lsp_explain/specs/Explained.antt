@@ -1,5 +1,5 @@
 -- What is said of a log that offends: with its offences, the events that offend and the facts on them.
-use Rattle.std.specs.Prelude.{◌≡◌, ℕ, ◌+◌, List, [], ◌∷◌, ◌++◌, map, filter, take, length, Bool, true, false, ◌==◌, nat_lt, not, if◌then◌else◌, Option, Some, None, option_map, unwrap_or}
+use Rattle.std.specs.Prelude.{◌≡◌, ℕ, ◌+◌, List, [], ◌∷◌, ◌++◌, map, take, length, Bool, true, false, ◌==◌, nat_lt, if◌then◌else◌, Option, Some, None, option_map, unwrap_or}
 use Rattle.std.specs.List.{AllZip, flat_map}
 use Rattle.lsp_frame.specs.Bounds.{Bounds}
 use Rattle.lsp_frame.specs.declared.format.Format.{Format}
@@ -14,12 +14,12 @@ use Rattle.lsp_log.specs.declared.fault.LogCode.{LogCode}
 use Rattle.lsp_verdict.specs.Calls.{call_at, calls}
 use Rattle.lsp_verdict.specs.Event.{Event, message, fault, snapshot, sent_in}
 use Rattle.lsp_verdict.specs.LookBack.{each_of}
-use Rattle.lsp_verdict.specs.Offences.{Noted, Offence, IsNoted, events_of, kept_of, rule_at, follows, offences}
+use Rattle.lsp_verdict.specs.Offences.{Noted, Offence, IsNoted, events_of, kept_of, rule_at}
 use Rattle.lsp_verdict.specs.Outcome.{HasRest, ending, log_terms}
 use Rattle.lsp_verdict.specs.Placed as placed
 use Rattle.lsp_verdict.specs.Placed.{Raw, broken, show, Placed, joined}
 use Rattle.lsp_verdict.specs.Report.{report}
-use Rattle.lsp_verdict.specs.Survey.{no_lines, found_in, found_line, ends_listed, first_verdict}
+use Rattle.lsp_verdict.specs.Survey.{found_in, ends_listed, first_verdict}
 use Rattle.lsp_verdict.specs.Verdict.{Verdict, yes, no, bad_log, Summary, summary, Ending, bad_log_of, no_by}
 use Rattle.lsp_verdict.specs.declared.completeness.Completeness.{Completeness}
 use Rattle.lsp_explain.specs.DocumentFacts.{AreDocumentFacts}
@@ -27,7 +27,7 @@ use Rattle.lsp_explain.specs.Fact.{Fact, in_record}
 use Rattle.lsp_explain.specs.Lines.{fact_line, fact_lines, event_line, end_event}
 use Rattle.lsp_explain.specs.MessageFacts.{content_facts, session_facts, lack_facts}
 use Rattle.lsp_explain.specs.declared.scope.Scope.{Scope}
-use Rattle.lsp_explain.specs.declared.scope.Scope.TheVariants.{First, All}
+use Rattle.lsp_explain.specs.declared.scope.Scope.TheVariants.{First}
 
 -- ---- an event that offends
 
@@ -58,13 +58,9 @@ breach_at terms before h = option_map (breach before h) (rule_at terms (events_o
 abbrev pub breaches : Terms → List Heard → List Breach
 breaches terms heard = each_of (breach_at terms) heard
 
-abbrev pub is_cause : Terms → Breach → Bool
-is_cause terms b = not (follows terms (notes_of b.before) b.here.note b.rule)
-
--- those that are explained: the first, or all that follow from none
+-- those that are explained: the first
 abbrev pub in_scope : Scope → Terms → List Breach → List Breach
 in_scope First terms found = take 1 found
-in_scope All terms found = filter (is_cause terms) found
 
 -- ---- the facts on it
 
@@ -128,30 +124,21 @@ end_explained kept v = record { no = v; event = end_line v; facts = end_facts ke
 abbrev pub said_of : Explained → List ℕ
 said_of e = e.event ++ fact_lines e.facts
 
-abbrev pub explained_lines : Explained → List ℕ
-explained_lines e = no_lines [] e.no ++ said_of e
-
 -- the number of the record at which the log has its fault
 abbrev pub flaw_lines : Option Verdict → List ℕ
 flaw_lines (Some (bad_log at code)) = fact_line (in_record at)
 flaw_lines _ = []
 
-abbrev pub bad_explained : Option Verdict → List ℕ
-bad_explained None = []
-bad_explained (Some v) = report v ++ flaw_lines (Some v)
-
--- **the explanation**: where nothing offends the report, with the record of a bad log; else of the first offence the report of its No and what is said of it, or so of all that are explained, and how many there are
+-- **the explanation**: where nothing offends the report, with the record of a bad log; else of the first offence the report of its No and what is said of it
 abbrev pub explanation : Scope → List Offence → List Explained → Option Verdict → Summary → List ℕ
 explanation scope [] explained bad s = report (first_verdict [] bad s) ++ flaw_lines bad
 explanation First (o ∷ found) explained bad s = report o.no ++ flat_map said_of explained
-explanation All (o ∷ found) explained bad s = flat_map explained_lines explained ++ bad_explained bad ++ found_line (o ∷ found)
 
 -- ---- a log
 
--- only the first is explained, or all
+-- only the first is explained
 abbrev pub shown_in : Scope → List Explained → List Explained
 shown_in First explained = take 1 explained
-shown_in All explained = explained
 
 -- **what is explained of a log**: `found` and `bad` and `s` are its survey
 pub record IsExplained (scope : Scope) (completeness : Completeness) (limits : Bounds) (log : List ℕ) (found : List Offence) (explained : List Explained) (bad : Option Verdict) (s : Summary) : Type 0 where

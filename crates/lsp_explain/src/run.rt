@@ -26,13 +26,11 @@ use lsp_survey::{End, Found, Heard, Next, SurveyReader};
 use lsp_verdict::{Completeness, Offence, Outcome, RunFault, Summary, Verdict, report_of};
 use std::alloc::Global;
 
-/// Reads a log and writes the report of the verdict on it, and behind a No what is wrong: with
-/// `Scope::First` the line that names the first event that offends and the facts on it; with `Scope::All`
-/// the lines of each offence that follows from no earlier one, with its event and facts behind them, and
-/// then how many offences there are. Behind the report of a bad log stands the number of its record.
+/// Reads a log and writes the report of the verdict on it, and behind a No what is wrong: the
+/// line that names the first event that offends, and the facts on it. Behind the report of a bad log stands
+/// the number of its record.
 ///
-/// With `Scope::First` it reads up to the first event that offends, and writes nothing before the verdict is
-/// known.
+/// It reads up to the first event that offends, and nothing is written before the verdict is known.
 ///
 /// # Errors
 /// `Read` where the source failed, `Write` where the sink did, and `Memory` where memory was refused.
@@ -82,10 +80,12 @@ fn explain<R: Source>(
     scope: Scope,
 ) -> Result<Explanation, RunFault>
     ensures range { IsInRange limits }
-    ensures answer { ExplainsLog Scope.First completeness limits (R.told reader.old) (R.told reader.new) result }
+    ensures answer { ExplainsLog scope completeness limits (R.told reader.old) (R.told reader.new) result }
 {
     let mut events = SurveyReader::new(alloc, limits, completeness);
-    explain_first(alloc, &mut events, reader)
+    match scope {
+        Scope::First => explain_first(alloc, &mut events, reader),
+    }
 }
 
 /// Reads a log up to the first event that offends, or to its end, and finds what explains the verdict.

@@ -5,6 +5,4 @@
 pub enum Scope {
     /// The first one.
     First,
-    /// All that follow from no earlier one.
-    All,
 }
