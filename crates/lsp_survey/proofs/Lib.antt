@@ -8,3 +8,4 @@ pub mod Taking
 pub mod Ending
 pub mod Reading
 pub mod LogEnds
+pub mod Reporting

@@ -19,7 +19,7 @@ use Rattle.lsp_log.specs.declared.record.Record as code
 use Rattle.lsp_session.specs.Incomplete.{incomplete}
 use Rattle.lsp_types.specs.declared.side.Side.{Side}
 use Rattle.lsp_types.specs.declared.side.Side.TheVariants.{Editor, Server}
-use Rattle.lsp_survey.specs.Reads.{SoFar, Ended, Gives, IsSurveyOf, BrokeOff, TakesEntry, Ready}
+use Rattle.lsp_survey.specs.Reads.{SoFar, Ended, Gives, BrokeOff, TakesEntry, Ready, IsSurveyOf}
 use Rattle.lsp_survey.specs.Surveys.{Awaits, Surveys, TakesOne}
 use Rattle.lsp_survey.specs.declared.offending.Heard.{Heard}
 use Rattle.lsp_survey.specs.declared.survey.Survey.{Survey}
@@ -127,7 +127,7 @@ ends_few None events kept false false Required = by_rule (incomplete (sent_in ke
 module _ (completeness : Completeness) (limits : Bounds) (e : SurveyReader) (start now : Told) (records : List Record) (past : List Raw) (notes : List Noted) (found : List Offence) (end : End) (flaw : Option (ℕ × LogCode))
     (r : Ready limits e.survey e.log.format records past notes found) (has : HasRecords limits start now e.log.format records flaw)
     (lists : (editor server : List ℕ) → HasRest limits (joined Editor records) editor → HasRest limits (joined Server records) server
-        → map offence_view end.listed.items ≡ map given_by (ends_listed completeness e.survey.walk.events.docs.terms (events_of notes) (ending flaw editor server)))
+    → map offence_view end.listed.items ≡ map given_by (ends_listed completeness e.survey.walk.events.docs.terms (events_of notes) (ending flaw editor server)))
     (bad_is : option_map verdict_view end.bad ≡ bad_log_of flaw) (met : end.bad ≡ None → IsAtEnd now.bytes) where
   h : Surveys limits e.survey records past notes
   h = r.surveys

@@ -2,3 +2,4 @@ pub mod Notes
 pub mod Walking
 pub mod Surveys
 pub mod Reads
+pub mod Reported

@@ -11,12 +11,14 @@ mod listing;
 mod note;
 mod offending;
 mod rules;
+mod run;
 mod said;
 mod survey;
 mod survey_reader;
+mod tally;
 mod walk;
-
 
 pub use listing::Listing;
 pub use offending::{Found, Heard, Offending};
+pub use run::run_survey;
 pub use survey_reader::{End, Next, SurveyReader};
