@@ -28,10 +28,9 @@ use Rattle.lsp_verdict.specs.declared.verdict.Verdict as code_verdict
 use Rattle.lsp_verdict.specs.declared.verdict.Verdict.TheVariants as verdicts
 use Rattle.lsp_log.specs.declared.fault.LogCode.{LogCode}
 use Rattle.lsp_verdict.proofs.RunReading.{read_map}
-use Rattle.lsp_explain.specs.Explained.{Heard, Breach, Explained, Explains, raws_of, notes_of, breaches, in_scope, end_explained, explanation, flaw_lines, said_of, IsExplained, IsExplanation}
+use Rattle.lsp_explain.specs.Explained.{Heard, Breach, Explained, Explains, raws_of, notes_of, breaches, end_explained, explanation, flaw_lines, said_of, IsExplained, IsExplanation}
 use Rattle.lsp_explain.specs.RunSteps.{IsSound, summary_behind}
 use Rattle.lsp_explain.specs.declared.run.Explanation.{Explanation}
-use Rattle.lsp_explain.specs.declared.scope.Scope.TheVariants.{First}
 use Rattle.lsp_explain.proofs.Explaining.{offence_of, offences_are}
 
 pub map_nil : {A B : Type 0} (f : A → B) (xs : List A) → map f xs ≡ [] → xs ≡ []
@@ -52,7 +51,7 @@ module _ (completeness : Completeness) (limits : Bounds) (log : List ℕ) (found
   kept = kept_of terms (events_of (notes_of hs))
 
   pub whole : IsSurveyOf completeness limits log found bad terms (raws_of hs) (notes_of hs) → offences terms (notes_of hs) ≡ []
-      → IsExplained First completeness limits log found (take 1 (map (λ (o : Offence). end_explained kept o.no) found)) bad (summary terms (events_of (notes_of hs)))
+      → IsExplained completeness limits log found (take 1 (map (λ (o : Offence). end_explained kept o.no) found)) bad (summary terms (events_of (notes_of hs)))
   whole sv none =
       let p = sv.survey in
       let own = log_terms limits p.format in
@@ -86,14 +85,14 @@ module _ (completeness : Completeness) (limits : Bounds) (e : SurveyReader) (sta
   terms = e.survey.walk.events.docs.terms
 
   abbrev Explained_ : Type 0
-  Explained_ = OfRead limits start now (λ log. IsExplanation First completeness limits log (verdict_view x.verdict) x.text.items)
+  Explained_ = OfRead limits start now (λ log. IsExplanation completeness limits log (verdict_view x.verdict) x.text.items)
 
   by_found : (found : List Offence) → map offence_view end.listed.items ≡ found
       → verdict_view x.verdict ≡ first_verdict found (option_map verdict_view end.bad) (summary_behind e (notes_of hs))
-      → x.text.items ≡ explanation First found (take 1 (map (λ (o : Offence). end_explained (kept_of terms (events_of (notes_of hs))) o.no) found)) (option_map verdict_view end.bad) (summary_behind e (notes_of hs)) → Explained_
+      → x.text.items ≡ explanation found (take 1 (map (λ (o : Offence). end_explained (kept_of terms (events_of (notes_of hs))) o.no) found)) (option_map verdict_view end.bad) (summary_behind e (notes_of hs)) → Explained_
   by_found found is judges says =
       read_map limits start now (λ log. IsSurveyOf completeness limits log (map offence_view end.listed.items) (option_map verdict_view end.bad) terms (raws_of hs) (notes_of hs))
-      (λ log. IsExplanation First completeness limits log (verdict_view x.verdict) x.text.items)
+      (λ log. IsExplanation completeness limits log (verdict_view x.verdict) x.text.items)
       (λ log sv. record {
         found = found;
         explained = take 1 (map (λ (o : Offence). end_explained (kept_of terms (events_of (notes_of hs))) o.no) found);

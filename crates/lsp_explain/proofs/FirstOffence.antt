@@ -18,8 +18,7 @@ use Rattle.lsp_verdict.specs.declared.completeness.Completeness.{Completeness}
 use Rattle.lsp_verdict.proofs.Below.{some_stream}
 use Rattle.lsp_verdict.proofs.Outcomes.{placed_front}
 use Rattle.lsp_verdict.proofs.Sessions.{some_placed}
-use Rattle.lsp_explain.specs.Explained.{Heard, Breach, Explained, Explains, raws_of, notes_of, breach, breach_at, breaches, in_scope, end_explained, shown_in, IsExplained}
-use Rattle.lsp_explain.specs.declared.scope.Scope.TheVariants.{First}
+use Rattle.lsp_explain.specs.Explained.{Heard, Breach, Explained, Explains, raws_of, notes_of, breach, breach_at, breaches, end_explained, IsExplained}
 use Rattle.lsp_explain.proofs.Explaining.{Hears, hears, offence_of, offences_are, breaches-first, raws-append, noted-append}
 
 -- what is explained of a log of which this offence is the first
@@ -27,7 +26,7 @@ pub record IsFirst (completeness : Completeness) (limits : Bounds) (log : List �
   pub found : List Offence
   pub bad : Option Verdict
   pub s : Summary
-  pub is : IsExplained First completeness limits log (o ∷ found) (e ∷ []) bad s
+  pub is : IsExplained completeness limits log (o ∷ found) (e ∷ []) bad s
 
 module _ (completeness : Completeness) (limits : Bounds) (log : List ℕ) (known : Option Format) (records : List Record) (first : HasFirst limits known records log)
     (note : (raw : Raw) → (n : Noted) × IsNoted raw n) where

@@ -11,11 +11,10 @@ use Rattle.lsp_verdict.proofs.Completing.{some_complete_verdict}
 use Rattle.lsp_verdict.proofs.Logs.{some_verdict}
 use Rattle.lsp_verdict.proofs.Offences.Surveying.{survey_agrees}
 use Rattle.lsp_explain.specs.Explained.{Explained, raws_of, notes_of, IsExplained, IsExplanation}
-use Rattle.lsp_explain.specs.declared.scope.Scope.{Scope}
 
 -- the survey that is explained
-pub survey_in : (scope : Scope) (completeness : Completeness) (limits : Bounds) (log : List ℕ) (found : List Offence) (explained : List Explained) (bad : Option Verdict) (s : Summary) → IsExplained scope completeness limits log found explained bad s → IsSurvey completeness limits log found bad s
-survey_in scope completeness limits log found explained bad s e = record {
+pub survey_in : (completeness : Completeness) (limits : Bounds) (log : List ℕ) (found : List Offence) (explained : List Explained) (bad : Option Verdict) (s : Summary) → IsExplained completeness limits log found explained bad s → IsSurvey completeness limits log found bad s
+survey_in completeness limits log found explained bad s e = record {
   format = e.format;
   records = e.records;
   log_fault = e.log_fault;
@@ -35,8 +34,8 @@ some_by : (completeness : Completeness) (limits : Bounds) (log : List ℕ) → (
 some_by Ignored limits log = some_verdict limits log
 some_by Required limits log = some_complete_verdict limits log
 
-pub explained_verdict : (scope : Scope) (completeness : Completeness) (limits : Bounds) → IsInRange limits → (log : List ℕ) (v : Verdict) (out : List ℕ) → IsExplanation scope completeness limits log v out → IsVerdictBy completeness limits log v
-explained_verdict scope completeness limits sizes log v out e =
+pub explained_verdict : (completeness : Completeness) (limits : Bounds) → IsInRange limits → (log : List ℕ) (v : Verdict) (out : List ℕ) → IsExplanation completeness limits log v out → IsVerdictBy completeness limits log v
+explained_verdict completeness limits sizes log v out e =
     let w = some_by completeness limits log in
-    let agrees = survey_agrees completeness limits sizes log e.found e.bad e.s w.0 (survey_in scope completeness limits log e.found e.explained e.bad e.s e.is) w.1 in
+    let agrees = survey_agrees completeness limits sizes log e.found e.bad e.s w.0 (survey_in completeness limits log e.found e.explained e.bad e.s e.is) w.1 in
     subst (IsVerdictBy completeness limits log) (agrees ∙ sym e.judges) w.1

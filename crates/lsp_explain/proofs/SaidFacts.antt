@@ -39,11 +39,11 @@ module _ (terms : Terms) (kept : List Event) (rule : ℕ) where
       let refused = is.1 in
       let same : event ≡ message refused.sent = one_event side bytes event (message refused.sent) reads refused.reads in
       let by_side : RefusesMessage by bytes (message_view spoken.message) (act_view spoken.act) terms kept rule =
-          record { sent = refused.sent; reads = subst (λ s. IsSent s bytes refused.sent) (sym is.0) refused.reads; says = refused.says; means = refused.means; offends = refused.offends; whole = refused.whole } in
+      record { sent = refused.sent; reads = subst (λ s. IsSent s bytes refused.sent) (sym is.0) refused.reads; says = refused.says; means = refused.means; offends = refused.offends; whole = refused.whole } in
       subst (λ e. AreFacts terms kept (content side bytes) e rule facts) (sym same) (says bytes by_side)
   facts_said (show number uri text) event (what.Snapshot version name shown) facts reads is offends says =
       let same : event ≡ snapshot (string_bytes name) version (chars (string_bytes shown)) =
-          reads ∙ ap (λ u. snapshot u number (chars text)) (sym is.1) ∙ ap (λ n. snapshot (string_bytes name) n (chars text)) (sym is.0) ∙ ap (λ t. snapshot (string_bytes name) version (chars t)) (sym is.2) in
+      reads ∙ ap (λ u. snapshot u number (chars text)) (sym is.1) ∙ ap (λ n. snapshot (string_bytes name) n (chars text)) (sym is.0) ∙ ap (λ t. snapshot (string_bytes name) version (chars t)) (sym is.2) in
       subst (λ e. AreFacts terms kept (show number uri text) e rule facts) (sym same) (says (subst (λ e. offence terms kept e ≡ Some rule) same offends))
   facts_said (broken side code) event (what.Content by given) facts reads is offends says = absurd is
   facts_said (broken side code) event (what.Message by spoken) facts reads is offends says = absurd is

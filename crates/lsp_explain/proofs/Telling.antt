@@ -51,8 +51,8 @@ module _ (e : SurveyReader) (found : Found) (x : Explanation) (said : List ℕ) 
         let such : IsOffending h.raw terms (kept_of terms before) found.offence.rule found.offending = subst (λ r. IsOffending h.raw terms (kept_of terms before) r found.offending) (sym parts.0) f.is_such in
         let offends : offence terms (kept_of terms before) h.note.event ≡ Some found.offence.rule = f.offends ∙ ap (λ r. let o : Option ℕ = Some r in o) (sym parts.0) in
         let told = says h.raw h.note.event (kept_of terms before) holds noted
-            (subst (λ t. IsOffending h.raw t (kept_of terms before) found.offence.rule found.offending) same such)
-            (subst (λ t. offence t (kept_of terms before) h.note.event ≡ Some found.offence.rule) same offends) in
+        (subst (λ t. IsOffending h.raw t (kept_of terms before) found.offence.rule found.offending) same such)
+        (subst (λ t. offence t (kept_of terms before) h.note.event ≡ Some found.offence.rule) same offends) in
         let y : Explained = record { no = (offence_view found.offence).no; event = event_line found.offence.event h.note.event; facts = told.0 } in record {
           rule = f.rule;
           offends = f.offends;
@@ -76,7 +76,7 @@ module _ (e : SurveyReader) (found : Found) (x : Explanation) (said : List ℕ) 
       let f = given.is_heard in
       let holds = given.so_far.surveys.walks.holds in
       let kept : kept_of e.survey.walk.events.docs.terms (events_of (notes_of hs ++ given.n ∷ [])) ≡ kept_of terms (events_of (notes_of hs)) =
-          ap (kept_of e.survey.walk.events.docs.terms) (events_of-push (notes_of hs) given.n)
-          ∙ ap (λ t. kept_of t (events_of (notes_of hs) ++ given.n.event ∷ [])) (sym same)
-          ∙ kept-refused terms (events_of (notes_of hs)) given.n.event f.rule f.offends in
+      ap (kept_of e.survey.walk.events.docs.terms) (events_of-push (notes_of hs) given.n)
+      ∙ ap (λ t. kept_of t (events_of (notes_of hs) ++ given.n.event ∷ [])) (sym same)
+      ∙ kept-refused terms (events_of (notes_of hs)) given.n.event f.rule f.offends in
       under hs (record { raw = given.raw; note = given.n }) given.is_noted.0 terms same f (subst (Holds e.survey.walk.events.session e.survey.walk.events.docs) kept holds)

@@ -32,7 +32,6 @@ use Rattle.lsp_verdict.proofs.RunReading.{read_map}
 use Rattle.lsp_explain.specs.Explained.{Heard, Explained, Explains, raws_of, notes_of, breach, breaches, said_of, IsExplanation}
 use Rattle.lsp_explain.specs.RunSteps.{Tells, TellsEnd, EndsWhole, IsFollowing, IsExplainedBy, BreaksOff}
 use Rattle.lsp_explain.specs.declared.run.Explanation.{Explanation}
-use Rattle.lsp_explain.specs.declared.scope.Scope.TheVariants.{First}
 use Rattle.lsp_explain.proofs.EndOfLog.{no_breach}
 use Rattle.lsp_explain.proofs.Explaining.{offence_of, raws-append, notes-append, noted-append}
 use Rattle.lsp_explain.proofs.FirstOffence.{IsFirst, first_explained}
@@ -70,35 +69,35 @@ module _ (completeness : Completeness) (limits : Bounds) (e : SurveyReader) (sta
       clean : breaches own hs ≡ []
       clean =
           let listed : offences own (notes_of hs) ++ cons_option (offence_at own (notes_of hs) given.n) [] ≡ offence_view found.offence ∷ [] =
-              sym (offences-push own (notes_of hs) given.n) ∙ sym given.so_far.lists in
+          sym (offences-push own (notes_of hs) given.n) ∙ sym given.so_far.lists in
           no_breach own hs (nothing_before (offences own (notes_of hs)) (offence_by own (notes_of hs) given.n t.rule) (offence_view found.offence) (cons_option (offence_at own (notes_of hs) given.n) [])
           (ap (λ (o : Option ℕ). cons_option (option_map (offence_by own (notes_of hs) given.n) o) []) t.offends) listed)
 
-      of_log : (log : List ℕ) → HasFirst limits e.log.format given.so_far.records log → IsExplanation First completeness limits log (verdict_view x.verdict) x.text.items
+      of_log : (log : List ℕ) → HasFirst limits e.log.format given.so_far.records log → IsExplanation completeness limits log (verdict_view x.verdict) x.text.items
       of_log log first = elim (known_terms limits e.survey.format e.log.format first.format given.so_far.format first.is_known) [
         | inl none ↦ absurd (not_none (raws_of hs) given.raw given.so_far.surveys.due (subst (λ (w : List Record). Placed limits w ((raws_of hs ++ given.raw ∷ []) ++ given.so_far.surveys.due)) (given.so_far.at.early none) given.so_far.surveys.placed))
         | inr same ↦
-          let f : IsFirst completeness limits log (offence_of (log_terms limits first.format) (breach hs here t.rule)) t.told =
-              first_explained completeness limits log e.log.format given.so_far.records first note hs here given.so_far.surveys.due
-              (subst (λ (w : List Raw). Placed limits given.so_far.records (w ++ given.so_far.surveys.due)) raws_here given.so_far.surveys.placed)
-              (noted-append hs (here ∷ []) noted (given.is_noted, tt))
-              t.rule t.told
-              (subst (λ (ts : Terms). breaches ts hs ≡ []) (sym same) clean)
-              (subst (λ (ts : Terms). rule_at ts (events_of (notes_of hs)) given.n.event ≡ Some t.rule) (sym same) t.offends)
-              (subst (λ (ts : Terms). Explains ts (breach hs here t.rule) t.told) (sym same) t.explains) in record {
-            found = offence_of (log_terms limits first.format) (breach hs here t.rule) ∷ f.found;
-            explained = t.told ∷ [];
-            bad = f.bad;
-            s = f.s;
-            is = f.is;
-            judges = t.verdict_is ∙ t.explains.no_is;
-            says = t.text_is ∙ ap (λ v. report v ++ said_of t.told) t.explains.no_is ∙ ap (λ w. report (no_by (events_of (notes_of hs)) given.n.event t.rule) ++ w) (sym (append-nil (said_of t.told)));
-          }
+            let f : IsFirst completeness limits log (offence_of (log_terms limits first.format) (breach hs here t.rule)) t.told =
+            first_explained completeness limits log e.log.format given.so_far.records first note hs here given.so_far.surveys.due
+            (subst (λ (w : List Raw). Placed limits given.so_far.records (w ++ given.so_far.surveys.due)) raws_here given.so_far.surveys.placed)
+            (noted-append hs (here ∷ []) noted (given.is_noted, tt))
+            t.rule t.told
+            (subst (λ (ts : Terms). breaches ts hs ≡ []) (sym same) clean)
+            (subst (λ (ts : Terms). rule_at ts (events_of (notes_of hs)) given.n.event ≡ Some t.rule) (sym same) t.offends)
+            (subst (λ (ts : Terms). Explains ts (breach hs here t.rule) t.told) (sym same) t.explains) in record {
+              found = offence_of (log_terms limits first.format) (breach hs here t.rule) ∷ f.found;
+              explained = t.told ∷ [];
+              bad = f.bad;
+              s = f.s;
+              is = f.is;
+              judges = t.verdict_is ∙ t.explains.no_is;
+              says = t.text_is ∙ ap (λ v. report v ++ said_of t.told) t.explains.no_is ∙ ap (λ w. report (no_by (events_of (notes_of hs)) given.n.event t.rule) ++ w) (sym (append-nil (said_of t.told)));
+            }
       ]
 
-      pub told_first : IsExplainedBy First completeness limits start now x
+      pub told_first : IsExplainedBy completeness limits start now x
       told_first = record {
-        of_read = read_map limits start now (HasFirst limits e.log.format given.so_far.records) (λ log. IsExplanation First completeness limits log (verdict_view x.verdict) x.text.items) of_log
+        of_read = read_map limits start now (HasFirst limits e.log.format given.so_far.records) (λ log. IsExplanation completeness limits log (verdict_view x.verdict) x.text.items) of_log
             (is_first e.log limits start now given.so_far.records given.so_far.same given.so_far.at);
         failures = given.so_far.at.failures;
         ended = λ s yes. let same : verdict_view (verdicts.Yes s) ≡ no_by (events_of (notes_of hs)) given.n.event t.rule = ap verdict_view (sym yes) ∙ t.verdict_is ∙ t.explains.no_is in absurd cc;
@@ -122,7 +121,7 @@ refused_end completeness limits e start now hs end ended = record {
 
 -- the end of the log is explained
 pub end_told : (completeness : Completeness) (limits : Bounds) (e : SurveyReader) (start now : Told) (hs : List Heard) (end : End) (x : Explanation) → Ended completeness limits e start now (raws_of hs) (notes_of hs) [] end
-    → ((c : Completeness) (b : Bounds) (s n : Told) → EndsWhole c b e s n end → TellsEnd c b s n x) → IsExplainedBy First completeness limits start now x
+    → ((c : Completeness) (b : Bounds) (s n : Told) → EndsWhole c b e s n end → TellsEnd c b s n x) → IsExplainedBy completeness limits start now x
 end_told completeness limits e start now hs end x ended says =
     let r = says completeness limits start now (record { hs = hs; ended = ended }) in
     record { of_read = r.0; failures = ended.failures; ended = r.1 }

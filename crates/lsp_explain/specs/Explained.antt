@@ -26,8 +26,6 @@ use Rattle.lsp_explain.specs.DocumentFacts.{AreDocumentFacts}
 use Rattle.lsp_explain.specs.Fact.{Fact, in_record}
 use Rattle.lsp_explain.specs.Lines.{fact_line, fact_lines, event_line, end_event}
 use Rattle.lsp_explain.specs.MessageFacts.{content_facts, session_facts, lack_facts}
-use Rattle.lsp_explain.specs.declared.scope.Scope.{Scope}
-use Rattle.lsp_explain.specs.declared.scope.Scope.TheVariants.{First}
 
 -- ---- an event that offends
 
@@ -57,10 +55,6 @@ breach_at terms before h = option_map (breach before h) (rule_at terms (events_o
 -- all of them
 abbrev pub breaches : Terms → List Heard → List Breach
 breaches terms heard = each_of (breach_at terms) heard
-
--- those that are explained: the first
-abbrev pub in_scope : Scope → Terms → List Breach → List Breach
-in_scope First terms found = take 1 found
 
 -- ---- the facts on it
 
@@ -130,18 +124,14 @@ flaw_lines (Some (bad_log at code)) = fact_line (in_record at)
 flaw_lines _ = []
 
 -- **the explanation**: where nothing offends the report, with the record of a bad log; else of the first offence the report of its No and what is said of it
-abbrev pub explanation : Scope → List Offence → List Explained → Option Verdict → Summary → List ℕ
-explanation scope [] explained bad s = report (first_verdict [] bad s) ++ flaw_lines bad
-explanation First (o ∷ found) explained bad s = report o.no ++ flat_map said_of explained
+abbrev pub explanation : List Offence → List Explained → Option Verdict → Summary → List ℕ
+explanation [] explained bad s = report (first_verdict [] bad s) ++ flaw_lines bad
+explanation (o ∷ found) explained bad s = report o.no ++ flat_map said_of explained
 
 -- ---- a log
 
--- only the first is explained
-abbrev pub shown_in : Scope → List Explained → List Explained
-shown_in First explained = take 1 explained
-
--- **what is explained of a log**: `found` and `bad` and `s` are its survey
-pub record IsExplained (scope : Scope) (completeness : Completeness) (limits : Bounds) (log : List ℕ) (found : List Offence) (explained : List Explained) (bad : Option Verdict) (s : Summary) : Type 0 where
+-- **what is explained of a log**, the first offence: `found` and `bad` and `s` are its survey
+pub record IsExplained (completeness : Completeness) (limits : Bounds) (log : List ℕ) (found : List Offence) (explained : List Explained) (bad : Option Verdict) (s : Summary) : Type 0 where
   pub format : Option Format
   pub records : List Record
   pub log_fault : Option (ℕ × LogCode)
@@ -157,15 +147,15 @@ pub record IsExplained (scope : Scope) (completeness : Completeness) (limits : B
   pub lists : found ≡ found_in completeness (log_terms limits format) (notes_of heard) (ending log_fault editor server)
   pub bad_is : bad ≡ bad_log_of log_fault
   pub comes_to : s ≡ summary (log_terms limits format) (events_of (notes_of heard))
-  pub explains : AllZip (Explains (log_terms limits format)) (in_scope scope (log_terms limits format) (breaches (log_terms limits format) heard)) of_events
-  pub shows : explained ≡ shown_in scope (of_events ++ map (end_explained (kept_of (log_terms limits format) (events_of (notes_of heard)))) (ends_listed completeness (log_terms limits format) (events_of (notes_of heard)) (ending log_fault editor server)))
+  pub explains : AllZip (Explains (log_terms limits format)) (take 1 (breaches (log_terms limits format) heard)) of_events
+  pub shows : explained ≡ take 1 (of_events ++ map (end_explained (kept_of (log_terms limits format) (events_of (notes_of heard)))) (ends_listed completeness (log_terms limits format) (events_of (notes_of heard)) (ending log_fault editor server)))
 
 -- **the verdict on a log, and what explains it**: the first that its survey lists, else its fault, else Yes
-pub record IsExplanation (scope : Scope) (completeness : Completeness) (limits : Bounds) (log : List ℕ) (v : Verdict) (out : List ℕ) : Type 0 where
+pub record IsExplanation (completeness : Completeness) (limits : Bounds) (log : List ℕ) (v : Verdict) (out : List ℕ) : Type 0 where
   pub found : List Offence
   pub explained : List Explained
   pub bad : Option Verdict
   pub s : Summary
-  pub is : IsExplained scope completeness limits log found explained bad s
+  pub is : IsExplained completeness limits log found explained bad s
   pub judges : v ≡ first_verdict found bad s
-  pub says : out ≡ explanation scope found explained bad s
+  pub says : out ≡ explanation found explained bad s

@@ -22,8 +22,6 @@ use Rattle.lsp_verdict.specs.declared.verdict.Summary as code
 use Rattle.lsp_verdict.specs.declared.verdict.Verdict.TheVariants as verdicts
 use Rattle.lsp_explain.specs.Explained.{Heard, Explained, Explains, breach, raws_of, notes_of, said_of, IsExplanation}
 use Rattle.lsp_explain.specs.declared.run.Explanation.{Explanation}
-use Rattle.lsp_explain.specs.declared.scope.Scope.{Scope}
-use Rattle.lsp_explain.specs.declared.scope.Scope.TheVariants.{First}
 
 -- the event that was found offends behind these, and this is said of it
 pub record Tells (terms : Terms) (hs : List Heard) (h : Heard) (found : Found) (x : Explanation) : Type 0 where
@@ -58,7 +56,7 @@ pub record EndsWhole (completeness : Completeness) (limits : Bounds) (e : Survey
 -- its end is explained
 abbrev pub TellsEnd : Completeness → Bounds → Told → Told → Explanation → Type 0
 TellsEnd completeness limits start now x =
-    OfRead limits start now (λ log. IsExplanation First completeness limits log (verdict_view x.verdict) x.text.items)
+    OfRead limits start now (λ log. IsExplanation completeness limits log (verdict_view x.verdict) x.text.items)
     × ((s : code.Summary) → x.verdict ≡ verdicts.Yes s → IsAtEnd now.bytes)
 
 -- some events of the log were heard, and these offences found
@@ -68,8 +66,8 @@ pub record IsFollowing (completeness : Completeness) (limits : Bounds) (e : Surv
   pub wanted : e.completeness ≡ completeness
 
 -- the log read is explained
-pub record IsExplainedBy (scope : Scope) (completeness : Completeness) (limits : Bounds) (start now : Told) (x : Explanation) : Type 0 where
-  pub of_read : OfRead limits start now (λ log. IsExplanation scope completeness limits log (verdict_view x.verdict) x.text.items)
+pub record IsExplainedBy (completeness : Completeness) (limits : Bounds) (start now : Told) (x : Explanation) : Type 0 where
+  pub of_read : OfRead limits start now (λ log. IsExplanation completeness limits log (verdict_view x.verdict) x.text.items)
   pub failures : now.failures ≡ start.failures
   pub ended : (s : code.Summary) → x.verdict ≡ verdicts.Yes s → IsAtEnd now.bytes
 
@@ -79,6 +77,6 @@ pub record BreaksOff (limits : Bounds) (start now : Told) (fault : RunFault) : T
   pub failures : now.failures ≡ failures_after fault start.failures
   pub unwritten : fault ≡ faults.Write → ⊥
 
-abbrev pub ExplainsLog : Scope → Completeness → Bounds → Told → Told → Result Explanation RunFault → Type 0
-ExplainsLog scope completeness limits start now (Ok x) = IsExplainedBy scope completeness limits start now x
-ExplainsLog scope completeness limits start now (Err fault) = BreaksOff limits start now fault
+abbrev pub ExplainsLog : Completeness → Bounds → Told → Told → Result Explanation RunFault → Type 0
+ExplainsLog completeness limits start now (Ok x) = IsExplainedBy completeness limits start now x
+ExplainsLog completeness limits start now (Err fault) = BreaksOff limits start now fault

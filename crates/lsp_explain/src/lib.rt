@@ -14,10 +14,8 @@ mod offending;
 mod refused_change;
 mod run;
 mod said;
-mod scope;
 
 pub use documents::{act_facts, snapshot_facts};
 pub use fact::Fact;
 pub use messages::{content_facts, lack_facts, session_facts};
 pub use run::run_explain;
-pub use scope::Scope;

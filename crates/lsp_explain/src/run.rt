@@ -18,7 +18,6 @@ ghost use Rattle.lsp_explain.specs.RunSteps.{EndsWhole, ExplainsLog, IsSound, Te
 use crate::fact::Fact;
 use crate::lines::push_fact;
 use crate::said::{push_end, push_said};
-use crate::scope::Scope;
 use lsp_frame::{Limits, Sink, Source, put_all};
 use lsp_rpc::Memory;
 use lsp_session::Session;
@@ -40,7 +39,6 @@ pub fn run_explain<R: Source, W: Sink>(
     writer: &mut W,
     limits: Limits,
     completeness: Completeness,
-    scope: Scope,
 ) -> Result<Outcome, RunFault>
     // The answer is the verdict on the log read, however that goes on where its end was not met.
     ensures judged { IfOk result (λ outcome. (v : Verdict) × (outcome ≡ Outcome.Judged v)) }
@@ -48,7 +46,7 @@ pub fn run_explain<R: Source, W: Sink>(
         → OfRead limits (R.told reader.old) (R.told reader.new) (λ log. IsVerdictBy completeness limits log (verdict_view v)) }
     // What explains it is written, and nothing else.
     ensures written { (v : Verdict) → result ≡ Ok (Outcome.Judged v) → (out : List ℕ) × Took (W.told writer.old) (W.told writer.new) out
-        × OfRead limits (R.told reader.old) (R.told reader.new) (λ log. IsExplanation scope completeness limits log (verdict_view v) out) }
+        × OfRead limits (R.told reader.old) (R.told reader.new) (λ log. IsExplanation completeness limits log (verdict_view v) out) }
     ensures ended { (s : Summary) → result ≡ Ok (Outcome.Judged (Verdict.Yes s)) → IsAtEnd (R.told reader.new).bytes }
 
     // After a read fault or for want of memory nothing is written.
@@ -59,7 +57,7 @@ pub fn run_explain<R: Source, W: Sink>(
     // At most one byte past the limit is read.
     ensures limit { GaveAtMost (limits.log + 1) (R.told reader.old) (R.told reader.new) }
 {
-    let explanation = explain(alloc, reader, limits, completeness, scope)?;
+    let explanation = explain(alloc, reader, limits, completeness)?;
     put_all(writer, explanation.text.as_slice())?;
     Ok(Outcome::Judged(explanation.verdict))
 }
@@ -77,15 +75,12 @@ fn explain<R: Source>(
     reader: &mut R,
     limits: Limits,
     completeness: Completeness,
-    scope: Scope,
 ) -> Result<Explanation, RunFault>
     ensures range { IsInRange limits }
-    ensures answer { ExplainsLog scope completeness limits (R.told reader.old) (R.told reader.new) result }
+    ensures answer { ExplainsLog completeness limits (R.told reader.old) (R.told reader.new) result }
 {
     let mut events = SurveyReader::new(alloc, limits, completeness);
-    match scope {
-        Scope::First => explain_first(alloc, &mut events, reader),
-    }
+    explain_first(alloc, &mut events, reader)
 }
 
 /// Reads a log up to the first event that offends, or to its end, and finds what explains the verdict.
@@ -95,7 +90,7 @@ fn explain_first<R: Source>(
     reader: &mut R,
 ) -> Result<Explanation, RunFault>
     requires fresh { SoFar events.old.survey.limits events.old (R.told reader.old) (R.told reader.old) [] [] [] }
-    ensures answer { ExplainsLog Scope.First events.old.completeness events.old.survey.limits (R.told reader.old) (R.told reader.new) result }
+    ensures answer { ExplainsLog events.old.completeness events.old.survey.limits (R.told reader.old) (R.told reader.new) result }
 {
     loop {
         match events.next(reader)? {
@@ -126,11 +121,7 @@ fn explain_heard(
 }
 
 /// What explains an offence that was found.
-fn explain_found(
-    alloc: Global,
-    events: &SurveyReader,
-    found: &Found,
-) -> Result<Explanation, Memory>
+fn explain_found(alloc: Global, events: &SurveyReader, found: &Found) -> Result<Explanation, Memory>
     ensures { IfOk result (TellsOf events.now found.now) }
 {
     let verdict = found.offence.verdict();
@@ -142,11 +133,7 @@ fn explain_found(
 }
 
 /// What explains the end of a log, where no event offends.
-fn explain_end(
-    alloc: Global,
-    events: &mut SurveyReader,
-    end: End,
-) -> Result<Explanation, Memory>
+fn explain_end(alloc: Global, events: &mut SurveyReader, end: End) -> Result<Explanation, Memory>
     ensures { IfOk result (λ x. (completeness : Completeness) (limits : Bounds) (start now : Told) → EndsWhole completeness limits events.old start now end
         → TellsEnd completeness limits start now x) }
 {
@@ -159,11 +146,7 @@ fn explain_end(
 }
 
 /// What explains what is listed of the end of a session.
-fn explain_listed(
-    alloc: Global,
-    session: &Session,
-    listed: &Offence,
-) -> Result<Explanation, Memory>
+fn explain_listed(alloc: Global, session: &Session, listed: &Offence) -> Result<Explanation, Memory>
     ensures verdict { IfOk result (λ x. verdict_view x.verdict ≡ (offence_view listed.now).no) }
     ensures text { IfOk result (λ x. (kept : List Event) → Stands session.now (sent_in kept)
         → x.text.items ≡ report (offence_view listed.now).no ++ said_of (end_explained kept (offence_view listed.now).no)) }

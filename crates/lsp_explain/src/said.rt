@@ -51,7 +51,15 @@ fn facts_of<S: TextStore>(
         }
         Offending::Snapshot { version, uri, text } => {
             let version = *version;
-            shown_facts(alloc, session, docs, version, uri.as_str(), text.as_str(), rule)
+            shown_facts(
+                alloc,
+                session,
+                docs,
+                version,
+                uri.as_str(),
+                text.as_str(),
+                rule,
+            )
         }
     }
 }

@@ -94,10 +94,7 @@ impl SurveyReader {
     {
         match bad {
             Some(verdict) => Ok(verdict),
-            None => Ok(Verdict::Yes(summary_of(
-                self.alloc,
-                &mut self.survey.walk.events,
-            )?)),
+            None => Ok(Verdict::Yes(summary_of(self.alloc, &mut self.survey.walk.events)?)),
         }
     }
 

@@ -1,12 +1,7 @@
-use Rattle.std.proofs.Common.{◌≡◌, [], refl, sym, subst}
+use Rattle.std.proofs.Common.{[], sym, subst}
 use Rattle.lsp_survey.specs.Reads.{SoFar}
 use Rattle.lsp_explain.specs.RunSteps.{ExplainsLog}
-use Rattle.lsp_explain.specs.declared.scope.Scope.{Scope}
-use Rattle.lsp_explain.specs.declared.scope.Scope.TheVariants.{First}
 use Rattle.lsp_explain.proofs.run.explain.Goals as goal
-
-only_first : (scope : Scope) → scope ≡ First
-only_first First = refl
 
 pub explain_first-requires : goal.explain_first-requires
 explain_first-requires g c =
@@ -19,6 +14,5 @@ returns-clause-answer g c =
     let start = g.R.Source.told c.args.reader.now in
     let now = g.R.Source.told c.explain_first.new.reader in
     let fresh = c.new-events.ensures.fresh start in
-    subst (λ sc. ExplainsLog sc c.args.completeness c.args.limits start now c.explain_first.result) (sym (only_first c.args.scope))
-    (subst (λ b. ExplainsLog First c.args.completeness b start now c.explain_first.result) fresh.surveys.same
-    (subst (λ k. ExplainsLog First k c.new-events.result.survey.limits start now c.explain_first.result) c.new-events.ensures.completeness c.explain_first.ensures.answer))
+    subst (λ b. ExplainsLog c.args.completeness b start now c.explain_first.result) fresh.surveys.same
+    (subst (λ k. ExplainsLog k c.new-events.result.survey.limits start now c.explain_first.result) c.new-events.ensures.completeness c.explain_first.ensures.answer)

@@ -17,8 +17,8 @@ returns-clause-verdict g c = λ v is.
     let now = g.R.Source.told c.explain.new.reader in
     let same : x.verdict ≡ v = cc is in
     subst (λ (w : Verdict). OfRead limits start now (λ log. IsVerdictBy c.args.completeness limits log (verdict_view w))) same
-    (read_map limits start now (λ log. IsExplanation c.args.scope c.args.completeness limits log (verdict_view x.verdict) x.text.items) (λ log. IsVerdictBy c.args.completeness limits log (verdict_view x.verdict))
-    (λ log e. explained_verdict c.args.scope c.args.completeness limits c.in_ok-explanation.ensures.range log (verdict_view x.verdict) x.text.items e) c.in_ok-explanation.ensures.answer.of_read)
+    (read_map limits start now (λ log. IsExplanation c.args.completeness limits log (verdict_view x.verdict) x.text.items) (λ log. IsVerdictBy c.args.completeness limits log (verdict_view x.verdict))
+    (λ log e. explained_verdict c.args.completeness limits c.in_ok-explanation.ensures.range log (verdict_view x.verdict) x.text.items e) c.in_ok-explanation.ensures.answer.of_read)
 
 pub returns-clause-written : goal.returns-clause-written
 returns-clause-written g c = λ v is.
@@ -27,4 +27,4 @@ returns-clause-written g c = λ v is.
     let start = g.R.Source.told c.args.reader.now in
     let now = g.R.Source.told c.explain.new.reader in
     let same : x.verdict ≡ v = cc is in
-    (x.text.items, subst (λ (w : List ℕ). Took (g.W.Sink.told c.args.writer.now) (g.W.Sink.told c.put_all.new.writer) w) c.as_slice.ensures.value c.in_ok-put_all.ensures.took, subst (λ (w : Verdict). OfRead limits start now (λ log. IsExplanation c.args.scope c.args.completeness limits log (verdict_view w) x.text.items)) same c.in_ok-explanation.ensures.answer.of_read)
+    (x.text.items, subst (λ (w : List ℕ). Took (g.W.Sink.told c.args.writer.now) (g.W.Sink.told c.put_all.new.writer) w) c.as_slice.ensures.value c.in_ok-put_all.ensures.took, subst (λ (w : Verdict). OfRead limits start now (λ log. IsExplanation c.args.completeness limits log (verdict_view w) x.text.items)) same c.in_ok-explanation.ensures.answer.of_read)

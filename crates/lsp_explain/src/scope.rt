@@ -1,8 +1,0 @@
-//! How much is explained.
-
-/// Which offences of a session are explained.
-#[derive(Clone, Copy, Debug, PartialEq, Eq)]
-pub enum Scope {
-    /// The first one.
-    First,
-}
