@@ -1,5 +1,6 @@
 pub mod Differing
 pub mod EndOfLog
+pub mod ExplainedReport
 pub mod Explaining
 pub mod FirstOffence
 pub mod Judged
