@@ -84,7 +84,7 @@ module _ (old mid new : Walk) (notes : List Noted) (side : Side) (bytes : List �
     where
       is_such : (o : Offending) → IsUnread side bytes o → IsOffending (content side bytes) terms kept rule o
       is_such (what.Frames by) u = absurd u
-      is_such (what.Content by bytes') u = u
+      is_such (what.Content by bytes') u = (u.0, u.1, reads)
       is_such (what.Message by spoken) u = absurd u
       is_such (what.Snapshot version uri text) u = absurd u
 

@@ -19,7 +19,7 @@ use Rattle.lsp_log.specs.declared.record.Record as code
 use Rattle.lsp_session.specs.Incomplete.{incomplete}
 use Rattle.lsp_types.specs.declared.side.Side.{Side}
 use Rattle.lsp_types.specs.declared.side.Side.TheVariants.{Editor, Server}
-use Rattle.lsp_survey.specs.Reads.{SoFar, Ended, Gives, BrokeOff, TakesEntry, Ready}
+use Rattle.lsp_survey.specs.Reads.{SoFar, Ended, Gives, BrokeOff, TakesEntry, Ready, IsSurveyOf}
 use Rattle.lsp_survey.specs.Surveys.{Awaits, Surveys, TakesOne}
 use Rattle.lsp_survey.specs.declared.offending.Heard.{Heard}
 use Rattle.lsp_survey.specs.declared.survey.Survey.{Survey}
@@ -179,8 +179,21 @@ module _ (completeness : Completeness) (limits : Bounds) (e : SurveyReader) (sta
         counted = h.walks.counted;
       }
 
-  pub ended_here : Ended completeness limits e start now notes found end
+  whole_here : (log : List ℕ) → IsLog limits log e.log.format records flaw → IsSurveyOf completeness limits log (found ++ map offence_view end.listed.items) (option_map verdict_view end.bad) own past notes
+  unfolding survey_of
+  whole_here log is_log = record {
+    survey = survey_of completeness limits log e.log.format records flaw is_log past placed notes h.are_noted (found ++ map offence_view end.listed.items) (option_map verdict_view end.bad) (summary own (events_of notes))
+        all_listed bad_is (ap (λ (t : Terms). summary t (events_of notes)) same_terms);
+    raws_are = refl;
+    notes_are = refl;
+    terms_are = sym same_terms;
+  }
+
+  pub ended_here : Ended completeness limits e start now past notes found end
   ended_here = record {
+    whole = read_map limits start now (λ log. IsLog limits log e.log.format records flaw) (λ log. IsSurveyOf completeness limits log (found ++ map offence_view end.listed.items) (option_map verdict_view end.bad) own past notes) whole_here has.of_read;
+    walks = h.walks;
+    lists = own_found;
     of_read = read_map limits start now (λ log. IsLog limits log e.log.format records flaw) (λ log. IsSurvey completeness limits log (found ++ map offence_view end.listed.items) (option_map verdict_view end.bad) (summary own (events_of notes)))
         (λ log is_log. survey_of completeness limits log e.log.format records flaw is_log past placed notes h.are_noted (found ++ map offence_view end.listed.items) (option_map verdict_view end.bad) (summary own (events_of notes))
         all_listed bad_is (ap (λ (t : Terms). summary t (events_of notes)) same_terms)) has.of_read;

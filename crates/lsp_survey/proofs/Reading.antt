@@ -108,7 +108,7 @@ module _ (completeness : Completeness) (limits : Bounds) (log : List ℕ) (forma
   server_rest = let s = some_stream limits (joined Server records) in (s.1, (s.0, s.2, s.3))
 
   -- all that is wrong with it
-  pub survey_of : (found : List Offence) (bad : Option Verdict) (s : Summary) → found ≡ survey.found_in completeness (log_terms limits format) notes (ending flaw editor_rest.0 server_rest.0) → bad ≡ bad_log_of flaw → s ≡ summary (log_terms limits format) (events_of notes)
+  unfoldable pub survey_of : (found : List Offence) (bad : Option Verdict) (s : Summary) → found ≡ survey.found_in completeness (log_terms limits format) notes (ending flaw editor_rest.0 server_rest.0) → bad ≡ bad_log_of flaw → s ≡ summary (log_terms limits format) (events_of notes)
       → IsSurvey completeness limits log found bad s
   survey_of found bad s lists bad_is comes_to = record {
     format = format;

@@ -8,7 +8,7 @@ use Rattle.lsp_frame.specs.Told.{Told}
 use Rattle.lsp_frame.specs.declared.format.Format.{Format}
 use Rattle.lsp_log.specs.Log.{Record}
 use Rattle.lsp_survey.specs.Surveys.{Surveys}
-use Rattle.lsp_survey.specs.Walking.{IsOffending}
+use Rattle.lsp_survey.specs.Walking.{IsOffending, Walks}
 use Rattle.lsp_survey.specs.declared.offending.Found.{Found}
 use Rattle.lsp_survey.specs.declared.offending.Heard.{Heard}
 use Rattle.lsp_survey.specs.declared.offending.Heard.TheVariants as heard
@@ -20,7 +20,7 @@ use Rattle.lsp_survey.specs.declared.survey_reader.SurveyReader.{SurveyReader}
 use Rattle.lsp_verdict.specs.Entries.{IsAt}
 use Rattle.lsp_verdict.specs.Given.{as_given, offence_view, verdict_view}
 use Rattle.lsp_verdict.specs.Offences.{Noted, Offence, IsNoted, events_of, kept_of, offence_by, offences, rule_at}
-use Rattle.lsp_verdict.specs.Outcome.{format_or_one}
+use Rattle.lsp_verdict.specs.Outcome.{format_or_one, log_terms}
 use Rattle.lsp_verdict.specs.Placed.{Raw}
 use Rattle.lsp_verdict.specs.RunIo.{OfRead, failures_after}
 use Rattle.lsp_verdict.specs.Survey.{IsSurvey}
@@ -70,9 +70,19 @@ pub record GaveEvent (limits : Bounds) (e : SurveyReader) (start now : Told) (pa
   pub is_heard : IsHeardAs raw (terms_of limits e.survey.format) before n given
   pub so_far : SoFar limits e start now (past ++ raw ∷ []) (before ++ n ∷ []) (found ++ found_in given)
 
+-- the survey of a log, all of whose events are these, under these terms
+pub record IsSurveyOf (completeness : Completeness) (limits : Bounds) (log : List ℕ) (found : List Offence) (bad : Option Verdict) (terms : Terms) (past : List Raw) (notes : List Noted) : Type 0 where
+  pub survey : IsSurvey completeness limits log found bad (summary terms (events_of notes))
+  pub raws_are : survey.session.0 ≡ past
+  pub notes_are : survey.notes ≡ notes
+  pub terms_are : log_terms limits survey.format ≡ terms
+
 -- **the log ended behind these events**
-pub record Ended (completeness : Completeness) (limits : Bounds) (e : SurveyReader) (start now : Told) (notes : List Noted) (found : List Offence) (end : End) : Type 0 where
+pub record Ended (completeness : Completeness) (limits : Bounds) (e : SurveyReader) (start now : Told) (past : List Raw) (notes : List Noted) (found : List Offence) (end : End) : Type 0 where
   pub of_read : OfRead limits start now (λ log. IsSurvey completeness limits log (found ++ map offence_view end.listed.items) (option_map verdict_view end.bad) (summary e.survey.walk.events.docs.terms (events_of notes)))
+  pub whole : OfRead limits start now (λ log. IsSurveyOf completeness limits log (found ++ map offence_view end.listed.items) (option_map verdict_view end.bad) e.survey.walk.events.docs.terms past notes)
+  pub walks : Walks e.survey.walk notes
+  pub lists : found ≡ offences e.survey.walk.events.docs.terms notes
   pub failures : now.failures ≡ start.failures
   pub met : end.bad ≡ None → IsAtEnd now.bytes
   pub few : length (found ++ map offence_view end.listed.items) < 2 ^ 64
@@ -88,7 +98,7 @@ pub record BrokeOff (completeness : Completeness) (limits : Bounds) (start now :
 -- one more event was heard, or the log has ended
 abbrev pub Gives : Completeness → Bounds → SurveyReader → Told → Told → List Raw → List Noted → List Offence → Next → Type 0
 Gives completeness limits e start now past before found (next.Event given) = GaveEvent limits e start now past before found given
-Gives completeness limits e start now past before found (next.End end) = Ended completeness limits e start now before found end
+Gives completeness limits e start now past before found (next.End end) = Ended completeness limits e start now past before found end
 
 abbrev pub Pulls : Completeness → Bounds → SurveyReader → Told → Told → List Raw → List Noted → List Offence → Result Next RunFault → Type 0
 Pulls completeness limits e start now past before found (Ok given) = Gives completeness limits e start now past before found given

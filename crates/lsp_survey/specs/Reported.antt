@@ -14,6 +14,7 @@ use Rattle.lsp_survey.specs.declared.survey_reader.SurveyReader.{SurveyReader}
 use Rattle.lsp_survey.specs.declared.tally.Tally.{Tally}
 use Rattle.lsp_verdict.specs.Given.{offence_view, verdict_view}
 use Rattle.lsp_verdict.specs.Offences.{Noted, Offence}
+use Rattle.lsp_verdict.specs.Placed.{Raw}
 use Rattle.lsp_verdict.specs.RunIo.{OfRead, failures_after}
 use Rattle.lsp_verdict.specs.Survey.{IsSurvey, all_report, bad_lines, first_verdict, found_line, offence_lines, shown_of}
 use Rattle.lsp_verdict.specs.Report.{report}
@@ -97,9 +98,10 @@ Reports completeness limits listing start now old new (Err fault) = PartReported
 
 -- the offences of the events were listed up to the log's end
 pub record Listed (completeness : Completeness) (limits : Bounds) (listing : Listing) (e : SurveyReader) (t : Tally) (start now old new : Told) (end : End) : Type 0 where
+  pub past : List Raw
   pub notes : List Noted
   pub found : List Offence
-  pub ended : Ended completeness limits e start now notes found end
+  pub ended : Ended completeness limits e start now past notes found end
   pub tally : IsTally t found
   pub wrote : Wrote old new (lines_of listing found)
 

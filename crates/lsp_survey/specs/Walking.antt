@@ -17,7 +17,8 @@ use Rattle.lsp_types.specs.declared.position.Encoding.{Encoding}
 use Rattle.lsp_types.specs.declared.side.Side.{Side}
 use Rattle.lsp_types.specs.declared.side.Side.TheVariants.{Editor, Server}
 use Rattle.lsp_verdict.specs.Counting.{AreCounts}
-use Rattle.lsp_verdict.specs.Event.{Event}
+use Rattle.lsp_verdict.specs.Contents.{ReadsAs}
+use Rattle.lsp_verdict.specs.Event.{Event, fault}
 use Rattle.lsp_verdict.specs.Given.{given_offence, offence_view}
 use Rattle.lsp_verdict.specs.LookBack.{first_of}
 use Rattle.lsp_verdict.specs.Offences.{Noted, Offence, IsNoted, asks_handshake, breaks_handshake, broken_by, events_of, is_handshake_lost, kept_of, offence_by, rule_at, wants_handshake, wants_text}
@@ -84,7 +85,7 @@ pub record PassesOver (old new : Walk) (by : Who) (rule : ℕ) (asks : Bool) (sa
 -- what was found is this event, which offends by the rule behind these kept events
 abbrev pub IsOffending : Raw → Terms → List Event → ℕ → Offending → Type 0
 IsOffending (broken side code) terms kept rule (what.Frames by) = by ≡ side
-IsOffending (content side bytes) terms kept rule (what.Content by given) = (by ≡ side) × (given.items ≡ bytes)
+IsOffending (content side bytes) terms kept rule (what.Content by given) = (by ≡ side) × (given.items ≡ bytes) × ReadsAs side bytes (fault side rule)
 IsOffending (content side bytes) terms kept rule (what.Message by spoken) =
     (by ≡ side) × RefusesMessage side bytes (message_view spoken.message) (act_view spoken.act) terms kept rule
 IsOffending (show number uri text) terms kept rule (what.Snapshot version name shown) = (version ≡ number) × (string_bytes name ≡ uri) × (string_bytes shown ≡ text)

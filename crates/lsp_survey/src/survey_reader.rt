@@ -1,18 +1,24 @@
 //! The events of a log, heard one by one past each that offends, up to its end.
-ghost use Rattle.std.specs.Prelude.{◌≡◌, ◌<◌, [], List, None, Ok};
+ghost use Rattle.std.specs.Prelude.{◌≡◌, ◌<◌, [], List, None, Ok, IfOk, option_map};
+ghost use Rattle.lsp_events.specs.Standing.{Follows};
 ghost use Rattle.lsp_frame.specs.Bounds.{Bounds, IsInRange};
 ghost use Rattle.lsp_frame.specs.Told.{Told};
 ghost use Rattle.lsp_log.specs.Reader.{ahead};
-ghost use Rattle.lsp_verdict.specs.Offences.{Noted, Offence as SpecOffence};
+ghost use Rattle.lsp_verdict.specs.Given.{as_given, verdict_view};
+ghost use Rattle.lsp_verdict.specs.Offences.{Noted, Offence as SpecOffence, events_of};
 ghost use Rattle.lsp_verdict.specs.Placed.{Raw};
+ghost use Rattle.lsp_verdict.specs.Survey.{first_verdict};
+ghost use Rattle.lsp_verdict.specs.Verdict.{summary, yes};
 ghost use Rattle.lsp_survey.specs.Reads.{Pulls, PullsHere, SoFar, TakesEntry};
 ghost use Rattle.lsp_survey.specs.Surveys.{IsRefitted};
 
 use crate::offending::Heard;
 use crate::survey::Survey;
 use lsp_docs::Docs;
+use lsp_events::summary_of;
 use lsp_frame::{Format, Limits, Source};
 use lsp_log::LogReader;
+use lsp_rpc::Memory;
 use lsp_session::Session;
 use lsp_text::Lined;
 use lsp_verdict::{Completeness, Entry, Offence, RunFault, Verdict, next_entry};
@@ -76,6 +82,19 @@ impl SurveyReader {
             if let Some(next) = self.take_entry(reader)? {
                 return Ok(next);
             }
+        }
+    }
+
+    /// The verdict where nothing is listed: the fault of the log, else Yes.
+    pub fn sound(&mut self, bad: Option<Verdict>) -> Result<Verdict, Memory>
+        ensures { IfOk result (λ verdict. (notes : List Noted)
+            → Follows self.old.survey.walk.events.session self.old.survey.walk.events.docs self.old.survey.walk.events.counts (events_of notes)
+            → as_given (yes (summary self.old.survey.walk.events.docs.terms (events_of notes))) ≡ yes (summary self.old.survey.walk.events.docs.terms (events_of notes))
+            → verdict_view verdict ≡ first_verdict [] (option_map verdict_view bad) (summary self.old.survey.walk.events.docs.terms (events_of notes))) }
+    {
+        match bad {
+            Some(verdict) => Ok(verdict),
+            None => Ok(Verdict::Yes(summary_of(self.alloc, &mut self.survey.walk.events)?)),
         }
     }
 

@@ -67,6 +67,7 @@ returns-in-End g c =
     let start = g.R.Source.told c.args.reader.now in
     let gave = rw c.in-End.is at (c.in_ok-heard.ensures.answer limits start inv.past inv.notes inv.found inv.so_far) in
     record {
+      past = inv.past;
       notes = inv.notes;
       found = inv.found;
       ended = gives_by c.loop-heard.events.completeness k limits c.next.new.self start (g.R.Source.told c.next.new.reader) inv.past inv.notes inv.found (next.End c.in-End.end) inv.same gave;

@@ -1,0 +1,155 @@
+-- What a run explains at the end of a log, none of whose events offends.
+use Rattle.std.specs.Prelude.{map, take, option_map, slice_get, Result, Ok, Err, IfOk}
+use Rattle.std.specs.Io.KnownBytes.{IsAtEnd}
+use Rattle.std.specs.List.{AllZip}
+use Rattle.std.proofs.Common.{◌≡◌, ℕ, List, [], ◌∷◌, ◌++◌, Option, Some, None, refl, sym, ap, ◌∙◌, subst, append-nil}
+use Rattle.std.proofs.lemmas.Option.{same_Some}
+use Rattle.lsp_docs.specs.Terms.{Terms}
+use Rattle.lsp_frame.specs.Bounds.{Bounds}
+use Rattle.lsp_frame.specs.Told.{Told}
+use Rattle.lsp_log.specs.Log.{Record}
+use Rattle.lsp_session.specs.State.{Stands}
+use Rattle.lsp_survey.specs.Reads.{IsSurveyOf, Ended}
+use Rattle.lsp_survey.specs.declared.survey_reader.End.{End}
+use Rattle.lsp_survey.specs.declared.survey_reader.SurveyReader.{SurveyReader}
+use Rattle.lsp_verdict.specs.Event.{Event, sent_in}
+use Rattle.lsp_verdict.specs.Given.{offence_view, verdict_view}
+use Rattle.lsp_verdict.specs.Offences.{Noted, Offence, IsNoted, events_of, kept_of, offences}
+use Rattle.lsp_verdict.specs.Outcome.{ending, log_terms}
+use Rattle.lsp_verdict.specs.Placed.{Raw, Placed}
+use Rattle.lsp_verdict.specs.Report.{report}
+use Rattle.lsp_verdict.specs.RunIo.{OfRead}
+use Rattle.lsp_verdict.specs.Survey.{by_itself, ends_listed, found_in, first_verdict}
+use Rattle.lsp_verdict.specs.Verdict.{Verdict, bad_log, bad_log_of, Ending, Summary, summary}
+use Rattle.lsp_verdict.specs.declared.completeness.Completeness.{Completeness}
+use Rattle.lsp_verdict.specs.declared.offence.Offence as given
+use Rattle.lsp_verdict.specs.declared.verdict.Summary as code
+use Rattle.lsp_verdict.specs.declared.verdict.Verdict as code_verdict
+use Rattle.lsp_verdict.specs.declared.verdict.Verdict.TheVariants as verdicts
+use Rattle.lsp_log.specs.declared.fault.LogCode.{LogCode}
+use Rattle.lsp_verdict.proofs.RunReading.{read_map}
+use Rattle.lsp_explain.specs.Explained.{Heard, Breach, Explained, Explains, raws_of, notes_of, breaches, end_explained, explanation, flaw_lines, said_of, IsExplained, IsExplanation}
+use Rattle.lsp_explain.specs.RunSteps.{IsSound, summary_behind}
+use Rattle.lsp_explain.specs.declared.run.Explanation.{Explanation}
+use Rattle.lsp_explain.proofs.Explaining.{offence_of, offences_are}
+
+pub map_nil : {A B : Type 0} (f : A → B) (xs : List A) → map f xs ≡ [] → xs ≡ []
+map_nil f [] e = refl
+map_nil f (x ∷ xs) e = absurd cc
+
+-- what is listed of an end is explained by itself
+ends_are : (kept : List Event) (vs : List Verdict) → map (λ (o : Offence). end_explained kept o.no) (map by_itself vs) ≡ map (end_explained kept) vs
+ends_are kept [] = refl
+ends_are kept (v ∷ vs) = ap (λ w. end_explained kept v ∷ w) (ends_are kept vs)
+
+-- where nothing offends no event does
+pub no_breach : (terms : Terms) (hs : List Heard) → offences terms (notes_of hs) ≡ [] → breaches terms hs ≡ []
+no_breach terms hs none = map_nil (offence_of terms) (breaches terms hs) (sym (offences_are terms hs) ∙ none)
+
+module _ (completeness : Completeness) (limits : Bounds) (log : List ℕ) (found : List Offence) (bad : Option Verdict) (terms : Terms) (hs : List Heard) where
+  abbrev kept : List Event
+  kept = kept_of terms (events_of (notes_of hs))
+
+  pub whole : IsSurveyOf completeness limits log found bad terms (raws_of hs) (notes_of hs) → offences terms (notes_of hs) ≡ []
+      → IsExplained completeness limits log found (take 1 (map (λ (o : Offence). end_explained kept o.no) found)) bad (summary terms (events_of (notes_of hs)))
+  whole sv none =
+      let p = sv.survey in
+      let own = log_terms limits p.format in
+      let end : Ending = ending p.log_fault p.editor p.server in
+      let ends : List Verdict = ends_listed completeness own (events_of (notes_of hs)) end in
+      let lists : found ≡ found_in completeness own (notes_of hs) end = p.lists ∙ ap (λ (ns : List Noted). found_in completeness own ns end) sv.notes_are in
+      let clean : offences own (notes_of hs) ≡ [] = ap (λ t. offences t (notes_of hs)) sv.terms_are ∙ none in
+      let are : found ≡ map by_itself ends = lists ∙ ap (λ w. w ++ map by_itself ends) clean in
+      let quiet : breaches own hs ≡ [] = no_breach own hs clean in record {
+        format = p.format;
+        records = p.records;
+        log_fault = p.log_fault;
+        heard = hs;
+        editor = p.editor;
+        server = p.server;
+        of_events = [];
+        is_log = p.is_log;
+        placed_are = subst (λ (w : List Raw). Placed limits p.records w) sv.raws_are p.session.1;
+        noted = subst (λ (w : List Raw). AllZip IsNoted w (notes_of hs)) sv.raws_are (subst (λ (ns : List Noted). AllZip IsNoted p.session.0 ns) sv.notes_are p.session.2);
+        editor_rest = p.editor_rest;
+        server_rest = p.server_rest;
+        lists = lists;
+        bad_is = p.bad_is;
+        comes_to = p.comes_to ∙ ap (λ (ns : List Noted). summary own (events_of ns)) sv.notes_are;
+        explains = subst (λ (w : List Breach). AllZip (Explains own) (take 1 w) []) (sym quiet) tt;
+        shows = ap (take 1) (ap (map (λ (o : Offence). end_explained kept o.no)) are ∙ ends_are kept ends ∙ ap (λ t. map (end_explained (kept_of t (events_of (notes_of hs)))) ends) (sym sv.terms_are));
+      }
+
+module _ (completeness : Completeness) (limits : Bounds) (e : SurveyReader) (start now : Told) (hs : List Heard) (end : End) (ended : Ended completeness limits e start now (raws_of hs) (notes_of hs) [] end) (x : Explanation) where
+  abbrev terms : Terms
+  terms = e.survey.walk.events.docs.terms
+
+  abbrev Explained_ : Type 0
+  Explained_ = OfRead limits start now (λ log. IsExplanation completeness limits log (verdict_view x.verdict) x.text.items)
+
+  by_found : (found : List Offence) → map offence_view end.listed.items ≡ found
+      → verdict_view x.verdict ≡ first_verdict found (option_map verdict_view end.bad) (summary_behind e (notes_of hs))
+      → x.text.items ≡ explanation found (take 1 (map (λ (o : Offence). end_explained (kept_of terms (events_of (notes_of hs))) o.no) found)) (option_map verdict_view end.bad) (summary_behind e (notes_of hs)) → Explained_
+  by_found found is judges says =
+      read_map limits start now (λ log. IsSurveyOf completeness limits log (map offence_view end.listed.items) (option_map verdict_view end.bad) terms (raws_of hs) (notes_of hs))
+      (λ log. IsExplanation completeness limits log (verdict_view x.verdict) x.text.items)
+      (λ log sv. record {
+        found = found;
+        explained = take 1 (map (λ (o : Offence). end_explained (kept_of terms (events_of (notes_of hs))) o.no) found);
+        bad = option_map verdict_view end.bad;
+        s = summary_behind e (notes_of hs);
+        is = whole completeness limits log found (option_map verdict_view end.bad) terms hs
+            (subst (λ (w : List Offence). IsSurveyOf completeness limits log w (option_map verdict_view end.bad) terms (raws_of hs) (notes_of hs)) is sv) (sym ended.lists);
+        judges = judges;
+        says = says;
+      }) ended.whole
+
+  abbrev AtEnd : Type 0
+  AtEnd = (t : code.Summary) → x.verdict ≡ verdicts.Yes t → IsAtEnd now.bytes
+
+  -- a fault of the log is no Yes
+  no_flaw : (v : code_verdict.Verdict) (t : code.Summary) → end.bad ≡ Some v → verdict_view v ≡ verdict_view (verdicts.Yes t) → ⊥
+  no_flaw v t some is =
+      let read = ended.whole in
+      let sv = read.holds read.bytes ([], sym (append-nil read.bytes), λ met. refl) in
+      by_flaw sv.survey.log_fault (ap (option_map verdict_view) (sym some) ∙ sv.survey.bad_is)
+    where
+      by_flaw : (flaw : Option (ℕ × LogCode)) → Some (verdict_view v) ≡ bad_log_of flaw → ⊥
+      by_flaw None e = cc
+      by_flaw (Some f) e = let same : Some (verdict_view (verdicts.Yes t)) ≡ Some (bad_log f.0 f.1) = ap (λ w. let o : Option Verdict = Some w in o) (sym is) ∙ e in cc
+
+  sound_end : (b : Option code_verdict.Verdict) → end.bad ≡ b → verdict_view x.verdict ≡ first_verdict [] (option_map verdict_view b) (summary_behind e (notes_of hs)) → AtEnd
+  sound_end None is judges = λ t yes. ended.met is
+  sound_end (Some v) is judges = λ t yes. absurd (no_flaw v t is (sym judges ∙ ap verdict_view yes))
+
+  -- nothing is listed
+  pub ends_sound : end.listed.items ≡ []
+      → (IsSound e (notes_of hs) → (verdict_view x.verdict ≡ first_verdict [] (option_map verdict_view end.bad) (summary_behind e (notes_of hs)))
+      × (x.text.items ≡ report (first_verdict [] (option_map verdict_view end.bad) (summary_behind e (notes_of hs))) ++ flaw_lines (option_map verdict_view end.bad))) → Explained_ × AtEnd
+  ends_sound none says =
+      let r = says (record { follows = ended.follows refl; exact = ended.exact }) in
+      (by_found [] (ap (map offence_view) none) r.0 r.1, sound_end end.bad refl r.0)
+
+  -- something is
+  pub ends_told : (o : given.Offence) (os : List given.Offence) → end.listed.items ≡ o ∷ os → verdict_view x.verdict ≡ (offence_view o).no
+      → ((kept : List Event) → Stands e.survey.walk.events.session (sent_in kept) → x.text.items ≡ report (offence_view o).no ++ said_of (end_explained kept (offence_view o).no)) → Explained_ × AtEnd
+  ends_told o os some named says =
+      let kept = kept_of terms (events_of (notes_of hs)) in (
+        by_found (offence_view o ∷ map offence_view os) (ap (map offence_view) some) named
+            (says kept ended.walks.holds.sent ∙ ap (λ w. report (offence_view o).no ++ w) (sym (append-nil (said_of (end_explained kept (offence_view o).no))))),
+        λ t yes. let same : verdict_view (verdicts.Yes t) ≡ (offence_view o).no = ap verdict_view (sym yes) ∙ named in absurd cc,
+      )
+
+-- ---- the first of what is listed
+
+pub first_some : {A : Type 0} (xs : List A) (o : A) → Some o ≡ slice_get xs 0 → (os : List A) × (xs ≡ o ∷ os)
+first_some [] o e = absurd cc
+first_some (x ∷ xs) o e = (xs, ap (λ w. w ∷ xs) (sym (same_Some o x e)))
+
+pub first_none : {A : Type 0} (xs : List A) → None ≡ slice_get xs 0 → xs ≡ []
+first_none [] e = refl
+first_none {A} (x ∷ xs) e = let same : None ≡ Some x = e in absurd cc
+
+pub if_ok_both : {X E : Type 0} (r : Result X E) (P Q S : X → Type 0) → ((x : X) → P x → Q x → S x) → IfOk r P → IfOk r Q → IfOk r S
+if_ok_both (Ok x) P Q S f p q = f x p q
+if_ok_both (Err e) P Q S f p q = tt

@@ -1,0 +1,15 @@
+pub mod Differing
+pub mod EndOfLog
+pub mod ExplainedReport
+pub mod Explaining
+pub mod FirstOffence
+pub mod Judged
+pub mod MadeChanges
+pub mod Refusals
+pub mod DocumentRules
+pub mod Refused
+pub mod SaidFacts
+pub mod Spoken
+pub mod Telling
+pub mod ToldFirst
+pub mod Worked

@@ -1,0 +1,4 @@
+-- Worked rows, each checked by computing it.
+pub mod Messages
+pub mod Lines
+pub mod Documents

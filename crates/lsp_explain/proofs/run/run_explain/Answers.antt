@@ -1,0 +1,30 @@
+use Rattle.std.proofs.Common.{List, ℕ, ◌≡◌, sym, ap, ◌∙◌, subst}
+use Rattle.lsp_frame.specs.Told.{Took}
+use Rattle.lsp_verdict.specs.Complete.{IsVerdictBy}
+use Rattle.lsp_verdict.specs.Given.{verdict_view}
+use Rattle.lsp_verdict.specs.RunIo.{OfRead}
+use Rattle.lsp_verdict.specs.declared.verdict.Verdict.{Verdict}
+use Rattle.lsp_verdict.proofs.RunReading.{read_map}
+use Rattle.lsp_explain.specs.Explained.{IsExplanation}
+use Rattle.lsp_explain.proofs.Judged.{explained_verdict}
+use Rattle.lsp_explain.proofs.run.run_explain.Goals as goal
+
+pub returns-clause-verdict : goal.returns-clause-verdict
+returns-clause-verdict g c = λ v is.
+    let x = c.in_ok-explanation.explanation in
+    let limits = c.args.limits in
+    let start = g.R.Source.told c.args.reader.now in
+    let now = g.R.Source.told c.explain.new.reader in
+    let same : x.verdict ≡ v = cc is in
+    subst (λ (w : Verdict). OfRead limits start now (λ log. IsVerdictBy c.args.completeness limits log (verdict_view w))) same
+    (read_map limits start now (λ log. IsExplanation c.args.completeness limits log (verdict_view x.verdict) x.text.items) (λ log. IsVerdictBy c.args.completeness limits log (verdict_view x.verdict))
+    (λ log e. explained_verdict c.args.completeness limits c.in_ok-explanation.ensures.range log (verdict_view x.verdict) x.text.items e) c.in_ok-explanation.ensures.answer.of_read)
+
+pub returns-clause-written : goal.returns-clause-written
+returns-clause-written g c = λ v is.
+    let x = c.in_ok-explanation.explanation in
+    let limits = c.args.limits in
+    let start = g.R.Source.told c.args.reader.now in
+    let now = g.R.Source.told c.explain.new.reader in
+    let same : x.verdict ≡ v = cc is in
+    (x.text.items, subst (λ (w : List ℕ). Took (g.W.Sink.told c.args.writer.now) (g.W.Sink.told c.put_all.new.writer) w) c.as_slice.ensures.value c.in_ok-put_all.ensures.took, subst (λ (w : Verdict). OfRead limits start now (λ log. IsExplanation c.args.completeness limits log (verdict_view w) x.text.items)) same c.in_ok-explanation.ensures.answer.of_read)

@@ -1,0 +1,13 @@
+use Rattle.std.proofs.Common.{◌∙◌, ◌++◌, ap, subst, string_bytes}
+use Rattle.std.proofs.lemmas.Result.{IfOk-weaker}
+use Rattle.lsp_survey.specs.Walking.{IsOffending}
+use Rattle.lsp_explain.proofs.SaidFacts.{line_said}
+use Rattle.lsp_explain.proofs.said.push_event.Goals as goal
+
+pub returns-in-Content : goal.returns-in-Content
+returns-in-Content c = IfOk-weaker c.push_side_event-in-Content.result _ _ (λ u says raw event terms kept rule reads is.
+    says ∙ ap (λ w. string_bytes c.args.lines.now ++ w) (line_said terms kept rule c.args.number raw event _ reads (subst (IsOffending raw terms kept rule) c.in-Content.is is))) c.push_side_event-in-Content.ensures
+
+pub returns-in-Message : goal.returns-in-Message
+returns-in-Message c = IfOk-weaker c.push_message_event.result _ _ (λ u says raw event terms kept rule reads is.
+    says ∙ ap (λ w. string_bytes c.args.lines.now ++ w) (line_said terms kept rule c.args.number raw event _ reads (subst (IsOffending raw terms kept rule) c.in-Message.is is))) c.push_message_event.ensures

@@ -1,0 +1,9 @@
+pub mod Fact
+pub mod Lines
+pub mod MessageFacts
+pub mod DocumentFacts
+pub mod Explained
+pub mod ExplainLaws
+pub mod RunSteps
+pub mod Making
+pub mod Comparing

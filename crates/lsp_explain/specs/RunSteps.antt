@@ -1,0 +1,82 @@
+-- What the steps of a run that explains a log answer.
+use Rattle.std.specs.Prelude.{◌≡◌, ℕ, List, [], ◌++◌, Option, Some, None, Result, Ok, Err}
+use Rattle.std.specs.Io.KnownBytes.{IsAtEnd}
+use Rattle.lsp_frame.specs.Bounds.{Bounds}
+use Rattle.lsp_frame.specs.Told.{Told}
+use Rattle.lsp_docs.specs.Terms.{Terms, terms_of}
+use Rattle.lsp_events.specs.Standing.{Follows}
+use Rattle.lsp_survey.specs.Reads.{SoFar, GaveEvent, Ended}
+use Rattle.lsp_survey.specs.declared.offending.Found.{Found}
+use Rattle.lsp_survey.specs.declared.offending.Heard.TheVariants as heard
+use Rattle.lsp_survey.specs.declared.survey_reader.End.{End}
+use Rattle.lsp_survey.specs.declared.survey_reader.SurveyReader.{SurveyReader}
+use Rattle.lsp_verdict.specs.Given.{as_given, offence_view, verdict_view}
+use Rattle.lsp_verdict.specs.Offences.{Noted, Offence, events_of, rule_at}
+use Rattle.lsp_verdict.specs.Report.{report}
+use Rattle.lsp_verdict.specs.RunIo.{OfRead, failures_after}
+use Rattle.lsp_verdict.specs.Verdict.{Summary, summary, yes}
+use Rattle.lsp_verdict.specs.declared.completeness.Completeness.{Completeness}
+use Rattle.lsp_verdict.specs.declared.outcome.RunFault.{RunFault}
+use Rattle.lsp_verdict.specs.declared.outcome.RunFault.TheVariants as faults
+use Rattle.lsp_verdict.specs.declared.verdict.Summary as code
+use Rattle.lsp_verdict.specs.declared.verdict.Verdict.TheVariants as verdicts
+use Rattle.lsp_explain.specs.Explained.{Heard, Explained, Explains, breach, raws_of, notes_of, said_of, IsExplanation}
+use Rattle.lsp_explain.specs.declared.run.Explanation.{Explanation}
+
+-- the event that was found offends behind these, and this is said of it
+pub record Tells (terms : Terms) (hs : List Heard) (h : Heard) (found : Found) (x : Explanation) : Type 0 where
+  pub rule : ℕ
+  pub offends : rule_at terms (events_of (notes_of hs)) h.note.event ≡ Some rule
+  pub told : Explained
+  pub explains : Explains terms (breach hs h rule) told
+  pub is : told.no ≡ (offence_view found.offence).no
+  pub verdict_is : verdict_view x.verdict ≡ told.no
+  pub text_is : x.text.items ≡ report told.no ++ said_of told
+
+-- what was found is told, whatever was heard before it
+abbrev pub TellsOf : SurveyReader → Found → Explanation → Type 0
+TellsOf e found x =
+    (limits : Bounds) (start now : Told) (hs : List Heard) (prior : List Offence) (given : GaveEvent limits e start now (raws_of hs) (notes_of hs) prior (heard.Offence found))
+    → Tells (terms_of limits e.survey.format) hs (record { raw = given.raw; note = given.n }) found x
+
+-- what the events heard come to
+abbrev pub summary_behind : SurveyReader → List Noted → Summary
+summary_behind e notes = summary e.survey.walk.events.docs.terms (events_of notes)
+
+-- no event offends, and they are few enough to be counted
+pub record IsSound (e : SurveyReader) (notes : List Noted) : Type 0 where
+  pub follows : Follows e.survey.walk.events.session e.survey.walk.events.docs e.survey.walk.events.counts (events_of notes)
+  pub exact : as_given (yes (summary_behind e notes)) ≡ yes (summary_behind e notes)
+
+-- the log ended behind these events, none of which offends
+pub record EndsWhole (completeness : Completeness) (limits : Bounds) (e : SurveyReader) (start now : Told) (end : End) : Type 0 where
+  pub hs : List Heard
+  pub ended : Ended completeness limits e start now (raws_of hs) (notes_of hs) [] end
+
+-- its end is explained
+abbrev pub TellsEnd : Completeness → Bounds → Told → Told → Explanation → Type 0
+TellsEnd completeness limits start now x =
+    OfRead limits start now (λ log. IsExplanation completeness limits log (verdict_view x.verdict) x.text.items)
+    × ((s : code.Summary) → x.verdict ≡ verdicts.Yes s → IsAtEnd now.bytes)
+
+-- some events of the log were heard, and these offences found
+pub record IsFollowing (completeness : Completeness) (limits : Bounds) (e : SurveyReader) (start now : Told) (found : List Offence) : Type 0 where
+  pub hs : List Heard
+  pub so_far : SoFar limits e start now (raws_of hs) (notes_of hs) found
+  pub wanted : e.completeness ≡ completeness
+
+-- the log read is explained
+pub record IsExplainedBy (completeness : Completeness) (limits : Bounds) (start now : Told) (x : Explanation) : Type 0 where
+  pub of_read : OfRead limits start now (λ log. IsExplanation completeness limits log (verdict_view x.verdict) x.text.items)
+  pub failures : now.failures ≡ start.failures
+  pub ended : (s : code.Summary) → x.verdict ≡ verdicts.Yes s → IsAtEnd now.bytes
+
+-- reading broke off
+pub record BreaksOff (limits : Bounds) (start now : Told) (fault : RunFault) : Type 0 where
+  pub of_read : OfRead limits start now (λ log. Unit {0})
+  pub failures : now.failures ≡ failures_after fault start.failures
+  pub unwritten : fault ≡ faults.Write → ⊥
+
+abbrev pub ExplainsLog : Completeness → Bounds → Told → Told → Result Explanation RunFault → Type 0
+ExplainsLog completeness limits start now (Ok x) = IsExplainedBy completeness limits start now x
+ExplainsLog completeness limits start now (Err fault) = BreaksOff limits start now fault

@@ -1,0 +1,188 @@
+//! Explains the verdict on a log.
+ghost use Rattle.std.specs.Prelude.{◌≡◌, ◌+◌, ◌++◌, List, [], ℕ, None, Ok, Err, IfOk, IfSome, option_map, string_bytes};
+ghost use Rattle.std.specs.Io.KnownBytes.{IsAtEnd};
+ghost use Rattle.lsp_frame.specs.Bounds.{Bounds, IsInRange};
+ghost use Rattle.lsp_frame.specs.Told.{Told, Took};
+ghost use Rattle.lsp_session.specs.State.{Stands};
+ghost use Rattle.lsp_survey.specs.Reads.{SoFar};
+ghost use Rattle.lsp_verdict.specs.Complete.{IsVerdictBy};
+ghost use Rattle.lsp_verdict.specs.Event.{Event, sent_in};
+ghost use Rattle.lsp_verdict.specs.Given.{offence_view, verdict_view};
+ghost use Rattle.lsp_verdict.specs.Offences.{Noted};
+ghost use Rattle.lsp_verdict.specs.Report.{report};
+ghost use Rattle.lsp_verdict.specs.RunIo.{OfRead, GaveAtMost, source_failures, sink_failures};
+ghost use Rattle.lsp_verdict.specs.Survey.{first_verdict};
+ghost use Rattle.lsp_explain.specs.Explained.{IsExplanation, end_explained, flaw_lines, said_of};
+ghost use Rattle.lsp_explain.specs.RunSteps.{EndsWhole, ExplainsLog, IsSound, TellsEnd, TellsOf, summary_behind};
+
+use crate::fact::Fact;
+use crate::lines::push_fact;
+use crate::said::{push_end, push_said};
+use lsp_frame::{Limits, Sink, Source, put_all};
+use lsp_rpc::Memory;
+use lsp_session::Session;
+use lsp_survey::{End, Found, Heard, Next, SurveyReader};
+use lsp_verdict::{Completeness, Offence, Outcome, RunFault, Summary, Verdict, report_of};
+use std::alloc::Global;
+
+/// Reads a log and writes the report of the verdict on it, and behind a No what is wrong: the
+/// line that names the first event that offends, and the facts on it. Behind the report of a bad log stands
+/// the number of its record.
+///
+/// It reads up to the first event that offends, and nothing is written before the verdict is known.
+///
+/// # Errors
+/// `Read` where the source failed, `Write` where the sink did, and `Memory` where memory was refused.
+pub fn run_explain<R: Source, W: Sink>(
+    alloc: Global,
+    reader: &mut R,
+    writer: &mut W,
+    limits: Limits,
+    completeness: Completeness,
+) -> Result<Outcome, RunFault>
+    // The answer is the verdict on the log read, however that goes on where its end was not met.
+    ensures judged { IfOk result (λ outcome. (v : Verdict) × (outcome ≡ Outcome.Judged v)) }
+    ensures verdict { (v : Verdict) → result ≡ Ok (Outcome.Judged v)
+        → OfRead limits (R.told reader.old) (R.told reader.new) (λ log. IsVerdictBy completeness limits log (verdict_view v)) }
+    // What explains it is written, and nothing else.
+    ensures written { (v : Verdict) → result ≡ Ok (Outcome.Judged v) → (out : List ℕ) × Took (W.told writer.old) (W.told writer.new) out
+        × OfRead limits (R.told reader.old) (R.told reader.new) (λ log. IsExplanation completeness limits log (verdict_view v) out) }
+    ensures ended { (s : Summary) → result ≡ Ok (Outcome.Judged (Verdict.Yes s)) → IsAtEnd (R.told reader.new).bytes }
+
+    // After a read fault or for want of memory nothing is written.
+    ensures read_fault { result ≡ Err RunFault.Read → W.told writer.new ≡ W.told writer.old }
+    ensures memory { result ≡ Err RunFault.Memory → W.told writer.new ≡ W.told writer.old }
+    ensures source_failures { (R.told reader.new).failures ≡ source_failures result (R.told reader.old).failures }
+    ensures sink_failures { (W.told writer.new).failures ≡ sink_failures result (W.told writer.old).failures }
+    // At most one byte past the limit is read.
+    ensures limit { GaveAtMost (limits.log + 1) (R.told reader.old) (R.told reader.new) }
+{
+    let explanation = explain(alloc, reader, limits, completeness)?;
+    put_all(writer, explanation.text.as_slice())?;
+    Ok(Outcome::Judged(explanation.verdict))
+}
+
+/// What is written of a verdict, and the verdict.
+#[derive(Drop)]
+struct Explanation {
+    text: Vec<u8>,
+    verdict: Verdict,
+}
+
+/// Reads a log, and finds what explains the verdict on it.
+fn explain<R: Source>(
+    alloc: Global,
+    reader: &mut R,
+    limits: Limits,
+    completeness: Completeness,
+) -> Result<Explanation, RunFault>
+    ensures range { IsInRange limits }
+    ensures answer { ExplainsLog completeness limits (R.told reader.old) (R.told reader.new) result }
+{
+    let mut events = SurveyReader::new(alloc, limits, completeness);
+    explain_first(alloc, &mut events, reader)
+}
+
+/// Reads a log up to the first event that offends, or to its end, and finds what explains the verdict.
+fn explain_first<R: Source>(
+    alloc: Global,
+    events: &mut SurveyReader,
+    reader: &mut R,
+) -> Result<Explanation, RunFault>
+    requires fresh { SoFar events.old.survey.limits events.old (R.told reader.old) (R.told reader.old) [] [] [] }
+    ensures answer { ExplainsLog events.old.completeness events.old.survey.limits (R.told reader.old) (R.told reader.new) result }
+{
+    loop {
+        match events.next(reader)? {
+            Next::Event(heard) => {
+                if let Some(explanation) = explain_heard(alloc, events, heard)? {
+                    return Ok(explanation);
+                }
+            }
+            Next::End(end) => return Ok(explain_end(alloc, events, end)?),
+        }
+    }
+}
+
+/// What explains an event that was heard, where it offends.
+fn explain_heard(
+    alloc: Global,
+    events: &SurveyReader,
+    heard: Heard,
+) -> Result<Option<Explanation>, Memory>
+    ensures kept { result ≡ Ok None → heard ≡ Heard.Kept }
+    ensures told { IfOk result (λ answer. IfSome answer (λ x. (found : Found) × (heard ≡ Heard.Offence found)
+        × TellsOf events.now found x)) }
+{
+    match heard {
+        Heard::Kept => Ok(None),
+        Heard::Offence(found) => Ok(Some(explain_found(alloc, events, &found)?)),
+    }
+}
+
+/// What explains an offence that was found.
+fn explain_found(alloc: Global, events: &SurveyReader, found: &Found) -> Result<Explanation, Memory>
+    ensures { IfOk result (TellsOf events.now found.now) }
+{
+    let verdict = found.offence.verdict();
+    let mut text = report_of(alloc, &verdict)?;
+    let mut said = String::new(alloc);
+    push_said(alloc, &mut said, events.session(), events.docs(), found)?;
+    text.extend_from_slice(said.as_bytes())?;
+    Ok(Explanation { text, verdict })
+}
+
+/// What explains the end of a log, where no event offends.
+fn explain_end(alloc: Global, events: &mut SurveyReader, end: End) -> Result<Explanation, Memory>
+    ensures { IfOk result (λ x. (completeness : Completeness) (limits : Bounds) (start now : Told) → EndsWhole completeness limits events.old start now end
+        → TellsEnd completeness limits start now x) }
+{
+    let End { listed, bad } = end;
+    let Some(offence) = listed.first() else {
+        return explain_sound(alloc, events, bad);
+    };
+    drop(bad);
+    explain_listed(alloc, events.session(), offence)
+}
+
+/// What explains what is listed of the end of a session.
+fn explain_listed(alloc: Global, session: &Session, listed: &Offence) -> Result<Explanation, Memory>
+    ensures verdict { IfOk result (λ x. verdict_view x.verdict ≡ (offence_view listed.now).no) }
+    ensures text { IfOk result (λ x. (kept : List Event) → Stands session.now (sent_in kept)
+        → x.text.items ≡ report (offence_view listed.now).no ++ said_of (end_explained kept (offence_view listed.now).no)) }
+{
+    let verdict = listed.verdict();
+    let mut text = report_of(alloc, &verdict)?;
+    let mut said = String::new(alloc);
+    push_end(alloc, &mut said, session, listed)?;
+    text.extend_from_slice(said.as_bytes())?;
+    Ok(Explanation { text, verdict })
+}
+
+/// What explains the verdict where nothing is listed: Yes, or the fault of the log.
+fn explain_sound(
+    alloc: Global,
+    events: &mut SurveyReader,
+    bad: Option<Verdict>,
+) -> Result<Explanation, Memory>
+    ensures { IfOk result (λ x. (notes : List Noted) → IsSound events.old notes
+        → (verdict_view x.verdict ≡ first_verdict [] (option_map verdict_view bad) (summary_behind events.old notes))
+        × (x.text.items ≡ report (first_verdict [] (option_map verdict_view bad) (summary_behind events.old notes)) ++ flaw_lines (option_map verdict_view bad))) }
+{
+    let flaw = flaw_text(alloc, &bad)?;
+    let verdict = events.sound(bad)?;
+    let mut text = report_of(alloc, &verdict)?;
+    text.extend_from_slice(flaw.as_bytes())?;
+    Ok(Explanation { text, verdict })
+}
+
+/// The line that tells at which record a log has its fault, if it has one.
+fn flaw_text(alloc: Global, bad: &Option<Verdict>) -> Result<String, Memory>
+    ensures { IfOk result (λ text. string_bytes text ≡ flaw_lines (option_map verdict_view bad.now)) }
+{
+    let mut text = String::new(alloc);
+    if let Some(Verdict::BadLog { number, .. }) = bad {
+        push_fact(alloc, &mut text, &Fact::Record(*number))?;
+    }
+    Ok(text)
+}
