@@ -148,6 +148,34 @@ OFFENCES = [
     ),
 ]
 
+# The same session up to its second and to its third offence, without the ones before.
+REVERSES = HEAD + INITIALIZE + ANSWER + INITIALIZED + OPEN + changed(2, REVERSED)
+DIFFERS = HEAD + INITIALIZE + ANSWER + INITIALIZED + OPEN + changed(3, RENEWED) + shown(3, b"old")
+REVERSES_REPORT = b"no 606 editor 4 event 5\nrange is reversed\n"
+DIFFERS_REPORT = b"no 702 snapshot 1 event 6\nsnapshot differs\n"
+
+URI_LINE = b'uri "file:///a"\n'
+STAYS_FACTS = b'event 5 editor notification "textDocument/didChange"\n' + URI_LINE + b"held 1\nsent 1\nchanges 0\n"
+REVERSED_FACTS = b'event 5 editor notification "textDocument/didChange"\n' + URI_LINE
+REVERSED_FACTS += b"held 1\nsent 2\nchanges 1\nchange 1 0 2 0 1\nlength 2\n"
+DIFFERS_FACTS = b'event 6 snapshot 3 3 "file:///a"\n' + URI_LINE
+DIFFERS_FACTS += b'held 3\nsent 3\nat 0 0\nheld "new"\nrecorded "old"\n'
+
+# Of logs with a no: what is said behind its two lines.
+FACTS = [
+    (WRONGS, STAYS, STAYS_FACTS),
+    (REVERSES, REVERSES_REPORT, REVERSED_FACTS),
+    (DIFFERS, DIFFERS_REPORT, DIFFERS_FACTS),
+    (EXITS, EXITS_REPORT, b'event 9 editor notification "exit"\nphase exited\n'),
+    (REST, REST_REPORT, b"event 1 editor\n"),
+]
+
+# The same of sessions that have to be complete.
+LACK_FACTS = [
+    (UNANSWERED, UNANSWERED_REPORT, b'event 8 editor\nphase exited\nrequest 2 "shutdown"\n'),
+    (KILLED, KILLED_REPORT, b"event 8 editor\nphase stopping\n"),
+]
+
 
 def in_bytes(log):
     """The log with each record of bytes cut into records of one byte."""

@@ -15,6 +15,7 @@ use Rattle.lsp_verdict.specs.RunIo.{OfRead, AppendsFront}
 use Rattle.lsp_verdict.specs.Shown.{text_is, no_document, too_few, refused}
 use Rattle.lsp_judge.specs.ShownLog.{IsShown, BeginsShown}
 use Rattle.lsp_streams.specs.StreamRun.{IsRun, BeginsRun}
+use Rattle.lsp_explain.specs.Explained.{IsExplanation}
 use Rattle.lsp_survey.specs.Reported.{IsReported, BeginsReported}
 use Rattle.lsp_survey.specs.declared.listing.Listing.{Listing}
 use Rattle.lsp_verdict.specs.TextAfter.{AnswersText}
@@ -30,7 +31,7 @@ use Rattle.lsp_verdict.specs.declared.verdict.Summary.{Summary}
 use Rattle.lsp_verdict.specs.declared.verdict.Verdict.{Verdict}
 use Rattle.lsp_verdict.specs.declared.verdict.Verdict.TheVariants as verdicts
 use Rattle.lsp_command.specs.declared.task.Task.{Task}
-use Rattle.lsp_command.specs.declared.task.Task.TheVariants.{Check, Survey, Show, Text, Event, Normal, Upgrade, Frames}
+use Rattle.lsp_command.specs.declared.task.Task.TheVariants.{Check, Survey, Explain, Show, Text, Event, Normal, Upgrade, Frames}
 
 -- what a source and a sink tell before a run and after it
 pub record Ports : Type 0 where
@@ -69,6 +70,16 @@ pub record Surveyed (completeness : Completeness) (listing : Listing) (limits : 
       → (out : List ℕ) × Wrote p out × Read limits p (λ log. IsReported completeness limits listing log (verdict_view v) out)
   pub ended : (s : Summary) → result ≡ Ok (outcomes.Judged (verdicts.Yes s)) → IsAtEnd p.source_after.bytes
   pub fault : OnErr result ((out : List ℕ) × Wrote p out × Read limits p (λ log. BeginsReported completeness limits listing log out))
+
+-- `explain`: the verdict on the log read, whose session has to be complete or not, and what explains it
+pub record Explained (completeness : Completeness) (limits : Bounds) (p : Ports) (result : Result Outcome RunFault) : Type 0 where
+  pub judged : IfOk result (λ outcome. (v : Verdict) × (outcome ≡ outcomes.Judged v))
+  pub verdict : (v : Verdict) → result ≡ Ok (outcomes.Judged v) → Read limits p (λ log. IsVerdictBy completeness limits log (verdict_view v))
+  pub written : (v : Verdict) → result ≡ Ok (outcomes.Judged v)
+      → (out : List ℕ) × Wrote p out × Read limits p (λ log. IsExplanation completeness limits log (verdict_view v) out)
+  pub ended : (s : Summary) → result ≡ Ok (outcomes.Judged (verdicts.Yes s)) → IsAtEnd p.source_after.bytes
+  pub read_fault : result ≡ Err faults.Read → IsSilent p
+  pub memory : result ≡ Err faults.Memory → IsSilent p
 
 -- `show`: the verdict on the log read, the lines of the events before its place, short or long, and its report
 pub record Showed (lines : Lines) (limits : Bounds) (p : Ports) (result : Result Outcome RunFault) : Type 0 where
@@ -124,6 +135,7 @@ pub record Framed (limits : Bounds) (p : Ports) (mode : Mode) (result : Result O
 abbrev pub Answers : Bounds → Task → Ports → Result Outcome RunFault → Type 0
 Answers limits (Check completeness) p result = Checked completeness limits p result
 Answers limits (Survey completeness listing) p result = Surveyed completeness listing limits p result
+Answers limits (Explain completeness) p result = Explained completeness limits p result
 Answers limits (Show lines) p result = Showed lines limits p result
 Answers limits (Text number uri) p result = ToldText limits p (non_zero_u64_get number) uri.now result
 Answers limits (Event number) p result = GaveEvent limits p (non_zero_u64_get number) result

@@ -60,6 +60,10 @@ pub record AsksCheck (found : Found) (asked : Option Task) : Type 0 where
   pub every_is : IsFlag (one_text found (codes "every")) every
   pub is : asked ≡ Some (check_of (completeness_of complete) (listing_of all every))
 
+-- what explains the verdict on a log, whose session has to be complete where the option for it is set
+abbrev pub AsksExplain : Found → Option Task → Type 0
+AsksExplain found asked = (set : Bool) × IsFlag (one_text found (codes "complete")) set × (asked ≡ Some (tasks.Explain (completeness_of set)))
+
 abbrev pub lines_of : Bool → Lines
 lines_of true = Long
 lines_of false = Short
@@ -78,6 +82,7 @@ abbrev pub AsksText : Found → Task → Type 0
 AsksText found (tasks.Text number uri) = (first_value found (codes "uri") ≡ Some uri.now) × (GivesNumber found (non_zero_u64_get number))
 AsksText found (tasks.Check completeness) = ⊥
 AsksText found (tasks.Survey completeness listing) = ⊥
+AsksText found (tasks.Explain completeness) = ⊥
 AsksText found (tasks.Show lines) = ⊥
 AsksText found (tasks.Event number) = ⊥
 AsksText found tasks.Normal = ⊥
@@ -89,6 +94,7 @@ abbrev pub AsksEvent : Found → Task → Type 0
 AsksEvent found (tasks.Event number) = GivesNumber found (non_zero_u64_get number)
 AsksEvent found (tasks.Check completeness) = ⊥
 AsksEvent found (tasks.Survey completeness listing) = ⊥
+AsksEvent found (tasks.Explain completeness) = ⊥
 AsksEvent found (tasks.Show lines) = ⊥
 AsksEvent found (tasks.Text number uri) = ⊥
 AsksEvent found tasks.Normal = ⊥
@@ -98,6 +104,7 @@ AsksEvent found (tasks.Frames mode) = ⊥
 -- **what the command of a name asks for**, with what was found of its arguments
 pub record HasTask (name : List ℕ) (found : Found) (asked : Option Task) : Type 0 where
   pub check : name ≡ codes "check" → AsksCheck found asked
+  pub explain : name ≡ codes "explain" → AsksExplain found asked
   pub show : name ≡ codes "show" → AsksShow found asked
   pub text : name ≡ codes "text" → IfSome asked (AsksText found)
   pub event : name ≡ codes "event" → IfSome asked (AsksEvent found)

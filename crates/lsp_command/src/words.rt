@@ -2,7 +2,7 @@
 ghost use Rattle.std.specs.Prelude.{◌≡◌, ℕ, List, IfOk, IfSome, Some, codes, option_map};
 ghost use Rattle.clap.specs.Matches.{first_value, found_of};
 ghost use Rattle.clap.specs.declared.parser.matches.Found.{Found};
-ghost use Rattle.lsp_command.specs.Words.{Asks, AsksCheck, AsksEvent, AsksShow, AsksText, check_of, completeness_of, file_of, lines_of, listing_of, mode_of};
+ghost use Rattle.lsp_command.specs.Words.{Asks, AsksCheck, AsksEvent, AsksExplain, AsksShow, AsksText, check_of, completeness_of, file_of, lines_of, listing_of, mode_of};
 
 use crate::task::{Request, Task};
 use clap::error::ErrorKind;
@@ -22,6 +22,7 @@ const MORE: &str = "\
 Examples:
   lspcheck check session.log                 the verdict on a recorded session
   lspcheck check --all session.log           all that is wrong with it
+  lspcheck explain session.log               what a no lacks
   lspcheck show session.log | tail           the events before it
   lspcheck text 12 file:///a.c session.log   what the server should hold then
   lspcheck event 8 session.log               the content that a verdict speaks of
@@ -65,6 +66,17 @@ fn check<'a>(alloc: Global) -> Result<Command<'a>, AllocError> {
         .arg(complete)?
         .arg(all)?
         .arg(every)?
+        .arg(log_file(alloc))
+}
+
+fn explain<'a>(alloc: Global) -> Result<Command<'a>, AllocError> {
+    let complete = Arg::new(alloc, "complete")
+        .long("complete")
+        .action(ArgAction::SetTrue)
+        .help("A session has to be complete, as for check");
+    Command::new(alloc, "explain")
+        .about("Judges a recorded session, and tells what a no lacks")
+        .arg(complete)?
         .arg(log_file(alloc))
 }
 
@@ -144,6 +156,7 @@ fn command_line<'a>(alloc: Global) -> Result<Command<'a>, AllocError> {
         .subcommand_required(true)
         .arg_required_else_help(true)
         .subcommand(check(alloc)?)?
+        .subcommand(explain(alloc)?)?
         .subcommand(show(alloc)?)?
         .subcommand(text(alloc)?)?
         .subcommand(event(alloc)?)?
@@ -208,6 +221,7 @@ fn lines_of(set: bool) -> Lines
 /// The task of the command of this name, with its arguments.
 fn task_of<'a>(name: &str, arguments: &ArgMatches<'a>) -> Option<Task<'a>>
     ensures check { name.now ≡ codes "check" → AsksCheck (found_of arguments.now) result }
+    ensures explain { name.now ≡ codes "explain" → AsksExplain (found_of arguments.now) result }
     ensures show { name.now ≡ codes "show" → AsksShow (found_of arguments.now) result }
     ensures text { name.now ≡ codes "text" → IfSome result (AsksText (found_of arguments.now)) }
     ensures event { name.now ≡ codes "event" → IfSome result (AsksEvent (found_of arguments.now)) }
@@ -221,6 +235,7 @@ fn task_of<'a>(name: &str, arguments: &ArgMatches<'a>) -> Option<Task<'a>>
             completeness_of(arguments.get_flag("complete")),
             listing_of(arguments.get_flag("all"), arguments.get_flag("every")),
         )),
+        "explain" => Some(Task::Explain(completeness_of(arguments.get_flag("complete")))),
         "show" => Some(Task::Show(lines_of(arguments.get_flag("long")))),
         "text" => Some(Task::Text {
             number: arguments.get_one::<NonZeroU64>("number")?,

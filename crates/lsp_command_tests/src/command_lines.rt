@@ -22,6 +22,9 @@ show --all = 64
 check --complete --complete = 64
 check --complete=true = 64
 check a b = 64
+explain = Explain(Ignored) None
+explain a.log --complete = Explain(Required) Some("a.log")
+explain --all = 64
 show a.log = Show(Short) Some("a.log")
 show --long = Show(Long) None
 show --long a.log = Show(Long) Some("a.log")

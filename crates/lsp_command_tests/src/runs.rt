@@ -133,6 +133,7 @@ fn task_of(word: &str) -> Option<Task<'static>> {
         "all-complete" => Some(Task::Survey(Completeness::Required, Listing::Causes)),
         "show" => Some(Task::Show(Lines::Short)),
         "long" => Some(Task::Show(Lines::Long)),
+        "explain" => Some(Task::Explain(Completeness::Ignored)),
         "normal" => Some(Task::Normal),
         "upgrade" => Some(Task::Upgrade),
         "lengths" => Some(Task::Frames(Mode::Lengths)),

@@ -108,6 +108,32 @@ fn the_offences_of_a_session(rt: HostRuntime) {
     check_sessions(&rt, rt.alloc(), OFFENCES, Limits::profile());
 }
 
+/// What explains a change that is refused, and the place of a log's fault.
+const EXPLANATIONS: &str = r#"START
+E OPEN 1 "ab"
+E CHG 2 / REP 0 2 0 1 "x"
+> no 606 editor 4 event 5
+> range is reversed
+> event 5 editor notification "textDocument/didChange"
+> uri "file:///a"
+> held 1
+> sent 2
+> changes 1
+> change 1 0 2 0 1
+> length 2
+explain no
+HEAD
++ X\n
+> bad log L2 record 1
+> bad record line
+> record 1
+explain bad-log"#;
+
+#[test]
+fn what_explains_a_verdict(rt: HostRuntime) {
+    check_sessions(&rt, rt.alloc(), EXPLANATIONS, Limits::profile());
+}
+
 /// The text of a document after a message of the editor, and what is said where there is none.
 const TEXTS: &str = r#"START
 E OPEN 1 "ab"

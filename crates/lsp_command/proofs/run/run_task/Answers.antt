@@ -35,6 +35,16 @@ returns-in-Survey-clause-answers g c = rw c.in-Survey.is (record {
   fault = c.run_survey.ensures.fault;
 })
 
+pub returns-in-Explain-clause-answers : goal.returns-in-Explain-clause-answers
+returns-in-Explain-clause-answers g c = rw c.in-Explain.is (record {
+  judged = c.run_explain.ensures.judged;
+  verdict = c.run_explain.ensures.verdict;
+  written = c.run_explain.ensures.written;
+  ended = c.run_explain.ensures.ended;
+  read_fault = c.run_explain.ensures.read_fault;
+  memory = c.run_explain.ensures.memory;
+})
+
 pub returns-in-Show-clause-answers : goal.returns-in-Show-clause-answers
 returns-in-Show-clause-answers g c = rw c.in-Show.is (record {
   judged = c.run_show.ensures.judged;

@@ -1,6 +1,6 @@
 use Rattle.std.proofs.Common.{◌≡◌, ◌∙◌, Some, sym, ap, subst}
 use Rattle.clap.specs.Matches.{found_of}
-use Rattle.lsp_command.specs.Words.{AsksCheck, AsksShow, file_of}
+use Rattle.lsp_command.specs.Words.{AsksCheck, AsksExplain, AsksShow, file_of}
 use Rattle.lsp_command.proofs.words.request_of.Goals as goal
 
 pub returns : goal.returns
@@ -11,6 +11,7 @@ returns c =
       record {
         task = record {
           check = λ e. subst (AsksCheck (found_of c.in-Some.arguments.now)) is (c.task_of.ensures.check e);
+          explain = λ e. subst (AsksExplain (found_of c.in-Some.arguments.now)) is (c.task_of.ensures.explain e);
           show = λ e. subst (AsksShow (found_of c.in-Some.arguments.now)) is (c.task_of.ensures.show e);
           text = λ e. c.in-Some-task_of.ensures.text e;
           event = λ e. c.in-Some-task_of.ensures.event e;
