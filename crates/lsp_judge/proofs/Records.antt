@@ -18,7 +18,7 @@ use Rattle.lsp_judge.specs.declared.ruling.Ruling.TheVariants.{No, BadLog, Memor
 use Rattle.lsp_verdict.proofs.LookBackLemmas.{first_of-more}
 use Rattle.lsp_verdict.proofs.Outcomes.{session_front}
 use Rattle.lsp_verdict.proofs.Sessions.{some_session, same_session}
-use Rattle.lsp_verdict.proofs.Drained.{new_drained}
+use Rattle.lsp_verdict.proofs.Streams.Drained.{new_drained}
 
 -- ---- what is known once an event offends
 

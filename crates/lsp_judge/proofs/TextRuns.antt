@@ -29,7 +29,7 @@ use Rattle.lsp_verdict.specs.Verdict.{Verdict, first_no, no_at, is_of, count_of}
 use Rattle.lsp_verdict.proofs.Finding.{found}
 use Rattle.lsp_verdict.proofs.Logs.{final_more}
 use Rattle.lsp_verdict.proofs.RunReading.{read_map, read_within}
-use Rattle.lsp_verdict.proofs.TextLogs.{text_missing}
+use Rattle.lsp_verdict.proofs.Logs.Text.{text_missing}
 use Rattle.lsp_verdict.proofs.UpTo.{reached_more, reached_past, reached_now, count-append, count_one}
 use Rattle.lsp_verdict.proofs.Verdicts.{no_found}
 use Rattle.lsp_judge.specs.LogEvents.{EndsAt, EndsBy, SoFar, Found, GivesText, failures_of}

@@ -22,7 +22,7 @@ use Rattle.lsp_verdict.specs.Event.{Event}
 use Rattle.lsp_verdict.specs.Offences.{Noted, IsNoted, events_of}
 use Rattle.lsp_verdict.specs.Placed.{Raw, show, Placed, Brings, joined}
 use Rattle.lsp_verdict.specs.Survey.{is_frame_fault}
-use Rattle.lsp_verdict.proofs.Drained.{new_drained}
+use Rattle.lsp_verdict.proofs.Streams.Drained.{new_drained}
 use Rattle.lsp_verdict.proofs.Offences.Steps.{events_of-push}
 use Rattle.lsp_verdict.proofs.OneRecord.{joined_own, joined_server, joined_editor, joined_shown, placed_one}
 use Rattle.lsp_verdict.proofs.PlacedLemmas.{placed-snoc}

@@ -1,4 +1,6 @@
 -- A log written again in format 2: that there is one such, and how it goes on.
+pub mod MoreKept
+pub mod Laws
 use Rattle.std.proofs.Common.{◌≡◌, List, [], ◌∷◌, ◌++◌, Option, Some, None, refl, sym, ap, subst, ◌∙◌, append_assoc, append-nil}
 use Rattle.std.specs.List.{flat_map}
 use Rattle.std.proofs.lemmas.Grind.{flat_map-append}

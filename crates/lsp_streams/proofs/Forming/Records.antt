@@ -27,7 +27,7 @@ use Rattle.lsp_verdict.specs.Verdict.{whose}
 use Rattle.lsp_streams.proofs.Forming.Forms.{spelled_behind, shown_sound}
 use Rattle.lsp_verdict.proofs.PlacedLemmas.{placed-snoc}
 use Rattle.lsp_verdict.proofs.OneRecord.{joined_own, joined_server, joined_editor, joined_shown, placed_one}
-use Rattle.lsp_verdict.proofs.Drained.{drained_along, new_drained}
+use Rattle.lsp_verdict.proofs.Streams.Drained.{drained_along, new_drained}
 
 -- ---- events of one record more
 

@@ -14,7 +14,7 @@ use Rattle.lsp_streams.specs.declared.event.Search.{Search}
 use Rattle.lsp_streams.specs.declared.event.Stream.{Stream}
 use Rattle.lsp_verdict.specs.Placed.{Raw, show, Brings, joined}
 use Rattle.lsp_verdict.specs.declared.outcome.RunFault.{RunFault}
-use Rattle.lsp_verdict.proofs.Drained.{new_drained}
+use Rattle.lsp_verdict.proofs.Streams.Drained.{new_drained}
 use Rattle.lsp_verdict.proofs.OneRecord.{joined_own, joined_server, joined_editor, joined_shown}
 use Rattle.lsp_streams.proofs.Forming.Records.{placed_more, placed_shown}
 use Rattle.lsp_streams.proofs.Seeking.Places.{at_place, moved_to}

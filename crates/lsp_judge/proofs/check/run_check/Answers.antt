@@ -1,6 +1,6 @@
 use Rattle.lsp_verdict.specs.declared.verdict.Verdict.TheVariants.{Yes, No, BadLog}
 use Rattle.lsp_verdict.specs.Given.{verdict_view}
-use Rattle.lsp_verdict.proofs.LogEnds.{yes_at_end}
+use Rattle.lsp_verdict.proofs.Logs.Ends.{yes_at_end}
 use Rattle.lsp_verdict.proofs.Meanings.{yes_means_kept, no_names, bad_log_has}
 use Rattle.lsp_verdict.proofs.RunReading.{read_map}
 use Rattle.lsp_judge.proofs.Answering.{clean_yes}

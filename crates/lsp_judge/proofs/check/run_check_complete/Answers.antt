@@ -1,7 +1,7 @@
 use Rattle.lsp_verdict.specs.declared.verdict.Verdict.TheVariants.{Yes, No, BadLog}
 use Rattle.lsp_verdict.specs.Given.{verdict_view}
 use Rattle.lsp_verdict.proofs.Completing.{plain_yes, complete_means_ended, complete_means_fault, lack_is_named}
-use Rattle.lsp_verdict.proofs.LogEnds.{yes_at_end}
+use Rattle.lsp_verdict.proofs.Logs.Ends.{yes_at_end}
 use Rattle.lsp_verdict.proofs.RunReading.{read_map}
 use Rattle.lsp_judge.proofs.Answering.{clean_complete}
 use Rattle.lsp_judge.proofs.check.run_check_complete.Goals as goal

@@ -2,7 +2,7 @@ use Rattle.std.proofs.Common.{ap, ◌∙◌}
 use Rattle.std.proofs.lemmas.Result.{err_from_is_err_and}
 use Rattle.lsp_frame.specs.Told.{after_failure}
 use Rattle.lsp_verdict.specs.declared.verdict.Verdict.TheVariants.{Yes}
-use Rattle.lsp_verdict.proofs.LogEnds.{yes_at_end}
+use Rattle.lsp_verdict.proofs.Logs.Ends.{yes_at_end}
 use Rattle.lsp_verdict.proofs.RunReading.{read_within}
 use Rattle.lsp_judge.proofs.ShownLogs.{verdict_read, shown_read, lines_begun, report_begun}
 use Rattle.lsp_judge.proofs.show.run_show.Goals as goal

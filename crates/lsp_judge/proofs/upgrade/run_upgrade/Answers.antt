@@ -1,6 +1,6 @@
 use Rattle.std.proofs.lemmas.Result.{err_from_is_err_and}
 use Rattle.lsp_verdict.specs.declared.verdict.Verdict.TheVariants.{Yes}
-use Rattle.lsp_verdict.proofs.LogEnds.{yes_at_end}
+use Rattle.lsp_verdict.proofs.Logs.Ends.{yes_at_end}
 use Rattle.lsp_verdict.proofs.RunReading.{read_within}
 use Rattle.lsp_judge.proofs.UpgradedLogs.{upgrade_read, upgrade_written}
 use Rattle.lsp_judge.proofs.upgrade.run_upgrade.Goals as goal

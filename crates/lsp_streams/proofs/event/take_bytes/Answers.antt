@@ -3,7 +3,7 @@ use Rattle.lsp_frame.specs.Decoder.{State}
 use Rattle.lsp_streams.specs.EventSteps.{IsSpent}
 use Rattle.lsp_streams.proofs.Seeking.Bringing.{nothing_more, brought}
 use Rattle.lsp_streams.proofs.event.take_bytes.Goals as goal
-use Rattle.lsp_verdict.proofs.Drained.{pushed_limits}
+use Rattle.lsp_verdict.proofs.Streams.Drained.{pushed_limits}
 
 pub returns-then-stream : goal.returns-then-stream
 returns-then-stream c = λ limits side sent.

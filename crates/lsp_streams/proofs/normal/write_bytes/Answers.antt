@@ -3,7 +3,7 @@ use Rattle.std.proofs.lemmas.Result.{err_from_is_err_and}
 use Rattle.lsp_frame.specs.Decoder.{State}
 use Rattle.lsp_streams.proofs.Forming.Bringing.{brought, none_brought}
 use Rattle.lsp_streams.proofs.normal.write_bytes.Goals as goal
-use Rattle.lsp_verdict.proofs.Drained.{pushed_limits}
+use Rattle.lsp_verdict.proofs.Streams.Drained.{pushed_limits}
 
 pub returns-clause-answer : goal.returns-clause-answer
 returns-clause-answer g c =

@@ -1,4 +1,4 @@
-use Rattle.lsp_verdict.proofs.TextLogs as proved
+use Rattle.lsp_verdict.proofs.Logs.Text as proved
 use Rattle.lsp_verdict.proofs.laws.one_text.Goals as goal
 
 pub returns : goal.returns

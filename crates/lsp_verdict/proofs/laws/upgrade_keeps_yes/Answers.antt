@@ -1,4 +1,4 @@
-use Rattle.lsp_verdict.proofs.UpgradeLaws as proved
+use Rattle.lsp_verdict.proofs.Upgrading.Laws as proved
 use Rattle.lsp_verdict.proofs.laws.upgrade_keeps_yes.Goals as goal
 
 pub returns : goal.returns

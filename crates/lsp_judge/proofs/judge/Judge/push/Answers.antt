@@ -2,7 +2,7 @@ use Rattle.std.proofs.Common.{ap, ◌∙◌, w32, rules}
 use Rattle.std.proofs.lemmas.Int.{to_z-of_z}
 use mir.Val.{SFits}
 use Rattle.lsp_frame.specs.Decoder as decoder
-use Rattle.lsp_verdict.proofs.Drained.{pushed_limits}
+use Rattle.lsp_verdict.proofs.Streams.Drained.{pushed_limits}
 use Rattle.lsp_judge.proofs.Pulling.{pushed_editor, pushed_server, pushed_snapshot}
 use Rattle.lsp_judge.proofs.judge.Judge.push.Goals as goal
 

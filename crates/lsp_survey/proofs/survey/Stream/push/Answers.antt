@@ -1,7 +1,7 @@
 use Rattle.std.proofs.Common.{Bool, true, false, ap, subst, ◌∙◌}
 use Rattle.lsp_frame.specs.Decoder.{State}
 use Rattle.lsp_survey.specs.Surveys.{IsSpent, Pushes}
-use Rattle.lsp_verdict.proofs.Drained.{pushed_limits}
+use Rattle.lsp_verdict.proofs.Streams.Drained.{pushed_limits}
 use Rattle.lsp_survey.proofs.Streaming.{nothing_more, pushed_due}
 use Rattle.lsp_survey.proofs.Tails.{on_ok_both}
 use Rattle.lsp_survey.proofs.survey.Stream.push.Goals as goal

@@ -23,12 +23,12 @@ use Rattle.lsp_verdict.specs.Upgraded.{upgraded, AreAccepted, IsUpgraded, Upgrad
 use Rattle.lsp_verdict.specs.Verdict.{Summary, Ending, yes, offence, document_rule, document_of, no_by, no_at, first_no, summary, verdict}
 use Rattle.lsp_verdict.proofs.CallsMade.{calls_accepted}
 use Rattle.lsp_verdict.proofs.Finding.{map_none}
-use Rattle.lsp_verdict.proofs.LogEnds.{head_long}
+use Rattle.lsp_verdict.proofs.Logs.Ends.{head_long}
 use Rattle.lsp_verdict.proofs.Logs.{some_final}
 use Rattle.lsp_verdict.proofs.LookBackLemmas.{each_of-snoc, or_none_parts}
 use Rattle.lsp_verdict.proofs.Meanings.{are_kept}
 use Rattle.lsp_verdict.proofs.Messages.{session_rule_none}
-use Rattle.lsp_verdict.proofs.MoreKept.{calls_pass, documents_same, unmatched_same}
+use Rattle.lsp_verdict.proofs.Upgrading.MoreKept.{calls_pass, documents_same, unmatched_same}
 use Rattle.lsp_verdict.proofs.Upgrading.{accepted_all, same_accepted}
 use Rattle.lsp_verdict.proofs.Verdicts.{nothing_offends, nothing_found, is_yes, yes_where}
 
