@@ -1,5 +1,2 @@
-pub mod Notes
-pub mod Walking
-pub mod Surveys
-pub mod Reads
-pub mod Reported
+pub mod Marking
+pub mod Marks

@@ -1,0 +1,166 @@
+//! The marks of documents, by URI.
+ghost use Rattle.std.specs.Prelude.{◌≡◌, ◌++◌, ◌∷◌, [], ℕ, ℤ, List, None, Some, OnOk, string_bytes, unwrap_or};
+ghost use Rattle.std.specs.Str.{chars};
+ghost use Rattle.lsp_docs.specs.Answer.{answer_of};
+ghost use Rattle.lsp_docs.specs.Documents.{held};
+ghost use Rattle.lsp_docs.specs.Kept.{kept};
+ghost use Rattle.lsp_docs.specs.Terms.{Terms};
+ghost use Rattle.lsp_rpc.specs.View.{act_view};
+ghost use Rattle.lsp_session.specs.Sent.{Sent};
+ghost use Rattle.lsp_verdict.specs.Calls.{calls};
+ghost use Rattle.lsp_verdict.specs.Event.{Event, message, snapshot};
+ghost use Rattle.lsp_verdict.specs.Offences.{kept_of, rule_at};
+ghost use Rattle.lsp_survey.specs.Marking.{agreed, brought, closed, number_next, steps, stepped, touches, unmarked, waiting_for};
+ghost use Rattle.lsp_survey.specs.Marks.{AreMarks, StepsOn, mark_view, marked_in};
+
+use crate::mark::{Mark, Shown, Touch};
+use indexmap::IndexMap;
+use lsp_docs::Match;
+use lsp_rpc::{Act, Memory};
+use std::alloc::Global;
+
+type MarkMap = IndexMap<String, Mark>;
+
+/// Which events left the documents as they are, by URI: which one brought the held version, which
+/// snapshot was found equal last, and which snapshots wait for a version.
+///
+/// It stands for the events of a session of which those that offend are passed over. A document of
+/// which nothing is marked has no entry.
+#[derive(Drop)]
+pub struct Marks {
+    map: MarkMap,
+}
+
+impl Marks {
+    /// Nothing is marked.
+    pub(crate) fn new(alloc: Global) -> Marks
+        ensures { (terms : Terms) → AreMarks terms result.map.entries [] }
+    {
+        Marks {
+            map: IndexMap::new(alloc),
+        }
+    }
+
+    /// The number of the event that brought the held version of a URI, from 1; none where it isn't
+    /// open.
+    pub fn brought(&self, uri: &str) -> Option<u64>
+        ensures { (terms : Terms) (events : List Event) → AreMarks terms self.now.map.entries events
+            → result ≡ brought (steps terms uri.now events) }
+    {
+        match self.map.get(uri) {
+            Some(mark) => mark.brought(),
+            None => None,
+        }
+    }
+
+    /// The snapshot of the standing opening of a URI that was found equal last, if one was.
+    pub fn agreed(&self, uri: &str) -> Option<Shown>
+        ensures { (terms : Terms) (events : List Event) → AreMarks terms self.now.map.entries events
+            → result ≡ agreed (steps terms uri.now events) }
+    {
+        match self.map.get(uri) {
+            Some(mark) => mark.agreed(),
+            None => None,
+        }
+    }
+
+    /// The numbers of the events of the snapshots of a URI that wait for this version, in order.
+    pub fn waiting(&self, uri: &str, version: i32) -> &[u64]
+        ensures { (terms : Terms) (events : List Event) → AreMarks terms self.now.map.entries events
+            → result.now ≡ waiting_for version (steps terms uri.now events) }
+    {
+        match self.map.get(uri) {
+            Some(mark) => mark.waiting(version),
+            None => &[],
+        }
+    }
+
+    /// Marks what a message that is kept, the event of this number, does to a document.
+    pub(crate) fn keep_act(&mut self, event: u64, act: &Act) -> Result<(), Memory>
+        ensures { OnOk result ((terms : Terms) (before : List Event) (sent : Sent) → AreMarks terms self.old.map.entries before
+            → rule_at terms before (message sent) ≡ None → sent.act ≡ act_view act.now → event ≡ number_next before
+            → AreMarks terms self.new.map.entries (before ++ message sent ∷ [])) }
+    {
+        match act {
+            Act::DidOpen { uri, version, .. } => {
+                let version = *version;
+                touch(&mut self.map, uri.as_str(), Touch::Opened, event, version)
+            }
+            Act::DidChange { uri, version, .. } => {
+                let version = *version;
+                touch(&mut self.map, uri.as_str(), Touch::Changed, event, version)
+            }
+            Act::DidClose { uri } => {
+                close(&mut self.map, uri.as_str());
+                Ok(())
+            }
+            _ => Ok(()),
+        }
+    }
+
+    /// Marks a snapshot that is kept, the event of this number, as it was answered.
+    pub(crate) fn keep_snapshot(
+        &mut self,
+        event: u64,
+        uri: &str,
+        version: i32,
+        answer: Match,
+    ) -> Result<(), Memory>
+        ensures { OnOk result ((terms : Terms) (before : List Event) (text : List ℕ) → AreMarks terms self.old.map.entries before
+            → rule_at terms before (snapshot uri.now version text) ≡ None
+            → answer ≡ answer_of version (kept terms uri.now (calls (kept_of terms before))) (held terms uri.now (calls (kept_of terms before)))
+            → event ≡ number_next before
+            → AreMarks terms self.new.map.entries (before ++ snapshot uri.now version text ∷ [])) }
+    {
+        match answer {
+            Match::Equal => touch(&mut self.map, uri, Touch::Compared, event, version),
+            Match::Waits => touch(&mut self.map, uri, Touch::Awaited, event, version),
+            Match::Missed => Ok(()),
+        }
+    }
+}
+
+/// Marks that the event of this number touches a document, at this version.
+fn touch(
+    map: &mut MarkMap,
+    uri: &str,
+    touch: Touch,
+    event: u64,
+    version: i32,
+) -> Result<(), Memory>
+    ensures { OnOk result (StepsOn uri.now (touches touch event version) map.old.entries map.new.entries) }
+{
+    let alloc = *map.allocator();
+    let Some(mark) = map.get_mut(uri) else {
+        return touch_first(map, uri, touch, event, version);
+    };
+    mark.touch(alloc, touch, event, version)
+}
+
+/// Marks the same of a document of which nothing is marked.
+fn touch_first(
+    map: &mut MarkMap,
+    uri: &str,
+    touch: Touch,
+    event: u64,
+    version: i32,
+) -> Result<(), Memory>
+    requires { marked_in map.old.entries uri.now ≡ unmarked }
+    ensures { OnOk result (StepsOn uri.now (touches touch event version) map.old.entries map.new.entries) }
+{
+    let alloc = *map.allocator();
+    let mut mark = Mark::new(alloc);
+    mark.touch(alloc, touch, event, version)?;
+    let key = String::from_str(alloc, uri)?;
+    map.insert(key, mark)?;
+    Ok(())
+}
+
+/// Takes away what is marked of a document.
+fn close(map: &mut MarkMap, uri: &str)
+    ensures { StepsOn uri.now closed map.old.entries map.new.entries }
+{
+    if let Some(mark) = map.swap_remove(uri) {
+        drop(mark);
+    }
+}
