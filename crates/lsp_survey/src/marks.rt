@@ -1,17 +1,13 @@
 //! The marks of documents, by URI.
-ghost use Rattle.std.specs.Prelude.{◌≡◌, ◌++◌, ◌∷◌, [], ℕ, ℤ, List, None, Some, OnOk, string_bytes, unwrap_or};
-ghost use Rattle.std.specs.Str.{chars};
-ghost use Rattle.lsp_docs.specs.Answer.{answer_of};
-ghost use Rattle.lsp_docs.specs.Documents.{held};
-ghost use Rattle.lsp_docs.specs.Kept.{kept};
+ghost use Rattle.std.specs.Prelude.{◌≡◌, [], List, OnOk};
 ghost use Rattle.lsp_docs.specs.Terms.{Terms};
 ghost use Rattle.lsp_rpc.specs.View.{act_view};
-ghost use Rattle.lsp_session.specs.Sent.{Sent};
-ghost use Rattle.lsp_verdict.specs.Calls.{calls};
-ghost use Rattle.lsp_verdict.specs.Event.{Event, message, snapshot};
-ghost use Rattle.lsp_verdict.specs.Offences.{kept_of, rule_at};
-ghost use Rattle.lsp_survey.specs.Marking.{agreed, brought, closed, number_next, steps, stepped, touches, unmarked, waiting_for};
-ghost use Rattle.lsp_survey.specs.Marks.{AreMarks, StepsOn, mark_view, marked_in};
+ghost use Rattle.lsp_types.specs.declared.change.SyncKind.{SyncKind};
+ghost use Rattle.lsp_types.specs.declared.position.Encoding.{Encoding};
+ghost use Rattle.lsp_verdict.specs.Calls.{call_of};
+ghost use Rattle.lsp_verdict.specs.Event.{Event};
+ghost use Rattle.lsp_survey.specs.Marking.{agreed, brought, closed, steps, touches, unmarked, waiting_for};
+ghost use Rattle.lsp_survey.specs.Marks.{AreMarks, DoneBy, ShownBy, StepsOn, marked_in};
 
 use crate::mark::{Mark, Shown, Touch};
 use indexmap::IndexMap;
@@ -77,18 +73,15 @@ impl Marks {
 
     /// Marks what a message that is kept, the event of this number, does to a document.
     pub(crate) fn keep_act(&mut self, event: u64, act: &Act) -> Result<(), Memory>
-        ensures { OnOk result ((terms : Terms) (before : List Event) (sent : Sent) → AreMarks terms self.old.map.entries before
-            → rule_at terms before (message sent) ≡ None → sent.act ≡ act_view act.now → event ≡ number_next before
-            → AreMarks terms self.new.map.entries (before ++ message sent ∷ [])) }
+        ensures { OnOk result ((enc : Encoding) (kind : SyncKind)
+            → DoneBy event (call_of enc kind (act_view act.now)) self.old.map.entries self.new.map.entries) }
     {
         match act {
             Act::DidOpen { uri, version, .. } => {
-                let version = *version;
-                touch(&mut self.map, uri.as_str(), Touch::Opened, event, version)
+                touch(&mut self.map, uri.as_str(), Touch::Opened, event, *version)
             }
             Act::DidChange { uri, version, .. } => {
-                let version = *version;
-                touch(&mut self.map, uri.as_str(), Touch::Changed, event, version)
+                touch(&mut self.map, uri.as_str(), Touch::Changed, event, *version)
             }
             Act::DidClose { uri } => {
                 close(&mut self.map, uri.as_str());
@@ -106,11 +99,7 @@ impl Marks {
         version: i32,
         answer: Match,
     ) -> Result<(), Memory>
-        ensures { OnOk result ((terms : Terms) (before : List Event) (text : List ℕ) → AreMarks terms self.old.map.entries before
-            → rule_at terms before (snapshot uri.now version text) ≡ None
-            → answer ≡ answer_of version (kept terms uri.now (calls (kept_of terms before))) (held terms uri.now (calls (kept_of terms before)))
-            → event ≡ number_next before
-            → AreMarks terms self.new.map.entries (before ++ snapshot uri.now version text ∷ [])) }
+        ensures { OnOk result (ShownBy event uri.now version answer self.old.map.entries self.new.map.entries) }
     {
         match answer {
             Match::Equal => touch(&mut self.map, uri, Touch::Compared, event, version),
