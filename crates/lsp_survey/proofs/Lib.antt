@@ -1,3 +1,5 @@
+pub mod Exchanging
 pub mod Marking
 pub mod MarkSteps
+pub mod SessionSteps
 pub mod Waiting

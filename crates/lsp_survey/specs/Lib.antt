@@ -1,2 +1,4 @@
+pub mod Asking
 pub mod Marking
 pub mod Marks
+pub mod SessionNoting

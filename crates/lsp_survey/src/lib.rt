@@ -2,8 +2,11 @@
 //! it had not been sent, and the next is judged after those that keep the rules.
 #![tactic(auto)]
 
+mod exchange;
 mod mark;
 mod marks;
+mod session_notes;
 
 pub use mark::Shown;
 pub use marks::Marks;
+pub use session_notes::SessionNotes;
