@@ -18,7 +18,8 @@ use Rattle.lsp_verdict.specs.Given.{as_given}
 use Rattle.lsp_verdict.specs.Outcome.{HasRest, is_rest, ending, IsFinal}
 use Rattle.lsp_verdict.specs.Placed.{joined}
 use Rattle.lsp_judge.specs.Rulings.{verdict_in, RestIs, if_none}
-use Rattle.lsp_judge.specs.Standing.{Follows, State, AreLimits, IsOpen, HasOffence, Stands, StandsBy}
+use Rattle.lsp_events.specs.Standing.{Follows}
+use Rattle.lsp_judge.specs.Standing.{State, AreLimits, IsOpen, HasOffence, Stands, StandsBy}
 use Rattle.lsp_verdict.specs.Counting.{AreCounts}
 use Rattle.lsp_verdict.specs.Drained.{IsDrained}
 use Rattle.lsp_verdict.specs.Verdict.{Verdict, Summary, yes, no, bad_log, first_no, no_next, rest_of, summary, verdict}

@@ -1,13 +1,11 @@
-pub mod Edits
-pub mod Apart
-pub mod Hearing
-pub mod Following
+pub mod Ruled
 pub mod NextContent
 pub mod Records
 pub mod Pulling
 pub mod KeptEvents
 pub mod Answering
 pub mod LogEvents
+pub mod LineWords
 pub mod ShownLogs
 pub mod UpgradedLogs
 pub mod TextRuns

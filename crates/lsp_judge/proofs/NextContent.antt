@@ -3,6 +3,7 @@ use Rattle.std.proofs.Common.{◌≡◌, ℕ, List, [], ◌∷◌, ◌++◌, Som
 use Rattle.lsp_frame.specs.Bounds.{Bounds}
 use Rattle.lsp_frame.specs.Decoder as decoder
 use Rattle.lsp_frame.specs.Frame.{Frames, IsStream}
+use Rattle.lsp_rpc.specs.Act.{Act}
 use Rattle.lsp_rpc.specs.Message.{Message}
 use Rattle.lsp_types.specs.declared.side.Side.{Side}
 use Rattle.lsp_session.specs.State as session
@@ -12,7 +13,7 @@ use Rattle.lsp_verdict.specs.Contents.{ReadsAs}
 use Rattle.lsp_verdict.specs.Event.{Event, fault}
 use Rattle.lsp_verdict.specs.Given.{as_given}
 use Rattle.lsp_judge.specs.Rulings.{verdict_in, IsNoAt, IsNoAtSome}
-use Rattle.lsp_judge.specs.Standing.{Follows}
+use Rattle.lsp_events.specs.Standing.{Follows}
 use Rattle.lsp_verdict.specs.Counting.{AreCounts}
 use Rattle.lsp_judge.specs.Next.{HeardAs, HeardOne, HeardNone, IsNext, StoppedNext}
 use Rattle.lsp_verdict.specs.Verdict.{first_no, no_next, who_of}
@@ -20,7 +21,7 @@ use Rattle.lsp_verdict.specs.declared.counts.Counts.{Counts}
 use Rattle.lsp_judge.specs.declared.ruling.Ruling.{Ruling}
 use Rattle.lsp_judge.specs.declared.ruling.Ruling.TheVariants.{No, BadLog, Memory}
 use Rattle.lsp_verdict.specs.declared.verdict.Who.{Who}
-use Rattle.lsp_judge.proofs.Following.{ruled}
+use Rattle.lsp_judge.proofs.Ruled.{ruled}
 
 pub same_limits : (old new : decoder.State) (content : List ℕ) → decoder.Next old new (Ok (Some content)) → new.limits ≡ old.limits
 same_limits old new content next =
@@ -38,9 +39,9 @@ module _ (side : Side) (bytes : List ℕ) (contents : List (List ℕ)) (events :
       record { stands = told.0; ends = told.1; follows = follows }
 
   -- it is heard
-  pub one_next : (old new : decoder.State) (m : session.State) (documents : docs.State) (c : Counts) (content : List ℕ) (said : Message) → decoder.StandsFor old bytes contents → decoder.Next old new (Ok (Some content))
-      → HeardAs side content said m documents c events → HeardOne side new m documents c bytes contents events said
-  one_next old new m documents c content said stands next heard = record { content = content; stands = next.stands bytes contents stands; heard = heard }
+  pub one_next : (old new : decoder.State) (m : session.State) (documents : docs.State) (c : Counts) (content : List ℕ) (said : Message) (act : Act) → decoder.StandsFor old bytes contents → decoder.Next old new (Ok (Some content))
+      → HeardAs side content said act m documents c events → HeardOne side new m documents c bytes contents events said act
+  one_next old new m documents c content said act stands next heard = record { content = content; stands = next.stands bytes contents stands; heard = heard }
 
   stopped_next : (limits : Bounds) (terms : Terms) (event : Event) (r : Ruling) → first_no terms events ≡ None → IsNext side limits bytes contents event → IsNoAt terms events event r → StoppedNext side limits terms bytes contents events r
   stopped_next limits terms event (No rule by number at) clean next named = record { event = event; clean = clean; next = next; named = named }

@@ -22,7 +22,8 @@ use Rattle.lsp_verdict.specs.declared.counts.Counts.{Counts}
 use Rattle.lsp_judge.specs.Hearing.{HasDue, Awaits, IsHearing, HearsNext, Stops}
 use Rattle.lsp_judge.specs.Next.{HeardNone, HeardNext, IsNext, StoppedNext, HeardSnapshot, turn_after}
 use Rattle.lsp_judge.specs.Rulings.{IsNoAt}
-use Rattle.lsp_judge.specs.Standing.{State, Follows, IsOpen, AreLimits, Rules}
+use Rattle.lsp_events.specs.Standing.{Follows}
+use Rattle.lsp_judge.specs.Standing.{State, IsOpen, AreLimits, Rules}
 use Rattle.lsp_judge.specs.declared.heard.Heard.{Heard}
 use Rattle.lsp_judge.specs.declared.heard.Heard.TheVariants.{Message, Snapshot}
 use Rattle.lsp_judge.specs.declared.heard.Turn.{Turn}
@@ -196,14 +197,14 @@ heard_editor old new m documents c None rs before is same same_limit told h =
       },
       refl,
     )
-heard_editor old new m documents c (Some (Message by said)) rs before is same same_limit told h =
+heard_editor old new m documents c (Some (Message by spoken)) rs before is same same_limit told h =
     let a = subst (λ (t : Option Turn). Awaits t old rs h.due) is h.awaits in
     let one = told (joined Editor rs) a.0.given before a.0.stands h.follows in
     let next = due_given Editor old.editor (joined Editor rs) h.due a.0 new one.1.content same one.1.stands in
     let sent = one.1.heard.sent in
     let raw = content Editor one.1.content in (
       message sent,
-      (one.1.heard.reads.by ∙ sym one.0, one.1.heard.says),
+      (one.1.heard.reads.by ∙ sym one.0, one.1.heard.says, one.1.heard.means),
       record {
         limits = record { range = h.limits.range; editor = same ∙ h.limits.editor; server = h.limits.server; documents = same_limit ∙ h.limits.documents };
         past = h.past ++ raw ∷ [];
@@ -237,14 +238,14 @@ heard_server old new m documents c None rs before is same same_limit told h =
       },
       refl,
     )
-heard_server old new m documents c (Some (Message by said)) rs before is same same_limit told h =
+heard_server old new m documents c (Some (Message by spoken)) rs before is same same_limit told h =
     let a = subst (λ (t : Option Turn). Awaits t old rs h.due) is h.awaits in
     let one = told (joined Server rs) a.0.given before a.0.stands h.follows in
     let next = due_given Server old.server (joined Server rs) h.due a.0 new one.1.content same one.1.stands in
     let sent = one.1.heard.sent in
     let raw = content Server one.1.content in (
       message sent,
-      (one.1.heard.reads.by ∙ sym one.0, one.1.heard.says),
+      (one.1.heard.reads.by ∙ sym one.0, one.1.heard.says, one.1.heard.means),
       record {
         limits = record { range = h.limits.range; editor = h.limits.editor; server = same ∙ h.limits.server; documents = same_limit ∙ h.limits.documents };
         past = h.past ++ raw ∷ [];

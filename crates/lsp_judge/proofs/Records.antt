@@ -10,7 +10,8 @@ use Rattle.lsp_verdict.specs.Event.{Event}
 use Rattle.lsp_verdict.specs.Given.{as_given}
 use Rattle.lsp_verdict.specs.Placed.{IsSession}
 use Rattle.lsp_judge.specs.Rulings.{verdict_in}
-use Rattle.lsp_judge.specs.Standing.{Follows, State, IsFitted, IsOpen, HasOffence, Rules, AreLimits, Keeps, StandsBy, Stands}
+use Rattle.lsp_events.specs.Standing.{Follows}
+use Rattle.lsp_judge.specs.Standing.{State, IsFitted, IsOpen, HasOffence, Rules, AreLimits, Keeps, StandsBy, Stands}
 use Rattle.lsp_verdict.specs.Verdict.{Verdict, no, no_at, first_no}
 use Rattle.lsp_judge.specs.declared.ruling.Ruling.{Ruling}
 use Rattle.lsp_judge.specs.declared.ruling.Ruling.TheVariants.{No, BadLog, Memory}

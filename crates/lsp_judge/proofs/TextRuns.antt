@@ -33,7 +33,7 @@ use Rattle.lsp_verdict.proofs.TextLogs.{text_missing}
 use Rattle.lsp_verdict.proofs.UpTo.{reached_more, reached_past, reached_now, count-append, count_one}
 use Rattle.lsp_verdict.proofs.Verdicts.{no_found}
 use Rattle.lsp_judge.specs.LogEvents.{EndsAt, EndsBy, SoFar, Found, GivesText, failures_of}
-use Rattle.lsp_judge.specs.Standing.{Follows}
+use Rattle.lsp_events.specs.Standing.{Follows}
 use Rattle.lsp_judge.specs.declared.event_reader.EventReader.{EventReader}
 use Rattle.lsp_judge.proofs.KeptEvents.{kept_clean, kept_no, kept_final}
 use Rattle.lsp_judge.proofs.LogEvents.{BeginsBy, known_terms, not_behind, so_far_by, so_far_clean, so_far_few, so_far_none, so_far_range}

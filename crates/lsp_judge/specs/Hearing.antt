@@ -6,7 +6,7 @@ use Rattle.lsp_frame.specs.Decoder as decoder
 use Rattle.lsp_frame.specs.Frame.{IsStream}
 use Rattle.lsp_frame.specs.declared.format.Format.{Format}
 use Rattle.lsp_rpc.specs.Outline.{outline}
-use Rattle.lsp_rpc.specs.View.{message_view}
+use Rattle.lsp_rpc.specs.View.{act_view, message_view}
 use Rattle.lsp_types.specs.declared.side.Side.{Side}
 use Rattle.lsp_types.specs.declared.side.Side.TheVariants.{Editor, Server}
 use Rattle.lsp_docs.specs.Terms.{terms_of}
@@ -16,7 +16,8 @@ use Rattle.lsp_verdict.specs.Event.{Event, message, fault, snapshot}
 use Rattle.lsp_verdict.specs.Given.{as_given}
 use Rattle.lsp_verdict.specs.Placed.{Raw, content, show, new_fault, Placed, Reads, IsSession, joined}
 use Rattle.lsp_verdict.specs.Verdict.{Verdict, no, first_no, no_at}
-use Rattle.lsp_judge.specs.Standing.{State, AreLimits, Follows}
+use Rattle.lsp_events.specs.Standing.{Follows}
+use Rattle.lsp_judge.specs.Standing.{State, AreLimits}
 use Rattle.lsp_judge.specs.declared.heard.Heard.{Heard}
 use Rattle.lsp_judge.specs.declared.heard.Heard.TheVariants as heard
 use Rattle.lsp_judge.specs.declared.heard.Turn.{Turn}
@@ -26,12 +27,12 @@ use Rattle.lsp_judge.specs.declared.ruling.Ruling.TheVariants.{No, BadLog, Memor
 
 -- ---- one event
 
--- the event was heard as this: a message but for its params and the value of a result, or a snapshot
+-- the event was heard as this: a message but for its params and the value of a result, with what it means, or a snapshot
 abbrev pub IsHeard : Event → Heard → Type 0
-IsHeard (message sent) (heard.Message side said) = (sent.side ≡ side) × (outline sent.message ≡ outline (message_view said))
+IsHeard (message sent) (heard.Message side spoken) = (sent.side ≡ side) × (outline sent.message ≡ outline (message_view spoken.message)) × (sent.act ≡ act_view spoken.act)
 IsHeard (message sent) (heard.Snapshot version uri text) = ⊥
 IsHeard (fault side rule) given = ⊥
-IsHeard (snapshot uri number text) (heard.Message side said) = ⊥
+IsHeard (snapshot uri number text) (heard.Message side spoken) = ⊥
 IsHeard (snapshot uri number text) (heard.Snapshot version name shown) = (uri ≡ string_bytes name) × (number ≡ version) × (text ≡ chars (string_bytes shown))
 
 -- ---- what is still to be heard

@@ -1,5 +1,4 @@
 pub mod Answered
-pub mod Faults
 pub mod Rulings
 pub mod Standing
 pub mod Next
@@ -8,4 +7,3 @@ pub mod TextAnswers
 pub mod LogEvents
 pub mod ShownLog
 pub mod UpgradedLog
-pub mod Apart

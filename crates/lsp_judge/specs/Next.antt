@@ -4,9 +4,10 @@ use Rattle.std.specs.Global.{Global}
 use Rattle.lsp_frame.specs.Bounds.{Bounds}
 use Rattle.lsp_frame.specs.Decoder as decoder
 use Rattle.lsp_frame.specs.Frame.{Frames, IsStream}
+use Rattle.lsp_rpc.specs.Act.{Act}
 use Rattle.lsp_rpc.specs.Message as rpc
 use Rattle.lsp_rpc.specs.Outline.{outline}
-use Rattle.lsp_rpc.specs.View.{message_view}
+use Rattle.lsp_rpc.specs.View.{act_view, message_view}
 use Rattle.lsp_types.specs.declared.side.Side.{Side}
 use Rattle.lsp_session.specs.Sent.{Sent}
 use Rattle.lsp_session.specs.State as session
@@ -22,23 +23,24 @@ use Rattle.lsp_judge.specs.declared.ruling.Ruling.TheVariants.{No, BadLog, Memor
 use Rattle.lsp_verdict.specs.Contents.{IsSent, ReadsAs}
 use Rattle.lsp_verdict.specs.Event.{Event, message, fault, snapshot}
 use Rattle.lsp_judge.specs.Rulings.{IsNoAt}
-use Rattle.lsp_judge.specs.Standing.{Follows}
+use Rattle.lsp_events.specs.Standing.{Follows}
 use Rattle.lsp_verdict.specs.Verdict.{first_no}
 
 -- ---- the next content
 
--- the content is this message of the side, but for its params and the value of a result, and it was heard behind these events
-pub record HeardAs (side : Side) (content : List ℕ) (said : rpc.Message) (messages : session.State) (documents : docs.State) (counts : Counts) (events : List Event) : Type 0 where
+-- the content is this message of the side, but for its params and the value of a result, and means this act; it was heard behind these events
+pub record HeardAs (side : Side) (content : List ℕ) (said : rpc.Message) (act : Act) (messages : session.State) (documents : docs.State) (counts : Counts) (events : List Event) : Type 0 where
   pub sent : Sent
   pub reads : IsSent side content sent
   pub says : outline sent.message ≡ outline said
+  pub means : sent.act ≡ act
   pub follows : Follows messages documents counts (events ++ message sent ∷ [])
 
--- behind these contents the decoder gave one more, and behind these events it was heard as this message
-pub record HeardOne (side : Side) (d : decoder.State) (messages : session.State) (documents : docs.State) (counts : Counts) (bytes : List ℕ) (contents : List (List ℕ)) (events : List Event) (said : rpc.Message) : Type 0 where
+-- behind these contents the decoder gave one more, and behind these events it was heard as this message with this act
+pub record HeardOne (side : Side) (d : decoder.State) (messages : session.State) (documents : docs.State) (counts : Counts) (bytes : List ℕ) (contents : List (List ℕ)) (events : List Event) (said : rpc.Message) (act : Act) : Type 0 where
   pub content : List ℕ
   pub stands : decoder.StandsFor d bytes (contents ++ content ∷ [])
-  pub heard : HeardAs side content said messages documents counts events
+  pub heard : HeardAs side content said act messages documents counts events
 
 -- the bytes have no more contents and no fault, and nothing more was heard
 pub record HeardNone (d : decoder.State) (messages : session.State) (documents : docs.State) (counts : Counts) (bytes : List ℕ) (contents : List (List ℕ)) (events : List Event) : Type 0 where
@@ -48,7 +50,7 @@ pub record HeardNone (d : decoder.State) (messages : session.State) (documents :
 
 -- the next content was heard as this message, or there is none
 abbrev pub HeardNext : Side → decoder.State → session.State → docs.State → Counts → List ℕ → List (List ℕ) → List Event → Option Heard → Type 0
-HeardNext side d messages documents counts bytes contents events (Some (Message by said)) = (by ≡ side) × HeardOne side d messages documents counts bytes contents events (message_view said)
+HeardNext side d messages documents counts bytes contents events (Some (Message by spoken)) = (by ≡ side) × HeardOne side d messages documents counts bytes contents events (message_view spoken.message) (act_view spoken.act)
 HeardNext side d messages documents counts bytes contents events (Some (Snapshot version uri text)) = ⊥
 HeardNext side d messages documents counts bytes contents events None = HeardNone d messages documents counts bytes contents events
 

@@ -1,60 +1,25 @@
--- For which events, and for which records, the parts of a judge stand.
-use Rattle.std.specs.Prelude.{◌≡◌, ℕ, List, [], ◌∷◌, ◌++◌, Option, Some, None, option_and_then}
+-- For which records a judge stands.
+use Rattle.std.specs.Prelude.{◌≡◌, List, [], Option, Some, None, option_and_then}
 use Rattle.lsp_frame.specs.Bounds.{Bounds, IsInRange}
 use Rattle.lsp_frame.specs.Decoder as decoder
 use Rattle.lsp_frame.specs.declared.format.Format.{Format}
-use Rattle.lsp_rpc.specs.Message.{Message}
-use Rattle.lsp_rpc.specs.Outline.{outline}
-use Rattle.lsp_types.specs.declared.side.Side.{Side}
 use Rattle.lsp_types.specs.declared.side.Side.TheVariants.{Editor, Server}
-use Rattle.lsp_session.specs.Sent.{Sent}
 use Rattle.lsp_session.specs.State as session
 use Rattle.lsp_docs.specs.State as docs
-use Rattle.lsp_docs.specs.Terms.{Terms, terms_of}
+use Rattle.lsp_docs.specs.Terms.{terms_of}
 use Rattle.lsp_log.specs.Log.{Record}
 use Rattle.lsp_verdict.specs.declared.counts.Counts.{Counts}
 use Rattle.lsp_judge.specs.declared.heard.Turn.{Turn}
 use Rattle.lsp_judge.specs.declared.ruling.Ruling.{Ruling}
 use Rattle.lsp_judge.specs.declared.ruling.Ruling.TheVariants.{No, BadLog, Memory}
-use Rattle.lsp_judge.specs.declared.fault.Fault.{Fault}
-use Rattle.lsp_judge.specs.declared.fault.Fault.TheVariants as fault
-use Rattle.lsp_judge.specs.declared.fault.Fault.TheVariants.{Rule}
-use Rattle.lsp_verdict.specs.Calls.{calls}
-use Rattle.lsp_verdict.specs.Counting.{AreCounts}
 use Rattle.lsp_verdict.specs.Drained.{IsDrained}
-use Rattle.lsp_verdict.specs.Contents.{IsSent, ReadsAs}
-use Rattle.lsp_verdict.specs.Event.{Event, message, sent_in}
+use Rattle.lsp_verdict.specs.Event.{Event}
 use Rattle.lsp_verdict.specs.Given.{as_given}
 use Rattle.lsp_verdict.specs.Outcome.{Offends}
 use Rattle.lsp_verdict.specs.Placed.{IsSession, joined}
 use Rattle.lsp_judge.specs.Rulings.{verdict_in}
-use Rattle.lsp_verdict.specs.Verdict.{Verdict, no, offence, first_no}
-
--- ---- events
-
--- the messages and the calls that the layers below stand for are those of the events
-pub record Holds (messages : session.State) (documents : docs.State) (events : List Event) : Type 0 where
-  pub sent : session.Stands messages (sent_in events)
-  pub called : docs.Stands documents (calls events)
-
--- the content is this message, but for its params and the value of a result; it doesn't offend, and what is held is what the events come to with it
-pub record Hears (side : Side) (content : List ℕ) (said : Message) (terms : Terms) (messages : session.State) (documents : docs.State) (events : List Event) : Type 0 where
-  pub sent : Sent
-  pub reads : IsSent side content sent
-  pub says : outline sent.message ≡ outline said
-  pub clean : offence terms events (message sent) ≡ None
-  pub holds : Holds messages documents (events ++ message sent ∷ [])
-
--- the content is an event that offends this rule, unless memory ran out
-abbrev pub Refuses : Side → List ℕ → Terms → List Event → Fault → Type 0
-Refuses side content terms events (Rule rule) = (event : Event) × ReadsAs side content event × (offence terms events event ≡ Some rule)
-Refuses side content terms events fault.Memory = Unit {0}
-
--- none of these events offends, and what is held is what they come to
-pub record Follows (messages : session.State) (documents : docs.State) (counts : Counts) (events : List Event) : Type 0 where
-  pub clean : first_no documents.terms events ≡ None
-  pub holds : Holds messages documents events
-  pub counted : AreCounts counts events
+use Rattle.lsp_verdict.specs.Verdict.{Verdict, no}
+use Rattle.lsp_events.specs.Standing.{Follows}
 
 -- ---- records
 

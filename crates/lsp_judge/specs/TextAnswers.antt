@@ -8,7 +8,8 @@ use Rattle.lsp_judge.specs.declared.text_answer.TextAnswer as code
 use Rattle.lsp_judge.specs.declared.text_answer.TextAnswer.TheVariants as answers
 use Rattle.lsp_verdict.specs.Given.{verdict_view}
 use Rattle.lsp_verdict.specs.Shown.{TextAnswer, text_is, no_document, too_few, refused, held_answer}
-use Rattle.lsp_judge.specs.Standing.{State, Follows}
+use Rattle.lsp_events.specs.Standing.{Follows}
+use Rattle.lsp_judge.specs.Standing.{State}
 
 abbrev pub answer_view : code.TextAnswer → TextAnswer
 answer_view (answers.Text text) = text_is (chars (string_bytes text))

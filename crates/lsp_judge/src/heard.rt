@@ -1,13 +1,13 @@
 //! Events that were heard, and what is still to be heard of a record.
-use lsp_rpc::{Message, Side};
+use lsp_rpc::{Side, Spoken};
 
 /// An event that was heard and doesn't offend.
 #[derive(Drop)]
 pub(crate) enum Heard {
-    /// A message, without its params and the value of a result.
+    /// A message, without its params and the value of a result, with what it means.
     Message {
         side: Side,
-        message: Message,
+        spoken: Spoken,
     },
     /// A text that the editor showed.
     Snapshot {

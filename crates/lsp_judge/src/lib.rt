@@ -4,22 +4,20 @@
 //! its session has to be complete, and `run_show` writes a line for each event before that.
 //! `run_upgrade` writes a log again in format 2, up to its verdict. `Judge` takes the records of a log
 //! one by one, `report_of` prints a verdict. `run_frames` reads one raw stream, one direction of a
-//! session, and says what its frames are. What a session is and means stands in `lsp_verdict`, the
-//! runs that judge nothing in `lsp_streams`; their public names are given on here.
+//! session, and says what its frames are. What a session is and means stands in `lsp_verdict`, how its
+//! events are heard in `lsp_events`, and the runs that judge nothing in `lsp_streams`; the public names
+//! of the first and the last are given on here.
 #![tactic(auto)]
 
 mod check;
 mod contents;
 mod event_reader;
-mod events;
-mod fault;
 mod heard;
 mod judge;
 mod lines;
 mod ruling;
 mod show;
 mod show_laws;
-mod summary;
 mod text;
 mod text_answer;
 mod upgrade;

@@ -102,8 +102,8 @@ pub(crate) fn write_event_line<W: Sink>(
     ensures { (event : Event) → IsHeard event heard → Tells (W.told writer.old) (W.told writer.new) (line_of number event) result }
 {
     match &heard {
-        Heard::Message { side, message } => {
-            write_message_line(alloc, writer, line, number, *side, message)
+        Heard::Message { side, spoken } => {
+            write_message_line(alloc, writer, line, number, *side, &spoken.message)
         }
         Heard::Snapshot { version, uri, text } => {
             let version = *version;

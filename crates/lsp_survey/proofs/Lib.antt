@@ -1,5 +1,10 @@
+pub mod Noting
+pub mod Passing
+pub mod Hearing
+pub mod Tails
 pub mod Exchanging
 pub mod Marking
 pub mod MarkSteps
+pub mod OkParts
 pub mod SessionSteps
 pub mod Waiting

@@ -19,7 +19,7 @@ use Rattle.lsp_verdict.proofs.LookBackLemmas.{each_of-snoc}
 use Rattle.lsp_verdict.proofs.Offences.Offending.{kept_are_others}
 use Rattle.lsp_survey.specs.Asking.{Numbered, Reply, numbered_as, numbered_by, numbered_at, numbered, sents, asks, asks_by, asked, replied, reply_by, replies, most_replies, last_ones, leads, leads_by, since}
 use Rattle.lsp_survey.specs.Marking.{number_next}
-use Rattle.lsp_survey.specs.SessionNoting.{asked_in, replies_in, Exchanges, IsExchange, Notes, AreNotes}
+use Rattle.lsp_survey.specs.SessionNoting.{asked_in, replies_in, Exchanges, IsExchange, SaysOn, SessionStands, AreNotes}
 use Rattle.lsp_survey.specs.declared.exchange.Exchange.{Exchange}
 use Rattle.lsp_survey.specs.declared.session_notes.SessionNotes.{SessionNotes}
 use Rattle.lsp_survey.proofs.Marking.{filter_map-snoc, last_behind}
@@ -93,7 +93,7 @@ numbered-push terms events e = each_of-snoc (numbered_at terms) events e
 -- it says nothing
 said_none : (terms : Terms) (s : SessionNotes) (before : List Event) (e : Event) → AreNotes terms s before → numbered_at terms before e ≡ None → AreNotes terms s (before ++ e ∷ [])
 said_none terms s before e are none =
-    subst (Notes s) (sym (numbered-push terms before e ∙ ap (λ (o : Option Numbered). numbered terms before ++ cons_option o []) none ∙ append-nil (numbered terms before))) are
+    subst (SessionStands s) (sym (numbered-push terms before e ∙ ap (λ (o : Option Numbered). numbered terms before ++ cons_option o []) none ∙ append-nil (numbered terms before))) are
 
 -- **an event that offends leaves all notes**
 pub refused_unsaid : (terms : Terms) (s : SessionNotes) (before : List Event) (e : Event) (rule : ℕ) → AreNotes terms s before → rule_at terms before e ≡ Some rule → AreNotes terms s (before ++ e ∷ [])
@@ -111,17 +111,16 @@ other_unsaid terms s before e are is =
 -- **a message that is kept**
 pub message_noted : (terms : Terms) (old new : SessionNotes) (before : List Event) (m : Sent) (said : Message) (n : ℕ) → AreNotes terms old before → rule_at terms before (message m) ≡ None
     → n ≡ number_next before → outline m.message ≡ outline said
-    → Exchanges Editor n m.side said old.editor new.editor → Exchanges Server n m.side said old.server new.server
-    → new.phase ≡ phase (sent_in (kept_of terms (before ++ message m ∷ []))) → new.since ≡ unwrap_or (leads n old.phase new.phase) old.since
+    → SaysOn n m.side said (phase (sent_in (kept_of terms (before ++ message m ∷ [])))) old new
     → AreNotes terms new (before ++ message m ∷ [])
-message_noted terms old new before m said n are kept number same editor server phase_is since_is =
-    subst (Notes new) (sym whole) (record {
-      editor = exchanged Editor n m said same old.editor new.editor ms are.editor editor;
-      server = exchanged Server n m said same old.server new.server ms are.server server;
-      phase_is = here;
+message_noted terms old new before m said n are kept number same says =
+    subst (SessionStands new) (sym whole) (record {
+      editor = exchanged Editor n m said same old.editor new.editor ms are.editor says.editor;
+      server = exchanged Server n m said same old.server new.server ms are.server says.server;
+      phase_is = says.phase_is ∙ behind;
       since_is =
-          since_is
-          ∙ (λ i. unwrap_or (leads n (are.phase_is i) (here i)) (are.since_is i))
+          says.since_is
+          ∙ (λ i. unwrap_or (leads n (are.phase_is i) (behind i)) (are.since_is i))
           ∙ sym (ap (last_or None) (each_of-snoc leads_by ms (numbered_as n m)) ∙ last_behind None (each_of leads_by ms) (leads_by ms (numbered_as n m)));
     })
   where
@@ -134,5 +133,5 @@ message_noted terms old new before m said n are kept number same editor server p
         ∙ ap (λ (o : Option ℕ). ms ++ cons_option (numbered_by (number_next before) o (Some m)) []) kept
         ∙ ap (λ (k : ℕ). ms ++ numbered_as k m ∷ []) (sym number)
 
-    here : new.phase ≡ phase (sents (ms ++ numbered_as n m ∷ []))
-    here = phase_is ∙ ap phase (sym (sents-numbered terms (before ++ message m ∷ []))) ∙ ap (λ (l : List Numbered). phase (sents l)) whole
+    behind : phase (sent_in (kept_of terms (before ++ message m ∷ []))) ≡ phase (sents (ms ++ numbered_as n m ∷ []))
+    behind = ap phase (sym (sents-numbered terms (before ++ message m ∷ []))) ∙ ap (λ (l : List Numbered). phase (sents l)) whole

@@ -1,3 +1,6 @@
+pub mod Notes
+pub mod Walking
+pub mod Surveys
 pub mod Asking
 pub mod Marking
 pub mod Marks

@@ -7,10 +7,11 @@ use Rattle.lsp_rpc.specs.Message.{Message}
 use Rattle.lsp_rpc.specs.declared.message.Id.{Id}
 use Rattle.lsp_session.specs.Handshake.{phase}
 use Rattle.lsp_session.specs.Sent.{answered_from}
+use Rattle.lsp_session.specs.declared.phase.Phase.{Phase}
 use Rattle.lsp_types.specs.declared.side.Side.{Side}
 use Rattle.lsp_types.specs.declared.side.Side.TheVariants.{Editor, Server}
 use Rattle.lsp_verdict.specs.Event.{Event}
-use Rattle.lsp_survey.specs.Asking.{Numbered, Reply, asks, asked, replies, replied, most_replies, last_ones, numbered, sents, since}
+use Rattle.lsp_survey.specs.Asking.{Numbered, Reply, asks, asked, replies, replied, most_replies, last_ones, leads, numbered, sents, since}
 use Rattle.lsp_survey.specs.declared.exchange.Exchange.{Exchange}
 use Rattle.lsp_survey.specs.declared.exchange.Given.{Given}
 use Rattle.lsp_survey.specs.declared.session_notes.SessionNotes.{SessionNotes}
@@ -44,12 +45,19 @@ pub record IsExchange (side : Side) (e : Exchange) (said : List Numbered) : Type
 -- ---- a session
 
 -- **the notes stand for these messages**
-pub record Notes (s : SessionNotes) (said : List Numbered) : Type 0 where
+pub record SessionStands (s : SessionNotes) (said : List Numbered) : Type 0 where
   pub editor : IsExchange Editor s.editor said
   pub server : IsExchange Server s.server said
   pub phase_is : s.phase ≡ phase (sents said)
   pub since_is : s.since ≡ since said
 
+-- one more message of the sender, the event of this number, behind which the session is in this phase
+pub record SaysOn (n : ℕ) (sender : Side) (m : Message) (behind : Phase) (old new : SessionNotes) : Type 0 where
+  pub editor : Exchanges Editor n sender m old.editor new.editor
+  pub server : Exchanges Server n sender m old.server new.server
+  pub phase_is : new.phase ≡ behind
+  pub since_is : new.since ≡ unwrap_or (leads n old.phase behind) old.since
+
 -- **they stand for the kept messages of these events**
 abbrev pub AreNotes : Terms → SessionNotes → List Event → Type 0
-AreNotes terms s events = Notes s (numbered terms events)
+AreNotes terms s events = SessionStands s (numbered terms events)

@@ -164,11 +164,11 @@ survey_agrees c limits sizes log found bad s v p is = agrees limits log c found 
 
 -- ---- what an event is noted as
 
-by_asking : (bytes : List ℕ) (m : Message) (b : Bool) → reading.Reads bytes m → asks_handshake m ≡ b → Asks (content Editor bytes) b
+pub by_asking : (bytes : List ℕ) (m : Message) (b : Bool) → reading.Reads bytes m → asks_handshake m ≡ b → Asks (content Editor bytes) b
 by_asking bytes m true reads is = (m, reads, is)
 by_asking bytes m false reads is = λ other reads_too. ap asks_handshake (one_message bytes other m reads_too reads) ∙ is
 
-some_asks : (raw : Raw) → (b : Bool) × Asks raw b
+pub some_asks : (raw : Raw) → (b : Bool) × Asks raw b
 some_asks (content Editor bytes) = by_reading (message_or_rule bytes)
   where
     by_reading : ((m : Message) × reading.Reads bytes m) ⊎ ((r : ℕ) × BreaksRule bytes r) → (b : Bool) × Asks (content Editor bytes) b

@@ -1,7 +1,8 @@
 use Rattle.std.proofs.Common.{◌≡◌, List, ap, sym, subst, ◌∙◌}
 use Rattle.lsp_verdict.specs.Event.{Event}
 use Rattle.lsp_verdict.specs.Given.{summary_view, as_given}
-use Rattle.lsp_judge.specs.Standing.{State, Follows}
+use Rattle.lsp_events.specs.Standing.{Follows}
+use Rattle.lsp_judge.specs.Standing.{State}
 use Rattle.lsp_verdict.specs.Verdict.{yes, summary}
 use Rattle.lsp_judge.proofs.Answering.{ok_at, no_yes, records_kept, records_refused, records_clean}
 use Rattle.lsp_judge.proofs.Finals.{given_final, rest_final, yes_final}

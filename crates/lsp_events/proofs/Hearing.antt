@@ -1,0 +1,134 @@
+-- How a content is heard: read, admitted, and taken over.
+use Rattle.std.proofs.Common.{◌≡◌, ℕ, List, [], ◌∷◌, ◌++◌, Option, Some, None, inl, inr, refl, sym, ap, subst, ◌∙◌}
+use Rattle.std.specs.Prelude.{◌⊎◌, option_and_then, unwrap_or}
+use Rattle.std.specs.Option.{option_or}
+use Rattle.std.specs.List.{cons_option}
+use Rattle.lsp_rpc.specs.Act.{Act}
+use Rattle.lsp_rpc.specs.Fault as content
+use Rattle.lsp_rpc.specs.Fault.{rule_unless_read}
+use Rattle.lsp_rpc.specs.Message.{Message}
+use Rattle.lsp_rpc.specs.Outline.{outline, without_params}
+use Rattle.lsp_rpc.specs.Params.{act_at}
+use Rattle.lsp_rpc.specs.Reading as reading
+use Rattle.lsp_rpc.specs.View.{act_view, message_view}
+use Rattle.lsp_rpc.specs.declared.act.Spoken.{Spoken}
+use Rattle.lsp_rpc.specs.declared.fault.RpcFault.{RpcFault}
+use Rattle.lsp_rpc.specs.declared.fault.RpcFault.TheVariants as contents
+use Rattle.lsp_types.specs.declared.position.Encoding.{Encoding}
+use Rattle.lsp_types.specs.declared.position.Encoding.TheVariants.{Utf16}
+use Rattle.lsp_types.specs.declared.side.Side.{Side}
+use Rattle.lsp_types.specs.declared.change.SyncKind.{SyncKind}
+use Rattle.lsp_types.specs.declared.change.SyncKind.TheVariants.{Nothing}
+use Rattle.lsp_session.specs.Handshake.{open_initializes}
+use Rattle.lsp_session.specs.Negotiation.{encoding, sync_kind}
+use Rattle.lsp_session.specs.Refusal as refusal
+use Rattle.lsp_session.specs.Rules.{rule_after}
+use Rattle.lsp_session.specs.Sent.{Sent}
+use Rattle.lsp_session.specs.State as session
+use Rattle.lsp_session.specs.declared.refusal.Refusal.{Refusal}
+use Rattle.lsp_session.specs.declared.refusal.Refusal.TheVariants as refusals
+use Rattle.lsp_docs.specs.Calls.{Call}
+use Rattle.lsp_docs.specs.Fault as docs_fault
+use Rattle.lsp_docs.specs.Rules.{call_rule}
+use Rattle.lsp_docs.specs.State as docs
+use Rattle.lsp_docs.specs.declared.fault.DocFault.{DocFault}
+use Rattle.lsp_docs.specs.declared.fault.DocFault.TheVariants as faults
+use Rattle.lsp_docs.specs.Terms.{Terms}
+use Rattle.lsp_verdict.specs.Calls.{call_of, call_at, calls}
+use Rattle.lsp_verdict.specs.Contents.{IsSent, ReadsAs}
+use Rattle.lsp_verdict.specs.Event.{Event, message, fault as broken, sent_in}
+use Rattle.lsp_events.specs.Faults.{of_content, of_message, of_call, refused_by, rule_of}
+use Rattle.lsp_events.specs.Standing.{Hears, Refuses, RefusesBy}
+use Rattle.lsp_events.specs.declared.fault.Fault.{Fault}
+use Rattle.lsp_events.specs.declared.fault.Fault.TheVariants as own
+use Rattle.lsp_events.specs.declared.fault.Refused.{Refused}
+use Rattle.lsp_events.specs.declared.fault.Refused.TheVariants as refused
+use Rattle.lsp_verdict.specs.Verdict.{offence, document_rule}
+use Rattle.lsp_verdict.proofs.LookBackLemmas.{each_of-snoc}
+use Rattle.lsp_verdict.proofs.Messages.{sent_in-append}
+
+-- a content that is no message
+pub content_refused : (side : Side) (bytes : List ℕ) (terms : Terms) (events : List Event) (f : RpcFault) → reading.IsRefusal bytes f → Refuses side bytes terms events (of_content f)
+content_refused side bytes terms events (contents.Rule rule) breaks = (refl, inl breaks)
+content_refused side bytes terms events contents.Memory e = tt
+
+-- params that don't have their shape
+params_by : (side : Side) (bytes : List ℕ) (terms : Terms) (events : List Event) (m : Message) (o : Option Act) (f : RpcFault) → reading.Reads bytes m → act_at side m ≡ o → content.Names (rule_unless_read 209 o) f → Refuses side bytes terms events (of_content f)
+params_by side bytes terms events m o contents.Memory reads is named = tt
+params_by side bytes terms events m None (contents.Rule rule) reads is named =
+    let same : rule ≡ 209 = cc named in
+    (refl, inr (same, record { of = m; reads = reads; unread = is }))
+params_by side bytes terms events m (Some act) (contents.Rule rule) reads is named = let none : None ≡ Some rule = named in absurd cc
+
+pub params_refused : (side : Side) (bytes : List ℕ) (terms : Terms) (events : List Event) (m : Message) (f : RpcFault) → reading.Reads bytes m → content.Names (rule_unless_read 209 (act_at side m)) f → Refuses side bytes terms events (of_content f)
+params_refused side bytes terms events m f reads named = params_by side bytes terms events m (act_at side m) f reads refl named
+
+-- the document rule of a message, under what was agreed
+rule_is : (terms : Terms) (events : List Event) (m : Sent) (enc : Encoding) (kind : SyncKind) → enc ≡ unwrap_or (encoding (sent_in events)) Utf16 → kind ≡ unwrap_or (sync_kind (sent_in events)) Nothing
+    → document_rule terms events (message m) ≡ option_and_then (call_rule terms (calls events)) (call_of enc kind m.act)
+rule_is terms events m enc kind e k =
+    ap (λ x. option_and_then (call_rule terms (calls events)) (call_of x (unwrap_or (sync_kind (sent_in events)) Nothing) m.act)) (sym e)
+    ∙ ap (λ x. option_and_then (call_rule terms (calls events)) (call_of enc x m.act)) (sym k)
+
+offence_is : (terms : Terms) (events : List Event) (m : Sent) (rule : Option ℕ) → rule_after (sent_in events) m ≡ None → document_rule terms events (message m) ≡ rule → offence terms events (message m) ≡ rule
+offence_is terms events m rule none is = ap (λ o. option_or o (document_rule terms events (message m))) none ∙ is
+
+-- a message, and what is left of it
+module _ (side : Side) (bytes : List ℕ) (terms : Terms) (events : List Event) (m : Sent) (is : IsSent side bytes m) (said : Message) (says : outline m.message ≡ outline said) where
+  -- the session doesn't admit it
+  pub message_refused : (f : Refusal) → refusal.Names (rule_after (sent_in events) m) f → (open_initializes (sent_in events) ≡ []) ⊎ (said ≡ without_params m.message) → RefusesBy side bytes said m.act terms events (of_message f)
+  message_refused (refusals.Rule rule) named whole = record {
+    sent = m;
+    reads = is;
+    says = says;
+    means = refl;
+    offends = ap (λ o. option_or o (document_rule terms events (message m))) named;
+    whole = whole;
+  }
+  message_refused refusals.Memory named whole = tt
+
+  -- it is admitted, under what was agreed
+  module _ (enc : Encoding) (kind : SyncKind) (none : rule_after (sent_in events) m ≡ None) (e : enc ≡ unwrap_or (encoding (sent_in events)) Utf16) (k : kind ≡ unwrap_or (sync_kind (sent_in events)) Nothing) where
+    -- the documents don't accept its call
+    pub call_refused : (f : DocFault) → docs_fault.Names (option_and_then (call_rule terms (calls events)) (call_of enc kind m.act)) f → (open_initializes (sent_in events) ≡ []) ⊎ (said ≡ without_params m.message)
+        → RefusesBy side bytes said m.act terms events (of_call f)
+    call_refused (faults.Rule rule) named whole = record {
+      sent = m;
+      reads = is;
+      says = says;
+      means = refl;
+      offends = offence_is terms events m (Some rule) none (rule_is terms events m enc kind e k ∙ named);
+      whole = whole;
+    }
+    call_refused faults.Memory named whole = tt
+
+    -- its call is accepted
+    pub heard : (messages : session.State) (documents : docs.State) → option_and_then (call_rule terms (calls events)) (call_of enc kind m.act) ≡ None
+        → session.Stands messages (sent_in events ++ m ∷ []) → docs.Stands documents (calls events ++ cons_option (call_of enc kind m.act) []) → Hears side bytes said m.act terms messages documents events
+    heard messages documents accepted sent called = record {
+      sent = m;
+      reads = is;
+      says = says;
+      means = refl;
+      clean = offence_is terms events m None none (rule_is terms events m enc kind e k ∙ accepted);
+      holds = record {
+        sent = subst (λ (w : List Sent). session.Stands messages w) (sym (sent_in-append events (message m ∷ []))) sent;
+        called = subst (λ (w : List Call). docs.Stands documents w)
+            (ap (λ x. calls events ++ cons_option (call_of x kind m.act) []) e
+            ∙ ap (λ x. calls events ++ cons_option (call_of (unwrap_or (encoding (sent_in events)) Utf16) x m.act) []) k
+            ∙ sym (each_of-snoc call_at events (message m))) called;
+      };
+    }
+
+-- ---- refusals
+
+-- a message that offends the rule of a fault is refused with it
+pub refused_as : (side : Side) (bytes : List ℕ) (terms : Terms) (events : List Event) (spoken : Spoken) (f : Fault) → RefusesBy side bytes (message_view spoken.message) (act_view spoken.act) terms events f → Refuses side bytes terms events (refused_by f spoken)
+refused_as side bytes terms events spoken (own.Rule rule) refuses = refuses
+refused_as side bytes terms events spoken own.Memory refuses = tt
+
+-- what is refused is an event that offends this rule
+pub refused_event : (side : Side) (bytes : List ℕ) (terms : Terms) (events : List Event) (r : Refused) (rule : ℕ) → rule_of r ≡ Some rule → Refuses side bytes terms events r → (event : Event) × ReadsAs side bytes event × (offence terms events event ≡ Some rule)
+refused_event side bytes terms events (refused.Content code) rule is refuses = (broken side code, refuses, is)
+refused_event side bytes terms events (refused.Message code spoken) rule is refuses = (message refuses.sent, refuses.reads, refuses.offends ∙ is)
+refused_event side bytes terms events refused.Memory rule is refuses = absurd (cc)

@@ -1,0 +1,4 @@
+pub mod Edits
+pub mod Apart
+pub mod Hearing
+pub mod Following

@@ -1,0 +1,255 @@
+//! The events of a session, heard one after another.
+ghost use Rattle.std.specs.Prelude.{◌≡◌, ◌++◌, ◌∷◌, [], ℕ, List, None, Some, option_and_then, IfSome, IfOk, IfErr, OnOk, OnErr, map};
+ghost use Rattle.std.specs.List.{cons_option};
+ghost use Rattle.lsp_rpc.specs.View.{act_view, changes_view, message_view};
+ghost use Rattle.lsp_rpc.specs.Message.{Message as SpecMessage};
+ghost use Rattle.lsp_rpc.specs.Reading.{IsRefusal, Reads};
+ghost use Rattle.lsp_docs.specs.Calls.{Call, changes};
+ghost use Rattle.lsp_docs.specs.Fault as doc_fault;
+ghost use Rattle.lsp_docs.specs.Rules.{call_rule};
+ghost use Rattle.lsp_docs.specs.State as docs_state;
+ghost use Rattle.lsp_docs.specs.Terms.{Terms, terms_of};
+ghost use Rattle.lsp_session.specs.State.{State as SpecSession};
+ghost use Rattle.lsp_verdict.specs.Calls.{call_of, edit_of};
+ghost use Rattle.lsp_verdict.specs.Event.{Event};
+ghost use Rattle.lsp_events.specs.Apart.{IsApart, Says};
+ghost use Rattle.lsp_events.specs.Standing.{Follows, Holds, Hears, Refuses, RefusesBy};
+
+use crate::fault::{Fault, Refused};
+use lsp_docs::{DocFault, Docs};
+use lsp_frame::{Format, Limits};
+use lsp_rpc::{
+    Act, Change, Encoding, Message, OutlineReader, RpcFault, Side, Spoken, SyncKind, read, take_act,
+};
+use lsp_session::Session;
+use lsp_text::TextStore;
+use lsp_verdict::Counts;
+use std::alloc::Global;
+
+/// What the events heard so far have come to, none of which offends behind those before it.
+///
+/// It stands for these events: the session for their messages, the documents for their calls, and the
+/// counts for how many they were, as far as each was counted.
+#[derive(Drop)]
+pub struct Events<S: TextStore> {
+    pub session: Session,
+    pub docs: Docs<S>,
+    pub counts: Counts,
+    messages: OutlineReader,
+}
+
+impl<S: TextStore> Events<S> {
+    /// Nothing heard yet, of a log of this format.
+    pub fn new(alloc: Global, limits: Limits, format: Format) -> Self
+        ensures terms { result.docs.terms ≡ terms_of limits format }
+        ensures follows { Follows result.session result.docs result.counts [] }
+    {
+        Events {
+            session: Session::new(alloc),
+            docs: Docs::of_format(alloc, limits, format),
+            counts: Counts::new(),
+            messages: OutlineReader::new(alloc),
+        }
+    }
+
+    /// Makes ready for a walk over all open documents and requests.
+    pub(crate) fn pack(&mut self)
+        ensures session { self.new.session ≡ self.old.session }
+        ensures docs { self.new.docs ≡ self.old.docs }
+        ensures counts { self.new.counts ≡ self.old.counts }
+    {
+        self.session.pack();
+        self.docs.pack();
+    }
+
+    /// Hears a content of a side: the message that it is, but for its params and the value of a result
+    /// that nothing reads, and what that means; unless it breaks a rule behind the events heard. The
+    /// event is not counted: that is for the caller.
+    ///
+    /// # Errors
+    /// `Content` by the least of the rules 201 to 209 that the content breaks, else `Message` by the
+    /// least of 301 to 702 that the message offends; `Memory` where memory was refused, in place of
+    /// whatever would be answered.
+    pub fn hear(&mut self, alloc: Global, side: Side, content: &[u8]) -> Result<Spoken, Refused>
+        ensures terms { self.new.docs.terms ≡ self.old.docs.terms }
+        ensures counts { self.new.counts ≡ self.old.counts }
+        ensures ok { IfOk result (λ spoken. (events : List Event) → Holds self.old.session self.old.docs events
+            → Hears side content.now (message_view spoken.message) (act_view spoken.act) self.old.docs.terms self.new.session self.new.docs events) }
+        ensures refused { IfErr result (λ refused. (events : List Event) → Holds self.old.session self.old.docs events
+            → Refuses side content.now self.old.docs.terms events refused) }
+        // What is refused leaves what is held.
+        ensures unchanged { OnErr result ((events : List Event) → Holds self.old.session self.old.docs events
+            → Holds self.new.session self.new.docs events) }
+    {
+        let spoken = spoken_in(alloc, &self.session, &mut self.messages, side, content)?;
+        match self.follow(side, &spoken) {
+            Ok(()) => Ok(spoken),
+            Err(fault) => Err(fault.refuse(spoken)),
+        }
+    }
+
+    /// Admits the message that a content is, and takes over what it says of a document.
+    fn follow(&mut self, side: Side, spoken: &Spoken) -> Result<(), Fault>
+        ensures terms { self.new.docs.terms ≡ self.old.docs.terms }
+        ensures counts { self.new.counts ≡ self.old.counts }
+        ensures ok { OnOk result ((content : List ℕ) (events : List Event) → Says self.old.session side content (message_view spoken.now.message) (act_view spoken.now.act)
+            → Holds self.old.session self.old.docs events
+            → Hears side content (message_view spoken.now.message) (act_view spoken.now.act) self.old.docs.terms self.new.session self.new.docs events) }
+        ensures rule { IfErr result (λ fault. (content : List ℕ) (events : List Event) → Says self.old.session side content (message_view spoken.now.message) (act_view spoken.now.act)
+            → Holds self.old.session self.old.docs events
+            → RefusesBy side content (message_view spoken.now.message) (act_view spoken.now.act) self.old.docs.terms events fault) }
+        ensures unchanged { OnErr result ((content : List ℕ) (events : List Event) → Says self.old.session side content (message_view spoken.now.message) (act_view spoken.now.act)
+            → Holds self.old.session self.old.docs events
+            → Holds self.new.session self.new.docs events) }
+    {
+        let encoding = self.session.encoding().unwrap_or(Encoding::Utf16);
+        let kind = self.session.sync_kind().unwrap_or(SyncKind::Nothing);
+        self.session.admit(side, &spoken.message, &spoken.act)?;
+        apply(&mut self.docs, encoding, kind, &spoken.act)?;
+        Ok(())
+    }
+}
+
+/// Reads a content. The value of a result is left out where nothing reads it.
+fn read_content(
+    alloc: Global,
+    session: &Session,
+    messages: &mut OutlineReader,
+    content: &[u8],
+) -> Result<Message, RpcFault>
+    ensures ok { IfOk result (λ message. (whole : SpecMessage) × Reads content.now whole × IsApart session.now (message_view message) whole) }
+    ensures rule { IfErr result (IsRefusal content.now) }
+{
+    if session.awaits_initialize() {
+        read(alloc, content)
+    } else {
+        messages.read_answer(content)
+    }
+}
+
+/// Reads a content with what it means on its side.
+fn read_spoken(
+    alloc: Global,
+    session: &Session,
+    messages: &mut OutlineReader,
+    side: Side,
+    content: &[u8],
+) -> Result<Spoken, Refused>
+    ensures ok { IfOk result (λ spoken. Says session.now side content.now (message_view spoken.message) (act_view spoken.act)) }
+    ensures refused { IfErr result (λ refused. (terms : Terms) (events : List Event) → Refuses side content.now terms events refused) }
+{
+    let mut message = read_content(alloc, session, messages, content)?;
+    let act = take_act(alloc, &mut message, side)?;
+    Ok(Spoken { message, act })
+}
+
+/// A message that changes the documents, where the content is one of the common form.
+fn change_in(messages: &mut OutlineReader, side: Side, content: &[u8]) -> Option<Spoken>
+    ensures { (session : SpecSession) → IfSome result (λ spoken. Says session side content.now (message_view spoken.message) (act_view spoken.act)) }
+{
+    match side {
+        Side::Editor => messages.read_change(content),
+        Side::Server => None,
+    }
+}
+
+/// A call whose params its side doesn't read, where the content is one of the common form.
+fn call_in(messages: &mut OutlineReader, side: Side, content: &[u8]) -> Option<Spoken>
+    ensures { (session : SpecSession) → IfSome result (λ spoken. Says session side content.now (message_view spoken.message) (act_view spoken.act)) }
+{
+    messages.read_call(side, content)
+}
+
+/// A message that is read without a tree of values.
+fn common_in(messages: &mut OutlineReader, side: Side, content: &[u8]) -> Option<Spoken>
+    ensures { (session : SpecSession) → IfSome result (λ spoken. Says session side content.now (message_view spoken.message) (act_view spoken.act)) }
+{
+    match change_in(messages, side, content) {
+        Some(spoken) => Some(spoken),
+        None => call_in(messages, side, content),
+    }
+}
+
+/// Reads a content with what it means on its side, the most common ones without a tree of values.
+fn spoken_in(
+    alloc: Global,
+    session: &Session,
+    messages: &mut OutlineReader,
+    side: Side,
+    content: &[u8],
+) -> Result<Spoken, Refused>
+    ensures ok { IfOk result (λ spoken. Says session.now side content.now (message_view spoken.message) (act_view spoken.act)) }
+    ensures refused { IfErr result (λ refused. (terms : Terms) (events : List Event) → Refuses side content.now terms events refused) }
+{
+    match common_in(messages, side, content) {
+        Some(spoken) => Ok(spoken),
+        None => read_spoken(alloc, session, messages, side, content),
+    }
+}
+
+/// Changes a document.
+fn change<S: TextStore>(
+    docs: &mut Docs<S>,
+    encoding: Encoding,
+    kind: SyncKind,
+    uri: &str,
+    version: i32,
+    edits: &[Change],
+) -> Result<(), DocFault>
+    ensures terms { docs.new.terms ≡ docs.old.terms }
+    ensures ok { OnOk result ((made : List Call) → docs_state.Stands docs.old made
+        → docs_state.Stands docs.new (made ++ changes encoding kind uri.now version (map edit_of (changes_view edits.now)) ∷ [])) }
+    ensures accepted { OnOk result ((made : List Call) → docs_state.Stands docs.old made
+        → call_rule docs.old.terms made (changes encoding kind uri.now version (map edit_of (changes_view edits.now))) ≡ None) }
+    ensures rule { IfErr result (λ fault. (made : List Call) → docs_state.Stands docs.old made
+        → doc_fault.Names (call_rule docs.old.terms made (changes encoding kind uri.now version (map edit_of (changes_view edits.now)))) fault) }
+    ensures err { OnErr result (docs.new ≡ docs.old) }
+{
+    docs.did_change(encoding, kind, uri, version, edits)
+}
+
+/// Takes over what an act says of a document.
+fn apply<S: TextStore>(
+    docs: &mut Docs<S>,
+    encoding: Encoding,
+    kind: SyncKind,
+    act: &Act,
+) -> Result<(), DocFault>
+    ensures terms { docs.new.terms ≡ docs.old.terms }
+    ensures ok { OnOk result ((made : List Call) → docs_state.Stands docs.old made
+        → docs_state.Stands docs.new (made ++ cons_option (call_of encoding kind (act_view act.now)) [])) }
+    ensures accepted { OnOk result ((made : List Call) → docs_state.Stands docs.old made
+        → option_and_then (call_rule docs.old.terms made) (call_of encoding kind (act_view act.now)) ≡ None) }
+    ensures rule { IfErr result (λ fault. (made : List Call) → docs_state.Stands docs.old made
+        → doc_fault.Names (option_and_then (call_rule docs.old.terms made) (call_of encoding kind (act_view act.now))) fault) }
+    // Only an act that says something of a document is refused, and then nothing changes.
+    ensures says { OnErr result ((call : Call) × (call_of encoding kind (act_view act.now) ≡ Some call)) }
+    ensures err { OnErr result (docs.new ≡ docs.old) }
+{
+    match act {
+        Act::DidOpen { uri, version, text } => {
+            docs.did_open(uri.as_str(), *version, text.as_str())?
+        }
+        Act::DidChange {
+            uri,
+            version,
+            changes,
+        } => {
+            let version = *version;
+            change(
+                docs,
+                encoding,
+                kind,
+                uri.as_str(),
+                version,
+                changes.as_slice(),
+            )?
+        }
+        Act::DidClose { uri } => docs.did_close(uri.as_str())?,
+        Act::DidSave { uri, text } => {
+            docs.did_save(uri.as_str(), text.as_ref().map(|text| text.as_str()))?
+        }
+        _ => {}
+    }
+    Ok(())
+}

@@ -1,0 +1,10 @@
+//! Which offences are listed.
+
+/// Which offences are listed.
+#[derive(Clone, Copy, Debug, PartialEq, Eq)]
+pub enum Listing {
+    /// Those that follow from none.
+    Causes,
+    /// Every one.
+    Every,
+}

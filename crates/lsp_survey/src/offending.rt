@@ -1,0 +1,42 @@
+//! What offends, and how an event was heard.
+use lsp_rpc::{Side, Spoken};
+use lsp_verdict::Offence;
+
+/// The event that offends. What was held before it is held still.
+#[derive(Drop)]
+pub(crate) enum Offending {
+    /// A fault of the frames of this side.
+    Frames(Side),
+    /// A content of this side that is no message, or whose params don't have their shape.
+    Content {
+        side: Side,
+        content: Vec<u8>,
+    },
+    /// A message of this side, without its params, and what it means.
+    Message {
+        side: Side,
+        spoken: Spoken,
+    },
+    /// A text that the editor showed.
+    Snapshot {
+        version: i32,
+        uri: String,
+        text: String,
+    },
+}
+
+/// An offence, and the event that offends.
+#[derive(Drop)]
+pub(crate) struct Found {
+    pub offence: Offence,
+    pub offending: Offending,
+}
+
+/// How an event was heard.
+#[derive(Drop)]
+pub(crate) enum Heard {
+    /// It is kept.
+    Kept,
+    /// It offends behind the kept events before it, and is passed over.
+    Offence(Found),
+}

@@ -1,0 +1,287 @@
+//! The events of a session, of which those that offend are passed over.
+ghost use Rattle.std.specs.Prelude.{◌≡◌, ◌&&◌, ◌||◌, [], Bool, List, None, Some, false, IfOk, OnOk, chars, string_bytes};
+ghost use Rattle.lsp_docs.specs.Calls.{shows};
+ghost use Rattle.lsp_docs.specs.Terms.{terms_of};
+ghost use Rattle.lsp_rpc.specs.View.{act_view, message_view};
+ghost use Rattle.lsp_session.specs.Handshake.{phase};
+ghost use Rattle.lsp_session.specs.Sent.{Sent};
+ghost use Rattle.lsp_session.specs.State.{Stands};
+ghost use Rattle.lsp_types.specs.declared.change.SyncKind.{SyncKind};
+ghost use Rattle.lsp_types.specs.declared.position.Encoding.{Encoding};
+ghost use Rattle.lsp_verdict.specs.Calls.{call_of};
+ghost use Rattle.lsp_verdict.specs.Counting.{AreCounts};
+ghost use Rattle.lsp_verdict.specs.Event.{Event};
+ghost use Rattle.lsp_verdict.specs.Given.{given_offence, offence_view};
+ghost use Rattle.lsp_verdict.specs.Offences.{Asks, Noted, breaks_handshake, is_handshake_lost, wants_handshake, wants_text};
+ghost use Rattle.lsp_verdict.specs.Placed as placed;
+ghost use Rattle.lsp_verdict.specs.Verdict as spec;
+ghost use Rattle.lsp_survey.specs.Marking.{number_next};
+ghost use Rattle.lsp_survey.specs.Marks.{DoneBy, ShownBy};
+ghost use Rattle.lsp_survey.specs.Notes.{AreAfter};
+ghost use Rattle.lsp_survey.specs.SessionNoting.{SaysOn};
+ghost use Rattle.lsp_survey.specs.Walking.{Counted, Hears, IsUnread, PassesOver, Walks, asks_of, offence_of};
+
+use crate::asks::{asks_again, asks_handshake};
+use crate::marks::Marks;
+use crate::note::Notes;
+use crate::offending::{Found, Heard, Offending};
+use crate::rules::{breaks_handshake, wants_handshake, wants_text};
+use crate::said::{is_on_lost, note_kept_act, note_refused, note_refused_act};
+use crate::session_notes::SessionNotes;
+use lsp_docs::{DocFault, Match};
+use lsp_events::{Events, Refused};
+use lsp_frame::{Format, Limits};
+use lsp_rpc::{Memory, Side, Spoken};
+use lsp_text::Lined;
+use lsp_verdict::{Counts, Offence, Who, who_of};
+use std::alloc::Global;
+
+/// What the events of a session have come to, where each that offends is passed over.
+///
+/// Session and documents hold the kept ones, the counts are of all.
+#[derive(Drop)]
+pub(crate) struct Walk {
+    pub events: Events<Lined>,
+    notes: Notes,
+    /// Whether an event of the handshake was refused.
+    broken: bool,
+    /// Which kept events left the documents as they are.
+    pub marks: Marks,
+    /// By which kept events requests were asked and answered.
+    pub said: SessionNotes,
+}
+
+impl Walk {
+    /// A walk that heard nothing, of a log of this format.
+    pub(crate) fn new(alloc: Global, limits: Limits, format: Format) -> Walk
+        ensures terms { result.events.docs.terms ≡ terms_of limits format }
+        ensures walks { Walks result [] }
+    {
+        Walk {
+            events: Events::new(alloc, limits, format),
+            notes: Notes::new(alloc),
+            broken: false,
+            marks: Marks::new(alloc),
+            said: SessionNotes::new(alloc),
+        }
+    }
+
+    /// Hears a content of a side.
+    pub(crate) fn content(
+        &mut self,
+        alloc: Global,
+        side: Side,
+        content: &[u8],
+    ) -> Result<Heard, Memory>
+        ensures terms { self.new.events.docs.terms ≡ self.old.events.docs.terms }
+        ensures heard { IfOk result (λ heard. (before : List Noted) → Walks self.old before
+            → Hears (placed.content side content.now) self.old.events.docs.terms self.new before heard) }
+    {
+        match self.events.hear(alloc, side, content) {
+            Ok(spoken) => self.keep_message(side, spoken),
+            Err(Refused::Content(rule)) => self.refuse_content(alloc, side, rule, content),
+            Err(Refused::Message { rule, spoken }) => self.refuse_message(side, rule, spoken),
+            Err(Refused::Memory) => Err(Memory),
+        }
+    }
+
+    /// Hears a text that the editor showed.
+    pub(crate) fn snapshot(
+        &mut self,
+        version: i32,
+        uri: String,
+        text: String,
+    ) -> Result<Heard, Memory>
+        ensures terms { self.new.events.docs.terms ≡ self.old.events.docs.terms }
+        ensures heard { IfOk result (λ heard. (before : List Noted) → Walks self.old before
+            → Hears (placed.show version (string_bytes uri) (string_bytes text)) self.old.events.docs.terms self.new before heard) }
+    {
+        match self
+            .events
+            .docs
+            .snapshot(uri.as_str(), version, text.as_str())
+        {
+            Ok(answer) => self.keep_snapshot(uri.as_str(), version, answer),
+            Err(DocFault::Rule(rule)) => self.refuse_snapshot(rule, version, uri, text),
+            Err(DocFault::Memory) => Err(Memory),
+        }
+    }
+
+    /// Hears a fault of the frames of a side.
+    pub(crate) fn frames(&mut self, side: Side, rule: u16) -> Heard
+        ensures terms { self.new.events.docs.terms ≡ self.old.events.docs.terms }
+        ensures heard { (before : List Noted) → Walks self.old before
+            → Hears (placed.broken side rule) self.old.events.docs.terms self.new before result }
+    {
+        let offence = self.refuse(rule, who_of(side), false, false);
+        Heard::Offence(Found {
+            offence,
+            offending: Offending::Frames(side),
+        })
+    }
+
+    /// Takes over a message that is kept.
+    fn keep_message(&mut self, side: Side, spoken: Spoken) -> Result<Heard, Memory>
+        ensures kept { IfOk result (λ heard. heard ≡ Heard.Kept) }
+        ensures terms { self.new.events.docs.terms ≡ self.old.events.docs.terms }
+        ensures counted { OnOk result (Counted self.old self.new (spec.who_of side) None false) }
+        ensures noted { OnOk result ((enc : Encoding) (kind : SyncKind)
+            → AreAfter None (call_of enc kind (act_view spoken.act)) self.old.notes.map.entries self.new.notes.map.entries) }
+        ensures marked { OnOk result ((events : List Event) → AreCounts self.old.events.counts events → (enc : Encoding) (kind : SyncKind)
+            → DoneBy (number_next events) (call_of enc kind (act_view spoken.act)) self.old.marks.map.entries self.new.marks.map.entries) }
+        ensures said { OnOk result ((events : List Event) (sents : List Sent) → AreCounts self.old.events.counts events → Stands self.old.events.session sents
+            → SaysOn (number_next events) side (message_view spoken.message) (phase sents) self.old.said self.new.said) }
+    {
+        let noted = self.note(side, &spoken);
+        drop(spoken);
+        noted?;
+        self.events.counts.add(who_of(side));
+        Ok(Heard::Kept)
+    }
+
+    /// Notes a message that is kept.
+    fn note(&mut self, side: Side, spoken: &Spoken) -> Result<(), Memory>
+        ensures same { (self.new.events ≡ self.old.events) × (self.new.broken ≡ self.old.broken) }
+        ensures noted { OnOk result ((enc : Encoding) (kind : SyncKind)
+            → AreAfter None (call_of enc kind (act_view spoken.now.act)) self.old.notes.map.entries self.new.notes.map.entries) }
+        ensures marked { OnOk result ((events : List Event) → AreCounts self.old.events.counts events → (enc : Encoding) (kind : SyncKind)
+            → DoneBy (number_next events) (call_of enc kind (act_view spoken.now.act)) self.old.marks.map.entries self.new.marks.map.entries) }
+        ensures said { OnOk result ((events : List Event) (sents : List Sent) → AreCounts self.old.events.counts events → Stands self.old.events.session sents
+            → SaysOn (number_next events) side (message_view spoken.now.message) (phase sents) self.old.said self.new.said) }
+    {
+        let number = number_next(&self.events.counts);
+        let phase = self.events.session.phase();
+        note_kept_act(&mut self.notes, &spoken.act)?;
+        self.marks.keep_act(number, &spoken.act)?;
+        self.said.keep(number, side, &spoken.message, phase)
+    }
+
+    /// Takes over a snapshot that is kept, as it was answered.
+    fn keep_snapshot(&mut self, uri: &str, version: i32, answer: Match) -> Result<Heard, Memory>
+        ensures kept { IfOk result (λ heard. heard ≡ Heard.Kept) }
+        ensures terms { self.new.events.docs.terms ≡ self.old.events.docs.terms }
+        ensures notes { self.new.notes ≡ self.old.notes }
+        ensures said { self.new.said ≡ self.old.said }
+        ensures counted { OnOk result (Counted self.old self.new Who.Snapshot None false) }
+        ensures marked { OnOk result ((events : List Event) → AreCounts self.old.events.counts events
+            → ShownBy (number_next events) uri.now version answer self.old.marks.map.entries self.new.marks.map.entries) }
+    {
+        let number = number_next(&self.events.counts);
+        self.marks.keep_snapshot(number, uri, version, answer)?;
+        self.events.counts.add(Who::Snapshot);
+        Ok(Heard::Kept)
+    }
+
+    /// Passes over a message that offends by this rule.
+    fn refuse_message(
+        &mut self,
+        side: Side,
+        rule: u16,
+        spoken: Spoken,
+    ) -> Result<Heard, Memory>
+        ensures terms { self.new.events.docs.terms ≡ self.old.events.docs.terms }
+        ensures passes { IfOk result (PassesOver self.old self.new (spec.who_of side) rule (asks_of side (message_view spoken.message))
+            (λ enc kind. call_of enc kind (act_view spoken.act)) (λ what. what ≡ Offending.Message side spoken)) }
+    {
+        let asks = asks_handshake(side, &spoken.message);
+        let on_lost = is_on_lost(&self.notes, &spoken.act);
+        let offence = self.refuse(rule, who_of(side), asks, on_lost);
+        note_refused_act(&mut self.notes, rule, &spoken.act)?;
+        Ok(Heard::Offence(Found {
+            offence,
+            offending: Offending::Message { side, spoken },
+        }))
+    }
+
+    /// Passes over a content that breaks this rule.
+    fn refuse_content(
+        &mut self,
+        alloc: Global,
+        side: Side,
+        rule: u16,
+        content: &[u8],
+    ) -> Result<Heard, Memory>
+        ensures terms { self.new.events.docs.terms ≡ self.old.events.docs.terms }
+        ensures passes { IfOk result (λ heard. (asks : Bool) × Asks (placed.content side content.now) asks
+            × PassesOver self.old self.new (spec.who_of side) rule asks (λ enc kind. None) (IsUnread side content.now) heard) }
+    {
+        let asks = asks_again(alloc, side, content)?;
+        let content = Vec::from_slice(alloc, content)?;
+        let offence = self.refuse(rule, who_of(side), asks, false);
+        Ok(Heard::Offence(Found {
+            offence,
+            offending: Offending::Content { side, content },
+        }))
+    }
+
+    /// Passes over a snapshot that offends by this rule.
+    fn refuse_snapshot(
+        &mut self,
+        rule: u16,
+        version: i32,
+        uri: String,
+        text: String,
+    ) -> Result<Heard, Memory>
+        ensures terms { self.new.events.docs.terms ≡ self.old.events.docs.terms }
+        ensures passes { IfOk result (PassesOver self.old self.new Who.Snapshot rule false
+            (λ enc kind. Some (shows (string_bytes uri) version (chars (string_bytes text)))) (λ what. what ≡ Offending.Snapshot version uri text)) }
+    {
+        let on_lost = self.notes.get(uri.as_str()).lost;
+        let offence = self.refuse(rule, Who::Snapshot, false, on_lost);
+        note_refused(&mut self.notes, rule, uri.as_str(), false)?;
+        Ok(Heard::Offence(Found {
+            offence,
+            offending: Offending::Snapshot { version, uri, text },
+        }))
+    }
+
+    /// Counts an event that offends by this rule, and gives its offence.
+    fn refuse(&mut self, rule: u16, by: Who, asks: bool, on_lost: bool) -> Offence
+        ensures counted { Counted self.old self.new by (Some rule) asks }
+        ensures notes { self.new.notes ≡ self.old.notes }
+        ensures marks { self.new.marks ≡ self.old.marks }
+        ensures said { self.new.said ≡ self.old.said }
+        ensures offence { (before : List Noted) → Walks self.old before
+            → offence_view result ≡ given_offence (offence_of self.old.events.docs.terms before by rule on_lost) }
+    {
+        let follows = self.follows(rule, on_lost);
+        let offence = Offence::next(&self.events.counts, rule, by, follows);
+        self.broken = self.is_broken_by(asks, rule);
+        self.events.counts.add(by);
+        offence
+    }
+
+    /// Whether an offence by this rule follows from an earlier one, where its event speaks of a lost
+    /// document or doesn't.
+    fn follows(&self, rule: u16, on_lost: bool) -> bool
+        ensures { (before : List Noted) → Walks self.now before
+            → result ≡ (wants_handshake rule && is_handshake_lost self.now.events.docs.terms before || wants_text rule && on_lost) }
+    {
+        if wants_handshake(rule) && self.is_handshake_lost() {
+            return true;
+        }
+        wants_text(rule) && on_lost
+    }
+
+    /// Whether an event of the handshake was refused, and no answer has settled it.
+    fn is_handshake_lost(&self) -> bool
+        ensures { (before : List Noted) → Walks self.now before
+            → result ≡ is_handshake_lost self.now.events.docs.terms before }
+    {
+        self.broken && !self.events.session.is_done()
+    }
+
+    /// Whether an event of the handshake was refused, also with one that offends by this rule.
+    fn is_broken_by(&self, asks: bool, rule: u16) -> bool
+        ensures { result ≡ (self.now.broken || breaks_handshake asks rule) }
+    {
+        self.broken || breaks_handshake(asks, rule)
+    }
+}
+
+/// The number of the event that comes next, from 1.
+fn number_next(counts: &Counts) -> u64
+    ensures { (events : List Event) → AreCounts counts.now events → result ≡ number_next events }
+{
+    counts.all.saturating_add(1)
+}
