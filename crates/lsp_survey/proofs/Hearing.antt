@@ -128,7 +128,7 @@ module _ (old mid new : Walk) (notes : List Noted) (side : Side) (bytes : List �
       let notes_before = subst (λ (m : SessionNotes). AreNotes terms m events) (sym said_are) walks.said in
       let more : kept ++ message sent ∷ [] ≡ kept_of terms (events ++ message sent ∷ []) = sym (kept-push terms events (message sent) hears.clean) in
       let tells : SaysOn (number_next events) side said (phase (sent_in (kept_of terms (events ++ message sent ∷ [])))) mid.said new.said =
-          subst (λ (es : List Event). SaysOn (number_next events) side said (phase (sent_in es)) mid.said new.said) more (says events (sent_in (kept ++ message sent ∷ [])) are_counts hears.holds.sent) in
+      subst (λ (es : List Event). SaysOn (number_next events) side said (phase (sent_in es)) mid.said new.said) more (says events (sent_in (kept ++ message sent ∷ [])) are_counts hears.holds.sent) in
       let n : Noted = record { event = message sent; asks = asks_of side said } in
       kept_on (content side bytes) old mid new notes n (who_of side) 0 (λ e k. call_of e k act) enc kind (λ o. Unit {0}) given walks counts same broken_is same_terms hears.holds
       (hears.reads, asks_said side bytes sent said hears.reads hears.says) (ap who_of hears.reads.by) hears.clean (ap (call_of enc kind) hears.means) is_kept counted (noted enc kind)

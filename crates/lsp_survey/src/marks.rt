@@ -110,13 +110,7 @@ impl Marks {
 }
 
 /// Marks that the event of this number touches a document, at this version.
-fn touch(
-    map: &mut MarkMap,
-    uri: &str,
-    touch: Touch,
-    event: u64,
-    version: i32,
-) -> Result<(), Memory>
+fn touch(map: &mut MarkMap, uri: &str, touch: Touch, event: u64, version: i32) -> Result<(), Memory>
     ensures { OnOk result (StepsOn uri.now (touches touch event version) map.old.entries map.new.entries) }
 {
     let alloc = *map.allocator();

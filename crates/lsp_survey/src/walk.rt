@@ -173,12 +173,7 @@ impl Walk {
     }
 
     /// Passes over a message that offends by this rule.
-    fn refuse_message(
-        &mut self,
-        side: Side,
-        rule: u16,
-        spoken: Spoken,
-    ) -> Result<Heard, Memory>
+    fn refuse_message(&mut self, side: Side, rule: u16, spoken: Spoken) -> Result<Heard, Memory>
         ensures terms { self.new.events.docs.terms ≡ self.old.events.docs.terms }
         ensures passes { IfOk result (PassesOver self.old self.new (spec.who_of side) rule (asks_of side (message_view spoken.message))
             (λ enc kind. call_of enc kind (act_view spoken.act)) (λ what. what ≡ Offending.Message side spoken)) }
