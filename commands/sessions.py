@@ -63,6 +63,17 @@ WHOLE_LINES = b"""1 editor request 1 "initialize"
 8 editor notification "exit"
 """
 
+# The same with the number among those of the side, and of a message on a document which and which version.
+WHOLE_LONG = b"""1 editor request 1 "initialize" 1
+2 server result 1 1
+3 editor notification "initialized" 2
+4 editor notification "textDocument/didOpen" 3 "file:///a" 1
+5 snapshot 1 2 "file:///a" 1
+6 editor request 2 "shutdown" 4
+7 server result 2 2
+8 editor notification "exit" 5
+"""
+
 # What each of its events holds.
 WHOLE_CONTENTS = [content(INITIALIZE), content(ANSWER), content(INITIALIZED), content(OPEN), b"ab"]
 WHOLE_CONTENTS += [content(SHUTDOWN), content(STOPPED), content(EXIT)]

@@ -170,6 +170,6 @@ def case(seed):
         data = rng.choice(LOGS) if rng.random() < 0.05 else generated_log(rng)
         text = ["text", str(1 + rng.randrange(12)), rng.choice(URIS[:2])]
         event = ["event", str(1 + rng.randrange(12))]
-        judged = [["check"], ["check"], COMPLETE, ["show"], ["upgrade"], ["upgrade"], text]
+        judged = [["check"], ["check"], COMPLETE, ["show"], ["show", "--long"], ["upgrade"], ["upgrade"], text]
         words = rng.choice([*judged, ["normal"], event])
     return words, damaged(rng, data)

@@ -1,6 +1,7 @@
 -- What is known of an input and an output.
-use Rattle.std.specs.Prelude.{ℕ, List}
+use Rattle.std.specs.Prelude.{ℕ, List, Option}
 use Rattle.std.specs.Io.Buffered.{writer_buffer}
+use Rattle.std.specs.declared.io.Error.{Error}
 use Rattle.lsp_command.specs.Beginnings.{kept}
 use Rattle.lsp_command.specs.declared.inlet.Inlet.{Inlet}
 use Rattle.lsp_command.specs.declared.outlet.Outlet.{Outlet}
@@ -12,3 +13,11 @@ unwritten o = writer_buffer o.writer
 -- the first bytes that an input gave
 abbrev pub first_bytes : {R : Type 0} → Inlet R → List ℕ
 first_bytes i = kept i.beginning
+
+-- the error by which an input last failed
+abbrev pub input_error : {R : Type 0} → Inlet R → Option Error
+input_error i = i.tally.cause
+
+-- the error by which an output last failed
+abbrev pub output_error : {W : Type 0} → Outlet W → Option Error
+output_error o = o.tally.cause

@@ -1,5 +1,5 @@
 -- What each task answers and writes: what the run of its name does with its arguments.
-use Rattle.std.specs.Prelude.{◌≡◌, ◌⊎◌, ℕ, List, Result, Ok, Err, IfOk, OnOk, OnErr, IsOk}
+use Rattle.std.specs.Prelude.{◌≡◌, ◌⊎◌, ℕ, List, Result, Ok, Err, IfOk, OnErr, IsOk}
 use Rattle.std.specs.Io.KnownBytes.{IsAtEnd}
 use lib.Utf8.{encodes}
 use Rattle.std.specs.Int.NonZero.{non_zero_u64_get}
@@ -18,6 +18,7 @@ use Rattle.lsp_streams.specs.StreamRun.{IsRun, BeginsRun}
 use Rattle.lsp_verdict.specs.TextAfter.{AnswersText}
 use Rattle.lsp_verdict.specs.Upgraded.{IsUpgraded, BeginsUpgraded}
 use Rattle.lsp_verdict.specs.declared.completeness.Completeness.{Completeness}
+use Rattle.lsp_verdict.specs.declared.lines.Lines.{Lines}
 use Rattle.lsp_verdict.specs.declared.outcome.Mode.{Mode}
 use Rattle.lsp_verdict.specs.declared.outcome.Outcome.{Outcome}
 use Rattle.lsp_verdict.specs.declared.outcome.Outcome.TheVariants as outcomes
@@ -58,13 +59,13 @@ pub record Checked (completeness : Completeness) (limits : Bounds) (p : Ports) (
   pub memory : result ≡ Err faults.Memory → IsSilent p
   pub write_fault : result ≡ Err faults.Write → IsReportCut completeness limits p.source_before p.source_after p.sink_before p.sink_after
 
--- `show`: the verdict on the log read, the lines of the events before its place, and its report
-pub record Showed (limits : Bounds) (p : Ports) (result : Result Outcome RunFault) : Type 0 where
+-- `show`: the verdict on the log read, the lines of the events before its place, short or long, and its report
+pub record Showed (lines : Lines) (limits : Bounds) (p : Ports) (result : Result Outcome RunFault) : Type 0 where
   pub judged : IfOk result (λ outcome. (v : Verdict) × (outcome ≡ outcomes.Judged v))
   pub shown : (v : Verdict) → result ≡ Ok (outcomes.Judged v)
-      → (out : List ℕ) × Wrote p out × Read limits p (λ log. IsShown limits log (verdict_view v) out)
+      → (out : List ℕ) × Wrote p out × Read limits p (λ log. IsShown lines limits log (verdict_view v) out)
   pub ended : (s : Summary) → result ≡ Ok (outcomes.Judged (verdicts.Yes s)) → IsAtEnd p.source_after.bytes
-  pub fault : OnErr result ((out : List ℕ) × Wrote p out × Read limits p (λ log. BeginsShown limits log out))
+  pub fault : OnErr result ((out : List ℕ) × Wrote p out × Read limits p (λ log. BeginsShown lines limits log out))
 
 -- `text`: the text that is held for the URI after the editor's message of the number, and nothing else
 pub record ToldText (limits : Bounds) (p : Ports) (number : ℕ) (uri : List ℕ) (result : Result Outcome RunFault) : Type 0 where
@@ -111,7 +112,7 @@ pub record Framed (limits : Bounds) (p : Ports) (mode : Mode) (result : Result O
 -- **each task is the run of its name**, with its arguments, on this input and into this output
 abbrev pub Answers : Bounds → Task → Ports → Result Outcome RunFault → Type 0
 Answers limits (Check completeness) p result = Checked completeness limits p result
-Answers limits Show p result = Showed limits p result
+Answers limits (Show lines) p result = Showed lines limits p result
 Answers limits (Text number uri) p result = ToldText limits p (non_zero_u64_get number) uri.now result
 Answers limits (Event number) p result = GaveEvent limits p (non_zero_u64_get number) result
 Answers limits Normal p result = Normalized limits p result

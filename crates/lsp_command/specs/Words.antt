@@ -1,5 +1,5 @@
 -- What the words of a command line ask for, read off what the parser found in them.
-use Rattle.std.specs.Prelude.{◌≡◌, ℕ, ◌==◌, Bool, true, false, List, Option, Some, None, IfSome, codes, option_and_then, option_map, if◌then◌else◌}
+use Rattle.std.specs.Prelude.{◌≡◌, ℕ, Bool, true, false, List, Option, Some, None, IfSome, codes, option_and_then, option_map, if◌then◌else◌}
 use Rattle.std.specs.Str.{bytes_eq}
 use Rattle.std.specs.Str.Parse.{digits_value, without_leading_plus}
 use Rattle.std.specs.Int.NonZero.{non_zero_u64_get}
@@ -7,6 +7,8 @@ use Rattle.clap.specs.Matches.{first_value, one_text}
 use Rattle.clap.specs.declared.parser.matches.Found.{Found}
 use Rattle.lsp_verdict.specs.declared.completeness.Completeness.{Completeness}
 use Rattle.lsp_verdict.specs.declared.completeness.Completeness.TheVariants.{Ignored, Required}
+use Rattle.lsp_verdict.specs.declared.lines.Lines.{Lines}
+use Rattle.lsp_verdict.specs.declared.lines.Lines.TheVariants.{Short, Long}
 use Rattle.lsp_verdict.specs.declared.outcome.Mode.{Mode}
 use Rattle.lsp_verdict.specs.declared.outcome.Mode.TheVariants.{Lengths, Canonical, Kinds}
 use Rattle.lsp_command.specs.declared.task.Request.{Request}
@@ -42,6 +44,14 @@ pub record IsFlag (value : Option (List ℕ)) (set : Bool) : Type 0 where
 abbrev pub AsksCheck : Found → Option Task → Type 0
 AsksCheck found asked = (set : Bool) × IsFlag (one_text found (codes "complete")) set × (asked ≡ Some (tasks.Check (completeness_of set)))
 
+abbrev pub lines_of : Bool → Lines
+lines_of true = Long
+lines_of false = Short
+
+-- the events of a log by short lines, or by long ones where the option for these is set
+abbrev pub AsksShow : Found → Option Task → Type 0
+AsksShow found asked = (set : Bool) × IsFlag (one_text found (codes "long")) set × (asked ≡ Some (tasks.Show (lines_of set)))
+
 -- the words give this number
 abbrev pub GivesNumber : Found → ℕ → Type 0
 GivesNumber found number = (digits : List ℕ) × (one_text found (codes "number") ≡ Some digits)
@@ -51,7 +61,7 @@ GivesNumber found number = (digits : List ℕ) × (one_text found (codes "number
 abbrev pub AsksText : Found → Task → Type 0
 AsksText found (tasks.Text number uri) = (first_value found (codes "uri") ≡ Some uri.now) × (GivesNumber found (non_zero_u64_get number))
 AsksText found (tasks.Check completeness) = ⊥
-AsksText found tasks.Show = ⊥
+AsksText found (tasks.Show lines) = ⊥
 AsksText found (tasks.Event number) = ⊥
 AsksText found tasks.Normal = ⊥
 AsksText found tasks.Upgrade = ⊥
@@ -61,7 +71,7 @@ AsksText found (tasks.Frames mode) = ⊥
 abbrev pub AsksEvent : Found → Task → Type 0
 AsksEvent found (tasks.Event number) = GivesNumber found (non_zero_u64_get number)
 AsksEvent found (tasks.Check completeness) = ⊥
-AsksEvent found tasks.Show = ⊥
+AsksEvent found (tasks.Show lines) = ⊥
 AsksEvent found (tasks.Text number uri) = ⊥
 AsksEvent found tasks.Normal = ⊥
 AsksEvent found tasks.Upgrade = ⊥
@@ -70,7 +80,7 @@ AsksEvent found (tasks.Frames mode) = ⊥
 -- **what the command of a name asks for**, with what was found of its arguments
 pub record HasTask (name : List ℕ) (found : Found) (asked : Option Task) : Type 0 where
   pub check : name ≡ codes "check" → AsksCheck found asked
-  pub show : name ≡ codes "show" → asked ≡ Some tasks.Show
+  pub show : name ≡ codes "show" → AsksShow found asked
   pub text : name ≡ codes "text" → IfSome asked (AsksText found)
   pub event : name ≡ codes "event" → IfSome asked (AsksEvent found)
   pub normal : name ≡ codes "normal" → asked ≡ Some tasks.Normal

@@ -1,5 +1,6 @@
 //! What a run reads: a file or standard input.
 use crate::beginning::Beginning;
+use crate::tally::Tally;
 use lsp_frame::{Failed, Source};
 use std::alloc::{AllocError, Global};
 use std::io;
@@ -14,16 +15,14 @@ const GATHERED: usize = 65_536;
 pub struct Inlet<R> {
     reader: BufReader<R>,
     beginning: Beginning,
-    given: u64,
-    failures: u64,
-    cause: Option<io::Error>,
+    tally: Tally,
 }
 
 impl<R: Read + Drop> Inlet<R> {
-    ghost use Rattle.std.specs.Prelude.{◌≡◌, [], IfOk};
+    ghost use Rattle.std.specs.Prelude.{◌≡◌, ◌<◌, ◌↔◌, [], IfOk, IsSome};
     ghost use Rattle.std.specs.Io.KnownBytes.{Consumes};
     ghost use Rattle.lsp_command.specs.Beginnings.{kept};
-    ghost use Rattle.lsp_command.specs.Ports.{first_bytes};
+    ghost use Rattle.lsp_command.specs.Ports.{first_bytes, input_error};
 
     /// A source that has not failed and gave nothing yet.
     pub fn new(alloc: Global, reader: R) -> Result<Inlet<R>, AllocError>
@@ -34,9 +33,7 @@ impl<R: Read + Drop> Inlet<R> {
         Ok(Inlet {
             reader: BufReader::with_capacity(alloc, GATHERED, reader).map_err(|_| AllocError)?,
             beginning: Beginning::new(),
-            given: 0,
-            failures: 0,
-            cause: None,
+            tally: Tally::new(),
         })
     }
 
@@ -48,30 +45,42 @@ impl<R: Read + Drop> Inlet<R> {
     }
 
     /// Why the last call failed that did.
-    pub fn cause(&self) -> Option<io::Error> {
-        self.cause
+    pub fn cause(&self) -> Option<io::Error>
+        ensures value { result ≡ input_error self.now }
+        ensures failed { IsSome result ↔ (0 < (⟦<Inlet<R> as Source>⟧.told self.now).failures) }
+    {
+        self.tally.cause()
     }
 }
 
 impl<R: Read> Source for Inlet<R> {
+    ghost use Rattle.std.specs.Prelude.{◌≡◌, ◌<◌, ◌++◌, IfOk, OnErr, length, take};
+    ghost use Rattle.std.specs.Io.{ReadsAtMost};
+    ghost use Rattle.std.specs.Io.KnownBytes.{IsAtEnd};
+    ghost use Rattle.lsp_frame.specs.Told.{CountsFailure, Gave, KeepsBytes};
+    ghost use Rattle.lsp_command.specs.Ports.{first_bytes};
+
     ghost told = { λ s. record {
       bytes = ⟦<BufReader<R> as Read>⟧.remaining s.reader;
-      count = s.given;
-      failures = s.failures;
+      count = s.tally.bytes;
+      failures = s.tally.failures;
     } };
 
-    fn pull(&mut self, buffer: &mut [u8]) -> Result<usize, Failed> {
-        match self.reader.read(buffer) {
-            Ok(count) => {
-                self.beginning.keep(&buffer[..count]);
-                self.given = self.given.saturating_add(count as u64);
-                Ok(count)
-            }
-            Err(error) => {
-                self.cause = Some(error);
-                self.failures = self.failures.saturating_add(1);
-                Err(Failed)
-            }
-        }
+    /// Fills the front of the buffer as the trait says. It fails where the reader does, which is asked
+    /// only where nothing is left of what was read ahead.
+    fn pull(&mut self, buffer: &mut [u8]) -> Result<usize, Failed>
+        ensures count { ReadsAtMost result buffer.new }
+        ensures gave { IfOk result (λ n. Gave (⟦<Inlet<R> as Source>⟧.told self.old) (⟦<Inlet<R> as Source>⟧.told self.new) (take n buffer.new)) }
+        ensures end { IfOk result (λ n. n ≡ 0 → 0 < length buffer.new → IsAtEnd (⟦<Inlet<R> as Source>⟧.told self.new).bytes) }
+        ensures err { OnErr result (KeepsBytes (⟦<Inlet<R> as Source>⟧.told self.old) (⟦<Inlet<R> as Source>⟧.told self.new)) }
+        ensures failures { CountsFailure (⟦<Inlet<R> as Source>⟧.told self.old).failures (⟦<Inlet<R> as Source>⟧.told self.new).failures result }
+        // The first bytes are kept.
+        ensures first { IfOk result (λ n. first_bytes self.new ≡ take 32 (first_bytes self.old ++ take n buffer.new)) }
+        ensures same_first { OnErr result (first_bytes self.new ≡ first_bytes self.old) }
+    {
+        let answer = self.reader.read(buffer);
+        let count = self.tally.count(answer)?;
+        self.beginning.keep(&buffer[..count]);
+        Ok(count)
     }
 }

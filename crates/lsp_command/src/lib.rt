@@ -14,6 +14,7 @@ mod outlet;
 mod remark;
 mod run;
 mod status;
+mod tally;
 mod task;
 mod words;
 

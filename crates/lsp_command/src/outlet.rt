@@ -1,4 +1,9 @@
 //! Where a run writes: standard output.
+ghost use Rattle.std.specs.Prelude.{◌≡◌, ◌<◌, ◌⊎◌, Ok, Err, IfOk, IfErr, IsErrAnd};
+ghost use Rattle.std.specs.IoError.{error_kind};
+ghost use Rattle.std.specs.declared.io.ErrorKind.TheVariants.{WriteZero};
+
+use crate::tally::Tally;
 use lsp_frame::{Failed, Sink};
 use std::alloc::{AllocError, Global};
 use std::io;
@@ -12,16 +17,14 @@ const GATHERED: usize = 65_536;
 #[derive(Drop)]
 pub struct Outlet<W: Write + Drop> {
     writer: BufWriter<W>,
-    taken: u64,
-    failures: u64,
-    cause: Option<io::Error>,
+    tally: Tally,
 }
 
 impl<W: Write + Drop> Outlet<W> {
-    ghost use Rattle.std.specs.Prelude.{◌≡◌, [], IfOk, OnOk};
+    ghost use Rattle.std.specs.Prelude.{◌≡◌, ◌<◌, ◌↔◌, [], IfOk, OnOk, IsSome};
     ghost use Rattle.std.specs.Io.KnownBytes.{Appends};
-    ghost use Rattle.lsp_frame.specs.Told.{CountsFailure, KeepsBytes, after_failure};
-    ghost use Rattle.lsp_command.specs.Ports.{unwritten};
+    ghost use Rattle.lsp_frame.specs.Told.{CountsFailure, KeepsBytes};
+    ghost use Rattle.lsp_command.specs.Ports.{output_error, unwritten};
 
     /// A sink that has not failed, and holds no bytes back.
     pub fn new(alloc: Global, writer: W) -> Result<Outlet<W>, AllocError>
@@ -31,59 +34,57 @@ impl<W: Write + Drop> Outlet<W> {
     {
         Ok(Outlet {
             writer: BufWriter::with_capacity(alloc, GATHERED, writer).map_err(|_| AllocError)?,
-            taken: 0,
-            failures: 0,
-            cause: None,
+            tally: Tally::new(),
         })
     }
 
     /// Writes what was gathered.
     ///
     /// # Errors
-    /// `Failed` where a write failed; what was not written may be lost.
+    /// `Failed` where the writer failed, or took none of some bytes. What it did not take stays gathered,
+    /// and is written by the next flush.
     pub fn flush(&mut self) -> Result<(), Failed>
         ensures whole { OnOk result (unwritten self.new ≡ []) }
         ensures bytes { KeepsBytes (⟦<Outlet<W> as Sink>⟧.told self.old) (⟦<Outlet<W> as Sink>⟧.told self.new) }
         ensures failures { CountsFailure (⟦<Outlet<W> as Sink>⟧.told self.old).failures (⟦<Outlet<W> as Sink>⟧.told self.new).failures result }
     {
-        match self.writer.flush() {
-            Ok(()) => Ok(()),
-            Err(error) => Err(self.failed(error)),
-        }
+        let answer = self.writer.flush();
+        self.tally.heed(answer)
     }
 
     /// Why the last call failed that did.
-    pub fn cause(&self) -> Option<io::Error> {
-        self.cause
-    }
-
-    /// Counts a failure, and keeps its cause.
-    fn failed(&mut self, error: io::Error) -> Failed
-        ensures writer { self.new.writer ≡ self.old.writer }
-        ensures taken { self.new.taken ≡ self.old.taken }
-        ensures failures { self.new.failures ≡ after_failure self.old.failures }
+    pub fn cause(&self) -> Option<io::Error>
+        ensures value { result ≡ output_error self.now }
+        ensures failed { IsSome result ↔ (0 < (⟦<Outlet<W> as Sink>⟧.told self.now).failures) }
     {
-        self.cause = Some(error);
-        self.failures = self.failures.saturating_add(1);
-        Failed
+        self.tally.cause()
+    }
+}
+
+/// The answer of a writer that answered so to this many bytes, where taking none of some bytes is an
+/// error.
+fn taken(answer: io::Result<usize>, len: usize) -> io::Result<usize>
+    ensures some { IfOk answer (λ n. (0 < n) ⊎ (len ≡ 0) → result ≡ Ok n) }
+    ensures none { IfOk answer (λ n. n ≡ 0 → 0 < len → IsErrAnd result (λ error. error_kind error ≡ WriteZero)) }
+    ensures err { IfErr answer (λ error. result ≡ Err error) }
+{
+    match answer {
+        Ok(0) if len > 0 => Err(io::Error::from(io::ErrorKind::WriteZero)),
+        _ => answer,
     }
 }
 
 impl<W: Write + Drop> Sink for Outlet<W> {
     ghost told = { λ s. record {
       bytes = ⟦<BufWriter<W> as Write>⟧.contents s.writer;
-      count = s.taken;
-      failures = s.failures;
+      count = s.tally.bytes;
+      failures = s.tally.failures;
     } };
 
+    /// Takes bytes as the trait says. It fails where the writer does, or takes none of some bytes; the
+    /// writer is called only where the bytes don't fit behind those that were gathered.
     fn put(&mut self, bytes: &[u8]) -> Result<usize, Failed> {
-        match self.writer.write(bytes) {
-            Ok(count) if count > 0 || bytes.is_empty() => {
-                self.taken = self.taken.saturating_add(count as u64);
-                Ok(count)
-            }
-            Ok(_) => Err(self.failed(io::Error::from(io::ErrorKind::WriteZero))),
-            Err(error) => Err(self.failed(error)),
-        }
+        let answer = taken(self.writer.write(bytes), bytes.len());
+        self.tally.count(answer)
     }
 }

@@ -1,7 +1,8 @@
 //! Does what the words ask for.
-ghost use Rattle.std.specs.Prelude.{◌≡◌, [], OnOk};
+ghost use Rattle.std.specs.Prelude.{◌≡◌, [], Err, OnOk, IsSome};
 ghost use Rattle.lsp_verdict.specs.RunIo.{source_failures, sink_failures};
-ghost use Rattle.lsp_command.specs.Ports.{unwritten};
+ghost use Rattle.lsp_verdict.specs.declared.outcome.RunFault.TheVariants as faults;
+ghost use Rattle.lsp_command.specs.Ports.{input_error, output_error, unwritten};
 ghost use Rattle.lsp_command.specs.Tasks.{Answers, RanThrough};
 
 use crate::inlet::Inlet;
@@ -35,7 +36,7 @@ pub fn run_task<R: Source, W: Sink>(
     match task {
         Task::Check(Completeness::Ignored) => run_check(alloc, source, sink, limits),
         Task::Check(Completeness::Required) => run_check_complete(alloc, source, sink, limits),
-        Task::Show => run_show(alloc, source, sink, limits),
+        Task::Show(lines) => run_show(alloc, source, sink, limits, lines),
         Task::Text { number, uri } => run_text(alloc, source, sink, limits, number.get(), uri),
         Task::Event { number } => run_event(alloc, source, sink, limits, number.get()),
         Task::Normal => run_normal(alloc, source, sink, limits),
@@ -60,6 +61,9 @@ pub fn run_through<R: Read + Drop, W: Write + Drop>(
       sink_after = ⟦<Outlet<W> as Sink>⟧.told outlet.new;
     }) result }
     ensures flushed { OnOk result (unwritten outlet.new ≡ []) }
+    // A fault of the input or the output has its error.
+    ensures read_error { result ≡ Err faults.Read → IsSome (input_error inlet.new) }
+    ensures write_error { result ≡ Err faults.Write → IsSome (output_error outlet.new) }
 {
     let ended = run_task(alloc, task, inlet, outlet, limits);
     match outlet.flush() {

@@ -1,5 +1,5 @@
 //! What a command line can ask for.
-use lsp_judge::{Completeness, Mode};
+use lsp_judge::{Completeness, Lines, Mode};
 use std::num::NonZeroU64;
 
 /// What to do with what is read.
@@ -7,8 +7,8 @@ use std::num::NonZeroU64;
 pub enum Task<'a> {
     /// To judge a recorded session, which has to be complete or not.
     Check(Completeness),
-    /// To list the events of a recorded session, and to judge it.
-    Show,
+    /// To list the events of a recorded session by short or long lines, and to judge it.
+    Show(Lines),
     /// To write the text of the document with this URI, as it is after the editor's message of this
     /// number.
     Text { number: NonZeroU64, uri: &'a str },

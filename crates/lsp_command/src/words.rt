@@ -2,12 +2,12 @@
 ghost use Rattle.std.specs.Prelude.{◌≡◌, ℕ, List, IfOk, IfSome, Some, codes, option_map};
 ghost use Rattle.clap.specs.Matches.{first_value, found_of};
 ghost use Rattle.clap.specs.declared.parser.matches.Found.{Found};
-ghost use Rattle.lsp_command.specs.Words.{Asks, AsksCheck, AsksEvent, AsksText, completeness_of, file_of, mode_of};
+ghost use Rattle.lsp_command.specs.Words.{Asks, AsksCheck, AsksEvent, AsksShow, AsksText, completeness_of, file_of, lines_of, mode_of};
 
 use crate::task::{Request, Task};
 use clap::error::ErrorKind;
 use clap::{Arg, ArgAction, ArgMatches, Command, Error, value_parser};
-use lsp_judge::{Completeness, Mode};
+use lsp_judge::{Completeness, Lines, Mode};
 use std::alloc::{AllocError, Global};
 use std::num::NonZeroU64;
 
@@ -57,8 +57,13 @@ fn check<'a>(alloc: Global) -> Result<Command<'a>, AllocError> {
 }
 
 fn show<'a>(alloc: Global) -> Result<Command<'a>, AllocError> {
+    let long = Arg::new(alloc, "long")
+        .long("long")
+        .action(ArgAction::SetTrue)
+        .help("Adds the number among those of the side, and of which document a message speaks");
     Command::new(alloc, "show")
         .about("Lists the events of a recorded session, and reports the verdict")
+        .arg(long)?
         .arg(log_file(alloc))
 }
 
@@ -157,10 +162,17 @@ fn completeness_of(set: bool) -> Completeness
     }
 }
 
+/// What the lines of events tell, where the option for long ones is set or not.
+fn lines_of(set: bool) -> Lines
+    ensures { result ≡ lines_of set }
+{
+    if set { Lines::Long } else { Lines::Short }
+}
+
 /// The task of the command of this name, with its arguments.
 fn task_of<'a>(name: &str, arguments: &ArgMatches<'a>) -> Option<Task<'a>>
     ensures check { name.now ≡ codes "check" → AsksCheck (found_of arguments.now) result }
-    ensures show { name.now ≡ codes "show" → result ≡ Some Task.Show }
+    ensures show { name.now ≡ codes "show" → AsksShow (found_of arguments.now) result }
     ensures text { name.now ≡ codes "text" → IfSome result (AsksText (found_of arguments.now)) }
     ensures event { name.now ≡ codes "event" → IfSome result (AsksEvent (found_of arguments.now)) }
     ensures normal { name.now ≡ codes "normal" → result ≡ Some Task.Normal }
@@ -170,7 +182,7 @@ fn task_of<'a>(name: &str, arguments: &ArgMatches<'a>) -> Option<Task<'a>>
 {
     match name {
         "check" => Some(Task::Check(completeness_of(arguments.get_flag("complete")))),
-        "show" => Some(Task::Show),
+        "show" => Some(Task::Show(lines_of(arguments.get_flag("long")))),
         "text" => Some(Task::Text {
             number: arguments.get_one::<NonZeroU64>("number")?,
             uri: arguments.get_str("uri")?,

@@ -16,8 +16,13 @@ check -- --complete = Check(Ignored) Some("--complete")
 check --complete --complete = 64
 check --complete=true = 64
 check a b = 64
-show a.log = Show Some("a.log")
+show a.log = Show(Short) Some("a.log")
+show --long = Show(Long) None
+show --long a.log = Show(Long) Some("a.log")
+show a.log --long = Show(Long) Some("a.log")
+show --long --long = 64
 show --complete = 64
+check --long = 64
 text 1 file:///a = Text { number: 1, uri: "file:///a" } None
 text +3 file:///a a.log = Text { number: 3, uri: "file:///a" } Some("a.log")
 text 003 file:///a = Text { number: 3, uri: "file:///a" } None

@@ -3,7 +3,7 @@ use crate::readers::Endless;
 use crate::runs::word_of;
 use lsp_command::{Task, run_task};
 use lsp_judge::{
-    Completeness, Input, Limits, LogCode, Mode, Output, TextAnswer, Verdict, text_after,
+    Completeness, Input, Limits, Lines, LogCode, Mode, Output, TextAnswer, Verdict, text_after,
 };
 use std::alloc::Global;
 use std::num::NonZeroU64;
@@ -116,7 +116,7 @@ fn a_log_without_end_through_each_run(rt: HostRuntime) -> Result<(), Fail> {
         Task::Check(Completeness::Required),
         REPORT,
     );
-    check_snapshots(&rt, alloc, HEAD, Task::Show, shown.as_str());
+    check_snapshots(&rt, alloc, HEAD, Task::Show(Lines::Short), shown.as_str());
     check_snapshots(&rt, alloc, HEAD, Task::Normal, normal.as_str());
     check_snapshots(&rt, alloc, HEAD, Task::Text { number, uri: "a" }, "");
     let number = "372".parse::<NonZeroU64>()?;

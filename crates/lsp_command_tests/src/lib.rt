@@ -18,6 +18,8 @@ mod hostile;
 #[cfg(test)]
 mod logs;
 #[cfg(test)]
+mod ports;
+#[cfg(test)]
 mod readers;
 #[cfg(test)]
 mod runs;

@@ -4,7 +4,9 @@ use crate::faults::check_faults;
 use crate::logs::{Log, split_word};
 use crate::readers::Pieces;
 use lsp_command::{Task, report_apart, run_task};
-use lsp_judge::{Completeness, Input, Limits, Mode, Outcome, Output, RunFault, Verdict};
+use lsp_judge::{
+    Completeness, Input, Limits, Lines, Mode, Outcome, Output, RunFault, Verdict,
+};
 use std::alloc::Global;
 use std::num::NonZeroU64;
 use std::process::Abort;
@@ -127,7 +129,8 @@ fn task_of(word: &str) -> Option<Task<'static>> {
     match word {
         "=" => Some(Task::Check(Completeness::Ignored)),
         "complete" => Some(Task::Check(Completeness::Required)),
-        "show" => Some(Task::Show),
+        "show" => Some(Task::Show(Lines::Short)),
+        "long" => Some(Task::Show(Lines::Long)),
         "normal" => Some(Task::Normal),
         "upgrade" => Some(Task::Upgrade),
         "lengths" => Some(Task::Frames(Mode::Lengths)),

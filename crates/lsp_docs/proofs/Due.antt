@@ -16,9 +16,11 @@ use Rattle.lsp_docs.specs.Documents.{Version, versioned, is_after, is_at, is_bef
 use Rattle.lsp_docs.specs.State.{SameVersions, capped}
 use Rattle.lsp_docs.specs.Stored.{versions_in, is_first_within, rest_of, first_before}
 use Rattle.lsp_docs.specs.Rules.{differs}
+use Rattle.lsp_docs.specs.Others.{is_other, is_other_text, FindsOther, FindsText}
+use Rattle.std.specs.Borrow.{Bor}
 use Rattle.std.proofs.lemmas.Bool.Decides.{nat_tests}
 use Rattle.std.specs.Prelude.{nat_lt}
-use Rattle.std.specs.Str.{bytes_eq}
+use Rattle.std.specs.Str.{bytes_eq, chars}
 use Rattle.std.proofs.lemmas.Bool.Decides.{Decides-int_eq}
 use Rattle.lsp_docs.proofs.Words.{true_or_false, int_is, filter-append, map-append, length-map}
 use Rattle.lsp_docs.proofs.Queues.{rest_of as rest_of_entry, head_is, not_head}
@@ -161,6 +163,22 @@ module _ (n : ℤ) (text : Text) (es : Entries) (h : IsStrictlySortedBy int_cmp 
 
   pub differs-absent : lookup (int_eq n) es ≡ None → false ≡ list_any (differs (versioned n text)) (versions_in es)
   differs-absent at = sym (differs_found n text es h ∙ ap looked at)
+
+module _ (n : ℤ) (text other : Text) (es : Entries) (h : IsStrictlySortedBy int_cmp (keys_of es)) where
+  namely : (t : Text) → is_other (versioned n text) other (versioned n t) ≡ is_other_text text other t
+  namely t = ap (λ b. b && bytes_eq t other) (and_same (int_eq n n) _ (eq_same n))
+
+  away : (v : Version) → int_eq n v.number ≡ false → is_other (versioned n text) other v ≡ false
+  away v e = ap (λ b. b && bytes_eq v.text other) (and_no (int_eq n v.number) _ e)
+
+  pub other-there : (ts : List Text) → lookup (int_eq n) es ≡ Some ts → list_any (is_other_text text other) ts ≡ list_any (is_other (versioned n text) other) (versions_in es)
+  other-there ts at = sym (any_found n (is_other_text text other) (is_other (versioned n text) other) namely away es h ∙ ap (found n (is_other_text text other) (is_other (versioned n text) other) namely away) at)
+
+-- what is found among the texts of a version is found among all snapshots
+pub finds-there : (n : ℤ) (text : Text) (es : Entries) → IsStrictlySortedBy int_cmp (keys_of es) → (ts : List Text) → lookup (int_eq n) es ≡ Some ts → (r : Option (Bor (List ℕ))) → FindsText text ts r
+    → FindsOther (versioned n text) (versions_in es) r
+finds-there n text es h ts at None found = sym (differs-there n text es h ts at) ∙ found
+finds-there n text es h ts at (Some other) found = sym (other-there n text (chars other.now) es h ts at) ∙ found
 
 -- ---- what is reached
 

@@ -17,4 +17,5 @@ pub mod Agreeing
 pub mod Bindings
 pub mod Setters
 pub mod Unmatched
+pub mod Others
 pub mod Sessions

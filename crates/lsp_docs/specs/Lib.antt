@@ -13,3 +13,4 @@ pub mod Stored
 pub mod Answer
 pub mod Binding
 pub mod Laws
+pub mod Others

@@ -10,7 +10,8 @@ ghost use Rattle.lsp_docs.specs.Calls.{Call, opens, changes as changes_by, close
 ghost use Rattle.lsp_docs.specs.Documents.{versioned, held, documents};
 ghost use Rattle.lsp_docs.specs.Kept.{kept};
 ghost use Rattle.lsp_docs.specs.Opened.{or_nothing};
-ghost use Rattle.lsp_docs.specs.Snapshots.{waiting, unmatched};
+ghost use Rattle.lsp_docs.specs.Snapshots.{waiting, unmatched, versions_of};
+ghost use Rattle.lsp_docs.specs.Others.{FindsOther, other_than};
 ghost use Rattle.lsp_docs.specs.Rules.{differs, show_rule, text_rule, call_rule};
 ghost use Rattle.lsp_docs.specs.State.{capped, held_in, kept_in, queue_of, set_in, changed_at, early_rule, IsChanged, with_held, Stands};
 ghost use Rattle.lsp_docs.specs.Fault.{Names, IsRule, Breaks};
@@ -29,7 +30,7 @@ use crate::snapshot::Match;
 use crate::waiting::Waiting;
 use lsp_frame::{Format, Limits};
 use lsp_text::{TextStore, change_all};
-use lsp_types::{Change, Encoding, SyncKind};
+use lsp_types::{Change, Encoding, Memory, SyncKind};
 use std::alloc::Global;
 use std::marker::Model;
 
@@ -125,6 +126,47 @@ impl<S: TextStore> Docs<S> {
             Some(document) => Some(&document.held.store),
             None => None,
         }
+    }
+
+    /// The most bytes of UTF-8 that a text may have.
+    pub fn limit(&self) -> u64
+        ensures { result ≡ self.now.terms.limit }
+    {
+        self.limit
+    }
+
+    /// The numbers of the versions that are kept of a URI before the held one, the oldest first; none where it is not
+    /// open.
+    pub fn kept_versions(&self, uri: &str) -> Result<Vec<i32>, Memory>
+        ensures { IfOk result (λ numbers. (calls : List Call) → Stands self.now calls
+            → numbers.items ≡ map (λ v. v.number) (kept self.now.terms uri.now calls)) }
+    {
+        let alloc = self.documents.alloc();
+        match self.get(uri) {
+            Some(document) => Ok(document.kept.numbers(alloc)?),
+            None => Ok(Vec::new(alloc)),
+        }
+    }
+
+    /// The text that the server holds of a URI at this version, or that is kept of it, where it is another than this
+    /// one: what refuses a snapshot by 702.
+    pub fn other_of(&self, uri: &str, version: i32, text: &str) -> Option<&S>
+        ensures { (calls : List Call) → Stands self.now calls → option_map (λ store. S.content store.now) result
+            ≡ other_than (versioned version (chars text.now)) (kept self.now.terms uri.now calls) (held self.now.terms uri.now calls) }
+    {
+        match self.get(uri) {
+            Some(document) => document.other(version, text),
+            None => None,
+        }
+    }
+
+    /// The text of a snapshot that waits for this version of a URI and has another text than this one: what refuses an
+    /// opening or a change by 702. Of several it is any one.
+    pub fn waiting_other(&self, uri: &str, version: i32, text: &str) -> Option<&str>
+        ensures { (calls : List Call) → Stands self.now calls
+            → FindsOther (versioned version (chars text.now)) (versions_of uri.now (waiting self.now.terms calls)) result }
+    {
+        self.waiting.other(uri, version, text)
     }
 
     /// How many snapshots may still be compared, at most 2^64 - 1.

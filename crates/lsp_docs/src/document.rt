@@ -1,12 +1,13 @@
 //! One open document.
 
-ghost use Rattle.std.specs.Prelude.{◌≡◌, ◌≤◌, None, Some, [], ◌++◌, ◌∷◌, length, IfErr, IfOk, OnOk, OnErr};
+ghost use Rattle.std.specs.Prelude.{◌≡◌, ◌≤◌, None, Some, [], ◌++◌, ◌∷◌, length, option_map, IfErr, IfOk, OnOk, OnErr};
 ghost use Rattle.std.specs.Str.{chars};
 ghost use Rattle.lsp_docs.specs.Documents.{versioned};
 ghost use Rattle.lsp_docs.specs.Kept.{last_of};
 ghost use Rattle.lsp_docs.specs.Rules.{show_rule};
 ghost use Rattle.lsp_docs.specs.Answer.{answer_of};
 ghost use Rattle.lsp_docs.specs.Fault.{Names};
+ghost use Rattle.lsp_docs.specs.Others.{other_than};
 
 use crate::fault::{DocFault, LATE_SNAPSHOT, SNAPSHOT_DIFFERS};
 use crate::history::History;
@@ -60,6 +61,17 @@ impl<S: TextStore> Document<S> {
         match self.rule(version, text) {
             Some(rule) => Err(DocFault::Rule(rule)),
             None => Ok(self.answer(version)),
+        }
+    }
+
+    /// The text that is held or kept at a version, where it is another than this one.
+    pub(crate) fn other(&self, version: i32, text: &str) -> Option<&S>
+        ensures { option_map (λ store. S.content store.now) result
+            ≡ other_than (versioned version (chars text.now)) self.now.kept (Some (versioned self.now.held.version (S.content self.now.held.store))) }
+    {
+        match self.kept.other(version, text) {
+            Some(store) => Some(store),
+            None => self.held.other(version, text),
         }
     }
 

@@ -1,11 +1,12 @@
 //! The versions that a document had before the present one.
 
-ghost use Rattle.std.specs.Prelude.{◌≡◌, ◌≤◌, [], ◌++◌, ◌∷◌, length, OnOk, OnErr};
-ghost use Rattle.std.specs.List.{list_all, list_any};
+ghost use Rattle.std.specs.Prelude.{◌≡◌, ◌≤◌, [], ◌++◌, ◌∷◌, length, map, option_map, IfOk, OnOk, OnErr};
+ghost use Rattle.std.specs.List.{find, list_all, list_any};
 ghost use Rattle.std.specs.Str.{chars};
 ghost use Rattle.lsp_docs.specs.Documents.{versioned, is_after, is_at};
 ghost use Rattle.lsp_docs.specs.Kept.{last_of};
 ghost use Rattle.lsp_docs.specs.Rules.{differs};
+ghost use Rattle.lsp_docs.specs.Others.{other_in, differs_from};
 
 use crate::revision::Revision;
 use lsp_text::TextStore;
@@ -59,6 +60,20 @@ impl<S: TextStore> History<S> {
         any_differs(self.revisions.as_slice(), version, text)
     }
 
+    /// The text of the one that is of this version and has another text.
+    pub(crate) fn other(&self, version: i32, text: &str) -> Option<&S>
+        ensures { option_map (λ store. S.content store.now) result ≡ other_in (versioned version (chars text.now)) self.now }
+    {
+        first_other(self.revisions.as_slice(), version, text)
+    }
+
+    /// The numbers of the versions.
+    pub(crate) fn numbers(&self, alloc: Global) -> Result<Vec<i32>, AllocError>
+        ensures { IfOk result (λ numbers. numbers.items ≡ map (λ v. v.number) self.now) }
+    {
+        numbers_of(self.revisions.as_slice(), alloc)
+    }
+
     /// Puts a version in the place of the held one, which is kept from now on as the last of at most
     /// so many.
     pub(crate) fn revise(
@@ -101,4 +116,35 @@ fn any_differs<S: TextStore>(revisions: &[Revision<S>], version: i32, text: &str
     ensures { result ≡ list_any (λ r. differs (versioned r.version (S.content r.store)) (versioned version (chars text.now))) revisions.now }
 {
     revisions.iter().any(|r| r.differs(version, text))
+}
+
+/// The text of the first that is of this version and has another text.
+fn first_other<'a, S: TextStore>(
+    revisions: &'a [Revision<S>],
+    version: i32,
+    text: &str,
+) -> Option<&'a S>
+    ensures { option_map (λ store. S.content store.now) result
+        ≡ option_map (λ r. S.content r.store) (find (λ r. differs_from (versioned version (chars text.now)) (versioned r.version (S.content r.store))) revisions.now) }
+{
+    for revision in revisions {
+        if revision.differs(version, text) {
+            return Some(&revision.store);
+        }
+    }
+    None
+}
+
+/// Their numbers.
+fn numbers_of<S: TextStore>(
+    revisions: &[Revision<S>],
+    alloc: Global,
+) -> Result<Vec<i32>, AllocError>
+    ensures { IfOk result (λ numbers. numbers.items ≡ map (λ r. r.version) revisions.now) }
+{
+    let mut numbers = Vec::new(alloc);
+    for revision in revisions {
+        numbers.push(revision.version)?;
+    }
+    Ok(numbers)
 }

@@ -1,6 +1,7 @@
 //! The snapshots of one URI that wait for their versions.
 
 ghost use Rattle.std.specs.Prelude.{◌≡◌, [], ◌++◌, ◌∷◌, None, length, filter, int_lt, if◌then◌else◌, IfOk, OnOk, OnErr};
+ghost use Rattle.std.specs.Str.{chars};
 ghost use Rattle.std.specs.List.{list_any};
 ghost use Rattle.std.specs.Map.{lookup};
 ghost use Rattle.std.specs.Ordering.{int_eq, int_cmp};
@@ -9,6 +10,7 @@ ghost use Rattle.lsp_docs.specs.Documents.{versioned, is_after, is_at, is_before
 ghost use Rattle.lsp_docs.specs.State.{SameVersions, capped};
 ghost use Rattle.lsp_docs.specs.Stored.{text_of, versions_in, is_first_within, rest_of, first_before};
 ghost use Rattle.lsp_docs.specs.Rules.{differs};
+ghost use Rattle.lsp_docs.specs.Others.{FindsOther};
 
 use crate::snapshot::Texts;
 use lsp_text::TextStore;
@@ -91,6 +93,16 @@ impl SnapshotQueue {
         match self.texts.get(&version) {
             Some(texts) => texts.any_differs(store),
             None => false,
+        }
+    }
+
+    /// The text of one that waits for this version and has another text than this one.
+    pub(crate) fn other(&self, version: i32, text: &str) -> Option<&str>
+        ensures { FindsOther (versioned version (chars text.now)) self.now result }
+    {
+        match self.texts.get(&version) {
+            Some(texts) => texts.other(text),
+            None => None,
         }
     }
 

@@ -1,12 +1,13 @@
 //! One version of a document.
 
-ghost use Rattle.std.specs.Prelude.{◌≡◌, Ok, [], ◌∷◌, IfErr, OnOk, OnErr};
+ghost use Rattle.std.specs.Prelude.{◌≡◌, Ok, [], ◌∷◌, option_map, IfErr, OnOk, OnErr};
 ghost use Rattle.std.specs.Str.{chars, bytes_eq};
 ghost use Rattle.lsp_text.specs.Edits.{applied};
 ghost use Rattle.lsp_text.specs.Changes.{edit_of};
 ghost use Rattle.lsp_docs.specs.Documents.{versioned};
 ghost use Rattle.lsp_docs.specs.Rules.{differs};
 ghost use Rattle.lsp_docs.specs.Fault.{Breaks};
+ghost use Rattle.lsp_docs.specs.Others.{other_in};
 
 use crate::fault::DocFault;
 use lsp_text::{TextStore, change};
@@ -49,6 +50,18 @@ impl<S: TextStore> Revision<S> {
         ensures { result ≡ differs (versioned self.now.version (S.content self.now.store)) (versioned version (chars text.now)) }
     {
         self.version == version && !has_text(&self.store, text)
+    }
+
+    /// Its text, where it is of this version and has another text.
+    pub(crate) fn other(&self, version: i32, text: &str) -> Option<&S>
+        ensures { option_map (λ store. S.content store.now) result
+            ≡ other_in (versioned version (chars text.now)) (versioned self.now.version (S.content self.now.store) ∷ []) }
+    {
+        if self.differs(version, text) {
+            Some(&self.store)
+        } else {
+            None
+        }
     }
 }
 

@@ -4,6 +4,7 @@ ghost use Rattle.std.specs.Prelude.{◌≡◌, [], ◌++◌, ◌∷◌, length, 
 ghost use Rattle.std.specs.List.{list_any};
 ghost use Rattle.std.specs.Str.{chars, bytes_eq};
 ghost use Rattle.lsp_docs.specs.Stored.{text_of, texts_of};
+ghost use Rattle.lsp_docs.specs.Others.{FindsText};
 
 use lsp_text::TextStore;
 use std::alloc::{AllocError, Global};
@@ -68,6 +69,13 @@ impl Texts {
     {
         any_differs(self.texts.as_slice(), store)
     }
+
+    /// The first that is another text than this one.
+    pub(crate) fn other(&self, text: &str) -> Option<&str>
+        ensures { FindsText (chars text.now) self.now result }
+    {
+        first_other(self.texts.as_slice(), text)
+    }
 }
 
 /// Whether one is another text than the store has.
@@ -82,4 +90,23 @@ fn is_other<S: TextStore>(text: &String, store: &S) -> bool
     ensures { result ≡ not (bytes_eq (S.content store.now) (text_of text.now)) }
 {
     !store.equals(text.as_str())
+}
+
+/// The first that is another text than this one.
+fn first_other<'a>(texts: &'a [String], text: &str) -> Option<&'a str>
+    ensures { FindsText (chars text.now) (texts_of texts.now) result }
+{
+    for other in texts {
+        if is_not(other, text) {
+            return Some(other.as_str());
+        }
+    }
+    None
+}
+
+/// Whether it is another text than this one.
+fn is_not(other: &String, text: &str) -> bool
+    ensures { result ≡ not (bytes_eq (chars text.now) (text_of other.now)) }
+{
+    other.as_str() != text
 }

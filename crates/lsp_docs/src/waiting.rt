@@ -7,6 +7,7 @@ ghost use Rattle.std.specs.Str.{chars, bytes_eq};
 ghost use Rattle.lsp_docs.specs.Documents.{versioned, is_after, is_at, is_before};
 ghost use Rattle.lsp_docs.specs.State.{capped, queue_of, keep_in, IsAdded, IsReleased, total, reached, missed_one};
 ghost use Rattle.lsp_docs.specs.Rules.{differs};
+ghost use Rattle.lsp_docs.specs.Others.{FindsOther};
 ghost use Rattle.lsp_docs.specs.Stored.{text_of, queues_in};
 
 use crate::queue::SnapshotQueue;
@@ -61,6 +62,16 @@ impl Waiting {
         match self.snapshots.get(uri) {
             Some(queue) => queue.any_differs(version, store),
             None => false,
+        }
+    }
+
+    /// The text of a snapshot of a URI that waits for this version and has another text than this one.
+    pub(crate) fn other(&self, uri: &str, version: i32, text: &str) -> Option<&str>
+        ensures { FindsOther (versioned version (chars text.now)) (queue_of uri.now self.now.queues) result }
+    {
+        match self.snapshots.get(uri) {
+            Some(queue) => queue.other(version, text),
+            None => None,
         }
     }
 

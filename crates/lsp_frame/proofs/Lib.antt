@@ -12,3 +12,4 @@ pub mod Pulls
 pub mod Passing
 pub mod Telling
 pub mod Writing
+pub mod Fronts

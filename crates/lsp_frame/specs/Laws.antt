@@ -1,7 +1,8 @@
 -- Laws of streams and frames.
 use Rattle.std.specs.Prelude.{◌≡◌, ◌≤◌, ℕ, List, [], ◌∷◌, ◌++◌, length, Option, Some}
 use Rattle.lsp_frame.specs.Bounds.{Bounds, IsInRange}
-use Rattle.lsp_frame.specs.Frame.{IsFrame, Frames, IsStream}
+use Rattle.lsp_frame.specs.Frame.{IsFrame, Frames, IsStream, Breaks}
+use Rattle.lsp_frame.specs.Front.{header_front}
 use Rattle.lsp_frame.specs.Sink.{canonical}
 
 -- two readings of a stream are one
@@ -44,6 +45,11 @@ FaultStays = (limits : Bounds) (bytes : List ℕ)
     (contents : List (List ℕ)) (rest : List ℕ) (rule : ℕ) (more : List ℕ)
     → IsStream limits bytes contents rest (Some rule)
     → IsStream limits (bytes ++ more) contents (rest ++ more) (Some rule)
+
+-- and what is shown of the header part that has the fault
+abbrev pub FrontStays : Type 0
+FrontStays = (limits : Bounds) → IsInRange limits → (bytes more : List ℕ) (rule : ℕ)
+    → Breaks limits bytes rule → header_front (bytes ++ more) ≡ header_front bytes
 
 -- the canonical frame of a content within the limits is a frame of it
 abbrev pub CanonicalIsFrame : Type 0

@@ -10,3 +10,4 @@ pub mod Decoder
 pub mod Buffer
 pub mod Pulling
 pub mod Lending
+pub mod Front

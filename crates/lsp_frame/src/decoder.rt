@@ -7,6 +7,7 @@ ghost use Rattle.lsp_frame.specs.Decoder.{empty, pushed, held_of, finish_of, Sta
 ghost use Rattle.lsp_frame.specs.Buffer.{Advances, ReadsAhead, last_of};
 ghost use Rattle.lsp_frame.specs.Pulling.{Pulls, PullFails, Misses, GoesPast, Passes};
 ghost use Rattle.lsp_frame.specs.Lending.{LendsContent};
+ghost use Rattle.lsp_frame.specs.Front.{HoldsRest};
 
 use crate::io::{Failed, Source};
 use crate::limits::Limits;
@@ -356,6 +357,17 @@ impl Decoder {
         ensures { result ≡ held_of self.now }
     {
         self.end as u64
+    }
+
+    /// The bytes pushed that belong to no frame given. Where the stream ends inside a frame they are what there is of
+    /// it. Behind a fault they begin the frame that has it, and go at least as far as the fault is seen: to the end of
+    /// its header part, or of one that is too long as many bytes as one may have. What was pushed later is not held.
+    pub fn rest(&self) -> &[u8]
+        ensures value { result.now ≡ self.now.rest }
+        ensures stands { (bytes : List ℕ) (contents : List (List ℕ)) →
+            StandsFor self.now bytes contents → HoldsRest self.now bytes contents result.now }
+    {
+        &self.buffer[self.start..self.end]
     }
 
     /// Whether the stream may end here. The fault is that which `next` gave, else 107, where a byte pushed belongs to no

@@ -1,5 +1,5 @@
 //! Laws of frames and streams (LSP 3.17, "Base Protocol"), each the contract of a function that does nothing.
-ghost use Rattle.lsp_frame.specs.Laws.{NoFrameBeginsAnother, SomeReading, OneReading, FramesComeFirst, ContentsStay, FaultStays, CanonicalIsFrame, CanonicalIsRead};
+ghost use Rattle.lsp_frame.specs.Laws.{NoFrameBeginsAnother, SomeReading, OneReading, FramesComeFirst, ContentsStay, FaultStays, FrontStays, CanonicalIsFrame, CanonicalIsRead};
 
 /// No frame is the beginning of a longer one.
 pub fn no_frame_begins_another()
@@ -29,6 +29,11 @@ pub fn contents_stay()
 /// A fault stays, and the contents before it, whatever follows.
 pub fn fault_stays()
     ensures { FaultStays }
+{}
+
+/// What is shown of a header part that has a fault stays, whatever follows.
+pub fn front_stays()
+    ensures { FrontStays }
 {}
 
 /// The canonical frame of a content within the limits is a frame of it.

@@ -12,6 +12,7 @@ mod bytes;
 mod decoder;
 mod field;
 mod format;
+mod front;
 mod header;
 mod io;
 mod laws;
@@ -23,10 +24,11 @@ mod write;
 pub use bytes::{after_byte, all_digits, number_up_to};
 pub use decoder::{Decoder, FrameFault, Missing, PullFault};
 pub use format::Format;
+pub use front::header_front;
 pub use io::{Failed, Input, Output, Sink, Source};
 pub use laws::{
     canonical_is_frame, canonical_is_read, contents_stay, fault_stays, frames_come_first,
-    no_frame_begins_another, one_reading, some_reading,
+    front_stays, no_frame_begins_another, one_reading, some_reading,
 };
 pub use limits::Limits;
 pub use lsp_types::Memory;

@@ -5,7 +5,6 @@ pub mod Pulling
 pub mod KeptEvents
 pub mod Answering
 pub mod LogEvents
-pub mod LineWords
 pub mod ShownLogs
 pub mod UpgradedLogs
 pub mod TextRuns

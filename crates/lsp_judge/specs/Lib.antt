@@ -5,5 +5,6 @@ pub mod Next
 pub mod Hearing
 pub mod TextAnswers
 pub mod LogEvents
+pub mod LineWords
 pub mod ShownLog
 pub mod UpgradedLog

@@ -1,20 +1,23 @@
 //! The events of a log, heard one by one up to its verdict.
-ghost use Rattle.std.specs.Prelude.{◌≡◌, ◌<◌, ◌≤◌, ℕ, List, [], None, Ok, IfOk};
+ghost use Rattle.std.specs.Prelude.{◌≡◌, ◌<◌, ◌++◌, ◌∷◌, List, [], None, Ok, IfOk};
 ghost use Rattle.lsp_frame.specs.Bounds.{Bounds};
 ghost use Rattle.lsp_frame.specs.Told.{Told};
 ghost use Rattle.lsp_log.specs.Log as log;
 ghost use Rattle.lsp_log.specs.Records.{record_view};
 ghost use Rattle.lsp_log.specs.Reader.{ahead};
 ghost use Rattle.lsp_verdict.specs.Complete.{IsFinalBy};
+ghost use Rattle.lsp_verdict.specs.Counting.{AreCounts};
 ghost use Rattle.lsp_verdict.specs.Event.{Event};
 ghost use Rattle.lsp_verdict.specs.Given.{verdict_view, as_given};
 ghost use Rattle.lsp_verdict.specs.Verdict as spec;
+ghost use Rattle.lsp_judge.specs.Hearing.{IsHeard};
 ghost use Rattle.lsp_judge.specs.LogEvents.{SoFar, IsFresh, IsIdle, Pulls, PullsHere, TakesEntry, GivesVerdict};
+ghost use Rattle.lsp_judge.specs.ShownLog.{IsPlace};
 ghost use Rattle.lsp_judge.specs.Standing.{IsRefitted, Stands};
 ghost use Rattle.lsp_judge.specs.TextAnswers.{AnswersHeld};
 ghost use Rattle.lsp_judge.specs.UpgradedLog.{HasTaken, Accepts, IfAccepted};
 
-use crate::heard::Heard;
+use crate::heard::{Heard, Place};
 use crate::judge::Judge;
 use crate::text_answer::TextAnswer;
 use lsp_frame::{Limits, Source};
@@ -178,11 +181,12 @@ impl EventReader {
         }
     }
 
-    /// How many events were heard.
-    pub(crate) fn count(&self) -> u64
-        ensures { result ≡ self.now.judge.counts.all }
+    /// Where the event stands that was heard last.
+    pub(crate) fn place_of(&self, heard: &Heard) -> Place
+        ensures { (before : List Event) (event : Event) → AreCounts self.now.judge.counts (before ++ event ∷ [])
+            → IsHeard event heard.now → IsPlace before event result }
     {
-        self.judge.count()
+        self.judge.place_of(heard)
     }
 
     /// How many messages of the editor's were heard.

@@ -17,6 +17,15 @@ pub(crate) enum Heard {
     },
 }
 
+/// Where an event stands.
+#[derive(Clone, Copy, Debug, PartialEq, Eq)]
+pub(crate) struct Place {
+    /// Its number among those of its side, or of a snapshot among the snapshots, from 1.
+    pub number: u64,
+    /// Its number among all events, from 1.
+    pub event: u64,
+}
+
 /// What a record brings that was not heard yet.
 #[derive(Drop)]
 pub(crate) enum Turn {

@@ -12,16 +12,17 @@ ghost use Rattle.lsp_verdict.specs.Given.{verdict_view, as_given};
 ghost use Rattle.lsp_verdict.specs.Kept.{AreKept};
 ghost use Rattle.lsp_verdict.specs.Outcome.{IsFinal, is_rest};
 ghost use Rattle.lsp_verdict.specs.Placed.{IsSession};
-ghost use Rattle.lsp_judge.specs.Hearing.{IsHearing, HearsNext, Stops, unheard};
+ghost use Rattle.lsp_judge.specs.Hearing.{IsHeard, IsHearing, HearsNext, Stops, unheard};
 ghost use Rattle.lsp_judge.specs.Rulings.{RestIs, IfRefused, if_none};
 ghost use Rattle.lsp_events.specs.Standing.{Follows};
 ghost use Rattle.lsp_judge.specs.Standing.{IsFitted, IsOpen, AreLimits, Keeps, Rules, Stands, WasRefused, is_given};
+ghost use Rattle.lsp_judge.specs.ShownLog.{IsPlace};
 ghost use Rattle.lsp_judge.specs.TextAnswers.{AnswersHeld};
 ghost use Rattle.lsp_verdict.specs.Counting.{AreCounts};
 ghost use Rattle.lsp_verdict.specs.Verdict as spec;
 
 use crate::contents::{next_message, next_snapshot};
-use crate::heard::{Heard, Turn};
+use crate::heard::{Heard, Place, Turn};
 use crate::ruling::Ruling;
 use crate::text_answer::TextAnswer;
 use lsp_events::{Events, summary_of};
@@ -29,7 +30,7 @@ use lsp_frame::{Decoder, Format, Limits};
 use lsp_log::{LogCode, Record};
 use lsp_rpc::{Memory, Side};
 use lsp_text::TextStore;
-use lsp_verdict::{Summary, Verdict, Who};
+use lsp_verdict::{Summary, Verdict, Who, who_of};
 use std::alloc::Global;
 use std::marker::Model;
 use std::mem;
@@ -276,11 +277,15 @@ impl<S: TextStore> Judge<S> {
         drop(mem::replace(self, other));
     }
 
-    /// How many events were heard.
-    pub(crate) fn count(&self) -> u64
-        ensures { result ≡ self.now.counts.all }
+    /// Where the event stands that was heard last.
+    pub(crate) fn place_of(&self, heard: &Heard) -> Place
+        ensures { (before : List Event) (event : Event) → AreCounts self.now.counts (before ++ event ∷ [])
+            → IsHeard event heard.now → IsPlace before event result }
     {
-        self.events.counts.all
+        Place {
+            number: self.events.counts.of(whose(heard)),
+            event: self.events.counts.all,
+        }
     }
 
     /// How many messages of the editor's were heard.
@@ -410,6 +415,16 @@ impl<S: TextStore> Judge<S> {
                 next_snapshot(&mut self.events, version, uri, text)
             }
         }
+    }
+}
+
+/// Whose an event is.
+fn whose(heard: &Heard) -> Who
+    ensures { (event : Event) → IsHeard event heard.now → result ≡ spec.whose event }
+{
+    match heard {
+        Heard::Message { side, spoken: _ } => who_of(*side),
+        Heard::Snapshot { .. } => Who::Snapshot,
     }
 }
 

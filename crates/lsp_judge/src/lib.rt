@@ -31,7 +31,7 @@ pub use lsp_streams::{
     one_event, one_normal_form, one_run, run_event, run_frames, run_normal, some_event, some_run,
 };
 pub use lsp_verdict::{
-    Completeness, Mode, OpenDocument, Outcome, RunFault, StreamFault, Summary, Verdict, Who,
+    Completeness, Lines, Mode, OpenDocument, Outcome, RunFault, StreamFault, Summary, Verdict, Who,
     bad_log_means_fault, both_yes_agree, complete_means_ended, complete_means_fault,
     cuts_dont_matter, cuts_leave_verdict, ended_means_complete, handshake_in_turn, kept_means_yes,
     lack_is_named, no_names_the_first, one_complete_verdict, one_session, one_text, one_upgrade,

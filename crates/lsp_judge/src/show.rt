@@ -12,14 +12,16 @@ ghost use Rattle.lsp_judge.specs.ShownLog.{Shows, IsShown, BeginsShown};
 use crate::event_reader::{EventReader, Next};
 use crate::lines::write_event_line;
 use lsp_frame::{Limits, Sink, Source, put_all};
-use lsp_verdict::{Completeness, Outcome, RunFault, Summary, Verdict, report_of};
+use lsp_verdict::{Completeness, Lines, Outcome, RunFault, Summary, Verdict, report_of};
 use std::alloc::Global;
 
 /// Reads a log up to the first event that offends, or to its end, and writes a line for each event
 /// before that place, and then the report of the verdict.
 ///
 /// The line of a message has its number among all events, from 1, the side that sent it, and its
-/// words; that of a snapshot its number, version, bytes of text and URI.
+/// words; that of a snapshot its number, version, bytes of text and URI. A long line has besides the
+/// number among those of the side, or among the snapshots; and of a message that opens, changes, saves
+/// or closes a document the URI, and the version that it is opened at or changed to.
 ///
 /// # Errors
 /// `Read` is answered where the source failed, `Write` where the sink did, and `Memory` where memory
@@ -29,6 +31,7 @@ pub fn run_show<R: Source, W: Sink>(
     reader: &mut R,
     writer: &mut W,
     limits: Limits,
+    lines: Lines,
 ) -> Result<Outcome, RunFault>
     // The answer is the verdict on the log read, however that goes on where its end was not met.
     ensures judged { IfOk result (λ outcome. (v : Verdict) × (outcome ≡ Outcome.Judged v)) }
@@ -37,20 +40,20 @@ pub fn run_show<R: Source, W: Sink>(
     // What is due for that log is written, and nothing else.
     ensures shown { (v : Verdict) → result ≡ Ok (Outcome.Judged v)
         → (out : List ℕ) × Took (W.told writer.old) (W.told writer.new) out
-        × OfRead limits (R.told reader.old) (R.told reader.new) (λ log. IsShown limits log (verdict_view v) out) }
+        × OfRead limits (R.told reader.old) (R.told reader.new) (λ log. IsShown lines limits log (verdict_view v) out) }
 
     // Yes is answered only where the end was met.
     ensures ended { (s : Summary) → result ≡ Ok (Outcome.Judged (Verdict.Yes s)) → IsAtEnd (R.told reader.new).bytes }
 
     // What is written before a fault begins what is due for the log.
     ensures fault { OnErr result ((out : List ℕ) × Took (W.told writer.old) (W.told writer.new) out
-        × OfRead limits (R.told reader.old) (R.told reader.new) (λ log. BeginsShown limits log out)) }
+        × OfRead limits (R.told reader.old) (R.told reader.new) (λ log. BeginsShown lines limits log out)) }
     ensures source_failures { (R.told reader.new).failures ≡ source_failures result (R.told reader.old).failures }
     ensures sink_failures { (W.told writer.new).failures ≡ sink_failures result (W.told writer.old).failures }
     // At most one byte past the limit is read.
     ensures limit { GaveAtMost (limits.log + 1) (R.told reader.old) (R.told reader.new) }
 {
-    let verdict = show_log(alloc, reader, writer, limits)?;
+    let verdict = show_log(alloc, reader, writer, limits, lines)?;
     let report = report_of(alloc, &verdict)?;
     put_all(writer, report.as_slice())?;
     Ok(Outcome::Judged(verdict))
@@ -62,12 +65,13 @@ fn show_log<R: Source, W: Sink>(
     reader: &mut R,
     writer: &mut W,
     limits: Limits,
+    lines: Lines,
 ) -> Result<Verdict, RunFault>
     ensures range { IsInRange limits }
-    ensures answer { Shows limits (R.told reader.old) (R.told reader.new) (W.told writer.old) (W.told writer.new) result }
+    ensures answer { Shows lines limits (R.told reader.old) (R.told reader.new) (W.told writer.old) (W.told writer.new) result }
 {
     let mut events = EventReader::new(alloc, limits, Completeness::Ignored);
-    show_events(alloc, &mut events, reader, writer)
+    show_events(alloc, &mut events, reader, writer, lines)
 }
 
 /// Hears the events of a log up to its verdict, and writes a line for each.
@@ -76,16 +80,18 @@ fn show_events<R: Source, W: Sink>(
     events: &mut EventReader,
     reader: &mut R,
     writer: &mut W,
+    lines: Lines,
 ) -> Result<Verdict, RunFault>
     requires fresh { IsFresh events.old (R.told reader.old) }
     requires ignored { events.old.completeness ≡ Completeness.Ignored }
-    ensures { Shows events.old.log.limits (R.told reader.old) (R.told reader.new) (W.told writer.old) (W.told writer.new) result }
+    ensures { Shows lines events.old.log.limits (R.told reader.old) (R.told reader.new) (W.told writer.old) (W.told writer.new) result }
 {
     let mut line = String::new(alloc);
     loop {
         match events.next(reader)? {
             Next::Event(heard) => {
-                write_event_line(alloc, writer, &mut line, events.count(), heard)?;
+                let place = events.place_of(&heard);
+                write_event_line(alloc, writer, &mut line, lines, place, heard)?;
             }
             Next::Verdict(verdict) => return Ok(verdict),
         }

@@ -1,5 +1,5 @@
 //! A judge that is asked for its verdict more than once.
-use lsp_judge::{Judge, Limits, Verdict, report_of};
+use lsp_judge::{Judge, Limits, LogCode, Verdict, report_of};
 use lsp_log::Record;
 use lsp_rpc::Side;
 use lsp_text::Lined;
@@ -51,15 +51,16 @@ fn tell_all(
     Some(())
 }
 
-/// The same on a new judge.
-fn tell_new(alloc: Global, told: &mut Vec<u8>, records: &[&[u8]]) -> Option<()> {
+/// What a new judge tells so.
+fn told_of(alloc: Global, records: &[&[u8]]) -> Option<Vec<u8>> {
+    let mut told = Vec::new(alloc);
     let mut judge = Judge::new(alloc, Limits::profile());
-    tell_all(alloc, &mut judge, told, records)
+    tell_all(alloc, &mut judge, &mut told, records)?;
+    Some(told)
 }
 
-fn check_told(rt: &impl Abort, alloc: Global, records: &[&[u8]], wanted: &str) {
-    let mut told = Vec::new(alloc);
-    tell_new(alloc, &mut told, records).expect(rt, "memory");
+fn check_told(rt: &impl Abort, told: Option<Vec<u8>>, wanted: &str) {
+    let told = told.expect(rt, "memory");
     assert!(rt; told.as_slice() == wanted.as_bytes(), "{wanted}");
 }
 
@@ -90,7 +91,7 @@ request editor 1 \"initialize\"
 
 #[test]
 fn a_judge_is_as_before_after_yes(rt: HostRuntime) {
-    check_told(&rt, rt.alloc(), &[INITIALIZE], YES);
+    check_told(&rt, told_of(rt.alloc(), &[INITIALIZE]), YES);
 }
 
 /// What is said where nothing was taken, and behind three bytes that begin a frame: once it was given, also
@@ -119,5 +120,60 @@ stream ends inside a frame
 #[test]
 fn a_no_is_given_for_good(rt: HostRuntime) {
     let records = [b"Con".as_slice(), b"tent-Length: 0\r\n\r\n"];
-    check_told(&rt, rt.alloc(), &records, NO);
+    check_told(&rt, told_of(rt.alloc(), &records), NO);
+}
+
+/// Adds the report of the verdict, then that of a fault of the log behind it, and that of the verdict again.
+fn tell_fault(alloc: Global, judge: &mut Judge<Lined>, told: &mut Vec<u8>) -> Option<()> {
+    let Ok(verdict) = judge.finish() else {
+        return None;
+    };
+    let faulty = judge.bad_log(2, LogCode::L2);
+    tell_verdict(alloc, told, &verdict)?;
+    tell_verdict(alloc, told, &faulty)?;
+    tell_finish(alloc, judge, told)
+}
+
+/// What a new judge tells so that took a record.
+fn told_of_fault(alloc: Global, bytes: &[u8]) -> Option<Vec<u8>> {
+    let mut told = Vec::new(alloc);
+    let mut judge = Judge::new(alloc, Limits::profile());
+    tell_take(alloc, &mut judge, &mut told, bytes)?;
+    tell_fault(alloc, &mut judge, &mut told)?;
+    Some(told)
+}
+
+/// What is said behind a request: Yes leaves the judge as it was, and a fault is given for good.
+const FAULT_BEHIND_YES: &str = "\
+yes
+messages 1 0
+snapshots 0 unmatched 0
+encoding - sync -
+request editor 1 \"initialize\"
+bad log L2 record 2
+bad record line
+bad log L2 record 2
+bad record line
+";
+
+#[test]
+fn a_fault_of_the_log_behind_yes(rt: HostRuntime) {
+    let told = told_of_fault(rt.alloc(), INITIALIZE);
+    check_told(&rt, told, FAULT_BEHIND_YES);
+}
+
+/// What is said behind three bytes that begin a frame.
+const FAULT_BEHIND_NO: &str = "\
+no 107 editor 1 event 1
+stream ends inside a frame
+no 107 editor 1 event 1
+stream ends inside a frame
+no 107 editor 1 event 1
+stream ends inside a frame
+";
+
+#[test]
+fn a_fault_of_the_log_behind_a_no(rt: HostRuntime) {
+    let told = told_of_fault(rt.alloc(), b"Con");
+    check_told(&rt, told, FAULT_BEHIND_NO);
 }

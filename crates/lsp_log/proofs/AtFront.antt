@@ -1,31 +1,99 @@
 -- A record at the front of a tape, or why there is none.
-use Rattle.std.proofs.Common.{◌≡◌, ℕ, ◌+◌, ◌<◌, true, false, List, ◌++◌, length, take, drop, Option, Some, None, refl, sym, ap, subst, ◌∙◌, append_assoc, inl, inr, arith}
+use Rattle.std.proofs.Common.{◌≡◌, ℕ, ◌+◌, ◌<◌, true, false, List, ◌++◌, length, take, drop, Option, Some, None, refl, sym, ap, subst, ◌∙◌, append_assoc, append-nil, inl, inr, arith}
 use Rattle.std.specs.List.{flat_map}
-use Rattle.std.proofs.lemmas.List.{take_all}
+use Rattle.std.proofs.lemmas.List.{take_all, take-append-le, nil_from_length}
 use Rattle.lsp_frame.specs.Bounds.{Bounds}
 use Rattle.lsp_frame.specs.Told.{Told}
 use Rattle.lsp_log.specs.Log as log
 use Rattle.lsp_log.specs.Log.{Flaw, bad_line, bad_number, cut_short, bad_end, not_utf8, Breaks, EndsWith, HasLine, HasHead, Fits, spelling, head_line, in_range, lengths_of, with_feed, holds_feed, head_of, parts_of, IsText}
-use Rattle.lsp_log.specs.Words.{head_view, IsHead}
-use Rattle.lsp_log.specs.Tape.{Held, Pulled, Filled, Taken}
+use Rattle.lsp_log.specs.Words.{head_view, IsHead, IsHeadFault}
+use Rattle.lsp_log.specs.declared.head.HeadFault.{HeadFault}
+use Rattle.lsp_log.specs.declared.head.HeadFault.TheVariants as heads
+use Rattle.lsp_log.specs.Tape.{Held, Pulled, Filled, Taken, IsOver}
 use Rattle.lsp_log.specs.Room.{AwaitsPart, AwaitsRecord}
-use Rattle.lsp_log.specs.Stops.{Ends, Refused, StopAnswer, PartsBreak, HasParts, Found}
+use Rattle.lsp_log.specs.Place.{line_of}
+use Rattle.lsp_log.specs.Stops.{Ends, EndsAt, HoldsLine, Refused, StopAnswer, PartsBreak, HasParts, Found, is_flaw, wants_bytes, IsHeadStop}
 use Rattle.lsp_log.specs.declared.head.Head.{Head}
 use Rattle.lsp_log.specs.declared.stop.Stop.{Stop}
 use Rattle.lsp_log.specs.declared.stop.Stop.TheVariants.{FirstLine, Nothing, Form, Number, Short, End, Text, Read, Memory}
+use Rattle.lsp_log.proofs.Lines.{line_held, line_alone, line_itself, line_front}
 use Rattle.lsp_log.proofs.Tapes.{pulled_then, failed_then, taken_both}
 
 pub full_window : (limits : Bounds) (old new : Held) (before after : Told) (piece near : List ℕ) → Filled old new before after piece → holds_feed new.rest ≡ false → near ≡ new.rest → length near ≡ 64
-    → Ends (EndsWith limits) old new before after (Some bad_line)
+    → Ends (EndsAt limits new.rest) old new before after (Some bad_line)
 full_window limits old new before after piece near f none same full = record {
   piece = piece;
   pulled = f.pulled;
-  holds = inl (
-    omega (arith, ap length f.rest, ap length same, full),
-    ap (λ (w : List ℕ). holds_feed (take 64 w)) (sym f.rest) ∙ ap holds_feed (take_all 64 new.rest (omega (arith, ap length same, full))) ∙ none,
+  holds = (
+    inl (
+      omega (arith, ap length f.rest, ap length same, full),
+      ap (λ (w : List ℕ). holds_feed (take 64 w)) (sym f.rest) ∙ ap holds_feed (take_all 64 new.rest (omega (arith, ap length same, full))) ∙ none,
+    ),
+    λ more _. ap line_of (sym (take-append-le 64 new.rest more (omega (arith, ap length same, full)))) ∙ ap (λ (w : List ℕ). line_of (take 64 (w ++ more))) f.rest,
   );
   over = λ h. absurd cc;
 }
+
+-- no line ends there, and no more can be read
+no_more_read : (rest piece bytes : List ℕ) (flaw : Option Flaw) → rest ≡ bytes → wants_bytes flaw ≡ true → HoldsLine rest bytes flaw
+no_more_read rest piece bytes flaw same wants more none = ap (λ (w : List ℕ). line_of (take 64 w)) (same ∙ sym (append-nil bytes) ∙ ap (λ (w : List ℕ). bytes ++ w) (sym (none wants)))
+
+pub nothing_left : (limits : Bounds) (old new : Held) (before after : Told) (piece near : List ℕ) → Filled old new before after piece → (length new.rest < 64 → IsOver new.left after) → near ≡ new.rest → length near ≡ 0
+    → Ends (EndsAt limits new.rest) old new before after None
+nothing_left limits old new before after piece near f over same none =
+    let some : length new.rest ≡ 0 = ap length (sym same) ∙ none in
+    record {
+      piece = piece;
+      pulled = f.pulled;
+      holds = (sym f.rest ∙ nil_from_length new.rest some, no_more_read new.rest piece (old.rest ++ piece) None f.rest refl);
+      over = λ _. over (omega (arith, some));
+    }
+
+pub line_cut : (limits : Bounds) (old new : Held) (before after : Told) (piece near : List ℕ) → Filled old new before after piece → holds_feed new.rest ≡ false → (length new.rest < 64 → IsOver new.left after) → near ≡ new.rest → 0 < length near → length near < 64
+    → Ends (EndsAt limits new.rest) old new before after (Some cut_short)
+line_cut limits old new before after piece near f none over same some short =
+    let len : length new.rest ≡ length near = ap length (sym same) in
+    record {
+      piece = piece;
+      pulled = f.pulled;
+      holds = (inl (omega (arith, ap length f.rest, len, some), omega (arith, ap length f.rest, len, short), ap holds_feed (sym f.rest) ∙ none), no_more_read new.rest piece (old.rest ++ piece) (Some cut_short) f.rest refl);
+      over = λ _. over (omega (arith, len, short));
+    }
+
+-- a line stands there that is no head
+line_kept : (old new : Held) (before after : Told) (piece line rest : List ℕ) (flaw : Option Flaw) → Filled old new before after piece → HasLine new.rest line rest → HoldsLine new.rest (old.rest ++ piece) flaw
+line_kept old new before after piece line rest flaw f h more _ =
+    line_itself new.rest line rest h ∙ sym (line_held new.rest line rest more h) ∙ ap (λ (w : List ℕ). line_of (take 64 (w ++ more))) f.rest
+
+has_line : (old new : Held) (before after : Told) (piece line rest : List ℕ) → Filled old new before after piece → HasLine new.rest line rest → HasLine (old.rest ++ piece) line rest
+has_line old new before after piece line rest f h = record { whole = sym f.rest ∙ h.whole; short = h.short; one = h.one }
+
+pub head_stops : (limits : Bounds) (old new : Held) (before after : Told) (piece near : List ℕ) (end : ℕ) (fault : HeadFault) (stop : Stop) → Filled old new before after piece → HasLine new.rest (take end new.rest) (drop (end + 1) new.rest) → near ≡ new.rest
+    → IsHeadFault limits (take end near) fault → IsHeadStop fault stop → StopAnswer (EndsAt limits new.rest) (AwaitsRecord limits) old new before after stop
+head_stops limits old new before after piece near end heads.Form stop f h same bad is =
+    subst (λ (x : Stop). StopAnswer (EndsAt limits new.rest) (AwaitsRecord limits) old new before after x) (sym is)
+    (record {
+      piece = piece;
+      pulled = f.pulled;
+      holds = (
+        inr (take end new.rest, drop (end + 1) new.rest, has_line old new before after piece (take end new.rest) (drop (end + 1) new.rest) f h, λ head writable e. bad head writable (ap (take end) same ∙ e)),
+        line_kept old new before after piece (take end new.rest) (drop (end + 1) new.rest) (Some bad_line) f h,
+      );
+      over = λ w. absurd cc;
+    })
+head_stops limits old new before after piece near end heads.Number stop f h same bad is =
+    let line : take end new.rest ≡ head_line bad.0 = ap (take end) (sym same) ∙ bad.1 in
+    let here : HasLine new.rest (head_line bad.0) (drop (end + 1) new.rest) = subst (λ (w : List ℕ). HasLine new.rest w (drop (end + 1) new.rest)) line h in
+    subst (λ (x : Stop). StopAnswer (EndsAt limits new.rest) (AwaitsRecord limits) old new before after x) (sym is)
+    (record {
+      piece = piece;
+      pulled = f.pulled;
+      holds = (
+        (bad.0, drop (end + 1) new.rest, has_line old new before after piece (head_line bad.0) (drop (end + 1) new.rest) f here, bad.2, bad.3),
+        line_kept old new before after piece (head_line bad.0) (drop (end + 1) new.rest) (Some bad_number) f here,
+      );
+      over = λ w. absurd cc;
+    })
 
 -- a head was found, and the tape went past its line
 pub record AtParts (limits : Bounds) (old mid : Held) (before now : Told) (h : log.Head) : Type 0 where
@@ -80,11 +148,16 @@ parts_break limits old mid before now h more a (Some not_utf8) p = (
   p.4,
 )
 
-ends_parts : (limits : Bounds) (old mid new : Held) (before now after : Told) (h : log.Head) (flaw : Option Flaw) → AtParts limits old mid before now h → Ends (PartsBreak h) mid new now after flaw → Ends (EndsWith limits) old new before after flaw
-ends_parts limits old mid new before now after h flaw a f = record {
+ends_parts : (limits : Bounds) (old mid new : Held) (before now after : Told) (h : log.Head) (flaw : Option Flaw) → AtParts limits old mid before now h → new.rest ≡ with_feed (head_line h) → Ends (PartsBreak h) mid new now after flaw → Ends (EndsAt limits new.rest) old new before after flaw
+ends_parts limits old mid new before now after h flaw a line f = record {
   piece = a.piece ++ f.piece;
   pulled = pulled_then old.left mid.left new.left before now after a.piece f.piece a.pulled f.pulled;
-  holds = parts_break limits old mid before now h f.piece a flaw f.holds;
+  holds = (
+    parts_break limits old mid before now h f.piece a flaw f.holds,
+    λ more _.
+        let here = (has_head limits old mid before now h f.piece a).line in
+        ap (λ (w : List ℕ). line_of (take 64 w)) line ∙ line_alone (head_line h) here.short here.one ∙ sym (line_held (old.rest ++ (a.piece ++ f.piece)) (head_line h) (mid.rest ++ f.piece) more here),
+  );
   over = f.over;
 }
 
@@ -98,17 +171,17 @@ refused_at_parts limits old mid new before now after h a r = record {
   taken = taken_both old mid new before now after (with_feed (head_line h)) r.front (head_taken limits old mid before now h a) r.taken;
 }
 
-pub stop_at_parts : (limits : Bounds) (old mid new : Held) (before now after : Told) (h : log.Head) (stop : Stop) → AtParts limits old mid before now h → StopAnswer (PartsBreak h) (AwaitsPart (lengths_of h)) mid new now after stop
-    → StopAnswer (EndsWith limits) (AwaitsRecord limits) old new before after stop
-stop_at_parts limits old mid new before now after h FirstLine a s = s
-stop_at_parts limits old mid new before now after h Nothing a s = ends_parts limits old mid new before now after h None a s
-stop_at_parts limits old mid new before now after h Form a s = ends_parts limits old mid new before now after h (Some bad_line) a s
-stop_at_parts limits old mid new before now after h Number a s = ends_parts limits old mid new before now after h (Some bad_number) a s
-stop_at_parts limits old mid new before now after h Short a s = ends_parts limits old mid new before now after h (Some cut_short) a s
-stop_at_parts limits old mid new before now after h End a s = ends_parts limits old mid new before now after h (Some bad_end) a s
-stop_at_parts limits old mid new before now after h Text a s = ends_parts limits old mid new before now after h (Some not_utf8) a s
-stop_at_parts limits old mid new before now after h Read a s = failed_then old.left mid.left before now after a.piece a.pulled s
-stop_at_parts limits old mid new before now after h Memory a s = refused_at_parts limits old mid new before now after h a s
+pub stop_at_parts : (limits : Bounds) (old mid new : Held) (before now after : Told) (h : log.Head) (stop : Stop) → AtParts limits old mid before now h → (is_flaw stop ≡ true → new.rest ≡ with_feed (head_line h)) → StopAnswer (PartsBreak h) (AwaitsPart (lengths_of h)) mid new now after stop
+    → StopAnswer (EndsAt limits new.rest) (AwaitsRecord limits) old new before after stop
+stop_at_parts limits old mid new before now after h FirstLine a line s = s
+stop_at_parts limits old mid new before now after h Nothing a line s = absurd s.holds
+stop_at_parts limits old mid new before now after h Form a line s = absurd s.holds
+stop_at_parts limits old mid new before now after h Number a line s = absurd s.holds
+stop_at_parts limits old mid new before now after h Short a line s = ends_parts limits old mid new before now after h (Some cut_short) a (line refl) s
+stop_at_parts limits old mid new before now after h End a line s = ends_parts limits old mid new before now after h (Some bad_end) a (line refl) s
+stop_at_parts limits old mid new before now after h Text a line s = ends_parts limits old mid new before now after h (Some not_utf8) a (line refl) s
+stop_at_parts limits old mid new before now after h Read a line s = failed_then old.left mid.left before now after a.piece a.pulled s
+stop_at_parts limits old mid new before now after h Memory a line s = refused_at_parts limits old mid new before now after h a s
 
 pub found_record : (limits : Bounds) (old mid new : Held) (before now after : Told) (h : log.Head) (r : log.Record) → AtParts limits old mid before now h → HasParts mid new now after h r → Found limits old new before after r
 found_record limits old mid new before now after h r a p = record {
@@ -122,3 +195,7 @@ found_record limits old mid new before now after h r a p = record {
   };
   fits = record { range = ap (in_range limits) p.heads ∙ a.range; text = p.text };
 }
+
+-- the line of the head, as it stood in front
+pub head_front : (limits : Bounds) (rest near : List ℕ) (end : ℕ) (h : Head) → end < length rest → HasLine rest (take end rest) (drop (end + 1) rest) → near ≡ rest → IsHead limits (take end near) h → take (end + 1) rest ≡ with_feed (head_line (head_view h))
+head_front limits rest near end h below line same head = line_front rest end below line ∙ ap with_feed (ap (take end) (sym same) ∙ head.is)

@@ -3,7 +3,7 @@ use Rattle.std.proofs.Common.{◌≡◌, ◌⊎◌, ℕ, ◌+◌, ◌-◌, ◌<�
 use Rattle.std.specs.Prelude.{nat_lt}
 use Rattle.std.specs.List.{flat_map, AllByRecursion}
 use Rattle.std.specs.Io.KnownBytes.{IsAtEnd}
-use Rattle.std.proofs.lemmas.List.{length-append, take-append-le, take-append-drop, take_at, length-take}
+use Rattle.std.proofs.lemmas.List.{length-append, take-append-le, take-append-drop, take_at, length-take, take_all}
 use Rattle.std.proofs.lemmas.Bool.{cases_lt}
 use borrow.Author.Tests.{lt-ltb, ltb-true}
 use Rattle.lsp_frame.specs.Bounds.{Bounds, IsInRange}
@@ -11,10 +11,11 @@ use Rattle.lsp_frame.specs.Told.{Told, Gave}
 use Rattle.lsp_frame.specs.declared.format.Format.{Format}
 use Rattle.lsp_log.specs.Log as log
 use Rattle.lsp_log.specs.Log.{Flaw, bad_line, bad_number, cut_short, bad_end, not_utf8, EndsWith, Fits, spelling, first_line, HasRecords, IsLog, code_of, at_record}
+use Rattle.lsp_log.specs.Place.{place_of, line_of, shown_line, found_behind}
 use Rattle.lsp_log.specs.Tape.{Held, ReadFailed, IsOver, IsCutAt}
 use Rattle.lsp_log.specs.Room.{AwaitsRecord}
-use Rattle.lsp_log.specs.Stops.{Ends, Refused, LacksFirst, wants_bytes}
-use Rattle.lsp_log.specs.Reader.{State, StandsFor, StandsAt, Reads, ReadsNone, Begins, Given, kept_by, kept_in, MayFollow, TellsFormat, answer_of}
+use Rattle.lsp_log.specs.Stops.{Ends, EndsAt, HoldsLine, Refused, LacksFirst, wants_bytes}
+use Rattle.lsp_log.specs.Reader.{State, StandsFor, StandsAt, Reads, ReadsNone, Begins, Given, kept_by, kept_in, MayFollow, TellsFormat, answer_of, shown_by}
 use Rattle.lsp_log.specs.Ending.{FoundFrom, EndAnswer, CutEnd, end_of, next_number, fault_of}
 use Rattle.lsp_log.specs.declared.fault.LogCode.{LogCode}
 use Rattle.lsp_log.specs.declared.fault.LogCode.TheVariants.{L1}
@@ -28,15 +29,17 @@ use Rattle.lsp_frame.proofs.Telling.{gave_then}
 use Rattle.lsp_log.proofs.LogLemmas.{first_len}
 use Rattle.lsp_log.proofs.Tapes.{failed_then}
 use Rattle.lsp_log.proofs.Reading.{reads_at, none_at, left_at, behind, number_is, ends_there, two_codes, take_more}
+use Rattle.lsp_log.proofs.Places.{shown_there}
 
 -- the log ends so behind these records, whatever may follow
-record Closed (limits : Bounds) (format : Format) (before after : Told) (bytes : List ℕ) (records : List log.Record) (code : Option LogCode) : Type 0 where
+record Closed (limits : Bounds) (format : Format) (before after : Told) (bytes held : List ℕ) (records : List log.Record) (code : Option LogCode) : Type 0 where
   piece : List ℕ
   read : Gave before after piece
   within : length (bytes ++ piece) ≤ limits.log + 1
   failures : after.failures ≡ before.failures
   at_end : code ≡ None → IsAtEnd after.bytes
   holds : (more : List ℕ) → MayFollow after more → HasRecords limits format ((bytes ++ piece) ++ more) records code
+  shows : (more : List ℕ) → MayFollow after more → line_of (take 64 held) ≡ found_behind limits (Some format) records ((bytes ++ piece) ++ more)
 
 is_less : (m n : ℕ) → m < n → nat_lt m n ≡ true
 is_less m n less = lt-ltb m n less
@@ -53,7 +56,7 @@ with_code : (limits : Bounds) (format : Format) (all : List ℕ) (records : List
 with_code limits format all records flaw c d same h = subst (λ (b : Bool). HasRecords limits format all records (code_of flaw b)) same h
 
 -- all that was read, behind which the records end
-record Reached (limits : Bounds) (format : Format) (before now : Told) (bytes : List ℕ) (records : List log.Record) (left : ℕ) (flaw : Option Flaw) : Type 0 where
+record Reached (limits : Bounds) (format : Format) (before now : Told) (bytes held : List ℕ) (records : List log.Record) (left : ℕ) (flaw : Option Flaw) : Type 0 where
   piece : List ℕ
   read : Gave before now piece
   failures : now.failures ≡ before.failures
@@ -63,8 +66,9 @@ record Reached (limits : Bounds) (format : Format) (before now : Told) (bytes : 
   whole : bytes ++ piece ≡ (first_line format ++ flat_map spelling records) ++ rest
   fits : AllByRecursion (Fits limits) records
   ends : EndsWith limits rest flaw
+  line : HoldsLine held rest flaw
 
-reached : (s : State) (tape : Held) (before now : Told) (bytes : List ℕ) (records : List log.Record) (flaw : Option Flaw) (o : Reads s bytes records) → Ends (EndsWith s.limits) s.tape tape before now flaw → Reached s.limits o.format before now bytes records tape.left flaw
+reached : (s : State) (tape : Held) (before now : Told) (bytes : List ℕ) (records : List log.Record) (flaw : Option Flaw) (o : Reads s bytes records) → Ends (EndsAt s.limits tape.rest) s.tape tape before now flaw → Reached s.limits o.format before now bytes tape.rest records tape.left flaw
 reached s tape before now bytes records flaw o e = record {
   piece = e.piece;
   read = e.pulled.read;
@@ -74,12 +78,13 @@ reached s tape before now bytes records flaw o e = record {
   rest = s.tape.rest ++ e.piece;
   whole = behind s bytes e.piece (s.tape.rest ++ e.piece) records o refl;
   fits = o.fits;
-  ends = e.holds;
+  ends = e.holds.0;
+  line = e.holds.1;
 }
 
 -- no bytes are wanted: whatever follows changes nothing
-closed_whole : (limits : Bounds) (format : Format) (before now : Told) (bytes : List ℕ) (records : List log.Record) (left : ℕ) (flaw : Option Flaw) → wants_bytes flaw ≡ false → Reached limits format before now bytes records left flaw → Closed limits format before now bytes records (code_of flaw false)
-closed_whole limits format before now bytes records left flaw none r = record {
+closed_whole : (limits : Bounds) (format : Format) (before now : Told) (bytes held : List ℕ) (records : List log.Record) (left : ℕ) (flaw : Option Flaw) → wants_bytes flaw ≡ false → Reached limits format before now bytes held records left flaw → Closed limits format before now bytes held records (code_of flaw false)
+closed_whole limits format before now bytes held records left flaw none r = record {
   piece = r.piece;
   read = r.read;
   within = omega (arith, r.left_is);
@@ -88,6 +93,7 @@ closed_whole limits format before now bytes records left flaw none r = record {
   holds = λ more _. subst (λ (c : Option LogCode). HasRecords limits format ((bytes ++ r.piece) ++ more) records c)
       (two_codes flaw (nat_lt limits.log (length ((bytes ++ r.piece) ++ more))) false none)
       (ends_there limits format (bytes ++ r.piece) more r.rest records flaw r.whole r.fits (omega (arith, r.left_is)) r.ends (λ w. let clash : true ≡ false = sym w ∙ none in absurd cc));
+  shows = λ more _. shown_there limits format (bytes ++ r.piece) more r.rest held records flaw r.whole (omega (arith, r.left_is)) r.line (λ w. let clash : true ≡ false = sym w ∙ none in absurd cc);
 }
   where
     has_code : {X : Type 0} (f : Option Flaw) → wants_bytes f ≡ false → code_of f false ≡ None → X
@@ -99,9 +105,9 @@ closed_whole limits format before now bytes records left flaw none r = record {
     has_code (Some not_utf8) p q = absurd cc
 
 -- bytes are wanted, and the log goes on past its limit
-closed_cut : (limits : Bounds) (format : Format) (before now after : Told) (bytes : List ℕ) (records : List log.Record) (left : ℕ) (flaw : Option Flaw) → wants_bytes flaw ≡ true → Reached limits format before now bytes records left flaw → IsCutAt left now after true
-    → Closed limits format before after bytes records (code_of flaw true)
-closed_cut limits format before now after bytes records left flaw wants r (none, byte, read, failures) =
+closed_cut : (limits : Bounds) (format : Format) (before now after : Told) (bytes held : List ℕ) (records : List log.Record) (left : ℕ) (flaw : Option Flaw) → wants_bytes flaw ≡ true → Reached limits format before now bytes held records left flaw → IsCutAt left now after true
+    → Closed limits format before after bytes held records (code_of flaw true)
+closed_cut limits format before now after bytes held records left flaw wants r (none, byte, read, failures) =
     let full : length (bytes ++ r.piece) ≡ limits.log = omega (arith, r.left_is, none) in
     let same : bytes ++ (r.piece ++ byte ∷ []) ≡ (bytes ++ r.piece) ++ byte ∷ [] = sym (append_assoc bytes r.piece (byte ∷ [])) in
     record {
@@ -116,6 +122,10 @@ closed_cut limits format before now after bytes records left flaw wants r (none,
           subst (λ (w : List ℕ). HasRecords limits format w records (code_of flaw true)) whole
           (with_code limits format ((bytes ++ r.piece) ++ (byte ∷ more)) records flaw (nat_lt limits.log (length ((bytes ++ r.piece) ++ (byte ∷ more)))) true long
           (ends_there limits format (bytes ++ r.piece) (byte ∷ more) r.rest records flaw r.whole r.fits (omega (arith, full)) r.ends (λ w. inl (omega (arith, full)))));
+      shows = λ more _.
+          let whole : (bytes ++ r.piece) ++ (byte ∷ more) ≡ (bytes ++ (r.piece ++ byte ∷ [])) ++ more = sym (append_assoc (bytes ++ r.piece) (byte ∷ []) more) ∙ ap (λ (w : List ℕ). w ++ more) (sym same) in
+          shown_there limits format (bytes ++ r.piece) (byte ∷ more) r.rest held records flaw r.whole (omega (arith, full)) r.line (λ w. inl (omega (arith, full)))
+          ∙ ap (found_behind limits (Some format) records) whole;
     }
   where
     has_code : {X : Type 0} (f : Option Flaw) → wants_bytes f ≡ true → code_of f true ≡ None → X
@@ -127,9 +137,9 @@ closed_cut limits format before now after bytes records left flaw wants r (none,
     has_code (Some not_utf8) p q = absurd cc
 
 -- bytes are wanted, and the reader is at its end
-closed_at_end : (limits : Bounds) (format : Format) (before now after : Told) (bytes : List ℕ) (records : List log.Record) (left : ℕ) (flaw : Option Flaw) → wants_bytes flaw ≡ true → Reached limits format before now bytes records left flaw → IsCutAt left now after false
-    → Closed limits format before after bytes records (code_of flaw false)
-closed_at_end limits format before now after bytes records left flaw wants r (read, over, failures) = record {
+closed_at_end : (limits : Bounds) (format : Format) (before now after : Told) (bytes held : List ℕ) (records : List log.Record) (left : ℕ) (flaw : Option Flaw) → wants_bytes flaw ≡ true → Reached limits format before now bytes held records left flaw → IsCutAt left now after false
+    → Closed limits format before after bytes held records (code_of flaw false)
+closed_at_end limits format before now after bytes held records left flaw wants r (read, over, failures) = record {
   piece = r.piece ++ [];
   read = gave_then before now after r.piece [] r.read read;
   within = omega (arith, r.left_is, ap length same);
@@ -142,15 +152,20 @@ closed_at_end limits format before now after bytes records left flaw wants r (re
       subst (λ (w : List ℕ). HasRecords limits format w records (code_of flaw false)) whole
       (with_code limits format ((bytes ++ r.piece) ++ []) records flaw (nat_lt limits.log (length ((bytes ++ r.piece) ++ []))) false short
       (ends_there limits format (bytes ++ r.piece) [] r.rest records flaw r.whole r.fits (omega (arith, r.left_is)) r.ends (λ w. inr refl)));
+  shows = λ more follows.
+      let none : more ≡ [] = follows (over (r.over wants)) in
+      let whole : (bytes ++ r.piece) ++ [] ≡ (bytes ++ (r.piece ++ [])) ++ more = append-nil (bytes ++ r.piece) ∙ sym same ∙ sym (append-nil (bytes ++ (r.piece ++ []))) ∙ ap (λ (w : List ℕ). (bytes ++ (r.piece ++ [])) ++ w) (sym none) in
+      shown_there limits format (bytes ++ r.piece) [] r.rest held records flaw r.whole (omega (arith, r.left_is)) r.line (λ w. inr refl)
+      ∙ ap (found_behind limits (Some format) records) whole;
 }
   where
     same : bytes ++ (r.piece ++ []) ≡ bytes ++ r.piece
     same = ap (λ (w : List ℕ). bytes ++ w) (append-nil r.piece)
 
-closed : (limits : Bounds) (format : Format) (before now after : Told) (bytes : List ℕ) (records : List log.Record) (left : ℕ) (flaw : Option Flaw) (cut : Bool) → wants_bytes flaw ≡ true → Reached limits format before now bytes records left flaw → IsCutAt left now after cut
-    → Closed limits format before after bytes records (code_of flaw cut)
-closed limits format before now after bytes records left flaw true wants r is = closed_cut limits format before now after bytes records left flaw wants r is
-closed limits format before now after bytes records left flaw false wants r is = closed_at_end limits format before now after bytes records left flaw wants r is
+closed : (limits : Bounds) (format : Format) (before now after : Told) (bytes held : List ℕ) (records : List log.Record) (left : ℕ) (flaw : Option Flaw) (cut : Bool) → wants_bytes flaw ≡ true → Reached limits format before now bytes held records left flaw → IsCutAt left now after cut
+    → Closed limits format before after bytes held records (code_of flaw cut)
+closed limits format before now after bytes held records left flaw true wants r is = closed_cut limits format before now after bytes held records left flaw wants r is
+closed limits format before now after bytes held records left flaw false wants r is = closed_at_end limits format before now after bytes held records left flaw wants r is
 
 -- ---- the answers
 
@@ -161,29 +176,37 @@ over s tape end = record s { tape = tape; progress = progress.Over end }
 log_is : (limits : Bounds) (all : List ℕ) (found : Option Format) (format : Format) (records : List log.Record) (code : Option LogCode) → found ≡ Some format → HasRecords limits format all records code → IsLog limits all found records (at_record (length records + 1) code)
 log_is limits all found format records code known h = subst (λ (f : Option Format). IsLog limits all f records (at_record (length records + 1) code)) (sym known) (code, h, refl)
 
-given_code : (s : State) (tape : Held) (format : Format) (before after : Told) (bytes : List ℕ) (records : List log.Record) (code : Option LogCode) → IsInRange s.limits → s.format ≡ Some format → next_number s.given ≡ length records + 1
-    → Closed s.limits format before after bytes records code → Given (over s tape (end_of s.given code)) before after (answer_of (end_of s.given code)) bytes records
-given_code s tape format before after bytes records None range known number c =
+given_code : (s : State) (tape : Held) (format : Format) (before after : Told) (bytes : List ℕ) (records : List log.Record) (code : Option LogCode) → IsInRange s.limits → s.format ≡ Some format → s.place ≡ place_of s.format records → next_number s.given ≡ length records + 1
+    → Closed s.limits format before after bytes tape.rest records code → Given (over s tape (end_of s.given code)) before after (answer_of (end_of s.given code)) bytes records
+given_code s tape format before after bytes records None range known place number c =
     let here : HasRecords s.limits format ((bytes ++ c.piece) ++ []) records None = c.holds [] (λ _. refl) in
     let whole : IsLog s.limits (bytes ++ c.piece) s.format records None =
     subst (λ (w : List ℕ). IsLog s.limits w s.format records None) (append-nil (bytes ++ c.piece)) (log_is s.limits ((bytes ++ c.piece) ++ []) s.format format records None known here) in
-    record { piece = c.piece; read = c.read; within = c.within; stands = (range, whole); tells = (c.at_end refl, whole, c.failures); room = tt }
-given_code s tape format before after bytes records (Some code) range known number c =
+    record { piece = c.piece; read = c.read; within = c.within; stands = (range, whole, place, tt); tells = (c.at_end refl, whole, c.failures); shows = tt; room = tt }
+given_code s tape format before after bytes records (Some code) range known place number c =
     let bad : (more : List ℕ) → MayFollow after more → IsLog s.limits ((bytes ++ c.piece) ++ more) s.format records (Some (next_number s.given, code)) =
     λ more follows. subst (λ (n : ℕ). IsLog s.limits ((bytes ++ c.piece) ++ more) s.format records (Some (n, code))) (sym number) (log_is s.limits ((bytes ++ c.piece) ++ more) s.format format records (Some code) known (c.holds more follows)) in
+    let line : (more : List ℕ) → MayFollow after more → shown_line s.format tape.rest ≡ found_behind s.limits s.format records ((bytes ++ c.piece) ++ more) =
+    λ more follows. subst (λ (f : Option Format). shown_line f tape.rest ≡ found_behind s.limits f records ((bytes ++ c.piece) ++ more)) (sym known) (c.shows more follows) in
     record {
       piece = c.piece;
       read = c.read;
       within = c.within;
-      stands = (range, subst (λ (w : List ℕ). IsLog s.limits w s.format records (Some (next_number s.given, code))) (append-nil (bytes ++ c.piece)) (bad [] (λ _. refl)));
+      stands = (
+        range,
+        subst (λ (w : List ℕ). IsLog s.limits w s.format records (Some (next_number s.given, code))) (append-nil (bytes ++ c.piece)) (bad [] (λ _. refl)),
+        place,
+        line [] (λ _. refl) ∙ ap (found_behind s.limits s.format records) (append-nil (bytes ++ c.piece)),
+      );
       tells = (bad, c.failures);
+      shows = line;
       room = tt;
     }
 
-given_closed : (s : State) (tape : Held) (before after : Told) (bytes : List ℕ) (records : List log.Record) (code : Option LogCode) (end : Result (Unit {0}) LogFault) → end ≡ end_of s.given code → IsInRange s.limits → (o : Reads s bytes records) → Closed s.limits o.format before after bytes records code
+given_closed : (s : State) (tape : Held) (before after : Told) (bytes : List ℕ) (records : List log.Record) (code : Option LogCode) (end : Result (Unit {0}) LogFault) → end ≡ end_of s.given code → IsInRange s.limits → s.place ≡ place_of s.format records → (o : Reads s bytes records) → Closed s.limits o.format before after bytes tape.rest records code
     → Given (over s tape end) before after (answer_of end) bytes records
-given_closed s tape before after bytes records code end same range o c =
-    subst (λ (e : Result (Unit {0}) LogFault). Given (over s tape e) before after (answer_of e) bytes records) (sym same) (given_code s tape o.format before after bytes records code range o.known (number_is s bytes records range o) c)
+given_closed s tape before after bytes records code end same range place o c =
+    subst (λ (e : Result (Unit {0}) LogFault). Given (over s tape e) before after (answer_of e) bytes records) (sym same) (given_code s tape o.format before after bytes records code range o.known place (number_is s bytes records range o) c)
 
 -- ---- the first line is missing
 
@@ -206,18 +229,48 @@ no_first limits held tape before now bytes more rest format l whole left range f
         ∙ take_at (first_line format) rest 14 (first_len format) in
         l.none format (drop 14 (bytes ++ l.piece)) (sym same ∙ sym (take-append-drop 14 (bytes ++ l.piece)) ∙ ap (λ (w : List ℕ). w ++ drop 14 (bytes ++ l.piece)) front)
 
-given_first : (s : State) (tape : Held) (before now : Told) (bytes : List ℕ) (records : List log.Record) → LacksFirst s.tape tape before now → IsInRange s.limits → ReadsNone s bytes records
+-- what stands in its place
+first_shown : (limits : Bounds) (held tape : Held) (before now : Told) (bytes more : List ℕ) (l : LacksFirst held tape before now) → bytes ≡ held.rest → held.left + length bytes ≡ limits.log → IsInRange limits → MayFollow now more
+    → line_of (take 14 tape.rest) ≡ line_of (take 14 (take limits.log ((bytes ++ l.piece) ++ more)))
+first_shown limits held tape before now bytes more l whole left range follows = ap line_of (by_length (cases_lt (length (bytes ++ l.piece)) 14))
+  where
+    same : tape.rest ≡ bytes ++ l.piece
+    same = l.held ∙ ap (λ (w : List ℕ). w ++ l.piece) (sym whole)
+
+    within : length (bytes ++ l.piece) ≤ limits.log
+    within = omega (arith, l.pulled.left, left, length-append bytes l.piece)
+
+    by_length : (length (bytes ++ l.piece) < 14) ⊎ (14 ≤ length (bytes ++ l.piece)) → take 14 tape.rest ≡ take 14 (take limits.log ((bytes ++ l.piece) ++ more))
+    by_length (inl short) =
+        let none : more ≡ [] = follows (l.over (omega (arith, ap length same, ap length l.held, short)) (omega (arith, l.pulled.left, left, length-append bytes l.piece, range.log_low, short))) in
+        let all : (bytes ++ l.piece) ++ more ≡ bytes ++ l.piece = ap (λ (w : List ℕ). (bytes ++ l.piece) ++ w) none ∙ append-nil (bytes ++ l.piece) in
+        ap (take 14) (same ∙ sym (take_all limits.log (bytes ++ l.piece) within) ∙ ap (take limits.log) (sym all))
+    by_length (inr long) =
+        ap (take 14) same
+        ∙ sym (take-append-le 14 (bytes ++ l.piece) (take (limits.log - length (bytes ++ l.piece)) more) long)
+        ∙ ap (take 14) (sym (take_more limits.log (bytes ++ l.piece) more within))
+
+given_first : (s : State) (tape : Held) (before now : Told) (bytes : List ℕ) (records : List log.Record) → LacksFirst s.tape tape before now → IsInRange s.limits → s.place ≡ place_of s.format records → ReadsNone s bytes records
     → Given (over s tape (Err (log_fault.Bad 0 L1))) before now (Err (log_fault.Bad 0 L1)) bytes records
-given_first s tape before now bytes records l range n =
+given_first s tape before now bytes records l range place n =
     let bad : (more : List ℕ) → MayFollow now more → IsLog s.limits ((bytes ++ l.piece) ++ more) s.format records (Some (0, L1)) =
     λ more follows. subst (λ (f : Option Format). IsLog s.limits ((bytes ++ l.piece) ++ more) f records (Some (0, L1))) (sym n.unknown)
     (n.none, refl, λ format rest e. no_first s.limits s.tape tape before now bytes more rest format l n.whole n.left range follows e) in
+    let line : (more : List ℕ) → MayFollow now more → shown_line s.format tape.rest ≡ found_behind s.limits s.format records ((bytes ++ l.piece) ++ more) =
+    λ more follows. subst (λ (f : Option Format). shown_line f tape.rest ≡ found_behind s.limits f records ((bytes ++ l.piece) ++ more)) (sym n.unknown)
+    (first_shown s.limits s.tape tape before now bytes more l n.whole n.left range follows) in
     record {
       piece = l.piece;
       read = l.pulled.read;
       within = omega (arith, l.pulled.left, n.left, length-append bytes l.piece);
-      stands = (range, subst (λ (w : List ℕ). IsLog s.limits w s.format records (Some (0, L1))) (append-nil (bytes ++ l.piece)) (bad [] (λ _. refl)));
+      stands = (
+        range,
+        subst (λ (w : List ℕ). IsLog s.limits w s.format records (Some (0, L1))) (append-nil (bytes ++ l.piece)) (bad [] (λ _. refl)),
+        place,
+        line [] (λ _. refl) ∙ ap (found_behind s.limits s.format records) (append-nil (bytes ++ l.piece)),
+      );
       tells = (bad, l.pulled.failures);
+      shows = line;
       room = tt;
     }
 
@@ -241,19 +294,21 @@ given_read s tape before after bytes records free stands f = record {
   piece = f.piece;
   read = f.read;
   within = omega (arith, f.within, left_at s bytes records s.progress free stands.1, length-append bytes f.piece);
-  stands = (stands.0, begins_at s bytes f.piece records s.progress free stands.1);
+  stands = (stands.0, begins_at s bytes f.piece records s.progress free stands.1, stands.2, tt);
   tells = f.failures;
+  shows = tt;
   room = tt;
 }
 
-given_memory : (s : State) (tape : Held) (before after : Told) (bytes : List ℕ) (records : List log.Record) → IsInRange s.limits → Reads s bytes records → length tape.rest ≤ 64 → Refused (AwaitsRecord s.limits) s.tape tape before after
+given_memory : (s : State) (tape : Held) (before after : Told) (bytes : List ℕ) (records : List log.Record) → IsInRange s.limits → s.place ≡ place_of s.format records → Reads s bytes records → length tape.rest ≤ 64 → Refused (AwaitsRecord s.limits) s.tape tape before after
     → Given (over s tape (Err log_fault.Memory)) before after (Err log_fault.Memory) bytes records
-given_memory s tape before after bytes records range o near r = record {
+given_memory s tape before after bytes records range place o near r = record {
   piece = r.taken.piece;
   read = r.taken.pulled.read;
   within = omega (arith, r.taken.pulled.left, o.left, length-append bytes r.taken.piece);
-  stands = (range, begins_at s bytes r.taken.piece records progress.Records refl o);
+  stands = (range, begins_at s bytes r.taken.piece records progress.Records refl o, place, tt);
   tells = r.taken.pulled.failures;
+  shows = tt;
   room = (o.format, r.front, o.known, r.awaits, behind s bytes r.taken.piece (r.front ++ tape.rest) records o r.taken.whole, near);
 }
 
@@ -266,23 +321,23 @@ cut_cases s now after stop (Err (log_fault.Bad number code)) c = inr c
 cut_cases s now after stop (Err log_fault.Read) c = inl (c.0, c.1, refl)
 cut_cases s now after stop (Err log_fault.Memory) c = inr c
 
-whole_end : (s : State) (tape : Held) (before now after : Told) (bytes : List ℕ) (records : List log.Record) (flaw : Option Flaw) (end : Result (Unit {0}) LogFault) → IsInRange s.limits → Reads s bytes records → wants_bytes flaw ≡ false → Ends (EndsWith s.limits) s.tape tape before now flaw
+whole_end : (s : State) (tape : Held) (before now after : Told) (bytes : List ℕ) (records : List log.Record) (flaw : Option Flaw) (end : Result (Unit {0}) LogFault) → StandsFor s bytes records → Reads s bytes records → wants_bytes flaw ≡ false → Ends (EndsAt s.limits tape.rest) s.tape tape before now flaw
     → (after ≡ now) × (end ≡ end_of s.given (code_of flaw false)) → Given (over s tape end) before after (answer_of end) bytes records
-whole_end s tape before now after bytes records flaw end range o none e is =
+whole_end s tape before now after bytes records flaw end stands o none e is =
     subst (λ (t : Told). Given (over s tape end) before t (answer_of end) bytes records) (sym is.0)
-    (given_closed s tape before now bytes records (code_of flaw false) end is.1 range o
-    (closed_whole s.limits o.format before now bytes records tape.left flaw none (reached s tape before now bytes records flaw o e)))
+    (given_closed s tape before now bytes records (code_of flaw false) end is.1 stands.0 stands.2 o
+    (closed_whole s.limits o.format before now bytes tape.rest records tape.left flaw none (reached s tape before now bytes records flaw o e)))
 
 cut_end : (s : State) (tape : Held) (before now after : Told) (bytes : List ℕ) (records : List log.Record) (flaw : Option Flaw) (end : Result (Unit {0}) LogFault) → kept_by s ≡ None → StandsFor s bytes records → Reads s bytes records → wants_bytes flaw ≡ true
-    → Ends (EndsWith s.limits) s.tape tape before now flaw → ((tape.left ≡ 0) × ReadFailed 0 now after × (end ≡ Err log_fault.Read)) ⊎ ((cut : Bool) × IsCutAt tape.left now after cut × (end ≡ end_of s.given (code_of flaw cut)))
+    → Ends (EndsAt s.limits tape.rest) s.tape tape before now flaw → ((tape.left ≡ 0) × ReadFailed 0 now after × (end ≡ Err log_fault.Read)) ⊎ ((cut : Bool) × IsCutAt tape.left now after cut × (end ≡ end_of s.given (code_of flaw cut)))
     → Given (over s tape end) before after (answer_of end) bytes records
 cut_end s tape before now after bytes records flaw end free stands o wants e (inl (none, failed, is)) =
     subst (λ (a : Result (Unit {0}) LogFault). Given (over s tape a) before after (answer_of a) bytes records) (sym is)
     (given_read s tape before after bytes records free stands
     (failed_then s.tape.left tape.left before now after e.piece e.pulled (subst (λ (n : ℕ). ReadFailed n now after) (sym none) failed)))
 cut_end s tape before now after bytes records flaw end free stands o wants e (inr (cut, at, is)) =
-    given_closed s tape before after bytes records (code_of flaw cut) end is stands.0 o
-    (closed s.limits o.format before now after bytes records tape.left flaw cut wants (reached s tape before now bytes records flaw o e) at)
+    given_closed s tape before after bytes records (code_of flaw cut) end is stands.0 stands.2 o
+    (closed s.limits o.format before now after bytes tape.rest records tape.left flaw cut wants (reached s tape before now bytes records flaw o e) at)
 
 -- where nothing more is read
 as_is : (s : State) (tape : Held) (before now after : Told) (bytes : List ℕ) (records : List log.Record) (fault : LogFault) (end : Result (Unit {0}) LogFault) → (after ≡ now) × (end ≡ Err fault) → Given (over s tape (Err fault)) before now (Err fault) bytes records
@@ -294,15 +349,15 @@ as_is s tape before now after bytes records fault end is g =
 -- **What an answer that is no record says, of a reader that is behind its first line or has none.**
 pub ends_at : (s : State) (tape : Held) (before now after : Told) (stop : Stop) (end : Result (Unit {0}) LogFault) (bytes : List ℕ) (records : List log.Record) → kept_by s ≡ None → StandsFor s bytes records → FoundFrom s tape before now (Err stop)
     → EndAnswer (record s { tape = tape }) now after stop end → Given (over s tape end) before after (answer_of end) bytes records
-ends_at s tape before now after FirstLine end bytes records free stands a e = as_is s tape before now after bytes records (log_fault.Bad 0 L1) end e (given_first s tape before now bytes records a.2 stands.0 (none_at s bytes records a.0 stands))
+ends_at s tape before now after FirstLine end bytes records free stands a e = as_is s tape before now after bytes records (log_fault.Bad 0 L1) end e (given_first s tape before now bytes records a.2 stands.0 stands.2 (none_at s bytes records a.0 stands))
 ends_at s tape before now after Nothing end bytes records free stands a e = cut_end s tape before now after bytes records None end free stands (reads_at s bytes records a.0 stands) refl a.3 (cut_cases (record s { tape = tape }) now after Nothing end e)
-ends_at s tape before now after Form end bytes records free stands a e = whole_end s tape before now after bytes records (Some bad_line) end stands.0 (reads_at s bytes records a.0 stands) refl a.3 e
-ends_at s tape before now after Number end bytes records free stands a e = whole_end s tape before now after bytes records (Some bad_number) end stands.0 (reads_at s bytes records a.0 stands) refl a.3 e
+ends_at s tape before now after Form end bytes records free stands a e = whole_end s tape before now after bytes records (Some bad_line) end stands (reads_at s bytes records a.0 stands) refl a.3 e
+ends_at s tape before now after Number end bytes records free stands a e = whole_end s tape before now after bytes records (Some bad_number) end stands (reads_at s bytes records a.0 stands) refl a.3 e
 ends_at s tape before now after Short end bytes records free stands a e = cut_end s tape before now after bytes records (Some cut_short) end free stands (reads_at s bytes records a.0 stands) refl a.3 (cut_cases (record s { tape = tape }) now after Short end e)
-ends_at s tape before now after End end bytes records free stands a e = whole_end s tape before now after bytes records (Some bad_end) end stands.0 (reads_at s bytes records a.0 stands) refl a.3 e
-ends_at s tape before now after Text end bytes records free stands a e = whole_end s tape before now after bytes records (Some not_utf8) end stands.0 (reads_at s bytes records a.0 stands) refl a.3 e
+ends_at s tape before now after End end bytes records free stands a e = whole_end s tape before now after bytes records (Some bad_end) end stands (reads_at s bytes records a.0 stands) refl a.3 e
+ends_at s tape before now after Text end bytes records free stands a e = whole_end s tape before now after bytes records (Some not_utf8) end stands (reads_at s bytes records a.0 stands) refl a.3 e
 ends_at s tape before now after Read end bytes records free stands a e = as_is s tape before now after bytes records log_fault.Read end e (given_read s tape before now bytes records free stands a)
-ends_at s tape before now after Memory end bytes records free stands a e = as_is s tape before now after bytes records log_fault.Memory end e (given_memory s tape before now bytes records stands.0 (reads_at s bytes records a.0 stands) a.2 a.3)
+ends_at s tape before now after Memory end bytes records free stands a e = as_is s tape before now after bytes records log_fault.Memory end e (given_memory s tape before now bytes records stands.0 stands.2 (reads_at s bytes records a.0 stands) a.2 a.3)
 
 -- ---- what it says of the format
 

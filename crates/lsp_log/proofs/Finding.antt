@@ -1,5 +1,5 @@
 -- A step of a reader: it reads its first line where it did not yet, and then a record.
-use Rattle.std.proofs.Common.{◌≡◌, ℕ, ◌+◌, ◌<◌, ◌≤◌, List, [], ◌∷◌, ◌++◌, length, Option, Some, None, IsSome, Result, Ok, Err, refl, sym, ap, subst, ◌∙◌, append_assoc, arith}
+use Rattle.std.proofs.Common.{◌≡◌, ℕ, ◌+◌, ◌-◌, ◌<◌, ◌≤◌, List, [], ◌∷◌, ◌++◌, length, Option, Some, None, IsSome, Result, Ok, Err, refl, sym, ap, subst, ◌∙◌, append_assoc, arith}
 use Rattle.std.specs.List.{flat_map}
 use Rattle.std.proofs.lemmas.List.{length-append}
 use Rattle.lsp_frame.specs.Told.{Told, after_failure}
@@ -9,7 +9,7 @@ use Rattle.lsp_log.specs.Log.{spelling, with_feed, head_line, head_of, parts_of,
 use Rattle.lsp_log.specs.Tape.{Held, Taken}
 use Rattle.lsp_log.specs.Stops.{FoundAnswer, FirstAnswer}
 use Rattle.lsp_log.specs.Records.{record_view}
-use Rattle.lsp_log.specs.Reader.{State, ahead, StandsFor, Given, Gives, Tells, LacksRoom, records_with, kept_by, TellsFormat, FitsProgress, answer_of}
+use Rattle.lsp_log.specs.Reader.{State, ahead, passed, Shows, StandsFor, Given, Gives, Tells, LacksRoom, records_with, kept_by, TellsFormat, FitsProgress, answer_of}
 use Rattle.lsp_log.specs.Ending.{Starts, started, starts, FoundFrom, FindAnswer, StartAnswer, EndAnswer, next_number}
 use Rattle.lsp_log.specs.declared.fault.LogFault.{LogFault}
 use Rattle.lsp_log.specs.declared.fault.LogFault.TheVariants as log_fault
@@ -40,10 +40,10 @@ pub start_fails : (old s : State) (tape : Held) (before after : Told) (stop : St
 start_fails old s tape before after stop same at fits f =
     subst (λ (x : State). FindAnswer x (record s { tape = tape }) before after (Err stop)) same (first_fails s tape before after stop at (subst (λ (p : Progress). FitsProgress p s.format) at fits) f)
 
-pub start_done : (old s : State) (tape : Held) (format : Format) (before after : Told) → s ≡ old → s.progress ≡ progress.FirstLine → Taken s.tape tape before after (first_line format)
-    → Starts old (record s { tape = tape; progress = progress.Records; format = Some format }) before after
-start_done old s tape format before after same at t =
-    subst (λ (x : State). Starts x (record s { tape = tape; progress = progress.Records; format = Some format }) before after) same (starts format at refl t)
+pub start_done : (old s : State) (tape : Held) (format : Format) (place : ℕ) (before after : Told) → s ≡ old → s.progress ≡ progress.FirstLine → place ≡ s.limits.log - tape.left - length tape.rest → Taken s.tape tape before after (first_line format)
+    → Starts old (record s { tape = tape; progress = progress.Records; format = Some format; place = place }) before after
+start_done old s tape format place before after same at is t =
+    subst (λ (x : State). Starts x (record s { tape = tape; progress = progress.Records; format = Some format; place = place }) before after) same (starts format at refl is t)
 
 -- ---- a record behind it
 
@@ -87,6 +87,7 @@ given_behind s mid new before now after result bytes records m g =
       read = gave_then before now after m.piece g.piece m.read g.read;
       within = subst (λ (w : List ℕ). length w ≤ new.limits.log + 1) same g.within;
       stands = subst (λ (w : List ℕ). StandsFor new w (records_with records result)) same g.stands;
+      shows = subst (λ (w : List ℕ). Shows new after w records result) same g.shows;
       tells = subst (λ (w : List ℕ). Tells new before after w records result) same (tells_from new before now after ((bytes ++ m.piece) ++ g.piece) records result m.failures g.tells);
       room = subst (λ (w : List ℕ). LacksRoom new w records result) same g.room;
     }
@@ -103,29 +104,31 @@ gives_end s m i before now after stop end result same is free f e bytes records 
     (given_behind s f.mid (over f.mid m.tape end) before f.now after (answer_of end) bytes records v
     (ends_at f.mid m.tape f.now now after stop end (bytes ++ v.piece) records v.free v.stands f.found at)))
 
-given_record : (s : State) (tape : Held) (given : ℕ) (before after : Told) (r : Record) (bytes : List ℕ) (records : List log.Record) → given ≡ next_number s.given → FoundFrom s tape before after (Ok r) → StandsFor s bytes records
-    → Given (record s { tape = tape; given = given }) before after (Ok (Some r)) bytes records
-given_record s tape given before after r bytes records number a stands =
+given_record : (s : State) (tape : Held) (given place : ℕ) (before after : Told) (r : Record) (bytes : List ℕ) (records : List log.Record) → given ≡ next_number s.given → place ≡ s.limits.log - tape.left - length tape.rest → FoundFrom s tape before after (Ok r) → StandsFor s bytes records
+    → Given (record s { tape = tape; given = given; place = place }) before after (Ok (Some r)) bytes records
+given_record s tape given place before after r bytes records number is a stands =
     let o = reads_at s bytes records a.0 stands in
     let t = (a.3).taken in
     record {
       piece = t.piece;
       read = t.pulled.read;
       within = omega (arith, t.pulled.left, o.left, length-append bytes t.piece);
-      stands = stands_at (record s { tape = tape; given = given }) (bytes ++ t.piece) (records ++ record_view r ∷ []) a.0 stands.0 (record_stands s tape given before after bytes records (record_view r) a.3 stands.0 o number);
+      stands = stands_at (record s { tape = tape; given = given; place = place }) (bytes ++ t.piece) (records ++ record_view r ∷ []) a.0 stands.0 (record_stands s tape given place before after bytes records (record_view r) a.3 stands.0 o number) is;
+      shows = tt;
       tells = t.pulled.failures;
       room = tt;
     }
 
 -- **What an answer that is a record says.**
-pub gives_record : (s m i : State) (given : ℕ) (before after : Told) (r : Record) → i ≡ m → given ≡ next_number i.given → kept_by s ≡ None → FindAnswer s m before after (Ok r) → Gives s (record i { given = given }) before after (Ok (Some r))
-gives_record s m i given before after r same number free f bytes records stands =
+pub gives_record : (s m i : State) (given place : ℕ) (before after : Told) (r : Record) → i ≡ m → given ≡ next_number i.given → place ≡ passed i → kept_by s ≡ None → FindAnswer s m before after (Ok r) → Gives s (record i { given = given; place = place }) before after (Ok (Some r))
+gives_record s m i given place before after r same number is free f bytes records stands =
     let v = moved s f.mid before f.now bytes records f.begins free stands in
-    let now : record i { given = given } ≡ record f.mid { tape = m.tape; given = given } = ap (λ (x : State). record x { given = given }) (same ∙ f.same) in
+    let now : record i { given = given; place = place } ≡ record f.mid { tape = m.tape; given = given; place = place } = ap (λ (x : State). record x { given = given; place = place }) (same ∙ f.same) in
+    let is_2 : place ≡ f.mid.limits.log - m.tape.left - length m.tape.rest = is ∙ ap passed (same ∙ f.same) in
     let number_2 : given ≡ next_number f.mid.given = number ∙ ap (λ (x : State). next_number x.given) (same ∙ f.same) in
     subst (λ (x : State). Given x before after (Ok (Some r)) bytes records) (sym now)
-    (given_behind s f.mid (record f.mid { tape = m.tape; given = given }) before f.now after (Ok (Some r)) bytes records v
-    (given_record f.mid m.tape given f.now after r (bytes ++ v.piece) records number_2 f.found v.stands))
+    (given_behind s f.mid (record f.mid { tape = m.tape; given = given; place = place }) before f.now after (Ok (Some r)) bytes records v
+    (given_record f.mid m.tape given place f.now after r (bytes ++ v.piece) records number_2 is_2 f.found v.stands))
 
 -- ---- how much may still be given
 
@@ -134,11 +137,11 @@ spelling_some r = omega (arith, length-append (with_feed (head_line (head_of r))
 
 first_less : (s mid : State) (before now : Told) → Starts s mid before now → ahead mid ≤ ahead s
 first_less s mid before now (started same told) = subst (λ (m : State). ahead m ≤ ahead s) (sym same) (omega arith)
-first_less s mid before now (starts format at is t) =
+first_less s mid before now (starts format at is place t) =
     omega (arith, t.pulled.left, ap length t.whole, length-append s.tape.rest t.piece, length-append (first_line format) mid.tape.rest)
 
-pub less_ahead : (s m i : State) (given : ℕ) (before after : Told) (r : Record) → i ≡ m → FindAnswer s m before after (Ok r) → ahead (record i { given = given }) < ahead s
-less_ahead s m i given before after r same f =
+pub less_ahead : (s m i : State) (given place : ℕ) (before after : Told) (r : Record) → i ≡ m → FindAnswer s m before after (Ok r) → ahead (record i { given = given; place = place }) < ahead s
+less_ahead s m i given place before after r same f =
     let t = (f.found.3).taken in
     let less : ahead m < ahead s =
     omega (
@@ -150,7 +153,7 @@ less_ahead s m i given before after r same f =
       length-append (spelling (record_view r)) m.tape.rest,
       spelling_some (record_view r),
     ) in
-    subst (λ (x : State). ahead (record x { given = given }) < ahead s) (sym same) less
+    subst (λ (x : State). ahead (record x { given = given; place = place }) < ahead s) (sym same) less
 
 pub near : (s m i : State) (before after : Told) (r : Record) → i ≡ m → FindAnswer s m before after (Ok r) → length i.tape.rest ≤ 64
 near s m i before after r same f = subst (λ (x : State). length x.tape.rest ≤ 64) (sym same) f.found.2

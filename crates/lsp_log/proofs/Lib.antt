@@ -2,11 +2,13 @@ pub mod Numerals
 pub mod LogLemmas
 pub mod Bytes
 pub mod Heads
+pub mod Lines
 pub mod Tapes
 pub mod Fitting
 pub mod AtFront
 pub mod Parts
 pub mod Breaking
+pub mod Places
 pub mod Reading
 pub mod Ended
 pub mod Finding

@@ -6,7 +6,8 @@ use Rattle.std.proofs.lemmas.List.{append_cancel_left, length-append, take_all}
 use Rattle.lsp_frame.specs.Bounds.{Bounds, IsInRange}
 use Rattle.lsp_frame.specs.declared.format.Format.{Format}
 use Rattle.lsp_log.specs.declared.fault.LogCode.{LogCode}
-use Rattle.lsp_log.specs.Laws.{OneLog, RecordsComeFirst, WrittenIsRead}
+use Rattle.lsp_log.specs.Laws.{OneLog, RecordsComeFirst, WrittenIsRead, OnePlace}
+use Rattle.lsp_log.specs.Place.{place_of, found_behind, IsFaultAt}
 use Rattle.lsp_log.specs.Log.{first_line, HasRecords, at_record, code_of, Flaw, bad_line, bad_number, cut_short, bad_end, not_utf8, EndsWith, Breaks, HasLine, Fits, parts_flaw, lengths_of, in_range, is_writable, Record, Head, head_line, head_of, parts_of, with_feed, spelling, holds_feed}
 use Rattle.lsp_log.proofs.LogLemmas.{cut_one, same_head, head_holds_no, head_short, holds_near, holds_cut, parts_stand, range_writable, clash, records_one, spelling_one, no_record_at_end, one_format, has_first_line, T-is}
 use Rattle.lsp_log.proofs.Ended.{not_less}
@@ -148,6 +149,18 @@ one_log limits sizes bytes (Some p) (Some q) rs us f g a b =
 one_log limits sizes bytes (Some p) None rs us f g a b = absurd (has_first_line limits p bytes rs a.0 a.1 b.2)
 one_log limits sizes bytes None (Some q) rs us f g a b = absurd (has_first_line limits q bytes us b.0 b.1 a.2)
 one_log limits sizes bytes None None rs us f g a b = (refl, a.0 ∙ sym b.0, a.1 ∙ sym b.1)
+
+-- ---- the place of its fault
+
+pub one_place : OnePlace
+one_place limits sizes bytes format records fault is_log = (
+  record { format = format; records = records; fault = fault; is_log = is_log; place_is = refl; line_is = refl },
+  λ place line is.
+      let one = one_log limits sizes bytes is.format format is.records records (Some is.fault) (Some fault) is.is_log is_log in (
+        is.place_is ∙ ap (λ (f : Option Format). place_of f is.records) one.0 ∙ ap (place_of format) one.1,
+        is.line_is ∙ ap (λ (f : Option Format). found_behind limits f is.records bytes) one.0 ∙ ap (λ (rs : List Record). found_behind limits format rs bytes) one.1,
+      ),
+)
 
 -- ---- the first records
 

@@ -12,7 +12,8 @@ use Rattle.lsp_log.specs.Log as log
 use Rattle.lsp_log.specs.Log.{Flaw, bad_line, bad_number, cut_short, bad_end, not_utf8, EndsWith, Fits, spelling, with_feed, head_line, head_of, parts_of, first_line, BeginsLog, HasRecords, code_of}
 use Rattle.lsp_log.specs.Tape.{Held, Taken}
 use Rattle.lsp_log.specs.Stops.{Found, wants_bytes}
-use Rattle.lsp_log.specs.Reader.{State, StandsFor, StandsAt, Reads, ReadsNone, kept_by, kept_in}
+use Rattle.lsp_log.specs.Place.{place_of}
+use Rattle.lsp_log.specs.Reader.{State, StandsFor, StandsAt, ShowsAt, Reads, ReadsNone, passed, kept_by, kept_in}
 use Rattle.lsp_log.specs.Ending.{Starts, started, starts, next_number}
 use Rattle.lsp_log.specs.declared.reader.Progress.{Progress}
 use Rattle.lsp_log.specs.declared.reader.Progress.TheVariants as progress
@@ -27,8 +28,15 @@ reads_at s bytes records at stands = subst (λ (p : Progress). StandsAt p s byte
 pub none_at : (s : State) (bytes : List ℕ) (records : List log.Record) → s.progress ≡ progress.FirstLine → StandsFor s bytes records → ReadsNone s bytes records
 none_at s bytes records at stands = subst (λ (p : Progress). StandsAt p s bytes records) at stands.1
 
-pub stands_at : (s : State) (bytes : List ℕ) (records : List log.Record) → s.progress ≡ progress.Records → IsInRange s.limits → Reads s bytes records → StandsFor s bytes records
-stands_at s bytes records at range r = (range, subst (λ (p : Progress). StandsAt p s bytes records) (sym at) r)
+-- what was given are the first line and the records
+pub passed_is : (s : State) (bytes : List ℕ) (records : List log.Record) → Reads s bytes records → passed s ≡ place_of s.format records
+passed_is s bytes records o =
+    let front : List ℕ = first_line o.format ++ flat_map spelling records in
+    let e : s.limits.log - s.tape.left - length s.tape.rest ≡ length front = omega (arith, o.left, ap length o.whole, length-append front s.tape.rest) in
+    e ∙ ap (λ (f : Option Format). place_of f records) (sym o.known)
+
+pub stands_at : (s : State) (bytes : List ℕ) (records : List log.Record) → s.progress ≡ progress.Records → IsInRange s.limits → Reads s bytes records → s.place ≡ passed s → StandsFor s bytes records
+stands_at s bytes records at range r place = (range, subst (λ (p : Progress). StandsAt p s bytes records) (sym at) r, place ∙ passed_is s bytes records r, subst (λ (p : Progress). ShowsAt p s bytes records) (sym at) tt)
 
 pub open_records : (p : Progress) → kept_in p ≡ None → (p ≡ progress.FirstLine → ⊥) → p ≡ progress.Records
 open_records progress.FirstLine free not_first = absurd (not_first refl)
@@ -50,9 +58,9 @@ behind s bytes piece more records o is =
 
 -- ---- the first line is read
 
-first_stands : (s : State) (tape : Held) (before now : Told) (format : Format) (bytes : List ℕ) (records : List log.Record) → (t : Taken s.tape tape before now (first_line format)) → ReadsNone s bytes records
-    → Reads (record s { tape = tape; progress = progress.Records; format = Some format }) (bytes ++ t.piece) records
-first_stands s tape before now format bytes records t n = record {
+first_stands : (s : State) (tape : Held) (place : ℕ) (before now : Told) (format : Format) (bytes : List ℕ) (records : List log.Record) → (t : Taken s.tape tape before now (first_line format)) → ReadsNone s bytes records
+    → Reads (record s { tape = tape; progress = progress.Records; format = Some format; place = place }) (bytes ++ t.piece) records
+first_stands s tape place before now format bytes records t n = record {
   format = format;
   known = refl;
   whole = ap (λ (w : List ℕ). w ++ t.piece) n.whole ∙ t.whole ∙ ap (λ (w : List ℕ). w ++ tape.rest) (sym (append-nil (first_line format)) ∙ ap (λ (rs : List log.Record). first_line format ++ flat_map spelling rs) (sym n.none));
@@ -60,6 +68,12 @@ first_stands s tape before now format bytes records t n = record {
   left = omega (arith, t.pulled.left, n.left, length-append bytes t.piece);
   given = n.given ∙ ap length (sym n.none);
 }
+
+first_stood : (s : State) (tape : Held) (place : ℕ) (before now : Told) (format : Format) (bytes : List ℕ) (records : List log.Record) → (t : Taken s.tape tape before now (first_line format)) → place ≡ s.limits.log - tape.left - length tape.rest → IsInRange s.limits → ReadsNone s bytes records
+    → StandsFor (record s { tape = tape; progress = progress.Records; format = Some format; place = place }) (bytes ++ t.piece) records
+first_stood s tape place before now format bytes records t at range n =
+    let o = first_stands s tape place before now format bytes records t n in
+    (range, o, at ∙ passed_is (record s { tape = tape; progress = progress.Records; format = Some format; place = place }) (bytes ++ t.piece) records o, tt)
 
 -- what the reader stands for behind its first line
 pub record Moved (s mid : State) (before now : Told) (bytes : List ℕ) (records : List log.Record) : Type 0 where
@@ -77,11 +91,12 @@ moved s mid before now bytes records (started same told) free stands = record {
   stands = subst (λ (m : State). StandsFor m (bytes ++ []) records) (sym same) (subst (λ (w : List ℕ). StandsFor s w records) (sym (append-nil bytes)) stands);
   free = ap kept_by same ∙ free;
 }
-moved s mid before now bytes records (starts format at is taken) free stands = record {
+moved s mid before now bytes records (starts format at is place taken) free stands = record {
   piece = taken.piece;
   read = taken.pulled.read;
   failures = taken.pulled.failures;
-  stands = subst (λ (m : State). StandsFor m (bytes ++ taken.piece) records) (sym is) (stands.0, first_stands s mid.tape before now format bytes records taken (none_at s bytes records at stands));
+  stands = subst (λ (m : State). StandsFor m (bytes ++ taken.piece) records) (sym is)
+      (first_stood s mid.tape mid.place before now format bytes records taken (place ∙ ap passed is) stands.0 (none_at s bytes records at stands));
   free = ap kept_by is;
 }
 
@@ -127,9 +142,9 @@ spelled_snoc front rs r rest =
     ∙ ap (λ (w : List ℕ). (front ++ (flat_map spelling rs ++ w)) ++ rest) (sym (append-nil (spelling r)))
     ∙ ap (λ (w : List ℕ). (front ++ w) ++ rest) (sym (flat_map-append spelling rs (r ∷ [])))
 
-pub record_stands : (s : State) (tape : Held) (given : ℕ) (before after : Told) (bytes : List ℕ) (records : List log.Record) (r : log.Record) (f : Found s.limits s.tape tape before after r) → IsInRange s.limits → Reads s bytes records → given ≡ next_number s.given
-    → Reads (record s { tape = tape; given = given }) (bytes ++ f.taken.piece) (records ++ r ∷ [])
-record_stands s tape given before after bytes records r f range o number = record {
+pub record_stands : (s : State) (tape : Held) (given place : ℕ) (before after : Told) (bytes : List ℕ) (records : List log.Record) (r : log.Record) (f : Found s.limits s.tape tape before after r) → IsInRange s.limits → Reads s bytes records → given ≡ next_number s.given
+    → Reads (record s { tape = tape; given = given; place = place }) (bytes ++ f.taken.piece) (records ++ r ∷ [])
+record_stands s tape given place before after bytes records r f range o number = record {
   format = o.format;
   known = o.known;
   whole = behind s bytes f.taken.piece (spelling r ++ tape.rest) records o f.taken.whole ∙ spelled_snoc (first_line o.format) records r tape.rest;

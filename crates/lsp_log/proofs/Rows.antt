@@ -5,6 +5,7 @@ use Rattle.std.specs.Fmt.{digits}
 use Rattle.lsp_types.specs.declared.side.Side.TheVariants.{Editor, Server}
 use Rattle.lsp_frame.specs.Bounds.{profile}
 use Rattle.lsp_frame.specs.declared.format.Format.TheVariants.{One, Two}
+use Rattle.lsp_log.specs.Place.{shown_line, IsFaultAt}
 use Rattle.lsp_log.specs.Room.{AwaitsRecord}
 use Rattle.lsp_log.specs.declared.fault.LogCode.TheVariants.{L1, L3}
 use Rattle.lsp_log.specs.Log.{chunk, shown, spelling, NoFirstLine, IsLog, Breaks, bad_number, cut_short, bad_end, chunk_head, shown_head}
@@ -89,3 +90,21 @@ no_format Two rest e = let differs : false ≡ true = ap (λ (w : List ℕ). sli
 
 another_first_line : IsLog profile (codes "lsp-session 9\n") None [] (Some (0, L1))
 another_first_line = (refl, refl, no_format)
+
+-- ---- where a fault lies, and what stands there
+
+a_fault_lies_behind_the_records : IsFaultAt profile (codes "lsp-session 2\nE 3\nabc\nE 0\n") 22 (codes "E 0\n")
+unfolding digits
+a_fault_lies_behind_the_records = record { format = Some Two; records = chunk Editor (codes "abc") ∷ []; fault = (2, L3); is_log = a_fault_has_the_number_of_its_record; place_is = refl; line_is = refl }
+
+a_missing_first_line_lies_at_the_start : IsFaultAt profile (codes "lsp-session 9\n") 0 (codes "lsp-session 9\n")
+a_missing_first_line_lies_at_the_start = record { format = None; records = []; fault = (0, L1); is_log = another_first_line; place_is = refl; line_is = refl }
+
+a_line_ends_with_its_feed : shown_line (Some One) (codes "E 3\nabcX") ≡ codes "E 3\n"
+a_line_ends_with_its_feed = refl
+
+at_most_64_bytes_are_shown : shown_line (Some One) (codes "0123456789012345678901234567890123456789012345678901234567890123456789\n") ≡ codes "0123456789012345678901234567890123456789012345678901234567890123"
+at_most_64_bytes_are_shown = refl
+
+fewer_of_a_log_without_a_first_line : shown_line None (codes "Content-Length: 10\r\n") ≡ codes "Content-Length"
+fewer_of_a_log_without_a_first_line = refl

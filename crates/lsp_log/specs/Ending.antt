@@ -5,7 +5,7 @@ use Rattle.lsp_frame.specs.declared.format.Format.{Format}
 use Rattle.lsp_log.specs.Log.{bad_line, bad_number, cut_short, bad_end, not_utf8, first_line, code_of}
 use Rattle.lsp_log.specs.Tape.{Held, ReadFailed, IsCutAt, Taken}
 use Rattle.lsp_log.specs.Stops.{LacksFirst, FoundAnswer}
-use Rattle.lsp_log.specs.Reader.{State}
+use Rattle.lsp_log.specs.Reader.{State, passed}
 use Rattle.lsp_log.specs.declared.record.Record.{Record}
 use Rattle.lsp_log.specs.declared.fault.LogCode.{LogCode}
 use Rattle.lsp_log.specs.declared.fault.LogCode.TheVariants.{L1}
@@ -18,7 +18,7 @@ use Rattle.lsp_log.specs.declared.reader.Progress.TheVariants as progress
 -- the reader is behind its first line: it was, or it reads the line now
 pub data Starts (old mid : State) (before now : Told) : Type 0 where
   started : mid ≡ old → now ≡ before → Starts old mid before now
-  starts : (format : Format) → old.progress ≡ progress.FirstLine → mid ≡ record old { tape = mid.tape; progress = progress.Records; format = Some format } → Taken old.tape mid.tape before now (first_line format) → Starts old mid before now
+  starts : (format : Format) → old.progress ≡ progress.FirstLine → mid ≡ record old { tape = mid.tape; progress = progress.Records; format = Some format; place = mid.place } → mid.place ≡ passed mid → Taken old.tape mid.tape before now (first_line format) → Starts old mid before now
 
 -- the next record, or why there is none
 abbrev pub FoundFrom : State → Held → Told → Told → Result Record Stop → Type 0

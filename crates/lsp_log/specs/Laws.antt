@@ -5,6 +5,7 @@ use Rattle.lsp_frame.specs.Bounds.{Bounds, IsInRange}
 use Rattle.lsp_frame.specs.declared.format.Format.{Format}
 use Rattle.lsp_log.specs.declared.fault.LogCode.{LogCode}
 use Rattle.lsp_log.specs.Log.{Record, Fits, spelling, first_line, BeginsLog, IsLog}
+use Rattle.lsp_log.specs.Place.{place_of, found_behind, IsFaultAt}
 
 -- **Bytes are the log of one format and one list of records, with one fault or none.**
 abbrev pub OneLog : Type 0
@@ -23,3 +24,9 @@ RecordsComeFirst =
 -- **What is written of records within the limits, behind the first line of a format, is the log of this format and these records.**
 abbrev pub WrittenIsRead : Type 0
 WrittenIsRead = (limits : Bounds) (format : Format) (rs : List Record) → AllByRecursion (Fits limits) rs → length (first_line format ++ flat_map spelling rs) ≤ limits.log → IsLog limits (first_line format ++ flat_map spelling rs) (Some format) rs None
+
+-- **The fault of a log lies at one place, where one line stands.**
+abbrev pub OnePlace : Type 0
+OnePlace = (limits : Bounds) → IsInRange limits → (bytes : List ℕ) (format : Option Format) (records : List Record) (fault : ℕ × LogCode) → IsLog limits bytes format records (Some fault)
+    → IsFaultAt limits bytes (place_of format records) (found_behind limits format records bytes)
+    × ((place : ℕ) (line : List ℕ) → IsFaultAt limits bytes place line → (place ≡ place_of format records) × (line ≡ found_behind limits format records bytes))

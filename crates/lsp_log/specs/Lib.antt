@@ -1,4 +1,5 @@
 pub mod Log
+pub mod Place
 pub mod Words
 pub mod Records
 pub mod Tape

@@ -1,5 +1,5 @@
 -- What a reader of a log gives, and what it stands for.
-use Rattle.std.specs.Prelude.{◌≡◌, ℕ, ◌+◌, ◌≤◌, List, [], ◌∷◌, ◌++◌, length, Option, Some, None, IsSome, Result, Ok, Err}
+use Rattle.std.specs.Prelude.{◌≡◌, ℕ, ◌+◌, ◌-◌, ◌≤◌, List, [], ◌∷◌, ◌++◌, length, Option, Some, None, IsSome, Result, Ok, Err}
 use Rattle.std.specs.Io.KnownBytes.{IsAtEnd}
 use Rattle.std.specs.List.{flat_map, AllByRecursion}
 use Rattle.lsp_frame.specs.Bounds.{Bounds, IsInRange}
@@ -7,6 +7,7 @@ use Rattle.lsp_frame.specs.declared.format.Format.{Format}
 use Rattle.lsp_frame.specs.Told.{Told, Gave, after_failure}
 use Rattle.lsp_log.specs.Log as log
 use Rattle.lsp_log.specs.Log.{Fits, spelling, first_line, BeginsLog, IsLog}
+use Rattle.lsp_log.specs.Place.{place_of, shown_line, found_behind}
 use Rattle.lsp_log.specs.Tape.{Held}
 use Rattle.lsp_log.specs.Room.{AwaitsRecord}
 use Rattle.lsp_log.specs.Records.{record_view}
@@ -17,23 +18,37 @@ use Rattle.lsp_log.specs.declared.fault.LogFault.TheVariants.{Bad, Read, Memory}
 use Rattle.lsp_log.specs.declared.reader.Progress.{Progress}
 use Rattle.lsp_log.specs.declared.reader.Progress.TheVariants.{FirstLine, Records, Over}
 
--- what a reader holds: its limits, the bytes that were read and not given, how far it is, the format once the first line was read, and how many records it gave
+-- what a reader holds: its limits, the bytes that were read and not given, how far it is, the format once the first line was read, how many records it gave, and how many bytes stand before what it gives next
 pub record State : Type 0 where
   pub limits : Bounds
   pub tape : Held
   pub progress : Progress
   pub format : Option Format
   pub given : ℕ
+  pub place : ℕ
 
 -- a reader by which nothing was read
 abbrev pub empty : Bounds → State
-empty limits = record { limits = limits; tape = record { rest = []; left = limits.log }; progress = FirstLine; format = None; given = 0 }
+empty limits = record { limits = limits; tape = record { rest = []; left = limits.log }; progress = FirstLine; format = None; given = 0; place = 0 }
 
 -- how many bytes may still be given
 abbrev pub ahead : State → ℕ
 ahead s = s.tape.left + length s.tape.rest
 
+-- how many bytes were given
+abbrev pub passed : State → ℕ
+passed s = s.limits.log - s.tape.left - length s.tape.rest
+
+-- the line that stands where the next record begins, as far as it is held
+abbrev pub shown_by : State → List ℕ
+shown_by s = shown_line s.format s.tape.rest
+
 -- ---- the answer that is kept
+
+-- a fault of the log was answered
+abbrev pub IsBad : Progress → Type 0
+IsBad (Over (Err (Bad number code))) = Unit {0}
+IsBad progress = ⊥
 
 abbrev pub answer_of : {X : Type 0} → Result X LogFault → Result (Option Record) LogFault
 answer_of (Ok x) = Ok None
@@ -106,9 +121,14 @@ StandsAt (Over (Err (Bad number code))) s bytes records = IsLog s.limits bytes s
 StandsAt (Over (Err Read)) s bytes records = Begins s.limits bytes s.format records
 StandsAt (Over (Err Memory)) s bytes records = Begins s.limits bytes s.format records
 
+-- behind a fault of the log the reader holds the line that stands there
+abbrev pub ShowsAt : Progress → State → List ℕ → List log.Record → Type 0
+ShowsAt (Over (Err (Bad number code))) s bytes records = shown_by s ≡ found_behind s.limits s.format records bytes
+ShowsAt progress s bytes records = Unit {0}
+
 -- **A reader stands for the bytes that its readers gave and the records that it gave.**
 abbrev pub StandsFor : State → List ℕ → List log.Record → Type 0
-StandsFor s bytes records = IsInRange s.limits × StandsAt s.progress s bytes records
+StandsFor s bytes records = IsInRange s.limits × StandsAt s.progress s bytes records × (s.place ≡ place_of s.format records) × ShowsAt s.progress s bytes records
 
 -- ---- what the next call gives
 
@@ -129,6 +149,11 @@ Tells new before after bytes records (Err (Bad number code)) = ((more : List ℕ
 Tells new before after bytes records (Err Read) = after.failures ≡ after_failure before.failures
 Tells new before after bytes records (Err Memory) = after.failures ≡ before.failures
 
+-- where the log has a fault, the reader holds the line that stands there, whatever follows
+abbrev pub Shows : State → Told → List ℕ → List log.Record → Result (Option Record) LogFault → Type 0
+Shows new after bytes records (Err (Bad number code)) = (more : List ℕ) → MayFollow after more → shown_by new ≡ found_behind new.limits new.format records (bytes ++ more)
+Shows new after bytes records answer = Unit {0}
+
 -- memory is refused only where a record's first line stands behind the records given, whose numbers are in their ranges, and for a part of it that isn't empty; at most 64 bytes of that part were read
 abbrev pub LacksRoom : State → List ℕ → List log.Record → Result (Option Record) LogFault → Type 0
 LacksRoom new bytes records (Err Memory) =
@@ -142,6 +167,7 @@ pub record Given (new : State) (before after : Told) (result : Result (Option Re
   pub within : length (bytes ++ piece) ≤ new.limits.log + 1
   pub stands : StandsFor new (bytes ++ piece) (records_with records result)
   pub tells : Tells new before after (bytes ++ piece) records result
+  pub shows : Shows new after (bytes ++ piece) records result
   pub room : LacksRoom new (bytes ++ piece) records result
 
 abbrev pub Gives : State → State → Told → Told → Result (Option Record) LogFault → Type 0

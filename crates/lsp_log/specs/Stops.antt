@@ -1,5 +1,5 @@
 -- Why no record stands at the front of a tape, as the code says it.
-use Rattle.std.specs.Prelude.{◌≡◌, ℕ, ◌<◌, List, [], ◌∷◌, ◌++◌, length, Option, Some, None, Bool, true, false, Result, Ok, Err, IsUtf8, string_bytes, String, Vec}
+use Rattle.std.specs.Prelude.{◌≡◌, ℕ, ◌<◌, List, [], ◌∷◌, ◌++◌, length, take, Option, Some, None, Bool, true, false, Result, Ok, Err, IsUtf8, string_bytes, String, Vec}
 use Rattle.std.specs.List.{flat_map}
 use Rattle.std.specs.Global.{Global}
 use Rattle.lsp_frame.specs.Bounds.{Bounds}
@@ -7,6 +7,7 @@ use Rattle.lsp_frame.specs.Told.{Told}
 use Rattle.lsp_frame.specs.declared.format.Format.{Format}
 use Rattle.lsp_log.specs.Log as log
 use Rattle.lsp_log.specs.Log.{Flaw, bad_line, bad_number, cut_short, bad_end, not_utf8, EndsWith, Fits, spelling, parts_flaw, parts_of, lengths_of, with_feed, first_line, NoFirstLine, head_of, IsText}
+use Rattle.lsp_log.specs.Place.{line_of}
 use Rattle.lsp_log.specs.Tape.{Held, Pulled, IsOver, ReadFailed, Taken}
 use Rattle.lsp_log.specs.Room.{AwaitsPart, AwaitsRecord}
 use Rattle.lsp_log.specs.Records.{record_view}
@@ -39,6 +40,7 @@ pub record LacksFirst (old new : Held) (before after : Told) : Type 0 where
   pub pulled : Pulled old.left new.left before after piece
   pub none : NoFirstLine (old.rest ++ piece)
   pub over : length (old.rest ++ piece) < 14 → IsOver new.left after
+  pub held : new.rest ≡ old.rest ++ piece
 
 abbrev pub FirstAnswer : Held → Held → Told → Told → Result Format Stop → Type 0
 FirstAnswer old new before after (Ok format) = Taken old new before after (first_line format)
@@ -76,6 +78,24 @@ StopAnswer P M old new before after End = Ends P old new before after (Some bad_
 StopAnswer P M old new before after Text = Ends P old new before after (Some not_utf8)
 StopAnswer P M old new before after Read = ReadFailed old.left before after
 StopAnswer P M old new before after Memory = Refused M old new before after
+
+-- the log has its fault in a record's parts
+abbrev pub is_flaw : Stop → Bool
+is_flaw Short = true
+is_flaw End = true
+is_flaw Text = true
+is_flaw stop = false
+
+-- the tape again holds these bytes, where the log has its fault at this stop
+abbrev pub put_back_at : Stop → List ℕ → Held → Held
+put_back_at Short line tape = record tape { rest = line }
+put_back_at End line tape = record tape { rest = line }
+put_back_at Text line tape = record tape { rest = line }
+put_back_at stop line tape = tape
+
+-- of these bytes, which end the records for this reason, the first line is held, whatever may follow
+abbrev pub HoldsLine : List ℕ → List ℕ → Option Flaw → Type 0
+HoldsLine held bytes flaw = (more : List ℕ) → (wants_bytes flaw ≡ true → more ≡ []) → line_of (take 64 held) ≡ line_of (take 64 (bytes ++ more))
 
 -- parts of these lengths don't stand there
 abbrev pub PartsLack : List ℕ → List ℕ → Option Flaw → Type 0
@@ -115,7 +135,11 @@ pub record Found (limits : Bounds) (old new : Held) (before after : Told) (r : l
   pub taken : Taken old new before after (spelling r)
   pub fits : Fits limits r
 
+-- the records end so, and the line is held that stands there
+abbrev pub EndsAt : Bounds → List ℕ → List ℕ → Option Flaw → Type 0
+EndsAt limits held bytes flaw = EndsWith limits bytes flaw × HoldsLine held bytes flaw
+
 -- a record, or why there is none
 abbrev pub FoundAnswer : Bounds → Held → Held → Told → Told → Result Record Stop → Type 0
 FoundAnswer limits old new before after (Ok r) = Found limits old new before after (record_view r)
-FoundAnswer limits old new before after (Err stop) = StopAnswer (EndsWith limits) (AwaitsRecord limits) old new before after stop
+FoundAnswer limits old new before after (Err stop) = StopAnswer (EndsAt limits new.rest) (AwaitsRecord limits) old new before after stop

@@ -1,7 +1,7 @@
 //! The record at the front of a tape.
-ghost use Rattle.std.specs.Prelude.{◌≤◌, length};
+ghost use Rattle.std.specs.Prelude.{◌≡◌, ◌≤◌, length, take, drop, true, IfErr};
 ghost use Rattle.lsp_log.specs.Log.{shown_head};
-ghost use Rattle.lsp_log.specs.Stops.{TextAnswer, FirstAnswer, TwoPartsAnswer, PartsAnswer, FoundAnswer};
+ghost use Rattle.lsp_log.specs.Stops.{TextAnswer, FirstAnswer, TwoPartsAnswer, PartsAnswer, FoundAnswer, is_flaw, put_back_at};
 ghost use Rattle.lsp_log.specs.Words.{head_view};
 
 use crate::format::{LINE_LEN, format_of};
@@ -89,7 +89,46 @@ fn parts<R: Source>(
     }
 }
 
-/// The next record.
+/// Where the log has its fault at this stop, the tape holds the line again.
+fn put_back(tape: &mut Tape, stop: Stop, line: &[u8])
+    requires { length line.now ≤ 64 }
+    ensures { tape.new ≡ put_back_at stop line.now tape.old }
+{
+    match stop {
+        Stop::Short | Stop::End | Stop::Text => tape.put_back(line),
+        _ => {}
+    }
+}
+
+/// The record behind its first line, which has so many bytes. Where the log has its fault in the
+/// record's parts, the tape holds this line again.
+fn record_behind<R: Source>(
+    alloc: Global,
+    tape: &mut Tape,
+    reader: &mut R,
+    head: Head,
+    len: usize,
+) -> Result<Record, Stop>
+    requires within { len ≤ length tape.old.rest }
+    requires near { len ≤ 64 }
+    ensures short { length tape.new.rest ≤ 64 }
+    ensures line { IfErr result (λ stop. is_flaw stop ≡ true → tape.new.rest ≡ take len tape.old.rest) }
+    ensures answer { PartsAnswer (record tape.old { rest = drop len tape.old.rest }) tape.new (R.told reader.old) (R.told reader.new) (head_view head) result }
+{
+    let mut line = [0; WINDOW];
+    line[..len].copy_from_slice(&tape.near()[..len]);
+    tape.skip(len);
+    match parts(alloc, tape, reader, head) {
+        Ok(record) => Ok(record),
+        Err(stop) => {
+            put_back(tape, stop, &line[..len]);
+            Err(stop)
+        }
+    }
+}
+
+/// The next record. Where the log has its fault instead, the tape holds the first line of what
+/// stands there.
 pub fn record<R: Source>(
     alloc: Global,
     limits: &Limits,
@@ -107,6 +146,5 @@ pub fn record<R: Source>(
         };
     };
     let head = read_head(limits, &tape.near()[..end])?;
-    tape.skip(end + 1);
-    parts(alloc, tape, reader, head)
+    record_behind(alloc, tape, reader, head, end + 1)
 }

@@ -1,5 +1,5 @@
 //! Laws of logs, each the contract of a function that does nothing.
-ghost use Rattle.lsp_log.specs.Laws.{SomeLog, OneLog, RecordsComeFirst, WrittenIsRead};
+ghost use Rattle.lsp_log.specs.Laws.{SomeLog, OneLog, RecordsComeFirst, WrittenIsRead, OnePlace};
 
 /// All bytes are the log of some format, or none, and of some records, with some fault or none.
 pub fn some_log()
@@ -21,4 +21,10 @@ pub fn records_come_first()
 /// format and these records.
 pub fn written_is_read()
     ensures { WrittenIsRead }
+{}
+
+/// The fault of a log lies at one place, behind its first line and its records, and one line stands
+/// there.
+pub fn one_place()
+    ensures { OnePlace }
 {}

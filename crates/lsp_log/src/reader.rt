@@ -1,14 +1,18 @@
 //! Reads a log record by record.
-ghost use Rattle.std.specs.Prelude.{◌≡◌, ◌<◌, ◌≤◌, [], None, IfOk, IfSome, length};
-ghost use Rattle.lsp_log.specs.Reader.{empty, ahead, kept_by, keeps_of, RepeatsKept, TellsFormat, KeepsFormat, Gives, StandsFor, answer_of};
+ghost use Rattle.std.specs.Prelude.{◌≡◌, ◌<◌, ◌≤◌, ℕ, List, [], None, IfOk, IfSome, length};
+ghost use Rattle.lsp_log.specs.Log as log;
+ghost use Rattle.lsp_log.specs.Place.{place_of, line_of, shown_bytes, found_behind};
+ghost use Rattle.lsp_log.specs.Reader.{empty, ahead, passed, shown_by, IsBad, kept_by, keeps_of, RepeatsKept, TellsFormat, KeepsFormat, Gives, StandsFor, answer_of};
 ghost use Rattle.lsp_log.specs.Ending.{StartAnswer, FindAnswer, EndAnswer, fault_of};
 
 use crate::fault::{LogCode, LogFault};
+use crate::format::LINE_LEN;
 use crate::found::{first_line, record};
 use crate::record::Record;
 use crate::stop::Stop;
-use crate::tape::Tape;
+use crate::tape::{Tape, WINDOW};
 use lsp_frame::{Format, Limits, Source};
+use memchr::memchr;
 use std::alloc::Global;
 use std::marker::Model;
 
@@ -33,6 +37,8 @@ pub struct LogReader {
     progress: Progress,
     format: Option<Format>,
     given: u64,
+    /// How many bytes of the log stand before what is given next.
+    place: u64,
 }
 
 impl Model for LogReader {
@@ -40,7 +46,7 @@ impl Model for LogReader {
 
     ghost Value = { State };
 
-    ghost view = { λ a. record { limits = a.limits; tape = a.tape; progress = a.progress; format = a.format; given = a.given } };
+    ghost view = { λ a. record { limits = a.limits; tape = a.tape; progress = a.progress; format = a.format; given = a.given; place = a.place } };
 
     ghost invariant = { λ a. FitsProgress a.progress a.format };
 }
@@ -59,6 +65,7 @@ impl LogReader {
             progress: Progress::FirstLine,
             format: None,
             given: 0,
+            place: 0,
         }
     }
 
@@ -68,6 +75,39 @@ impl LogReader {
         ensures { result ≡ self.now.format }
     {
         self.format
+    }
+
+    /// How many bytes of the log stand before what is given next: its first line and the records
+    /// given. Behind a fault the bad record begins there; 0 where the first line is missing.
+    pub fn place(&self) -> u64
+        ensures value { result ≡ self.now.place }
+        ensures stands { (bytes : List ℕ) (records : List log.Record) → StandsFor self.now bytes records →
+            result ≡ place_of self.now.format records }
+    {
+        self.place
+    }
+
+    /// Behind a fault of the log, what was found at its place: the line that stands there, up to
+    /// its LF, which is included, as far as the log's first 64 bytes from there on go, and 14 of a
+    /// log whose first line is missing. Nothing is read for it.
+    pub fn found(&self) -> &[u8]
+        ensures value { result.now ≡ shown_by self.now }
+        ensures stands { (bytes : List ℕ) (records : List log.Record) → StandsFor self.now bytes records →
+            IsBad self.now.progress → result.now ≡ found_behind self.now.limits self.now.format records bytes }
+    {
+        let near = self.tape.near();
+        let shown = near.len().min(self.shown_bytes());
+        line_of(&near[..shown])
+    }
+
+    /// How many bytes are looked at where the log has its fault.
+    fn shown_bytes(&self) -> usize
+        ensures { result ≡ shown_bytes self.now.format }
+    {
+        match self.format {
+            None => LINE_LEN,
+            Some(_) => WINDOW,
+        }
     }
 
     /// The next record, or None where the log ends without a fault.
@@ -105,6 +145,7 @@ impl LogReader {
         match self.find(reader) {
             Ok(record) => {
                 self.given = self.given.saturating_add(1);
+                self.place = self.passed();
                 Ok(Some(record))
             }
             Err(stop) => {
@@ -139,7 +180,19 @@ impl LogReader {
         let format = first_line(&mut self.tape, reader)?;
         self.format = Some(format);
         self.progress = Progress::Records;
+        self.place = self.passed();
         Ok(())
+    }
+
+    /// How many bytes were given.
+    fn passed(&self) -> u64
+        ensures { result ≡ passed self.now }
+    {
+        let near = self.tape.near().len() as u64;
+        self.limits
+            .log()
+            .saturating_sub(self.tape.left())
+            .saturating_sub(near)
     }
 
     /// What is answered for good, where no record was found.
@@ -153,6 +206,16 @@ impl LogReader {
             },
             _ => fault_of(self.given, false, stop),
         }
+    }
+}
+
+/// The bytes up to the first LF, which is included.
+fn line_of(bytes: &[u8]) -> &[u8]
+    ensures { result.now ≡ line_of bytes.now }
+{
+    match memchr(b'\n', bytes) {
+        Some(end) => &bytes[..=end],
+        None => bytes,
     }
 }
 

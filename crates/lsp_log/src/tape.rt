@@ -142,6 +142,23 @@ impl Tape {
         self.start += count;
     }
 
+    /// How many bytes more may be read.
+    pub fn left(&self) -> u64
+        ensures { result ≡ self.now.left }
+    {
+        self.left
+    }
+
+    /// Puts these bytes in the place of those that were read and not given.
+    pub fn put_back(&mut self, bytes: &[u8])
+        requires { length bytes.now ≤ 64 }
+        ensures { self.new ≡ record self.old { rest = bytes.now } }
+    {
+        self.near[..bytes.len()].copy_from_slice(bytes);
+        self.start = 0;
+        self.end = bytes.len();
+    }
+
     /// Reads more into the window.
     fn fill<R: Source>(&mut self, reader: &mut R) -> Result<usize, Failed>
         ensures short { length self.new.rest ≤ 64 }

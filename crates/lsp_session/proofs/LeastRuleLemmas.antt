@@ -15,7 +15,8 @@ use Rattle.lsp_session.specs.Laws.{LeastRule}
 use Rattle.lsp_session.specs.Lifecycle.{Row, first_answer, fits, lifecycle_rule, table}
 use Rattle.lsp_session.specs.Negotiation.{encoding_named, first_row, negotiation_rule, offers, pick_rule, register_rule, registers_synchronisation, settled_rule}
 use Rattle.lsp_session.specs.Requests.{id_rule, open_requests, request_rule}
-use Rattle.lsp_session.specs.Sent.{other_side}
+use Rattle.lsp_session.specs.Rules.{rule_after}
+use Rattle.lsp_session.specs.Sent.{Sent, other_side}
 
 -- the rule, if there is one, lies between these
 abbrev is_within : ℕ → ℕ → Option ℕ → Bool
@@ -114,3 +115,14 @@ least_rule before m rule e =
     (answer_within 401 412 (fits before m) table refl)
     (or_within 501 504 (settled_rule (settled_by before m)) (register_rule m.side m.act) (settled_within (settled_by before m)) (register_within m.side m.act))
     rule e
+
+-- no rule of a session is above 504
+pub rules_end : (before : List Sent) (m : Sent) (rule : ℕ) → rule_after before m ≡ Some rule → rule ≤ 504
+rules_end before m rule e = elim (least_rule before m rule e).0 [
+  | inl k ↦ let range = bounds 301 302 rule (subst (λ o. is_within 301 302 o ≡ true) k (ids_within (open_requests m.side before) (open_requests (other_side m.side) before) m.message)) in omega arith
+  | inr g ↦ elim g [
+    | inl k ↦ let range = bounds 401 412 rule (subst (λ o. is_within 401 412 o ≡ true) k (answer_within 401 412 (fits before m) table refl)) in omega arith
+    | inr k ↦ let range = bounds 501 504 rule (subst (λ o. is_within 501 504 o ≡ true) k
+        (or_within 501 504 (settled_rule (settled_by before m)) (register_rule m.side m.act) (settled_within (settled_by before m)) (register_within m.side m.act))) in omega arith
+  ]
+]

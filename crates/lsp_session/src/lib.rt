@@ -17,6 +17,7 @@ pub use laws::{
     answered_once, answers_a_request, answers_no_other, least_rule, one_handshake, params_unread,
     result_unread,
 };
+pub use negotiation::is_synchronisation;
 pub use pending::{OpenRequest, Pending};
 pub use phase::Phase;
 pub use refusal::Refusal;

@@ -88,7 +88,8 @@ pub(crate) fn agree(alloc: Global, offer: &Offer, value: &Value) -> Result<Agree
     }
 }
 
-fn is_synchronisation(method: &str) -> bool
+/// Whether a method is one of text synchronisation: opens, changes or closes of documents.
+pub fn is_synchronisation(method: &str) -> bool
     ensures { result ≡ spec.is_synchronisation method.now }
 {
     matches!(

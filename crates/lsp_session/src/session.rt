@@ -13,14 +13,15 @@ ghost use Rattle.lsp_session.specs.Rules.{rule_after};
 ghost use Rattle.lsp_session.specs.Sent.{Sent, other_side};
 ghost use Rattle.lsp_session.specs.Sent as message_spec;
 ghost use Rattle.lsp_session.specs.State.{Stands, after_answer, next, next_open};
-ghost use Rattle.lsp_session.specs.View.{sent};
+ghost use Rattle.lsp_session.specs.View.{sent, settled_view};
 
 use crate::handshake::{OpenInitialize, comes_early, open_initialize};
 use crate::negotiation::{Agreed, agree, registers_synchronisation};
 use crate::pending::Pending;
 use crate::phase::Phase;
 use crate::refusal::Refusal;
-use lsp_rpc::{Act, Answer, Encoding, Id, Memory, Message, Side, SyncKind, same_id};
+use lsp_rpc::{Act, Answer, Encoding, Id, Memory, Message, Offer, Side, SyncKind, same_id};
+use serde_json::Value;
 use std::alloc::Global;
 use std::marker::Model;
 
@@ -177,6 +178,16 @@ impl Session {
         self.initialize.is_some()
     }
 
+    /// What the open `initialize` offers that the message answers by a result, and that result; `None` for
+    /// other messages.
+    pub fn settled<'a>(&'a self, side: Side, message: &'a Message) -> Option<(&'a Offer, &'a Value)>
+        ensures { (before : List Sent) → Stands self.now before
+            → option_map (λ s. settled_view s.0.now s.1.now) result
+            ≡ handshake.settled_among (handshake.open_initializes before) side (message_view message.now) }
+    {
+        self.settled_by(side, message)
+    }
+
     /// Makes ready for a walk over all open requests of both sides ([`Pending::pack`]).
     pub fn pack(&mut self)
         ensures { self.new ≡ self.old }
@@ -307,6 +318,17 @@ impl Session {
         ensures rule { IfErr result
             (Names (by_state.result_rule self.now side (message_view message.now))) }
     {
+        match self.settled_by(side, message) {
+            Some((offer, value)) => Ok(Some(agree(self.alloc, offer, value)?)),
+            None => Ok(None),
+        }
+    }
+
+    /// The offer of the open `initialize`, and the result that answers it, where the message is that.
+    fn settled_by<'a>(&'a self, side: Side, message: &'a Message) -> Option<(&'a Offer, &'a Value)>
+        ensures { option_map (λ s. settled_view s.0.now s.1.now) result
+            ≡ handshake.settled_among self.now.initializes side (message_view message.now) }
+    {
         match (side, message, &self.initialize) {
             (
                 Side::Server,
@@ -315,10 +337,8 @@ impl Session {
                     answer: Answer::Result(value),
                 },
                 Some(initialize),
-            ) if same_id(id, &initialize.id) => {
-                Ok(Some(agree(self.alloc, &initialize.offer, value)?))
-            }
-            _ => Ok(None),
+            ) if same_id(id, &initialize.id) => Some((&initialize.offer, value)),
+            _ => None,
         }
     }
 

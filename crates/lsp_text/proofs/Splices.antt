@@ -1,5 +1,5 @@
 -- A splice of a text, as one of its bytes.
-use Rattle.std.proofs.Common.{◌≡◌, ◌<◌, ◌≤◌, ◌+◌, ◌-◌, ℕ, List, [], ◌∷◌, ◌++◌, length, take, drop, Some, Ok, Err, refl, sym, ap, ◌∙◌, arith, length-append, length-drop, take-add}
+use Rattle.std.proofs.Common.{◌≡◌, ◌<◌, ◌≤◌, ◌+◌, ◌-◌, ℕ, List, [], ◌∷◌, ◌++◌, length, take, drop, Some, None, Ok, Err, refl, sym, ap, ◌∙◌, arith, length-append, length-drop, take-add}
 use Rattle.std.proofs.lemmas.List.{take-append-drop, take_at, drop_at, length-take-le}
 use Rattle.std.proofs.lemmas.Bool.{cond-true, cond-false, lt-ltb, le-ltb}
 use Rattle.std.specs.List.{replace_range}
@@ -106,3 +106,21 @@ replaced-within enc bs s span limit i j u us a b le within =
     ∙ cond-false _ _ _ (le-ltb (length (chars (take j bs))) (length (chars (take i bs))) (at_le bs i j u a.boundary b.boundary le))
     ∙ ap (limited limit) (sym (chars-replace_range bs s i j u us a.boundary b.boundary))
     ∙ limited-within limit new (IsUtf8-replace_range bs s i j u us a.boundary b.boundary) (omega (arith, length-replace_range bs s i j a.boundary.0))
+
+-- ---- whatever the limit
+
+pub replaced-between : (enc : Encoding) (bs s : List ℕ) (span : Span) (limit i j : ℕ) → IsUtf8 bs → IsUtf8 s → IsTextOffset enc bs span.first i → IsTextOffset enc bs span.second j →
+    i ≤ j → replaced enc (chars bs) span (chars s) limit ≡ limited limit (chars (replace_range bs i j s))
+replaced-between enc bs s span limit i j u us a b le =
+    replaced_at enc bs (chars s) span limit i j a b
+    ∙ cond-false _ _ _ (le-ltb (length (chars (take j bs))) (length (chars (take i bs))) (at_le bs i j u a.boundary b.boundary le))
+    ∙ ap (limited limit) (sym (chars-replace_range bs s i j u us a.boundary b.boundary))
+
+pub units-replaced : (bs s : List ℕ) (i j : ℕ) → IsUtf8 bs → IsUtf8 s → IsCharBoundary bs i → IsCharBoundary bs j → units Utf8 (chars (replace_range bs i j s)) ≡ i + length s + (length bs - j)
+units-replaced bs s i j u us bi bj = units-utf8_text (replace_range bs i j s) (IsUtf8-replace_range bs s i j u us bi bj) ∙ length-replace_range bs s i j bi.0
+
+pub no_first : (enc : Encoding) (t s : List ℕ) (span : Span) (limit : ℕ) → place_of enc t span.first ≡ None → replaced enc t span s limit ≡ Err 605
+no_first enc t s span limit h = ap (λ x. spliced t x (place_of enc t span.second) s limit) h
+
+pub no_second : (enc : Encoding) (t s : List ℕ) (span : Span) (limit k : ℕ) → place_of enc t span.first ≡ Some k → place_of enc t span.second ≡ None → replaced enc t span s limit ≡ Err 605
+no_second enc t s span limit k h n = ap (λ x. spliced t x (place_of enc t span.second) s limit) h ∙ ap (λ x. spliced t (Some k) x s limit) n

@@ -26,3 +26,5 @@ pub mod Spots
 pub mod Counted
 pub mod Difference
 pub mod Parting
+pub mod InsideCharacter
+pub mod Sizes

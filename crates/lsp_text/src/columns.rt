@@ -113,8 +113,8 @@ fn pass_blocks(bytes: &[u8], encoding: Encoding, column: u32) -> Skipped
     Skipped { bytes: at, left }
 }
 
-// The units of a character.
-fn units_of(c: char, encoding: Encoding) -> u32
+/// The units of a character.
+pub(crate) fn units_of(c: char, encoding: Encoding) -> u32
     ensures { result ≡ units_of_char encoding c }
 {
     match encoding {

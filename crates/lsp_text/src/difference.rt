@@ -3,14 +3,13 @@
 ghost use Rattle.std.specs.Prelude.{◌≡◌, ◌+◌, ◌-◌, ◌^◌, ◌≤◌, ◌↔◌, Some, length, take, drop, min, slice_get, IsTrue, IfNone, IfSome, MatchOption};
 ghost use Rattle.std.specs.Str.{chars, IsCharBoundary};
 ghost use Rattle.lsp_text.specs.Lines.{spelled};
-ghost use Rattle.lsp_text.specs.Places.{units};
 ghost use Rattle.lsp_text.specs.Steps.{line_at};
 ghost use Rattle.lsp_text.specs.Difference.{IsFirstDifference, DifferFirst, line_around, position_at};
 ghost use Rattle.lsp_text.specs.Parting.{AreSameTo, IsParting, IsInsideEnd, IsSearchEnd, IsLineStart};
 
-use crate::counts::measure;
 use crate::cut::FirstLine;
 use crate::plain::count_lines;
+use crate::reading::width_of;
 use lsp_types::{Encoding, Position};
 use memchr::memrchr2;
 
@@ -117,17 +116,6 @@ fn capped(n: u64) -> u32
     ensures { result ≡ min n (2 ^ 32 - 1) }
 {
     n.min(u32::MAX as u64) as u32
-}
-
-// The units of a text.
-fn width_of(text: &str, encoding: Encoding) -> u64
-    ensures { result ≡ units encoding (chars text.now) }
-{
-    match encoding {
-        Encoding::Utf8 => text.len() as u64,
-        Encoding::Utf16 => measure(text).utf16,
-        Encoding::Utf32 => measure(text).chars,
-    }
 }
 
 // The line in which the place behind so many bytes lies, with its line end.

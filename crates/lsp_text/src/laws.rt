@@ -1,6 +1,7 @@
 //! Laws of the definitions. Each function has no code: its contract is the law.
 
 ghost use Rattle.lsp_text.specs.Difference.{OneDifference, PlacesHavePositions};
+ghost use Rattle.lsp_text.specs.InsideCharacter.{PositionsLieInside};
 ghost use Rattle.lsp_text.specs.Lines.{LinesAreTheCut, LinesOfJoined};
 ghost use Rattle.lsp_text.specs.Places.{PlacesAreDenoted, OnePlaceAtMost, NoneInsideLineEnd, CharactersDenote};
 
@@ -45,4 +46,9 @@ pub fn one_difference()
 /// the column is past 2^32 - 1.
 pub fn places_have_positions()
     ensures { PlacesHavePositions }
+{}
+
+/// A position denotes no place exactly where it lies inside a character, and it lies inside at most one.
+pub fn positions_lie_inside()
+    ensures { PositionsLieInside }
 {}

@@ -3,7 +3,8 @@
 //! [`TextStore`] says what a store of a text is, and [`change`] and [`change_all`] make the changes of
 //! a `textDocument/didChange` in any of them. [`Plain`] keeps a text in one `String`. [`Lined`] keeps
 //! its lines, and an edit touches no others than those of its span and the one before. [`measure`]
-//! counts characters and units of UTF-16, and [`first_difference`] tells where two texts first differ.
+//! counts characters and units of UTF-16, [`first_difference`] tells where two texts first differ, and
+//! [`line_at`], [`width_of`], [`char_inside`] and [`size_with`] read a text by its lines and columns.
 #![tactic(auto)]
 
 mod changes;
@@ -17,6 +18,7 @@ mod lanes;
 mod laws;
 mod lined;
 mod plain;
+mod reading;
 mod spot;
 mod store;
 
@@ -26,8 +28,9 @@ pub use difference::{Difference, first_difference};
 pub use fault::TextFault;
 pub use laws::{
     characters_denote, line_ends_are_whole, lines_are_the_cut, lines_of_joined, one_difference,
-    places_are_denoted, places_have_positions, positions_denote_one_place,
+    places_are_denoted, places_have_positions, positions_denote_one_place, positions_lie_inside,
 };
 pub use lined::Lined;
 pub use plain::Plain;
+pub use reading::{char_inside, line_at, size_with, width_of};
 pub use store::{Place, TextStore};

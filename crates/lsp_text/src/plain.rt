@@ -120,8 +120,8 @@ pub(crate) fn count_lines(text: &str) -> u64
     count
 }
 
-// The bytes of a text before a position, or `None` where it lies inside a character.
-fn offset_of(text: &str, encoding: Encoding, position: Position) -> Option<usize>
+/// The bytes of a text before a position, or `None` where it lies inside a character.
+pub(crate) fn offset_of(text: &str, encoding: Encoding, position: Position) -> Option<usize>
     ensures { MatchOption result (place_of encoding (chars text.now) position ≡ None) (IsTextOffset encoding text.now position) }
 {
     let mut start = 0;

@@ -3,40 +3,54 @@ use Rattle.std.specs.Prelude.{ℕ, ℤ, ◌+◌, ◌-◌, ◌==◌, ◌&&◌, Li
 use Rattle.std.specs.List.{flat_map}
 use Rattle.std.specs.Fmt.{signed_decimal}
 use Rattle.json.specs.Print.{quoted}
-use Rattle.lsp_rpc.specs.Message.{Message}
+use Rattle.lsp_rpc.specs.Act.{Act, did_open, did_change, did_close, did_save}
 use Rattle.lsp_rpc.specs.Words.{words_of}
-use Rattle.lsp_types.specs.declared.side.Side.{Side}
 use Rattle.lsp_types.specs.declared.side.Side.TheVariants.{Editor}
+use Rattle.lsp_session.specs.Sent.{Sent}
 use Rattle.lsp_docs.specs.Texts.{byte_len}
 use Rattle.lsp_docs.specs.Documents.{Version, held}
 use Rattle.lsp_docs.specs.Terms.{Terms}
+use Rattle.lsp_verdict.specs.declared.lines.Lines.{Lines}
+use Rattle.lsp_verdict.specs.declared.lines.Lines.TheVariants.{Short, Long}
 use Rattle.lsp_verdict.specs.LookBack.{each_of}
 use Rattle.lsp_verdict.specs.Event.{Event, message, fault, snapshot}
 use Rattle.lsp_verdict.specs.Calls.{calls}
-use Rattle.lsp_verdict.specs.Verdict.{Verdict, yes, no, first_no, is_of, count_of}
+use Rattle.lsp_verdict.specs.Verdict.{Verdict, yes, no, first_no, is_of, belongs_to, count_of, whose}
 use Rattle.lsp_verdict.specs.Report.{line, side_name, report}
 
 -- ---- events
 
-abbrev pub message_line : ℕ → Side → Message → List ℕ
-message_line number side sent = line (decimal number ∷ side_name side ∷ words_of sent ∷ [])
+abbrev pub message_words : ℕ → Sent → List (List ℕ)
+message_words event m = decimal event ∷ side_name m.side ∷ words_of m.message ∷ []
 
-abbrev pub snapshot_line : ℕ → List ℕ → ℤ → List ℕ → List ℕ
-snapshot_line number uri version text =
-    line (decimal number ∷ codes "snapshot" ∷ signed_decimal version ∷ decimal (byte_len text) ∷ quoted uri ∷ [])
+abbrev pub snapshot_words : ℕ → List ℕ → ℤ → List ℕ → List (List ℕ)
+snapshot_words event uri version text = decimal event ∷ codes "snapshot" ∷ signed_decimal version ∷ decimal (byte_len text) ∷ quoted uri ∷ []
 
--- the line of the event of this number; a fault has none, since it offends, and the report tells it
-abbrev pub event_line : ℕ → Event → Option (List ℕ)
-event_line number (message m) = Some (message_line number m.side m.message)
-event_line number (fault side rule) = None
-event_line number (snapshot uri version text) = Some (snapshot_line number uri version text)
+-- of which document a message says something: its URI, and the version that it is opened at or changed to
+abbrev pub document_words : Act → List (List ℕ)
+document_words (did_open uri version text) = quoted uri ∷ signed_decimal version ∷ []
+document_words (did_change uri version edits) = quoted uri ∷ signed_decimal version ∷ []
+document_words (did_close uri) = quoted uri ∷ []
+document_words (did_save uri text) = quoted uri ∷ []
+document_words _ = []
+
+-- what a long line has behind a short one: the number among those of the side, or among the snapshots, and these words
+abbrev pub words_behind : Lines → ℕ → List (List ℕ) → List (List ℕ)
+words_behind Short number words = []
+words_behind Long number words = decimal number ∷ words
+
+-- the line of an event, by its number among all and that among those of its side; a fault has none, since it offends, and the report tells it
+abbrev pub event_line : Lines → ℕ → ℕ → Event → Option (List ℕ)
+event_line lines event number (message m) = Some (line (message_words event m ++ words_behind lines number (document_words m.act)))
+event_line lines event number (fault side rule) = None
+event_line lines event number (snapshot uri version text) = Some (line (snapshot_words event uri version text ++ words_behind lines number []))
 
 -- the line of an event behind these
-abbrev pub line_at : List Event → Event → Option (List ℕ)
-line_at before event = event_line (length before + 1) event
+abbrev pub line_at : Lines → List Event → Event → Option (List ℕ)
+line_at lines before event = event_line lines (length before + 1) (count_of (belongs_to (whose event)) before + 1) event
 
-abbrev pub lines_of : List Event → List ℕ
-lines_of events = flat_map (λ shown. shown) (each_of line_at events)
+abbrev pub lines_of : Lines → List Event → List ℕ
+lines_of lines events = flat_map (λ shown. shown) (each_of (line_at lines) events)
 
 -- how many events stand before the verdict's place
 abbrev pub kept_count : Verdict → List Event → ℕ
@@ -48,8 +62,8 @@ abbrev pub kept : Verdict → List Event → List Event
 kept v events = take (kept_count v events) events
 
 -- one line for each event before the verdict's place, and the report
-abbrev pub show_of : Verdict → List Event → List ℕ
-show_of v events = lines_of (kept v events) ++ report v
+abbrev pub show_of : Lines → Verdict → List Event → List ℕ
+show_of lines v events = lines_of lines (kept v events) ++ report v
 
 abbrev pub kept_by : Option Verdict → List Event → List Event
 kept_by None events = events

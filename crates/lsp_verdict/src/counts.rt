@@ -3,7 +3,8 @@ ghost use Rattle.std.specs.Prelude.{◌≡◌, ◌++◌, ◌∷◌, [], ℕ, Lis
 ghost use Rattle.lsp_verdict.specs.Counting.{AreCounts};
 ghost use Rattle.lsp_verdict.specs.Event.{Event};
 ghost use Rattle.lsp_verdict.specs.Given.{as_given};
-ghost use Rattle.lsp_verdict.specs.Verdict.{no, no_next, whose};
+ghost use Rattle.lsp_docs.specs.State.{capped};
+ghost use Rattle.lsp_verdict.specs.Verdict.{belongs_to, count_of, no, no_next, whose};
 
 use crate::verdict::Who;
 
@@ -46,16 +47,23 @@ impl Counts {
         self.all = self.all.saturating_add(1);
     }
 
+    /// How many there were of these.
+    pub fn of(&self, by: Who) -> u64
+        ensures { (events : List Event) → AreCounts self.now events
+            → result ≡ capped (count_of (belongs_to by) events) }
+    {
+        match by {
+            Who::Editor => self.editor,
+            Who::Server => self.server,
+            Who::Snapshot => self.snapshots,
+        }
+    }
+
     /// The numbers of the event that comes next, from 1: among those of `by`, and among all.
     pub fn next(&self, by: Who) -> (u64, u64)
         ensures { (rule : ℕ) (events : List Event) → AreCounts self.now events
             → no rule by result.0 result.1 ≡ as_given (no_next rule by events) }
     {
-        let before = match by {
-            Who::Editor => self.editor,
-            Who::Server => self.server,
-            Who::Snapshot => self.snapshots,
-        };
-        (before.saturating_add(1), self.all.saturating_add(1))
+        (self.of(by).saturating_add(1), self.all.saturating_add(1))
     }
 }

@@ -12,6 +12,7 @@ mod counts;
 mod entry;
 mod interleaving_laws;
 mod laws;
+mod lines;
 mod names;
 mod offence;
 mod offence_laws;
@@ -36,7 +37,8 @@ pub use laws::{
     one_verdict, some_final, some_session, some_upgrade, some_verdict, upgrade_keeps_yes,
     upgrade_stays, yes_means_kept,
 };
-pub use names::side_name;
+pub use lines::Lines;
+pub use names::{kind_name, side_name};
 pub use offence::{Offence, found_report, offence_report};
 pub use offence_laws::{
     all_are_kept, first_listed, kept_are_others, kept_offend_nowhere, listed_offend,

@@ -36,7 +36,8 @@ pub(crate) fn encoding_name(encoding: Option<Encoding>) -> &'static str
     }
 }
 
-pub(crate) fn kind_name(kind: Option<SyncKind>) -> &'static str
+/// The word for how changes are sent, `-` where nothing was agreed.
+pub fn kind_name(kind: Option<SyncKind>) -> &'static str
     ensures { result.now ≡ kind_name kind }
 {
     match kind {

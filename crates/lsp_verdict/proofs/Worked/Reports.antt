@@ -11,6 +11,7 @@ use Rattle.json.specs.Word.{word, after_number}
 use Rattle.json.specs.Print.{escape_byte}
 use Rattle.serde_json.specs.Read.{number_of}
 use Rattle.lsp_log.specs.declared.fault.LogCode.TheVariants.{L3}
+use Rattle.lsp_verdict.specs.declared.lines.Lines.TheVariants.{Short}
 use Rattle.lsp_verdict.specs.Verdict.{no, bad_log}
 use Rattle.lsp_verdict.specs.declared.verdict.Who.TheVariants as who
 use Rattle.lsp_verdict.specs.Report.{report}
@@ -40,7 +41,7 @@ bad_log_report : report (bad_log 1 L3) ≡ codes "bad log L3 record 1\nsize out 
 unfolding digits
 bad_log_report = refl
 
-whole_shown : show_of (judged whole) whole
+whole_shown : show_of Short (judged whole) whole
     ≡ codes "1 editor request 1 \"initialize\"\n2 server result 1\n3 editor notification \"initialized\"\n4 editor notification \"textDocument/didOpen\"\n5 snapshot 1 2 \"file:///a\"\n6 editor request 2 \"shutdown\"\n7 server result 2\n8 editor notification \"exit\"\nyes\nmessages 5 2\nsnapshots 1 unmatched 0\nencoding utf-16 sync incremental\ndocument 1 2 \"file:///a\"\n"
 unfolding value punctuate lex content word after_number number_of scan_numeral chars digits escape_byte
 whole_shown = refl

@@ -26,6 +26,14 @@ returns-in-Check-Required-clause-answers g c =
       write_fault = c.run_check_complete.ensures.write_fault;
     })
 
+pub returns-in-Show-clause-answers : goal.returns-in-Show-clause-answers
+returns-in-Show-clause-answers g c = rw c.in-Show.is (record {
+  judged = c.run_show.ensures.judged;
+  shown = c.run_show.ensures.shown;
+  ended = c.run_show.ensures.ended;
+  fault = c.run_show.ensures.fault;
+})
+
 pub returns-in-Text-clause-answers : goal.returns-in-Text-clause-answers
 returns-in-Text-clause-answers g c = rw (c.in-Text.is, ← c.get.ensures.value) (record {
   text = c.run_text.ensures.text;

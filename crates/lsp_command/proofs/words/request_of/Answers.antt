@@ -1,6 +1,6 @@
-use Rattle.std.proofs.Common.{◌≡◌, ◌∙◌, IfSome, Some, sym, ap, subst, option_map}
+use Rattle.std.proofs.Common.{◌≡◌, ◌∙◌, Some, sym, ap, subst}
 use Rattle.clap.specs.Matches.{found_of}
-use Rattle.lsp_command.specs.Words.{AsksCheck, file_of}
+use Rattle.lsp_command.specs.Words.{AsksCheck, AsksShow, file_of}
 use Rattle.lsp_command.proofs.words.request_of.Goals as goal
 
 pub returns : goal.returns
@@ -11,7 +11,7 @@ returns c =
       record {
         task = record {
           check = λ e. subst (AsksCheck (found_of c.in-Some.arguments.now)) is (c.task_of.ensures.check e);
-          show = λ e. sym is ∙ c.task_of.ensures.show e;
+          show = λ e. subst (AsksShow (found_of c.in-Some.arguments.now)) is (c.task_of.ensures.show e);
           text = λ e. c.in-Some-task_of.ensures.text e;
           event = λ e. c.in-Some-task_of.ensures.event e;
           normal = λ e. sym is ∙ c.task_of.ensures.normal e;

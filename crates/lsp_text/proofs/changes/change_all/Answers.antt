@@ -4,7 +4,7 @@ use Rattle.std.proofs.lemmas.Result.{err_from_is_err_and}
 use Rattle.lsp_text.specs.Changes.{edits_of}
 use Rattle.lsp_text.specs.Edits.{changed, FailsAfter, IsFaultOf}
 use Rattle.lsp_text.specs.declared.fault.TextFault.{TextFault}
-use Rattle.lsp_text.proofs.Applied.{none_made, one_more_made, fails_after}
+use Rattle.lsp_text.proofs.Edits.Applied.{none_made, one_more_made, fails_after}
 use Rattle.lsp_text.proofs.changes.change_all.Goals as goal
 
 pub loop-made-init : goal.loop-made-init

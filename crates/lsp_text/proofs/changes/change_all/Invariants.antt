@@ -1,4 +1,4 @@
-use Rattle.lsp_text.proofs.Applied.{AreMade}
+use Rattle.lsp_text.proofs.Edits.Applied.{AreMade}
 use Rattle.lsp_text.proofs.changes.change_all.Given as goal
 
 abbrev pub invariant-loop-made : goal.invariant-loop-made

@@ -1,6 +1,6 @@
 use Rattle.std.proofs.Common.{ap, ◌∙◌}
 use Rattle.std.specs.Str.{chars}
-use Rattle.lsp_text.proofs.LinePlaces.{line_whole, first_boundary, first_spelled}
+use Rattle.lsp_text.proofs.Differing.LinePlaces.{line_whole, first_boundary, first_spelled}
 use Rattle.lsp_text.proofs.difference.first_line.Goals as goal
 
 pub returns-in_default : goal.returns-in_default

@@ -1,4 +1,4 @@
-use Rattle.lsp_text.proofs.LineStarts.{starts_at_front, starts_behind}
+use Rattle.lsp_text.proofs.Differing.LineStarts.{starts_at_front, starts_behind}
 use Rattle.lsp_text.proofs.difference.line_start.Goals as goal
 
 pub returns-in-None : goal.returns-in-None

@@ -1,6 +1,6 @@
 use Rattle.std.proofs.Common.{List, ℕ, subst}
 use Rattle.lsp_text.specs.Difference.{IsFirstDifference}
-use Rattle.lsp_text.proofs.Differences.{parts_before}
+use Rattle.lsp_text.proofs.Differing.Differences.{parts_before}
 use Rattle.lsp_text.proofs.difference.parting.Goals as goal
 
 pub returns : goal.returns

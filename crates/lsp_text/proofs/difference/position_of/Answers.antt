@@ -4,7 +4,7 @@ use Rattle.lsp_types.specs.declared.position.Position.{Position}
 use Rattle.lsp_text.specs.Lines.{lines_of}
 use Rattle.lsp_text.specs.Places.{units}
 use Rattle.lsp_text.specs.Difference.{line_number_at, line_before_place}
-use Rattle.lsp_text.proofs.LinePlaces.{number_there, before_there}
+use Rattle.lsp_text.proofs.Differing.LinePlaces.{number_there, before_there}
 use Rattle.lsp_text.proofs.difference.position_of.Goals as goal
 
 pub returns : goal.returns

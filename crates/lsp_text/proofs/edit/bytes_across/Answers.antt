@@ -3,7 +3,7 @@ use Rattle.lsp_types.specs.declared.position.Encoding.TheVariants.{Utf8}
 use Rattle.lsp_text.specs.Lines.{Line, lines_of, text_of, spelled}
 use Rattle.lsp_text.specs.Places.{units}
 use Rattle.std.specs.List.{slice_range}
-use Rattle.lsp_text.proofs.Spotting.{one_line}
+use Rattle.lsp_text.proofs.Edits.Spotting.{one_line}
 use Rattle.lsp_text.proofs.edit.bytes_across.Goals as goal
 
 pub returns-then-first-second : goal.returns-then-first-second

@@ -5,7 +5,7 @@ use Rattle.lsp_text.specs.Lines.{spelled}
 use Rattle.lsp_text.specs.Places.{units}
 use Rattle.lsp_text.specs.Steps.{raised}
 use Rattle.lsp_text.specs.Spots.{line_before}
-use Rattle.lsp_text.proofs.Spotting.{line_before-some}
+use Rattle.lsp_text.proofs.Edits.Spotting.{line_before-some}
 use Rattle.lsp_text.proofs.edit.copy_before.Goals as goal
 use Rattle.lsp_text.proofs.edit.copy_before.Goals.{After-read-line}
 

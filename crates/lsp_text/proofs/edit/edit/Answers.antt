@@ -1,8 +1,8 @@
 use Rattle.std.proofs.Common.{◌≤◌, ℕ, List, Result, Ok, arith, ap, sym, ◌∙◌}
 use Rattle.std.specs.Str.{chars}
 use Rattle.lsp_text.specs.Spots.{place_from}
-use Rattle.lsp_text.proofs.StepCounts.{counted_first, counted_second, counted_before, counted_in_line, counted_all}
-use Rattle.lsp_text.proofs.Editing.{edit_reversed, edit_over, spot_lt, spots_ordered, bytes_ordered, is_edit, is_edit_of, is_edit_in_line, IsEditInLine, on_err}
+use Rattle.lsp_text.proofs.Edits.StepCounts.{counted_first, counted_second, counted_before, counted_in_line, counted_all}
+use Rattle.lsp_text.proofs.Edits.Editing.{edit_reversed, edit_over, spot_lt, spots_ordered, bytes_ordered, is_edit, is_edit_of, is_edit_in_line, IsEditInLine, on_err}
 use Rattle.lsp_text.proofs.edit.edit.Goals as goal
 use Rattle.lsp_text.proofs.edit.edit.Goals.{After-bytes_outside-outside, Then-stays_in_line}
 

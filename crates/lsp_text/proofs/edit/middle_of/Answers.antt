@@ -7,7 +7,7 @@ use Rattle.lsp_types.specs.declared.position.Encoding.TheVariants.{Utf8}
 use Rattle.lsp_text.specs.Lines.{Line, spelled}
 use Rattle.lsp_text.specs.Places.{units}
 use Rattle.lsp_text.specs.Spots.{front_of, rest_of, line_before}
-use Rattle.lsp_text.proofs.Editing.{chars_joined, offset_le, offset_before_end}
+use Rattle.lsp_text.proofs.Edits.Editing.{chars_joined, offset_le, offset_before_end}
 use Rattle.lsp_text.proofs.edit.middle_of.Goals as goal
 
 pub overflow_sub-rest : goal.overflow_sub-rest

@@ -1,4 +1,4 @@
-use Rattle.lsp_text.proofs.PlacePositions.{places_have_positions}
+use Rattle.lsp_text.proofs.Differing.PlacePositions.{places_have_positions}
 use Rattle.lsp_text.proofs.laws.places_have_positions.Goals as goal
 
 pub returns : goal.returns

@@ -1,4 +1,4 @@
-use Rattle.std.proofs.Common.{rules, ◌≤◌, ◌≡◌, ◌++◌, ◌∙◌, take, ◌+◌, ◌-◌, length, arith, ap, min, refl}
+use Rattle.std.proofs.Common.{rules, ◌≤◌, ◌≡◌, ◌++◌, ◌∙◌, take, ◌+◌, ◌-◌, length, arith, ap, min}
 use Rattle.std.proofs.lemmas.List.{length-take-le}
 use Rattle.std.proofs.lemmas.Slice.{take-put_mid}
 use Rattle.lsp_command.proofs.Fronts.{front_more}

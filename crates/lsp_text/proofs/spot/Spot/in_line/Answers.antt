@@ -2,7 +2,7 @@ use Rattle.std.proofs.Common.{◌+◌, ℕ, length, take, arith, ap, sym, ◌∙
 use Rattle.std.specs.Option.{option_map}
 use Rattle.lsp_text.specs.Lines.{Line, lines_of, text_of}
 use Rattle.lsp_text.specs.Places.{place_in_line}
-use Rattle.lsp_text.proofs.Spotting.{line_number_lt, spot_past, place_in_its_line, spot_at}
+use Rattle.lsp_text.proofs.Edits.Spotting.{line_number_lt, spot_past, place_in_its_line, spot_at}
 use Rattle.lsp_text.proofs.spot.Spot.in_line.Goals as goal
 
 pub returns-then-len-position : goal.returns-then-len-position

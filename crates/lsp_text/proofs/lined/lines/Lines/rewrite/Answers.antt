@@ -8,7 +8,7 @@ use Rattle.lsp_text.specs.Places.{units}
 use Rattle.lsp_text.specs.Runs.{joined_runs, IsPlaceInRuns}
 use Rattle.lsp_text.specs.Spans.{lines_before}
 use Rattle.lsp_text.proofs.RunPlaces.{run_at, runs_ordered, joined_splice}
-use Rattle.lsp_text.proofs.Rewrites.{IsRewritten, IsKept, rewritten_by, kept_after}
+use Rattle.lsp_text.proofs.Edits.Rewrites.{IsRewritten, IsKept, rewritten_by, kept_after}
 use Rattle.lsp_text.proofs.lined.lines.Lines.rewrite.Goals as goal
 use Rattle.lsp_text.proofs.lined.lines.Lines.rewrite.Goals.{After-locate-b, In_ok-put}
 

@@ -1,0 +1,22 @@
+use Rattle.std.proofs.Common.{ap, sym, ◌∙◌, w32}
+use Rattle.std.proofs.lemmas.Int.{to_z-of_z}
+use Rattle.std.specs.List.{find}
+use Rattle.std.specs.Option.{option_map}
+use Rattle.std.specs.Str.{chars}
+use mir.Val.{SFits}
+use Rattle.lsp_docs.specs.Documents.{Version, versioned}
+use Rattle.lsp_docs.specs.Others.{differs_from, other_in}
+use Rattle.lsp_docs.proofs.Others.{find-map, map-twice}
+use Rattle.lsp_docs.proofs.history.History.other.Goals as goal
+
+pub returns : goal.returns
+returns g c =
+    let fits : SFits w32 c.args.version = c.ranges.version in
+    let s = versioned c.args.version (chars c.args.text.now) in
+    let told = simp to_z-of_z at c.first_other.ensures in
+    let items = c.self.inside.revisions.items in
+    told
+    ∙ (ap (λ l. option_map (λ r. g.S.TextStore.content r.store) (find (λ r. differs_from s (versioned r.version (g.S.TextStore.content r.store))) l)) c.as_slice.ensures.value
+    ∙ (sym (ap (option_map (λ (v : Version). v.text)) (find-map (differs_from s) (λ r. versioned r.version (g.S.TextStore.content r.store)) items)
+    ∙ map-twice (λ (v : Version). v.text) (λ r. versioned r.version (g.S.TextStore.content r.store)) (find (λ r. differs_from s (versioned r.version (g.S.TextStore.content r.store))) items))
+    ∙ ap (other_in s) c.self.view_is))

@@ -1,0 +1,119 @@
+-- The events of a log that offend, and what is explained of them.
+use Rattle.std.specs.Prelude.{map, filter, take, not, option_map, if◌then◌else◌}
+use Rattle.std.specs.List.{AllZip, cons_option}
+use Rattle.std.proofs.Common.{◌≡◌, ℕ, ◌+◌, Bool, true, false, List, [], ◌∷◌, ◌++◌, length, Option, Some, None, refl, sym, ap, ◌∙◌, subst, append_assoc, append-nil}
+use Rattle.std.proofs.lemmas.List.{map-append}
+use Rattle.std.proofs.lemmas.List.Elements.{filter-append}
+use Rattle.lsp_docs.specs.Terms.{Terms}
+use Rattle.lsp_verdict.specs.LookBack.{each_from, each_of}
+use Rattle.lsp_verdict.specs.Offences.{Noted, Offence, IsNoted, events_of, rule_at, offence_by, offence_at, offences}
+use Rattle.lsp_verdict.specs.Placed.{Raw}
+use Rattle.lsp_verdict.proofs.LookBackLemmas.{each_from-append, each_of-snoc}
+use Rattle.lsp_explain.specs.Explained.{Heard, Breach, Explained, Explains, raws_of, notes_of, breach_at, breaches, is_cause, in_scope}
+use Rattle.lsp_explain.specs.declared.scope.Scope.{Scope}
+use Rattle.lsp_explain.specs.declared.scope.Scope.TheVariants.{First, All}
+
+-- ---- events with what they were before they were read
+
+pub raws-append : (hs more : List Heard) → raws_of (hs ++ more) ≡ raws_of hs ++ raws_of more
+raws-append hs more = map-append (λ (h : Heard). h.raw) hs more
+
+pub notes-append : (hs more : List Heard) → notes_of (hs ++ more) ≡ notes_of hs ++ notes_of more
+notes-append hs more = map-append (λ (h : Heard). h.note) hs more
+
+AreNoted : List Heard → Type 0
+AreNoted hs = AllZip IsNoted (raws_of hs) (notes_of hs)
+
+pub noted-append : (hs more : List Heard) → AllZip IsNoted (raws_of hs) (notes_of hs) → AllZip IsNoted (raws_of more) (notes_of more) → AllZip IsNoted (raws_of (hs ++ more)) (notes_of (hs ++ more))
+noted-append [] more p q = q
+noted-append (h ∷ hs) more p q = (p.0, noted-append hs more p.1 q)
+
+-- such events of any raw ones
+pub record Hears (raws : List Raw) : Type 0 where
+  pub heard : List Heard
+  pub are : raws_of heard ≡ raws
+  pub noted : AllZip IsNoted (raws_of heard) (notes_of heard)
+
+pub hears : ((raw : Raw) → (n : Noted) × IsNoted raw n) → (raws : List Raw) → Hears raws
+hears note [] = record { heard = []; are = refl; noted = tt }
+hears note (raw ∷ raws) =
+    let first = note raw in
+    let rest = hears note raws in
+    record { heard = record { raw = raw; note = first.0 } ∷ rest.heard; are = ap (λ w. raw ∷ w) rest.are; noted = (first.1, rest.noted) }
+
+-- ---- those that offend
+
+abbrev pub breach : List Heard → Heard → ℕ → Breach
+breach before h rule = record { before = before; here = h; rule = rule }
+
+abbrev pub offence_of : Terms → Breach → Offence
+offence_of terms b = offence_by terms (notes_of b.before) b.here.note b.rule
+
+cons_map : {X Y : Type 0} (f : X → Y) (o : Option X) (xs : List X) → map f (cons_option o xs) ≡ cons_option (option_map f o) (map f xs)
+cons_map f None xs = refl
+cons_map f (Some x) xs = refl
+
+offence_of_rule : (terms : Terms) (before : List Heard) (h : Heard) (o : Option ℕ) → option_map (offence_of terms) (option_map (breach before h) o) ≡ option_map (offence_by terms (notes_of before) h.note) o
+offence_of_rule terms before h None = refl
+offence_of_rule terms before h (Some rule) = refl
+
+offences_from : (terms : Terms) (before hs : List Heard) → each_from (offence_at terms) (notes_of before) (notes_of hs) ≡ map (offence_of terms) (each_from (breach_at terms) before hs)
+offences_from terms before [] = refl
+offences_from terms before (h ∷ hs) =
+    ap (λ w. cons_option (offence_at terms (notes_of before) h.note) (each_from (offence_at terms) w (notes_of hs))) (sym (notes-append before (h ∷ [])))
+    ∙ ap (cons_option (offence_at terms (notes_of before) h.note)) (offences_from terms (before ++ h ∷ []) hs)
+    ∙ ap (λ o. cons_option o (map (offence_of terms) (each_from (breach_at terms) (before ++ h ∷ []) hs))) (sym (offence_of_rule terms before h (rule_at terms (events_of (notes_of before)) h.note.event)))
+    ∙ sym (cons_map (offence_of terms) (breach_at terms before h) (each_from (breach_at terms) (before ++ h ∷ []) hs))
+
+-- the offences are theirs
+pub offences_are : (terms : Terms) (hs : List Heard) → offences terms (notes_of hs) ≡ map (offence_of terms) (breaches terms hs)
+offences_are terms hs = offences_from terms [] hs
+
+-- one event more, which is kept
+pub breaches-kept : (terms : Terms) (hs : List Heard) (h : Heard) → rule_at terms (events_of (notes_of hs)) h.note.event ≡ None → breaches terms (hs ++ h ∷ []) ≡ breaches terms hs
+breaches-kept terms hs h is =
+    each_of-snoc (breach_at terms) hs h ∙ ap (λ (o : Option ℕ). breaches terms hs ++ cons_option (option_map (breach hs h) o) []) is ∙ append-nil (breaches terms hs)
+
+-- or which offends
+pub breaches-push : (terms : Terms) (hs : List Heard) (h : Heard) (rule : ℕ) → rule_at terms (events_of (notes_of hs)) h.note.event ≡ Some rule → breaches terms (hs ++ h ∷ []) ≡ breaches terms hs ++ breach hs h rule ∷ []
+breaches-push terms hs h rule is =
+    each_of-snoc (breach_at terms) hs h ∙ ap (λ (o : Option ℕ). breaches terms hs ++ cons_option (option_map (breach hs h) o) []) is
+
+-- the first that offends stays so, whatever comes behind it
+pub breaches-first : (terms : Terms) (hs later : List Heard) (h : Heard) (rule : ℕ) → breaches terms hs ≡ [] → rule_at terms (events_of (notes_of hs)) h.note.event ≡ Some rule
+    → breaches terms (hs ++ h ∷ later) ≡ breach hs h rule ∷ each_from (breach_at terms) (hs ++ h ∷ []) later
+breaches-first terms hs later h rule clean is =
+    each_from-append (breach_at terms) [] hs (h ∷ later)
+    ∙ ap (λ w. w ++ each_from (breach_at terms) hs (h ∷ later)) clean
+    ∙ ap (λ (o : Option ℕ). cons_option (option_map (breach hs h) o) (each_from (breach_at terms) (hs ++ h ∷ []) later)) is
+
+-- ---- what is explained of them
+
+pub zip_push : {A B : Type 0} (R : A → B → Type 0) (xs : List A) (ys : List B) (x : A) (y : B) → AllZip R xs ys → R x y → AllZip R (xs ++ x ∷ []) (ys ++ y ∷ [])
+zip_push R [] [] x y p q = (q, tt)
+zip_push R [] (w ∷ ys) x y p q = absurd p
+zip_push R (v ∷ xs) [] x y p q = absurd p
+zip_push R (v ∷ xs) (w ∷ ys) x y p q = (p.0, zip_push R xs ys x y p.1 q)
+
+module _ (terms : Terms) (hs : List Heard) (h : Heard) (said : List Explained) (so_far : AllZip (Explains terms) (in_scope All terms (breaches terms hs)) said) where
+  abbrev Said : List Breach → List Explained → Type 0
+  Said found es = AllZip (Explains terms) (in_scope All terms found) es
+
+  pub said-kept : rule_at terms (events_of (notes_of hs)) h.note.event ≡ None → Said (breaches terms (hs ++ h ∷ [])) said
+  said-kept is = subst (λ w. Said w said) (sym (breaches-kept terms hs h is)) so_far
+
+  by_cause : (rule : ℕ) (b : Bool) → is_cause terms (breach hs h rule) ≡ b → filter (is_cause terms) (breaches terms hs ++ breach hs h rule ∷ []) ≡ in_scope All terms (breaches terms hs) ++ (if b then breach hs h rule ∷ [] else [])
+  by_cause rule b is = filter-append (is_cause terms) (breaches terms hs) (breach hs h rule ∷ []) ∙ ap (λ t. in_scope All terms (breaches terms hs) ++ (if t then breach hs h rule ∷ [] else [])) is
+
+  -- a cause is explained
+  pub said-push : (rule : ℕ) (e : Explained) → rule_at terms (events_of (notes_of hs)) h.note.event ≡ Some rule → is_cause terms (breach hs h rule) ≡ true → Explains terms (breach hs h rule) e → Said (breaches terms (hs ++ h ∷ [])) (said ++ e ∷ [])
+  said-push rule e is cause explains =
+      subst (λ w. Said w (said ++ e ∷ [])) (sym (breaches-push terms hs h rule is))
+      (subst (λ w. AllZip (Explains terms) w (said ++ e ∷ [])) (sym (by_cause rule true cause))
+      (zip_push (Explains terms) (in_scope All terms (breaches terms hs)) said (breach hs h rule) e so_far explains))
+
+  -- what follows is not
+  pub said-follows : (rule : ℕ) → rule_at terms (events_of (notes_of hs)) h.note.event ≡ Some rule → is_cause terms (breach hs h rule) ≡ false → Said (breaches terms (hs ++ h ∷ [])) said
+  said-follows rule is follows =
+      subst (λ w. Said w said) (sym (breaches-push terms hs h rule is))
+      (subst (λ w. AllZip (Explains terms) w said) (sym (by_cause rule false follows ∙ append-nil (in_scope All terms (breaches terms hs)))) so_far)

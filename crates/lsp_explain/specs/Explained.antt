@@ -1,0 +1,172 @@
+-- What is said of a log that offends: with its offences, the events that offend and the facts on them.
+use Rattle.std.specs.Prelude.{◌≡◌, ℕ, ◌+◌, List, [], ◌∷◌, ◌++◌, map, filter, take, length, Bool, true, false, ◌==◌, nat_lt, not, if◌then◌else◌, Option, Some, None, option_map, unwrap_or}
+use Rattle.std.specs.List.{AllZip, flat_map}
+use Rattle.lsp_frame.specs.Bounds.{Bounds}
+use Rattle.lsp_frame.specs.declared.format.Format.{Format}
+use Rattle.lsp_types.specs.declared.position.Encoding.TheVariants.{Utf16}
+use Rattle.lsp_types.specs.declared.side.Side.TheVariants.{Editor, Server}
+use Rattle.lsp_session.specs.Negotiation.{encoding}
+use Rattle.lsp_session.specs.Sent.{Sent}
+use Rattle.lsp_docs.specs.Calls.{Call}
+use Rattle.lsp_docs.specs.Terms.{Terms}
+use Rattle.lsp_log.specs.Log.{Record, IsLog}
+use Rattle.lsp_log.specs.declared.fault.LogCode.{LogCode}
+use Rattle.lsp_verdict.specs.Calls.{call_at, calls}
+use Rattle.lsp_verdict.specs.Event.{Event, message, fault, snapshot, sent_in}
+use Rattle.lsp_verdict.specs.LookBack.{each_of}
+use Rattle.lsp_verdict.specs.Offences.{Noted, Offence, IsNoted, events_of, kept_of, rule_at, follows, offences}
+use Rattle.lsp_verdict.specs.Outcome.{HasRest, ending, log_terms}
+use Rattle.lsp_verdict.specs.Placed as placed
+use Rattle.lsp_verdict.specs.Placed.{Raw, broken, show, Placed, joined}
+use Rattle.lsp_verdict.specs.Report.{report}
+use Rattle.lsp_verdict.specs.Survey.{no_lines, found_in, found_line, ends_listed, first_verdict}
+use Rattle.lsp_verdict.specs.Verdict.{Verdict, yes, no, bad_log, Summary, summary, Ending, bad_log_of, no_by}
+use Rattle.lsp_verdict.specs.declared.completeness.Completeness.{Completeness}
+use Rattle.lsp_explain.specs.DocumentFacts.{AreDocumentFacts}
+use Rattle.lsp_explain.specs.Fact.{Fact, in_record}
+use Rattle.lsp_explain.specs.Lines.{fact_line, fact_lines, event_line, end_event}
+use Rattle.lsp_explain.specs.MessageFacts.{content_facts, session_facts, lack_facts}
+use Rattle.lsp_explain.specs.declared.scope.Scope.{Scope}
+use Rattle.lsp_explain.specs.declared.scope.Scope.TheVariants.{First, All}
+
+-- ---- an event that offends
+
+-- an event, and what it was before its content was read
+pub record Heard : Type 0 where
+  pub raw : Raw
+  pub note : Noted
+
+abbrev pub raws_of : List Heard → List Raw
+raws_of heard = map (λ (h : Heard). h.raw) heard
+
+abbrev pub notes_of : List Heard → List Noted
+notes_of heard = map (λ (h : Heard). h.note) heard
+
+-- behind these events this one offends by this rule
+pub record Breach : Type 0 where
+  pub before : List Heard
+  pub here : Heard
+  pub rule : ℕ
+
+abbrev pub breach_at : Terms → List Heard → Heard → Option Breach
+breach_at terms before h =
+    option_map (λ rule. let b : Breach = record { before = before; here = h; rule = rule } in b) (rule_at terms (events_of (notes_of before)) h.note.event)
+
+-- all of them
+abbrev pub breaches : Terms → List Heard → List Breach
+breaches terms heard = each_of (breach_at terms) heard
+
+abbrev pub is_cause : Terms → Breach → Bool
+is_cause terms b = not (follows terms (notes_of b.before) b.here.note b.rule)
+
+-- those that are explained: the first, or all that follow from none
+abbrev pub in_scope : Scope → Terms → List Breach → List Breach
+in_scope First terms found = take 1 found
+in_scope All terms found = filter (is_cause terms) found
+
+-- ---- the facts on it
+
+-- of a content that is no message, and none of frames that have a fault
+abbrev pub fault_facts : Raw → List Fact
+fault_facts (placed.content side bytes) = content_facts bytes
+fault_facts (broken side rule) = []
+fault_facts (show number uri text) = []
+
+-- a call on a document that breaks this rule after the kept events
+abbrev pub AreCallFacts : Terms → List Event → ℕ → Option Call → List Fact → Type 0
+AreCallFacts terms kept rule None facts = facts ≡ []
+AreCallFacts terms kept rule (Some call) facts = AreDocumentFacts terms (unwrap_or (encoding (sent_in kept)) Utf16) (calls kept) call rule facts
+
+-- 301 to 504 are broken by the message, 601 to 702 by what it says of a document
+abbrev pub AreFactsBy : Bool → Terms → List Event → Sent → ℕ → List Fact → Type 0
+AreFactsBy true terms kept m rule facts = facts ≡ session_facts rule (sent_in kept) m
+AreFactsBy false terms kept m rule facts = AreCallFacts terms kept rule (call_at kept (message m)) facts
+
+abbrev pub AreMessageFacts : Terms → List Event → Sent → ℕ → List Fact → Type 0
+AreMessageFacts terms kept m rule facts = AreFactsBy (nat_lt rule 601) terms kept m rule facts
+
+-- **the facts on an event that offends by this rule after the kept ones before it**
+abbrev pub AreFacts : Terms → List Event → Raw → Event → ℕ → List Fact → Type 0
+AreFacts terms kept raw (fault side number) rule facts = facts ≡ fault_facts raw
+AreFacts terms kept raw (message m) rule facts = AreMessageFacts terms kept m rule facts
+AreFacts terms kept raw (snapshot uri number text) rule facts = AreCallFacts terms kept rule (call_at kept (snapshot uri number text)) facts
+
+-- ---- what is said of it
+
+-- the No, the line that names the event, and the facts
+pub record Explained : Type 0 where
+  pub no : Verdict
+  pub event : List ℕ
+  pub facts : List Fact
+
+pub record Explains (terms : Terms) (b : Breach) (e : Explained) : Type 0 where
+  pub no_is : e.no ≡ no_by (events_of (notes_of b.before)) b.here.note.event b.rule
+  pub event_is : e.event ≡ event_line (length b.before + 1) b.here.note.event
+  pub facts_are : AreFacts terms (kept_of terms (events_of (notes_of b.before))) b.here.raw b.here.note.event b.rule e.facts
+
+-- ---- how a session ends
+
+-- the place of a No at which no event stands
+abbrev pub end_line : Verdict → List ℕ
+end_line (no rule by count event) = end_event event by
+end_line (yes s) = []
+end_line (bad_log at code) = []
+
+-- 303 and 407 say what waits after the kept events, and 107 nothing
+abbrev pub end_facts : List Event → Verdict → List Fact
+end_facts kept (no rule by count event) = if rule == 107 then [] else lack_facts (sent_in kept)
+end_facts kept (yes s) = []
+end_facts kept (bad_log at code) = []
+
+abbrev pub end_explained : List Event → Verdict → Explained
+end_explained kept v = record { no = v; event = end_line v; facts = end_facts kept v }
+
+-- ---- the report
+
+abbrev pub said_of : Explained → List ℕ
+said_of e = e.event ++ fact_lines e.facts
+
+abbrev pub explained_lines : Explained → List ℕ
+explained_lines e = no_lines [] e.no ++ said_of e
+
+-- the number of the record at which the log has its fault
+abbrev pub flaw_lines : Option Verdict → List ℕ
+flaw_lines (Some (bad_log at code)) = fact_line (in_record at)
+flaw_lines _ = []
+
+abbrev pub bad_explained : Option Verdict → List ℕ
+bad_explained None = []
+bad_explained (Some v) = report v ++ flaw_lines (Some v)
+
+-- **the explanation**: where nothing offends the report, with the record of a bad log; else of the first offence the report of its No and what is said of it, or so of all that are explained, and how many there are
+abbrev pub explanation : Scope → List Offence → List Explained → Option Verdict → Summary → List ℕ
+explanation scope [] explained bad s = report (first_verdict [] bad s) ++ flaw_lines bad
+explanation First (o ∷ found) explained bad s = report o.no ++ flat_map said_of explained
+explanation All (o ∷ found) explained bad s = flat_map explained_lines explained ++ bad_explained bad ++ found_line (o ∷ found)
+
+-- ---- a log
+
+-- only the first is explained, or all
+abbrev pub shown_in : Scope → List Explained → List Explained
+shown_in First explained = take 1 explained
+shown_in All explained = explained
+
+-- **what is explained of a log**: `found` and `bad` and `s` are its survey
+pub record IsExplained (scope : Scope) (completeness : Completeness) (limits : Bounds) (log : List ℕ) (found : List Offence) (explained : List Explained) (bad : Option Verdict) (s : Summary) : Type 0 where
+  pub format : Option Format
+  pub records : List Record
+  pub log_fault : Option (ℕ × LogCode)
+  pub heard : List Heard
+  pub editor : List ℕ
+  pub server : List ℕ
+  pub of_events : List Explained
+  pub is_log : IsLog limits log format records log_fault
+  pub placed_are : Placed limits records (raws_of heard)
+  pub noted : AllZip IsNoted (raws_of heard) (notes_of heard)
+  pub editor_rest : HasRest limits (joined Editor records) editor
+  pub server_rest : HasRest limits (joined Server records) server
+  pub lists : found ≡ found_in completeness (log_terms limits format) (notes_of heard) (ending log_fault editor server)
+  pub bad_is : bad ≡ bad_log_of log_fault
+  pub comes_to : s ≡ summary (log_terms limits format) (events_of (notes_of heard))
+  pub explains : AllZip (Explains (log_terms limits format)) (in_scope scope (log_terms limits format) (breaches (log_terms limits format) heard)) of_events
+  pub shows : explained ≡ shown_in scope (of_events ++ map (end_explained (kept_of (log_terms limits format) (events_of (notes_of heard)))) (ends_listed completeness (log_terms limits format) (events_of (notes_of heard)) (ending log_fault editor server)))

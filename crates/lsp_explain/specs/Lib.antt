@@ -1,0 +1,7 @@
+pub mod Fact
+pub mod Lines
+pub mod MessageFacts
+pub mod DocumentFacts
+pub mod Explained
+pub mod Making
+pub mod Comparing

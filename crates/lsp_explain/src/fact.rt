@@ -1,0 +1,56 @@
+//! What an explanation says.
+use lsp_rpc::Id;
+use lsp_session::Phase;
+use lsp_types::{Position, Span, SyncKind};
+
+/// One thing that an explanation says of an offence. Lines and columns count from 0, columns in units of the
+/// encoding that the session agreed on.
+#[derive(Debug, Drop, PartialEq, Eq)]
+pub enum Fact {
+    /// The document of which the message or the snapshot speaks, as it writes its URI.
+    Uri(String),
+    /// The version that is held of it.
+    Held(i32),
+    /// The version in the message or the snapshot.
+    Sent(i32),
+    /// How many changes the message has.
+    Changes(u64),
+    /// How changes are sent, as agreed (LSP 3.17, TextDocumentSyncKind).
+    Sync(SyncKind),
+    /// The change that fails, from 1, and its span, if it has one (LSP 3.17, TextDocumentContentChangeEvent).
+    Change { which: u64, span: Option<Span> },
+    /// The units of a line of the text that this change meets, its line end not counted.
+    Length(u64),
+    /// The character into which a column falls.
+    Inside(String),
+    /// The bytes of UTF-8 that the text would have.
+    Bytes(u64),
+    /// The most bytes of UTF-8 that a text may have.
+    Limit(u64),
+    /// Where the held text and another one first differ.
+    At(Position),
+    /// The line of the held text there, its line end included.
+    HeldLine(String),
+    /// The same of the text of a snapshot.
+    RecordedLine(String),
+    /// The same of the text that was saved.
+    SavedLine(String),
+    /// The versions that are kept besides the held one.
+    Kept(Vec<i32>),
+    /// The id in the message. `None` where it is null.
+    Id(Option<Id>),
+    /// How far the session has come.
+    Phase(Phase),
+    /// The encodings that the open `initialize` offers (LSP 3.17, ClientCapabilities). None where it names none.
+    Offered(Vec<String>),
+    /// The encoding that the result of `initialize` picks (LSP 3.17, ServerCapabilities).
+    Picked(String),
+    /// A method of text synchronisation that is to be registered (LSP 3.17, "Register Capability").
+    Registers(String),
+    /// A request of the editor's that waits for its response.
+    Request { id: Id, method: String },
+    /// The front of a content that is no message.
+    Begins(String),
+    /// The number of a record of the log, from 1; 0 for the first line.
+    Record(u64),
+}
