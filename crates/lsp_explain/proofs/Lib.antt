@@ -6,3 +6,4 @@ pub mod Refusals
 pub mod Refused
 pub mod Spoken
 pub mod Worked
+pub mod Tracing

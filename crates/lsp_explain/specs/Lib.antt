@@ -5,3 +5,4 @@ pub mod DocumentFacts
 pub mod Explained
 pub mod Making
 pub mod Comparing
+pub mod Traced

@@ -13,6 +13,7 @@ mod messages;
 mod offending;
 mod refused_change;
 mod scope;
+mod trace;
 
 pub use documents::{act_facts, snapshot_facts};
 pub use fact::Fact;
