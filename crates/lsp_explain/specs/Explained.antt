@@ -170,3 +170,13 @@ pub record IsExplained (scope : Scope) (completeness : Completeness) (limits : B
   pub comes_to : s ≡ summary (log_terms limits format) (events_of (notes_of heard))
   pub explains : AllZip (Explains (log_terms limits format)) (in_scope scope (log_terms limits format) (breaches (log_terms limits format) heard)) of_events
   pub shows : explained ≡ shown_in scope (of_events ++ map (end_explained (kept_of (log_terms limits format) (events_of (notes_of heard)))) (ends_listed completeness (log_terms limits format) (events_of (notes_of heard)) (ending log_fault editor server)))
+
+-- **the verdict on a log, and what explains it**: the first that its survey lists, else its fault, else Yes
+pub record IsExplanation (scope : Scope) (completeness : Completeness) (limits : Bounds) (log : List ℕ) (v : Verdict) (out : List ℕ) : Type 0 where
+  pub found : List Offence
+  pub explained : List Explained
+  pub bad : Option Verdict
+  pub s : Summary
+  pub is : IsExplained scope completeness limits log found explained bad s
+  pub judges : v ≡ first_verdict found bad s
+  pub says : out ≡ explanation scope found explained bad s

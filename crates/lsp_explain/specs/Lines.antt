@@ -84,7 +84,7 @@ fact_lines facts = flat_map fact_line facts
 
 -- a message of this number, as it is shown
 abbrev pub message_event : ℕ → Side → Message → List ℕ
-message_event number side message = line (codes "event" ∷ decimal number ∷ side_name side ∷ words_of message ∷ [])
+message_event number side said = line (codes "event" ∷ decimal number ∷ side_name side ∷ words_of said ∷ [])
 
 -- where no message can be named, the side alone is
 abbrev pub side_event : ℕ → Side → List ℕ

@@ -1,0 +1,84 @@
+-- What is said of an event that offends, by how it was found.
+use Rattle.std.specs.Prelude.{chars, string_bytes}
+use Rattle.std.proofs.Common.{◌≡◌, ℕ, List, [], ◌++◌, Option, Some, refl, sym, ap, ◌∙◌, subst}
+use Rattle.lsp_docs.specs.Calls.{shows}
+use Rattle.lsp_docs.specs.Terms.{Terms}
+use Rattle.lsp_events.specs.Standing.{RefusesMessage}
+use Rattle.lsp_rpc.specs.View.{act_view, message_view}
+use Rattle.lsp_survey.specs.Walking.{IsOffending}
+use Rattle.lsp_survey.specs.declared.offending.Offending.{Offending}
+use Rattle.lsp_survey.specs.declared.offending.Offending.TheVariants as what
+use Rattle.lsp_verdict.specs.Contents.{IsSent}
+use Rattle.lsp_verdict.specs.Event.{Event, message, fault, snapshot, sent_in}
+use Rattle.lsp_verdict.specs.Placed.{Raw, content, broken, show, Reads}
+use Rattle.lsp_verdict.specs.Verdict.{offence}
+use Rattle.lsp_verdict.proofs.OneEvent.{one_event}
+use Rattle.lsp_explain.specs.Explained.{AreCallFacts, AreFacts, AreMessageFacts}
+use Rattle.lsp_explain.specs.Fact.{Fact}
+use Rattle.lsp_explain.specs.Lines.{event_line, message_event, side_event, snapshot_event}
+use Rattle.lsp_explain.specs.MessageFacts.{content_facts}
+use Rattle.lsp_explain.proofs.Spoken.{same_line}
+
+module _ (terms : Terms) (kept : List Event) (rule : ℕ) where
+  -- what is said of what was found
+  abbrev pub Says : Offending → List Fact → Type 0
+  Says (what.Frames by) facts = facts ≡ []
+  Says (what.Content by given) facts = facts ≡ content_facts given.items
+  Says (what.Message by spoken) facts =
+      (bytes : List ℕ) → (refused : RefusesMessage by bytes (message_view spoken.message) (act_view spoken.act) terms kept rule) → AreMessageFacts terms kept refused.sent rule facts
+  Says (what.Snapshot version uri text) facts =
+      offence terms kept (snapshot (string_bytes uri) version (chars (string_bytes text))) ≡ Some rule → AreCallFacts terms kept rule (Some (shows (string_bytes uri) version (chars (string_bytes text)))) facts
+
+  -- is said of the event that it is
+  pub facts_said : (raw : Raw) (event : Event) (o : Offending) (facts : List Fact) → Reads raw event → IsOffending raw terms kept rule o → offence terms kept event ≡ Some rule → Says o facts → AreFacts terms kept raw event rule facts
+  facts_said (broken side code) event (what.Frames by) facts reads is offends says = subst (λ e. AreFacts terms kept (broken side code) e rule facts) (sym reads) says
+  facts_said (content side bytes) event (what.Content by given) facts reads is offends says =
+      let same : event ≡ fault side rule = one_event side bytes event (fault side rule) reads is.2 in
+      subst (λ e. AreFacts terms kept (content side bytes) e rule facts) (sym same) (says ∙ ap content_facts is.1)
+  facts_said (content side bytes) event (what.Message by spoken) facts reads is offends says =
+      let refused = is.1 in
+      let same : event ≡ message refused.sent = one_event side bytes event (message refused.sent) reads refused.reads in
+      let by_side : RefusesMessage by bytes (message_view spoken.message) (act_view spoken.act) terms kept rule =
+          record { sent = refused.sent; reads = subst (λ s. IsSent s bytes refused.sent) (sym is.0) refused.reads; says = refused.says; means = refused.means; offends = refused.offends; whole = refused.whole } in
+      subst (λ e. AreFacts terms kept (content side bytes) e rule facts) (sym same) (says bytes by_side)
+  facts_said (show number uri text) event (what.Snapshot version name shown) facts reads is offends says =
+      let same : event ≡ snapshot (string_bytes name) version (chars (string_bytes shown)) =
+          reads ∙ ap (λ u. snapshot u number (chars text)) (sym is.1) ∙ ap (λ n. snapshot (string_bytes name) n (chars text)) (sym is.0) ∙ ap (λ t. snapshot (string_bytes name) version (chars t)) (sym is.2) in
+      subst (λ e. AreFacts terms kept (show number uri text) e rule facts) (sym same) (says (subst (λ e. offence terms kept e ≡ Some rule) same offends))
+  facts_said (broken side code) event (what.Content by given) facts reads is offends says = absurd is
+  facts_said (broken side code) event (what.Message by spoken) facts reads is offends says = absurd is
+  facts_said (broken side code) event (what.Snapshot version name shown) facts reads is offends says = absurd is
+  facts_said (content side bytes) event (what.Frames by) facts reads is offends says = absurd is
+  facts_said (content side bytes) event (what.Snapshot version name shown) facts reads is offends says = absurd is
+  facts_said (show number uri text) event (what.Frames by) facts reads is offends says = absurd is
+  facts_said (show number uri text) event (what.Content by given) facts reads is offends says = absurd is
+  facts_said (show number uri text) event (what.Message by spoken) facts reads is offends says = absurd is
+
+  -- the line that names what was found
+  abbrev pub line_for : ℕ → Offending → List ℕ
+  line_for number (what.Frames by) = side_event number by
+  line_for number (what.Content by given) = side_event number by
+  line_for number (what.Message by spoken) = message_event number by (message_view spoken.message)
+  line_for number (what.Snapshot version uri text) = snapshot_event number (string_bytes uri) version (chars (string_bytes text))
+
+  -- names the event that it is
+  pub line_said : (number : ℕ) (raw : Raw) (event : Event) (o : Offending) → Reads raw event → IsOffending raw terms kept rule o → line_for number o ≡ event_line number event
+  line_said number (broken side code) event (what.Frames by) reads is = ap (side_event number) is ∙ sym (ap (event_line number) reads)
+  line_said number (content side bytes) event (what.Content by given) reads is =
+      let same : event ≡ fault side rule = one_event side bytes event (fault side rule) reads is.2 in
+      ap (side_event number) is.0 ∙ sym (ap (event_line number) same)
+  line_said number (content side bytes) event (what.Message by spoken) reads is =
+      let refused = is.1 in
+      let same : event ≡ message refused.sent = one_event side bytes event (message refused.sent) reads refused.reads in
+      sym (same_line (sent_in kept) refused.sent by (message_view spoken.message) (act_view spoken.act) (refused.reads.by ∙ sym is.0) refused.says refused.means refused.whole number) ∙ sym (ap (event_line number) same)
+  line_said number (show n uri text) event (what.Snapshot version name shown) reads is =
+      ap (λ u. snapshot_event number u version (chars (string_bytes shown))) is.1 ∙ ap (λ v. snapshot_event number uri v (chars (string_bytes shown))) is.0 ∙ ap (λ t. snapshot_event number uri n (chars t)) is.2
+      ∙ sym (ap (event_line number) reads)
+  line_said number (broken side code) event (what.Content by given) reads is = absurd is
+  line_said number (broken side code) event (what.Message by spoken) reads is = absurd is
+  line_said number (broken side code) event (what.Snapshot version name shown) reads is = absurd is
+  line_said number (content side bytes) event (what.Frames by) reads is = absurd is
+  line_said number (content side bytes) event (what.Snapshot version name shown) reads is = absurd is
+  line_said number (show n uri text) event (what.Frames by) reads is = absurd is
+  line_said number (show n uri text) event (what.Content by given) reads is = absurd is
+  line_said number (show n uri text) event (what.Message by spoken) reads is = absurd is
