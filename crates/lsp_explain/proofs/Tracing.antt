@@ -28,7 +28,7 @@ outline_id (response id (error code)) = refl
 
 pub same_traced : (terms : Terms) (before : List Event) (m : Sent) (side : Side) (said : Message) (act : Act) (rule : ℕ) (plain : List Fact) → m.side ≡ side → outline m.message ≡ outline said → m.act ≡ act
     → (if nat_lt rule 601 then plain ++ session_trace rule (numbered terms before) side (id_in said)
-       else call_traced terms before rule (call_of (unwrap_or (encoding (sent_in (kept_of terms before))) Utf16) (unwrap_or (sync_kind (sent_in (kept_of terms before))) Nothing) act) plain)
+    else call_traced terms before rule (call_of (unwrap_or (encoding (sent_in (kept_of terms before))) Utf16) (unwrap_or (sync_kind (sent_in (kept_of terms before))) Nothing) act) plain)
     ≡ traced terms before (message m) rule plain
 same_traced terms before m side said act rule plain by same means =
     by_test (nat_lt rule 601)
@@ -38,9 +38,9 @@ same_traced terms before m side said act rule plain by same means =
 
     by_test : (b : Bool)
         → (if b then plain ++ session_trace rule (numbered terms before) side (id_in said)
-           else call_traced terms before rule (call_of (unwrap_or (encoding (sent_in (kept_of terms before))) Utf16) (unwrap_or (sync_kind (sent_in (kept_of terms before))) Nothing) act) plain)
+        else call_traced terms before rule (call_of (unwrap_or (encoding (sent_in (kept_of terms before))) Utf16) (unwrap_or (sync_kind (sent_in (kept_of terms before))) Nothing) act) plain)
         ≡ (if b then plain ++ session_trace rule (numbered terms before) m.side (id_in m.message)
-           else call_traced terms before rule (call_of (unwrap_or (encoding (sent_in (kept_of terms before))) Utf16) (unwrap_or (sync_kind (sent_in (kept_of terms before))) Nothing) m.act) plain)
+        else call_traced terms before rule (call_of (unwrap_or (encoding (sent_in (kept_of terms before))) Utf16) (unwrap_or (sync_kind (sent_in (kept_of terms before))) Nothing) m.act) plain)
     by_test true = λ i. plain ++ session_trace rule (numbered terms before) (sym by i) (ids i)
     by_test false =
         ap (λ (a : Act). call_traced terms before rule (call_of (unwrap_or (encoding (sent_in (kept_of terms before))) Utf16) (unwrap_or (sync_kind (sent_in (kept_of terms before))) Nothing) a) plain) (sym means)

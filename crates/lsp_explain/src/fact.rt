@@ -50,11 +50,7 @@ pub enum Fact {
     /// A request of the editor's that waits for its response.
     Request { id: Id, method: String },
     /// The same, and the number of the event that asked it, from 1.
-    RequestBy {
-        id: Id,
-        method: String,
-        event: u64,
-    },
+    RequestBy { id: Id, method: String, event: u64 },
     /// The number of the event that brought the held version, from 1.
     Brought(u64),
     /// The number of the event of a snapshot that has another text, from 1.

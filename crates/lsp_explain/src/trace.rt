@@ -95,7 +95,7 @@ fn trace_spoken(
     ensures { OnOk result ((enc : AnEncoding) (kind : ASyncKind) (terms : Terms) (before : List Event)
         → AreMarks terms marks.now.map.entries before → AreNotes terms said.now before
         → facts_view facts.new.items ≡ (if nat_lt rule 601 then facts_view facts.old.items ++ spec.session_trace rule (numbered terms before) side (id_in (message_view spoken.now.message))
-            else spec.call_traced terms before rule (call_of enc kind (act_view spoken.now.act)) (facts_view facts.old.items))) }
+        else spec.call_traced terms before rule (call_of enc kind (act_view spoken.now.act)) (facts_view facts.old.items))) }
 {
     if rule < FIRST_ON_DOCUMENTS {
         return trace_message(facts, said, side, &spoken.message, rule);
@@ -106,12 +106,7 @@ fn trace_spoken(
 /// Adds to the facts on an act that breaks this rule on documents the event that brought the held
 /// version; under 702 the snapshots that wait for the version in it; under 608 and 702 the snapshot that
 /// was found equal last.
-fn trace_act(
-    facts: &mut Vec<Fact>,
-    marks: &Marks,
-    act: &Act,
-    rule: u16,
-) -> Result<(), Memory>
+fn trace_act(facts: &mut Vec<Fact>, marks: &Marks, act: &Act, rule: u16) -> Result<(), Memory>
     ensures { OnOk result ((enc : AnEncoding) (kind : ASyncKind) (terms : Terms) (before : List Event) → AreMarks terms marks.now.map.entries before
         → facts_view facts.new.items ≡ spec.call_traced terms before rule (call_of enc kind (act_view act.now)) (facts_view facts.old.items)) }
 {

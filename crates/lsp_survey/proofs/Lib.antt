@@ -5,6 +5,7 @@ pub mod Tails
 pub mod Exchanging
 pub mod Marking
 pub mod MarkSteps
+pub mod MarksWorked
 pub mod OkParts
 pub mod SessionSteps
 pub mod Waiting

@@ -14,10 +14,9 @@ pub returns : goal.returns
 returns g c = λ content before holds marks notes refused.
     let terms = c.args.docs.now.terms in
     let kept = sent_in (kept_of terms before) in
-    let plain = facts_view c.in_ok-facts.facts.items in
-    (
+    let plain = facts_view c.in_ok-facts.facts.items in (
       plain,
       c.in_ok-facts.ensures content (kept_of terms before) holds refused,
       c.in_ok-trace_spoken.ensures (unwrap_or (encoding kept) Utf16) (unwrap_or (sync_kind kept) Nothing) terms before marks notes
-      ∙ same_traced terms before refused.sent c.args.side (message_view c.args.spoken.now.message) (act_view c.args.spoken.now.act) c.args.rule plain refused.reads.by refused.says refused.means,
+          ∙ same_traced terms before refused.sent c.args.side (message_view c.args.spoken.now.message) (act_view c.args.spoken.now.act) c.args.rule plain refused.reads.by refused.says refused.means,
     )
