@@ -9,3 +9,9 @@ pub mod MarksWorked
 pub mod OkParts
 pub mod SessionSteps
 pub mod Waiting
+pub mod FrameRules
+pub mod Streaming
+pub mod Taking
+pub mod Ending
+pub mod Reading
+pub mod LogEnds

@@ -6,3 +6,12 @@ use Rattle.std.proofs.Common.{Result, Ok, Err}
 pub if_ok_kept : {X E : Type 0} (r : Result X E) (P S : X → Type 0) (Q R : Type 0) → ((x : X) → P x → Q → R → S x) → IfOk r P → OnOk r Q → OnOk r R → IfOk r S
 if_ok_kept (Ok x) P S Q R f p q t = f x p q t
 if_ok_kept (Err e) P S Q R f p q t = p
+
+-- two of a result without a value
+pub on_ok_both : {X E : Type 0} {P Q R : Type 0} (r : Result X E) → (P → Q → R) → OnOk r P → OnOk r Q → OnOk r R
+on_ok_both (Ok x) f p q = f p q
+on_ok_both (Err e) f p q = p
+
+pub if_ok_both : {X E : Type 0} (r : Result X E) (P Q S : X → Type 0) → ((x : X) → P x → Q x → S x) → IfOk r P → IfOk r Q → IfOk r S
+if_ok_both (Ok x) P Q S f p q = f x p q
+if_ok_both (Err e) P Q S f p q = p

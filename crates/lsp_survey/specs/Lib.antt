@@ -5,3 +5,5 @@ pub mod Asking
 pub mod Marking
 pub mod Marks
 pub mod SessionNoting
+pub mod Reads
+pub mod Reported

@@ -98,11 +98,10 @@ Awaits limits (Some Server) s records due =
     IsDue limits Server s.server.ended s.server.decoder (joined Server records) due × IsSpent limits s.editor.ended s.editor.decoder (joined Editor records)
 
 -- **a survey took these records, and heard these events of them**
-pub record Surveys (limits : Bounds) (s : Survey) (records : List Record) (notes : List Noted) : Type 0 where
+pub record Surveys (limits : Bounds) (s : Survey) (records : List Record) (past : List Raw) (notes : List Noted) : Type 0 where
   pub range : IsInRange limits
   pub same : s.limits ≡ limits
   pub terms : s.walk.events.docs.terms ≡ terms_of limits s.format
-  pub past : List Raw
   pub due : List Raw
   pub placed : Placed limits records (past ++ due)
   pub are_noted : AllZip IsNoted past notes
@@ -112,22 +111,22 @@ pub record Surveys (limits : Bounds) (s : Survey) (records : List Record) (notes
   pub awaits : Awaits limits s.turn s records due
 
 -- one more event of the records was heard behind these
-pub record HearsOne (limits : Bounds) (s : Survey) (records : List Record) (before : List Noted) (given : Heard) : Type 0 where
+pub record HearsOne (limits : Bounds) (s : Survey) (records : List Record) (past : List Raw) (before : List Noted) (given : Heard) : Type 0 where
   pub raw : Raw
   pub n : Noted
   pub is_noted : IsNoted raw n
   pub is_heard : IsHeard raw (terms_of limits s.format) before n given
-  pub surveys : Surveys limits s records (before ++ n ∷ [])
+  pub surveys : Surveys limits s records (past ++ raw ∷ []) (before ++ n ∷ [])
 
 -- of the records taken, or all were heard
-abbrev pub HearsHere : Bounds → Survey → List Record → List Noted → Option Heard → Type 0
-HearsHere limits s records before None = Surveys limits s records before × (s.turn ≡ None)
-HearsHere limits s records before (Some given) = HearsOne limits s records before given
+abbrev pub HearsHere : Bounds → Survey → List Record → List Raw → List Noted → Option Heard → Type 0
+HearsHere limits s records past before None = Surveys limits s records past before × (s.turn ≡ None)
+HearsHere limits s records past before (Some given) = HearsOne limits s records past before given
 
 -- one more record was taken, and of it an event was heard or none
-abbrev pub TakesOne : Bounds → Survey → List Record → List Noted → Option Heard → Type 0
-TakesOne limits s records before None = Surveys limits s records before
-TakesOne limits s records before (Some given) = HearsOne limits s records before given
+abbrev pub TakesOne : Bounds → Survey → List Record → List Raw → List Noted → Option Heard → Type 0
+TakesOne limits s records past before None = Surveys limits s records past before
+TakesOne limits s records past before (Some given) = HearsOne limits s records past before given
 
 -- ---- the format
 
@@ -135,7 +134,7 @@ TakesOne limits s records before (Some given) = HearsOne limits s records before
 pub record IsFitted (format : Format) (old new : Survey) : Type 0 where
   pub fits : new.format ≡ format
   pub same : old.format ≡ format → new ≡ old
-  pub other : (old.format ≡ format → ⊥) → Surveys old.limits new [] [] × (new.turn ≡ None)
+  pub other : (old.format ≡ format → ⊥) → Surveys old.limits new [] [] [] × (new.turn ≡ None)
 
 abbrev pub IsRefitted : Option Format → Survey → Survey → Type 0
 IsRefitted None old new = new ≡ old

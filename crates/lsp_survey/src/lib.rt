@@ -14,11 +14,19 @@ mod marks;
 mod note;
 mod offending;
 mod rules;
+mod run;
 mod said;
 mod session_notes;
 mod survey;
+mod survey_reader;
+mod tally;
 mod walk;
 
 pub use mark::Shown;
 pub use marks::Marks;
 pub use session_notes::SessionNotes;
+
+pub use listing::Listing;
+pub use offending::{Found, Heard, Offending};
+pub use run::run_survey;
+pub use survey_reader::{End, Next, SurveyReader};

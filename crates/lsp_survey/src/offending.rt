@@ -4,7 +4,7 @@ use lsp_verdict::Offence;
 
 /// The event that offends. What was held before it is held still.
 #[derive(Drop)]
-pub(crate) enum Offending {
+pub enum Offending {
     /// A fault of the frames of this side.
     Frames(Side),
     /// A content of this side that is no message, or whose params don't have their shape.
@@ -27,14 +27,14 @@ pub(crate) enum Offending {
 
 /// An offence, and the event that offends.
 #[derive(Drop)]
-pub(crate) struct Found {
+pub struct Found {
     pub offence: Offence,
     pub offending: Offending,
 }
 
 /// How an event was heard.
 #[derive(Drop)]
-pub(crate) enum Heard {
+pub enum Heard {
     /// It is kept.
     Kept,
     /// It offends behind the kept events before it, and is passed over.

@@ -1,5 +1,5 @@
 //! Takes the records of a log one by one, and hears the events that they bring, past each that offends.
-ghost use Rattle.std.specs.Prelude.{◌≡◌, ◌++◌, ◌∷◌, [], List, None, true, false, ℕ, map, if◌then◌else◌, IfOk, OnOk};
+ghost use Rattle.std.specs.Prelude.{◌≡◌, ◌++◌, ◌∷◌, [], List, None, true, false, ℕ, map, if◌then◌else◌, Ok, IfOk, OnOk};
 ghost use Rattle.lsp_docs.specs.Terms.{terms_of};
 ghost use Rattle.lsp_events.specs.Standing.{Holds};
 ghost use Rattle.lsp_frame.specs.Bounds.{Bounds};
@@ -48,7 +48,8 @@ impl Stream {
 
     /// Takes bytes. Behind a fault of the frames they bring nothing.
     fn push(&mut self, bytes: &[u8]) -> Result<(), Memory>
-        ensures { OnOk result ((limits : Bounds) (side : Side) (sent : List ℕ) → IsSpent limits self.old.ended self.old.decoder sent
+        ensures ended { self.new.ended ≡ self.old.ended }
+        ensures pushes { OnOk result ((limits : Bounds) (side : Side) (sent : List ℕ) → IsSpent limits self.old.ended self.old.decoder sent
             → Pushes limits side self.new.ended self.new.decoder sent bytes.now) }
     {
         if self.ended {
@@ -79,7 +80,7 @@ pub(crate) struct Survey {
     format: Format,
     editor: Stream,
     server: Stream,
-    walk: Walk,
+    pub walk: Walk,
     /// The side whose events are still to be heard.
     turn: Option<Side>,
 }
@@ -88,7 +89,7 @@ impl Survey {
     /// A survey of a log of this format that took no record.
     pub(crate) fn of_format(alloc: Global, limits: Limits, format: Format) -> Survey
         ensures format { result.format ≡ format }
-        ensures surveys { Surveys limits result [] [] }
+        ensures surveys { Surveys limits result [] [] [] }
         ensures idle { result.turn ≡ None }
     {
         let _document = limits.document();
@@ -105,7 +106,8 @@ impl Survey {
 
     /// Becomes a survey of this format: where it is for another, one that took no record.
     pub(crate) fn follow_format(&mut self, format: Format)
-        ensures { IsFitted format self.old self.new }
+        ensures fitted { IsFitted format self.old self.new }
+        ensures idle { self.old.turn ≡ None → self.new.turn ≡ None }
     {
         if is_same(self.format, format) {
             return;
@@ -117,8 +119,9 @@ impl Survey {
     /// Hears the next event of the records taken; none where all were heard.
     pub(crate) fn hear(&mut self) -> Result<Option<Heard>, Memory>
         ensures format { self.new.format ≡ self.old.format }
-        ensures answer { IfOk result (λ answer. (limits : Bounds) (records : List log.Record) (before : List Noted) → Surveys limits self.old records before
-            → HearsHere limits self.new records before answer) }
+        ensures idle { result ≡ Ok None → self.new.turn ≡ None }
+        ensures answer { IfOk result (λ answer. (limits : Bounds) (records : List log.Record) (past : List Raw) (before : List Noted) → Surveys limits self.old records past before
+            → HearsHere limits self.new records past before answer) }
     {
         let Some(side) = self.turn.take() else {
             return Ok(None);
@@ -145,8 +148,8 @@ impl Survey {
     pub(crate) fn take(&mut self, next: Record) -> Result<Option<Heard>, Memory>
         requires idle { self.old.turn ≡ None }
         ensures format { self.new.format ≡ self.old.format }
-        ensures answer { IfOk result (λ answer. (limits : Bounds) (records : List log.Record) (before : List Noted) → Surveys limits self.old records before
-            → TakesOne limits self.new (records ++ record_view next ∷ []) before answer) }
+        ensures answer { IfOk result (λ answer. (limits : Bounds) (records : List log.Record) (past : List Raw) (before : List Noted) → Surveys limits self.old records past before
+            → TakesOne limits self.new (records ++ record_view next ∷ []) past before answer) }
     {
         match next {
             Record::Bytes {
@@ -176,7 +179,7 @@ impl Survey {
     /// lacks to be complete.
     pub(crate) fn ends(&self, completeness: Completeness) -> Result<Vec<Offence>, Memory>
         requires idle { self.now.turn ≡ None }
-        ensures { IfOk result (λ listed. (limits : Bounds) (records : List log.Record) (notes : List Noted) (editor server : List ℕ) → Surveys limits self.now records notes
+        ensures { IfOk result (λ listed. (limits : Bounds) (records : List log.Record) (past : List Raw) (notes : List Noted) (editor server : List ℕ) → Surveys limits self.now records past notes
             → HasRest limits (joined Side.Editor records) editor → HasRest limits (joined Side.Server records) server
             → map offence_view listed.items
             ≡ map (λ v. given_offence (by_itself v)) (ends_listed completeness self.now.walk.events.docs.terms (events_of notes) (ending None editor server))) }

@@ -1,0 +1,164 @@
+-- The stream of one side: what more bytes bring, and its next event.
+use Rattle.std.specs.Prelude.{map}
+use Rattle.std.proofs.Common.{◌≡◌, ℕ, Bool, true, false, List, [], ◌∷◌, ◌++◌, Option, Some, None, Result, Ok, Err, refl, sym, ap, subst, ◌∙◌, append_assoc, append-nil}
+use Rattle.std.proofs.lemmas.List.{append_cancel_left}
+use Rattle.lsp_docs.specs.Terms.{Terms}
+use Rattle.lsp_frame.specs.Bounds.{Bounds}
+use Rattle.lsp_frame.specs.Decoder as decoder
+use Rattle.lsp_frame.specs.Frame.{Frames, IsStream}
+use Rattle.lsp_types.specs.declared.side.Side.{Side}
+use Rattle.lsp_survey.specs.Surveys.{HasDue, AreBroken, IsSpent, IsDue, Pushes, HearsFirst, HearsNext}
+use Rattle.lsp_survey.specs.Walking.{Walks, Hears}
+use Rattle.lsp_survey.specs.declared.offending.Heard.{Heard}
+use Rattle.lsp_survey.specs.declared.walk.Walk.{Walk}
+use Rattle.lsp_verdict.specs.Drained.{IsDrained}
+use Rattle.lsp_verdict.specs.Offences.{Noted}
+use Rattle.lsp_verdict.specs.Placed.{Raw, content, broken, new_fault, Brings}
+use Rattle.lsp_verdict.proofs.Below.{faulty_more, frames_first, one_stream, some_stream}
+use Rattle.lsp_survey.proofs.FrameRules.{breaks_low}
+
+-- ---- more bytes
+
+-- behind a fault nothing comes
+pub nothing_more : (limits : Bounds) (side : Side) (d : decoder.State) (sent more : List ℕ) → AreBroken limits sent → Pushes limits side true d sent more
+nothing_more limits side d sent more (contents, rest, rule, stream) =
+    let later = faulty_more limits sent contents rest rule more stream in (
+      [],
+      record {
+        contents = contents;
+        rest = rest;
+        old_fault = Some rule;
+        stream = stream;
+        new_contents = [];
+        new_rest = rest ++ more;
+        last_fault = Some rule;
+        new_stream = subst (λ (cs : List (List ℕ)). IsStream limits (sent ++ more) cs (rest ++ more) (Some rule)) (sym (append-nil contents)) later;
+        brought = refl;
+      },
+      (refl, (contents, rest ++ more, rule, later)),
+    )
+
+-- what they bring is due
+pub pushed_due : (limits : Bounds) (side : Side) (d new : decoder.State) (sent more : List ℕ) → IsSpent limits false d sent → new.limits ≡ d.limits
+    → ((bytes : List ℕ) (contents : List (List ℕ)) → decoder.StandsFor d bytes contents → decoder.StandsFor new (bytes ++ more) contents) → Pushes limits side false new sent more
+pushed_due limits side d new sent more (own, drained) same_d stands_all =
+    let same : new.limits ≡ limits = same_d ∙ own in
+    let stands = stands_all sent drained.contents drained.stands in
+    let all = some_stream limits (sent ++ more) in
+    let frames = subst (λ (w : Bounds). Frames w (sent ++ more) drained.contents stands.rest) same stands.frames in
+    let cut = frames_first limits (sent ++ more) drained.contents stands.rest all.0 all.1 all.2 frames all.3 in
+    let stream = subst (λ (w : List (List ℕ)). IsStream limits (sent ++ more) w all.1 all.2) cut.1 all.3 in (
+      map (content side) cut.0 ++ new_fault side None all.2,
+      record {
+        contents = drained.contents;
+        rest = d.rest;
+        old_fault = None;
+        stream = subst (λ (w : Bounds). IsStream w sent drained.contents d.rest None) own drained.ends.1;
+        new_contents = cut.0;
+        new_rest = all.1;
+        last_fault = all.2;
+        new_stream = stream;
+        brought = refl;
+      },
+      (
+        same,
+        record {
+          given = drained.contents;
+          left = cut.0;
+          rest = all.1;
+          breaks = all.2;
+          stands = stands;
+          stream = subst (λ (w : Bounds). IsStream w (sent ++ more) (drained.contents ++ cut.0) all.1 all.2) (sym same) stream;
+          are = refl;
+        },
+      ),
+    )
+
+-- ---- the next event
+
+nothing_left : (given left : List (List ℕ)) → given ≡ given ++ left → left ≡ []
+nothing_left given left e = append_cancel_left given left [] (sym e ∙ sym (append-nil given))
+
+module _ (side : Side) (d : decoder.State) (bytes : List ℕ) (due : List Raw) (h : HasDue side d bytes due) where
+  due_with : (left : List (List ℕ)) (breaks : Option ℕ) → h.left ≡ left → h.breaks ≡ breaks → due ≡ map (content side) left ++ new_fault side None breaks
+  due_with left breaks e f = h.are ∙ ap (λ w. map (content side) w ++ new_fault side None h.breaks) e ∙ ap (λ o. map (content side) left ++ new_fault side None o) f
+
+  -- the stream has no more
+  due_end : (rest : List ℕ) (breaks : Option ℕ) → IsStream d.limits bytes h.given rest breaks → due ≡ new_fault side None breaks
+  due_end rest breaks stream =
+      let one = one_stream d.limits bytes h.given (h.given ++ h.left) rest h.rest breaks h.breaks stream h.stream in
+      due_with [] breaks (nothing_left h.given h.left one.contents) (sym one.fault)
+
+  -- the stream has this content next, and it was given
+  due_given : (new : decoder.State) (c : List ℕ) → new.limits ≡ d.limits → decoder.StandsFor new bytes (h.given ++ c ∷ []) → (later : List Raw) × (due ≡ content side c ∷ later) × HasDue side new bytes later
+  due_given new c same stands =
+      let frames = subst (λ (w : Bounds). Frames w bytes (h.given ++ c ∷ []) stands.rest) same stands.frames in
+      let cut = frames_first d.limits bytes (h.given ++ c ∷ []) stands.rest (h.given ++ h.left) h.rest h.breaks frames h.stream in
+      let left = append_cancel_left h.given h.left (c ∷ cut.0) (cut.1 ∙ append_assoc h.given (c ∷ []) cut.0) in (
+        map (content side) cut.0 ++ new_fault side None h.breaks,
+        due_with (c ∷ cut.0) h.breaks left refl,
+        record {
+          given = h.given ++ c ∷ [];
+          left = cut.0;
+          rest = h.rest;
+          breaks = h.breaks;
+          stands = stands;
+          stream = subst (λ (w : Bounds). IsStream w bytes ((h.given ++ c ∷ []) ++ cut.0) h.rest h.breaks) (sym same)
+              (subst (λ (w : List (List ℕ)). IsStream d.limits bytes w h.rest h.breaks) cut.1 h.stream);
+          are = refl;
+        },
+      )
+
+same_by_frame : (old new : decoder.State) (c : List ℕ) → decoder.GivesFrame old new c → new.limits ≡ old.limits
+same_by_frame old new c gives = ap (λ (s : decoder.State). s.limits) gives.same
+
+same_by_none : (old new : decoder.State) → decoder.GivesNothing old new → new.limits ≡ old.limits
+same_by_none old new gives = ap (λ (s : decoder.State). s.limits) gives.same
+
+same_by_fault : (old new : decoder.State) (rule : ℕ) → decoder.GivesFault old new rule → new.limits ≡ old.limits
+same_by_fault old new rule gives = ap (λ (s : decoder.State). s.limits) gives.same
+
+module _ (limits : Bounds) (side : Side) (d new : decoder.State) (terms : Terms) (w : Walk) (bytes : List ℕ) (due : List Raw) (notes : List Noted) (is_due : IsDue limits side false d bytes due) where
+  pub none_next : decoder.Next d new (Ok None) → Walks w notes → HearsNext limits side false false new terms w bytes due notes None
+  none_next next walks =
+      let h = is_due.1 in
+      let told = next.stands bytes h.given h.stands in
+      let same = same_by_none d new next.step in (
+        due_end side d bytes due h new.rest None (subst (λ (b : Bounds). IsStream b bytes h.given new.rest None) same told.1.1),
+        refl,
+        (same ∙ is_due.0, record { contents = h.given; stands = told.0; ends = told.1 }),
+        walks,
+      )
+
+  pub content_next : (c : List ℕ) (given : Heard) → decoder.Next d new (Ok (Some c)) → Hears (content side c) terms w notes given → HearsNext limits side false false new terms w bytes due notes (Some given)
+  content_next c given next hears =
+      let h = is_due.1 in
+      let same = same_by_frame d new c next.step in
+      let one = due_given side d bytes due h new c same (next.stands bytes h.given h.stands) in
+      record {
+        raw = content side c;
+        later = one.0;
+        first = one.1;
+        is_of = refl;
+        unbroken = refl;
+        ends = refl;
+        left = (same ∙ is_due.0, one.2);
+        hears = hears;
+      }
+
+  pub fault_next : (rule : ℕ) (given : Heard) → decoder.Next d new (Err rule) → Hears (broken side rule) terms w notes given → HearsNext limits side false true new terms w bytes due notes (Some given)
+  fault_next rule given next hears =
+      let h = is_due.1 in
+      let told = next.stands bytes h.given h.stands in
+      let same = same_by_fault d new rule next.step in
+      let stream = subst (λ (b : Bounds). IsStream b bytes h.given told.1.0 (Some rule)) same told.1.1 in
+      record {
+        raw = broken side rule;
+        later = [];
+        first = due_end side d bytes due h told.1.0 (Some rule) stream;
+        is_of = (refl, breaks_low d.limits told.1.0 rule stream.fault);
+        unbroken = refl;
+        ends = refl;
+        left = (refl, (h.given, told.1.0, rule, subst (λ (b : Bounds). IsStream b bytes h.given told.1.0 (Some rule)) is_due.0 stream));
+        hears = hears;
+      }

@@ -1,0 +1,40 @@
+use Rattle.std.proofs.Common.{[], ◌∷◌, ◌++◌, map, Some, None, Option, ℕ, refl, sym, ap, ◌∙◌}
+use Rattle.std.specs.Prelude.{option_map, option_to_list}
+use Rattle.std.proofs.lemmas.List.{map-append}
+use Rattle.lsp_verdict.specs.Given.{offence_view}
+use Rattle.lsp_verdict.specs.Offences.{events_of, kept_of}
+use Rattle.lsp_verdict.specs.Survey.{lacks_listed}
+use Rattle.lsp_verdict.specs.Verdict.{no_next}
+use Rattle.lsp_verdict.specs.declared.verdict.Who.TheVariants as who
+use Rattle.lsp_survey.proofs.Ending.{given_by, rests_here, ends_some, ends_none, lacks_are, no_items, some_items}
+use Rattle.lsp_survey.proofs.survey.Survey.ends.Goals as goal
+
+pub returns-then-not-is_empty : goal.returns-then-not-is_empty
+returns-then-not-is_empty c = λ limits records past notes editor server h editor_rest server_rest.
+    let s = c.args.self.now in
+    let rests = rests_here limits s records past notes editor server c.ends_inside.result c.ends_inside-2.result _ _ _ c.requires.idle h editor_rest server_rest
+    c.ends_inside.ensures.broken c.ends_inside.ensures.whole c.ends_inside-2.ensures.broken c.ends_inside-2.ensures.whole (ap (map offence_view) c.new-listed.ensures.items) c.in_ok-list_rest.ensures c.in_ok-list_rest-2.ensures in
+    ends_some _ (lacks_listed c.args.completeness (events_of notes) (kept_of s.walk.events.docs.terms (events_of notes))) _ rests (some_items offence_view c.list_rest-2.new.listed c.is_empty.result c.is_empty.ensures c.if-not-is_empty.true)
+
+pub returns-in_default : goal.returns-in_default
+returns-in_default c = λ limits records past notes editor server h editor_rest server_rest.
+    let s = c.args.self.now in
+    let kept = kept_of s.walk.events.docs.terms (events_of notes) in
+    let rests = rests_here limits s records past notes editor server c.ends_inside.result c.ends_inside-2.result _ _ _ c.requires.idle h editor_rest server_rest
+    c.ends_inside.ensures.broken c.ends_inside.ensures.whole c.ends_inside-2.ensures.broken c.ends_inside-2.ensures.whole (ap (map offence_view) c.new-listed.ensures.items) c.in_ok-list_rest.ensures c.in_ok-list_rest-2.ensures in
+    let none = no_items c.list_rest-2.new.listed c.is_empty.result c.is_empty.ensures c.if-not-is_empty.false in
+    let lacks = lacks_are c.args.completeness (events_of notes) kept None (sym c.in_default.is ∙ c.lack.ensures kept h.walks.holds) in
+    ends_none _ (lacks_listed c.args.completeness (events_of notes) kept) (map offence_view c.list_rest-2.new.listed.items) _ rests (ap (map offence_view) none)
+    (ap (map offence_view) none ∙ ap (map given_by) lacks ∙ ap (λ l. l ++ map given_by (lacks_listed c.args.completeness (events_of notes) kept)) (sym (ap (map offence_view) none)))
+
+pub returns : goal.returns
+returns c = λ limits records past notes editor server h editor_rest server_rest.
+    let s = c.args.self.now in
+    let kept = kept_of s.walk.events.docs.terms (events_of notes) in
+    let rests = rests_here limits s records past notes editor server c.ends_inside.result c.ends_inside-2.result _ _ _ c.requires.idle h editor_rest server_rest
+    c.ends_inside.ensures.broken c.ends_inside.ensures.whole c.ends_inside-2.ensures.broken c.ends_inside-2.ensures.whole (ap (map offence_view) c.new-listed.ensures.items) c.in_ok-list_rest.ensures c.in_ok-list_rest-2.ensures in
+    let none = no_items c.list_rest-2.new.listed c.is_empty.result c.is_empty.ensures c.if-not-is_empty.false in
+    let lacks = lacks_are c.args.completeness (events_of notes) kept (Some c.in-Some.rule) (sym c.in-Some.is ∙ c.lack.ensures kept h.walks.holds) in
+    let pushed = ap (map offence_view) c.in_ok-push.ensures.items ∙ map-append offence_view c.list_rest-2.new.listed.items (c.next.result ∷ []) in
+    ends_none _ (lacks_listed c.args.completeness (events_of notes) kept) (map offence_view c.list_rest-2.new.listed.items) _ rests (ap (map offence_view) none)
+    (pushed ∙ ap (λ o. map offence_view c.list_rest-2.new.listed.items ++ o ∷ []) (c.next.ensures (events_of notes) h.walks.counted) ∙ ap (λ l. map offence_view c.list_rest-2.new.listed.items ++ map given_by l) lacks)

@@ -1,0 +1,80 @@
+use Rattle.std.proofs.Common.{Some, None, sym, refl, ap, map, ◌∙◌}
+use Rattle.std.proofs.lemmas.Result.{err_from_is_err_and}
+use Rattle.lsp_log.specs.Records.{record_view}
+use Rattle.lsp_verdict.specs.Given.{offence_view}
+use Rattle.lsp_verdict.proofs.Entries.{keeps_known}
+use Rattle.lsp_survey.proofs.Reading.{idle_ready, refitted, ready_broke, ready_begins}
+use Rattle.lsp_survey.proofs.LogEnds.{broke_at, end_first, is_bad, ended_here, record_heard, record_refused, record_taken, records_at}
+use Rattle.lsp_survey.proofs.survey_reader.SurveyReader.take_entry.Goals as goal
+
+pub returns-in_err-entry-clause-answer : goal.returns-in_err-entry-clause-answer
+returns-in_err-entry-clause-answer g c =
+    let p = err_from_is_err_and c.from_residual.result c.from_residual.ensures.1 in
+    let old = c.args.self.now in
+    rw (p.1, p.2) (λ limits start past before found so.
+    ready_broke old.completeness limits old.survey start _ old.log.format so.records past before found _ (idle_ready limits old start _ past before found c.requires.idle so)
+    (broke_at _ limits start _ old.log.format so.records _ so.same (c.in_err-entry.ensures.answer start so.records so.at)))
+
+pub returns-in_err-heard-in-Record-clause-answer : goal.returns-in_err-heard-in-Record-clause-answer
+returns-in_err-heard-in-Record-clause-answer g c =
+    let from = c.from_residual-in_err-heard-in-Record in
+    let p = err_from_is_err_and from.result from.ensures.1 in
+    let old = c.args.self.now in
+    let log = c.next_entry.new.log in
+    rw (p.1, p.2) (λ limits start past before found so.
+    let at = rw c.in-Record.is at (c.in_ok-entry.ensures.answer start so.records so.at) in
+    let ready = refitted limits _ _ so.records past before found _ _ (idle_ready limits old start _ past before found c.requires.idle so) (keeps_known _ _ c.in_ok-entry.ensures.format) c.follow_format.ensures.survey in
+    record_refused old.completeness limits (record old { log = log }) c.follow_format.new.survey start _ so.records (record_view c.in-Record.record) past before found ready (c.in_ok-entry.ensures.limits ∙ so.same) at)
+
+pub returns-in_err-ends-in-End-clause-answer : goal.returns-in_err-ends-in-End-clause-answer
+returns-in_err-ends-in-End-clause-answer g c =
+    let from = c.from_residual-in_err-ends-in-End in
+    let p = err_from_is_err_and from.result from.ensures.1 in
+    let old = c.args.self.now in
+    let log = c.next_entry.new.log in
+    rw (p.1, p.2) (λ limits start past before found so.
+    let at = rw c.in-End.is at (c.in_ok-entry.ensures.answer start so.records so.at) in
+    let has = records_at _ limits start _ log.format so.records None so.same at.0 in
+    let ready = refitted limits _ _ so.records past before found _ _ (idle_ready limits old start _ past before found c.requires.idle so) (keeps_known _ _ c.in_ok-entry.ensures.format) c.follow_format.ensures.survey in
+    ready_begins old.completeness limits c.follow_format.new.survey start _ log.format so.records past before found ready (end_first limits log.format so.records None start _ has) has.failures)
+
+pub returns-in-Some-clause-answer : goal.returns-in-Some-clause-answer
+returns-in-Some-clause-answer g c = λ limits start past before found so.
+    let old = c.args.self.now in
+    let log = c.next_entry.new.log in
+    let at = rw c.in-Record.is at (c.in_ok-entry.ensures.answer start so.records so.at) in
+    let ready = refitted limits _ _ so.records past before found _ _ (idle_ready limits old start _ past before found c.requires.idle so) (keeps_known _ _ c.in_ok-entry.ensures.format) c.follow_format.ensures.survey in
+    let took = c.in_ok-heard-in-Record.ensures in
+    record_heard old.completeness limits (record old { log = log; survey = c.take.new.self }) c.follow_format.new.survey start _ so.records (record_view c.in-Record.record) past before found ready (c.in_ok-entry.ensures.limits ∙ so.same) at _ took.format
+    (rw c.in-Some.is at (took.answer limits so.records past before ready.surveys))
+
+pub returns-in-None-clause-answer : goal.returns-in-None-clause-answer
+returns-in-None-clause-answer g c = λ limits start past before found so.
+    let old = c.args.self.now in
+    let log = c.next_entry.new.log in
+    let at = rw c.in-Record.is at (c.in_ok-entry.ensures.answer start so.records so.at) in
+    let ready = refitted limits _ _ so.records past before found _ _ (idle_ready limits old start _ past before found c.requires.idle so) (keeps_known _ _ c.in_ok-entry.ensures.format) c.follow_format.ensures.survey in
+    let took = c.in_ok-heard-in-Record.ensures in
+    record_taken old.completeness limits (record old { log = log; survey = c.take.new.self }) c.follow_format.new.survey start _ so.records (record_view c.in-Record.record) past before found ready (c.in_ok-entry.ensures.limits ∙ so.same) at took.format
+    (rw c.in-None.is at (took.answer limits so.records past before ready.surveys))
+
+pub returns-in_ok-ends-in-End-clause-answer : goal.returns-in_ok-ends-in-End-clause-answer
+returns-in_ok-ends-in-End-clause-answer g c = λ limits start past before found so.
+    let old = c.args.self.now in
+    let log = c.next_entry.new.log in
+    let at = rw c.in-End.is at (c.in_ok-entry.ensures.answer start so.records so.at) in
+    let has = records_at _ limits start _ log.format so.records None so.same at.0 in
+    let ready = refitted limits _ _ so.records past before found _ _ (idle_ready limits old start _ past before found c.requires.idle so) (keeps_known _ _ c.in_ok-entry.ensures.format) c.follow_format.ensures.survey in
+    ended_here old.completeness limits (record old { log = log; survey = c.follow_format.new.survey }) start _ so.records past before found _ None ready has
+    (λ editor server of_editor of_server. c.in_ok-ends-in-End.ensures limits so.records past before editor server ready.surveys of_editor of_server) refl (λ none. at.1)
+
+pub returns-in-Bad-clause-answer : goal.returns-in-Bad-clause-answer
+returns-in-Bad-clause-answer g c = λ limits start past before found so.
+    let old = c.args.self.now in
+    let log = c.next_entry.new.log in
+    let at = rw c.in-Bad.is at (c.in_ok-entry.ensures.answer start so.records so.at) in
+    let flaw = Some (c.in-Bad.number, c.in-Bad.fault) in
+    let has = records_at _ limits start _ log.format so.records flaw so.same at in
+    let ready = refitted limits _ _ so.records past before found _ _ (idle_ready limits old start _ past before found c.requires.idle so) (keeps_known _ _ c.in_ok-entry.ensures.format) c.follow_format.ensures.survey in
+    ended_here old.completeness limits (record old { log = log; survey = c.follow_format.new.survey }) start _ so.records past before found _ flaw ready has
+    (λ editor server of_editor of_server. ap (map offence_view) c.new.ensures.items) refl (is_bad _)

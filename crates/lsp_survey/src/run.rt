@@ -1,0 +1,265 @@
+//! Reports all that is wrong with a log.
+ghost use Rattle.std.specs.Prelude.{◌≡◌, ◌++◌, ◌∷◌, ◌+◌, ◌<◌, ◌^◌, ◌||◌, not, [], ℕ, List, map, length, codes, decimal, option_map, Ok, IfOk, OnOk, OnErr};
+ghost use Rattle.std.specs.Io.KnownBytes.{IsAtEnd};
+ghost use Rattle.lsp_events.specs.Standing.{Follows};
+ghost use Rattle.lsp_frame.specs.Bounds.{Bounds, IsInRange};
+ghost use Rattle.lsp_frame.specs.Told.{Told, Took};
+ghost use Rattle.lsp_survey.specs.Reads.{SoFar, found_in};
+ghost use Rattle.lsp_survey.specs.Reported.{BeginsReported, IsReported, IsTally, Listed, Lists, Reports, closing, is_every, lines_of};
+ghost use Rattle.lsp_verdict.specs.Complete.{IsVerdictBy};
+ghost use Rattle.lsp_verdict.specs.Given.{as_given, offence_view, verdict_view};
+ghost use Rattle.lsp_verdict.specs.Offences.{Noted, Offence as SpecOffence, events_of};
+ghost use Rattle.lsp_verdict.specs.Report.{line};
+ghost use Rattle.lsp_verdict.specs.RunIo.{OfRead, GaveAtMost, Tells, TellsSome, source_failures, sink_failures};
+ghost use Rattle.lsp_verdict.specs.Survey.{bad_lines, first_verdict};
+ghost use Rattle.lsp_verdict.specs.Verdict.{summary, yes};
+
+use crate::listing::Listing;
+use crate::offending::Heard;
+use crate::survey_reader::{End, Next, SurveyReader};
+use crate::tally::Tally;
+use lsp_events::summary_of;
+use lsp_frame::{Limits, Sink, Source, put_all};
+use lsp_rpc::Memory;
+use lsp_verdict::{
+    Completeness, Offence, Outcome, RunFault, Summary, Verdict, found_report, offence_report,
+    report_of,
+};
+use std::alloc::Global;
+
+/// Reads a log to its end, and writes the report of all that is wrong with it: two lines for each offence
+/// that is listed, in order, those of a fault of the log, and how many offences were found. Of a log
+/// with nothing wrong it is the report of the verdict.
+///
+/// An event that offends is passed over, as if it had not been sent, and the next is judged after those
+/// that keep the rules. Behind a fault of a side's frames the other side is read on. The lines of an
+/// offence are written when it is found.
+///
+/// # Errors
+/// `Read` is answered where the source failed, `Write` where the sink did, and `Memory` where memory was
+/// refused; what was written before stays written.
+pub fn run_survey<R: Source, W: Sink>(
+    alloc: Global,
+    reader: &mut R,
+    writer: &mut W,
+    limits: Limits,
+    completeness: Completeness,
+    listing: Listing,
+) -> Result<Outcome, RunFault>
+    // The answer is the verdict on the log read, however that goes on where its end was not met: the one
+    // that `run_check` gives, or `run_check_complete`.
+    ensures judged { IfOk result (λ outcome. (v : Verdict) × (outcome ≡ Outcome.Judged v)) }
+    ensures verdict { (v : Verdict) → result ≡ Ok (Outcome.Judged v)
+        → OfRead limits (R.told reader.old) (R.told reader.new) (λ log. IsVerdictBy completeness limits log (verdict_view v)) }
+    // The report of all that is wrong with that log is written, and nothing else; the verdict is the
+    // first No that is listed, else the fault of the log, else Yes.
+    ensures written { (v : Verdict) → result ≡ Ok (Outcome.Judged v)
+        → (out : List ℕ) × Took (W.told writer.old) (W.told writer.new) out
+        × OfRead limits (R.told reader.old) (R.told reader.new) (λ log. IsReported completeness limits listing log (verdict_view v) out) }
+    // Yes is answered only where the end was met.
+    ensures ended { (s : Summary) → result ≡ Ok (Outcome.Judged (Verdict.Yes s)) → IsAtEnd (R.told reader.new).bytes }
+
+    // What is written before a fault begins what is due for the log.
+    ensures fault { OnErr result ((out : List ℕ) × Took (W.told writer.old) (W.told writer.new) out
+        × OfRead limits (R.told reader.old) (R.told reader.new) (λ log. BeginsReported completeness limits listing log out)) }
+    ensures source_failures { (R.told reader.new).failures ≡ source_failures result (R.told reader.old).failures }
+    ensures sink_failures { (W.told writer.new).failures ≡ sink_failures result (W.told writer.old).failures }
+    // At most one byte past the limit is read.
+    ensures limit { GaveAtMost (limits.log + 1) (R.told reader.old) (R.told reader.new) }
+{
+    let verdict = report_all(alloc, reader, writer, limits, completeness, listing)?;
+    Ok(Outcome::Judged(verdict))
+}
+
+/// What stands behind the lines of the offences, and the verdict.
+#[derive(Drop)]
+struct Closing {
+    text: Vec<u8>,
+    verdict: Verdict,
+}
+
+/// Reads a log to its end, writes the report of all that is wrong with it, and gives its verdict.
+fn report_all<R: Source, W: Sink>(
+    alloc: Global,
+    reader: &mut R,
+    writer: &mut W,
+    limits: Limits,
+    completeness: Completeness,
+    listing: Listing,
+) -> Result<Verdict, RunFault>
+    ensures range { IsInRange limits }
+    ensures reports { Reports completeness limits listing (R.told reader.old) (R.told reader.new) (W.told writer.old) (W.told writer.new) result }
+{
+    let mut events = SurveyReader::new(alloc, limits, completeness);
+    let mut tally = Tally::new();
+    let end = list_events(alloc, &mut events, reader, writer, listing, &mut tally)?;
+    close(alloc, &mut events, writer, listing, &mut tally, end)
+}
+
+/// Lists the offences of a log's events up to its end.
+fn list_events<R: Source, W: Sink>(
+    alloc: Global,
+    events: &mut SurveyReader,
+    reader: &mut R,
+    writer: &mut W,
+    listing: Listing,
+    tally: &mut Tally,
+) -> Result<End, RunFault>
+    requires tally { IsTally tally.old [] }
+    requires range { IsInRange events.old.survey.limits }
+    requires fresh { SoFar events.old.survey.limits events.old (R.told reader.old) (R.told reader.old) [] [] [] }
+    ensures { Lists events.old.completeness events.old.survey.limits listing events.new tally.new (R.told reader.old) (R.told reader.new) (W.told writer.old) (W.told writer.new) result }
+{
+    loop {
+        match events.next(reader)? {
+            Next::Event(heard) => list_heard(alloc, writer, listing, tally, heard)?,
+            Next::End(end) => return Ok(end),
+        }
+    }
+}
+
+/// Lists the offence that an event is, if it is one.
+fn list_heard<W: Sink>(
+    alloc: Global,
+    writer: &mut W,
+    listing: Listing,
+    tally: &mut Tally,
+    heard: Heard,
+) -> Result<(), RunFault>
+    ensures tally { (found : List SpecOffence) → IsTally tally.old found → IsTally tally.new (found ++ found_in heard) }
+    ensures tells { Tells (W.told writer.old) (W.told writer.new) (lines_of listing (found_in heard)) result }
+{
+    match heard {
+        Heard::Kept => Ok(()),
+        Heard::Offence(found) => {
+            let offence = found.offence;
+            drop(found);
+            list(alloc, writer, listing, tally, &offence)
+        }
+    }
+}
+
+/// Counts an offence, and writes its lines where it is listed.
+fn list<W: Sink>(
+    alloc: Global,
+    writer: &mut W,
+    listing: Listing,
+    tally: &mut Tally,
+    offence: &Offence,
+) -> Result<(), RunFault>
+    ensures tally { (found : List SpecOffence) → IsTally tally.old found → IsTally tally.new (found ++ offence_view offence.now ∷ []) }
+    ensures tells { Tells (W.told writer.old) (W.told writer.new) (lines_of listing (offence_view offence.now ∷ [])) result }
+{
+    tally.add(offence);
+    if !is_listed(listing, offence.follows) {
+        return Ok(());
+    }
+    let lines = offence_report(alloc, offence)?;
+    put_all(writer, lines.as_slice())?;
+    Ok(())
+}
+
+/// Whether an offence is listed that follows from an earlier one or doesn't.
+fn is_listed(listing: Listing, follows: bool) -> bool
+    ensures { result ≡ (is_every listing || not follows) }
+{
+    match listing {
+        Listing::Every => true,
+        Listing::Causes => !follows,
+    }
+}
+
+/// Lists offences, one after another.
+fn list_each<W: Sink>(
+    alloc: Global,
+    writer: &mut W,
+    listing: Listing,
+    tally: &mut Tally,
+    offences: &[Offence],
+) -> Result<(), RunFault>
+    ensures tally { OnOk result ((found : List SpecOffence) → IsTally tally.old found → IsTally tally.new (found ++ map offence_view offences.now)) }
+    ensures tells { TellsSome (W.told writer.old) (W.told writer.new) (lines_of listing (map offence_view offences.now)) result }
+{
+    for offence in offences {
+        list(alloc, writer, listing, tally, offence)?;
+    }
+    Ok(())
+}
+
+/// Lists the end of a log behind the offences of its events, and closes the report.
+fn close<W: Sink>(
+    alloc: Global,
+    events: &mut SurveyReader,
+    writer: &mut W,
+    listing: Listing,
+    tally: &mut Tally,
+    end: End,
+) -> Result<Verdict, RunFault>
+    ensures { (completeness : Completeness) (limits : Bounds) (start now old : Told) → Listed completeness limits listing events.old tally.old start now old (W.told writer.old) end
+        → Reports completeness limits listing start now old (W.told writer.new) result }
+{
+    list_each(alloc, writer, listing, tally, end.listed.as_slice())?;
+    let closing = closing_of(alloc, events, tally, end.bad)?;
+    put_all(writer, closing.text.as_slice())?;
+    Ok(closing.verdict)
+}
+
+/// What stands behind the lines of the offences, and the verdict.
+fn closing_of(
+    alloc: Global,
+    events: &mut SurveyReader,
+    tally: &Tally,
+    bad: Option<Verdict>,
+) -> Result<Closing, Memory>
+    ensures { IfOk result (λ closed. (found : List SpecOffence) (notes : List Noted) → IsTally tally.now found
+        → (found ≡ [] → Follows events.old.survey.walk.events.session events.old.survey.walk.events.docs events.old.survey.walk.events.counts (events_of notes))
+        → length found < 2 ^ 64 → as_given (yes (summary events.old.survey.walk.events.docs.terms (events_of notes))) ≡ yes (summary events.old.survey.walk.events.docs.terms (events_of notes))
+        → (closed.text.items ≡ closing found (option_map verdict_view bad) (summary events.old.survey.walk.events.docs.terms (events_of notes)))
+        × (verdict_view closed.verdict ≡ first_verdict found (option_map verdict_view bad) (summary events.old.survey.walk.events.docs.terms (events_of notes)))) }
+{
+    match tally.first {
+        Some(first) => Ok(Closing {
+            text: last_lines(alloc, tally, &bad)?,
+            verdict: first.verdict(),
+        }),
+        None => {
+            let verdict = sound(alloc, events, bad)?;
+            let text = report_of(alloc, &verdict)?;
+            Ok(Closing { text, verdict })
+        }
+    }
+}
+
+/// The verdict where nothing is listed.
+fn sound(
+    alloc: Global,
+    events: &mut SurveyReader,
+    bad: Option<Verdict>,
+) -> Result<Verdict, Memory>
+    ensures { IfOk result (λ verdict. (notes : List Noted)
+        → Follows events.old.survey.walk.events.session events.old.survey.walk.events.docs events.old.survey.walk.events.counts (events_of notes)
+        → as_given (yes (summary events.old.survey.walk.events.docs.terms (events_of notes))) ≡ yes (summary events.old.survey.walk.events.docs.terms (events_of notes))
+        → verdict_view verdict ≡ first_verdict [] (option_map verdict_view bad) (summary events.old.survey.walk.events.docs.terms (events_of notes))) }
+{
+    match bad {
+        Some(verdict) => Ok(verdict),
+        None => Ok(Verdict::Yes(summary_of(
+            alloc,
+            &mut events.survey.walk.events,
+        )?)),
+    }
+}
+
+/// The lines of a fault of the log, and the one that says how many offences were found.
+fn last_lines(alloc: Global, tally: &Tally, bad: &Option<Verdict>) -> Result<Vec<u8>, Memory>
+    ensures { IfOk result (λ text. text.items ≡ bad_lines (option_map verdict_view bad.now)
+        ++ line (codes "offences" ∷ decimal tally.now.found ∷ codes "following" ∷ decimal tally.now.following ∷ [])) }
+{
+    let count = found_report(alloc, tally.found, tally.following)?;
+    let Some(verdict) = bad else {
+        return Ok(count);
+    };
+    let mut text = report_of(alloc, verdict)?;
+    text.extend_from_slice(count.as_slice())?;
+    Ok(text)
+}

@@ -1,0 +1,144 @@
+//! The events of a log, heard one by one past each that offends, up to its end.
+ghost use Rattle.std.specs.Prelude.{◌≡◌, ◌<◌, [], List, None, Ok};
+ghost use Rattle.lsp_frame.specs.Bounds.{Bounds, IsInRange};
+ghost use Rattle.lsp_frame.specs.Told.{Told};
+ghost use Rattle.lsp_log.specs.Reader.{ahead};
+ghost use Rattle.lsp_verdict.specs.Offences.{Noted, Offence as SpecOffence};
+ghost use Rattle.lsp_verdict.specs.Placed.{Raw};
+ghost use Rattle.lsp_survey.specs.Reads.{Pulls, PullsHere, SoFar, TakesEntry};
+ghost use Rattle.lsp_survey.specs.Surveys.{IsRefitted};
+
+use crate::offending::Heard;
+use crate::survey::Survey;
+use lsp_docs::Docs;
+use lsp_frame::{Format, Limits, Source};
+use lsp_log::LogReader;
+use lsp_session::Session;
+use lsp_text::Lined;
+use lsp_verdict::{Completeness, Entry, Offence, RunFault, Verdict, next_entry};
+use std::alloc::Global;
+
+/// Reads the events of a log one by one, past each that offends, up to its end.
+#[derive(Drop)]
+pub struct SurveyReader {
+    alloc: Global,
+    log: LogReader,
+    pub(crate) survey: Survey,
+    completeness: Completeness,
+}
+
+/// What a log has next.
+#[derive(Drop)]
+pub enum Next {
+    /// An event.
+    Event(Heard),
+    /// Its end.
+    End(End),
+}
+
+/// How a log ends.
+#[derive(Drop)]
+pub struct End {
+    /// What is listed of the end of the session; nothing where the log has a fault.
+    pub listed: Vec<Offence>,
+    /// The fault of the log, if it has one.
+    pub bad: Option<Verdict>,
+}
+
+impl SurveyReader {
+    /// A reader that heard nothing.
+    pub fn new(alloc: Global, limits: Limits, completeness: Completeness) -> SurveyReader
+        ensures range { IsInRange limits }
+        ensures completeness { result.completeness ≡ completeness }
+        ensures fresh { (start : Told) → SoFar limits result start start [] [] [] }
+    {
+        SurveyReader {
+            alloc,
+            log: LogReader::new(alloc, limits),
+            survey: Survey::of_format(alloc, limits, Format::One),
+            completeness,
+        }
+    }
+
+    /// Hears the next event of the log, or gives its end, behind which there is none.
+    ///
+    /// # Errors
+    /// `Read` where the source failed, and `Memory` where memory was refused.
+    pub fn next<R: Source>(&mut self, reader: &mut R) -> Result<Next, RunFault>
+        ensures completeness { self.new.completeness ≡ self.old.completeness }
+        ensures answer { (limits : Bounds) (start : Told) (past : List Raw) (before : List Noted) (found : List SpecOffence) → SoFar limits self.old start (R.told reader.old) past before found
+            → Pulls self.old.completeness limits self.new start (R.told reader.new) past before found result }
+    {
+        loop {
+            if let Some(heard) = self.hear()? {
+                return Ok(Next::Event(heard));
+            }
+            if let Some(next) = self.take_entry(reader)? {
+                return Ok(next);
+            }
+        }
+    }
+
+    /// The session that the kept events heard so far have led to.
+    pub fn session(&self) -> &Session
+        ensures { result.now ≡ self.now.survey.walk.events.session }
+    {
+        &self.survey.walk.events.session
+    }
+
+    /// The documents that the kept events heard so far have left.
+    pub fn docs(&self) -> &Docs<Lined>
+        ensures { result.now ≡ self.now.survey.walk.events.docs }
+    {
+        &self.survey.walk.events.docs
+    }
+
+    /// Hears the next event of the records read.
+    fn hear(&mut self) -> Result<Option<Heard>, RunFault>
+        ensures log { self.new.log ≡ self.old.log }
+        ensures completeness { self.new.completeness ≡ self.old.completeness }
+        ensures idle { result ≡ Ok None → self.new.survey.turn ≡ None }
+        ensures answer { (limits : Bounds) (start now : Told) (past : List Raw) (before : List Noted) (found : List SpecOffence) → SoFar limits self.old start now past before found
+            → PullsHere self.old.completeness limits self.new start now past before found result }
+    {
+        Ok(self.survey.hear()?)
+    }
+
+    /// Takes the next record of the log, and hears it where it is a snapshot; or gives the log's end.
+    /// The first entry tells the format of the log.
+    fn take_entry<R: Source>(&mut self, reader: &mut R) -> Result<Option<Next>, RunFault>
+        requires idle { self.old.survey.turn ≡ None }
+        ensures completeness { self.new.completeness ≡ self.old.completeness }
+        ensures less { result ≡ Ok None → ahead self.new.log < ahead self.old.log }
+        ensures answer { (limits : Bounds) (start : Told) (past : List Raw) (before : List Noted) (found : List SpecOffence) → SoFar limits self.old start (R.told reader.old) past before found
+            → TakesEntry self.old.completeness limits self.new start (R.told reader.new) past before found result }
+    {
+        let entry = next_entry(&mut self.log, reader)?;
+        follow_format(&self.log, &mut self.survey);
+        match entry {
+            Entry::Record(record) => match self.survey.take(record)? {
+                Some(heard) => Ok(Some(Next::Event(heard))),
+                None => Ok(None),
+            },
+            Entry::End => Ok(Some(Next::End(End {
+                listed: self.survey.ends(self.completeness)?,
+                bad: None,
+            }))),
+            Entry::Bad { number, fault } => Ok(Some(Next::End(End {
+                listed: Vec::new(self.alloc),
+                bad: Some(Verdict::BadLog { number, fault }),
+            }))),
+        }
+    }
+}
+
+/// Makes the survey one for the format of the log, once that is known.
+fn follow_format(log: &LogReader, survey: &mut Survey)
+    ensures survey { IsRefitted log.now.format survey.old survey.new }
+    ensures idle { survey.old.turn ≡ None → survey.new.turn ≡ None }
+{
+    let Some(format) = log.format() else {
+        return;
+    };
+    survey.follow_format(format);
+}
