@@ -13,3 +13,4 @@ pub mod Spoken
 pub mod Telling
 pub mod ToldFirst
 pub mod Worked
+pub mod Tracing

@@ -7,3 +7,4 @@ pub mod ExplainLaws
 pub mod RunSteps
 pub mod Making
 pub mod Comparing
+pub mod Traced

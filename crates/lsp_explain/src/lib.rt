@@ -16,6 +16,7 @@ mod offending;
 mod refused_change;
 mod run;
 mod said;
+mod trace;
 
 pub use documents::{act_facts, snapshot_facts};
 pub use fact::Fact;
