@@ -70,6 +70,12 @@ none_done terms es before e are none uri =
 pub refused_leaves : (terms : Terms) (es : Entries) (before : List Event) (e : Event) (rule : ℕ) → AreMarks terms es before → rule_at terms before e ≡ Some rule → AreMarks terms es (before ++ e ∷ [])
 refused_leaves terms es before e rule are is = none_done terms es before e are (λ uri. ap (λ (o : Option ℕ). step_by terms uri before o (said_at terms before e)) is)
 
+-- so they are what the events before it left
+pub refused_marks : (terms : Terms) (es : Entries) (before : List Event) (e : Event) (rule : ℕ) → AreMarks terms es (before ++ e ∷ []) → rule_at terms before e ≡ Some rule → AreMarks terms es before
+refused_marks terms es before e rule are is uri =
+    are uri
+    ∙ ap marked (steps-push terms uri before e ∙ ap (λ (o : Option ℕ). steps terms uri before ++ cons_option (step_by terms uri before o (said_at terms before e)) []) is ∙ append-nil (steps terms uri before))
+
 -- one that is kept and says nothing of a document too
 pub unsaid_leaves : (terms : Terms) (es : Entries) (before : List Event) (e : Event) → AreMarks terms es before → rule_at terms before e ≡ None → said_at terms before e ≡ None → AreMarks terms es (before ++ e ∷ [])
 unsaid_leaves terms es before e are kept said = none_done terms es before e are
