@@ -25,7 +25,9 @@ use Rattle.lsp_verdict.specs.declared.completeness.Completeness.{Completeness}
 use Rattle.lsp_explain.specs.DocumentFacts.{AreDocumentFacts}
 use Rattle.lsp_explain.specs.Fact.{Fact, in_record}
 use Rattle.lsp_explain.specs.Lines.{fact_line, fact_lines, event_line, end_event}
-use Rattle.lsp_explain.specs.MessageFacts.{content_facts, session_facts, lack_facts}
+use Rattle.lsp_explain.specs.MessageFacts.{content_facts, session_facts}
+use Rattle.lsp_explain.specs.Traced.{AreTraced, lack_traced}
+use Rattle.lsp_survey.specs.Asking.{Numbered, numbered}
 
 -- ---- an event that offends
 
@@ -85,7 +87,7 @@ AreFacts terms kept raw (snapshot uri number text) rule facts = AreCallFacts ter
 
 -- ---- what is said of it
 
--- the No, the line that names the event, and the facts
+-- the No, the line that names the event, and the facts, with the events that brought it
 pub record Explained : Type 0 where
   pub no : Verdict
   pub event : List ℕ
@@ -94,7 +96,7 @@ pub record Explained : Type 0 where
 pub record Explains (terms : Terms) (b : Breach) (e : Explained) : Type 0 where
   pub no_is : e.no ≡ no_by (events_of (notes_of b.before)) b.here.note.event b.rule
   pub event_is : e.event ≡ event_line (length b.before + 1) b.here.note.event
-  pub facts_are : AreFacts terms (kept_of terms (events_of (notes_of b.before))) b.here.raw b.here.note.event b.rule e.facts
+  pub facts_are : AreTraced (AreFacts terms (kept_of terms (events_of (notes_of b.before))) b.here.raw b.here.note.event b.rule) terms (events_of (notes_of b.before)) b.here.note.event b.rule e.facts
 
 -- ---- how a session ends
 
@@ -104,14 +106,14 @@ end_line (no rule by count event) = end_event event by
 end_line (yes s) = []
 end_line (bad_log at code) = []
 
--- 303 and 407 say what waits after the kept events, and 107 nothing
-abbrev pub end_facts : List Event → Verdict → List Fact
-end_facts kept (no rule by count event) = if rule == 107 then [] else lack_facts (sent_in kept)
-end_facts kept (yes s) = []
-end_facts kept (bad_log at code) = []
+-- 303 and 407 say what waits after the kept messages, and 107 nothing
+abbrev pub end_facts : List Numbered → Verdict → List Fact
+end_facts said (no rule by count event) = if rule == 107 then [] else lack_traced said
+end_facts said (yes s) = []
+end_facts said (bad_log at code) = []
 
-abbrev pub end_explained : List Event → Verdict → Explained
-end_explained kept v = record { no = v; event = end_line v; facts = end_facts kept v }
+abbrev pub end_explained : List Numbered → Verdict → Explained
+end_explained said v = record { no = v; event = end_line v; facts = end_facts said v }
 
 -- ---- the report
 
@@ -148,7 +150,7 @@ pub record IsExplained (completeness : Completeness) (limits : Bounds) (log : Li
   pub bad_is : bad ≡ bad_log_of log_fault
   pub comes_to : s ≡ summary (log_terms limits format) (events_of (notes_of heard))
   pub explains : AllZip (Explains (log_terms limits format)) (take 1 (breaches (log_terms limits format) heard)) of_events
-  pub shows : explained ≡ take 1 (of_events ++ map (end_explained (kept_of (log_terms limits format) (events_of (notes_of heard)))) (ends_listed completeness (log_terms limits format) (events_of (notes_of heard)) (ending log_fault editor server)))
+  pub shows : explained ≡ take 1 (of_events ++ map (end_explained (numbered (log_terms limits format) (events_of (notes_of heard)))) (ends_listed completeness (log_terms limits format) (events_of (notes_of heard)) (ending log_fault editor server)))
 
 -- **the verdict on a log, and what explains it**: the first that its survey lists, else its fault, else Yes
 pub record IsExplanation (completeness : Completeness) (limits : Bounds) (log : List ℕ) (v : Verdict) (out : List ℕ) : Type 0 where

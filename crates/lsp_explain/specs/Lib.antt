@@ -2,9 +2,10 @@ pub mod Fact
 pub mod Lines
 pub mod MessageFacts
 pub mod DocumentFacts
+pub mod Traced
+pub mod Standing
 pub mod Explained
 pub mod ExplainLaws
 pub mod RunSteps
 pub mod Making
 pub mod Comparing
-pub mod Traced

@@ -10,11 +10,10 @@ use Rattle.lsp_session.specs.Sent.{Sent, other_side}
 use Rattle.lsp_types.specs.declared.side.Side.{Side}
 use Rattle.lsp_types.specs.declared.side.Side.TheVariants.{Editor}
 use Rattle.lsp_verdict.specs.Event.{Event, message, fault, snapshot}
-use Rattle.lsp_verdict.specs.Offences.{is_within, kept_of, said_at}
-use Rattle.lsp_survey.specs.Asking.{Numbered, answered, asked, numbered, since}
+use Rattle.lsp_verdict.specs.Offences.{is_within, said_at}
+use Rattle.lsp_survey.specs.Asking.{Numbered, answered, asked, numbered, sents, since}
 use Rattle.lsp_survey.specs.Marking.{Step, agreed, brought, number_next, steps, waiting_for}
 use Rattle.lsp_survey.specs.declared.mark.Shown.{Shown}
-use Rattle.lsp_explain.specs.Explained.{AreCallFacts, AreMessageFacts}
 use Rattle.lsp_explain.specs.Fact.{Fact, holds, waits, waits_since, brought_by, shown_by, agreed_by, answered_by, asked_by, led_by, in_phase}
 use Rattle.lsp_explain.specs.MessageFacts.{id_in}
 
@@ -62,11 +61,19 @@ call_traced terms before rule (Some call) plain =
 
 -- ---- messages
 
--- 301: the event that answered a request of this id before; 302: that asked the one that is open; 401 to 412: that led to the phase
+-- the event that answered a request of this side's with the id last
+abbrev pub answer_facts : Side → List Numbered → Option Ident → List Fact
+answer_facts side said id = number_facts answered_by (option_and_then (λ own. answered side own said) id)
+
+-- the event that asked the side's open request with the id
+abbrev pub asking_facts : Side → List Numbered → Option Ident → List Fact
+asking_facts side said id = number_facts asked_by (option_and_then (λ own. asked side own said) id)
+
+-- 301 and 302: the event that answered a request of this id before; 302 too: the one that asked it and is open; 401 to 412: the one that led to the phase
 abbrev pub session_trace : ℕ → List Numbered → Side → Option Ident → List Fact
 session_trace rule said side id =
-    if rule == 301 then number_facts answered_by (option_and_then (λ own. answered (other_side side) own said) id)
-    else (if rule == 302 then number_facts asked_by (option_and_then (λ own. asked side own said) id)
+    if rule == 301 then answer_facts (other_side side) said id
+    else (if rule == 302 then asking_facts side said id ++ answer_facts side said id
     else (if is_within 401 412 rule then number_facts led_by (since said) else []))
 
 -- **the facts on an event that offends by this rule behind these**, with the events that brought it
@@ -77,13 +84,9 @@ traced terms before (message m) rule plain =
     else call_traced terms before rule (said_at terms before (message m)) plain
 traced terms before (snapshot uri number text) rule plain = call_traced terms before rule (said_at terms before (snapshot uri number text)) plain
 
--- a message that breaks this rule behind these events, and a snapshot: the facts on it, with the events that brought it
-abbrev pub AreMessageTraced : Terms → List Event → Sent → ℕ → List Fact → Type 0
-AreMessageTraced terms before m rule facts = (plain : List Fact) × AreMessageFacts terms (kept_of terms before) m rule plain × (facts ≡ traced terms before (message m) rule plain)
-
-abbrev pub AreShownTraced : Terms → List Event → List ℕ → ℤ → List ℕ → ℕ → List Fact → Type 0
-AreShownTraced terms before uri number text rule facts =
-    (plain : List Fact) × AreCallFacts terms (kept_of terms before) rule (Some (shows uri number text)) plain × (facts ≡ traced terms before (snapshot uri number text) rule plain)
+-- what is said of the event, with the events that brought it
+abbrev pub AreTraced : (List Fact → Type 0) → Terms → List Event → Event → ℕ → List Fact → Type 0
+AreTraced AreSaid terms before event rule facts = (plain : List Fact) × AreSaid plain × (facts ≡ traced terms before event rule plain)
 
 -- ---- sessions that lack something
 
@@ -96,5 +99,5 @@ abbrev pub waiting_by : List Numbered → Entry → Fact
 waiting_by said e = request_by e (asked Editor e.id said)
 
 -- **the facts on a session that ends behind these messages where it lacks something**
-abbrev pub lack_traced : List Numbered → List Sent → List Fact
-lack_traced said sents = map (waiting_by said) (open_requests Editor sents) ++ in_phase (phase sents) ∷ number_facts led_by (since said)
+abbrev pub lack_traced : List Numbered → List Fact
+lack_traced said = map (waiting_by said) (open_requests Editor (sents said)) ++ in_phase (phase (sents said)) ∷ number_facts led_by (since said)

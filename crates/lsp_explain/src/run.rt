@@ -3,10 +3,10 @@ ghost use Rattle.std.specs.Prelude.{◌≡◌, ◌+◌, ◌++◌, List, [], ℕ,
 ghost use Rattle.std.specs.Io.KnownBytes.{IsAtEnd};
 ghost use Rattle.lsp_frame.specs.Bounds.{Bounds, IsInRange};
 ghost use Rattle.lsp_frame.specs.Told.{Told, Took};
-ghost use Rattle.lsp_session.specs.State.{Stands};
+ghost use Rattle.lsp_survey.specs.Asking.{numbered};
 ghost use Rattle.lsp_survey.specs.Reads.{SoFar};
 ghost use Rattle.lsp_verdict.specs.Complete.{IsVerdictBy};
-ghost use Rattle.lsp_verdict.specs.Event.{Event, sent_in};
+ghost use Rattle.lsp_verdict.specs.Event.{Event};
 ghost use Rattle.lsp_verdict.specs.Given.{offence_view, verdict_view};
 ghost use Rattle.lsp_verdict.specs.Offences.{Noted};
 ghost use Rattle.lsp_verdict.specs.Report.{report};
@@ -14,13 +14,13 @@ ghost use Rattle.lsp_verdict.specs.RunIo.{OfRead, GaveAtMost, source_failures, s
 ghost use Rattle.lsp_verdict.specs.Survey.{first_verdict};
 ghost use Rattle.lsp_explain.specs.Explained.{BeginsExplanation, IsExplanation, end_explained, flaw_lines, said_of};
 ghost use Rattle.lsp_explain.specs.RunSteps.{EndsWhole, ExplainsLog, IsSound, TellsEnd, TellsOf, summary_behind};
+ghost use Rattle.lsp_explain.specs.Standing.{StandsAfter, terms_in};
 
 use crate::fact::Fact;
 use crate::lines::push_fact;
 use crate::said::{push_end, push_said};
 use lsp_frame::{Limits, Sink, Source, put_all};
 use lsp_rpc::Memory;
-use lsp_session::Session;
 use lsp_survey::{End, Found, Heard, Next, SurveyReader};
 use lsp_verdict::{Completeness, Offence, Outcome, RunFault, Summary, Verdict, report_of};
 use std::alloc::Global;
@@ -130,7 +130,7 @@ fn explain_found(alloc: Global, events: &SurveyReader, found: &Found) -> Result<
     let verdict = found.offence.verdict();
     let mut text = report_of(alloc, &verdict)?;
     let mut said = String::new(alloc);
-    push_said(alloc, &mut said, events.session(), events.docs(), found)?;
+    push_said(alloc, &mut said, events, found)?;
     text.extend_from_slice(said.as_bytes())?;
     Ok(Explanation { text, verdict })
 }
@@ -145,19 +145,23 @@ fn explain_end(alloc: Global, events: &mut SurveyReader, end: End) -> Result<Exp
         return explain_sound(alloc, events, bad);
     };
     drop(bad);
-    explain_listed(alloc, events.session(), offence)
+    explain_listed(alloc, events, offence)
 }
 
 /// What explains what is listed of the end of a session.
-fn explain_listed(alloc: Global, session: &Session, listed: &Offence) -> Result<Explanation, Memory>
+fn explain_listed(
+    alloc: Global,
+    events: &SurveyReader,
+    listed: &Offence,
+) -> Result<Explanation, Memory>
     ensures verdict { IfOk result (λ x. verdict_view x.verdict ≡ (offence_view listed.now).no) }
-    ensures text { IfOk result (λ x. (kept : List Event) → Stands session.now (sent_in kept)
-        → x.text.items ≡ report (offence_view listed.now).no ++ said_of (end_explained kept (offence_view listed.now).no)) }
+    ensures text { IfOk result (λ x. (before : List Event) → StandsAfter events.now before
+        → x.text.items ≡ report (offence_view listed.now).no ++ said_of (end_explained (numbered (terms_in events.now) before) (offence_view listed.now).no)) }
 {
     let verdict = listed.verdict();
     let mut text = report_of(alloc, &verdict)?;
     let mut said = String::new(alloc);
-    push_end(alloc, &mut said, session, listed)?;
+    push_end(alloc, &mut said, events, listed)?;
     text.extend_from_slice(said.as_bytes())?;
     Ok(Explanation { text, verdict })
 }

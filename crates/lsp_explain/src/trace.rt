@@ -1,33 +1,32 @@
 //! Which event brought what: facts on an offence that name earlier events.
 ghost use Rattle.std.specs.Prelude.{◌≡◌, ◌≤◌, ◌++◌, ℕ, Some, chars, nat_lt, if◌then◌else◌, ◌∷◌, [], List, true, IfOk, OnOk, map, slice_get, vec_len, option_and_then};
+ghost use Rattle.lsp_docs.specs.Calls.{shows};
 ghost use Rattle.lsp_docs.specs.Terms.{Terms};
 ghost use Rattle.lsp_rpc.specs.View.{act_view, message_view};
 ghost use Rattle.lsp_session.specs.Entry.{request_view};
-ghost use Rattle.lsp_session.specs.Sent.{Sent, other_side};
-ghost use Rattle.lsp_session.specs.State.{Stands};
+ghost use Rattle.lsp_session.specs.Sent.{other_side};
 ghost use Rattle.lsp_types.specs.declared.change.SyncKind.{SyncKind as ASyncKind};
 ghost use Rattle.lsp_types.specs.declared.position.Encoding.{Encoding as AnEncoding};
 ghost use Rattle.lsp_verdict.specs.Calls.{call_of};
-ghost use Rattle.lsp_events.specs.Standing.{Holds, RefusesMessage};
-ghost use Rattle.lsp_verdict.specs.Event.{Event, snapshot};
-ghost use Rattle.lsp_verdict.specs.Offences.{kept_of};
-ghost use Rattle.lsp_verdict.specs.Verdict.{offence};
+ghost use Rattle.lsp_events.specs.Standing.{RefusesMessage};
+ghost use Rattle.lsp_verdict.specs.Event.{Event, message, snapshot};
+ghost use Rattle.lsp_verdict.specs.Offences.{kept_of, rule_at};
 ghost use Rattle.lsp_survey.specs.Asking.{answered, asked, numbered};
 ghost use Rattle.lsp_survey.specs.Marking.{number_next, steps};
 ghost use Rattle.lsp_survey.specs.Marks.{AreMarks};
 ghost use Rattle.lsp_survey.specs.SessionNoting.{AreNotes};
+ghost use Rattle.lsp_explain.specs.Explained.{AreCallFacts, AreMessageFacts};
 ghost use Rattle.lsp_explain.specs.Fact.{answered_by, asked_by, fact_view, facts_view, led_by, shown_by};
 ghost use Rattle.lsp_explain.specs.MessageFacts.{id_in};
+ghost use Rattle.lsp_explain.specs.Standing.{StandsAfter, terms_in};
 ghost use Rattle.lsp_explain.specs.Traced as spec;
 
 use crate::fact::Fact;
 use crate::messages::id_in;
 use crate::offending::{message_facts, shown_facts};
-use lsp_docs::Docs;
 use lsp_rpc::{Act, Memory, Message, Side, Spoken, copy_id};
-use lsp_session::{OpenRequest, Pending, Session};
-use lsp_survey::{Marks, SessionNotes, Shown};
-use lsp_text::TextStore;
+use lsp_session::{OpenRequest, Pending};
+use lsp_survey::{Marks, SessionNotes, Shown, SurveyReader};
 use std::alloc::Global;
 
 /// A snapshot differs from the text of its version.
@@ -40,46 +39,45 @@ const SAVED_TEXT_DIFFERS: u16 = 608;
 const FIRST_ON_DOCUMENTS: u16 = 601;
 
 /// What is said of a message of a side that offends by this rule, 301 to 702, with the events that
-/// brought it. What is held, marked and noted is what the events before it came to.
-pub(crate) fn message_traced<S: TextStore>(
+/// brought it. The reader stands for the events before it.
+pub(crate) fn message_traced(
     alloc: Global,
-    session: &Session,
-    docs: &Docs<S>,
-    marks: &Marks,
-    said: &SessionNotes,
+    events: &SurveyReader,
     side: Side,
     spoken: &Spoken,
     rule: u16,
 ) -> Result<Vec<Fact>, Memory>
-    ensures { IfOk result (λ facts. (content : List ℕ) (before : List Event) → Holds session.now docs.now (kept_of docs.now.terms before)
-        → AreMarks docs.now.terms marks.now.map.entries before → AreNotes docs.now.terms said.now before
-        → (refused : RefusesMessage side content (message_view spoken.now.message) (act_view spoken.now.act) docs.now.terms (kept_of docs.now.terms before) rule)
-        → spec.AreMessageTraced docs.now.terms before refused.sent rule (facts_view facts.items)) }
+    ensures { IfOk result (λ facts. (content : List ℕ) (before : List Event) → StandsAfter events.now before
+        → (refused : RefusesMessage side content (message_view spoken.now.message) (act_view spoken.now.act) (terms_in events.now) (kept_of (terms_in events.now) before) rule)
+        → spec.AreTraced (AreMessageFacts (terms_in events.now) (kept_of (terms_in events.now) before) refused.sent rule)
+        (terms_in events.now) before (message refused.sent) rule (facts_view facts.items)) }
 {
-    let mut facts = message_facts(alloc, session, docs, side, spoken, rule)?;
-    trace_spoken(&mut facts, marks, said, side, spoken, rule)?;
+    let session = events.session();
+    let mut facts = message_facts(alloc, session, events.docs(), side, spoken, rule)?;
+    let said = events.session_notes();
+    trace_spoken(&mut facts, events.marks(), said, side, spoken, rule)?;
     Ok(facts)
 }
 
-/// What is said of a snapshot, the event of this number, that offends by this rule.
-pub(crate) fn shown_traced<S: TextStore>(
+/// What is said of a snapshot, the event of this number, that offends by this rule, with the events
+/// that brought it. The reader stands for the events before it.
+pub(crate) fn shown_traced(
     alloc: Global,
-    session: &Session,
-    docs: &Docs<S>,
-    marks: &Marks,
-    event: u64,
+    events: &SurveyReader,
+    number: u64,
     version: i32,
     uri: &str,
     text: &str,
     rule: u16,
 ) -> Result<Vec<Fact>, Memory>
-    ensures { IfOk result (λ facts. (before : List Event) → Holds session.now docs.now (kept_of docs.now.terms before)
-        → AreMarks docs.now.terms marks.now.map.entries before → event ≡ number_next before
-        → offence docs.now.terms (kept_of docs.now.terms before) (snapshot uri.now version (chars text.now)) ≡ Some rule
-        → spec.AreShownTraced docs.now.terms before uri.now version (chars text.now) rule (facts_view facts.items)) }
+    ensures { IfOk result (λ facts. (before : List Event) → StandsAfter events.now before → number ≡ number_next before
+        → rule_at (terms_in events.now) before (snapshot uri.now version (chars text.now)) ≡ Some rule
+        → spec.AreTraced (AreCallFacts (terms_in events.now) (kept_of (terms_in events.now) before) rule (Some (shows uri.now version (chars text.now))))
+        (terms_in events.now) before (snapshot uri.now version (chars text.now)) rule (facts_view facts.items)) }
 {
-    let mut facts = shown_facts(alloc, session, docs, version, uri, text, rule)?;
-    trace_snapshot(&mut facts, marks, event, uri, rule)?;
+    let session = events.session();
+    let mut facts = shown_facts(alloc, session, events.docs(), version, uri, text, rule)?;
+    trace_snapshot(&mut facts, events.marks(), number, uri, rule)?;
     Ok(facts)
 }
 
@@ -139,9 +137,9 @@ fn trace_snapshot(
     trace_document(facts, marks, uri, &[event], rule)
 }
 
-/// Adds to the facts on a message of a side that breaks this rule, 301 to 504, under 301 the event that
-/// answered a request of its id, under 302 the one that asked the request that is open, under 401 to 412
-/// the one that led to the phase.
+/// Adds to the facts on a message of a side that breaks this rule, 301 to 504, under 301 and 302 the
+/// event that answered a request of its id before, under 302 also the one that asked the request that is
+/// open, under 401 to 412 the one that led to the phase.
 fn trace_message(
     facts: &mut Vec<Fact>,
     said: &SessionNotes,
@@ -153,20 +151,23 @@ fn trace_message(
         → facts_view facts.new.items ≡ facts_view facts.old.items ++ spec.session_trace rule (numbered terms before) side (id_in (message_view message.now))) }
 {
     match rule {
-        301 => push_answered(facts, answered(said, side, message)),
-        302 => push_asked(facts, asked(said, side, message)),
+        301 => push_answered(facts, answered(said, other_side(side), message)),
+        302 => {
+            push_asked(facts, asked(said, side, message))?;
+            push_answered(facts, answered(said, side, message))
+        }
         401..=412 => push_since(facts, said.since()),
         _ => Ok(()),
     }
 }
 
-/// The event that answered a request with the id of a message of this side last.
+/// The event that answered a request of this side with the id of a message last.
 fn answered(said: &SessionNotes, side: Side, message: &Message) -> Option<u64>
     ensures { (terms : Terms) (before : List Event) → AreNotes terms said.now before
-        → result ≡ option_and_then (λ id. answered (other_side side) id (numbered terms before)) (id_in (message_view message.now)) }
+        → result ≡ option_and_then (λ id. answered side id (numbered terms before)) (id_in (message_view message.now)) }
 {
     match id_in(message) {
-        Some(id) => said.answered(other_side(side), id),
+        Some(id) => said.answered(side, id),
         None => None,
     }
 }
@@ -296,18 +297,16 @@ fn push_since(facts: &mut Vec<Fact>, event: Option<u64>) -> Result<(), Memory>
 
 /// What is said of a session that ends where it lacks something: the requests of the editor's that wait,
 /// in order of asking, with the events that asked them; how far the session has come, and the event that
-/// led there.
+/// led there. The reader stands for all its events.
 ///
 /// # Errors
 /// `Memory` where memory was refused.
-pub(crate) fn lack_traced(
-    alloc: Global,
-    session: &Session,
-    said: &SessionNotes,
-) -> Result<Vec<Fact>, Memory>
-    ensures { IfOk result (λ facts. (terms : Terms) (before : List Event) (sents : List Sent) → Stands session.now sents → AreNotes terms said.now before
-        → facts_view facts.items ≡ spec.lack_traced (numbered terms before) sents) }
+pub(crate) fn lack_traced(alloc: Global, events: &SurveyReader) -> Result<Vec<Fact>, Memory>
+    ensures { IfOk result (λ facts. (before : List Event) → StandsAfter events.now before
+        → facts_view facts.items ≡ spec.lack_traced (numbered (terms_in events.now) before)) }
 {
+    let session = events.session();
+    let said = events.session_notes();
     let mut facts = requests(alloc, session.pending(Side::Editor), said)?;
     facts.push(Fact::Phase(session.phase()))?;
     push_since(&mut facts, said.since())?;

@@ -1,7 +1,5 @@
-use Rattle.std.proofs.Common.{sym, ◌∙◌, subst}
+use Rattle.std.proofs.Common.{sym, ◌∙◌}
 use Rattle.std.proofs.lemmas.Result.{IfOk-weaker}
-use Rattle.lsp_session.specs.State.{Stands}
-use Rattle.lsp_verdict.specs.Event.{sent_in}
 use Rattle.lsp_explain.specs.Explained.{notes_of}
 use Rattle.lsp_explain.proofs.EndOfLog.{ends_sound, ends_told, first_some, first_none, if_ok_both}
 use Rattle.lsp_explain.proofs.run.explain_end.Goals as goal
@@ -11,7 +9,7 @@ returns c =
     let list = first_some c.deref.result.now c.in-Some.offence.now c.in-Some.ensures.value in
     if_ok_both c.explain_listed.result _ _ _ (λ x named says completeness limits start now w.
     ends_told completeness limits c.args.events.now start now w.hs c.args.end w.ended x c.in-Some.offence.now list.0 (sym c.deref.ensures.value ∙ list.1) named
-    (λ kept stands. says kept (subst (λ s. Stands s (sent_in kept)) (sym c.session.ensures) stands))) c.explain_listed.ensures.verdict c.explain_listed.ensures.text
+    (λ before stands. says before stands)) c.explain_listed.ensures.verdict c.explain_listed.ensures.text
 
 pub returns-in_default : goal.returns-in_default
 returns-in_default c = IfOk-weaker c.explain_sound.result _ _ (λ x says completeness limits start now w.
