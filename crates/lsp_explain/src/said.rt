@@ -52,7 +52,15 @@ fn facts_of(
         }
         Offending::Snapshot { version, uri, text } => {
             let version = *version;
-            shown_traced(alloc, events, number, version, uri.as_str(), text.as_str(), rule)
+            shown_traced(
+                alloc,
+                events,
+                number,
+                version,
+                uri.as_str(),
+                text.as_str(),
+                rule,
+            )
         }
     }
 }

@@ -19,8 +19,8 @@ returns c = λ before stands.
     let e = c.args.events.now in
     let terms = terms_in e in
     let said = numbered terms before in
-    let noted = subst (λ (s : SessionNotes). AreNotes terms s before) (sym c.session_notes.ensures) stands.noted in
-    let sent = subst (λ (ms : List Sent). Stands c.session.result.now ms) (sym (sents-numbered terms before)) (subst (λ s. Stands s (sent_in (kept_of terms before))) (sym c.session.ensures) stands.holds.sent) in
+    let noted = subst (λ (s : SessionNotes). AreNotes terms s before) (sym c.session_notes-said.ensures) stands.noted in
+    let sent = subst (λ (ms : List Sent). Stands c.session-session.result.now ms) (sym (sents-numbered terms before)) (subst (λ s. Stands s (sent_in (kept_of terms before))) (sym c.session-session.ensures) stands.holds.sent) in
     let asked = c.in_ok-facts.ensures terms before noted ∙ ap (map (waiting_by said)) (c.pending.ensures (sents said) sent) in
     let phase = c.phase.ensures (sents said) sent in
     c.in_ok-push_since.ensures

@@ -1,6 +1,5 @@
 use Rattle.std.specs.Prelude.{unwrap_or}
 use Rattle.std.proofs.Common.{◌∙◌, sym, subst}
-use Rattle.lsp_events.specs.Standing.{Holds}
 use Rattle.lsp_rpc.specs.View.{act_view, message_view}
 use Rattle.lsp_session.specs.Negotiation.{encoding, sync_kind}
 use Rattle.lsp_types.specs.declared.change.SyncKind.TheVariants.{Nothing}
@@ -20,11 +19,11 @@ pub returns : goal.returns
 returns c = λ content before stands refused.
     let terms = terms_in c.args.events.now in
     let kept = sent_in (kept_of terms before) in
-    let holds = subst (λ d. Holds c.session.result.now d (kept_of terms before)) (sym c.docs.ensures) (subst (λ s. Holds s c.args.events.now.survey.walk.events.docs (kept_of terms before)) (sym c.session.ensures) stands.holds) in
+    let says = rw (c.session-session.ensures, c.docs.ensures) at c.in_ok-facts.ensures in
     let plain = facts_view c.in_ok-facts.facts.items in (
       plain,
-      (rw c.docs.ensures at c.in_ok-facts.ensures content (kept_of terms before)) holds refused,
+      says content (kept_of terms before) stands.holds refused,
       c.in_ok-trace_spoken.ensures (unwrap_or (encoding kept) Utf16) (unwrap_or (sync_kind kept) Nothing) terms before
-      (subst (λ (m : Marks). AreMarks terms m.map.entries before) (sym c.marks.ensures) stands.marked) (subst (λ (s : SessionNotes). AreNotes terms s before) (sym c.session_notes.ensures) stands.noted)
+          (subst (λ (m : Marks). AreMarks terms m.map.entries before) (sym c.marks.ensures) stands.marked) (subst (λ (s : SessionNotes). AreNotes terms s before) (sym c.session_notes-said.ensures) stands.noted)
           ∙ same_traced terms before refused.sent c.args.side (message_view c.args.spoken.now.message) (act_view c.args.spoken.now.act) c.args.rule plain refused.reads.by refused.says refused.means,
     )
