@@ -8,6 +8,7 @@ mod difference;
 mod documents;
 mod fact;
 mod fact_list;
+mod flaws;
 mod laws;
 mod lines;
 mod making;
@@ -19,6 +20,7 @@ mod said;
 
 pub use documents::{act_facts, snapshot_facts};
 pub use fact::Fact;
+pub use flaws::{flaw_facts, frame_facts};
 pub use laws::{explanation_begins_with_report, explanation_of_yes_is_report};
 pub use messages::{content_facts, lack_facts, session_facts};
 pub use run::run_explain;
