@@ -22,11 +22,9 @@ use Rattle.lsp_verdict.specs.Report.{report}
 use Rattle.lsp_verdict.specs.Survey.{found_in, ends_listed, first_verdict}
 use Rattle.lsp_verdict.specs.Verdict.{Verdict, yes, no, bad_log, Summary, summary, Ending, bad_log_of, no_by}
 use Rattle.lsp_verdict.specs.declared.completeness.Completeness.{Completeness}
-use Rattle.lsp_verdict.specs.declared.verdict.Who.{Who}
-use Rattle.lsp_verdict.specs.declared.verdict.Who.TheVariants as who
 use Rattle.lsp_explain.specs.DocumentFacts.{AreDocumentFacts}
 use Rattle.lsp_explain.specs.Fact.{Fact}
-use Rattle.lsp_explain.specs.FlawFacts.{Rests, rest_of, frame_facts, unfinished_facts, log_facts}
+use Rattle.lsp_explain.specs.FlawFacts.{Rests, rest_of, side_by, frame_facts, unfinished_facts, log_facts}
 use Rattle.lsp_explain.specs.Lines.{fact_lines, event_line, end_event}
 use Rattle.lsp_explain.specs.MessageFacts.{content_facts, session_facts, lack_facts}
 
@@ -107,15 +105,9 @@ end_line (no rule by count event) = end_event event by
 end_line (yes s) = []
 end_line (bad_log at code) = []
 
--- of a side's stream how the frame begins that is not whole
-abbrev pub cut_facts : Rests → Who → List Fact
-cut_facts rests who.Editor = unfinished_facts rests.editor
-cut_facts rests who.Server = unfinished_facts rests.server
-cut_facts rests who.Snapshot = []
-
--- 107 says how the last frame begins, 303 and 407 what waits after the kept events
+-- 107 says how the frame begins that is not whole, 303 and 407 what waits after the kept events
 abbrev pub end_facts : Rests → List Event → Verdict → List Fact
-end_facts rests kept (no rule by count event) = if rule == 107 then cut_facts rests by else lack_facts (sent_in kept)
+end_facts rests kept (no rule by count event) = if rule == 107 then unfinished_facts (rest_of rests (side_by by)) else lack_facts (sent_in kept)
 end_facts rests kept (yes s) = []
 end_facts rests kept (bad_log at code) = []
 

@@ -8,6 +8,8 @@ use Rattle.lsp_types.specs.declared.side.Side.TheVariants.{Editor, Server}
 use Rattle.lsp_log.specs.Log.{Record}
 use Rattle.lsp_log.specs.Place.{place_of, found_behind}
 use Rattle.lsp_log.specs.declared.fault.LogCode.{LogCode}
+use Rattle.lsp_verdict.specs.declared.verdict.Who.{Who}
+use Rattle.lsp_verdict.specs.declared.verdict.Who.TheVariants as who
 use Rattle.lsp_explain.specs.Fact.{Fact, in_record, at_byte, finds}
 use Rattle.lsp_explain.specs.MessageFacts.{text_front, content_facts}
 
@@ -21,6 +23,12 @@ pub record Rests : Type 0 where
 abbrev pub rest_of : Rests → Side → List ℕ
 rest_of rests Editor = rests.editor
 rest_of rests Server = rests.server
+
+-- the side whose event it is; a snapshot is the editor's
+abbrev pub side_by : Who → Side
+side_by who.Editor = Editor
+side_by who.Server = Server
+side_by who.Snapshot = Editor
 
 -- 101 to 106 lie in a header part, which is said of these bytes; the bytes behind it are not looked at, since more of them may follow
 abbrev pub frame_facts : List ℕ → List Fact

@@ -20,6 +20,17 @@ pub fn frame_facts(alloc: Global, rest: &[u8]) -> Result<Vec<Fact>, Memory>
     content_facts(alloc, header_front(rest))
 }
 
+/// What is said of a stream that ends inside a frame, 107: how that begins, of the bytes behind the last whole
+/// one.
+///
+/// # Errors
+/// `Memory` where memory was refused.
+pub fn unfinished_facts(alloc: Global, rest: &[u8]) -> Result<Vec<Fact>, Memory>
+    ensures { IfOk result (λ facts. facts_view facts.items ≡ spec.unfinished_facts rest.now) }
+{
+    content_facts(alloc, rest)
+}
+
 /// What is said of a log that has a fault: the number of its record, from 1, and 0 for the first line, how
 /// many bytes stand before it, and the line that stands there, as far as it is UTF-8.
 ///
