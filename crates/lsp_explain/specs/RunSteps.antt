@@ -23,7 +23,7 @@ use Rattle.lsp_verdict.specs.Outcome.{HasRest}
 use Rattle.lsp_verdict.specs.Placed.{joined}
 use Rattle.lsp_verdict.specs.Report.{report}
 use Rattle.lsp_verdict.specs.RunIo.{OfRead, failures_after}
-use Rattle.lsp_verdict.specs.Verdict.{Verdict, Summary, summary, yes, bad_log}
+use Rattle.lsp_verdict.specs.Verdict.{Verdict, Summary, summary, yes, bad_log, no_by}
 use Rattle.lsp_verdict.specs.declared.completeness.Completeness.{Completeness}
 use Rattle.lsp_verdict.specs.declared.outcome.RunFault.{RunFault}
 use Rattle.lsp_verdict.specs.declared.outcome.RunFault.TheVariants as faults
@@ -73,6 +73,7 @@ pub record Tells (limits : Bounds) (records : List Record) (terms : Terms) (hs :
   pub offends : rule_at terms (events_of (notes_of hs)) h.note.event ≡ Some rule
   pub told : Explained
   pub explains : (rests : Rests) → RestsBehind limits records rests → Explains rests terms (breach hs h rule) told
+  pub no_is : told.no ≡ no_by (events_of (notes_of hs)) h.note.event rule
   pub is : told.no ≡ (offence_view found.offence).no
   pub verdict_is : verdict_view x.verdict ≡ told.no
   pub text_is : x.text.items ≡ report told.no ++ said_of told

@@ -221,11 +221,7 @@ fn explain_sound(
 }
 
 /// The lines that tell where a log has its fault, if it has one.
-fn flaw_text(
-    alloc: Global,
-    events: &SurveyReader,
-    bad: &Option<Verdict>,
-) -> Result<String, Memory>
+fn flaw_text(alloc: Global, events: &SurveyReader, bad: &Option<Verdict>) -> Result<String, Memory>
     ensures { IfOk result (λ text. string_bytes text ≡ flaw_lines (option_map verdict_view bad.now) (flaw_held events.now (option_map verdict_view bad.now))) }
 {
     let mut text = String::new(alloc);

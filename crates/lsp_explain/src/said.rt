@@ -118,12 +118,7 @@ pub(crate) fn push_said<S: TextStore>(
 
 /// The facts on how a session ends that breaks this rule: 107 has those on the rest of a side, 303 and 407
 /// those on what the session lacks.
-fn end_facts(
-    alloc: Global,
-    session: &Session,
-    rest: &[u8],
-    rule: u16,
-) -> Result<Vec<Fact>, Memory>
+fn end_facts(alloc: Global, session: &Session, rest: &[u8], rule: u16) -> Result<Vec<Fact>, Memory>
     ensures { IfOk result (λ facts. (rests : Rests) (kept : List Event) (who : Who) (number event : ℕ) → Stands session.now (sent_in kept)
         → rest.now ≡ rest_of rests (side_by who)
         → facts_view facts.items ≡ end_facts rests kept (no rule who number event)) }
