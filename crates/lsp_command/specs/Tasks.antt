@@ -15,7 +15,7 @@ use Rattle.lsp_verdict.specs.RunIo.{OfRead, AppendsFront}
 use Rattle.lsp_verdict.specs.Shown.{text_is, no_document, too_few, refused}
 use Rattle.lsp_judge.specs.ShownLog.{IsShown, BeginsShown}
 use Rattle.lsp_streams.specs.StreamRun.{IsRun, BeginsRun}
-use Rattle.lsp_explain.specs.Explained.{IsExplanation}
+use Rattle.lsp_explain.specs.Explained.{IsExplanation, BeginsExplanation}
 use Rattle.lsp_survey.specs.Reported.{IsReported, BeginsReported}
 use Rattle.lsp_survey.specs.declared.listing.Listing.{Listing}
 use Rattle.lsp_verdict.specs.TextAfter.{AnswersText}
@@ -80,6 +80,7 @@ pub record Explained (completeness : Completeness) (limits : Bounds) (p : Ports)
   pub ended : (s : Summary) → result ≡ Ok (outcomes.Judged (verdicts.Yes s)) → IsAtEnd p.source_after.bytes
   pub read_fault : result ≡ Err faults.Read → IsSilent p
   pub memory : result ≡ Err faults.Memory → IsSilent p
+  pub write_fault : result ≡ Err faults.Write → (out : List ℕ) × Wrote p out × Read limits p (λ log. BeginsExplanation completeness limits log out)
 
 -- `show`: the verdict on the log read, the lines of the events before its place, short or long, and its report
 pub record Showed (lines : Lines) (limits : Bounds) (p : Ports) (result : Result Outcome RunFault) : Type 0 where

@@ -161,3 +161,7 @@ pub record IsExplanation (completeness : Completeness) (limits : Bounds) (log : 
   pub is : IsExplained completeness limits log found explained bad flaw s
   pub judges : v ≡ first_verdict found bad s
   pub says : out ≡ explanation found explained bad flaw s
+
+-- what begins the explanation of a log
+abbrev pub BeginsExplanation : Completeness → Bounds → List ℕ → List ℕ → Type 0
+BeginsExplanation completeness limits log front = (v : Verdict) × (left : List ℕ) × IsExplanation completeness limits log v (front ++ left)

@@ -13,7 +13,7 @@ ghost use Rattle.lsp_verdict.specs.Offences.{Noted};
 ghost use Rattle.lsp_verdict.specs.Report.{report};
 ghost use Rattle.lsp_verdict.specs.RunIo.{OfRead, GaveAtMost, source_failures, sink_failures};
 ghost use Rattle.lsp_verdict.specs.Survey.{first_verdict};
-ghost use Rattle.lsp_explain.specs.Explained.{IsExplanation, end_explained, flaw_lines, said_of};
+ghost use Rattle.lsp_explain.specs.Explained.{BeginsExplanation, IsExplanation, end_explained, flaw_lines, said_of};
 ghost use Rattle.lsp_explain.specs.FlawFacts.{Rests, flaw_facts, rest_of, side_by};
 ghost use Rattle.lsp_explain.specs.Lines.{fact_lines};
 ghost use Rattle.lsp_explain.specs.RunSteps.{EndsWhole, ExplainsLog, IsSound, TellsEnd, TellsOf, flaw_held, side_of, summary_behind};
@@ -55,6 +55,9 @@ pub fn run_explain<R: Source, W: Sink>(
     // After a read fault or for want of memory nothing is written.
     ensures read_fault { result ≡ Err RunFault.Read → W.told writer.new ≡ W.told writer.old }
     ensures memory { result ≡ Err RunFault.Memory → W.told writer.new ≡ W.told writer.old }
+    // What is written before a write fault begins the explanation.
+    ensures write_fault { result ≡ Err RunFault.Write → (out : List ℕ) × Took (W.told writer.old) (W.told writer.new) out
+        × OfRead limits (R.told reader.old) (R.told reader.new) (λ log. BeginsExplanation completeness limits log out) }
     ensures source_failures { (R.told reader.new).failures ≡ source_failures result (R.told reader.old).failures }
     ensures sink_failures { (W.told writer.new).failures ≡ sink_failures result (W.told writer.old).failures }
     // At most one byte past the limit is read.

@@ -43,6 +43,7 @@ returns-in-Explain-clause-answers g c = rw c.in-Explain.is (record {
   ended = c.run_explain.ensures.ended;
   read_fault = c.run_explain.ensures.read_fault;
   memory = c.run_explain.ensures.memory;
+  write_fault = c.run_explain.ensures.write_fault;
 })
 
 pub returns-in-Show-clause-answers : goal.returns-in-Show-clause-answers
