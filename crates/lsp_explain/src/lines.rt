@@ -225,6 +225,8 @@ pub(crate) fn push_fact(alloc: Global, lines: &mut String, fact: &Fact) -> Resul
         Fact::Since(event) => push_number(lines, "since", *event),
         Fact::Begins(text) => push_text(alloc, lines, "begins", text.as_str()),
         Fact::Record(number) => push_number(lines, "record", *number),
+        Fact::Byte(place) => push_number(lines, "byte", *place),
+        Fact::Found(text) => push_text(alloc, lines, "found", text.as_str()),
     }
 }
 

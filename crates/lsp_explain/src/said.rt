@@ -12,11 +12,14 @@ ghost use Rattle.lsp_verdict.specs.Verdict.{no};
 ghost use Rattle.lsp_verdict.specs.declared.verdict.Who.{Who};
 ghost use Rattle.lsp_explain.specs.Explained.{AreFacts, end_explained, end_facts, said_of};
 ghost use Rattle.lsp_explain.specs.Fact.{Fact as SpecFact, facts_view};
+ghost use Rattle.lsp_explain.specs.FlawFacts.{Rests, rest_of, side_by};
 ghost use Rattle.lsp_explain.specs.Lines.{event_line, fact_lines};
+ghost use Rattle.lsp_explain.specs.RunSteps.{ShowsFault};
 ghost use Rattle.lsp_explain.specs.Standing.{StandsAfter, terms_in};
 ghost use Rattle.lsp_explain.specs.Traced.{AreTraced};
 
 use crate::fact::Fact;
+use crate::flaws::{frame_facts, unfinished_facts};
 use crate::lines::{
     push_end_event, push_facts, push_message_event, push_side_event, push_snapshot_event,
 };
@@ -31,20 +34,22 @@ use std::alloc::Global;
 const ENDS_INSIDE: u16 = 107;
 
 /// The facts on what offends by this rule, the event of this number. The reader stands for the events
-/// before it.
+/// before it, and the rest is of its side.
 fn facts_of(
     alloc: Global,
     events: &SurveyReader,
+    rest: &[u8],
     offending: &Offending,
     number: u64,
     rule: u16,
 ) -> Result<Vec<Fact>, Memory>
     ensures { IfOk result (λ facts. (raw : Raw) (event : Event) (before : List Event) → StandsAfter events.now before → number ≡ number_next before → Reads raw event
         → IsOffending raw (terms_in events.now) (kept_of (terms_in events.now) before) rule offending.now → rule_at (terms_in events.now) before event ≡ Some rule
-        → AreTraced (AreFacts (terms_in events.now) (kept_of (terms_in events.now) before) raw event rule) (terms_in events.now) before event rule (facts_view facts.items)) }
+        → (rests : Rests) → ShowsFault rests offending.now rest.now
+        → AreTraced (AreFacts rests (terms_in events.now) (kept_of (terms_in events.now) before) raw event rule) (terms_in events.now) before event rule (facts_view facts.items)) }
 {
     match offending {
-        Offending::Frames(_) => Ok(Vec::new(alloc)),
+        Offending::Frames(_) => frame_facts(alloc, rest),
         Offending::Content { content, .. } => content_facts(alloc, content.as_slice()),
         Offending::Message { side, spoken } => {
             let side = *side;
@@ -90,49 +95,61 @@ fn push_event(
     }
 }
 
-/// Adds what is said of an offence. The reader stands for the events before it.
+/// Adds what is said of an offence. The reader stands for the events before it, and the rest is of its
+/// side.
 pub(crate) fn push_said(
     alloc: Global,
     lines: &mut String,
     events: &SurveyReader,
+    rest: &[u8],
     found: &Found,
 ) -> Result<(), Memory>
     ensures { OnOk result ((raw : Raw) (event : Event) (before : List Event) → StandsAfter events.now before → found.now.offence.event ≡ number_next before → Reads raw event
         → IsOffending raw (terms_in events.now) (kept_of (terms_in events.now) before) found.now.offence.rule found.now.offending
         → rule_at (terms_in events.now) before event ≡ Some found.now.offence.rule
         → (facts : List SpecFact)
-        × AreTraced (AreFacts (terms_in events.now) (kept_of (terms_in events.now) before) raw event found.now.offence.rule) (terms_in events.now) before event found.now.offence.rule facts
+        × ((rests : Rests) → ShowsFault rests found.now.offending rest.now
+        → AreTraced (AreFacts rests (terms_in events.now) (kept_of (terms_in events.now) before) raw event found.now.offence.rule) (terms_in events.now) before event found.now.offence.rule facts)
         × (string_bytes lines.new ≡ string_bytes lines.old ++ (event_line found.now.offence.event event ++ fact_lines facts))) }
 {
     let Found { offence, offending } = found;
     push_event(alloc, lines, offence.event, offending)?;
-    let facts = facts_of(alloc, events, offending, offence.event, offence.rule)?;
+    let facts = facts_of(alloc, events, rest, offending, offence.event, offence.rule)?;
     push_facts(alloc, lines, facts.as_slice())
 }
 
-/// The facts on how a session ends that breaks this rule: 107 has none, 303 and 407 those on what it
-/// lacks. The reader stands for all its events.
-fn end_facts(alloc: Global, events: &SurveyReader, rule: u16) -> Result<Vec<Fact>, Memory>
-    ensures { IfOk result (λ facts. (before : List Event) (who : Who) (number event : ℕ) → StandsAfter events.now before
-        → facts_view facts.items ≡ end_facts (numbered (terms_in events.now) before) (no rule who number event)) }
+/// The facts on how a session ends that breaks this rule: 107 has those on the rest of a side, 303 and 407
+/// those on what the session lacks. The reader stands for all its events.
+fn end_facts(
+    alloc: Global,
+    events: &SurveyReader,
+    rest: &[u8],
+    rule: u16,
+) -> Result<Vec<Fact>, Memory>
+    ensures { IfOk result (λ facts. (rests : Rests) (before : List Event) (who : Who) (number event : ℕ) → StandsAfter events.now before
+        → rest.now ≡ rest_of rests (side_by who)
+        → facts_view facts.items ≡ end_facts rests (numbered (terms_in events.now) before) (no rule who number event)) }
 {
     if rule == ENDS_INSIDE {
-        return Ok(Vec::new(alloc));
+        return unfinished_facts(alloc, rest);
     }
     lack_traced(alloc, events)
 }
 
-/// Adds what is said of how a session ends. The reader stands for all its events.
+/// Adds what is said of how a session ends. The reader stands for all its events, and the rest is of the
+/// side that it is said of.
 pub(crate) fn push_end(
     alloc: Global,
     lines: &mut String,
     events: &SurveyReader,
+    rest: &[u8],
     end: &Offence,
 ) -> Result<(), Memory>
-    ensures { OnOk result ((before : List Event) → StandsAfter events.now before
-        → string_bytes lines.new ≡ string_bytes lines.old ++ said_of (end_explained (numbered (terms_in events.now) before) (offence_view end.now).no)) }
+    ensures { OnOk result ((rests : Rests) (before : List Event) → StandsAfter events.now before
+        → rest.now ≡ rest_of rests (side_by end.now.who)
+        → string_bytes lines.new ≡ string_bytes lines.old ++ said_of (end_explained rests (numbered (terms_in events.now) before) (offence_view end.now).no)) }
 {
     push_end_event(lines, end.event, end.who)?;
-    let facts = end_facts(alloc, events, end.rule)?;
+    let facts = end_facts(alloc, events, rest, end.rule)?;
     push_facts(alloc, lines, facts.as_slice())
 }

@@ -10,6 +10,7 @@ pub mod OkParts
 pub mod SessionSteps
 pub mod Waiting
 pub mod FrameRules
+pub mod Rests
 pub mod Streaming
 pub mod Taking
 pub mod Ending
