@@ -172,7 +172,7 @@ FACTS = [
 
 # The same of sessions that have to be complete.
 LACK_FACTS = [
-    (UNANSWERED, UNANSWERED_REPORT, b'event 8 editor\nphase exited\nrequest 2 "shutdown"\n'),
+    (UNANSWERED, UNANSWERED_REPORT, b'event 8 editor\nrequest 2 "shutdown"\nphase exited\n'),
     (KILLED, KILLED_REPORT, b"event 8 editor\nphase stopping\n"),
 ]
 
