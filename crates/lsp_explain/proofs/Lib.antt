@@ -10,6 +10,8 @@ pub mod DocumentRules
 pub mod Refused
 pub mod SaidFacts
 pub mod Spoken
+pub mod Standing
 pub mod Telling
 pub mod ToldFirst
 pub mod Worked
+pub mod Tracing

@@ -1,13 +1,15 @@
 //! What a No lacks: facts on the event that offends, read off the events before it.
 //!
 //! A [`Fact`] is one line of an explanation. [`run_explain`] reads a log and explains the verdict on it;
-//! [`act_facts`], [`snapshot_facts`], [`session_facts`], [`content_facts`] and [`lack_facts`] are its parts.
+//! [`act_facts`], [`snapshot_facts`], [`session_facts`], [`content_facts`], [`frame_facts`], [`unfinished_facts`],
+//! [`flaw_facts`] and [`lack_facts`] are its parts.
 #![tactic(auto)]
 
 mod difference;
 mod documents;
 mod fact;
 mod fact_list;
+mod flaws;
 mod laws;
 mod lines;
 mod making;
@@ -16,9 +18,11 @@ mod offending;
 mod refused_change;
 mod run;
 mod said;
+mod trace;
 
 pub use documents::{act_facts, snapshot_facts};
 pub use fact::Fact;
+pub use flaws::{flaw_facts, frame_facts, unfinished_facts};
 pub use laws::{explanation_begins_with_report, explanation_of_yes_is_report};
 pub use messages::{content_facts, lack_facts, session_facts};
 pub use run::run_explain;

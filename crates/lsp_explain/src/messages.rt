@@ -42,7 +42,7 @@ fn front_of(bytes: &[u8], len: usize) -> &str
 }
 
 /// The longest front of some bytes that is UTF-8.
-fn text_front(bytes: &[u8]) -> &str
+pub(crate) fn text_front(bytes: &[u8]) -> &str
     ensures { result.now ≡ spec.text_front bytes.now }
 {
     match from_utf8(bytes) {
@@ -61,7 +61,7 @@ pub fn content_facts(alloc: Global, content: &[u8]) -> Result<Vec<Fact>, Memory>
 }
 
 /// The id in a message, if it has one.
-fn id_in(message: &Message) -> Option<&Id>
+pub(crate) fn id_in(message: &Message) -> Option<&Id>
     ensures { option_map (λ i. id_view i.now) result ≡ spec.id_in (message_view message.now) }
 {
     match message {
