@@ -201,6 +201,63 @@ LACK_FACTS = [
     (KILLED, KILLED_REPORT, b"event 8 editor\nphase stopping\nsince 6\n"),
 ]
 
+# Of logs with several: what explains each that follows from no earlier one, and how many offences there are.
+WRONGS_EXPLAINED = STAYS + STAYS_FACTS + rb'''no 606 editor 5 event 7
+range is reversed
+event 7 editor notification "textDocument/didChange"
+uri "file:///a"
+held 1
+brought 4
+sent 2
+changes 1
+change 1 0 2 0 1
+length 2
+no 702 snapshot 3 event 10
+snapshot differs
+event 10 snapshot 3 3 "file:///a"
+uri "file:///a"
+held 3
+brought 9
+sent 3
+at 0 0
+held "new"
+recorded "old"
+snapshot 10
+agreed 6 1
+no 406 editor 9 event 14
+editor message after exit
+event 14 editor notification "exit"
+phase exited
+since 13
+'''
+ALL_FACTS = [
+    (WRONGS, WRONGS_EXPLAINED, b"offences 5 following 1\n"),
+    (
+        UNSHAKEN,
+        UNSHAKEN_LINES + rb'''event 1 editor
+begins "{\"jsonrpc\":\"2.0\",\"id\":1,\"method\":\"initialize\",\"params\":[]}"
+''',
+        b"offences 3 following 2\n",
+    ),
+    (EXITS, EXITS_REPORT + b'event 9 editor notification "exit"\nphase exited\nsince 8\n', b"offences 1 following 0\n"),
+    (
+        RESTS,
+        REST_REPORT + b'event 1 editor\nbegins "abc"\n' + REST_REPORT.replace(b"editor", b"server") + b'event 1 server\nbegins "abc"\n',
+        b"offences 2 following 0\n",
+    ),
+    (
+        BROKEN,
+        BROKEN_REPORT + rb'''event 1 editor
+begins "\r\n\r\n"
+no 301 server 1 event 2
+response to no open request
+event 2 server result 2
+id 2
+''',
+        b"offences 2 following 0\n",
+    ),
+]
+
 
 def in_bytes(log):
     """The log with each record of bytes cut into records of one byte."""

@@ -123,6 +123,8 @@ fn a_log_without_end_through_each_run(rt: HostRuntime) -> Result<(), Fail> {
     );
     let explain = Task::Explain(Completeness::Ignored);
     check_snapshots(&rt, alloc, HEAD, explain, EXPLAINED);
+    let explain_all = Task::ExplainAll(Completeness::Ignored);
+    check_snapshots(&rt, alloc, HEAD, explain_all, EXPLAINED);
     let survey = Task::Survey(Completeness::Ignored, Listing::Every);
     check_snapshots(&rt, alloc, HEAD, survey, REPORT);
     check_snapshots(&rt, alloc, HEAD, Task::Show(Lines::Short), shown.as_str());
