@@ -22,3 +22,4 @@ pub use listing::Listing;
 pub use offending::{Found, Heard, Offending};
 pub use run::run_survey;
 pub use survey_reader::{End, Next, SurveyReader};
+pub use tally::Tally;

@@ -3,7 +3,7 @@ ghost use Rattle.std.specs.Prelude.{◌≡◌, ◌<◌, [], List, None, Ok, IfOk
 ghost use Rattle.lsp_events.specs.Standing.{Follows};
 ghost use Rattle.lsp_frame.specs.Bounds.{Bounds, IsInRange};
 ghost use Rattle.lsp_frame.specs.Told.{Told};
-ghost use Rattle.lsp_log.specs.Reader.{ahead};
+ghost use Rattle.lsp_log.specs.Reader.{KeepsFormat, ahead};
 ghost use Rattle.lsp_verdict.specs.Given.{as_given, verdict_view};
 ghost use Rattle.lsp_verdict.specs.Offences.{Noted, Offence as SpecOffence, events_of};
 ghost use Rattle.lsp_verdict.specs.Placed.{Raw};
@@ -72,6 +72,8 @@ impl SurveyReader {
     /// `Read` where the source failed, and `Memory` where memory was refused.
     pub fn next<R: Source>(&mut self, reader: &mut R) -> Result<Next, RunFault>
         ensures completeness { self.new.completeness ≡ self.old.completeness }
+        // The format of the log stays, once it is known.
+        ensures format { KeepsFormat self.old.log.format self.new.log.format }
         ensures answer { (limits : Bounds) (start : Told) (past : List Raw) (before : List Noted) (found : List SpecOffence) → SoFar limits self.old start (R.told reader.old) past before found
             → Pulls self.old.completeness limits self.new start (R.told reader.new) past before found result }
     {
@@ -128,6 +130,7 @@ impl SurveyReader {
     fn take_entry<R: Source>(&mut self, reader: &mut R) -> Result<Option<Next>, RunFault>
         requires idle { self.old.survey.turn ≡ None }
         ensures completeness { self.new.completeness ≡ self.old.completeness }
+        ensures format { KeepsFormat self.old.log.format self.new.log.format }
         ensures less { result ≡ Ok None → ahead self.new.log < ahead self.old.log }
         ensures answer { (limits : Bounds) (start : Told) (past : List Raw) (before : List Noted) (found : List SpecOffence) → SoFar limits self.old start (R.told reader.old) past before found
             → TakesEntry self.old.completeness limits self.new start (R.told reader.new) past before found result }
