@@ -193,6 +193,7 @@ module _ (completeness : Completeness) (limits : Bounds) (e : SurveyReader) (sta
   ended_here = record {
     whole = read_map limits start now (λ log. IsLog limits log e.log.format records flaw) (λ log. IsSurveyOf completeness limits log (found ++ map offence_view end.listed.items) (option_map verdict_view end.bad) own past notes) whole_here has.of_read;
     walks = h.walks;
+    terms_are = same_terms;
     lists = own_found;
     of_read = read_map limits start now (λ log. IsLog limits log e.log.format records flaw) (λ log. IsSurvey completeness limits log (found ++ map offence_view end.listed.items) (option_map verdict_view end.bad) (summary own (events_of notes)))
         (λ log is_log. survey_of completeness limits log e.log.format records flaw is_log past placed notes h.are_noted (found ++ map offence_view end.listed.items) (option_map verdict_view end.bad) (summary own (events_of notes))

@@ -82,6 +82,7 @@ pub record Ended (completeness : Completeness) (limits : Bounds) (e : SurveyRead
   pub of_read : OfRead limits start now (λ log. IsSurvey completeness limits log (found ++ map offence_view end.listed.items) (option_map verdict_view end.bad) (summary e.survey.walk.events.docs.terms (events_of notes)))
   pub whole : OfRead limits start now (λ log. IsSurveyOf completeness limits log (found ++ map offence_view end.listed.items) (option_map verdict_view end.bad) e.survey.walk.events.docs.terms past notes)
   pub walks : Walks e.survey.walk notes
+  pub terms_are : e.survey.walk.events.docs.terms ≡ log_terms limits e.log.format
   pub lists : found ≡ offences e.survey.walk.events.docs.terms notes
   pub failures : now.failures ≡ start.failures
   pub met : end.bad ≡ None → IsAtEnd now.bytes
