@@ -67,9 +67,9 @@ pub fn run_explain<R: Source, W: Sink>(
 
 /// What is written of a verdict, and the verdict.
 #[derive(Drop)]
-struct Explanation {
-    text: Vec<u8>,
-    verdict: Verdict,
+pub(crate) struct Explanation {
+    pub text: Vec<u8>,
+    pub verdict: Verdict,
 }
 
 /// Reads a log, and finds what explains the verdict on it.
@@ -124,7 +124,7 @@ fn explain_heard(
 }
 
 /// What explains an offence that was found.
-fn explain_found(alloc: Global, events: &SurveyReader, found: &Found) -> Result<Explanation, Memory>
+pub(crate) fn explain_found(alloc: Global, events: &SurveyReader, found: &Found) -> Result<Explanation, Memory>
     ensures { IfOk result (TellsOf events.now found.now) }
 {
     let verdict = found.offence.verdict();
@@ -149,7 +149,7 @@ fn explain_end(alloc: Global, events: &mut SurveyReader, end: End) -> Result<Exp
 }
 
 /// What explains what is listed of the end of a session.
-fn explain_listed(alloc: Global, session: &Session, listed: &Offence) -> Result<Explanation, Memory>
+pub(crate) fn explain_listed(alloc: Global, session: &Session, listed: &Offence) -> Result<Explanation, Memory>
     ensures verdict { IfOk result (λ x. verdict_view x.verdict ≡ (offence_view listed.now).no) }
     ensures text { IfOk result (λ x. (kept : List Event) → Stands session.now (sent_in kept)
         → x.text.items ≡ report (offence_view listed.now).no ++ said_of (end_explained kept (offence_view listed.now).no)) }
@@ -163,7 +163,7 @@ fn explain_listed(alloc: Global, session: &Session, listed: &Offence) -> Result<
 }
 
 /// What explains the verdict where nothing is listed: Yes, or the fault of the log.
-fn explain_sound(
+pub(crate) fn explain_sound(
     alloc: Global,
     events: &mut SurveyReader,
     bad: Option<Verdict>,
@@ -180,7 +180,7 @@ fn explain_sound(
 }
 
 /// The line that tells at which record a log has its fault, if it has one.
-fn flaw_text(alloc: Global, bad: &Option<Verdict>) -> Result<String, Memory>
+pub(crate) fn flaw_text(alloc: Global, bad: &Option<Verdict>) -> Result<String, Memory>
     ensures { IfOk result (λ text. string_bytes text ≡ flaw_lines (option_map verdict_view bad.now)) }
 {
     let mut text = String::new(alloc);
