@@ -15,7 +15,7 @@ use Rattle.lsp_log.specs.Reader as reader
 use Rattle.lsp_log.specs.declared.fault.LogCode.{LogCode}
 use Rattle.lsp_types.specs.declared.side.Side.{Side}
 use Rattle.lsp_types.specs.declared.side.Side.TheVariants.{Editor, Server}
-use Rattle.lsp_survey.specs.Reads.{BeginsSurvey, SoFar, Finds, IsHeardAs, found_in, GaveEvent, Ended, BrokeOff, Gives, PullsHere, Ready}
+use Rattle.lsp_survey.specs.Reads.{BeginsSurvey, HasHeard, SoFar, Finds, IsHeardAs, found_in, GaveEvent, Ended, BrokeOff, Gives, PullsHere, Ready}
 use Rattle.lsp_survey.specs.Surveys.{Awaits, Surveys, HearsOne, HearsHere, IsFitted, IsRefitted}
 use Rattle.lsp_survey.specs.Walking.{IsHeard, Offends}
 use Rattle.lsp_survey.specs.declared.offending.Heard.{Heard}
@@ -167,6 +167,40 @@ module _ (completeness : Completeness) (limits : Bounds) (known : Option Format)
         same_length past notes h.are_noted,
       )
 
+-- ---- a log that has these events first
+
+pub has_heard : (limits : Bounds) (known : Option Format) (records : List Record) (past due : List Raw) → Placed limits records (past ++ due) → (log : List ℕ) → HasFirst limits known records log → HasHeard limits known past log
+has_heard limits known records past due placed log has =
+    let all = some_placed limits [] [] (records ++ has.more) in
+    let front = placed_front limits [] [] records has.more (past ++ due) all.0 placed all.1 in
+    record {
+      format = has.format;
+      records = records ++ has.more;
+      log_fault = has.fault;
+      later = due ++ front.0;
+      is_log = has.is_log;
+      placed_are = subst (Placed limits (records ++ has.more)) (front.1 ∙ append_assoc past due front.0) all.1;
+      is_known = has.is_known;
+    }
+
+known_before : (old new format : Option Format) → reader.KeepsFormat old new → IsKnown new format → IsKnown old format
+known_before None new format keeps known = tt
+known_before (Some f) new format keeps known = subst (λ (o : Option Format). IsKnown o format) (keeps f refl) known
+
+-- what is known later was so before, as far as anything was known
+pub heard_before : (limits : Bounds) (old new : Option Format) (past : List Raw) (start now : Told) → reader.KeepsFormat old new → OfRead limits start now (HasHeard limits new past) → OfRead limits start now (HasHeard limits old past)
+heard_before limits old new past start now keeps has =
+    read_map limits start now (HasHeard limits new past) (HasHeard limits old past)
+    (λ log h. record {
+      format = h.format;
+      records = h.records;
+      log_fault = h.log_fault;
+      later = h.later;
+      is_log = h.is_log;
+      placed_are = h.placed_are;
+      is_known = known_before old new h.format keeps h.is_known;
+    }) has
+
 -- ---- a reader of events
 
 module _ (completeness : Completeness) (limits : Bounds) (e : SurveyReader) (start now : Told) (past : List Raw) (notes : List Noted) (found : List Offence) (so : SoFar limits e start now past notes found) where
@@ -178,6 +212,12 @@ module _ (completeness : Completeness) (limits : Bounds) (e : SurveyReader) (sta
   so_far_begins =
       read_map limits start now (HasFirst limits e.log.format so.records) (BeginsSurvey completeness limits found)
       (begins completeness limits e.log.format e.survey so.records past notes found so.format so.at.early so.surveys so.lists) first
+
+  -- its events begin with those heard
+  pub so_far_heard : OfRead limits start now (HasHeard limits e.log.format past)
+  so_far_heard =
+      read_map limits start now (HasFirst limits e.log.format so.records) (HasHeard limits e.log.format past)
+      (has_heard limits e.log.format so.records past so.surveys.due so.surveys.placed) first
 
   pub so_far_few : length notes ≤ limits.log
   so_far_few = few_first completeness limits e.log.format e.survey so.records past notes found so.format so.at.early so.surveys so.lists first.bytes (first.holds first.bytes ([], sym (append-nil first.bytes), λ end. refl))

@@ -6,7 +6,8 @@ use Rattle.lsp_events.specs.Standing.{Follows}
 use Rattle.lsp_frame.specs.Bounds.{Bounds}
 use Rattle.lsp_frame.specs.Told.{Told}
 use Rattle.lsp_frame.specs.declared.format.Format.{Format}
-use Rattle.lsp_log.specs.Log.{Record}
+use Rattle.lsp_log.specs.Log.{Record, IsLog}
+use Rattle.lsp_log.specs.declared.fault.LogCode.{LogCode}
 use Rattle.lsp_survey.specs.Surveys.{Surveys}
 use Rattle.lsp_survey.specs.Walking.{IsOffending, Walks}
 use Rattle.lsp_survey.specs.declared.offending.Found.{Found}
@@ -17,11 +18,11 @@ use Rattle.lsp_survey.specs.declared.survey_reader.End.{End}
 use Rattle.lsp_survey.specs.declared.survey_reader.Next.{Next}
 use Rattle.lsp_survey.specs.declared.survey_reader.Next.TheVariants as next
 use Rattle.lsp_survey.specs.declared.survey_reader.SurveyReader.{SurveyReader}
-use Rattle.lsp_verdict.specs.Entries.{IsAt}
+use Rattle.lsp_verdict.specs.Entries.{IsAt, IsKnown}
 use Rattle.lsp_verdict.specs.Given.{as_given, offence_view, verdict_view}
 use Rattle.lsp_verdict.specs.Offences.{Noted, Offence, IsNoted, events_of, kept_of, offence_by, offences, rule_at}
 use Rattle.lsp_verdict.specs.Outcome.{format_or_one, log_terms}
-use Rattle.lsp_verdict.specs.Placed.{Raw}
+use Rattle.lsp_verdict.specs.Placed.{Raw, Placed}
 use Rattle.lsp_verdict.specs.RunIo.{OfRead, failures_after}
 use Rattle.lsp_verdict.specs.Survey.{IsSurvey}
 use Rattle.lsp_verdict.specs.Verdict.{Summary, Verdict, summary, yes}
@@ -34,6 +35,16 @@ use Rattle.lsp_verdict.specs.declared.outcome.RunFault.TheVariants as faults
 -- what is listed of the log begins with these offences
 abbrev pub BeginsSurvey : Completeness → Bounds → List Offence → List ℕ → Type 0
 BeginsSurvey completeness limits found log = (later : List Offence) × (bad : Option Verdict) × (s : Summary) × IsSurvey completeness limits log (found ++ later) bad s
+
+-- the log has the format known, and these events first
+pub record HasHeard (limits : Bounds) (known : Option Format) (past : List Raw) (log : List ℕ) : Type 0 where
+  pub format : Option Format
+  pub records : List Record
+  pub log_fault : Option (ℕ × LogCode)
+  pub later : List Raw
+  pub is_log : IsLog limits log format records log_fault
+  pub placed_are : Placed limits records (past ++ later)
+  pub is_known : IsKnown known format
 
 -- ---- a reader of events
 

@@ -1,5 +1,5 @@
 //! The events of a log, heard one by one past each that offends, up to its end.
-ghost use Rattle.std.specs.Prelude.{◌≡◌, ◌<◌, [], List, None, Ok, IfOk, option_map};
+ghost use Rattle.std.specs.Prelude.{◌≡◌, ◌<◌, [], List, None, Ok, IfOk, OnErr, option_map};
 ghost use Rattle.lsp_events.specs.Standing.{Follows};
 ghost use Rattle.lsp_frame.specs.Bounds.{Bounds, IsInRange};
 ghost use Rattle.lsp_frame.specs.Told.{Told};
@@ -7,9 +7,10 @@ ghost use Rattle.lsp_log.specs.Reader.{KeepsFormat, ahead};
 ghost use Rattle.lsp_verdict.specs.Given.{as_given, verdict_view};
 ghost use Rattle.lsp_verdict.specs.Offences.{Noted, Offence as SpecOffence, events_of};
 ghost use Rattle.lsp_verdict.specs.Placed.{Raw};
+ghost use Rattle.lsp_verdict.specs.RunIo.{OfRead};
 ghost use Rattle.lsp_verdict.specs.Survey.{first_verdict};
 ghost use Rattle.lsp_verdict.specs.Verdict.{summary, yes};
-ghost use Rattle.lsp_survey.specs.Reads.{Pulls, PullsHere, SoFar, TakesEntry};
+ghost use Rattle.lsp_survey.specs.Reads.{HasHeard, Pulls, PullsHere, SoFar, TakesEntry};
 ghost use Rattle.lsp_survey.specs.Surveys.{IsRefitted};
 
 use crate::offending::Heard;
@@ -76,6 +77,9 @@ impl SurveyReader {
         ensures format { KeepsFormat self.old.log.format self.new.log.format }
         ensures answer { (limits : Bounds) (start : Told) (past : List Raw) (before : List Noted) (found : List SpecOffence) → SoFar limits self.old start (R.told reader.old) past before found
             → Pulls self.old.completeness limits self.new start (R.told reader.new) past before found result }
+        // Where reading breaks off, the log read begins with the events heard before.
+        ensures broke { OnErr result ((limits : Bounds) (start : Told) (past : List Raw) (before : List Noted) (found : List SpecOffence) → SoFar limits self.old start (R.told reader.old) past before found
+            → OfRead limits start (R.told reader.new) (HasHeard limits self.old.log.format past)) }
     {
         loop {
             if let Some(heard) = self.hear()? {
@@ -121,6 +125,8 @@ impl SurveyReader {
         ensures idle { result ≡ Ok None → self.new.survey.turn ≡ None }
         ensures answer { (limits : Bounds) (start now : Told) (past : List Raw) (before : List Noted) (found : List SpecOffence) → SoFar limits self.old start now past before found
             → PullsHere self.old.completeness limits self.new start now past before found result }
+        ensures broke { OnErr result ((limits : Bounds) (start now : Told) (past : List Raw) (before : List Noted) (found : List SpecOffence) → SoFar limits self.old start now past before found
+            → OfRead limits start now (HasHeard limits self.old.log.format past)) }
     {
         Ok(self.survey.hear()?)
     }
@@ -134,6 +140,8 @@ impl SurveyReader {
         ensures less { result ≡ Ok None → ahead self.new.log < ahead self.old.log }
         ensures answer { (limits : Bounds) (start : Told) (past : List Raw) (before : List Noted) (found : List SpecOffence) → SoFar limits self.old start (R.told reader.old) past before found
             → TakesEntry self.old.completeness limits self.new start (R.told reader.new) past before found result }
+        ensures broke { OnErr result ((limits : Bounds) (start : Told) (past : List Raw) (before : List Noted) (found : List SpecOffence) → SoFar limits self.old start (R.told reader.old) past before found
+            → OfRead limits start (R.told reader.new) (HasHeard limits self.old.log.format past)) }
     {
         let entry = next_entry(&mut self.log, reader)?;
         follow_format(&self.log, &mut self.survey);

@@ -1,6 +1,8 @@
-use Rattle.std.proofs.Common.{◌∙◌}
+use Rattle.std.proofs.Common.{sym, subst, ◌∙◌}
 use Rattle.std.proofs.lemmas.Result.{err_from_is_err_and}
-use Rattle.lsp_survey.proofs.Reading.{broke_by, gives_by}
+use Rattle.lsp_log.specs.Reader.{KeepsFormat}
+use Rattle.lsp_log.specs.Reader.{State as LogReader}
+use Rattle.lsp_survey.proofs.Reading.{broke_by, gives_by, heard_before}
 use Rattle.lsp_survey.proofs.survey_reader.SurveyReader.next.Goals as goal
 
 pub returns-in_err-heard-clause-answer : goal.returns-in_err-heard-clause-answer
@@ -29,3 +31,22 @@ returns-in-Some-2-clause-answer g c = λ limits start past before found so.
     let idle = rw c.in_default.is at (c.in_ok-heard.ensures.answer limits start _ past before found (inv.so_far limits start past before found so)) in
     gives_by c.hear.new.self.completeness c.args.self.now.completeness limits c.take_entry.new.self start _ past before found c.in-Some-2.next (c.in_ok-heard.ensures.completeness ∙ inv.completeness)
     (rw c.in-Some-2.is at (c.in_ok-next.ensures.answer limits start past before found idle))
+
+pub returns-in_err-heard-clause-broke : goal.returns-in_err-heard-clause-broke
+returns-in_err-heard-clause-broke g c =
+    let from = c.from_residual in
+    let p = err_from_is_err_and from.result from.ensures.1 in
+    let inv = c.loop-heard.invariant in
+    rw p.1 (λ limits start past before found so.
+    heard_before limits c.args.self.now.log.format c.loop-heard.self.log.format past start _ inv.format (c.in_err-heard.ensures.broke limits start _ past before found (inv.so_far limits start past before found so)))
+
+pub returns-in_err-next-clause-broke : goal.returns-in_err-next-clause-broke
+returns-in_err-next-clause-broke g c =
+    let from = c.from_residual-in_err-next in
+    let p = err_from_is_err_and from.result from.ensures.1 in
+    let inv = c.loop-heard.invariant in
+    rw p.1 (λ limits start past before found so.
+    let idle = rw c.in_default.is at (c.in_ok-heard.ensures.answer limits start _ past before found (inv.so_far limits start past before found so)) in
+    heard_before limits c.args.self.now.log.format c.hear.new.self.log.format past start _
+    (subst (λ (l : LogReader). KeepsFormat c.args.self.now.log.format l.format) (sym c.in_ok-heard.ensures.log) inv.format)
+    (c.in_err-next.ensures.broke limits start past before found idle))
