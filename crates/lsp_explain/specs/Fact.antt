@@ -45,8 +45,10 @@ pub data Fact : Type 0 where
   waits : Ident → List ℕ → Fact
   -- the front of a content
   begins : List ℕ → Fact
-  -- the number of a record
+  -- the number of a record, the byte at which it begins, and the line that stands there
   in_record : ℕ → Fact
+  at_byte : ℕ → Fact
+  finds : List ℕ → Fact
 
 abbrev pub fact_view : fact.Fact → Fact
 fact_view (facts.Uri text) = of_uri (string_bytes text)
@@ -72,6 +74,8 @@ fact_view (facts.Registers method) = registers (string_bytes method)
 fact_view (facts.Request id method) = waits (id_view id) (string_bytes method)
 fact_view (facts.Begins text) = begins (string_bytes text)
 fact_view (facts.Record number) = in_record number
+fact_view (facts.Byte place) = at_byte place
+fact_view (facts.Found text) = finds (string_bytes text)
 
 abbrev pub facts_view : List fact.Fact → List Fact
 facts_view said = map fact_view said

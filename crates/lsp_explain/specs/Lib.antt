@@ -1,5 +1,6 @@
 pub mod Fact
 pub mod Lines
+pub mod FlawFacts
 pub mod MessageFacts
 pub mod DocumentFacts
 pub mod Explained

@@ -53,4 +53,8 @@ pub enum Fact {
     Begins(String),
     /// The number of a record of the log, from 1; 0 for the first line.
     Record(u64),
+    /// How many bytes of the log stand before it.
+    Byte(u64),
+    /// The line that stands there, or its front, as far as it is UTF-8.
+    Found(String),
 }

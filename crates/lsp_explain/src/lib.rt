@@ -2,13 +2,14 @@
 //!
 //! A [`Fact`] is one line of an explanation. [`run_explain`] reads a log and explains the verdict on it,
 //! and [`run_explain_all`] all that is wrong with it; [`act_facts`], [`snapshot_facts`], [`session_facts`],
-//! [`content_facts`] and [`lack_facts`] are their parts.
+//! [`content_facts`], [`frame_facts`], [`unfinished_facts`], [`flaw_facts`] and [`lack_facts`] are their parts.
 #![tactic(auto)]
 
 mod difference;
 mod documents;
 mod fact;
 mod fact_list;
+mod flaws;
 mod laws;
 mod lines;
 mod making;
@@ -21,6 +22,7 @@ mod said;
 
 pub use documents::{act_facts, snapshot_facts};
 pub use fact::Fact;
+pub use flaws::{flaw_facts, frame_facts, unfinished_facts};
 pub use laws::{explanation_begins_with_report, explanation_of_yes_is_report};
 pub use messages::{content_facts, lack_facts, session_facts};
 pub use run::run_explain;

@@ -191,6 +191,8 @@ pub(crate) fn push_fact(alloc: Global, lines: &mut String, fact: &Fact) -> Resul
         Fact::Request { id, method } => push_request(alloc, lines, id, method.as_str()),
         Fact::Begins(text) => push_text(alloc, lines, "begins", text.as_str()),
         Fact::Record(number) => push_number(lines, "record", *number),
+        Fact::Byte(place) => push_number(lines, "byte", *place),
+        Fact::Found(text) => push_text(alloc, lines, "found", text.as_str()),
     }
 }
 

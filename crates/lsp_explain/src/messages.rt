@@ -42,7 +42,7 @@ fn front_of(bytes: &[u8], len: usize) -> &str
 }
 
 /// The longest front of some bytes that is UTF-8.
-fn text_front(bytes: &[u8]) -> &str
+pub(crate) fn text_front(bytes: &[u8]) -> &str
     ensures { result.now ≡ spec.text_front bytes.now }
 {
     match from_utf8(bytes) {

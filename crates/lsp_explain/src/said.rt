@@ -11,9 +11,12 @@ ghost use Rattle.lsp_verdict.specs.Verdict.{offence, no};
 ghost use Rattle.lsp_verdict.specs.declared.verdict.Who.{Who};
 ghost use Rattle.lsp_explain.specs.Explained.{AreFacts, end_explained, end_facts, said_of};
 ghost use Rattle.lsp_explain.specs.Fact.{Fact as SpecFact, facts_view};
+ghost use Rattle.lsp_explain.specs.FlawFacts.{Rests, rest_of, side_by};
 ghost use Rattle.lsp_explain.specs.Lines.{event_line, fact_lines};
+ghost use Rattle.lsp_explain.specs.RunSteps.{ShowsFault};
 
 use crate::fact::Fact;
+use crate::flaws::{frame_facts, unfinished_facts};
 use crate::lines::{
     push_end_event, push_facts, push_message_event, push_side_event, push_snapshot_event,
 };
@@ -30,20 +33,23 @@ use std::alloc::Global;
 /// A stream that ends inside a frame.
 const ENDS_INSIDE: u16 = 107;
 
-/// The facts on what offends by this rule. Session and documents hold the kept events before it.
+/// The facts on what offends by this rule. Session and documents hold the kept events before it, and the rest
+/// is of its side.
 fn facts_of<S: TextStore>(
     alloc: Global,
     session: &Session,
     docs: &Docs<S>,
+    rest: &[u8],
     offending: &Offending,
     rule: u16,
 ) -> Result<Vec<Fact>, Memory>
     ensures { IfOk result (λ facts. (raw : Raw) (event : Event) (kept : List Event) → Holds session.now docs.now kept → Reads raw event
         → IsOffending raw docs.now.terms kept rule offending.now → offence docs.now.terms kept event ≡ Some rule
-        → AreFacts docs.now.terms kept raw event rule (facts_view facts.items)) }
+        → (rests : Rests) → ShowsFault rests offending.now rest.now
+        → AreFacts rests docs.now.terms kept raw event rule (facts_view facts.items)) }
 {
     match offending {
-        Offending::Frames(_) => Ok(Vec::new(alloc)),
+        Offending::Frames(_) => frame_facts(alloc, rest),
         Offending::Content { content, .. } => content_facts(alloc, content.as_slice()),
         Offending::Message { side, spoken } => {
             let side = *side;
@@ -89,47 +95,54 @@ fn push_event(
     }
 }
 
-/// Adds what is said of an offence. Session and documents hold the kept events before it.
+/// Adds what is said of an offence. Session and documents hold the kept events before it, and the rest is of
+/// its side.
 pub(crate) fn push_said<S: TextStore>(
     alloc: Global,
     lines: &mut String,
     session: &Session,
     docs: &Docs<S>,
+    rest: &[u8],
     found: &Found,
 ) -> Result<(), Memory>
     ensures { OnOk result ((raw : Raw) (event : Event) (kept : List Event) → Holds session.now docs.now kept → Reads raw event
         → IsOffending raw docs.now.terms kept found.now.offence.rule found.now.offending → offence docs.now.terms kept event ≡ Some found.now.offence.rule
-        → (facts : List SpecFact) × AreFacts docs.now.terms kept raw event found.now.offence.rule facts
+        → (facts : List SpecFact) × ((rests : Rests) → ShowsFault rests found.now.offending rest.now → AreFacts rests docs.now.terms kept raw event found.now.offence.rule facts)
         × (string_bytes lines.new ≡ string_bytes lines.old ++ (event_line found.now.offence.event event ++ fact_lines facts))) }
 {
     let Found { offence, offending } = found;
     push_event(alloc, lines, offence.event, offending)?;
-    let facts = facts_of(alloc, session, docs, offending, offence.rule)?;
+    let facts = facts_of(alloc, session, docs, rest, offending, offence.rule)?;
     push_facts(alloc, lines, facts.as_slice())
 }
 
-/// The facts on how a session ends that breaks this rule: 107 has none, 303 and 407 those on what it lacks.
-fn end_facts(alloc: Global, session: &Session, rule: u16) -> Result<Vec<Fact>, Memory>
-    ensures { IfOk result (λ facts. (kept : List Event) (who : Who) (number event : ℕ) → Stands session.now (sent_in kept)
-        → facts_view facts.items ≡ end_facts kept (no rule who number event)) }
+/// The facts on how a session ends that breaks this rule: 107 has those on the rest of a side, 303 and 407
+/// those on what the session lacks.
+fn end_facts(alloc: Global, session: &Session, rest: &[u8], rule: u16) -> Result<Vec<Fact>, Memory>
+    ensures { IfOk result (λ facts. (rests : Rests) (kept : List Event) (who : Who) (number event : ℕ) → Stands session.now (sent_in kept)
+        → rest.now ≡ rest_of rests (side_by who)
+        → facts_view facts.items ≡ end_facts rests kept (no rule who number event)) }
 {
     if rule == ENDS_INSIDE {
-        return Ok(Vec::new(alloc));
+        return unfinished_facts(alloc, rest);
     }
     lack_facts(alloc, session)
 }
 
-/// Adds what is said of how a session ends. It stands for the kept events.
+/// Adds what is said of how a session ends. It stands for the kept events, and the rest is of the side that it
+/// is said of.
 pub(crate) fn push_end(
     alloc: Global,
     lines: &mut String,
     session: &Session,
+    rest: &[u8],
     end: &Offence,
 ) -> Result<(), Memory>
-    ensures { OnOk result ((kept : List Event) → Stands session.now (sent_in kept)
-        → string_bytes lines.new ≡ string_bytes lines.old ++ said_of (end_explained kept (offence_view end.now).no)) }
+    ensures { OnOk result ((rests : Rests) (kept : List Event) → Stands session.now (sent_in kept)
+        → rest.now ≡ rest_of rests (side_by end.now.who)
+        → string_bytes lines.new ≡ string_bytes lines.old ++ said_of (end_explained rests kept (offence_view end.now).no)) }
 {
     push_end_event(lines, end.event, end.who)?;
-    let facts = end_facts(alloc, session, end.rule)?;
+    let facts = end_facts(alloc, session, rest, end.rule)?;
     push_facts(alloc, lines, facts.as_slice())
 }

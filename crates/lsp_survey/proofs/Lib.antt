@@ -3,6 +3,7 @@ pub mod Passing
 pub mod Hearing
 pub mod Tails
 pub mod FrameRules
+pub mod Rests
 pub mod Streaming
 pub mod Taking
 pub mod Ending

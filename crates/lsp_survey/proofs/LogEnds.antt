@@ -19,7 +19,7 @@ use Rattle.lsp_log.specs.declared.record.Record as code
 use Rattle.lsp_session.specs.Incomplete.{incomplete}
 use Rattle.lsp_types.specs.declared.side.Side.{Side}
 use Rattle.lsp_types.specs.declared.side.Side.TheVariants.{Editor, Server}
-use Rattle.lsp_survey.specs.Reads.{SoFar, Ended, Gives, BrokeOff, TakesEntry, Ready, IsSurveyOf}
+use Rattle.lsp_survey.specs.Reads.{SoFar, Ended, Gives, BrokeOff, TakesEntry, Ready, IsLogOf, IsSurveyOf}
 use Rattle.lsp_survey.specs.Surveys.{Awaits, Surveys, TakesOne}
 use Rattle.lsp_survey.specs.declared.offending.Heard.{Heard}
 use Rattle.lsp_survey.specs.declared.survey.Survey.{Survey}
@@ -30,7 +30,7 @@ use Rattle.lsp_verdict.specs.Calls.{call_at, calls}
 use Rattle.lsp_verdict.specs.declared.outcome.RunFault.{RunFault}
 use Rattle.lsp_verdict.specs.declared.verdict.Verdict as verdicts
 use Rattle.lsp_verdict.specs.Entries as entries
-use Rattle.lsp_verdict.specs.Entries.{IsAt, HasRecords, HasFirst, IsKnown}
+use Rattle.lsp_verdict.specs.Entries.{IsAt, HasRecords, HasFirst, IsKnown, ShowsFault}
 use Rattle.lsp_verdict.specs.Event.{Event, sent_in}
 use Rattle.lsp_verdict.specs.Given.{as_given, offence_view, verdict_view}
 use Rattle.lsp_verdict.specs.LookBack.{each_from}
@@ -52,7 +52,7 @@ use Rattle.lsp_verdict.proofs.EventCounts.{count_few, unmatched_events}
 use Rattle.lsp_verdict.proofs.ExactCounts.{capped_is, no_exact}
 use Rattle.lsp_verdict.proofs.Offences.Offending.{all_are_kept, nothing_listed}
 use Rattle.lsp_verdict.proofs.RunReading.{read_map}
-use Rattle.lsp_survey.proofs.Ending.{given_by}
+use Rattle.lsp_survey.proofs.Ending.{given_by, rest_held}
 use Rattle.lsp_survey.proofs.Reading.{event_given, notes_few, ready_begins, ready_few, survey_of}
 
 -- ---- exact numbers
@@ -128,7 +128,7 @@ module _ (completeness : Completeness) (limits : Bounds) (e : SurveyReader) (sta
     (r : Ready limits e.survey e.log.format records past notes found) (has : HasRecords limits start now e.log.format records flaw)
     (lists : (editor server : List ℕ) → HasRest limits (joined Editor records) editor → HasRest limits (joined Server records) server
     → map offence_view end.listed.items ≡ map given_by (ends_listed completeness e.survey.walk.events.docs.terms (events_of notes) (ending flaw editor server)))
-    (bad_is : option_map verdict_view end.bad ≡ bad_log_of flaw) (met : end.bad ≡ None → IsAtEnd now.bytes) where
+    (bad_is : option_map verdict_view end.bad ≡ bad_log_of flaw) (met : end.bad ≡ None → IsAtEnd now.bytes) (known : OfRead limits start now (IsLogOf e.log limits records flaw)) where
   h : Surveys limits e.survey records past notes
   h = r.surveys
 
@@ -179,19 +179,25 @@ module _ (completeness : Completeness) (limits : Bounds) (e : SurveyReader) (sta
         counted = h.walks.counted;
       }
 
-  whole_here : (log : List ℕ) → IsLog limits log e.log.format records flaw → IsSurveyOf completeness limits log (found ++ map offence_view end.listed.items) (option_map verdict_view end.bad) own past notes
+  awaits_none : Awaits limits None e.survey records h.due
+  awaits_none = subst (λ (t : Option Side). Awaits limits t e.survey records h.due) r.idle h.awaits
+
+  whole_here : (log : List ℕ) → IsLogOf e.log limits records flaw log → IsSurveyOf e completeness limits log (found ++ map offence_view end.listed.items) (option_map verdict_view end.bad) own past notes
   unfolding survey_of
-  whole_here log is_log = record {
-    survey = survey_of completeness limits log e.log.format records flaw is_log past placed notes h.are_noted (found ++ map offence_view end.listed.items) (option_map verdict_view end.bad) (summary own (events_of notes))
+  whole_here log is = record {
+    survey = survey_of completeness limits log e.log.format records flaw is.0 past placed notes h.are_noted (found ++ map offence_view end.listed.items) (option_map verdict_view end.bad) (summary own (events_of notes))
         all_listed bad_is (ap (λ (t : Terms). summary t (events_of notes)) same_terms);
     raws_are = refl;
     notes_are = refl;
     terms_are = sym same_terms;
+    editor_held = λ whole. let a = some_stream limits (joined Editor records) in rest_held limits e.survey.editor.ended e.survey.editor.decoder (joined Editor records) a.1 (h.editor_ends ∙ whole) awaits_none.1 (a.0, a.2, a.3);
+    server_held = λ whole. let a = some_stream limits (joined Server records) in rest_held limits e.survey.server.ended e.survey.server.decoder (joined Server records) a.1 (h.server_ends ∙ whole) awaits_none.2 (a.0, a.2, a.3);
+    flaw_known = is.1;
   }
 
   pub ended_here : Ended completeness limits e start now past notes found end
   ended_here = record {
-    whole = read_map limits start now (λ log. IsLog limits log e.log.format records flaw) (λ log. IsSurveyOf completeness limits log (found ++ map offence_view end.listed.items) (option_map verdict_view end.bad) own past notes) whole_here has.of_read;
+    whole = read_map limits start now (IsLogOf e.log limits records flaw) (λ log. IsSurveyOf e completeness limits log (found ++ map offence_view end.listed.items) (option_map verdict_view end.bad) own past notes) whole_here known;
     walks = h.walks;
     terms_are = same_terms;
     lists = own_found;
@@ -276,6 +282,16 @@ records_at was limits start now known records flaw same has = subst (λ (b : Bou
 
 pub broke_at : (was limits : Bounds) (start now : Told) (known : Option Format) (records : List Record) (fault : RunFault) → was ≡ limits → entries.BrokeOff was start now known records fault → entries.BrokeOff limits start now known records fault
 broke_at was limits start now known records fault same broke = subst (λ (b : Bounds). entries.BrokeOff b start now known records fault) same broke
+
+-- a log without a fault has no place of one
+pub sound_log : (r : reader.State) (limits : Bounds) (start now : Told) (records : List Record) → HasRecords limits start now r.format records None → OfRead limits start now (IsLogOf r limits records None)
+sound_log r limits start now records has = read_map limits start now (λ log. IsLog limits log r.format records None) (IsLogOf r limits records None) (λ log is. (is, tt)) has.of_read
+
+-- of the fault of a log its reader knows the place
+pub flawed_log : (r : reader.State) (was limits : Bounds) (start now : Told) (records : List Record) (fault : ℕ × LogCode) → was ≡ limits → OfRead was start now (ShowsFault r was records fault) → OfRead limits start now (IsLogOf r limits records (Some fault))
+flawed_log r was limits start now records fault same shows =
+    read_map limits start now (ShowsFault r limits records fault) (IsLogOf r limits records (Some fault)) (λ log is. (is.is_log, (is.place_is, is.line_is)))
+    (subst (λ (b : Bounds). OfRead b start now (ShowsFault r b records fault)) same shows)
 
 -- a fault of the log is one
 pub is_bad : {P : Type 0} (v : verdicts.Verdict) → Some v ≡ None → P

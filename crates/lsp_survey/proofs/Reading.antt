@@ -259,6 +259,7 @@ event_given limits e start now records past before found given at same fits size
       n = one.n;
       is_noted = one.is_noted;
       is_heard = is_heard;
+      ends = one.ends;
       so_far = record {
         records = records;
         at = at;

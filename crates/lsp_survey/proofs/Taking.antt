@@ -27,6 +27,7 @@ use Rattle.lsp_verdict.proofs.Offences.Steps.{events_of-push}
 use Rattle.lsp_verdict.proofs.OneRecord.{joined_own, joined_server, joined_editor, joined_shown, placed_one}
 use Rattle.lsp_verdict.proofs.PlacedLemmas.{placed-snoc}
 use Rattle.lsp_survey.proofs.FrameRules.{own_fault, other_fault}
+use Rattle.lsp_survey.proofs.Rests.{ended_by}
 
 -- ---- lists
 
@@ -166,6 +167,7 @@ snapshot_taken limits s w rs past notes number uri text given idle same_terms to
       n = heard.n;
       is_noted = heard.is_noted;
       is_heard = subst (λ (t : Terms). IsHeard (show number uri text) t notes heard.n given) h.terms heard.is_heard;
+      ends = tt;
       surveys = record {
         range = h.range;
         same = h.same;
@@ -218,6 +220,7 @@ editor_heard limits s t w turn rs past notes (Some given) is turns same_terms to
       n = n;
       is_noted = one.hears.is_noted;
       is_heard = subst (λ (u : Terms). IsHeard one.raw u notes n given) h.terms one.hears.is_heard;
+      ends = ended_by (record s { editor = t; walk = w; turn = turn }) Editor t.ended one.raw refl one.is_of one.ends;
       surveys = record {
         range = h.range;
         same = h.same;
@@ -261,6 +264,7 @@ server_heard limits s t w turn rs past notes (Some given) is turns same_terms to
       n = n;
       is_noted = one.hears.is_noted;
       is_heard = subst (λ (u : Terms). IsHeard one.raw u notes n given) h.terms one.hears.is_heard;
+      ends = ended_by (record s { server = t; walk = w; turn = turn }) Server t.ended one.raw refl one.is_of one.ends;
       surveys = record {
         range = h.range;
         same = h.same;

@@ -1,14 +1,20 @@
 -- The events of a log, heard one by one past each that offends, up to its end.
-use Rattle.std.specs.Prelude.{◌≡◌, ℕ, ◌+◌, ◌<◌, ◌^◌, List, [], ◌∷◌, ◌++◌, length, map, option_map, Option, Some, None, Result, Ok, Err}
+use Rattle.std.specs.Prelude.{◌≡◌, ℕ, ◌+◌, ◌<◌, ◌^◌, List, [], ◌∷◌, ◌++◌, length, map, option_map, false, Option, Some, None, Result, Ok, Err}
 use Rattle.std.specs.Io.KnownBytes.{IsAtEnd}
+use Rattle.std.specs.List.{list_any}
 use Rattle.lsp_docs.specs.Terms.{Terms, terms_of}
 use Rattle.lsp_events.specs.Standing.{Follows}
 use Rattle.lsp_frame.specs.Bounds.{Bounds}
 use Rattle.lsp_frame.specs.Told.{Told}
 use Rattle.lsp_frame.specs.declared.format.Format.{Format}
 use Rattle.lsp_log.specs.Log.{Record, IsLog}
+use Rattle.lsp_log.specs.Place.{place_of, found_behind}
+use Rattle.lsp_log.specs.Reader as reader
+use Rattle.lsp_log.specs.Reader.{shown_by}
 use Rattle.lsp_log.specs.declared.fault.LogCode.{LogCode}
-use Rattle.lsp_survey.specs.Surveys.{Surveys}
+use Rattle.lsp_types.specs.declared.side.Side.{Side}
+use Rattle.lsp_types.specs.declared.side.Side.TheVariants.{Editor, Server}
+use Rattle.lsp_survey.specs.Surveys.{Surveys, HasEnded, stream_of}
 use Rattle.lsp_survey.specs.Walking.{IsOffending, Walks}
 use Rattle.lsp_survey.specs.declared.offending.Found.{Found}
 use Rattle.lsp_survey.specs.declared.offending.Heard.{Heard}
@@ -24,7 +30,7 @@ use Rattle.lsp_verdict.specs.Offences.{Noted, Offence, IsNoted, events_of, kept_
 use Rattle.lsp_verdict.specs.Outcome.{format_or_one, log_terms}
 use Rattle.lsp_verdict.specs.Placed.{Raw, Placed}
 use Rattle.lsp_verdict.specs.RunIo.{OfRead, failures_after}
-use Rattle.lsp_verdict.specs.Survey.{IsSurvey}
+use Rattle.lsp_verdict.specs.Survey.{IsSurvey, is_frame_fault}
 use Rattle.lsp_verdict.specs.Verdict.{Summary, Verdict, summary, yes}
 use Rattle.lsp_verdict.specs.declared.completeness.Completeness.{Completeness}
 use Rattle.lsp_verdict.specs.declared.outcome.RunFault.{RunFault}
@@ -79,19 +85,36 @@ pub record GaveEvent (limits : Bounds) (e : SurveyReader) (start now : Told) (pa
   pub n : Noted
   pub is_noted : IsNoted raw n
   pub is_heard : IsHeardAs raw (terms_of limits e.survey.format) before n given
+  pub ends : HasEnded e.survey raw
   pub so_far : SoFar limits e start now (past ++ raw ∷ []) (before ++ n ∷ []) (found ++ found_in given)
 
--- the survey of a log, all of whose events are these, under these terms
-pub record IsSurveyOf (completeness : Completeness) (limits : Bounds) (log : List ℕ) (found : List Offence) (bad : Option Verdict) (terms : Terms) (past : List Raw) (notes : List Noted) : Type 0 where
+-- where a side's frames have no fault, what is held of its bytes is their rest
+abbrev pub HoldsRest : Survey → List Noted → Side → List ℕ → Type 0
+HoldsRest s notes side rest = list_any (is_frame_fault side) (events_of notes) ≡ false → rest ≡ (stream_of s side).decoder.rest
+
+-- where a log has a fault behind these records, its reader knows how many bytes stand before that, and the line that stands there
+abbrev pub KnowsFlaw : reader.State → Bounds → List ℕ → Option Format → List Record → Option (ℕ × LogCode) → Type 0
+KnowsFlaw r limits log format records None = Unit {0}
+KnowsFlaw r limits log format records (Some fault) = (r.place ≡ place_of format records) × (shown_by r ≡ found_behind limits format records log)
+
+-- the log has these records and this fault, or none, and its reader knows the place of it
+abbrev pub IsLogOf : reader.State → Bounds → List Record → Option (ℕ × LogCode) → List ℕ → Type 0
+IsLogOf r limits records fault log = IsLog limits log r.format records fault × KnowsFlaw r limits log r.format records fault
+
+-- the survey of a log, all of whose events are these, under these terms, and what the reader of it still holds
+pub record IsSurveyOf (e : SurveyReader) (completeness : Completeness) (limits : Bounds) (log : List ℕ) (found : List Offence) (bad : Option Verdict) (terms : Terms) (past : List Raw) (notes : List Noted) : Type 0 where
   pub survey : IsSurvey completeness limits log found bad (summary terms (events_of notes))
   pub raws_are : survey.session.0 ≡ past
   pub notes_are : survey.notes ≡ notes
   pub terms_are : log_terms limits survey.format ≡ terms
+  pub editor_held : HoldsRest e.survey notes Editor survey.editor
+  pub server_held : HoldsRest e.survey notes Server survey.server
+  pub flaw_known : KnowsFlaw e.log limits log survey.format survey.records survey.log_fault
 
 -- **the log ended behind these events**
 pub record Ended (completeness : Completeness) (limits : Bounds) (e : SurveyReader) (start now : Told) (past : List Raw) (notes : List Noted) (found : List Offence) (end : End) : Type 0 where
   pub of_read : OfRead limits start now (λ log. IsSurvey completeness limits log (found ++ map offence_view end.listed.items) (option_map verdict_view end.bad) (summary e.survey.walk.events.docs.terms (events_of notes)))
-  pub whole : OfRead limits start now (λ log. IsSurveyOf completeness limits log (found ++ map offence_view end.listed.items) (option_map verdict_view end.bad) e.survey.walk.events.docs.terms past notes)
+  pub whole : OfRead limits start now (λ log. IsSurveyOf e completeness limits log (found ++ map offence_view end.listed.items) (option_map verdict_view end.bad) e.survey.walk.events.docs.terms past notes)
   pub walks : Walks e.survey.walk notes
   pub terms_are : e.survey.walk.events.docs.terms ≡ log_terms limits e.log.format
   pub lists : found ≡ offences e.survey.walk.events.docs.terms notes

@@ -1,9 +1,9 @@
 //! The events of a log, heard one by one past each that offends, up to its end.
-ghost use Rattle.std.specs.Prelude.{◌≡◌, ◌<◌, [], List, None, Ok, IfOk, OnErr, option_map};
+ghost use Rattle.std.specs.Prelude.{◌≡◌, ◌<◌, [], List, None, true, Ok, IfOk, OnErr, option_map};
 ghost use Rattle.lsp_events.specs.Standing.{Follows};
 ghost use Rattle.lsp_frame.specs.Bounds.{Bounds, IsInRange};
 ghost use Rattle.lsp_frame.specs.Told.{Told};
-ghost use Rattle.lsp_log.specs.Reader.{KeepsFormat, ahead};
+ghost use Rattle.lsp_log.specs.Reader.{KeepsFormat, ahead, shown_by};
 ghost use Rattle.lsp_verdict.specs.Given.{as_given, verdict_view};
 ghost use Rattle.lsp_verdict.specs.Offences.{Noted, Offence as SpecOffence, events_of};
 ghost use Rattle.lsp_verdict.specs.Placed.{Raw};
@@ -11,7 +11,7 @@ ghost use Rattle.lsp_verdict.specs.RunIo.{OfRead};
 ghost use Rattle.lsp_verdict.specs.Survey.{first_verdict};
 ghost use Rattle.lsp_verdict.specs.Verdict.{summary, yes};
 ghost use Rattle.lsp_survey.specs.Reads.{HasHeard, Pulls, PullsHere, SoFar, TakesEntry};
-ghost use Rattle.lsp_survey.specs.Surveys.{IsRefitted};
+ghost use Rattle.lsp_survey.specs.Surveys.{IsRefitted, ShowsFront, stream_of};
 
 use crate::offending::Heard;
 use crate::survey::Survey;
@@ -19,7 +19,7 @@ use lsp_docs::Docs;
 use lsp_events::summary_of;
 use lsp_frame::{Format, Limits, Source};
 use lsp_log::LogReader;
-use lsp_rpc::Memory;
+use lsp_rpc::{Memory, Side};
 use lsp_session::Session;
 use lsp_text::Lined;
 use lsp_verdict::{Completeness, Entry, Offence, RunFault, Verdict, next_entry};
@@ -116,6 +116,35 @@ impl SurveyReader {
         ensures { result.now ≡ self.now.survey.walk.events.docs }
     {
         &self.survey.walk.events.docs
+    }
+
+    /// The bytes of a side behind its last whole frame.
+    ///
+    /// Behind a fault of its frames they go at least as far as that is seen, so that the header part is known
+    /// which has it; where there is none they are all that was read.
+    pub fn rest(&self, side: Side) -> &[u8]
+        ensures held { result.now ≡ (stream_of self.now.survey side).decoder.rest }
+        ensures broken { (limits : Bounds) (start now : Told) (past : List Raw) (notes : List Noted) (found : List SpecOffence)
+            → (so : SoFar limits self.now start now past notes found) → (stream_of self.now.survey side).ended ≡ true
+            → ShowsFront limits side so.records result.now }
+    {
+        self.survey.rest(side)
+    }
+
+    /// Behind a fault of the log, how many of its bytes stand before that: the bad record begins there; 0
+    /// where the first line is missing.
+    pub fn place(&self) -> u64
+        ensures { result ≡ self.now.log.place }
+    {
+        self.log.place()
+    }
+
+    /// Behind a fault of the log, the line that stands at its place, its LF included, as far as the log's first
+    /// 64 bytes from there on go, and 14 of a log whose first line is missing.
+    pub fn found(&self) -> &[u8]
+        ensures { result.now ≡ shown_by self.now.log }
+    {
+        self.log.found()
     }
 
     /// Hears the next event of the records read.

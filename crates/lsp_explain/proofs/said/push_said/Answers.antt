@@ -9,7 +9,7 @@ returns g c = IfOk-weaker c.push_facts.result _ _ (λ u says raw event kept hold
     let offence = c.args.found.now.offence in
     let facts = facts_view c.in_ok-facts.facts.items in (
       facts,
-      c.in_ok-facts.ensures raw event kept holds reads is offends,
+      λ rests shows. c.in_ok-facts.ensures raw event kept holds reads is offends rests shows,
       says ∙ ap (λ xs. string_bytes c.push_event.new.lines ++ fact_lines (facts_view xs)) c.as_slice.ensures.value
           ∙ ap (λ w. w ++ fact_lines facts) (c.in_ok-push_event.ensures raw event c.args.docs.now.terms kept offence.rule reads is)
           ∙ append_assoc (string_bytes c.args.lines.now) (event_line offence.event event) (fact_lines facts),

@@ -7,7 +7,7 @@ use Rattle.lsp_verdict.proofs.Entries.{is_first, keeps_known}
 use Rattle.lsp_verdict.proofs.RunReading.{read_map}
 use Rattle.lsp_survey.specs.Reads.{HasHeard}
 use Rattle.lsp_survey.proofs.Reading.{has_heard, heard_before, idle_ready, refitted, ready_broke, ready_begins}
-use Rattle.lsp_survey.proofs.LogEnds.{broke_at, end_first, fewer_first, is_bad, ended_here, record_heard, record_refused, record_taken, records_at}
+use Rattle.lsp_survey.proofs.LogEnds.{broke_at, end_first, fewer_first, is_bad, ended_here, record_heard, record_refused, record_taken, records_at, sound_log, flawed_log}
 use Rattle.lsp_survey.proofs.survey_reader.SurveyReader.take_entry.Goals as goal
 
 pub returns-in_err-entry-clause-answer : goal.returns-in_err-entry-clause-answer
@@ -69,18 +69,19 @@ returns-in_ok-ends-in-End-clause-answer g c = λ limits start past before found 
     let has = records_at _ limits start _ log.format so.records None so.same at.0 in
     let ready = refitted limits _ _ so.records past before found _ _ (idle_ready limits old start _ past before found c.requires.idle so) (keeps_known _ _ c.in_ok-entry.ensures.format) c.follow_format.ensures.survey in
     ended_here old.completeness limits (record old { log = log; survey = c.follow_format.new.survey }) start _ so.records past before found _ None ready has
-    (λ editor server of_editor of_server. c.in_ok-ends-in-End.ensures limits so.records past before editor server ready.surveys of_editor of_server) refl (λ none. at.1)
+    (λ editor server of_editor of_server. c.in_ok-ends-in-End.ensures limits so.records past before editor server ready.surveys of_editor of_server) refl (λ none. at.1) (sound_log log limits start _ so.records has)
 
 pub returns-in-Bad-clause-answer : goal.returns-in-Bad-clause-answer
 returns-in-Bad-clause-answer g c = λ limits start past before found so.
     let old = c.args.self.now in
     let log = c.next_entry.new.log in
     let at = rw c.in-Bad.is at (c.in_ok-entry.ensures.answer start so.records so.at) in
+    let found_there = rw c.in-Bad.is at (c.in_ok-entry.ensures.found start so.records so.at) in
     let flaw = Some (c.in-Bad.number, c.in-Bad.fault) in
     let has = records_at _ limits start _ log.format so.records flaw so.same at in
     let ready = refitted limits _ _ so.records past before found _ _ (idle_ready limits old start _ past before found c.requires.idle so) (keeps_known _ _ c.in_ok-entry.ensures.format) c.follow_format.ensures.survey in
     ended_here old.completeness limits (record old { log = log; survey = c.follow_format.new.survey }) start _ so.records past before found _ flaw ready has
-    (λ editor server of_editor of_server. ap (map offence_view) c.new.ensures.items) refl (is_bad _)
+    (λ editor server of_editor of_server. ap (map offence_view) c.new.ensures.items) refl (is_bad _) (flawed_log log _ limits start _ so.records (c.in-Bad.number, c.in-Bad.fault) so.same found_there)
 
 pub returns-in_err-entry-clause-broke : goal.returns-in_err-entry-clause-broke
 returns-in_err-entry-clause-broke g c =
