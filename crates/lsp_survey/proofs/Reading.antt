@@ -15,7 +15,7 @@ use Rattle.lsp_log.specs.Reader as reader
 use Rattle.lsp_log.specs.declared.fault.LogCode.{LogCode}
 use Rattle.lsp_types.specs.declared.side.Side.{Side}
 use Rattle.lsp_types.specs.declared.side.Side.TheVariants.{Editor, Server}
-use Rattle.lsp_survey.specs.Reads.{BeginsSurvey, HasHeard, SoFar, Finds, IsHeardAs, found_in, GaveEvent, Ended, BrokeOff, Gives, PullsHere, Ready}
+use Rattle.lsp_survey.specs.Reads.{GoesBehind, SoFarBehind, GivesBehind, HearsBehind, BeginsSurvey, HasHeard, SoFar, Finds, IsHeardAs, found_in, GaveEvent, Ended, BrokeOff, Gives, PullsHere, Ready}
 use Rattle.lsp_survey.specs.Surveys.{Awaits, Surveys, HearsOne, HearsHere, IsFitted, IsRefitted}
 use Rattle.lsp_survey.specs.Walking.{IsHeard, Offends}
 use Rattle.lsp_survey.specs.declared.offending.Heard.{Heard}
@@ -23,6 +23,7 @@ use Rattle.lsp_survey.specs.declared.offending.Heard.TheVariants as heard
 use Rattle.lsp_survey.specs.declared.survey.Survey.{Survey}
 use Rattle.lsp_survey.specs.declared.survey_reader.End.{End}
 use Rattle.lsp_survey.specs.declared.survey_reader.Next.{Next}
+use Rattle.lsp_survey.specs.declared.survey_reader.Next.TheVariants as next
 use Rattle.lsp_survey.specs.declared.survey_reader.SurveyReader.{SurveyReader}
 use Rattle.lsp_verdict.specs.Entries as entries
 use Rattle.lsp_verdict.specs.Entries.{IsAt, HasRecords, HasFirst, IsKnown}
@@ -227,11 +228,11 @@ module _ (completeness : Completeness) (limits : Bounds) (e : SurveyReader) (sta
 
 -- ---- one event
 
-small_events : (limits : Bounds) → IsInRange limits → (notes : List Noted) → length notes ≤ limits.log → length (events_of notes) + 1 < 2 ^ 64
+pub small_events : (limits : Bounds) → IsInRange limits → (notes : List Noted) → length notes ≤ limits.log → length (events_of notes) + 1 < 2 ^ 64
 small_events limits sizes notes few = omega (arith, sizes.log_high, few, length-map notes (λ (n : Noted). n.event))
 
 -- its numbers are exact
-exact_event : (limits : Bounds) (raw : Raw) (terms : Terms) (before : List Noted) (n : Noted) (given : Heard) → length (events_of before) + 1 < 2 ^ 64 → IsHeard raw terms before n given → IsHeardAs raw terms before n given
+pub exact_event : (limits : Bounds) (raw : Raw) (terms : Terms) (before : List Noted) (n : Noted) (given : Heard) → length (events_of before) + 1 < 2 ^ 64 → IsHeard raw terms before n given → IsHeardAs raw terms before n given
 exact_event limits raw terms before n heard.Kept small is = is
 exact_event limits raw terms before n (heard.Offence found) small is = record {
   rule = is.rule;
@@ -240,7 +241,7 @@ exact_event limits raw terms before n (heard.Offence found) small is = record {
   is_such = is.is_such;
 }
 
-one_listed : (terms : Terms) (before : List Noted) (n : Noted) (raw : Raw) (given : Heard) → IsHeardAs raw terms before n given → offences terms (before ++ n ∷ []) ≡ offences terms before ++ found_in given
+pub one_listed : (terms : Terms) (before : List Noted) (n : Noted) (raw : Raw) (given : Heard) → IsHeardAs raw terms before n given → offences terms (before ++ n ∷ []) ≡ offences terms before ++ found_in given
 one_listed terms before n raw heard.Kept is =
     offences-push terms before n ∙ ap (λ (o : Option ℕ). offences terms before ++ cons_option (option_map (offence_by terms before n) o) []) is
 one_listed terms before n raw (heard.Offence found) is =
@@ -249,7 +250,7 @@ one_listed terms before n raw (heard.Offence found) is =
     ∙ ap (λ (o : Offence). offences terms before ++ o ∷ []) (sym is.is)
 
 -- one more event was heard of the records read
-pub event_given : (limits : Bounds) (e : SurveyReader) (start now : Told) (records : List Record) (past : List Raw) (before : List Noted) (found : List Offence) (given : Heard) → IsAt e.log start now records → e.log.limits ≡ limits → e.survey.format ≡ format_or_one e.log.format
+unfoldable pub event_given : (limits : Bounds) (e : SurveyReader) (start now : Told) (records : List Record) (past : List Raw) (before : List Noted) (found : List Offence) (given : Heard) → IsAt e.log start now records → e.log.limits ≡ limits → e.survey.format ≡ format_or_one e.log.format
     → IsInRange limits → length before ≤ limits.log → found ≡ offences (terms_of limits e.survey.format) before → HearsOne limits e.survey records past before given → GaveEvent limits e start now past before found given
 event_given limits e start now records past before found given at same fits sizes few lists one =
     let terms = terms_of limits e.survey.format in
@@ -335,7 +336,7 @@ ready_few limits s start now known records past notes found r has =
     few_first Ignored limits known s records past notes found r.fits r.early r.surveys r.lists has.bytes (has.holds has.bytes ([], sym (append-nil has.bytes), λ end. refl))
 
 -- the next event of the records read was heard, or all were
-pub heard_here : (completeness : Completeness) (limits : Bounds) (e : SurveyReader) (s : Survey) (start now : Told) (past : List Raw) (before : List Noted) (found : List Offence) (answer : Option Heard) → s.format ≡ e.survey.format
+unfoldable pub heard_here : (completeness : Completeness) (limits : Bounds) (e : SurveyReader) (s : Survey) (start now : Told) (past : List Raw) (before : List Noted) (found : List Offence) (answer : Option Heard) → s.format ≡ e.survey.format
     → (so : SoFar limits e start now past before found) → HearsHere limits s so.records past before answer → PullsHere completeness limits (record e { survey = s }) start now past before found (Ok answer)
 heard_here completeness limits e s start now past before found None same so here = record {
   records = so.records;
@@ -348,6 +349,33 @@ heard_here completeness limits e s start now past before found None same so here
 heard_here completeness limits e s start now past before found (Some given) same so here =
     event_given limits (record e { survey = s }) start now so.records past before found given so.at so.same (same ∙ so.format) so.surveys.range (so_far_few completeness limits e start now past before found so)
     (so.lists ∙ ap (λ (f : Format). offences (terms_of limits f) before) (sym same)) here
+
+-- ---- the records go on
+
+pub behind_then : (a b c : List Record) → GoesBehind a b → GoesBehind b c → GoesBehind a c
+behind_then a b c (more, is) (rest, goes) = (more ++ rest, goes ∙ ap (λ (w : List Record). w ++ rest) is ∙ append_assoc a more rest)
+
+pub not_behind : (records : List Record) → GoesBehind records records
+not_behind records = ([], sym (append-nil records))
+
+pub gives_behind : (a b : List Record) (k m : Completeness) (limits : Bounds) (e : SurveyReader) (start now : Told) (past : List Raw) (before : List Noted) (found : List Offence) (given : Next) → k ≡ m → GoesBehind a b
+    → GivesBehind b k limits e start now past before found given → GivesBehind a m limits e start now past before found given
+gives_behind a b k m limits e start now past before found (next.Event given) same goes (gave, more) = (gave, behind_then a b gave.so_far.records goes more)
+gives_behind a b k m limits e start now past before found (next.End end) same goes ended =
+    subst (λ (c : Completeness). GivesBehind a c limits e start now past before found (next.End end)) same
+    (record {
+      bytes = ended.bytes;
+      ended = ended.ended;
+      read = ended.read;
+      holds = λ log on. let r = ended.holds log on in (r.0, behind_then a b r.0.survey.records goes r.1);
+    })
+
+-- hearing takes no record
+pub heard_behind : (limits : Bounds) (e : SurveyReader) (s : Survey) (start now : Told) (past : List Raw) (before : List Noted) (found : List Offence) (answer : Option Heard) → s.format ≡ e.survey.format
+    → (so : SoFar limits e start now past before found) → HearsHere limits s so.records past before answer → HearsBehind so.records limits (record e { survey = s }) start now past before found answer
+unfolding heard_here event_given
+heard_behind limits e s start now past before found None same so here = (heard_here Ignored limits e s start now past before found None same so here, not_behind so.records)
+heard_behind limits e s start now past before found (Some given) same so here = (heard_here Ignored limits e s start now past before found (Some given) same so here, not_behind so.records)
 
 -- ---- whether or not the session has to be complete
 

@@ -158,3 +158,33 @@ pub record Ready (limits : Bounds) (s : Survey) (format : Option Format) (record
   pub fits : s.format ≡ format_or_one format
   pub early : format ≡ None → records ≡ []
   pub lists : found ≡ offences (terms_of limits s.format) notes
+
+-- ---- records that go on
+
+-- these records go on behind those
+abbrev pub GoesBehind : List Record → List Record → Type 0
+GoesBehind front records = (more : List Record) × (records ≡ front ++ more)
+
+-- as far as the log was heard, its records go on behind these
+abbrev pub SoFarBehind : List Record → Bounds → SurveyReader → Told → Told → List Raw → List Noted → List Offence → Type 0
+SoFarBehind front limits e start now past notes found = (so : SoFar limits e start now past notes found) × GoesBehind front so.records
+
+abbrev pub GaveBehind : List Record → Bounds → SurveyReader → Told → Told → List Raw → List Noted → List Offence → Heard → Type 0
+GaveBehind front limits e start now past before found given = (gave : GaveEvent limits e start now past before found given) × GoesBehind front gave.so_far.records
+
+-- the records of the log do
+abbrev pub EndedBehind : List Record → Completeness → Bounds → SurveyReader → Told → Told → List Raw → List Noted → List Offence → End → Type 0
+EndedBehind front completeness limits e start now past notes found end =
+    OfRead limits start now (λ log. (is : IsSurveyOf e completeness limits log (found ++ map offence_view end.listed.items) (option_map verdict_view end.bad) e.survey.walk.events.docs.terms past notes) × GoesBehind front is.survey.records)
+
+abbrev pub GivesBehind : List Record → Completeness → Bounds → SurveyReader → Told → Told → List Raw → List Noted → List Offence → Next → Type 0
+GivesBehind front completeness limits e start now past before found (next.Event given) = GaveBehind front limits e start now past before found given
+GivesBehind front completeness limits e start now past before found (next.End end) = EndedBehind front completeness limits e start now past before found end
+
+abbrev pub HearsBehind : List Record → Bounds → SurveyReader → Told → Told → List Raw → List Noted → List Offence → Option Heard → Type 0
+HearsBehind front limits e start now past before found None = SoFarBehind front limits e start now past before found
+HearsBehind front limits e start now past before found (Some given) = GaveBehind front limits e start now past before found given
+
+abbrev pub TakesBehind : List Record → Completeness → Bounds → SurveyReader → Told → Told → List Raw → List Noted → List Offence → Option Next → Type 0
+TakesBehind front completeness limits e start now past before found None = SoFarBehind front limits e start now past before found
+TakesBehind front completeness limits e start now past before found (Some given) = GivesBehind front completeness limits e start now past before found given

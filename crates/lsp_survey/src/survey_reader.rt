@@ -10,7 +10,7 @@ ghost use Rattle.lsp_verdict.specs.Placed.{Raw};
 ghost use Rattle.lsp_verdict.specs.RunIo.{OfRead};
 ghost use Rattle.lsp_verdict.specs.Survey.{first_verdict};
 ghost use Rattle.lsp_verdict.specs.Verdict.{summary, yes};
-ghost use Rattle.lsp_survey.specs.Reads.{HasHeard, Pulls, PullsHere, SoFar, TakesEntry};
+ghost use Rattle.lsp_survey.specs.Reads.{GivesBehind, HasHeard, HearsBehind, Pulls, PullsHere, SoFar, TakesBehind, TakesEntry};
 ghost use Rattle.lsp_survey.specs.Surveys.{IsRefitted, ShowsFront, stream_of};
 
 use crate::offending::Heard;
@@ -77,6 +77,9 @@ impl SurveyReader {
         ensures format { KeepsFormat self.old.log.format self.new.log.format }
         ensures answer { (limits : Bounds) (start : Told) (past : List Raw) (before : List Noted) (found : List SpecOffence) → SoFar limits self.old start (R.told reader.old) past before found
             → Pulls self.old.completeness limits self.new start (R.told reader.new) past before found result }
+        // The records of the log go on behind those before.
+        ensures later { IfOk result (λ next. (limits : Bounds) (start : Told) (past : List Raw) (before : List Noted) (found : List SpecOffence) → (so : SoFar limits self.old start (R.told reader.old) past before found)
+            → GivesBehind so.records self.old.completeness limits self.new start (R.told reader.new) past before found next) }
         // Where reading breaks off, the log read begins with the events heard before.
         ensures broke { OnErr result ((limits : Bounds) (start : Told) (past : List Raw) (before : List Noted) (found : List SpecOffence) → SoFar limits self.old start (R.told reader.old) past before found
             → OfRead limits start (R.told reader.new) (HasHeard limits self.old.log.format past)) }
@@ -154,6 +157,8 @@ impl SurveyReader {
         ensures idle { result ≡ Ok None → self.new.survey.turn ≡ None }
         ensures answer { (limits : Bounds) (start now : Told) (past : List Raw) (before : List Noted) (found : List SpecOffence) → SoFar limits self.old start now past before found
             → PullsHere self.old.completeness limits self.new start now past before found result }
+        ensures later { IfOk result (λ answer. (limits : Bounds) (start now : Told) (past : List Raw) (before : List Noted) (found : List SpecOffence) → (so : SoFar limits self.old start now past before found)
+            → HearsBehind so.records limits self.new start now past before found answer) }
         ensures broke { OnErr result ((limits : Bounds) (start now : Told) (past : List Raw) (before : List Noted) (found : List SpecOffence) → SoFar limits self.old start now past before found
             → OfRead limits start now (HasHeard limits self.old.log.format past)) }
     {
@@ -169,6 +174,8 @@ impl SurveyReader {
         ensures less { result ≡ Ok None → ahead self.new.log < ahead self.old.log }
         ensures answer { (limits : Bounds) (start : Told) (past : List Raw) (before : List Noted) (found : List SpecOffence) → SoFar limits self.old start (R.told reader.old) past before found
             → TakesEntry self.old.completeness limits self.new start (R.told reader.new) past before found result }
+        ensures later { IfOk result (λ answer. (limits : Bounds) (start : Told) (past : List Raw) (before : List Noted) (found : List SpecOffence) → (so : SoFar limits self.old start (R.told reader.old) past before found)
+            → TakesBehind so.records self.old.completeness limits self.new start (R.told reader.new) past before found answer) }
         ensures broke { OnErr result ((limits : Bounds) (start : Told) (past : List Raw) (before : List Noted) (found : List SpecOffence) → SoFar limits self.old start (R.told reader.old) past before found
             → OfRead limits start (R.told reader.new) (HasHeard limits self.old.log.format past)) }
     {
