@@ -93,6 +93,11 @@ REST_REPORT = b"no 107 editor 1 event 1\nstream ends inside a frame\n"
 
 # A header part that is none, and behind it a message of either side.
 BROKEN = HEAD + b"E 4\n\r\n\r\n\n" + EXIT + STOPPED
+BROKEN_REPORT = b"no 102 editor 1 event 1\nbad header line\n"
+
+# A header part without a length, while the other side is inside a frame.
+MISSPELT = HEAD + b"E 3\nabc\n" + b"S 23\nContent-Lenght: 2\r\n\r\n{}\n"
+MISSPELT_REPORT = b"no 103 server 1 event 1\nnot exactly one Content-Length\n"
 
 
 def changed(version, *changes):
@@ -167,7 +172,13 @@ FACTS = [
     (REVERSES, REVERSES_REPORT, REVERSED_FACTS),
     (DIFFERS, DIFFERS_REPORT, DIFFERS_FACTS),
     (EXITS, EXITS_REPORT, b'event 9 editor notification "exit"\nphase exited\n'),
-    (REST, REST_REPORT, b"event 1 editor\n"),
+    (REST, REST_REPORT, b'event 1 editor\nbegins "abc"\n'),
+    (BROKEN, BROKEN_REPORT, rb'''event 1 editor
+begins "\r\n\r\n"
+'''),
+    (MISSPELT, MISSPELT_REPORT, rb'''event 1 server
+begins "Content-Lenght: 2\r\n\r\n"
+'''),
 ]
 
 # The same of sessions that have to be complete.
@@ -205,6 +216,17 @@ BAD_LOGS = {
     b"T 1 1 1\na\n\xff\n": b"bad log L5 record 1\nsnapshot is not UTF-8\n",
 }
 
+# The lines that stand at the places of these faults, as JSON text.
+BAD_LINES = {
+    b"E 0\n": rb'"E 0\n"',
+    b"E 1048577\n": rb'"E 1048577\n"',
+    b"T -0 1 0\n": rb'"T -0 1 0\n"',
+    b"X\n": rb'"X\n"',
+    b"X": b'"X"',
+    b"E 2\nab": rb'"E 2\n"',
+    b"T 1 1 1\na\n\xff\n": rb'"T 1 1 1\n"',
+}
+
 BAD_FIRST_LINE = b"bad log L1 record 0\nbad first line\n"
 
 # What doesn't begin as a log does, and a word of the hint that has to be given.
@@ -218,6 +240,19 @@ NO_LOGS = {
     b"\x28\xb5\x2f\xfd\x00": b"compressed",
     b"lsp-session 9\n": b"format",
     b"hello\n": b"docs/LOG_FORMAT.md",
+}
+
+# How they begin, as JSON text: at most the 14 bytes that a first line has, up to a line end, as far as they are UTF-8.
+NO_LOG_LINES = {
+    b"": b'""',
+    b"Content-Length: 2\r\n\r\n{}": b'"Content-Length"',
+    b"lsp-session 1\r\nE 1\r\n": rb'"lsp-session 1\r"',
+    b"lsp-session 2\r\nE 1\r\n": rb'"lsp-session 2\r"',
+    b"\xef\xbb\xbflsp-session 1\n": b'"\xef\xbb\xbflsp-session"',
+    b"\x1f\x8b\x08\x00\x00\x00\x00\x00": rb'"\u001f"',
+    b"\x28\xb5\x2f\xfd\x00": b'"("',
+    b"lsp-session 9\n": rb'"lsp-session 9\n"',
+    b"hello\n": rb'"hello\n"',
 }
 
 EXIT_CONTENT = b'{"jsonrpc":"2.0","method":"exit"}'

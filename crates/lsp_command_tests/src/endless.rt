@@ -24,7 +24,8 @@ const WHOLE: u64 = 371;
 const REPORT: &str = "bad log L6 record 372\nlog too long\n";
 
 /// The same with what explains it.
-const EXPLAINED: &str = "bad log L6 record 372\nlog too long\nrecord 372\n";
+const EXPLAINED: &str =
+    "bad log L6 record 372\nlog too long\nrecord 372\nbyte 4095\nfound \"T\"\n";
 
 /// A frame of 97 bytes, over and over: 42 of them are whole.
 const FRAME: &[u8] =

@@ -127,6 +127,8 @@ HEAD
 > bad log L2 record 1
 > bad record line
 > record 1
+> byte 14
+> found "X\n"
 explain bad-log"#;
 
 #[test]

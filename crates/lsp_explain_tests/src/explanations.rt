@@ -30,7 +30,7 @@ fn check_row(rt: &impl Abort, alloc: Global, row: &Row, completeness: Completene
     assert!(rt; written.as_slice() == wanted.as_bytes(), "{wanted}");
 }
 
-const SESSIONS: [Row; 12] = [
+const SESSIONS: [Row; 15] = [
     (
         "lsp-session 1\nE 97\nContent-Length: 75\r\n\r\n{\"jsonrpc\":\"2.0\",\"id\":1,\"method\":\"initialize\",\"params\":{\"capabilities\":{}}}\nS 95\nContent-Length: 73\r\n\r\n{\"jsonrpc\":\"2.0\",\"id\":1,\"result\":{\"capabilities\":{\"textDocumentSync\":2}}}\nE 74\nContent-Length: 52\r\n\r\n{\"jsonrpc\":\"2.0\",\"method\":\"initialized\",\"params\":{}}\n",
         "yes\nmessages 2 1\nsnapshots 0 unmatched 0\nencoding utf-16 sync incremental\n",
@@ -65,11 +65,15 @@ const SESSIONS: [Row; 12] = [
     ),
     (
         "lsp-session 1\nS 8\noops\r\n\r\n\n",
-        "no 102 server 1 event 1\nbad header line\nevent 1 server\n",
+        "no 102 server 1 event 1\nbad header line\nevent 1 server\nbegins \"oops\\r\\n\\r\\n\"\n",
+    ),
+    (
+        "lsp-session 1\nE 3\nabc\nS 25\nContent-Lenght: 2\r\n\r\n{}xx\n",
+        "no 103 server 1 event 1\nnot exactly one Content-Length\nevent 1 server\nbegins \"Content-Lenght: 2\\r\\n\\r\\n\"\n",
     ),
     (
         "lsp-session 1\nE 97\nContent-Length: 75\r\n\r\n{\"jsonrpc\":\"2.0\",\"id\":1,\"method\":\"initialize\",\"params\":{\"capabilities\":{}}}\nS 95\nContent-Length: 73\r\n\r\n{\"jsonrpc\":\"2.0\",\"id\":1,\"result\":{\"capabilities\":{\"textDocumentSync\":2}}}\nE 74\nContent-Length: 52\r\n\r\n{\"jsonrpc\":\"2.0\",\"method\":\"initialized\",\"params\":{}}\nE 23\nContent-Length: 9\r\n\r\nab\n",
-        "no 107 editor 3 event 4\nstream ends inside a frame\nevent 4 editor\n",
+        "no 107 editor 3 event 4\nstream ends inside a frame\nevent 4 editor\nbegins \"Content-Length: 9\\r\\n\\r\\nab\"\n",
     ),
     (
         "lsp-session 1\nE 140\nContent-Length: 117\r\n\r\n{\"jsonrpc\":\"2.0\",\"id\":1,\"method\":\"initialize\",\"params\":{\"capabilities\":{\"general\":{\"positionEncodings\":[\"utf-32\"]}}}}\nS 101\nContent-Length: 79\r\n\r\n{\"jsonrpc\":\"2.0\",\"id\":1,\"result\":{\"capabilities\":{\"positionEncoding\":\"utf-8\"}}}\n",
@@ -77,7 +81,15 @@ const SESSIONS: [Row; 12] = [
     ),
     (
         "lsp-session 1\nE 2\nab",
-        "bad log L4 record 1\nrecord cut short or its line end missing\nrecord 1\n",
+        "bad log L4 record 1\nrecord cut short or its line end missing\nrecord 1\nbyte 14\nfound \"E 2\\n\"\n",
+    ),
+    (
+        "lsp-session 1\nE 3\nabc\nX 4\nabcd\n",
+        "bad log L2 record 2\nbad record line\nrecord 2\nbyte 22\nfound \"X 4\\n\"\n",
+    ),
+    (
+        "lsp-session\nE 3\nabc\n",
+        "bad log L1 record 0\nbad first line\nrecord 0\nbyte 0\nfound \"lsp-session\\n\"\n",
     ),
 ];
 
