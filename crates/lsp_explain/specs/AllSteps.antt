@@ -1,13 +1,14 @@
 -- What the steps of a run that explains all that is wrong with a log answer.
-use Rattle.std.specs.Prelude.{◌≡◌, ℕ, ◌<◌, ◌^◌, List, [], ◌++◌, map, filter, length, Option, option_map, option_to_list, Result, Ok, Err}
+use Rattle.std.specs.Prelude.{◌≡◌, ℕ, ◌<◌, ◌^◌, List, [], ◌++◌, map, filter, length, Option, option_map, Result, Ok, Err}
 use Rattle.std.specs.Io.KnownBytes.{IsAtEnd}
-use Rattle.std.specs.List.{AllZip, flat_map}
+use Rattle.std.specs.List.{AllZip, cons_option, flat_map}
 use Rattle.lsp_docs.specs.Terms.{Terms, terms_of}
 use Rattle.lsp_frame.specs.Bounds.{Bounds}
 use Rattle.lsp_frame.specs.Sink.{Wrote, Stopped}
 use Rattle.lsp_frame.specs.Told.{Told, Took}
+use Rattle.lsp_log.specs.Log.{Record}
 use Rattle.lsp_session.specs.State.{Stands}
-use Rattle.lsp_survey.specs.Reads.{GaveEvent, Ended}
+use Rattle.lsp_survey.specs.Reads.{GaveEvent, Ended, EndedBehind}
 use Rattle.lsp_survey.specs.Reported.{IsTally, IsYes, sink_after}
 use Rattle.lsp_survey.specs.declared.offending.Heard as code_heard
 use Rattle.lsp_survey.specs.declared.survey_reader.End.{End}
@@ -26,27 +27,32 @@ use Rattle.lsp_verdict.specs.declared.outcome.RunFault.TheVariants as faults
 use Rattle.lsp_verdict.specs.declared.verdict.Verdict as code
 use Rattle.lsp_explain.specs.AllExplained.{is_cause, causes, cause_lines, all_closing, IsAllExplained, BeginsAllExplained}
 use Rattle.lsp_explain.specs.Explained.{Heard, Breach, Explained, Explains, breach_at, raws_of, notes_of, end_explained}
-use Rattle.lsp_explain.specs.RunSteps.{IsSound, summary_behind}
+use Rattle.lsp_explain.specs.FlawFacts.{Rests}
+use Rattle.lsp_explain.specs.RunSteps.{IsSound, RestsBehind, flaw_held, rests_held, summary_behind}
 use Rattle.lsp_explain.specs.declared.run.Explanation.{Explanation}
 
 -- ---- an event
 
 -- the cause that an event is behind these, if it is one
 abbrev pub cause_at : Terms → List Heard → Heard → List Breach
-cause_at terms hs h = filter (is_cause terms) (option_to_list (breach_at terms hs h))
+cause_at terms hs h = filter (is_cause terms) (cons_option (breach_at terms hs h) [])
+
+-- this is said of these, whatever records follow
+abbrev pub AreSaid : Bounds → List Record → Terms → List Breach → List Explained → Type 0
+AreSaid limits records terms found said = (rests : Rests) → RestsBehind limits records rests → AllZip (Explains rests terms) found said
 
 -- this is said of it, and its lines written, or after a write fault a prefix of them; for want of memory nothing is written
-abbrev pub TellsCause : Terms → List Heard → Heard → Told → Told → Result (Unit {0}) RunFault → Type 0
-TellsCause terms hs h old new (Ok u) = (said : List Explained) × AllZip (Explains terms) (cause_at terms hs h) said × Wrote old new (flat_map cause_lines said)
-TellsCause terms hs h old new (Err faults.Write) = (said : List Explained) × AllZip (Explains terms) (cause_at terms hs h) said × Stopped old new (flat_map cause_lines said)
-TellsCause terms hs h old new (Err faults.Memory) = new ≡ old
-TellsCause terms hs h old new (Err faults.Read) = ⊥
+abbrev pub TellsCause : Bounds → List Record → Terms → List Heard → Heard → Told → Told → Result (Unit {0}) RunFault → Type 0
+TellsCause limits records terms hs h old new (Ok u) = (said : List Explained) × AreSaid limits records terms (cause_at terms hs h) said × Wrote old new (flat_map cause_lines said)
+TellsCause limits records terms hs h old new (Err faults.Write) = (said : List Explained) × AreSaid limits records terms (cause_at terms hs h) said × Stopped old new (flat_map cause_lines said)
+TellsCause limits records terms hs h old new (Err faults.Memory) = new ≡ old
+TellsCause limits records terms hs h old new (Err faults.Read) = ⊥
 
 -- whatever was heard before it
 abbrev pub TellsHeard : SurveyReader → code_heard.Heard → Told → Told → Result (Unit {0}) RunFault → Type 0
 TellsHeard e given old new result =
     (limits : Bounds) (start now : Told) (hs : List Heard) (prior : List Offence) (gave : GaveEvent limits e start now (raws_of hs) (notes_of hs) prior given)
-    → TellsCause (terms_of limits e.survey.format) hs (record { raw = gave.raw; note = gave.n }) old new result
+    → TellsCause limits gave.so_far.records (terms_of limits e.survey.format) hs (record { raw = gave.raw; note = gave.n }) old new result
 
 -- ---- a log
 
@@ -76,7 +82,9 @@ pub record CausesTold (completeness : Completeness) (limits : Bounds) (e : Surve
   pub said : List Explained
   pub found : List Offence
   pub ended : Ended completeness limits e start now (raws_of hs) (notes_of hs) found end
-  pub explains : AllZip (Explains e.survey.walk.events.docs.terms) (causes e.survey.walk.events.docs.terms hs) said
+  pub records : List Record
+  pub ended_behind : EndedBehind records completeness limits e start now (raws_of hs) (notes_of hs) found end
+  pub are_said : AreSaid limits records e.survey.walk.events.docs.terms (causes e.survey.walk.events.docs.terms hs) said
   pub tally : IsTally t found
   pub wrote : Wrote old new (flat_map cause_lines said)
 
@@ -87,20 +95,20 @@ TellsCauses completeness limits e t start now old new (Err fault) = PartTold com
 -- ---- the end
 
 -- what is said of the end of a session, behind these kept events
-abbrev pub ends_said : List Event → List code_offence.Offence → List Explained
-ends_said kept listed = map (λ (o : Offence). end_explained kept o.no) (map offence_view listed)
+abbrev pub ends_said : Rests → List Event → List code_offence.Offence → List Explained
+ends_said rests kept listed = map (λ (o : Offence). end_explained rests kept o.no) (map offence_view listed)
 
 -- what is written behind these offences: what is said of the end of the log, and the closing
 abbrev pub IsClosing : SurveyReader → Tally → End → Explanation → Type 0
 IsClosing e t end x =
     (found : List Offence) (notes : List Noted) (kept : List Event) → IsTally t found → (found ≡ [] → IsSound e notes) → Stands e.survey.walk.events.session (sent_in kept)
     → length (found ++ map offence_view end.listed.items) < 2 ^ 64
-    → (x.text.items ≡ flat_map cause_lines (ends_said kept end.listed.items) ++ all_closing (found ++ map offence_view end.listed.items) (option_map verdict_view end.bad) (summary_behind e notes))
+    → (x.text.items ≡ flat_map cause_lines (ends_said (rests_held e) kept end.listed.items) ++ all_closing (found ++ map offence_view end.listed.items) (option_map verdict_view end.bad) (flaw_held e (option_map verdict_view end.bad)) (summary_behind e notes))
     × (verdict_view x.verdict ≡ first_verdict (found ++ map offence_view end.listed.items) (option_map verdict_view end.bad) (summary_behind e notes))
 
 -- the same where what is listed of the end is already among those found
 abbrev pub IsLast : SurveyReader → Tally → Option code.Verdict → Explanation → Type 0
 IsLast e t bad x =
     (found : List Offence) (notes : List Noted) → IsTally t found → (found ≡ [] → IsSound e notes) → length found < 2 ^ 64
-    → (x.text.items ≡ all_closing found (option_map verdict_view bad) (summary_behind e notes))
+    → (x.text.items ≡ all_closing found (option_map verdict_view bad) (flaw_held e (option_map verdict_view bad)) (summary_behind e notes))
     × (verdict_view x.verdict ≡ first_verdict found (option_map verdict_view bad) (summary_behind e notes))

@@ -17,11 +17,11 @@ ghost use Rattle.lsp_verdict.specs.Survey.{bad_lines};
 ghost use Rattle.lsp_explain.specs.AllExplained.{BeginsAllExplained, IsAllExplained, cause_lines};
 ghost use Rattle.lsp_explain.specs.AllSteps.{CausesTold, IsClosing, IsLast, TellsAll, TellsCauses, TellsHeard, ends_said};
 ghost use Rattle.lsp_explain.specs.Explained.{flaw_lines};
+ghost use Rattle.lsp_explain.specs.RunSteps.{flaw_held, rests_held};
 
-use crate::run::{Explanation, explain_found, explain_listed, explain_sound, flaw_text};
+use crate::run::{Explanation, explain_found, explain_listed, explain_sound, flaw_text, side_by};
 use lsp_frame::{Limits, Sink, Source, put_all};
 use lsp_rpc::Memory;
-use lsp_session::Session;
 use lsp_survey::{End, Found, Heard, Next, SurveyReader, Tally};
 use lsp_verdict::{
     Completeness, Offence, Outcome, RunFault, Summary, Verdict, found_report, report_of,
@@ -171,7 +171,7 @@ fn closing_of(
     ensures { IfOk result (λ x. IsClosing events.old tally.old end x) }
 {
     let End { listed, bad } = end;
-    let mut text = ends_text(alloc, events.session(), tally, listed.as_slice())?;
+    let mut text = ends_text(alloc, events, tally, listed.as_slice())?;
     let last = last_of(alloc, events, tally, bad)?;
     text.extend_from_slice(last.text.as_slice())?;
     Ok(Explanation {
@@ -183,18 +183,19 @@ fn closing_of(
 /// What explains what is listed of the end of a session, which is counted.
 fn ends_text(
     alloc: Global,
-    session: &Session,
+    events: &SurveyReader,
     tally: &mut Tally,
     listed: &[Offence],
 ) -> Result<Vec<u8>, Memory>
     ensures tally { OnOk result ((found : List SpecOffence) → IsTally tally.old found → IsTally tally.new (found ++ map offence_view listed.now)) }
-    ensures text { IfOk result (λ text. (kept : List Event) → Stands session.now (sent_in kept)
-        → text.items ≡ flat_map cause_lines (ends_said kept listed.now)) }
+    ensures text { IfOk result (λ text. (kept : List Event) → Stands events.now.survey.walk.events.session (sent_in kept)
+        → text.items ≡ flat_map cause_lines (ends_said (rests_held events.now) kept listed.now)) }
 {
     let mut text = Vec::new(alloc);
     for offence in listed {
         tally.add(offence);
-        let explanation = explain_listed(alloc, session, offence)?;
+        let rest = events.rest(side_by(offence.who));
+        let explanation = explain_listed(alloc, events.session(), rest, offence)?;
         text.extend_from_slice(explanation.text.as_slice())?;
     }
     Ok(text)
@@ -211,7 +212,7 @@ fn last_of(
 {
     match tally.first {
         Some(first) => Ok(Explanation {
-            text: last_lines(alloc, tally, &bad)?,
+            text: last_lines(alloc, events, tally, &bad)?,
             verdict: first.verdict(),
         }),
         None => explain_sound(alloc, events, bad),
@@ -219,15 +220,20 @@ fn last_of(
 }
 
 /// The lines of a fault of the log, and the one that says how many offences were found.
-fn last_lines(alloc: Global, tally: &Tally, bad: &Option<Verdict>) -> Result<Vec<u8>, Memory>
-    ensures { IfOk result (λ text. text.items ≡ bad_lines (option_map verdict_view bad.now) ++ flaw_lines (option_map verdict_view bad.now)
+fn last_lines(
+    alloc: Global,
+    events: &SurveyReader,
+    tally: &Tally,
+    bad: &Option<Verdict>,
+) -> Result<Vec<u8>, Memory>
+    ensures { IfOk result (λ text. text.items ≡ bad_lines (option_map verdict_view bad.now) ++ flaw_lines (option_map verdict_view bad.now) (flaw_held events.now (option_map verdict_view bad.now))
         ++ line (codes "offences" ∷ decimal tally.now.found ∷ codes "following" ∷ decimal tally.now.following ∷ [])) }
 {
     let count = found_report(alloc, tally.found, tally.following)?;
     let Some(verdict) = bad else {
         return Ok(count);
     };
-    let flaw = flaw_text(alloc, bad)?;
+    let flaw = flaw_text(alloc, events, bad)?;
     let mut text = report_of(alloc, verdict)?;
     text.extend_from_slice(flaw.as_bytes())?;
     text.extend_from_slice(count.as_slice())?;

@@ -168,9 +168,15 @@ module _ (completeness : Completeness) (limits : Bounds) (known : Option Format)
         same_length past notes h.are_noted,
       )
 
--- ---- a log that has these events first
+-- ---- a log that has these records and events first
 
-pub has_heard : (limits : Bounds) (known : Option Format) (records : List Record) (past due : List Raw) → Placed limits records (past ++ due) → (log : List ℕ) → HasFirst limits known records log → HasHeard limits known past log
+pub behind_then : (a b c : List Record) → GoesBehind a b → GoesBehind b c → GoesBehind a c
+behind_then a b c (more, is) (rest, goes) = (more ++ rest, goes ∙ ap (λ (w : List Record). w ++ rest) is ∙ append_assoc a more rest)
+
+pub not_behind : (records : List Record) → GoesBehind records records
+not_behind records = ([], sym (append-nil records))
+
+pub has_heard : (limits : Bounds) (known : Option Format) (records : List Record) (past due : List Raw) → Placed limits records (past ++ due) → (log : List ℕ) → HasFirst limits known records log → HasHeard limits known records past log
 has_heard limits known records past due placed log has =
     let all = some_placed limits [] [] (records ++ has.more) in
     let front = placed_front limits [] [] records has.more (past ++ due) all.0 placed all.1 in
@@ -180,6 +186,7 @@ has_heard limits known records past due placed log has =
       log_fault = has.fault;
       later = due ++ front.0;
       is_log = has.is_log;
+      goes = (has.more, refl);
       placed_are = subst (Placed limits (records ++ has.more)) (front.1 ∙ append_assoc past due front.0) all.1;
       is_known = has.is_known;
     }
@@ -189,15 +196,17 @@ known_before None new format keeps known = tt
 known_before (Some f) new format keeps known = subst (λ (o : Option Format). IsKnown o format) (keeps f refl) known
 
 -- what is known later was so before, as far as anything was known
-pub heard_before : (limits : Bounds) (old new : Option Format) (past : List Raw) (start now : Told) → reader.KeepsFormat old new → OfRead limits start now (HasHeard limits new past) → OfRead limits start now (HasHeard limits old past)
-heard_before limits old new past start now keeps has =
-    read_map limits start now (HasHeard limits new past) (HasHeard limits old past)
+pub heard_before : (limits : Bounds) (old new : Option Format) (front records : List Record) (past : List Raw) (start now : Told) → reader.KeepsFormat old new → GoesBehind front records → OfRead limits start now (HasHeard limits new records past)
+    → OfRead limits start now (HasHeard limits old front past)
+heard_before limits old new front records past start now keeps goes has =
+    read_map limits start now (HasHeard limits new records past) (HasHeard limits old front past)
     (λ log h. record {
       format = h.format;
       records = h.records;
       log_fault = h.log_fault;
       later = h.later;
       is_log = h.is_log;
+      goes = behind_then front records h.records goes h.goes;
       placed_are = h.placed_are;
       is_known = known_before old new h.format keeps h.is_known;
     }) has
@@ -215,9 +224,9 @@ module _ (completeness : Completeness) (limits : Bounds) (e : SurveyReader) (sta
       (begins completeness limits e.log.format e.survey so.records past notes found so.format so.at.early so.surveys so.lists) first
 
   -- its events begin with those heard
-  pub so_far_heard : OfRead limits start now (HasHeard limits e.log.format past)
+  pub so_far_heard : OfRead limits start now (HasHeard limits e.log.format so.records past)
   so_far_heard =
-      read_map limits start now (HasFirst limits e.log.format so.records) (HasHeard limits e.log.format past)
+      read_map limits start now (HasFirst limits e.log.format so.records) (HasHeard limits e.log.format so.records past)
       (has_heard limits e.log.format so.records past so.surveys.due so.surveys.placed) first
 
   pub so_far_few : length notes ≤ limits.log
@@ -351,12 +360,6 @@ heard_here completeness limits e s start now past before found (Some given) same
     (so.lists ∙ ap (λ (f : Format). offences (terms_of limits f) before) (sym same)) here
 
 -- ---- the records go on
-
-pub behind_then : (a b c : List Record) → GoesBehind a b → GoesBehind b c → GoesBehind a c
-behind_then a b c (more, is) (rest, goes) = (more ++ rest, goes ∙ ap (λ (w : List Record). w ++ rest) is ∙ append_assoc a more rest)
-
-pub not_behind : (records : List Record) → GoesBehind records records
-not_behind records = ([], sym (append-nil records))
 
 pub gives_behind : (a b : List Record) (k m : Completeness) (limits : Bounds) (e : SurveyReader) (start now : Told) (past : List Raw) (before : List Noted) (found : List Offence) (given : Next) → k ≡ m → GoesBehind a b
     → GivesBehind b k limits e start now past before found given → GivesBehind a m limits e start now past before found given

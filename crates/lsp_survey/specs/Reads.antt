@@ -42,13 +42,18 @@ use Rattle.lsp_verdict.specs.declared.outcome.RunFault.TheVariants as faults
 abbrev pub BeginsSurvey : Completeness → Bounds → List Offence → List ℕ → Type 0
 BeginsSurvey completeness limits found log = (later : List Offence) × (bad : Option Verdict) × (s : Summary) × IsSurvey completeness limits log (found ++ later) bad s
 
--- the log has the format known, and these events first
-pub record HasHeard (limits : Bounds) (known : Option Format) (past : List Raw) (log : List ℕ) : Type 0 where
+-- these records go on behind those
+abbrev pub GoesBehind : List Record → List Record → Type 0
+GoesBehind front records = (more : List Record) × (records ≡ front ++ more)
+
+-- the log has the format known, these records first, and these events
+pub record HasHeard (limits : Bounds) (known : Option Format) (front : List Record) (past : List Raw) (log : List ℕ) : Type 0 where
   pub format : Option Format
   pub records : List Record
   pub log_fault : Option (ℕ × LogCode)
   pub later : List Raw
   pub is_log : IsLog limits log format records log_fault
+  pub goes : GoesBehind front records
   pub placed_are : Placed limits records (past ++ later)
   pub is_known : IsKnown known format
 
@@ -160,10 +165,6 @@ pub record Ready (limits : Bounds) (s : Survey) (format : Option Format) (record
   pub lists : found ≡ offences (terms_of limits s.format) notes
 
 -- ---- records that go on
-
--- these records go on behind those
-abbrev pub GoesBehind : List Record → List Record → Type 0
-GoesBehind front records = (more : List Record) × (records ≡ front ++ more)
 
 -- as far as the log was heard, its records go on behind these
 abbrev pub SoFarBehind : List Record → Bounds → SurveyReader → Told → Told → List Raw → List Noted → List Offence → Type 0

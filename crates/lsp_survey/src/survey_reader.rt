@@ -80,9 +80,9 @@ impl SurveyReader {
         // The records of the log go on behind those before.
         ensures later { IfOk result (λ next. (limits : Bounds) (start : Told) (past : List Raw) (before : List Noted) (found : List SpecOffence) → (so : SoFar limits self.old start (R.told reader.old) past before found)
             → GivesBehind so.records self.old.completeness limits self.new start (R.told reader.new) past before found next) }
-        // Where reading breaks off, the log read begins with the events heard before.
-        ensures broke { OnErr result ((limits : Bounds) (start : Told) (past : List Raw) (before : List Noted) (found : List SpecOffence) → SoFar limits self.old start (R.told reader.old) past before found
-            → OfRead limits start (R.told reader.new) (HasHeard limits self.old.log.format past)) }
+        // Where reading breaks off, the log read begins with the records before, and the events heard of them.
+        ensures broke { OnErr result ((limits : Bounds) (start : Told) (past : List Raw) (before : List Noted) (found : List SpecOffence) → (so : SoFar limits self.old start (R.told reader.old) past before found)
+            → OfRead limits start (R.told reader.new) (HasHeard limits self.old.log.format so.records past)) }
     {
         loop {
             if let Some(heard) = self.hear()? {
@@ -155,12 +155,12 @@ impl SurveyReader {
         ensures log { self.new.log ≡ self.old.log }
         ensures completeness { self.new.completeness ≡ self.old.completeness }
         ensures idle { result ≡ Ok None → self.new.survey.turn ≡ None }
-        ensures answer { (limits : Bounds) (start now : Told) (past : List Raw) (before : List Noted) (found : List SpecOffence) → SoFar limits self.old start now past before found
+        ensures answer { (limits : Bounds) (start now : Told) (past : List Raw) (before : List Noted) (found : List SpecOffence) → (so : SoFar limits self.old start now past before found)
             → PullsHere self.old.completeness limits self.new start now past before found result }
         ensures later { IfOk result (λ answer. (limits : Bounds) (start now : Told) (past : List Raw) (before : List Noted) (found : List SpecOffence) → (so : SoFar limits self.old start now past before found)
             → HearsBehind so.records limits self.new start now past before found answer) }
-        ensures broke { OnErr result ((limits : Bounds) (start now : Told) (past : List Raw) (before : List Noted) (found : List SpecOffence) → SoFar limits self.old start now past before found
-            → OfRead limits start now (HasHeard limits self.old.log.format past)) }
+        ensures broke { OnErr result ((limits : Bounds) (start now : Told) (past : List Raw) (before : List Noted) (found : List SpecOffence) → (so : SoFar limits self.old start now past before found)
+            → OfRead limits start now (HasHeard limits self.old.log.format so.records past)) }
     {
         Ok(self.survey.hear()?)
     }
@@ -172,12 +172,12 @@ impl SurveyReader {
         ensures completeness { self.new.completeness ≡ self.old.completeness }
         ensures format { KeepsFormat self.old.log.format self.new.log.format }
         ensures less { result ≡ Ok None → ahead self.new.log < ahead self.old.log }
-        ensures answer { (limits : Bounds) (start : Told) (past : List Raw) (before : List Noted) (found : List SpecOffence) → SoFar limits self.old start (R.told reader.old) past before found
+        ensures answer { (limits : Bounds) (start : Told) (past : List Raw) (before : List Noted) (found : List SpecOffence) → (so : SoFar limits self.old start (R.told reader.old) past before found)
             → TakesEntry self.old.completeness limits self.new start (R.told reader.new) past before found result }
         ensures later { IfOk result (λ answer. (limits : Bounds) (start : Told) (past : List Raw) (before : List Noted) (found : List SpecOffence) → (so : SoFar limits self.old start (R.told reader.old) past before found)
             → TakesBehind so.records self.old.completeness limits self.new start (R.told reader.new) past before found answer) }
-        ensures broke { OnErr result ((limits : Bounds) (start : Told) (past : List Raw) (before : List Noted) (found : List SpecOffence) → SoFar limits self.old start (R.told reader.old) past before found
-            → OfRead limits start (R.told reader.new) (HasHeard limits self.old.log.format past)) }
+        ensures broke { OnErr result ((limits : Bounds) (start : Told) (past : List Raw) (before : List Noted) (found : List SpecOffence) → (so : SoFar limits self.old start (R.told reader.old) past before found)
+            → OfRead limits start (R.told reader.new) (HasHeard limits self.old.log.format so.records past)) }
     {
         let entry = next_entry(&mut self.log, reader)?;
         follow_format(&self.log, &mut self.survey);

@@ -38,7 +38,8 @@ returns-in_err-heard-clause-broke g c =
     let p = err_from_is_err_and from.result from.ensures.1 in
     let inv = c.loop-heard.invariant in
     rw p.1 (λ limits start past before found so.
-    heard_before limits c.args.self.now.log.format c.loop-heard.self.log.format past start _ inv.format (c.in_err-heard.ensures.broke limits start _ past before found (inv.so_far limits start past before found so).0))
+    let r = inv.so_far limits start past before found so in
+    heard_before limits c.args.self.now.log.format c.loop-heard.self.log.format so.records r.0.records past start _ inv.format r.1 (c.in_err-heard.ensures.broke limits start _ past before found r.0))
 
 pub returns-in_err-next-clause-broke : goal.returns-in_err-next-clause-broke
 returns-in_err-next-clause-broke g c =
@@ -46,10 +47,12 @@ returns-in_err-next-clause-broke g c =
     let p = err_from_is_err_and from.result from.ensures.1 in
     let inv = c.loop-heard.invariant in
     rw p.1 (λ limits start past before found so.
-    let idle = rw c.in_default.is at (c.in_ok-heard.ensures.answer limits start _ past before found (inv.so_far limits start past before found so).0) in
-    heard_before limits c.args.self.now.log.format c.hear.new.self.log.format past start _
+    let r = inv.so_far limits start past before found so in
+    let idle = rw c.in_default.is at (c.in_ok-heard.ensures.later limits start _ past before found r.0) in
+    heard_before limits c.args.self.now.log.format c.hear.new.self.log.format so.records idle.0.records past start _
     (subst (λ (l : LogReader). KeepsFormat c.args.self.now.log.format l.format) (sym c.in_ok-heard.ensures.log) inv.format)
-    (c.in_err-next.ensures.broke limits start past before found idle))
+    (behind_then so.records r.0.records idle.0.records r.1 idle.1)
+    (c.in_err-next.ensures.broke limits start past before found idle.0))
 
 pub returns-in-Some-clause-later : goal.returns-in-Some-clause-later
 returns-in-Some-clause-later g c = λ limits start past before found so.

@@ -7,7 +7,7 @@ use Rattle.lsp_verdict.specs.Entries.{HasFirst}
 use Rattle.lsp_verdict.proofs.Entries.{is_first, keeps_known}
 use Rattle.lsp_verdict.proofs.RunReading.{read_map}
 use Rattle.lsp_survey.specs.Reads.{HasHeard}
-use Rattle.lsp_survey.proofs.Reading.{has_heard, heard_before, idle_ready, refitted, ready_broke, ready_begins}
+use Rattle.lsp_survey.proofs.Reading.{has_heard, heard_before, idle_ready, not_behind, refitted, ready_broke, ready_begins}
 use Rattle.lsp_survey.proofs.LogEnds.{broke_at, end_first, fewer_first, is_bad, ended_behind, ended_here, heard_record_behind, record_heard, record_refused, record_taken, records_at, taken_behind, sound_log, flawed_log}
 use Rattle.lsp_survey.proofs.survey_reader.SurveyReader.take_entry.Goals as goal
 
@@ -91,7 +91,7 @@ returns-in_err-entry-clause-broke g c =
     let old = c.args.self.now in
     rw p.1 (λ limits start past before found so.
     let broke = broke_at _ limits start _ old.log.format so.records _ so.same (c.in_err-entry.ensures.answer start so.records so.at) in
-    read_map limits start _ (HasFirst limits old.log.format so.records) (HasHeard limits old.log.format past) (has_heard limits old.log.format so.records past so.surveys.due so.surveys.placed) broke.of_read)
+    read_map limits start _ (HasFirst limits old.log.format so.records) (HasHeard limits old.log.format so.records past) (has_heard limits old.log.format so.records past so.surveys.due so.surveys.placed) broke.of_read)
 
 pub returns-in_err-heard-in-Record-clause-broke : goal.returns-in_err-heard-in-Record-clause-broke
 returns-in_err-heard-in-Record-clause-broke g c =
@@ -102,8 +102,8 @@ returns-in_err-heard-in-Record-clause-broke g c =
     rw p.1 (λ limits start past before found so.
     let at = rw c.in-Record.is at (c.in_ok-entry.ensures.answer start so.records so.at) in
     let first = fewer_first limits log.format so.records (record_view c.in-Record.record) start _ (is_first log limits start _ _ (c.in_ok-entry.ensures.limits ∙ so.same) at) in
-    heard_before limits old.log.format log.format past start _ c.in_ok-entry.ensures.format
-    (read_map limits start _ (HasFirst limits log.format so.records) (HasHeard limits log.format past) (has_heard limits log.format so.records past so.surveys.due so.surveys.placed) first))
+    heard_before limits old.log.format log.format so.records so.records past start _ c.in_ok-entry.ensures.format (not_behind so.records)
+    (read_map limits start _ (HasFirst limits log.format so.records) (HasHeard limits log.format so.records past) (has_heard limits log.format so.records past so.surveys.due so.surveys.placed) first))
 
 pub returns-in_err-ends-in-End-clause-broke : goal.returns-in_err-ends-in-End-clause-broke
 returns-in_err-ends-in-End-clause-broke g c =
@@ -114,8 +114,8 @@ returns-in_err-ends-in-End-clause-broke g c =
     rw p.1 (λ limits start past before found so.
     let at = rw c.in-End.is at (c.in_ok-entry.ensures.answer start so.records so.at) in
     let has = records_at _ limits start _ log.format so.records None so.same at.0 in
-    heard_before limits old.log.format log.format past start _ c.in_ok-entry.ensures.format
-    (read_map limits start _ (HasFirst limits log.format so.records) (HasHeard limits log.format past) (has_heard limits log.format so.records past so.surveys.due so.surveys.placed) (end_first limits log.format so.records None start _ has)))
+    heard_before limits old.log.format log.format so.records so.records past start _ c.in_ok-entry.ensures.format (not_behind so.records)
+    (read_map limits start _ (HasFirst limits log.format so.records) (HasHeard limits log.format so.records past) (has_heard limits log.format so.records past so.surveys.due so.surveys.placed) (end_first limits log.format so.records None start _ has)))
 
 pub returns-in-Some-clause-later : goal.returns-in-Some-clause-later
 returns-in-Some-clause-later g c = λ limits start past before found so.
