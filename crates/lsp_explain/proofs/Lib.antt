@@ -13,3 +13,5 @@ pub mod Spoken
 pub mod Telling
 pub mod ToldFirst
 pub mod Worked
+pub mod AllCauses
+pub mod AllTelling
