@@ -65,7 +65,7 @@ held_rest e Editor = refl
 held_rest e Server = refl
 
 -- and of the fault of a log
-flaw_said : (e : SurveyReader) (limits : Bounds) (log : List ℕ) (format : Option Format) (records : List Record) (bad : Option Verdict) (flaw : Option (ℕ × LogCode)) → bad ≡ bad_log_of flaw → KnowsFlaw e.log limits log format records flaw
+pub flaw_said : (e : SurveyReader) (limits : Bounds) (log : List ℕ) (format : Option Format) (records : List Record) (bad : Option Verdict) (flaw : Option (ℕ × LogCode)) → bad ≡ bad_log_of flaw → KnowsFlaw e.log limits log format records flaw
     → flaw_held e bad ≡ log_facts limits log format records flaw
 flaw_said e limits log format records bad None is known = ap (flaw_held e) is
 flaw_said e limits log format records bad (Some (number, code)) is known =

@@ -15,3 +15,4 @@ pub mod ToldFirst
 pub mod Worked
 pub mod AllCauses
 pub mod AllTelling
+pub mod AllEnding
