@@ -1,9 +1,9 @@
 -- How a run that explains all that is wrong with a log closes.
-use Rattle.std.specs.Prelude.{map, not, option_map, option_to_list, if◌then◌else◌, codes, decimal}
+use Rattle.std.specs.Prelude.{map, take, slice_get, not, option_map, option_to_list, if◌then◌else◌, codes, decimal}
 use Rattle.std.specs.Io.KnownBytes.{IsAtEnd}
 use Rattle.std.specs.List.{AllZip, list_any}
-use Rattle.std.proofs.Common.{◌≡◌, ◌⊎◌, ℕ, ◌<◌, ◌^◌, length, Bool, true, false, ◌&&◌, List, [], ◌∷◌, ◌++◌, Option, Some, None, Result, Ok, Err, inl, inr, refl, sym, ap, ◌∙◌, subst, append_assoc, append-nil}
-use Rattle.std.proofs.lemmas.List.{append_cancel_left}
+use Rattle.std.proofs.Common.{◌≡◌, ◌⊎◌, ℕ, ◌+◌, ◌<◌, ◌^◌, length, Bool, true, false, ◌&&◌, List, [], ◌∷◌, ◌++◌, Option, Some, None, Result, Ok, Err, inl, inr, refl, sym, ap, ◌∙◌, subst, append_assoc, append-nil}
+use Rattle.std.proofs.lemmas.List.{append_cancel_left, map-append}
 use Rattle.lsp_docs.specs.Terms.{Terms}
 use Rattle.lsp_frame.specs.Bounds.{Bounds, IsInRange}
 use Rattle.lsp_frame.specs.Sink.{Wrote, Stopped}
@@ -31,17 +31,22 @@ use Rattle.lsp_verdict.specs.Given.{offence_view, verdict_view}
 use Rattle.lsp_verdict.specs.Offences.{Noted, Offence, IsNoted, events_of, kept_of, offences}
 use Rattle.lsp_verdict.specs.Outcome.{HasRest, ending, is_rest, log_terms}
 use Rattle.lsp_verdict.specs.Placed.{Raw, Placed, joined}
-use Rattle.lsp_verdict.specs.Report.{line}
+use Rattle.lsp_verdict.specs.Complete.{IsVerdictBy}
+use Rattle.lsp_verdict.specs.Report.{line, report}
 use Rattle.lsp_verdict.specs.RunIo.{OfRead}
-use Rattle.lsp_verdict.specs.Survey.{bad_lines, by_itself, ends_inside, ends_listed, first_ends, first_verdict, found_in, is_frame_fault, lacks_listed, rests_listed}
+use Rattle.lsp_verdict.specs.Survey.{IsSurvey, bad_lines, by_itself, ends_inside, ends_listed, first_ends, first_verdict, found_in, is_frame_fault, lacks_listed, rests_listed}
 use Rattle.lsp_verdict.specs.Verdict.{Verdict, Ending, Summary, summary, no_next}
 use Rattle.lsp_verdict.specs.declared.completeness.Completeness.{Completeness}
 use Rattle.lsp_verdict.specs.declared.completeness.Completeness.TheVariants.{Ignored, Required}
 use Rattle.lsp_verdict.specs.declared.offence.Offence as code_offence
+use Rattle.lsp_verdict.specs.declared.outcome.RunFault.{RunFault}
 use Rattle.lsp_verdict.specs.declared.outcome.RunFault.TheVariants as faults
+use Rattle.lsp_verdict.specs.declared.verdict.Verdict as code_verdict
 use Rattle.lsp_verdict.specs.declared.verdict.Who.TheVariants as who
+use Rattle.lsp_verdict.proofs.Listing.{map_one}
+use Rattle.lsp_verdict.proofs.Offences.Surveying.{survey_agrees}
 use Rattle.lsp_verdict.proofs.RunReading.{read_map}
-use Rattle.lsp_explain.specs.AllExplained.{causes, all_closing, all_explanation, AreAllSaid, IsAllExplained, BeginsAllExplained}
+use Rattle.lsp_explain.specs.AllExplained.{causes, cause_lines, all_closing, all_explanation, AreAllSaid, IsAllExplained, BeginsAllExplained}
 use Rattle.lsp_explain.specs.AllSteps.{AreSaid, AllTold, PartTold, CausesTold, ends_said}
 use Rattle.lsp_explain.specs.Explained.{Heard, Explained, Explains, raws_of, notes_of, end_explained, flaw_lines}
 use Rattle.lsp_explain.specs.Fact.{Fact}
@@ -50,6 +55,7 @@ use Rattle.lsp_explain.specs.RunSteps.{RestsBehind, flaw_held, rests_held, summa
 use Rattle.lsp_explain.proofs.AllCauses.{said_under}
 use Rattle.lsp_explain.proofs.AllTelling.{IsTelling, lines, lines_append}
 use Rattle.lsp_explain.proofs.EndOfLog.{ends_are, flaw_said}
+use Rattle.lsp_explain.proofs.Judged.{some_by}
 
 -- ---- the log ended
 
@@ -249,3 +255,60 @@ last_some t (o ∷ found) first bad flaw s text v is tally few text_is v_is =
 pub none_found : (t : Tally) (found : List Offence) → t.first ≡ None → IsTally t found → found ≡ []
 none_found t [] is tally = refl
 none_found t (o ∷ found) is tally = let same : None ≡ Some o = ap (option_map offence_view) (sym is) ∙ tally.first in absurd cc
+
+pub last_none : (found : List Offence) (bad : Option Verdict) (flaw : List Fact) (s : Summary) (text : List ℕ) (v : Verdict) → found ≡ [] → v ≡ first_verdict [] bad s → text ≡ report (first_verdict [] bad s) ++ flaw_lines bad flaw
+    → (text ≡ all_closing found bad flaw s) × (v ≡ first_verdict found bad s)
+last_none [] bad flaw s text v none v_is text_is = (text_is, v_is)
+last_none (o ∷ found) bad flaw s text v none v_is text_is = absurd cc
+
+-- ---- what is listed of the end, one after another
+
+pub ends_more : (rests : Rests) (kept : List Event) (xs : List code_offence.Offence) (i : ℕ) (x : code_offence.Offence) → slice_get xs i ≡ Some x
+    → lines (ends_said rests kept (take (i + 1) xs)) ≡ lines (ends_said rests kept (take i xs)) ++ cause_lines (end_explained rests kept (offence_view x).no)
+ends_more rests kept xs i x at =
+    let says : Offence → Explained = λ o. end_explained rests kept o.no in
+    ap (λ (os : List Offence). lines (map says os)) (map_one offence_view xs i x at)
+    ∙ ap lines (map-append says (map offence_view (take i xs)) (offence_view x ∷ []))
+    ∙ lines_append (map says (map offence_view (take i xs))) (says (offence_view x) ∷ [])
+    ∙ ap (λ w. lines (map says (map offence_view (take i xs))) ++ w) (append-nil (cause_lines (says (offence_view x))))
+
+-- ---- the run
+
+pub part_by : (k m : Completeness) (a b : Bounds) (start now old new : Told) (fault : RunFault) → k ≡ m → a ≡ b → PartTold k a start now old new fault → PartTold m b start now old new fault
+part_by k m a b start now old new fault same alike p =
+    subst (λ (c : Completeness). PartTold c b start now old new fault) same (subst (λ (x : Bounds). PartTold k x start now old new fault) alike p)
+
+pub told_by : (k m : Completeness) (a b : Bounds) (e : SurveyReader) (t : Tally) (start now old new : Told) (end : End) → k ≡ m → a ≡ b → CausesTold k a e t start now old new end → CausesTold m b e t start now old new end
+told_by k m a b e t start now old new end same alike p =
+    subst (λ (c : Completeness). CausesTold c b e t start now old new end) same (subst (λ (x : Bounds). CausesTold k x e t start now old new end) alike p)
+
+-- the survey that is explained
+pub survey_in_all : (completeness : Completeness) (limits : Bounds) (log : List ℕ) (found : List Offence) (explained : List Explained) (bad : Option Verdict) (flaw : List Fact) (s : Summary) → AreAllSaid completeness limits log found explained bad flaw s → IsSurvey completeness limits log found bad s
+survey_in_all completeness limits log found explained bad flaw s e = record {
+  format = e.format;
+  records = e.records;
+  log_fault = e.log_fault;
+  notes = notes_of e.heard;
+  editor = e.rests.editor;
+  server = e.rests.server;
+  is_log = e.is_log;
+  session = (raws_of e.heard, e.placed_are, e.noted);
+  editor_rest = e.editor_rest;
+  server_rest = e.server_rest;
+  lists = e.lists;
+  bad_is = e.bad_is;
+  comes_to = e.comes_to;
+}
+
+-- the verdict with which the explanation comes is that on the log
+pub all_verdict : (completeness : Completeness) (limits : Bounds) → IsInRange limits → (log : List ℕ) (v : Verdict) (out : List ℕ) → IsAllExplained completeness limits log v out → IsVerdictBy completeness limits log v
+all_verdict completeness limits sizes log v out e =
+    let w = some_by completeness limits log in
+    let agrees = survey_agrees completeness limits sizes log e.found e.bad e.s w.0 (survey_in_all completeness limits log e.found e.explained e.bad e.flaw e.s e.are) w.1 in
+    subst (IsVerdictBy completeness limits log) (agrees ∙ sym e.judges) w.1
+
+pub verdict_read : (completeness : Completeness) (limits : Bounds) → IsInRange limits → (start now : Told) (given v : code_verdict.Verdict) (out : List ℕ) → given ≡ v → OfRead limits start now (λ log. IsAllExplained completeness limits log (verdict_view given) out)
+    → OfRead limits start now (λ log. IsVerdictBy completeness limits log (verdict_view v))
+verdict_read completeness limits sizes start now given v out same due =
+    subst (λ (w : code_verdict.Verdict). OfRead limits start now (λ log. IsVerdictBy completeness limits log (verdict_view w))) same
+    (read_map limits start now (λ log. IsAllExplained completeness limits log (verdict_view given) out) (λ log. IsVerdictBy completeness limits log (verdict_view given)) (λ log r. all_verdict completeness limits sizes log (verdict_view given) out r) due)

@@ -47,7 +47,7 @@ map_nil f [] e = refl
 map_nil f (x ∷ xs) e = absurd cc
 
 -- what is listed of an end is explained by itself
-ends_are : (rests : Rests) (kept : List Event) (vs : List Verdict) → map (λ (o : Offence). end_explained rests kept o.no) (map by_itself vs) ≡ map (end_explained rests kept) vs
+pub ends_are : (rests : Rests) (kept : List Event) (vs : List Verdict) → map (λ (o : Offence). end_explained rests kept o.no) (map by_itself vs) ≡ map (end_explained rests kept) vs
 ends_are rests kept [] = refl
 ends_are rests kept (v ∷ vs) = ap (λ w. end_explained rests kept v ∷ w) (ends_are rests kept vs)
 

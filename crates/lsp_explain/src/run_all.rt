@@ -168,7 +168,8 @@ fn closing_of(
     tally: &mut Tally,
     end: End,
 ) -> Result<Explanation, Memory>
-    ensures { IfOk result (λ x. IsClosing events.old tally.old end x) }
+    ensures tally { OnOk result ((found : List SpecOffence) → IsTally tally.old found → IsTally tally.new (found ++ map offence_view end.listed.items)) }
+    ensures closing { IfOk result (λ x. IsClosing events.old tally.old end x) }
 {
     let End { listed, bad } = end;
     let mut text = ends_text(alloc, events, tally, listed.as_slice())?;
