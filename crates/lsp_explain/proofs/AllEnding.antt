@@ -263,7 +263,7 @@ last_none (o ∷ found) bad flaw s text v none v_is text_is = absurd cc
 
 -- ---- what is listed of the end, one after another
 
-pub ends_more : (rests : Rests) (kept : List Event) (xs : List code_offence.Offence) (i : ℕ) (x : code_offence.Offence) → slice_get xs i ≡ Some x
+ends_more : (rests : Rests) (kept : List Event) (xs : List code_offence.Offence) (i : ℕ) (x : code_offence.Offence) → slice_get xs i ≡ Some x
     → lines (ends_said rests kept (take (i + 1) xs)) ≡ lines (ends_said rests kept (take i xs)) ++ cause_lines (end_explained rests kept (offence_view x).no)
 ends_more rests kept xs i x at =
     let says : Offence → Explained = λ o. end_explained rests kept o.no in
@@ -271,6 +271,11 @@ ends_more rests kept xs i x at =
     ∙ ap lines (map-append says (map offence_view (take i xs)) (offence_view x ∷ []))
     ∙ lines_append (map says (map offence_view (take i xs))) (says (offence_view x) ∷ [])
     ∙ ap (λ w. lines (map says (map offence_view (take i xs))) ++ w) (append-nil (cause_lines (says (offence_view x))))
+
+pub text_more : (rests : Rests) (kept : List Event) (xs : List code_offence.Offence) (i : ℕ) (x : code_offence.Offence) → slice_get xs i ≡ Some x → (old added new : List ℕ) → new ≡ old ++ added → added ≡ cause_lines (end_explained rests kept (offence_view x).no)
+    → old ≡ lines (ends_said rests kept (take i xs)) → new ≡ lines (ends_said rests kept (take (i + 1) xs))
+text_more rests kept xs i x at old added new grown is before =
+    grown ∙ ap (λ w. old ++ w) is ∙ ap (λ w. w ++ cause_lines (end_explained rests kept (offence_view x).no)) before ∙ sym (ends_more rests kept xs i x at)
 
 -- ---- the run
 
@@ -283,8 +288,8 @@ told_by k m a b e t start now old new end same alike p =
     subst (λ (c : Completeness). CausesTold c b e t start now old new end) same (subst (λ (x : Bounds). CausesTold k x e t start now old new end) alike p)
 
 -- the survey that is explained
-pub survey_in_all : (completeness : Completeness) (limits : Bounds) (log : List ℕ) (found : List Offence) (explained : List Explained) (bad : Option Verdict) (flaw : List Fact) (s : Summary) → AreAllSaid completeness limits log found explained bad flaw s → IsSurvey completeness limits log found bad s
-survey_in_all completeness limits log found explained bad flaw s e = record {
+pub survey_in_all : (completeness : Completeness) (limits : Bounds) (log : List ℕ) (found : List Offence) (explained : List Explained) (b : Option Verdict) (f : List Fact) (t : Summary) → AreAllSaid completeness limits log found explained b f t → IsSurvey completeness limits log found b t
+survey_in_all completeness limits log found explained b f t e = record {
   format = e.format;
   records = e.records;
   log_fault = e.log_fault;

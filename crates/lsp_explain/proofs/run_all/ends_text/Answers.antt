@@ -1,16 +1,16 @@
 use Rattle.std.specs.Prelude.{take}
 use Rattle.std.proofs.Common.{◌++◌, map, sym, ap, subst, ◌∙◌}
+use Rattle.std.proofs.lemmas.List.{take_all}
 use Rattle.std.proofs.lemmas.Option.{slice_get-get_or}
 use Rattle.lsp_session.specs.State.{Stands}
+use Rattle.lsp_survey.specs.Reported.{IsTally}
 use Rattle.lsp_survey.specs.Surveys.{stream_of}
 use Rattle.lsp_survey.proofs.Reporting.{tally_more}
 use Rattle.lsp_verdict.specs.Event.{sent_in}
 use Rattle.lsp_verdict.specs.Given.{offence_view}
-use Rattle.lsp_explain.specs.AllExplained.{cause_lines}
-use Rattle.lsp_explain.specs.Explained.{end_explained}
 use Rattle.lsp_explain.specs.FlawFacts.{side_by}
 use Rattle.lsp_explain.specs.RunSteps.{rests_held}
-use Rattle.lsp_explain.proofs.AllEnding.{ends_more}
+use Rattle.lsp_explain.proofs.AllEnding.{text_more}
 use Rattle.lsp_explain.proofs.EndOfLog.{held_rest}
 use Rattle.lsp_explain.proofs.run_all.ends_text.Goals as goal
 
@@ -25,7 +25,9 @@ loop-offence-preserved c =
       text = λ kept stands.
           let said = c.in_ok-explanation.ensures.text (rests_held e) kept (subst (λ s. Stands s (sent_in kept)) (sym c.session.ensures) stands)
           (c.rest-rest.ensures.held ∙ ap (λ s. (stream_of e.survey s).decoder.rest) c.side_by.ensures ∙ held_rest e (side_by _)) in
-          c.in_ok-extend_from_slice.ensures.items ∙ ap (λ w. c.loop-offence.text.items ++ w) (c.as_slice.ensures.value ∙ said)
-          ∙ ap (λ w. w ++ cause_lines (end_explained (rests_held e) kept _)) (c.loop-offence.invariant.text kept stands)
-          ∙ sym (ends_more (rests_held e) kept xs i _ at);
+          text_more (rests_held e) kept xs i _ at c.loop-offence.text.items _ _ c.in_ok-extend_from_slice.ensures.items (c.as_slice.ensures.value ∙ said) (c.loop-offence.invariant.text kept stands);
     }
+
+pub returns-clause-tally : goal.returns-clause-tally
+returns-clause-tally c = λ found tally.
+    subst (λ w. IsTally c.loop-offence.tally (found ++ map offence_view w)) (take_all c.loop-offence.offence-index c.args.listed.now c.loop-offence-test.false) (c.loop-offence.invariant.tally found tally)
