@@ -159,19 +159,33 @@ DIFFERS = HEAD + INITIALIZE + ANSWER + INITIALIZED + OPEN + changed(3, RENEWED) 
 REVERSES_REPORT = b"no 606 editor 4 event 5\nrange is reversed\n"
 DIFFERS_REPORT = b"no 702 snapshot 1 event 6\nsnapshot differs\n"
 
+# The same where a snapshot before was equal; a second answer to a request, and a request whose id is taken.
+PARTS = HEAD + INITIALIZE + ANSWER + INITIALIZED + OPEN + SNAPSHOT + changed(3, RENEWED) + shown(3, b"old")
+PARTS_REPORT = b"no 702 snapshot 2 event 7\nsnapshot differs\n"
+AGAIN = HEAD + INITIALIZE + ANSWER + ANSWER
+AGAIN_REPORT = b"no 301 server 2 event 3\nresponse to no open request\n"
+HOVER = editor('{"jsonrpc":"2.0","id":1,"method":"textDocument/hover","params":{}}')
+TAKEN = HEAD + INITIALIZE + ANSWER + INITIALIZED + HOVER + HOVER
+TAKEN_REPORT = b"no 302 editor 4 event 5\nid is already open\n"
+
 URI_LINE = b'uri "file:///a"\n'
-STAYS_FACTS = b'event 5 editor notification "textDocument/didChange"\n' + URI_LINE + b"held 1\nsent 1\nchanges 0\n"
+STAYS_FACTS = b'event 5 editor notification "textDocument/didChange"\n' + URI_LINE + b"held 1\nbrought 4\nsent 1\nchanges 0\n"
 REVERSED_FACTS = b'event 5 editor notification "textDocument/didChange"\n' + URI_LINE
-REVERSED_FACTS += b"held 1\nsent 2\nchanges 1\nchange 1 0 2 0 1\nlength 2\n"
+REVERSED_FACTS += b"held 1\nbrought 4\nsent 2\nchanges 1\nchange 1 0 2 0 1\nlength 2\n"
 DIFFERS_FACTS = b'event 6 snapshot 3 3 "file:///a"\n' + URI_LINE
-DIFFERS_FACTS += b'held 3\nsent 3\nat 0 0\nheld "new"\nrecorded "old"\n'
+DIFFERS_FACTS += b'held 3\nbrought 5\nsent 3\nat 0 0\nheld "new"\nrecorded "old"\nsnapshot 6\n'
+PARTS_FACTS = b'event 7 snapshot 3 3 "file:///a"\n' + URI_LINE
+PARTS_FACTS += b'held 3\nbrought 6\nsent 3\nat 0 0\nheld "new"\nrecorded "old"\nsnapshot 7\nagreed 5 1\n'
 
 # Of logs with a no: what is said behind its two lines.
 FACTS = [
     (WRONGS, STAYS, STAYS_FACTS),
     (REVERSES, REVERSES_REPORT, REVERSED_FACTS),
     (DIFFERS, DIFFERS_REPORT, DIFFERS_FACTS),
-    (EXITS, EXITS_REPORT, b'event 9 editor notification "exit"\nphase exited\n'),
+    (EXITS, EXITS_REPORT, b'event 9 editor notification "exit"\nphase exited\nsince 8\n'),
+    (PARTS, PARTS_REPORT, PARTS_FACTS),
+    (AGAIN, AGAIN_REPORT, b"event 3 server result 1\nid 1\nanswered 2\n"),
+    (TAKEN, TAKEN_REPORT, b'event 5 editor request 1 "textDocument/hover"\nid 1\nasked 4\nanswered 2\n'),
     (REST, REST_REPORT, b'event 1 editor\nbegins "abc"\n'),
     (BROKEN, BROKEN_REPORT, rb'''event 1 editor
 begins "\r\n\r\n"
@@ -183,8 +197,8 @@ begins "Content-Lenght: 2\r\n\r\n"
 
 # The same of sessions that have to be complete.
 LACK_FACTS = [
-    (UNANSWERED, UNANSWERED_REPORT, b'event 8 editor\nphase exited\nrequest 2 "shutdown"\n'),
-    (KILLED, KILLED_REPORT, b"event 8 editor\nphase stopping\n"),
+    (UNANSWERED, UNANSWERED_REPORT, b'event 8 editor\nrequest 2 "shutdown" 6\nphase exited\nsince 7\n'),
+    (KILLED, KILLED_REPORT, b"event 8 editor\nphase stopping\nsince 6\n"),
 ]
 
 

@@ -117,6 +117,7 @@ E CHG 2 / REP 0 2 0 1 "x"
 > event 5 editor notification "textDocument/didChange"
 > uri "file:///a"
 > held 1
+> brought 4
 > sent 2
 > changes 1
 > change 1 0 2 0 1

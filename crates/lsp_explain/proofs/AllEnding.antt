@@ -18,6 +18,7 @@ use Rattle.lsp_session.specs.Incomplete.{incomplete, is_any_open}
 use Rattle.lsp_session.specs.Negotiation.{first_row}
 use Rattle.lsp_session.specs.Requests.{open_requests}
 use Rattle.lsp_session.specs.Sent.{Sent, is_exit}
+use Rattle.lsp_survey.specs.Asking.{Numbered, numbered}
 use Rattle.lsp_survey.specs.Reads.{GoesBehind, Ended, EndedBehind, IsSurveyOf}
 use Rattle.lsp_survey.specs.Reported.{IsTally, IsYes}
 use Rattle.lsp_survey.specs.declared.survey_reader.End.{End}
@@ -86,9 +87,9 @@ lack_by true b o is = inr (inl is)
 lack_by false true o is = inr (inr is)
 lack_by false false o is = inl is
 
-module _ (rests held : Rests) (kept : List Event) (events : List Event) where
+module _ (rests held : Rests) (sent : List Numbered) (events : List Event) where
   abbrev Alike : List Verdict → Type 0
-  Alike vs = map (end_explained held kept) vs ≡ map (end_explained rests kept) vs
+  Alike vs = map (end_explained held sent) vs ≡ map (end_explained rests sent) vs
 
   lacks_by : (o : Option ℕ) → (o ≡ None) ⊎ ((o ≡ Some 303) ⊎ (o ≡ Some 407)) → Alike (option_to_list (option_map (λ rule. no_next rule who.Editor events) o))
   lacks_by o (inl is) = subst (λ (w : Option ℕ). Alike (option_to_list (option_map (λ rule. no_next rule who.Editor events) w))) (sym is) refl
@@ -101,19 +102,19 @@ module _ (rests held : Rests) (kept : List Event) (events : List Event) where
       let sents = sent_in kept_events in
       lacks_by (incomplete sents) (lack_by (is_any_open (open_requests Editor sents)) (not (was_sent is_exit sents)) (incomplete sents) refl)
 
-  one_editor : rests.editor ≡ held.editor → end_explained held kept (no_next 107 who.Editor events) ≡ end_explained rests kept (no_next 107 who.Editor events)
-  one_editor same = ap (λ (w : List ℕ). end_explained (record held { editor = w }) kept (no_next 107 who.Editor events)) (sym same)
+  one_editor : rests.editor ≡ held.editor → end_explained held sent (no_next 107 who.Editor events) ≡ end_explained rests sent (no_next 107 who.Editor events)
+  one_editor same = ap (λ (w : List ℕ). end_explained (record held { editor = w }) sent (no_next 107 who.Editor events)) (sym same)
 
-  one_server : rests.server ≡ held.server → end_explained held kept (no_next 107 who.Server events) ≡ end_explained rests kept (no_next 107 who.Server events)
-  one_server same = ap (λ (w : List ℕ). end_explained (record held { server = w }) kept (no_next 107 who.Server events)) (sym same)
+  one_server : rests.server ≡ held.server → end_explained held sent (no_next 107 who.Server events) ≡ end_explained rests sent (no_next 107 who.Server events)
+  one_server same = ap (λ (w : List ℕ). end_explained (record held { server = w }) sent (no_next 107 who.Server events)) (sym same)
 
   rests_alike : (a b : Bool) (lacks : List Verdict) → (a ≡ true → rests.editor ≡ held.editor) → (b ≡ true → rests.server ≡ held.server) → Alike lacks → Alike (first_ends None (rests_listed events a b) lacks)
   rests_alike false false lacks of_editor of_server alike = alike
   rests_alike true false lacks of_editor of_server alike = ap (λ x. x ∷ []) (one_editor (of_editor refl))
   rests_alike false true lacks of_editor of_server alike = ap (λ x. x ∷ []) (one_server (of_server refl))
   rests_alike true true lacks of_editor of_server alike =
-      ap (λ x. x ∷ end_explained held kept (no_next 107 who.Server events) ∷ []) (one_editor (of_editor refl))
-      ∙ ap (λ x. end_explained rests kept (no_next 107 who.Editor events) ∷ x ∷ []) (one_server (of_server refl))
+      ap (λ x. x ∷ end_explained held sent (no_next 107 who.Server events) ∷ []) (one_editor (of_editor refl))
+      ∙ ap (λ x. end_explained rests sent (no_next 107 who.Editor events) ∷ x ∷ []) (one_server (of_server refl))
 
   pub ends_alike : (completeness : Completeness) (terms : Terms) (flaw : Option (ℕ × LogCode)) → (list_any (is_frame_fault Editor) events ≡ false → rests.editor ≡ held.editor) → (list_any (is_frame_fault Server) events ≡ false → rests.server ≡ held.server)
       → Alike (ends_listed completeness terms events (ending flaw rests.editor rests.server))
@@ -136,8 +137,8 @@ module _ (completeness : Completeness) (limits : Bounds) (e : SurveyReader) (t :
   abbrev terms : Terms
   terms = e.survey.walk.events.docs.terms
 
-  abbrev kept : List Event
-  kept = kept_of terms events
+  abbrev sent : List Numbered
+  sent = numbered terms events
 
   abbrev pub all_found : List Offence
   all_found = told.found ++ map offence_view end.listed.items
@@ -152,7 +153,7 @@ module _ (completeness : Completeness) (limits : Bounds) (e : SurveyReader) (t :
   s = summary_behind e (notes_of hs)
 
   abbrev pub ends : List Explained
-  ends = ends_said (rests_held e) kept end.listed.items
+  ends = ends_said (rests_held e) sent end.listed.items
 
   all_said : (log : List ℕ) → (sv : IsSurveyOf e completeness limits log all_found bad terms (raws_of hs) (notes_of hs)) → GoesBehind told.records sv.survey.records → AreAllSaid completeness limits log all_found (told.said ++ ends) bad flaw s
   all_said log sv (more, goes) =
@@ -165,7 +166,7 @@ module _ (completeness : Completeness) (limits : Bounds) (e : SurveyReader) (t :
       let found_are : told.found ≡ offences own (notes_of hs) = told.ended.lists ∙ ap (λ (ts : Terms). offences ts (notes_of hs)) (sym sv.terms_are) in
       let listed_are : map offence_view end.listed.items ≡ map by_itself listed =
       append_cancel_left told.found (map offence_view end.listed.items) (map by_itself listed) (lists ∙ ap (λ (w : List Offence). w ++ map by_itself listed) (sym found_are)) in
-      let alike = ends_alike rests (rests_held e) kept events completeness own p.log_fault sv.editor_held sv.server_held in
+      let alike = ends_alike rests (rests_held e) sent events completeness own p.log_fault sv.editor_held sv.server_held in
       let behind : RestsBehind limits told.records rests = record {
         more = more;
         editor = subst (λ (w : List Record). HasRest limits (joined Editor w) p.editor) goes p.editor_rest;
@@ -189,8 +190,8 @@ module _ (completeness : Completeness) (limits : Bounds) (e : SurveyReader) (t :
         comes_to = p.comes_to ∙ ap (λ (ns : List Noted). summary own (events_of ns)) sv.notes_are;
         explains = subst (λ (ts : Terms). AllZip (Explains rests ts) (causes ts hs) told.said) (sym sv.terms_are) (told.are_said rests behind);
         shows = ap (λ (w : List Explained). told.said ++ w)
-            (ap (map (λ (o : Offence). end_explained (rests_held e) kept o.no)) listed_are ∙ ends_are (rests_held e) kept listed ∙ alike
-            ∙ ap (λ (ts : Terms). map (end_explained rests (kept_of ts events)) listed) (sym sv.terms_are));
+            (ap (map (λ (o : Offence). end_explained (rests_held e) sent o.no)) listed_are ∙ ends_are (rests_held e) sent listed ∙ alike
+            ∙ ap (λ (ts : Terms). map (end_explained rests (numbered ts events)) listed) (sym sv.terms_are));
       }
 
   -- this is the explanation
@@ -263,19 +264,19 @@ last_none (o ∷ found) bad flaw s text v none v_is text_is = absurd cc
 
 -- ---- what is listed of the end, one after another
 
-ends_more : (rests : Rests) (kept : List Event) (xs : List code_offence.Offence) (i : ℕ) (x : code_offence.Offence) → slice_get xs i ≡ Some x
-    → lines (ends_said rests kept (take (i + 1) xs)) ≡ lines (ends_said rests kept (take i xs)) ++ cause_lines (end_explained rests kept (offence_view x).no)
-ends_more rests kept xs i x at =
-    let says : Offence → Explained = λ o. end_explained rests kept o.no in
+ends_more : (rests : Rests) (sent : List Numbered) (xs : List code_offence.Offence) (i : ℕ) (x : code_offence.Offence) → slice_get xs i ≡ Some x
+    → lines (ends_said rests sent (take (i + 1) xs)) ≡ lines (ends_said rests sent (take i xs)) ++ cause_lines (end_explained rests sent (offence_view x).no)
+ends_more rests sent xs i x at =
+    let says : Offence → Explained = λ o. end_explained rests sent o.no in
     ap (λ (os : List Offence). lines (map says os)) (map_one offence_view xs i x at)
     ∙ ap lines (map-append says (map offence_view (take i xs)) (offence_view x ∷ []))
     ∙ lines_append (map says (map offence_view (take i xs))) (says (offence_view x) ∷ [])
     ∙ ap (λ w. lines (map says (map offence_view (take i xs))) ++ w) (append-nil (cause_lines (says (offence_view x))))
 
-pub text_more : (rests : Rests) (kept : List Event) (xs : List code_offence.Offence) (i : ℕ) (x : code_offence.Offence) → slice_get xs i ≡ Some x → (old added new : List ℕ) → new ≡ old ++ added → added ≡ cause_lines (end_explained rests kept (offence_view x).no)
-    → old ≡ lines (ends_said rests kept (take i xs)) → new ≡ lines (ends_said rests kept (take (i + 1) xs))
-text_more rests kept xs i x at old added new grown is before =
-    grown ∙ ap (λ w. old ++ w) is ∙ ap (λ w. w ++ cause_lines (end_explained rests kept (offence_view x).no)) before ∙ sym (ends_more rests kept xs i x at)
+pub text_more : (rests : Rests) (sent : List Numbered) (xs : List code_offence.Offence) (i : ℕ) (x : code_offence.Offence) → slice_get xs i ≡ Some x → (old added new : List ℕ) → new ≡ old ++ added → added ≡ cause_lines (end_explained rests sent (offence_view x).no)
+    → old ≡ lines (ends_said rests sent (take i xs)) → new ≡ lines (ends_said rests sent (take (i + 1) xs))
+text_more rests sent xs i x at old added new grown is before =
+    grown ∙ ap (λ w. old ++ w) is ∙ ap (λ w. w ++ cause_lines (end_explained rests sent (offence_view x).no)) before ∙ sym (ends_more rests sent xs i x at)
 
 -- ---- the run
 

@@ -13,14 +13,14 @@ use Rattle.lsp_log.specs.Place.{place_of}
 use Rattle.lsp_log.specs.Reader.{shown_by}
 use Rattle.lsp_types.specs.declared.side.Side.{Side}
 use Rattle.lsp_types.specs.declared.side.Side.TheVariants.{Editor, Server}
-use Rattle.lsp_session.specs.State.{Stands}
+use Rattle.lsp_survey.specs.Asking.{Numbered, numbered}
 use Rattle.lsp_survey.specs.Reads.{IsSurveyOf, KnowsFlaw, Ended}
 use Rattle.lsp_survey.specs.Surveys.{stream_of}
 use Rattle.lsp_survey.specs.declared.survey_reader.End.{End}
 use Rattle.lsp_survey.specs.declared.survey_reader.SurveyReader.{SurveyReader}
-use Rattle.lsp_verdict.specs.Event.{Event, sent_in}
+use Rattle.lsp_verdict.specs.Event.{Event}
 use Rattle.lsp_verdict.specs.Given.{offence_view, verdict_view}
-use Rattle.lsp_verdict.specs.Offences.{Noted, Offence, IsNoted, events_of, kept_of, offences}
+use Rattle.lsp_verdict.specs.Offences.{Noted, Offence, IsNoted, events_of, offences}
 use Rattle.lsp_verdict.specs.Outcome.{HasRest, ending, log_terms}
 use Rattle.lsp_verdict.specs.Placed.{Raw, Placed, joined}
 use Rattle.lsp_verdict.specs.Report.{report}
@@ -39,17 +39,19 @@ use Rattle.lsp_verdict.proofs.RunReading.{read_map}
 use Rattle.lsp_explain.specs.Explained.{Heard, Breach, Explained, Explains, raws_of, notes_of, breaches, end_explained, explanation, flaw_lines, said_of, IsExplained, IsExplanation}
 use Rattle.lsp_explain.specs.FlawFacts.{Rests, rest_of, flaw_facts, log_facts}
 use Rattle.lsp_explain.specs.RunSteps.{IsSound, flaw_held, rests_held, summary_behind}
+use Rattle.lsp_explain.specs.Standing.{StandsAfter}
 use Rattle.lsp_explain.specs.declared.run.Explanation.{Explanation}
 use Rattle.lsp_explain.proofs.Explaining.{offence_of, offences_are}
+use Rattle.lsp_explain.proofs.Standing.{stands_after}
 
 pub map_nil : {A B : Type 0} (f : A → B) (xs : List A) → map f xs ≡ [] → xs ≡ []
 map_nil f [] e = refl
 map_nil f (x ∷ xs) e = absurd cc
 
 -- what is listed of an end is explained by itself
-pub ends_are : (rests : Rests) (kept : List Event) (vs : List Verdict) → map (λ (o : Offence). end_explained rests kept o.no) (map by_itself vs) ≡ map (end_explained rests kept) vs
-ends_are rests kept [] = refl
-ends_are rests kept (v ∷ vs) = ap (λ w. end_explained rests kept v ∷ w) (ends_are rests kept vs)
+pub ends_are : (rests : Rests) (said : List Numbered) (vs : List Verdict) → map (λ (o : Offence). end_explained rests said o.no) (map by_itself vs) ≡ map (end_explained rests said) vs
+ends_are rests said [] = refl
+ends_are rests said (v ∷ vs) = ap (λ w. end_explained rests said v ∷ w) (ends_are rests said vs)
 
 -- where nothing offends no event does
 pub no_breach : (terms : Terms) (hs : List Heard) → offences terms (notes_of hs) ≡ [] → breaches terms hs ≡ []
@@ -72,14 +74,14 @@ flaw_said e limits log format records bad (Some (number, code)) is known =
     ap (flaw_held e) is ∙ ap (λ n. flaw_facts number n (shown_by e.log)) known.0 ∙ ap (flaw_facts number (place_of format records)) known.1
 
 module _ (e : SurveyReader) (completeness : Completeness) (limits : Bounds) (log : List ℕ) (found : List Offence) (bad : Option Verdict) (terms : Terms) (hs : List Heard) where
-  abbrev kept : List Event
-  kept = kept_of terms (events_of (notes_of hs))
+  abbrev said : List Numbered
+  said = numbered terms (events_of (notes_of hs))
 
   abbrev rests : Rests
   rests = rests_held e
 
   pub whole : IsSurveyOf e completeness limits log found bad terms (raws_of hs) (notes_of hs) → offences terms (notes_of hs) ≡ []
-      → IsExplained completeness limits log found (take 1 (map (λ (o : Offence). end_explained rests kept o.no) found)) bad (flaw_held e bad) (summary terms (events_of (notes_of hs)))
+      → IsExplained completeness limits log found (take 1 (map (λ (o : Offence). end_explained rests said o.no) found)) bad (flaw_held e bad) (summary terms (events_of (notes_of hs)))
   whole sv none =
       let p = sv.survey in
       let own = log_terms limits p.format in
@@ -109,7 +111,7 @@ module _ (e : SurveyReader) (completeness : Completeness) (limits : Bounds) (log
         flaw_is = flaw_said e limits log p.format p.records bad p.log_fault p.bad_is sv.flaw_known;
         comes_to = p.comes_to ∙ ap (λ (ns : List Noted). summary own (events_of ns)) sv.notes_are;
         explains = subst (λ (w : List Breach). AllZip (Explains rests own) (take 1 w) []) (sym quiet) tt;
-        shows = ap (take 1) (ap (map (λ (o : Offence). end_explained rests kept o.no)) are ∙ ends_are rests kept ends ∙ ap (λ t. map (end_explained rests (kept_of t (events_of (notes_of hs)))) ends) (sym sv.terms_are));
+        shows = ap (take 1) (ap (map (λ (o : Offence). end_explained rests said o.no)) are ∙ ends_are rests said ends ∙ ap (λ t. map (end_explained rests (numbered t (events_of (notes_of hs)))) ends) (sym sv.terms_are));
       }
 
 module _ (completeness : Completeness) (limits : Bounds) (e : SurveyReader) (start now : Told) (hs : List Heard) (end : End) (ended : Ended completeness limits e start now (raws_of hs) (notes_of hs) [] end) (x : Explanation) where
@@ -121,13 +123,13 @@ module _ (completeness : Completeness) (limits : Bounds) (e : SurveyReader) (sta
 
   by_found : (found : List Offence) → map offence_view end.listed.items ≡ found
       → verdict_view x.verdict ≡ first_verdict found (option_map verdict_view end.bad) (summary_behind e (notes_of hs))
-      → x.text.items ≡ explanation found (take 1 (map (λ (o : Offence). end_explained (rests_held e) (kept_of terms (events_of (notes_of hs))) o.no) found)) (option_map verdict_view end.bad) (flaw_held e (option_map verdict_view end.bad)) (summary_behind e (notes_of hs)) → Explained_
+      → x.text.items ≡ explanation found (take 1 (map (λ (o : Offence). end_explained (rests_held e) (numbered terms (events_of (notes_of hs))) o.no) found)) (option_map verdict_view end.bad) (flaw_held e (option_map verdict_view end.bad)) (summary_behind e (notes_of hs)) → Explained_
   by_found found is judges says =
       read_map limits start now (λ log. IsSurveyOf e completeness limits log (map offence_view end.listed.items) (option_map verdict_view end.bad) terms (raws_of hs) (notes_of hs))
       (λ log. IsExplanation completeness limits log (verdict_view x.verdict) x.text.items)
       (λ log sv. record {
         found = found;
-        explained = take 1 (map (λ (o : Offence). end_explained (rests_held e) (kept_of terms (events_of (notes_of hs))) o.no) found);
+        explained = take 1 (map (λ (o : Offence). end_explained (rests_held e) (numbered terms (events_of (notes_of hs))) o.no) found);
         bad = option_map verdict_view end.bad;
         flaw = flaw_held e (option_map verdict_view end.bad);
         s = summary_behind e (notes_of hs);
@@ -165,11 +167,11 @@ module _ (completeness : Completeness) (limits : Bounds) (e : SurveyReader) (sta
 
   -- something is
   pub ends_told : (o : given.Offence) (os : List given.Offence) → end.listed.items ≡ o ∷ os → verdict_view x.verdict ≡ (offence_view o).no
-      → ((kept : List Event) → Stands e.survey.walk.events.session (sent_in kept) → x.text.items ≡ report (offence_view o).no ++ said_of (end_explained (rests_held e) kept (offence_view o).no)) → Explained_ × AtEnd
+      → ((before : List Event) → StandsAfter e before → x.text.items ≡ report (offence_view o).no ++ said_of (end_explained (rests_held e) (numbered terms before) (offence_view o).no)) → Explained_ × AtEnd
   ends_told o os some named says =
-      let kept = kept_of terms (events_of (notes_of hs)) in (
+      let said = numbered terms (events_of (notes_of hs)) in (
         by_found (offence_view o ∷ map offence_view os) (ap (map offence_view) some) named
-            (says kept ended.walks.holds.sent ∙ ap (λ w. report (offence_view o).no ++ w) (sym (append-nil (said_of (end_explained (rests_held e) kept (offence_view o).no))))),
+            (says (events_of (notes_of hs)) (stands_after e (notes_of hs) ended.walks) ∙ ap (λ w. report (offence_view o).no ++ w) (sym (append-nil (said_of (end_explained (rests_held e) said (offence_view o).no))))),
         λ t yes. let same : verdict_view (verdicts.Yes t) ≡ (offence_view o).no = ap verdict_view (sym yes) ∙ named in absurd cc,
       )
 

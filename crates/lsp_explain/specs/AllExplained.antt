@@ -6,8 +6,9 @@ use Rattle.lsp_frame.specs.Bounds.{Bounds}
 use Rattle.lsp_frame.specs.declared.format.Format.{Format}
 use Rattle.lsp_log.specs.Log.{Record, IsLog}
 use Rattle.lsp_log.specs.declared.fault.LogCode.{LogCode}
+use Rattle.lsp_survey.specs.Asking.{numbered}
 use Rattle.lsp_types.specs.declared.side.Side.TheVariants.{Editor, Server}
-use Rattle.lsp_verdict.specs.Offences.{Offence, IsNoted, events_of, follows, kept_of}
+use Rattle.lsp_verdict.specs.Offences.{Offence, IsNoted, events_of, follows}
 use Rattle.lsp_verdict.specs.Outcome.{HasRest, ending, log_terms}
 use Rattle.lsp_verdict.specs.Placed.{Raw, Placed, joined}
 use Rattle.lsp_verdict.specs.Report.{report}
@@ -63,7 +64,7 @@ pub record AreAllSaid (completeness : Completeness) (limits : Bounds) (log : Lis
   pub flaw_is : flaw ≡ log_facts limits log format records log_fault
   pub comes_to : s ≡ summary (log_terms limits format) (events_of (notes_of heard))
   pub explains : AllZip (Explains rests (log_terms limits format)) (causes (log_terms limits format) heard) of_events
-  pub shows : explained ≡ of_events ++ map (end_explained rests (kept_of (log_terms limits format) (events_of (notes_of heard)))) (ends_listed completeness (log_terms limits format) (events_of (notes_of heard)) (ending log_fault rests.editor rests.server))
+  pub shows : explained ≡ of_events ++ map (end_explained rests (numbered (log_terms limits format) (events_of (notes_of heard)))) (ends_listed completeness (log_terms limits format) (events_of (notes_of heard)) (ending log_fault rests.editor rests.server))
 
 -- **the verdict on a log, and the explanation of all that is wrong with it**
 pub record IsAllExplained (completeness : Completeness) (limits : Bounds) (log : List ℕ) (v : Verdict) (out : List ℕ) : Type 0 where

@@ -7,16 +7,15 @@ use Rattle.lsp_frame.specs.Bounds.{Bounds}
 use Rattle.lsp_frame.specs.Sink.{Wrote, Stopped}
 use Rattle.lsp_frame.specs.Told.{Told, Took}
 use Rattle.lsp_log.specs.Log.{Record}
-use Rattle.lsp_session.specs.State.{Stands}
+use Rattle.lsp_survey.specs.Asking.{Numbered, numbered}
 use Rattle.lsp_survey.specs.Reads.{GaveEvent, Ended, EndedBehind}
 use Rattle.lsp_survey.specs.Reported.{IsTally, IsYes, sink_after}
 use Rattle.lsp_survey.specs.declared.offending.Heard as code_heard
 use Rattle.lsp_survey.specs.declared.survey_reader.End.{End}
 use Rattle.lsp_survey.specs.declared.survey_reader.SurveyReader.{SurveyReader}
 use Rattle.lsp_survey.specs.declared.tally.Tally.{Tally}
-use Rattle.lsp_verdict.specs.Event.{Event, sent_in}
 use Rattle.lsp_verdict.specs.Given.{offence_view, verdict_view}
-use Rattle.lsp_verdict.specs.Offences.{Noted, Offence}
+use Rattle.lsp_verdict.specs.Offences.{Noted, Offence, events_of}
 use Rattle.lsp_verdict.specs.RunIo.{OfRead, failures_after}
 use Rattle.lsp_verdict.specs.Survey.{first_verdict}
 use Rattle.lsp_verdict.specs.Verdict.{Verdict}
@@ -29,6 +28,7 @@ use Rattle.lsp_explain.specs.AllExplained.{is_cause, causes, cause_lines, all_cl
 use Rattle.lsp_explain.specs.Explained.{Heard, Breach, Explained, Explains, breach_at, raws_of, notes_of, end_explained}
 use Rattle.lsp_explain.specs.FlawFacts.{Rests}
 use Rattle.lsp_explain.specs.RunSteps.{IsSound, RestsBehind, flaw_held, rests_held, summary_behind}
+use Rattle.lsp_explain.specs.Standing.{StandsAfter, terms_in}
 use Rattle.lsp_explain.specs.declared.run.Explanation.{Explanation}
 
 -- ---- an event
@@ -94,16 +94,16 @@ TellsCauses completeness limits e t start now old new (Err fault) = PartTold com
 
 -- ---- the end
 
--- what is said of the end of a session, behind these kept events
-abbrev pub ends_said : Rests → List Event → List code_offence.Offence → List Explained
-ends_said rests kept listed = map (λ (o : Offence). end_explained rests kept o.no) (map offence_view listed)
+-- what is said of the end of a session, behind these messages
+abbrev pub ends_said : Rests → List Numbered → List code_offence.Offence → List Explained
+ends_said rests sent listed = map (λ (o : Offence). end_explained rests sent o.no) (map offence_view listed)
 
 -- what is written behind these offences: what is said of the end of the log, and the closing
 abbrev pub IsClosing : SurveyReader → Tally → End → Explanation → Type 0
 IsClosing e t end x =
-    (found : List Offence) (notes : List Noted) (kept : List Event) → IsTally t found → (found ≡ [] → IsSound e notes) → Stands e.survey.walk.events.session (sent_in kept)
+    (found : List Offence) (notes : List Noted) → IsTally t found → (found ≡ [] → IsSound e notes) → StandsAfter e (events_of notes)
     → length (found ++ map offence_view end.listed.items) < 2 ^ 64
-    → (x.text.items ≡ flat_map cause_lines (ends_said (rests_held e) kept end.listed.items) ++ all_closing (found ++ map offence_view end.listed.items) (option_map verdict_view end.bad) (flaw_held e (option_map verdict_view end.bad)) (summary_behind e notes))
+    → (x.text.items ≡ flat_map cause_lines (ends_said (rests_held e) (numbered (terms_in e) (events_of notes)) end.listed.items) ++ all_closing (found ++ map offence_view end.listed.items) (option_map verdict_view end.bad) (flaw_held e (option_map verdict_view end.bad)) (summary_behind e notes))
     × (verdict_view x.verdict ≡ first_verdict (found ++ map offence_view end.listed.items) (option_map verdict_view end.bad) (summary_behind e notes))
 
 -- the same where what is listed of the end is already among those found

@@ -26,7 +26,9 @@ use Rattle.lsp_explain.specs.DocumentFacts.{AreDocumentFacts}
 use Rattle.lsp_explain.specs.Fact.{Fact}
 use Rattle.lsp_explain.specs.FlawFacts.{Rests, rest_of, side_by, frame_facts, unfinished_facts, log_facts}
 use Rattle.lsp_explain.specs.Lines.{fact_lines, event_line, end_event}
-use Rattle.lsp_explain.specs.MessageFacts.{content_facts, session_facts, lack_facts}
+use Rattle.lsp_explain.specs.MessageFacts.{content_facts, session_facts}
+use Rattle.lsp_explain.specs.Traced.{AreTraced, lack_traced}
+use Rattle.lsp_survey.specs.Asking.{Numbered, numbered}
 
 -- ---- an event that offends
 
@@ -86,7 +88,7 @@ AreFacts rests terms kept raw (snapshot uri number text) rule facts = AreCallFac
 
 -- ---- what is said of it
 
--- the No, the line that names the event, and the facts
+-- the No, the line that names the event, and the facts, with the events that brought it
 pub record Explained : Type 0 where
   pub no : Verdict
   pub event : List ℕ
@@ -95,7 +97,7 @@ pub record Explained : Type 0 where
 pub record Explains (rests : Rests) (terms : Terms) (b : Breach) (e : Explained) : Type 0 where
   pub no_is : e.no ≡ no_by (events_of (notes_of b.before)) b.here.note.event b.rule
   pub event_is : e.event ≡ event_line (length b.before + 1) b.here.note.event
-  pub facts_are : AreFacts rests terms (kept_of terms (events_of (notes_of b.before))) b.here.raw b.here.note.event b.rule e.facts
+  pub facts_are : AreTraced (AreFacts rests terms (kept_of terms (events_of (notes_of b.before))) b.here.raw b.here.note.event b.rule) terms (events_of (notes_of b.before)) b.here.note.event b.rule e.facts
 
 -- ---- how a session ends
 
@@ -105,14 +107,14 @@ end_line (no rule by count event) = end_event event by
 end_line (yes s) = []
 end_line (bad_log at code) = []
 
--- 107 says how the frame begins that is not whole, 303 and 407 what waits after the kept events
-abbrev pub end_facts : Rests → List Event → Verdict → List Fact
-end_facts rests kept (no rule by count event) = if rule == 107 then unfinished_facts (rest_of rests (side_by by)) else lack_facts (sent_in kept)
-end_facts rests kept (yes s) = []
-end_facts rests kept (bad_log at code) = []
+-- 107 says how the frame begins that is not whole, 303 and 407 what waits after the kept messages
+abbrev pub end_facts : Rests → List Numbered → Verdict → List Fact
+end_facts rests said (no rule by count event) = if rule == 107 then unfinished_facts (rest_of rests (side_by by)) else lack_traced said
+end_facts rests said (yes s) = []
+end_facts rests said (bad_log at code) = []
 
-abbrev pub end_explained : Rests → List Event → Verdict → Explained
-end_explained rests kept v = record { no = v; event = end_line v; facts = end_facts rests kept v }
+abbrev pub end_explained : Rests → List Numbered → Verdict → Explained
+end_explained rests said v = record { no = v; event = end_line v; facts = end_facts rests said v }
 
 -- ---- the report
 
@@ -149,7 +151,7 @@ pub record IsExplained (completeness : Completeness) (limits : Bounds) (log : Li
   pub flaw_is : flaw ≡ log_facts limits log format records log_fault
   pub comes_to : s ≡ summary (log_terms limits format) (events_of (notes_of heard))
   pub explains : AllZip (Explains rests (log_terms limits format)) (take 1 (breaches (log_terms limits format) heard)) of_events
-  pub shows : explained ≡ take 1 (of_events ++ map (end_explained rests (kept_of (log_terms limits format) (events_of (notes_of heard)))) (ends_listed completeness (log_terms limits format) (events_of (notes_of heard)) (ending log_fault rests.editor rests.server)))
+  pub shows : explained ≡ take 1 (of_events ++ map (end_explained rests (numbered (log_terms limits format) (events_of (notes_of heard)))) (ends_listed completeness (log_terms limits format) (events_of (notes_of heard)) (ending log_fault rests.editor rests.server)))
 
 -- **the verdict on a log, and what explains it**: the first that its survey lists, else its fault, else Yes
 pub record IsExplanation (completeness : Completeness) (limits : Bounds) (log : List ℕ) (v : Verdict) (out : List ℕ) : Type 0 where

@@ -3,6 +3,8 @@ pub mod Lines
 pub mod FlawFacts
 pub mod MessageFacts
 pub mod DocumentFacts
+pub mod Traced
+pub mod Standing
 pub mod Explained
 pub mod ExplainLaws
 pub mod RunSteps

@@ -19,6 +19,7 @@ mod refused_change;
 mod run;
 mod run_all;
 mod said;
+mod trace;
 
 pub use documents::{act_facts, snapshot_facts};
 pub use fact::Fact;

@@ -61,7 +61,7 @@ pub fn content_facts(alloc: Global, content: &[u8]) -> Result<Vec<Fact>, Memory>
 }
 
 /// The id in a message, if it has one.
-fn id_in(message: &Message) -> Option<&Id>
+pub(crate) fn id_in(message: &Message) -> Option<&Id>
     ensures { option_map (λ i. id_view i.now) result ≡ spec.id_in (message_view message.now) }
 {
     match message {

@@ -3,11 +3,11 @@ ghost use Rattle.std.specs.Prelude.{◌≡◌, ◌+◌, ◌++◌, List, [], ℕ,
 ghost use Rattle.std.specs.Io.KnownBytes.{IsAtEnd};
 ghost use Rattle.lsp_frame.specs.Bounds.{Bounds, IsInRange};
 ghost use Rattle.lsp_frame.specs.Told.{Told, Took};
-ghost use Rattle.lsp_session.specs.State.{Stands};
 ghost use Rattle.lsp_log.specs.Reader.{shown_by};
+ghost use Rattle.lsp_survey.specs.Asking.{numbered};
 ghost use Rattle.lsp_survey.specs.Reads.{SoFar};
 ghost use Rattle.lsp_verdict.specs.Complete.{IsVerdictBy};
-ghost use Rattle.lsp_verdict.specs.Event.{Event, sent_in};
+ghost use Rattle.lsp_verdict.specs.Event.{Event};
 ghost use Rattle.lsp_verdict.specs.Given.{offence_view, verdict_view};
 ghost use Rattle.lsp_verdict.specs.Offences.{Noted};
 ghost use Rattle.lsp_verdict.specs.Report.{report};
@@ -17,13 +17,13 @@ ghost use Rattle.lsp_explain.specs.Explained.{BeginsExplanation, IsExplanation, 
 ghost use Rattle.lsp_explain.specs.FlawFacts.{Rests, flaw_facts, rest_of, side_by};
 ghost use Rattle.lsp_explain.specs.Lines.{fact_lines};
 ghost use Rattle.lsp_explain.specs.RunSteps.{EndsWhole, ExplainsLog, IsSound, TellsEnd, TellsOf, flaw_held, side_of, summary_behind};
+ghost use Rattle.lsp_explain.specs.Standing.{StandsAfter, terms_in};
 
 use crate::flaws::flaw_facts;
 use crate::lines::push_facts;
 use crate::said::{push_end, push_said};
 use lsp_frame::{Limits, Sink, Source, put_all};
 use lsp_rpc::{Memory, Side};
-use lsp_session::Session;
 use lsp_survey::{End, Found, Heard, Next, Offending, SurveyReader};
 use lsp_verdict::{Completeness, Offence, Outcome, RunFault, Summary, Verdict, Who, report_of};
 use std::alloc::Global;
@@ -134,14 +134,7 @@ pub(crate) fn explain_found(alloc: Global, events: &SurveyReader, found: &Found)
     let mut text = report_of(alloc, &verdict)?;
     let mut said = String::new(alloc);
     let rest = events.rest(side_of(&found.offending));
-    push_said(
-        alloc,
-        &mut said,
-        events.session(),
-        events.docs(),
-        rest,
-        found,
-    )?;
+    push_said(alloc, &mut said, events, rest, found)?;
     text.extend_from_slice(said.as_bytes())?;
     Ok(Explanation { text, verdict })
 }
@@ -168,12 +161,7 @@ fn explain_end(alloc: Global, events: &mut SurveyReader, end: End) -> Result<Exp
         return explain_sound(alloc, events, bad);
     };
     drop(bad);
-    explain_listed(
-        alloc,
-        events.session(),
-        events.rest(side_by(offence.who)),
-        offence,
-    )
+    explain_listed(alloc, events, events.rest(side_by(offence.who)), offence)
 }
 
 /// The side whose event it is; a snapshot is the editor's.
@@ -189,19 +177,19 @@ pub(crate) fn side_by(who: Who) -> Side
 /// What explains what is listed of the end of a session. The rest is of the side that it is said of.
 pub(crate) fn explain_listed(
     alloc: Global,
-    session: &Session,
+    events: &SurveyReader,
     rest: &[u8],
     listed: &Offence,
 ) -> Result<Explanation, Memory>
     ensures verdict { IfOk result (λ x. verdict_view x.verdict ≡ (offence_view listed.now).no) }
-    ensures text { IfOk result (λ x. (rests : Rests) (kept : List Event) → Stands session.now (sent_in kept)
+    ensures text { IfOk result (λ x. (rests : Rests) (before : List Event) → StandsAfter events.now before
         → rest.now ≡ rest_of rests (side_by listed.now.who)
-        → x.text.items ≡ report (offence_view listed.now).no ++ said_of (end_explained rests kept (offence_view listed.now).no)) }
+        → x.text.items ≡ report (offence_view listed.now).no ++ said_of (end_explained rests (numbered (terms_in events.now) before) (offence_view listed.now).no)) }
 {
     let verdict = listed.verdict();
     let mut text = report_of(alloc, &verdict)?;
     let mut said = String::new(alloc);
-    push_end(alloc, &mut said, session, rest, listed)?;
+    push_end(alloc, &mut said, events, rest, listed)?;
     text.extend_from_slice(said.as_bytes())?;
     Ok(Explanation { text, verdict })
 }

@@ -4,11 +4,11 @@ ghost use Rattle.std.specs.Io.KnownBytes.{IsAtEnd};
 ghost use Rattle.std.specs.List.{flat_map};
 ghost use Rattle.lsp_frame.specs.Bounds.{Bounds, IsInRange};
 ghost use Rattle.lsp_frame.specs.Told.{Told, Took};
-ghost use Rattle.lsp_session.specs.State.{Stands};
+ghost use Rattle.lsp_survey.specs.Asking.{numbered};
 ghost use Rattle.lsp_survey.specs.Reads.{SoFar, found_in};
 ghost use Rattle.lsp_survey.specs.Reported.{IsTally};
 ghost use Rattle.lsp_verdict.specs.Complete.{IsVerdictBy};
-ghost use Rattle.lsp_verdict.specs.Event.{Event, sent_in};
+ghost use Rattle.lsp_verdict.specs.Event.{Event};
 ghost use Rattle.lsp_verdict.specs.Given.{offence_view, verdict_view};
 ghost use Rattle.lsp_verdict.specs.Offences.{Offence as SpecOffence};
 ghost use Rattle.lsp_verdict.specs.Report.{line};
@@ -18,6 +18,7 @@ ghost use Rattle.lsp_explain.specs.AllExplained.{BeginsAllExplained, IsAllExplai
 ghost use Rattle.lsp_explain.specs.AllSteps.{CausesTold, IsClosing, IsLast, TellsAll, TellsCauses, TellsHeard, ends_said};
 ghost use Rattle.lsp_explain.specs.Explained.{flaw_lines};
 ghost use Rattle.lsp_explain.specs.RunSteps.{flaw_held, rests_held};
+ghost use Rattle.lsp_explain.specs.Standing.{StandsAfter, terms_in};
 
 use crate::run::{Explanation, explain_found, explain_listed, explain_sound, flaw_text, side_by};
 use lsp_frame::{Limits, Sink, Source, put_all};
@@ -189,14 +190,14 @@ fn ends_text(
     listed: &[Offence],
 ) -> Result<Vec<u8>, Memory>
     ensures tally { OnOk result ((found : List SpecOffence) → IsTally tally.old found → IsTally tally.new (found ++ map offence_view listed.now)) }
-    ensures text { IfOk result (λ text. (kept : List Event) → Stands events.now.survey.walk.events.session (sent_in kept)
-        → text.items ≡ flat_map cause_lines (ends_said (rests_held events.now) kept listed.now)) }
+    ensures text { IfOk result (λ text. (before : List Event) → StandsAfter events.now before
+        → text.items ≡ flat_map cause_lines (ends_said (rests_held events.now) (numbered (terms_in events.now) before) listed.now)) }
 {
     let mut text = Vec::new(alloc);
     for offence in listed {
         tally.add(offence);
         let rest = events.rest(side_by(offence.who));
-        let explanation = explain_listed(alloc, events.session(), rest, offence)?;
+        let explanation = explain_listed(alloc, events, rest, offence)?;
         text.extend_from_slice(explanation.text.as_slice())?;
     }
     Ok(text)

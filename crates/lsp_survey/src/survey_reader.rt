@@ -13,7 +13,9 @@ ghost use Rattle.lsp_verdict.specs.Verdict.{summary, yes};
 ghost use Rattle.lsp_survey.specs.Reads.{GivesBehind, HasHeard, HearsBehind, Pulls, PullsHere, SoFar, TakesBehind, TakesEntry};
 ghost use Rattle.lsp_survey.specs.Surveys.{IsRefitted, ShowsFront, stream_of};
 
+use crate::marks::Marks;
 use crate::offending::Heard;
+use crate::session_notes::SessionNotes;
 use crate::survey::Survey;
 use lsp_docs::Docs;
 use lsp_events::summary_of;
@@ -119,6 +121,21 @@ impl SurveyReader {
         ensures { result.now ≡ self.now.survey.walk.events.docs }
     {
         &self.survey.walk.events.docs
+    }
+
+    /// Which of the kept events heard so far left the documents as they are.
+    pub fn marks(&self) -> &Marks
+        ensures { result.now ≡ self.now.survey.walk.marks }
+    {
+        &self.survey.walk.marks
+    }
+
+    /// By which of the kept events heard so far requests were asked and answered, and which led to the
+    /// phase of the session.
+    pub fn session_notes(&self) -> &SessionNotes
+        ensures { result.now ≡ self.now.survey.walk.said }
+    {
+        &self.survey.walk.said
     }
 
     /// The bytes of a side behind its last whole frame.

@@ -9,7 +9,6 @@ pub returns : goal.returns
 returns c =
     let found = c.args.found.now in
     let said = string_bytes c.push_said.new.lines in
-    let says = rw (c.session.ensures, c.docs.ensures) at c.in_ok-push_said.ensures in
     let text =
     c.in_ok-extend_from_slice.ensures.items ∙ ap (λ w. c.in_ok-text.text.items ++ w) c.as_bytes.ensures.value
     ∙ ap (λ w. w ++ said) (c.in_ok-text.ensures ∙ ap report c.verdict-verdict.ensures) in
@@ -17,5 +16,5 @@ returns c =
     subst (λ s. ShowsFront limits s so.records c.rest-rest.result.now) c.side_of.ensures
     (c.rest-rest.ensures.broken limits start now past notes prior so (ap (λ s. (stream_of c.args.events.now.survey s).ended) c.side_of.ensures ∙ ended)) in
     tells c.args.events.now found _ c.rest-rest.result.now said text c.verdict-verdict.ensures
-    (λ raw event kept holds reads is offends. let r = says raw event kept holds reads is offends in (r.0, λ rests shows. r.1 rests shows, r.2 ∙ ap (λ w. w ++ (event_line found.offence.event event ++ fact_lines r.0)) c.new-said.ensures.bytes))
+    (λ raw event before stands number reads is offends. let r = c.in_ok-push_said.ensures raw event before stands number reads is offends in (r.0, λ rests shows. r.1 rests shows, r.2 ∙ ap (λ w. w ++ (event_line found.offence.event event ++ fact_lines r.0)) c.new-said.ensures.bytes))
     seen
