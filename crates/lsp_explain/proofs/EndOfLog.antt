@@ -49,7 +49,7 @@ map_nil f [] e = refl
 map_nil f (x ∷ xs) e = absurd cc
 
 -- what is listed of an end is explained by itself
-ends_are : (rests : Rests) (said : List Numbered) (vs : List Verdict) → map (λ (o : Offence). end_explained rests said o.no) (map by_itself vs) ≡ map (end_explained rests said) vs
+pub ends_are : (rests : Rests) (said : List Numbered) (vs : List Verdict) → map (λ (o : Offence). end_explained rests said o.no) (map by_itself vs) ≡ map (end_explained rests said) vs
 ends_are rests said [] = refl
 ends_are rests said (v ∷ vs) = ap (λ w. end_explained rests said v ∷ w) (ends_are rests said vs)
 
@@ -67,7 +67,7 @@ held_rest e Editor = refl
 held_rest e Server = refl
 
 -- and of the fault of a log
-flaw_said : (e : SurveyReader) (limits : Bounds) (log : List ℕ) (format : Option Format) (records : List Record) (bad : Option Verdict) (flaw : Option (ℕ × LogCode)) → bad ≡ bad_log_of flaw → KnowsFlaw e.log limits log format records flaw
+pub flaw_said : (e : SurveyReader) (limits : Bounds) (log : List ℕ) (format : Option Format) (records : List Record) (bad : Option Verdict) (flaw : Option (ℕ × LogCode)) → bad ≡ bad_log_of flaw → KnowsFlaw e.log limits log format records flaw
     → flaw_held e bad ≡ log_facts limits log format records flaw
 flaw_said e limits log format records bad None is known = ap (flaw_held e) is
 flaw_said e limits log format records bad (Some (number, code)) is known =

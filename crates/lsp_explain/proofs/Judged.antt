@@ -31,7 +31,7 @@ survey_in completeness limits log found explained bad flaw s e = record {
   comes_to = e.comes_to;
 }
 
-some_by : (completeness : Completeness) (limits : Bounds) (log : List ℕ) → (v : Verdict) × IsVerdictBy completeness limits log v
+pub some_by : (completeness : Completeness) (limits : Bounds) (log : List ℕ) → (v : Verdict) × IsVerdictBy completeness limits log v
 some_by Ignored limits log = some_verdict limits log
 some_by Required limits log = some_complete_verdict limits log
 

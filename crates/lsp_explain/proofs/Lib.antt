@@ -15,3 +15,6 @@ pub mod Telling
 pub mod ToldFirst
 pub mod Worked
 pub mod Tracing
+pub mod AllCauses
+pub mod AllTelling
+pub mod AllEnding

@@ -10,3 +10,5 @@ pub mod ExplainLaws
 pub mod RunSteps
 pub mod Making
 pub mod Comparing
+pub mod AllExplained
+pub mod AllSteps

@@ -70,9 +70,9 @@ pub fn run_explain<R: Source, W: Sink>(
 
 /// What is written of a verdict, and the verdict.
 #[derive(Drop)]
-struct Explanation {
-    text: Vec<u8>,
-    verdict: Verdict,
+pub(crate) struct Explanation {
+    pub text: Vec<u8>,
+    pub verdict: Verdict,
 }
 
 /// Reads a log, and finds what explains the verdict on it.
@@ -127,7 +127,7 @@ fn explain_heard(
 }
 
 /// What explains an offence that was found.
-fn explain_found(alloc: Global, events: &SurveyReader, found: &Found) -> Result<Explanation, Memory>
+pub(crate) fn explain_found(alloc: Global, events: &SurveyReader, found: &Found) -> Result<Explanation, Memory>
     ensures { IfOk result (TellsOf events.now found.now) }
 {
     let verdict = found.offence.verdict();
@@ -165,7 +165,7 @@ fn explain_end(alloc: Global, events: &mut SurveyReader, end: End) -> Result<Exp
 }
 
 /// The side whose event it is; a snapshot is the editor's.
-fn side_by(who: Who) -> Side
+pub(crate) fn side_by(who: Who) -> Side
     ensures { result ≡ side_by who }
 {
     match who {
@@ -175,7 +175,7 @@ fn side_by(who: Who) -> Side
 }
 
 /// What explains what is listed of the end of a session. The rest is of the side that it is said of.
-fn explain_listed(
+pub(crate) fn explain_listed(
     alloc: Global,
     events: &SurveyReader,
     rest: &[u8],
@@ -195,7 +195,7 @@ fn explain_listed(
 }
 
 /// What explains the verdict where nothing is listed: Yes, or the fault of the log.
-fn explain_sound(
+pub(crate) fn explain_sound(
     alloc: Global,
     events: &mut SurveyReader,
     bad: Option<Verdict>,
@@ -212,7 +212,7 @@ fn explain_sound(
 }
 
 /// The lines that tell where a log has its fault, if it has one.
-fn flaw_text(alloc: Global, events: &SurveyReader, bad: &Option<Verdict>) -> Result<String, Memory>
+pub(crate) fn flaw_text(alloc: Global, events: &SurveyReader, bad: &Option<Verdict>) -> Result<String, Memory>
     ensures { IfOk result (λ text. string_bytes text ≡ flaw_lines (option_map verdict_view bad.now) (flaw_held events.now (option_map verdict_view bad.now))) }
 {
     let mut text = String::new(alloc);

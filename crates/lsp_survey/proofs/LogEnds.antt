@@ -19,7 +19,7 @@ use Rattle.lsp_log.specs.declared.record.Record as code
 use Rattle.lsp_session.specs.Incomplete.{incomplete}
 use Rattle.lsp_types.specs.declared.side.Side.{Side}
 use Rattle.lsp_types.specs.declared.side.Side.TheVariants.{Editor, Server}
-use Rattle.lsp_survey.specs.Reads.{SoFar, Ended, Gives, BrokeOff, TakesEntry, Ready, IsLogOf, IsSurveyOf}
+use Rattle.lsp_survey.specs.Reads.{GoesBehind, SoFarBehind, GaveBehind, EndedBehind, SoFar, Ended, Gives, BrokeOff, TakesEntry, Ready, IsLogOf, IsSurveyOf}
 use Rattle.lsp_survey.specs.Surveys.{Awaits, Surveys, TakesOne}
 use Rattle.lsp_survey.specs.declared.offending.Heard.{Heard}
 use Rattle.lsp_survey.specs.declared.survey.Survey.{Survey}
@@ -53,7 +53,7 @@ use Rattle.lsp_verdict.proofs.ExactCounts.{capped_is, no_exact}
 use Rattle.lsp_verdict.proofs.Offences.Offending.{all_are_kept, nothing_listed}
 use Rattle.lsp_verdict.proofs.RunReading.{read_map}
 use Rattle.lsp_survey.proofs.Ending.{given_by, rest_held}
-use Rattle.lsp_survey.proofs.Reading.{event_given, notes_few, ready_begins, ready_few, survey_of}
+use Rattle.lsp_survey.proofs.Reading.{event_given, not_behind, notes_few, ready_begins, ready_few, survey_of}
 
 -- ---- exact numbers
 
@@ -182,7 +182,7 @@ module _ (completeness : Completeness) (limits : Bounds) (e : SurveyReader) (sta
   awaits_none : Awaits limits None e.survey records h.due
   awaits_none = subst (λ (t : Option Side). Awaits limits t e.survey records h.due) r.idle h.awaits
 
-  whole_here : (log : List ℕ) → IsLogOf e.log limits records flaw log → IsSurveyOf e completeness limits log (found ++ map offence_view end.listed.items) (option_map verdict_view end.bad) own past notes
+  unfoldable whole_here : (log : List ℕ) → IsLogOf e.log limits records flaw log → IsSurveyOf e completeness limits log (found ++ map offence_view end.listed.items) (option_map verdict_view end.bad) own past notes
   unfolding survey_of
   whole_here log is = record {
     survey = survey_of completeness limits log e.log.format records flaw is.0 past placed notes h.are_noted (found ++ map offence_view end.listed.items) (option_map verdict_view end.bad) (summary own (events_of notes))
@@ -199,6 +199,7 @@ module _ (completeness : Completeness) (limits : Bounds) (e : SurveyReader) (sta
   ended_here = record {
     whole = read_map limits start now (IsLogOf e.log limits records flaw) (λ log. IsSurveyOf e completeness limits log (found ++ map offence_view end.listed.items) (option_map verdict_view end.bad) own past notes) whole_here known;
     walks = h.walks;
+    terms_are = same_terms;
     lists = own_found;
     of_read = read_map limits start now (λ log. IsLog limits log e.log.format records flaw) (λ log. IsSurvey completeness limits log (found ++ map offence_view end.listed.items) (option_map verdict_view end.bad) (summary own (events_of notes)))
         (λ log is_log. survey_of completeness limits log e.log.format records flaw is_log past placed notes h.are_noted (found ++ map offence_view end.listed.items) (option_map verdict_view end.bad) (summary own (events_of notes))
@@ -220,6 +221,14 @@ module _ (completeness : Completeness) (limits : Bounds) (e : SurveyReader) (sta
     exact = yes_exact own (events_of notes) small;
   }
 
+  -- these are all its records
+  pub ended_behind : EndedBehind records completeness limits e start now past notes found end
+  unfolding whole_here survey_of
+  ended_behind =
+      read_map limits start now (IsLogOf e.log limits records flaw)
+      (λ log. (is : IsSurveyOf e completeness limits log (found ++ map offence_view end.listed.items) (option_map verdict_view end.bad) own past notes) × GoesBehind records is.survey.records)
+      (λ log is. (whole_here log is, not_behind records)) known
+
 -- ---- one more record
 
 -- a log with one more record first has those before it first
@@ -236,7 +245,7 @@ fewer_first limits known records next start now has =
 
 module _ (completeness : Completeness) (limits : Bounds) (e : SurveyReader) (t : Survey) (start now : Told) (records : List Record) (next_record : Record) (past : List Raw) (notes : List Noted) (found : List Offence)
     (r : Ready limits t e.log.format records past notes found) (same : e.log.limits ≡ limits) (at : IsAt e.log start now (records ++ next_record ∷ [])) where
-  first : OfRead limits start now (HasFirst limits e.log.format records)
+  pub first : OfRead limits start now (HasFirst limits e.log.format records)
   first = fewer_first limits e.log.format records next_record start now (is_first e.log limits start now (records ++ next_record ∷ []) same at)
 
   -- memory was refused for it
@@ -244,7 +253,7 @@ module _ (completeness : Completeness) (limits : Bounds) (e : SurveyReader) (t :
   record_refused = ready_begins completeness limits t start now e.log.format records past notes found r first at.failures
 
   -- it was taken
-  pub record_taken : e.survey.format ≡ t.format → Surveys limits e.survey (records ++ next_record ∷ []) past notes → SoFar limits e start now past notes found
+  unfoldable pub record_taken : e.survey.format ≡ t.format → Surveys limits e.survey (records ++ next_record ∷ []) past notes → SoFar limits e start now past notes found
   record_taken fits surveys = record {
     records = records ++ next_record ∷ [];
     at = at;
@@ -254,11 +263,19 @@ module _ (completeness : Completeness) (limits : Bounds) (e : SurveyReader) (t :
     lists = r.lists ∙ ap (λ (f : Format). offences (terms_of limits f) notes) (sym fits);
   }
 
-  pub record_heard : (given : Heard) → e.survey.format ≡ t.format → TakesOne limits e.survey (records ++ next_record ∷ []) past notes (Some given) → Gives completeness limits e start now past notes found (next.Event given)
+  unfoldable pub record_heard : (given : Heard) → e.survey.format ≡ t.format → TakesOne limits e.survey (records ++ next_record ∷ []) past notes (Some given) → Gives completeness limits e start now past notes found (next.Event given)
   record_heard given fits one =
       event_given limits e start now (records ++ next_record ∷ []) past notes found given at same (fits ∙ r.fits) r.surveys.range
       (ready_few limits t start now e.log.format records past notes found r first)
       (r.lists ∙ ap (λ (f : Format). offences (terms_of limits f) notes) (sym fits)) one
+
+  pub taken_behind : e.survey.format ≡ t.format → Surveys limits e.survey (records ++ next_record ∷ []) past notes → SoFarBehind records limits e start now past notes found
+  unfolding record_taken
+  taken_behind fits surveys = (record_taken fits surveys, (next_record ∷ [], refl))
+
+  pub heard_record_behind : (given : Heard) → e.survey.format ≡ t.format → TakesOne limits e.survey (records ++ next_record ∷ []) past notes (Some given) → GaveBehind records limits e start now past notes found given
+  unfolding record_heard event_given
+  heard_record_behind given fits one = (record_heard given fits one, (next_record ∷ [], refl))
 
 -- a log with just these records has them first
 pub end_first : (limits : Bounds) (known : Option Format) (records : List Record) (flaw : Option (ℕ × LogCode)) (start now : Told) → HasRecords limits start now known records flaw → OfRead limits start now (HasFirst limits known records)

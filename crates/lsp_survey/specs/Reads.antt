@@ -24,11 +24,11 @@ use Rattle.lsp_survey.specs.declared.survey_reader.End.{End}
 use Rattle.lsp_survey.specs.declared.survey_reader.Next.{Next}
 use Rattle.lsp_survey.specs.declared.survey_reader.Next.TheVariants as next
 use Rattle.lsp_survey.specs.declared.survey_reader.SurveyReader.{SurveyReader}
-use Rattle.lsp_verdict.specs.Entries.{IsAt}
+use Rattle.lsp_verdict.specs.Entries.{IsAt, IsKnown}
 use Rattle.lsp_verdict.specs.Given.{as_given, offence_view, verdict_view}
 use Rattle.lsp_verdict.specs.Offences.{Noted, Offence, IsNoted, events_of, kept_of, offence_by, offences, rule_at}
 use Rattle.lsp_verdict.specs.Outcome.{format_or_one, log_terms}
-use Rattle.lsp_verdict.specs.Placed.{Raw}
+use Rattle.lsp_verdict.specs.Placed.{Raw, Placed}
 use Rattle.lsp_verdict.specs.RunIo.{OfRead, failures_after}
 use Rattle.lsp_verdict.specs.Survey.{IsSurvey, is_frame_fault}
 use Rattle.lsp_verdict.specs.Verdict.{Summary, Verdict, summary, yes}
@@ -41,6 +41,21 @@ use Rattle.lsp_verdict.specs.declared.outcome.RunFault.TheVariants as faults
 -- what is listed of the log begins with these offences
 abbrev pub BeginsSurvey : Completeness → Bounds → List Offence → List ℕ → Type 0
 BeginsSurvey completeness limits found log = (later : List Offence) × (bad : Option Verdict) × (s : Summary) × IsSurvey completeness limits log (found ++ later) bad s
+
+-- these records go on behind those
+abbrev pub GoesBehind : List Record → List Record → Type 0
+GoesBehind front records = (more : List Record) × (records ≡ front ++ more)
+
+-- the log has the format known, these records first, and these events
+pub record HasHeard (limits : Bounds) (known : Option Format) (front : List Record) (past : List Raw) (log : List ℕ) : Type 0 where
+  pub format : Option Format
+  pub records : List Record
+  pub log_fault : Option (ℕ × LogCode)
+  pub later : List Raw
+  pub is_log : IsLog limits log format records log_fault
+  pub goes : GoesBehind front records
+  pub placed_are : Placed limits records (past ++ later)
+  pub is_known : IsKnown known format
 
 -- ---- a reader of events
 
@@ -106,6 +121,7 @@ pub record Ended (completeness : Completeness) (limits : Bounds) (e : SurveyRead
   pub of_read : OfRead limits start now (λ log. IsSurvey completeness limits log (found ++ map offence_view end.listed.items) (option_map verdict_view end.bad) (summary e.survey.walk.events.docs.terms (events_of notes)))
   pub whole : OfRead limits start now (λ log. IsSurveyOf e completeness limits log (found ++ map offence_view end.listed.items) (option_map verdict_view end.bad) e.survey.walk.events.docs.terms past notes)
   pub walks : Walks e.survey.walk notes
+  pub terms_are : e.survey.walk.events.docs.terms ≡ log_terms limits e.log.format
   pub lists : found ≡ offences e.survey.walk.events.docs.terms notes
   pub failures : now.failures ≡ start.failures
   pub met : end.bad ≡ None → IsAtEnd now.bytes
@@ -147,3 +163,29 @@ pub record Ready (limits : Bounds) (s : Survey) (format : Option Format) (record
   pub fits : s.format ≡ format_or_one format
   pub early : format ≡ None → records ≡ []
   pub lists : found ≡ offences (terms_of limits s.format) notes
+
+-- ---- records that go on
+
+-- as far as the log was heard, its records go on behind these
+abbrev pub SoFarBehind : List Record → Bounds → SurveyReader → Told → Told → List Raw → List Noted → List Offence → Type 0
+SoFarBehind front limits e start now past notes found = (so : SoFar limits e start now past notes found) × GoesBehind front so.records
+
+abbrev pub GaveBehind : List Record → Bounds → SurveyReader → Told → Told → List Raw → List Noted → List Offence → Heard → Type 0
+GaveBehind front limits e start now past before found given = (gave : GaveEvent limits e start now past before found given) × GoesBehind front gave.so_far.records
+
+-- the records of the log do
+abbrev pub EndedBehind : List Record → Completeness → Bounds → SurveyReader → Told → Told → List Raw → List Noted → List Offence → End → Type 0
+EndedBehind front completeness limits e start now past notes found end =
+    OfRead limits start now (λ log. (is : IsSurveyOf e completeness limits log (found ++ map offence_view end.listed.items) (option_map verdict_view end.bad) e.survey.walk.events.docs.terms past notes) × GoesBehind front is.survey.records)
+
+abbrev pub GivesBehind : List Record → Completeness → Bounds → SurveyReader → Told → Told → List Raw → List Noted → List Offence → Next → Type 0
+GivesBehind front completeness limits e start now past before found (next.Event given) = GaveBehind front limits e start now past before found given
+GivesBehind front completeness limits e start now past before found (next.End end) = EndedBehind front completeness limits e start now past before found end
+
+abbrev pub HearsBehind : List Record → Bounds → SurveyReader → Told → Told → List Raw → List Noted → List Offence → Option Heard → Type 0
+HearsBehind front limits e start now past before found None = SoFarBehind front limits e start now past before found
+HearsBehind front limits e start now past before found (Some given) = GaveBehind front limits e start now past before found given
+
+abbrev pub TakesBehind : List Record → Completeness → Bounds → SurveyReader → Told → Told → List Raw → List Noted → List Offence → Option Next → Type 0
+TakesBehind front completeness limits e start now past before found None = SoFarBehind front limits e start now past before found
+TakesBehind front completeness limits e start now past before found (Some given) = GivesBehind front completeness limits e start now past before found given

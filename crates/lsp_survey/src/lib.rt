@@ -29,3 +29,4 @@ pub use offending::{Found, Heard, Offending};
 pub use run::run_survey;
 pub use session_notes::SessionNotes;
 pub use survey_reader::{End, Next, SurveyReader};
+pub use tally::Tally;

@@ -1,15 +1,16 @@
 //! The events of a log, heard one by one past each that offends, up to its end.
-ghost use Rattle.std.specs.Prelude.{◌≡◌, ◌<◌, [], List, None, true, Ok, IfOk, option_map};
+ghost use Rattle.std.specs.Prelude.{◌≡◌, ◌<◌, [], List, None, true, Ok, IfOk, OnErr, option_map};
 ghost use Rattle.lsp_events.specs.Standing.{Follows};
 ghost use Rattle.lsp_frame.specs.Bounds.{Bounds, IsInRange};
 ghost use Rattle.lsp_frame.specs.Told.{Told};
-ghost use Rattle.lsp_log.specs.Reader.{ahead, shown_by};
+ghost use Rattle.lsp_log.specs.Reader.{KeepsFormat, ahead, shown_by};
 ghost use Rattle.lsp_verdict.specs.Given.{as_given, verdict_view};
 ghost use Rattle.lsp_verdict.specs.Offences.{Noted, Offence as SpecOffence, events_of};
 ghost use Rattle.lsp_verdict.specs.Placed.{Raw};
+ghost use Rattle.lsp_verdict.specs.RunIo.{OfRead};
 ghost use Rattle.lsp_verdict.specs.Survey.{first_verdict};
 ghost use Rattle.lsp_verdict.specs.Verdict.{summary, yes};
-ghost use Rattle.lsp_survey.specs.Reads.{Pulls, PullsHere, SoFar, TakesEntry};
+ghost use Rattle.lsp_survey.specs.Reads.{GivesBehind, HasHeard, HearsBehind, Pulls, PullsHere, SoFar, TakesBehind, TakesEntry};
 ghost use Rattle.lsp_survey.specs.Surveys.{IsRefitted, ShowsFront, stream_of};
 
 use crate::marks::Marks;
@@ -74,8 +75,16 @@ impl SurveyReader {
     /// `Read` where the source failed, and `Memory` where memory was refused.
     pub fn next<R: Source>(&mut self, reader: &mut R) -> Result<Next, RunFault>
         ensures completeness { self.new.completeness ≡ self.old.completeness }
+        // The format of the log stays, once it is known.
+        ensures format { KeepsFormat self.old.log.format self.new.log.format }
         ensures answer { (limits : Bounds) (start : Told) (past : List Raw) (before : List Noted) (found : List SpecOffence) → SoFar limits self.old start (R.told reader.old) past before found
             → Pulls self.old.completeness limits self.new start (R.told reader.new) past before found result }
+        // The records of the log go on behind those before.
+        ensures later { IfOk result (λ next. (limits : Bounds) (start : Told) (past : List Raw) (before : List Noted) (found : List SpecOffence) → (so : SoFar limits self.old start (R.told reader.old) past before found)
+            → GivesBehind so.records self.old.completeness limits self.new start (R.told reader.new) past before found next) }
+        // Where reading breaks off, the log read begins with the records before, and the events heard of them.
+        ensures broke { OnErr result ((limits : Bounds) (start : Told) (past : List Raw) (before : List Noted) (found : List SpecOffence) → (so : SoFar limits self.old start (R.told reader.old) past before found)
+            → OfRead limits start (R.told reader.new) (HasHeard limits self.old.log.format so.records past)) }
     {
         loop {
             if let Some(heard) = self.hear()? {
@@ -163,8 +172,12 @@ impl SurveyReader {
         ensures log { self.new.log ≡ self.old.log }
         ensures completeness { self.new.completeness ≡ self.old.completeness }
         ensures idle { result ≡ Ok None → self.new.survey.turn ≡ None }
-        ensures answer { (limits : Bounds) (start now : Told) (past : List Raw) (before : List Noted) (found : List SpecOffence) → SoFar limits self.old start now past before found
+        ensures answer { (limits : Bounds) (start now : Told) (past : List Raw) (before : List Noted) (found : List SpecOffence) → (so : SoFar limits self.old start now past before found)
             → PullsHere self.old.completeness limits self.new start now past before found result }
+        ensures later { IfOk result (λ answer. (limits : Bounds) (start now : Told) (past : List Raw) (before : List Noted) (found : List SpecOffence) → (so : SoFar limits self.old start now past before found)
+            → HearsBehind so.records limits self.new start now past before found answer) }
+        ensures broke { OnErr result ((limits : Bounds) (start now : Told) (past : List Raw) (before : List Noted) (found : List SpecOffence) → (so : SoFar limits self.old start now past before found)
+            → OfRead limits start now (HasHeard limits self.old.log.format so.records past)) }
     {
         Ok(self.survey.hear()?)
     }
@@ -174,9 +187,14 @@ impl SurveyReader {
     fn take_entry<R: Source>(&mut self, reader: &mut R) -> Result<Option<Next>, RunFault>
         requires idle { self.old.survey.turn ≡ None }
         ensures completeness { self.new.completeness ≡ self.old.completeness }
+        ensures format { KeepsFormat self.old.log.format self.new.log.format }
         ensures less { result ≡ Ok None → ahead self.new.log < ahead self.old.log }
-        ensures answer { (limits : Bounds) (start : Told) (past : List Raw) (before : List Noted) (found : List SpecOffence) → SoFar limits self.old start (R.told reader.old) past before found
+        ensures answer { (limits : Bounds) (start : Told) (past : List Raw) (before : List Noted) (found : List SpecOffence) → (so : SoFar limits self.old start (R.told reader.old) past before found)
             → TakesEntry self.old.completeness limits self.new start (R.told reader.new) past before found result }
+        ensures later { IfOk result (λ answer. (limits : Bounds) (start : Told) (past : List Raw) (before : List Noted) (found : List SpecOffence) → (so : SoFar limits self.old start (R.told reader.old) past before found)
+            → TakesBehind so.records self.old.completeness limits self.new start (R.told reader.new) past before found answer) }
+        ensures broke { OnErr result ((limits : Bounds) (start : Told) (past : List Raw) (before : List Noted) (found : List SpecOffence) → (so : SoFar limits self.old start (R.told reader.old) past before found)
+            → OfRead limits start (R.told reader.new) (HasHeard limits self.old.log.format so.records past)) }
     {
         let entry = next_entry(&mut self.log, reader)?;
         follow_format(&self.log, &mut self.survey);
