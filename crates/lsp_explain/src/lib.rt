@@ -2,7 +2,7 @@
 //!
 //! A [`Fact`] is one line of an explanation. [`run_explain`] reads a log and explains the verdict on it,
 //! and [`run_explain_all`] all that is wrong with it; [`act_facts`], [`snapshot_facts`], [`session_facts`],
-//! [`content_facts`], [`frame_facts`], [`unfinished_facts`], [`flaw_facts`] and [`lack_facts`] are their parts.
+//! [`content_facts`], [`frame_facts`], [`unfinished_facts`] and [`flaw_facts`] are their parts.
 #![tactic(auto)]
 
 mod difference;
@@ -25,6 +25,6 @@ pub use documents::{act_facts, snapshot_facts};
 pub use fact::Fact;
 pub use flaws::{flaw_facts, frame_facts, unfinished_facts};
 pub use laws::{explanation_begins_with_report, explanation_of_yes_is_report};
-pub use messages::{content_facts, lack_facts, session_facts};
+pub use messages::{content_facts, session_facts};
 pub use run::run_explain;
 pub use run_all::run_explain_all;
