@@ -160,9 +160,11 @@ module _ (completeness : Completeness) (limits : Bounds) (e f : SurveyReader) (t
 
   pub far : (more : List Explained) → AreSaid limits gave.0.so_far.records terms (cause_at terms inv.hs here) more → SaidFar (inv.said ++ more) (raws_of all) (notes_of all)
   far more are =
-      let first : SaidFar (inv.said ++ more) (raws_of inv.hs ++ gave.0.raw ∷ []) (notes_of inv.hs ++ gave.0.n ∷ []) =
-      (gave.0.so_far, λ rests behind. subst (λ (w : List Breach). AllZip (Explains rests terms) w (inv.said ++ more)) (sym (causes-push terms inv.hs here))
-          (zip_append (Explains rests terms) (causes terms inv.hs) (cause_at terms inv.hs here) inv.said more (before rests behind) (are rests behind))) in
+      let first : SaidFar (inv.said ++ more) (raws_of inv.hs ++ gave.0.raw ∷ []) (notes_of inv.hs ++ gave.0.n ∷ []) = (
+        gave.0.so_far,
+        λ rests behind. subst (λ (w : List Breach). AllZip (Explains rests terms) w (inv.said ++ more)) (sym (causes-push terms inv.hs here))
+            (zip_append (Explains rests terms) (causes terms inv.hs) (cause_at terms inv.hs here) inv.said more (before rests behind) (are rests behind)),
+      ) in
       subst (λ (w : List Raw). SaidFar (inv.said ++ more) w (notes_of all)) (sym (raws-append inv.hs (here ∷ [])))
       (subst (λ (w : List Noted). SaidFar (inv.said ++ more) (raws_of inv.hs ++ gave.0.raw ∷ []) w) (sym (notes-append inv.hs (here ∷ []))) first)
 

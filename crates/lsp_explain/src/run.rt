@@ -127,7 +127,11 @@ fn explain_heard(
 }
 
 /// What explains an offence that was found.
-pub(crate) fn explain_found(alloc: Global, events: &SurveyReader, found: &Found) -> Result<Explanation, Memory>
+pub(crate) fn explain_found(
+    alloc: Global,
+    events: &SurveyReader,
+    found: &Found,
+) -> Result<Explanation, Memory>
     ensures { IfOk result (TellsOf events.now found.now) }
 {
     let verdict = found.offence.verdict();
@@ -212,7 +216,11 @@ pub(crate) fn explain_sound(
 }
 
 /// The lines that tell where a log has its fault, if it has one.
-pub(crate) fn flaw_text(alloc: Global, events: &SurveyReader, bad: &Option<Verdict>) -> Result<String, Memory>
+pub(crate) fn flaw_text(
+    alloc: Global,
+    events: &SurveyReader,
+    bad: &Option<Verdict>,
+) -> Result<String, Memory>
     ensures { IfOk result (λ text. string_bytes text ≡ flaw_lines (option_map verdict_view bad.now) (flaw_held events.now (option_map verdict_view bad.now))) }
 {
     let mut text = String::new(alloc);
