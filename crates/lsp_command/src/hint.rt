@@ -27,6 +27,11 @@ pub enum Hint {
 }
 
 impl fmt::Display for Hint {
+    ghost use Rattle.std.specs.Prelude.{Some};
+    ghost use Rattle.lsp_command.specs.Hints.{hint_text};
+
+    ghost output = { λ hint. Some (hint_text hint) };
+
     fn fmt<W: fmt::Write>(&self, f: &mut fmt::Formatter<W>) -> fmt::Result {
         f.write_str(match self {
             Hint::Empty => "the input is empty: the recorder wrote nothing",
