@@ -3,8 +3,7 @@ use Rattle.std.specs.Prelude.{map, not, ◌&&◌, ◌==◌, if◌then◌else◌,
 use Rattle.std.specs.Global.{Global}
 use Rattle.std.specs.List.{list_any}
 use Rattle.std.proofs.lemmas.Bool.Decides.{nat_tests}
-use Rattle.std.proofs.Common.{◌≡◌, ℕ, ◌<◌, Bool, true, false, true≢false, List, [], ◌∷◌, ◌++◌, length, Option, Some, None, refl, sym, ap, subst, ◌∙◌, append-nil, arith}
-use Rattle.lsp_docs.specs.Terms.{Terms}
+use Rattle.std.proofs.Common.{◌≡◌, ℕ, ◌<◌, Bool, true, false, List, [], ◌∷◌, ◌++◌, length, Option, None, refl, sym, ap, subst, ◌∙◌, arith}
 use Rattle.lsp_frame.specs.Bounds.{Bounds}
 use Rattle.lsp_frame.specs.Decoder as decoder
 use Rattle.lsp_frame.specs.Frame.{IsStream}
@@ -14,7 +13,7 @@ use Rattle.lsp_log.specs.Log.{Record}
 use Rattle.lsp_survey.specs.Surveys.{Awaits, IsSpent, Surveys, lack_by}
 use Rattle.lsp_survey.specs.declared.survey.Survey.{Survey}
 use Rattle.lsp_verdict.specs.Counting.{AreCounts}
-use Rattle.lsp_verdict.specs.Event.{Event, sent_in}
+use Rattle.lsp_verdict.specs.Event.{Event}
 use Rattle.lsp_verdict.specs.Given.{given_offence}
 use Rattle.lsp_verdict.specs.Offences.{Noted, Offence, events_of}
 use Rattle.lsp_verdict.specs.Placed.{Raw, joined}

@@ -1,19 +1,18 @@
 -- The requests of one side, with one message more.
-use Rattle.std.specs.Prelude.{◌-◌, drop, length, map, nat_lt, unwrap_or, option_map, option_to_list, ◌&&◌, if◌then◌else◌}
+use Rattle.std.specs.Prelude.{◌-◌, drop, length, map, nat_lt, if◌then◌else◌}
 use Rattle.std.specs.List.{cons_option, filter_map}
 use Rattle.std.specs.Map.{lookup}
 use Rattle.std.specs.Option.{option_or}
-use Rattle.std.proofs.Common.{◌≡◌, ℕ, zero, suc, ◌+◌, ◌≤◌, ◌<◌, Bool, true, false, cond, List, [], ◌∷◌, ◌++◌, Option, Some, None, refl, sym, ap, ◌∙◌, inl, inr, arith, true≢false}
+use Rattle.std.proofs.Common.{◌≡◌, ℕ, zero, suc, ◌≤◌, ◌<◌, Bool, true, false, cond, List, [], ◌∷◌, ◌++◌, Option, Some, None, refl, sym, ap, ◌∙◌, inl, inr, arith}
 use Rattle.std.proofs.lemmas.Bool.{cases_Bool}
 use Rattle.std.proofs.lemmas.Bool.Decides.{nat_tests}
 use Rattle.lsp_rpc.specs.Ident.{Ident, id_view, same_id}
 use Rattle.lsp_rpc.specs.declared.message.Id.{Id}
 use Rattle.lsp_docs.proofs.Words.{map-append}
 use Rattle.lsp_verdict.specs.Offences.{last_or}
-use Rattle.lsp_survey.specs.Asking.{Reply, replied, most_replies, last_ones, reply_to, last_reply}
+use Rattle.lsp_survey.specs.Asking.{Reply, most_replies, last_ones, reply_to, last_reply}
 use Rattle.lsp_survey.specs.SessionNoting.{asked_in, given_view, room_in}
 use Rattle.lsp_survey.specs.declared.exchange.Given.{Given}
-use Rattle.lsp_survey.proofs.Marking.{filter_map-snoc, last_behind}
 
 -- ---- a map by ids
 

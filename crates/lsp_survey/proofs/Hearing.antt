@@ -1,12 +1,11 @@
 -- How a walk hears a content, a fault of the frames, and a snapshot.
 use Rattle.std.specs.Prelude.{unwrap_or, string_bytes, String, chars, ℤ}
 use Rattle.std.specs.Global.{Global}
-use Rattle.std.proofs.Common.{◌≡◌, ℕ, Bool, true, false, List, [], ◌∷◌, ◌++◌, Option, Some, None, refl, sym, ap, subst, ◌∙◌}
+use Rattle.std.proofs.Common.{◌≡◌, ℕ, Bool, false, List, [], ◌∷◌, ◌++◌, Option, Some, None, refl, sym, ap, subst, ◌∙◌}
 use Rattle.lsp_docs.specs.Calls.{Call, shows}
 use Rattle.lsp_docs.specs.Answer.{answer_of}
 use Rattle.lsp_docs.specs.Documents.{held}
 use Rattle.lsp_docs.specs.Kept.{kept as kept_versions}
-use Rattle.lsp_docs.specs.State as docs
 use Rattle.lsp_docs.specs.declared.snapshot.Match.{Match}
 use Rattle.lsp_docs.specs.Terms.{Terms}
 use Rattle.lsp_events.specs.Standing.{Holds, RefusesMessage, Hears as HearsContent}
@@ -25,7 +24,7 @@ use Rattle.lsp_survey.specs.SessionNoting.{AreNotes, SaysOn}
 use Rattle.lsp_survey.specs.declared.marks.Marks.{Marks}
 use Rattle.lsp_survey.specs.declared.session_notes.SessionNotes.{SessionNotes}
 use Rattle.lsp_survey.specs.Notes.{AreAfter}
-use Rattle.lsp_survey.specs.Walking.{WalksBy, Walks, asks_of, Counted, IsUnread, PassesOver, IsOffending, Hears}
+use Rattle.lsp_survey.specs.Walking.{Walks, asks_of, Counted, IsUnread, PassesOver, IsOffending, Hears}
 use Rattle.lsp_survey.specs.declared.offending.Heard.{Heard}
 use Rattle.lsp_survey.specs.declared.offending.Heard.TheVariants as heard
 use Rattle.lsp_survey.specs.declared.offending.Offending.{Offending}

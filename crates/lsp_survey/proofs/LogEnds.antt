@@ -1,25 +1,23 @@
 -- The end of a log behind the events heard.
-use Rattle.std.specs.Prelude.{map, filter, option_map, option_to_list, if◌then◌else◌}
+use Rattle.std.specs.Prelude.{map, option_map, option_to_list}
 use Rattle.std.specs.Io.KnownBytes.{IsAtEnd}
-use Rattle.std.specs.List.{AllZip, cons_option}
+use Rattle.std.specs.List.{cons_option}
 use Rattle.std.proofs.Common.{◌≡◌, ℕ, ◌+◌, ◌<◌, ◌≤◌, ◌^◌, Bool, true, false, List, [], ◌∷◌, ◌++◌, length, length-append, Option, Some, None, refl, sym, ap, subst, ◌∙◌, append-nil, append_assoc, arith}
 use Rattle.std.proofs.lemmas.List.{length-map}
 use Rattle.lsp_docs.specs.Snapshots.{unmatched}
 use Rattle.lsp_docs.specs.State.{capped}
 use Rattle.lsp_docs.specs.Terms.{Terms, terms_of}
 use Rattle.lsp_events.specs.Standing.{Follows, Holds}
-use Rattle.lsp_frame.specs.Bounds.{Bounds, IsInRange}
+use Rattle.lsp_frame.specs.Bounds.{Bounds}
 use Rattle.lsp_frame.specs.Told.{Told}
 use Rattle.lsp_frame.specs.declared.format.Format.{Format}
 use Rattle.lsp_log.specs.Log.{Record, IsLog}
-use Rattle.lsp_log.specs.Records.{record_view}
 use Rattle.lsp_log.specs.Reader as reader
 use Rattle.lsp_log.specs.declared.fault.LogCode.{LogCode}
-use Rattle.lsp_log.specs.declared.record.Record as code
 use Rattle.lsp_session.specs.Incomplete.{incomplete}
 use Rattle.lsp_types.specs.declared.side.Side.{Side}
 use Rattle.lsp_types.specs.declared.side.Side.TheVariants.{Editor, Server}
-use Rattle.lsp_survey.specs.Reads.{GoesBehind, SoFarBehind, GaveBehind, EndedBehind, SoFar, Ended, Gives, BrokeOff, TakesEntry, Ready, IsLogOf, IsSurveyOf}
+use Rattle.lsp_survey.specs.Reads.{GoesBehind, SoFarBehind, GaveBehind, EndedBehind, SoFar, Ended, Gives, BrokeOff, Ready, IsLogOf, IsSurveyOf}
 use Rattle.lsp_survey.specs.Surveys.{Awaits, Surveys, TakesOne}
 use Rattle.lsp_survey.specs.declared.offending.Heard.{Heard}
 use Rattle.lsp_survey.specs.declared.survey.Survey.{Survey}
@@ -34,13 +32,13 @@ use Rattle.lsp_verdict.specs.Entries.{IsAt, HasRecords, HasFirst, IsKnown, Shows
 use Rattle.lsp_verdict.specs.Event.{Event, sent_in}
 use Rattle.lsp_verdict.specs.Given.{as_given, offence_view, verdict_view}
 use Rattle.lsp_verdict.specs.LookBack.{each_from}
-use Rattle.lsp_verdict.specs.Offences.{Noted, Offence, IsNoted, events_of, kept_of, offence_at, offences}
-use Rattle.lsp_verdict.specs.Outcome.{HasRest, ending, format_or_one, log_terms}
+use Rattle.lsp_verdict.specs.Offences.{Noted, Offence, events_of, kept_of, offence_at, offences}
+use Rattle.lsp_verdict.specs.Outcome.{HasRest, ending, log_terms}
 use Rattle.lsp_verdict.specs.Placed.{Raw, Placed, joined}
 use Rattle.lsp_verdict.specs.RunIo.{OfRead}
 use Rattle.lsp_verdict.specs.Survey.{IsSurvey, by_itself, ends_inside, ends_listed, first_ends, lacks_listed, rests_listed}
 use Rattle.lsp_verdict.specs.Survey as survey
-use Rattle.lsp_verdict.specs.Verdict.{Summary, Verdict, Ending, bad_log_of, count_of, first_no, is_of, is_snapshot, no_next, summary, yes}
+use Rattle.lsp_verdict.specs.Verdict.{Summary, Verdict, Ending, bad_log_of, count_of, is_of, is_snapshot, no_next, summary, yes}
 use Rattle.lsp_verdict.specs.declared.completeness.Completeness.{Completeness}
 use Rattle.lsp_verdict.specs.declared.completeness.Completeness.TheVariants.{Ignored, Required}
 use Rattle.lsp_verdict.specs.declared.outcome.RunFault.TheVariants as faults

@@ -1,5 +1,5 @@
 -- The marks of documents by URI, with one event more.
-use Rattle.std.specs.Prelude.{if◌then◌else◌, unwrap_or, option_and_then, ℤ, String}
+use Rattle.std.specs.Prelude.{if◌then◌else◌, unwrap_or, ℤ, String}
 use Rattle.std.specs.Global.{Global}
 use Rattle.std.specs.List.{cons_option}
 use Rattle.std.specs.Str.{bytes_eq}

@@ -1,17 +1,16 @@
 -- What is marked of a document, with one step more.
-use Rattle.std.specs.Prelude.{ℤ, int_lt, option_map, slice_get, ◌-◌, unwrap_or, ◌&&◌, ◌||◌, not, if◌then◌else◌}
+use Rattle.std.specs.Prelude.{ℤ, int_lt, option_map, unwrap_or, ◌&&◌, ◌||◌, not, if◌then◌else◌}
 use Rattle.std.specs.List.{cons_option, filter_map, list_any}
 use Rattle.std.specs.Option.{option_or}
 use Rattle.std.specs.Ordering.{int_eq}
 use Rattle.std.proofs.lemmas.List.Folds.{list_any-append}
-use Rattle.std.proofs.Common.{◌≡◌, ℕ, Bool, true, false, List, [], ◌∷◌, ◌++◌, Option, Some, None, refl, sym, ap, ◌∙◌, append_assoc, append-nil, length}
+use Rattle.std.proofs.Common.{◌≡◌, ℕ, Bool, true, false, List, [], ◌∷◌, ◌++◌, Option, Some, None, refl, sym, ap, ◌∙◌, append_assoc, append-nil}
 use Rattle.lsp_docs.specs.Terms.{Terms}
 use Rattle.lsp_verdict.specs.Event.{Event}
 use Rattle.lsp_verdict.specs.LookBack.{each_of}
-use Rattle.lsp_verdict.specs.Offences.{last_or, rule_at, said_at}
+use Rattle.lsp_verdict.specs.Offences.{last_or}
 use Rattle.lsp_verdict.proofs.LookBackLemmas.{each_of-snoc}
-use Rattle.lsp_survey.specs.Marking.{Step, touches, closed, step_by, step_at, steps, brings, brought, ends_waiting, waiting_entry, waiting_for, last_shown, agrees, agreed, Marked, marked, unmarked, above, stepped}
-use Rattle.lsp_survey.specs.declared.mark.Shown.{Shown}
+use Rattle.lsp_survey.specs.Marking.{Step, touches, closed, step_at, steps, brings, brought, ends_waiting, waiting_entry, waiting_for, last_shown, agrees, agreed, marked, stepped}
 use Rattle.lsp_survey.specs.declared.mark.Touch.TheVariants.{Opened, Changed, Compared, Awaited}
 
 -- ---- the last that is said

@@ -1,5 +1,5 @@
 -- A walk over events, with one event more.
-use Rattle.std.specs.Prelude.{if◌then◌else◌, is_some, option_map, option_and_then, ◌&&◌, ◌||◌}
+use Rattle.std.specs.Prelude.{if◌then◌else◌, is_some, option_and_then, ◌||◌}
 use Rattle.std.proofs.Common.{◌≡◌, ℕ, Bool, true, false, List, [], ◌∷◌, ◌++◌, Option, Some, None, refl, sym, ap, subst, ◌∙◌}
 use Rattle.lsp_docs.specs.Calls.{Call}
 use Rattle.lsp_docs.specs.State as docs
@@ -24,7 +24,7 @@ use Rattle.lsp_verdict.specs.Counting.{AreCounts}
 use Rattle.lsp_verdict.specs.Event.{Event}
 use Rattle.lsp_verdict.specs.Given.{given_offence}
 use Rattle.lsp_verdict.specs.LookBack.{first_of}
-use Rattle.lsp_verdict.specs.Offences.{Noted, Offence, IsNoted, breaks_handshake, broken_by, events_of, is_lost, is_on_lost, kept_of, offence_by, rule_at, said_at}
+use Rattle.lsp_verdict.specs.Offences.{Noted, IsNoted, breaks_handshake, broken_by, events_of, is_on_lost, kept_of, rule_at, said_at}
 use Rattle.lsp_verdict.specs.Placed.{Raw}
 use Rattle.lsp_verdict.specs.Verdict.{whose}
 use Rattle.lsp_verdict.specs.declared.counts.Counts.{Counts}

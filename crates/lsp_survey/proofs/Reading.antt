@@ -1,11 +1,9 @@
 -- The events of a log against what is listed of it.
-use Rattle.std.specs.Prelude.{map, option_map, option_to_list, if◌then◌else◌}
-use Rattle.std.specs.Io.KnownBytes.{IsAtEnd}
+use Rattle.std.specs.Prelude.{map, option_map}
 use Rattle.std.specs.List.{AllZip, cons_option}
-use Rattle.std.proofs.Common.{◌≡◌, ◌⊎◌, ℕ, ◌+◌, ◌-◌, ◌<◌, ◌≤◌, ◌^◌, Bool, true, false, List, [], ◌∷◌, ◌++◌, length, length-append, Option, Some, None, Result, Ok, Err, inl, inr, refl, sym, ap, subst, ◌∙◌, append_assoc, append-nil, arith}
-use Rattle.std.proofs.lemmas.List.{length-map, map-append}
+use Rattle.std.proofs.Common.{◌≡◌, ◌⊎◌, ℕ, ◌+◌, ◌-◌, ◌<◌, ◌≤◌, ◌^◌, List, [], ◌∷◌, ◌++◌, length, length-append, Option, Some, None, Ok, inl, inr, refl, sym, ap, subst, ◌∙◌, append_assoc, append-nil, arith}
+use Rattle.std.proofs.lemmas.List.{length-map}
 use Rattle.lsp_docs.specs.Terms.{Terms, terms_of}
-use Rattle.lsp_events.specs.Standing.{Follows, Holds}
 use Rattle.lsp_frame.specs.Bounds.{Bounds, IsInRange}
 use Rattle.lsp_frame.specs.Told.{Told}
 use Rattle.lsp_frame.specs.declared.format.Format.{Format}
@@ -13,30 +11,26 @@ use Rattle.lsp_frame.specs.declared.format.Format.TheVariants.{One, Two}
 use Rattle.lsp_log.specs.Log.{Record, IsLog}
 use Rattle.lsp_log.specs.Reader as reader
 use Rattle.lsp_log.specs.declared.fault.LogCode.{LogCode}
-use Rattle.lsp_types.specs.declared.side.Side.{Side}
 use Rattle.lsp_types.specs.declared.side.Side.TheVariants.{Editor, Server}
-use Rattle.lsp_survey.specs.Reads.{GoesBehind, SoFarBehind, GivesBehind, HearsBehind, BeginsSurvey, HasHeard, SoFar, Finds, IsHeardAs, found_in, GaveEvent, Ended, BrokeOff, Gives, PullsHere, Ready}
-use Rattle.lsp_survey.specs.Surveys.{Awaits, Surveys, HearsOne, HearsHere, IsFitted, IsRefitted}
-use Rattle.lsp_survey.specs.Walking.{IsHeard, Offends}
+use Rattle.lsp_survey.specs.Reads.{GoesBehind, GivesBehind, HearsBehind, BeginsSurvey, HasHeard, SoFar, IsHeardAs, found_in, GaveEvent, BrokeOff, Gives, PullsHere, Ready}
+use Rattle.lsp_survey.specs.Surveys.{Surveys, HearsOne, HearsHere, IsRefitted}
+use Rattle.lsp_survey.specs.Walking.{IsHeard}
 use Rattle.lsp_survey.specs.declared.offending.Heard.{Heard}
 use Rattle.lsp_survey.specs.declared.offending.Heard.TheVariants as heard
 use Rattle.lsp_survey.specs.declared.survey.Survey.{Survey}
-use Rattle.lsp_survey.specs.declared.survey_reader.End.{End}
 use Rattle.lsp_survey.specs.declared.survey_reader.Next.{Next}
 use Rattle.lsp_survey.specs.declared.survey_reader.Next.TheVariants as next
 use Rattle.lsp_survey.specs.declared.survey_reader.SurveyReader.{SurveyReader}
 use Rattle.lsp_verdict.specs.Entries as entries
 use Rattle.lsp_verdict.specs.Entries.{IsAt, HasRecords, HasFirst, IsKnown}
-use Rattle.lsp_verdict.specs.Event.{Event}
-use Rattle.lsp_verdict.specs.Given.{as_given, given_offence, offence_view, verdict_view}
 use Rattle.lsp_verdict.specs.LookBack.{each_from}
-use Rattle.lsp_verdict.specs.Offences.{Noted, Offence, IsNoted, events_of, kept_of, offence_at, offence_by, offences, rule_at}
+use Rattle.lsp_verdict.specs.Offences.{Noted, Offence, IsNoted, events_of, offence_at, offence_by, offences}
 use Rattle.lsp_verdict.specs.Outcome.{HasRest, ending, format_or_one, log_terms}
 use Rattle.lsp_verdict.specs.Placed.{Raw, Placed, joined}
-use Rattle.lsp_verdict.specs.RunIo.{OfRead, failures_after}
+use Rattle.lsp_verdict.specs.RunIo.{OfRead}
 use Rattle.lsp_verdict.specs.Survey.{IsSurvey, by_itself, ends_listed}
 use Rattle.lsp_verdict.specs.Survey as survey
-use Rattle.lsp_verdict.specs.Verdict.{Summary, Verdict, bad_log_of, summary, yes, whose}
+use Rattle.lsp_verdict.specs.Verdict.{Summary, Verdict, bad_log_of, summary, whose}
 use Rattle.lsp_verdict.specs.declared.completeness.Completeness.{Completeness}
 use Rattle.lsp_verdict.specs.declared.completeness.Completeness.TheVariants.{Ignored}
 use Rattle.lsp_verdict.specs.declared.outcome.RunFault.{RunFault}

@@ -1,5 +1,5 @@
 -- What is noted of requests and phases, with one event more.
-use Rattle.std.specs.Prelude.{option_map, option_to_list, unwrap_or, is_some, map, if◌then◌else◌}
+use Rattle.std.specs.Prelude.{option_map, option_to_list, unwrap_or, is_some, if◌then◌else◌}
 use Rattle.std.specs.List.{cons_option, filter_map}
 use Rattle.std.proofs.Common.{◌≡◌, ℕ, List, [], ◌∷◌, ◌++◌, Option, Some, None, refl, sym, ap, ◌∙◌, subst, append-nil}
 use Rattle.lsp_docs.specs.Terms.{Terms}
@@ -8,7 +8,6 @@ use Rattle.lsp_rpc.specs.Message.{Message, request, notification, response, resu
 use Rattle.lsp_rpc.specs.Outline.{outline}
 use Rattle.lsp_session.specs.Handshake.{phase}
 use Rattle.lsp_session.specs.Sent.{Sent, answered_from}
-use Rattle.lsp_session.specs.declared.phase.Phase.{Phase}
 use Rattle.lsp_types.specs.declared.side.Side.{Side}
 use Rattle.lsp_types.specs.declared.side.Side.TheVariants.{Editor, Server}
 use Rattle.lsp_verdict.specs.Event.{Event, message, sent_in, sent_of}
@@ -17,9 +16,9 @@ use Rattle.lsp_verdict.specs.OffenceLaws.{kept_at}
 use Rattle.lsp_verdict.specs.Offences.{kept_of, last_or, rule_at}
 use Rattle.lsp_verdict.proofs.LookBackLemmas.{each_of-snoc}
 use Rattle.lsp_verdict.proofs.Offences.Offending.{kept_are_others}
-use Rattle.lsp_survey.specs.Asking.{Numbered, Reply, numbered_as, numbered_by, numbered_at, numbered, sents, asks, asks_by, asked, replied, reply_by, replies, most_replies, last_ones, leads, leads_by, since}
+use Rattle.lsp_survey.specs.Asking.{Numbered, Reply, numbered_as, numbered_by, numbered_at, numbered, sents, asks, asks_by, replied, reply_by, replies, most_replies, last_ones, leads, leads_by}
 use Rattle.lsp_survey.specs.Marking.{number_next}
-use Rattle.lsp_survey.specs.SessionNoting.{asked_in, replies_in, Exchanges, IsExchange, SaysOn, SessionStands, AreNotes}
+use Rattle.lsp_survey.specs.SessionNoting.{asked_in, Exchanges, IsExchange, SaysOn, SessionStands, AreNotes}
 use Rattle.lsp_survey.specs.declared.exchange.Exchange.{Exchange}
 use Rattle.lsp_survey.specs.declared.session_notes.SessionNotes.{SessionNotes}
 use Rattle.lsp_survey.proofs.Marking.{filter_map-snoc, last_behind}

@@ -1,18 +1,16 @@
 -- A survey of records, with one record more, and with one event more.
-use Rattle.std.specs.Prelude.{◌||◌, IfOk, String, string_bytes, chars, ℤ}
-use Rattle.std.specs.Global.{Global}
+use Rattle.std.specs.Prelude.{◌||◌, IfOk, ℤ}
 use Rattle.std.specs.List.{AllZip, list_any}
 use Rattle.std.proofs.Common.{◌≡◌, ℕ, Bool, true, false, List, [], ◌∷◌, ◌++◌, Option, Some, None, Result, Ok, Err, refl, sym, ap, subst, ◌∙◌, append_assoc, append-nil}
 use Rattle.lsp_docs.specs.Terms.{Terms, terms_of}
 use Rattle.lsp_frame.specs.Bounds.{Bounds, IsInRange}
 use Rattle.lsp_frame.specs.Decoder as decoder
-use Rattle.lsp_frame.specs.declared.format.Format.{Format}
 use Rattle.lsp_log.specs.Log.{Record, chunk, shown}
 use Rattle.lsp_types.specs.declared.memory.Memory.{Memory}
 use Rattle.lsp_types.specs.declared.side.Side.{Side}
 use Rattle.lsp_types.specs.declared.side.Side.TheVariants.{Editor, Server}
 use Rattle.lsp_session.specs.Sent.{same_side}
-use Rattle.lsp_survey.specs.Surveys.{AreBroken, IsSpent, IsDue, Pushes, IsOf, is_break, HearsFirst, HearsNext, turn_after, Awaits, Surveys, HearsOne, HearsHere}
+use Rattle.lsp_survey.specs.Surveys.{IsSpent, IsDue, Pushes, IsOf, is_break, HearsNext, turn_after, Awaits, Surveys, HearsOne, HearsHere}
 use Rattle.lsp_survey.specs.Walking.{Walks, IsHeard, Hears}
 use Rattle.lsp_survey.specs.declared.offending.Heard.{Heard}
 use Rattle.lsp_survey.specs.declared.survey.Stream.{Stream}
@@ -20,7 +18,7 @@ use Rattle.lsp_survey.specs.declared.survey.Survey.{Survey}
 use Rattle.lsp_survey.specs.declared.walk.Walk.{Walk}
 use Rattle.lsp_verdict.specs.Event.{Event}
 use Rattle.lsp_verdict.specs.Offences.{Noted, IsNoted, events_of}
-use Rattle.lsp_verdict.specs.Placed.{Raw, show, Placed, Brings, joined}
+use Rattle.lsp_verdict.specs.Placed.{Raw, show, Placed, joined}
 use Rattle.lsp_verdict.specs.Survey.{is_frame_fault}
 use Rattle.lsp_verdict.proofs.Streams.Drained.{new_drained}
 use Rattle.lsp_verdict.proofs.Offences.Steps.{events_of-push}

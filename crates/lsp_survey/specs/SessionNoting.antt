@@ -1,5 +1,5 @@
 -- What is noted of requests and phases, and for which messages it stands.
-use Rattle.std.specs.Prelude.{◌≡◌, ℕ, List, [], ◌∷◌, ◌++◌, map, drop, length, nat_lt, if◌then◌else◌, Option, Some, None, unwrap_or, option_to_list, option_map}
+use Rattle.std.specs.Prelude.{◌≡◌, ℕ, List, ◌++◌, map, drop, length, nat_lt, if◌then◌else◌, Option, unwrap_or, option_to_list, option_map}
 use Rattle.std.specs.Map.{lookup}
 use Rattle.lsp_docs.specs.Terms.{Terms}
 use Rattle.lsp_rpc.specs.Ident.{Ident, id_view, same_id}

@@ -1,6 +1,5 @@
 use Rattle.std.proofs.Common.{◌∷◌, [], ◌++◌, ap, ◌∙◌}
 use Rattle.lsp_survey.specs.Asking.{last_ones, most_replies, replied}
-use Rattle.lsp_survey.specs.SessionNoting.{given_view}
 use Rattle.lsp_survey.proofs.Exchanging.{pushed}
 use Rattle.lsp_survey.proofs.exchange.push.Goals as goal
 

@@ -1,4 +1,4 @@
-use Rattle.std.proofs.Common.{Some, None, sym, refl, ap, map, ◌∙◌}
+use Rattle.std.proofs.Common.{Some, None, refl, ap, map, ◌∙◌}
 use Rattle.std.proofs.lemmas.Result.{err_from_is_err_and}
 use Rattle.lsp_log.specs.Records.{record_view}
 use Rattle.lsp_verdict.specs.Given.{offence_view}

@@ -1,5 +1,5 @@
 use Rattle.std.specs.Prelude.{string_bytes, chars}
-use Rattle.std.proofs.Common.{◌≡◌, Some, false, refl, sym, ap, subst, ◌∙◌, w32}
+use Rattle.std.proofs.Common.{Some, refl, sym, ap, subst, ◌∙◌, w32}
 use Rattle.std.proofs.lemmas.Int.{to_z-of_z}
 use mir.Val.{SFits}
 use Rattle.lsp_docs.specs.Calls.{shows}

@@ -10,7 +10,6 @@ use Rattle.lsp_docs.specs.State as docs
 use Rattle.lsp_docs.specs.declared.fault.DocFault.{DocFault}
 use Rattle.lsp_events.specs.Standing.{Holds}
 use Rattle.lsp_verdict.specs.Calls.{calls}
-use Rattle.lsp_verdict.specs.Event.{snapshot}
 use Rattle.lsp_verdict.specs.Offences.{events_of, kept_of}
 use Rattle.lsp_events.proofs.Following.{shown_holds}
 use Rattle.lsp_survey.proofs.Hearing.{late_heard, shown_heard}
