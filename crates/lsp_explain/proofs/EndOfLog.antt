@@ -26,7 +26,7 @@ use Rattle.lsp_verdict.specs.Placed.{Raw, Placed, joined}
 use Rattle.lsp_verdict.specs.Report.{report}
 use Rattle.lsp_verdict.specs.RunIo.{OfRead}
 use Rattle.lsp_verdict.specs.Survey.{by_itself, is_frame_fault, ends_listed, found_in, first_verdict}
-use Rattle.lsp_verdict.specs.Verdict.{Verdict, bad_log, bad_log_of, Ending, Summary, summary}
+use Rattle.lsp_verdict.specs.Verdict.{Verdict, bad_log, bad_log_of, Ending, summary}
 use Rattle.lsp_verdict.specs.declared.completeness.Completeness.{Completeness}
 use Rattle.lsp_verdict.specs.declared.offence.Offence as given
 use Rattle.lsp_verdict.specs.declared.verdict.Summary as code
@@ -36,7 +36,7 @@ use Rattle.lsp_log.specs.declared.fault.LogCode.{LogCode}
 use Rattle.lsp_verdict.proofs.Offences.Offending.{nothing_listed}
 use Rattle.lsp_verdict.proofs.Offences.Surveying.{no_frame_fault}
 use Rattle.lsp_verdict.proofs.RunReading.{read_map}
-use Rattle.lsp_explain.specs.Explained.{Heard, Breach, Explained, Explains, raws_of, notes_of, breaches, end_explained, explanation, flaw_lines, said_of, IsExplained, IsExplanation}
+use Rattle.lsp_explain.specs.Explained.{Heard, Breach, Explains, raws_of, notes_of, breaches, end_explained, explanation, flaw_lines, said_of, IsExplained, IsExplanation}
 use Rattle.lsp_explain.specs.FlawFacts.{Rests, rest_of, flaw_facts, log_facts}
 use Rattle.lsp_explain.specs.RunSteps.{IsSound, flaw_held, rests_held, summary_behind}
 use Rattle.lsp_explain.specs.Standing.{StandsAfter}

@@ -1,8 +1,8 @@
 -- The report in an explanation.
-use Rattle.std.proofs.Common.{◌≡◌, ℕ, List, [], ◌∷◌, ◌++◌, Option, Some, None, refl, sym, ap, ◌∙◌, append-nil}
+use Rattle.std.proofs.Common.{[], ◌∷◌, Some, None, refl, ap, ◌∙◌, append-nil}
 use Rattle.std.specs.List.{flat_map}
 use Rattle.lsp_verdict.specs.Report.{report}
-use Rattle.lsp_verdict.specs.Verdict.{Verdict, yes, no, bad_log}
+use Rattle.lsp_verdict.specs.Verdict.{yes, no, bad_log}
 use Rattle.lsp_explain.specs.ExplainLaws.{BeginsWithReport, YesIsReport}
 use Rattle.lsp_explain.specs.Explained.{flaw_lines, said_of}
 

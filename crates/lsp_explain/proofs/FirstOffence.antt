@@ -1,7 +1,7 @@
 -- The first offence of a log is known from its first records.
 use Rattle.std.specs.Prelude.{map, take}
 use Rattle.std.specs.List.{AllZip}
-use Rattle.std.proofs.Common.{◌≡◌, ℕ, List, [], ◌∷◌, ◌++◌, Option, Some, None, refl, sym, ap, ◌∙◌, subst, append_assoc}
+use Rattle.std.proofs.Common.{◌≡◌, ℕ, List, [], ◌∷◌, ◌++◌, Option, Some, refl, sym, ap, ◌∙◌, subst, append_assoc}
 use Rattle.lsp_docs.specs.Terms.{Terms}
 use Rattle.lsp_frame.specs.Bounds.{Bounds}
 use Rattle.lsp_frame.specs.declared.format.Format.{Format}
@@ -9,7 +9,7 @@ use Rattle.lsp_log.specs.Log.{Record}
 use Rattle.lsp_types.specs.declared.side.Side.TheVariants.{Editor, Server}
 use Rattle.lsp_verdict.specs.Entries.{HasFirst}
 use Rattle.lsp_verdict.specs.LookBack.{each_from}
-use Rattle.lsp_verdict.specs.Offences.{Noted, Offence, IsNoted, events_of, kept_of, rule_at}
+use Rattle.lsp_verdict.specs.Offences.{Noted, Offence, IsNoted, events_of, rule_at}
 use Rattle.lsp_verdict.specs.Outcome.{ending, log_terms}
 use Rattle.lsp_verdict.specs.Placed.{Raw, Placed, joined}
 use Rattle.lsp_verdict.specs.Survey.{by_itself, ends_listed}
@@ -18,7 +18,7 @@ use Rattle.lsp_verdict.specs.declared.completeness.Completeness.{Completeness}
 use Rattle.lsp_verdict.proofs.Below.{some_stream}
 use Rattle.lsp_verdict.proofs.Outcomes.{placed_front}
 use Rattle.lsp_verdict.proofs.Sessions.{some_placed}
-use Rattle.lsp_explain.specs.Explained.{Heard, Breach, Explained, Explains, raws_of, notes_of, breach, breach_at, breaches, end_explained, IsExplained}
+use Rattle.lsp_explain.specs.Explained.{Heard, Breach, Explained, Explains, raws_of, notes_of, breach, breach_at, breaches, IsExplained}
 use Rattle.lsp_explain.specs.Fact.{Fact}
 use Rattle.lsp_explain.specs.FlawFacts.{Rests, log_facts}
 use Rattle.lsp_explain.specs.RunSteps.{RestsBehind}

@@ -1,6 +1,6 @@
 -- What is said of an event that offends, by how it was found.
 use Rattle.std.specs.Prelude.{chars, string_bytes}
-use Rattle.std.proofs.Common.{◌≡◌, ℕ, List, ◌++◌, Option, Some, refl, sym, ap, ◌∙◌, subst}
+use Rattle.std.proofs.Common.{◌≡◌, ℕ, List, Some, refl, sym, ap, ◌∙◌, subst}
 use Rattle.lsp_docs.specs.Calls.{shows}
 use Rattle.lsp_docs.specs.Terms.{Terms}
 use Rattle.lsp_events.specs.Standing.{RefusesMessage}

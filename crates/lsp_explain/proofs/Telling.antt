@@ -1,6 +1,4 @@
 -- What a run tells of the first offence that it finds.
-use Rattle.std.specs.Prelude.{string_bytes, map}
-use Rattle.std.specs.List.{AllZip}
 use Rattle.std.proofs.Common.{◌≡◌, ℕ, ◌+◌, ◌<◌, ◌^◌, suc, true, List, [], ◌∷◌, ◌++◌, length, Option, Some, refl, sym, ap, ◌∙◌, subst}
 use Rattle.lsp_docs.specs.Terms.{Terms, terms_of}
 use Rattle.lsp_frame.specs.Bounds.{Bounds}
@@ -24,10 +22,10 @@ use Rattle.lsp_verdict.specs.Offences.{Noted, Offence, events_of, kept_of, rule_
 use Rattle.lsp_verdict.specs.Outcome.{HasRest}
 use Rattle.lsp_verdict.specs.Placed.{Raw, content, broken, show, joined, Reads}
 use Rattle.lsp_verdict.specs.Report.{report}
-use Rattle.lsp_verdict.specs.Verdict.{no, no_by, whose}
+use Rattle.lsp_verdict.specs.Verdict.{no, whose}
 use Rattle.lsp_verdict.specs.declared.verdict.Who.{Who}
 use Rattle.lsp_verdict.proofs.ExactCounts.{capped_is}
-use Rattle.lsp_explain.specs.Explained.{Heard, Explained, AreFacts, Explains, breach, raws_of, notes_of, said_of}
+use Rattle.lsp_explain.specs.Explained.{Heard, Explained, AreFacts, raws_of, notes_of}
 use Rattle.lsp_explain.specs.Fact.{Fact}
 use Rattle.lsp_explain.specs.FlawFacts.{Rests, rest_of}
 use Rattle.lsp_explain.specs.Lines.{event_line, fact_lines}

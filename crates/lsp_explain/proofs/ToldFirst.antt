@@ -18,7 +18,6 @@ use Rattle.lsp_verdict.specs.Offences.{Noted, Offence, IsNoted, events_of, offen
 use Rattle.lsp_verdict.specs.Outcome.{format_or_one, log_terms}
 use Rattle.lsp_verdict.specs.Placed.{Raw, Placed}
 use Rattle.lsp_verdict.specs.Report.{report}
-use Rattle.lsp_verdict.specs.RunIo.{OfRead}
 use Rattle.lsp_verdict.specs.Verdict.{no_by}
 use Rattle.lsp_verdict.specs.declared.completeness.Completeness.{Completeness}
 use Rattle.lsp_verdict.specs.declared.outcome.RunFault.{RunFault}
@@ -29,7 +28,7 @@ use Rattle.lsp_verdict.proofs.Offences.Steps.{offences-push}
 use Rattle.lsp_verdict.proofs.Offences.Surveying.{some_asks}
 use Rattle.lsp_verdict.proofs.OneEvent.{some_read}
 use Rattle.lsp_verdict.proofs.RunReading.{read_map}
-use Rattle.lsp_explain.specs.Explained.{Heard, Explained, Explains, raws_of, notes_of, breach, breaches, said_of, IsExplanation}
+use Rattle.lsp_explain.specs.Explained.{Heard, Explains, raws_of, notes_of, breach, breaches, said_of, IsExplanation}
 use Rattle.lsp_explain.specs.RunSteps.{Tells, TellsEnd, EndsWhole, IsFollowing, IsExplainedBy, BreaksOff}
 use Rattle.lsp_explain.specs.declared.run.Explanation.{Explanation}
 use Rattle.lsp_explain.proofs.EndOfLog.{no_breach}

@@ -20,7 +20,7 @@ use Rattle.lsp_verdict.specs.Placed as placed
 use Rattle.lsp_verdict.specs.Placed.{Raw, broken, show, Placed, joined}
 use Rattle.lsp_verdict.specs.Report.{report}
 use Rattle.lsp_verdict.specs.Survey.{found_in, ends_listed, first_verdict}
-use Rattle.lsp_verdict.specs.Verdict.{Verdict, yes, no, bad_log, Summary, summary, Ending, bad_log_of, no_by}
+use Rattle.lsp_verdict.specs.Verdict.{Verdict, yes, no, bad_log, Summary, summary, bad_log_of, no_by}
 use Rattle.lsp_verdict.specs.declared.completeness.Completeness.{Completeness}
 use Rattle.lsp_explain.specs.DocumentFacts.{AreDocumentFacts}
 use Rattle.lsp_explain.specs.Fact.{Fact}

@@ -1,7 +1,7 @@
 -- What is said of a message that offends, read off the messages before.
-use Rattle.std.specs.Prelude.{◌≡◌, ℕ, List, [], ◌∷◌, take, if◌then◌else◌, Option, Some, None, option_map, option_to_list, unwrap_or}
+use Rattle.std.specs.Prelude.{ℕ, List, [], ◌∷◌, take, if◌then◌else◌, Option, Some, None, option_map, option_to_list, unwrap_or}
 use Rattle.std.specs.Str.Lossy.{utf8_valid_len}
-use Rattle.lsp_rpc.specs.Act.{Text, Act, Offer, Picked, register}
+use Rattle.lsp_rpc.specs.Act.{Text, Act, Picked, register}
 use Rattle.lsp_rpc.specs.Ident.{Ident}
 use Rattle.lsp_rpc.specs.Message.{Message, request, notification, response}
 use Rattle.lsp_rpc.specs.Results.{picked_at}

@@ -1,12 +1,12 @@
 -- Which event brought what: what is added to the facts on an offence, read off all events before it.
-use Rattle.std.specs.Prelude.{◌≡◌, ℕ, ℤ, List, [], ◌∷◌, ◌++◌, map, insert, slice_get, nat_lt, Bool, true, false, ◌==◌, if◌then◌else◌, Option, Some, None, option_map, option_and_then, option_to_list}
+use Rattle.std.specs.Prelude.{◌≡◌, ℕ, List, [], ◌∷◌, ◌++◌, map, insert, slice_get, nat_lt, Bool, true, false, ◌==◌, if◌then◌else◌, Option, Some, None, option_map, option_and_then, option_to_list}
 use Rattle.lsp_docs.specs.Calls.{Call, opens, changes, closes, saves, shows, uri_of}
 use Rattle.lsp_docs.specs.Terms.{Terms}
 use Rattle.lsp_rpc.specs.Ident.{Ident}
 use Rattle.lsp_session.specs.Entry.{Entry}
 use Rattle.lsp_session.specs.Handshake.{phase}
 use Rattle.lsp_session.specs.Requests.{open_requests}
-use Rattle.lsp_session.specs.Sent.{Sent, other_side}
+use Rattle.lsp_session.specs.Sent.{other_side}
 use Rattle.lsp_types.specs.declared.side.Side.{Side}
 use Rattle.lsp_types.specs.declared.side.Side.TheVariants.{Editor}
 use Rattle.lsp_verdict.specs.Event.{Event, message, fault, snapshot}

@@ -1,4 +1,4 @@
-use Rattle.std.proofs.Common.{List, ℕ, ◌≡◌, ◌++◌, sym, ap, ◌∙◌, subst}
+use Rattle.std.proofs.Common.{List, ℕ, ◌≡◌, ◌++◌, sym, ◌∙◌, subst}
 use Rattle.lsp_frame.specs.Told.{Took}
 use Rattle.lsp_verdict.specs.Complete.{IsVerdictBy}
 use Rattle.lsp_verdict.specs.Given.{verdict_view}
