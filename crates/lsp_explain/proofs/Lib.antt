@@ -18,3 +18,4 @@ pub mod Tracing
 pub mod AllCauses
 pub mod AllTelling
 pub mod AllEnding
+pub mod AllLaws

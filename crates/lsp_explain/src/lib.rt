@@ -24,7 +24,10 @@ mod trace;
 pub use documents::{act_facts, snapshot_facts};
 pub use fact::Fact;
 pub use flaws::{flaw_facts, frame_facts, unfinished_facts};
-pub use laws::{explanation_begins_with_report, explanation_of_yes_is_report};
+pub use laws::{
+    all_explained_are_causes, explanation_begins_with_report, explanation_of_yes_is_report,
+    first_explained_is_verdict,
+};
 pub use messages::{content_facts, session_facts};
 pub use run::run_explain;
 pub use run_all::run_explain_all;
