@@ -1,5 +1,5 @@
 -- The causes among the events of a log, and what is said of them.
-use Rattle.std.specs.Prelude.{map, filter, not, option_map, if◌then◌else◌}
+use Rattle.std.specs.Prelude.{filter, not, option_map, if◌then◌else◌}
 use Rattle.std.specs.List.{AllZip, cons_option, flat_map}
 use Rattle.std.proofs.Common.{◌≡◌, ◌⊎◌, ℕ, Bool, true, false, List, [], ◌∷◌, ◌++◌, Option, Some, None, inl, inr, refl, sym, ap, ◌∙◌, subst, append_assoc, append-nil}
 use Rattle.std.proofs.lemmas.List.Elements.{filter-append}
@@ -10,14 +10,11 @@ use Rattle.lsp_frame.specs.Told.{Told}
 use Rattle.lsp_frame.specs.declared.format.Format.{Format}
 use Rattle.lsp_log.specs.Log.{Record}
 use Rattle.lsp_log.specs.Reader.{KeepsFormat}
-use Rattle.lsp_survey.specs.Reads.{GoesBehind, SoFar, GaveEvent, Finds}
+use Rattle.lsp_survey.specs.Reads.{GoesBehind, SoFar, Finds}
 use Rattle.lsp_survey.specs.declared.offending.Found.{Found}
-use Rattle.lsp_survey.specs.declared.offending.Heard.TheVariants as heard
 use Rattle.lsp_survey.specs.declared.survey_reader.SurveyReader.{SurveyReader}
 use Rattle.lsp_types.specs.declared.side.Side.TheVariants.{Editor, Server}
-use Rattle.lsp_verdict.specs.Given.{offence_view}
-use Rattle.lsp_verdict.specs.LookBack.{each_of}
-use Rattle.lsp_verdict.specs.Offences.{Noted, Offence, events_of, follows, offence_by, rule_at}
+use Rattle.lsp_verdict.specs.Offences.{Noted, Offence, events_of, follows, rule_at}
 use Rattle.lsp_verdict.specs.Outcome.{HasRest, format_or_one}
 use Rattle.lsp_verdict.specs.Placed.{Raw, Placed, joined}
 use Rattle.lsp_verdict.proofs.LookBackLemmas.{each_of-snoc}

@@ -1,13 +1,13 @@
 -- How a run that explains all that is wrong with a log closes.
-use Rattle.std.specs.Prelude.{map, take, slice_get, not, option_map, option_to_list, if◌then◌else◌, codes, decimal}
+use Rattle.std.specs.Prelude.{map, take, slice_get, not, option_map, option_to_list, codes, decimal}
 use Rattle.std.specs.Io.KnownBytes.{IsAtEnd}
 use Rattle.std.specs.List.{AllZip, list_any}
-use Rattle.std.proofs.Common.{◌≡◌, ◌⊎◌, ℕ, ◌+◌, ◌<◌, ◌^◌, length, Bool, true, false, ◌&&◌, List, [], ◌∷◌, ◌++◌, Option, Some, None, Result, Ok, Err, inl, inr, refl, sym, ap, ◌∙◌, subst, append_assoc, append-nil}
+use Rattle.std.proofs.Common.{◌≡◌, ◌⊎◌, ℕ, ◌+◌, ◌<◌, ◌^◌, length, Bool, true, false, ◌&&◌, List, [], ◌∷◌, ◌++◌, Option, Some, None, inl, inr, refl, sym, ap, ◌∙◌, subst, append_assoc, append-nil}
 use Rattle.std.proofs.lemmas.List.{append_cancel_left, map-append}
 use Rattle.lsp_docs.specs.Terms.{Terms}
 use Rattle.lsp_frame.specs.Bounds.{Bounds, IsInRange}
 use Rattle.lsp_frame.specs.Sink.{Wrote, Stopped}
-use Rattle.lsp_frame.specs.Told.{Told, Took, after_failure}
+use Rattle.lsp_frame.specs.Told.{Told, after_failure}
 use Rattle.lsp_frame.proofs.Telling.{took_then}
 use Rattle.lsp_frame.proofs.Writing.{wrote_then}
 use Rattle.lsp_log.specs.Log.{Record}
@@ -17,15 +17,14 @@ use Rattle.lsp_session.specs.Handshake.{was_sent}
 use Rattle.lsp_session.specs.Incomplete.{incomplete, is_any_open}
 use Rattle.lsp_session.specs.Negotiation.{first_row}
 use Rattle.lsp_session.specs.Requests.{open_requests}
-use Rattle.lsp_session.specs.Sent.{Sent, is_exit}
+use Rattle.lsp_session.specs.Sent.{is_exit}
 use Rattle.lsp_survey.specs.Asking.{Numbered, numbered}
 use Rattle.lsp_survey.specs.Reads.{GoesBehind, Ended, EndedBehind, IsSurveyOf}
 use Rattle.lsp_survey.specs.Reported.{IsTally, IsYes}
 use Rattle.lsp_survey.specs.declared.survey_reader.End.{End}
 use Rattle.lsp_survey.specs.declared.survey_reader.SurveyReader.{SurveyReader}
 use Rattle.lsp_survey.specs.declared.tally.Tally.{Tally}
-use Rattle.lsp_survey.proofs.Reporting.{closed_some, first_none, yes_met}
-use Rattle.lsp_types.specs.declared.side.Side.{Side}
+use Rattle.lsp_survey.proofs.Reporting.{closed_some}
 use Rattle.lsp_types.specs.declared.side.Side.TheVariants.{Editor, Server}
 use Rattle.lsp_verdict.specs.Event.{Event, sent_in}
 use Rattle.lsp_verdict.specs.Given.{offence_view, verdict_view}

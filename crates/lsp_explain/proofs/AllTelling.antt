@@ -1,17 +1,17 @@
 -- How a run explains the causes among the events of a log, one after another.
 use Rattle.std.specs.List.{AllZip, flat_map}
-use Rattle.std.proofs.Common.{◌≡◌, ◌⊎◌, ℕ, List, [], ◌∷◌, ◌++◌, Option, Some, None, Result, Ok, Err, inl, inr, refl, sym, ap, ◌∙◌, subst, append_assoc, append-nil}
+use Rattle.std.proofs.Common.{◌≡◌, ◌⊎◌, ℕ, List, [], ◌∷◌, ◌++◌, Option, Some, None, Ok, Err, inl, inr, refl, sym, ap, ◌∙◌, subst, append_assoc, append-nil}
 use Rattle.std.proofs.lemmas.List.Concat.{flat_map-append}
 use Rattle.lsp_docs.specs.Terms.{Terms, terms_of}
 use Rattle.lsp_frame.specs.Bounds.{Bounds}
-use Rattle.lsp_frame.specs.Sink.{Wrote, Stopped}
+use Rattle.lsp_frame.specs.Sink.{Wrote}
 use Rattle.lsp_frame.specs.Told.{Told, Took, after_failure}
 use Rattle.lsp_frame.specs.declared.format.Format.{Format}
 use Rattle.lsp_frame.proofs.Telling.{took_then}
 use Rattle.lsp_frame.proofs.Writing.{wrote_nothing, wrote_then}
 use Rattle.lsp_log.specs.Log.{Record}
 use Rattle.lsp_log.specs.Reader.{KeepsFormat}
-use Rattle.lsp_survey.specs.Reads.{GoesBehind, HasHeard, SoFar, GaveEvent, GaveBehind, BrokeOff, found_in}
+use Rattle.lsp_survey.specs.Reads.{HasHeard, SoFar, GaveBehind, BrokeOff, found_in}
 use Rattle.lsp_survey.specs.Reported.{IsTally, sink_after}
 use Rattle.lsp_survey.specs.declared.offending.Heard as code_heard
 use Rattle.lsp_survey.specs.declared.survey_reader.SurveyReader.{SurveyReader}
@@ -22,7 +22,7 @@ use Rattle.lsp_verdict.specs.Entries.{IsKnown}
 use Rattle.lsp_verdict.specs.Offences.{Noted, Offence, IsNoted}
 use Rattle.lsp_verdict.specs.Outcome.{HasRest, format_or_one, log_terms}
 use Rattle.lsp_verdict.specs.Placed.{Raw, Placed, joined}
-use Rattle.lsp_verdict.specs.RunIo.{OfRead, failures_after}
+use Rattle.lsp_verdict.specs.RunIo.{OfRead}
 use Rattle.lsp_verdict.specs.declared.completeness.Completeness.{Completeness}
 use Rattle.lsp_verdict.specs.declared.outcome.RunFault.{RunFault}
 use Rattle.lsp_verdict.specs.declared.outcome.RunFault.TheVariants as faults
@@ -33,7 +33,7 @@ use Rattle.lsp_explain.specs.AllSteps.{AreSaid, PartTold, TellsCause, cause_at}
 use Rattle.lsp_explain.specs.Explained.{Heard, Breach, Explained, Explains, raws_of, notes_of}
 use Rattle.lsp_explain.specs.FlawFacts.{Rests}
 use Rattle.lsp_explain.specs.RunSteps.{RestsBehind}
-use Rattle.lsp_explain.proofs.AllCauses.{behind_of, causes-push, nothing_heard, said_behind, said_terms, said_under, zip_append}
+use Rattle.lsp_explain.proofs.AllCauses.{causes-push, nothing_heard, said_behind, said_terms, said_under, zip_append}
 use Rattle.lsp_explain.proofs.Explaining.{raws-append, notes-append, noted-append}
 
 abbrev pub lines : List Explained → List ℕ

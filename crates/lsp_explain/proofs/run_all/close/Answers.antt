@@ -1,4 +1,3 @@
-use Rattle.std.specs.Prelude.{option_map}
 use Rattle.std.proofs.lemmas.Result.{err_from_is_err_and}
 use Rattle.lsp_survey.proofs.Reporting.{yes_met}
 use Rattle.lsp_verdict.specs.Given.{verdict_view}

@@ -4,7 +4,7 @@ use Rattle.std.specs.List.{AllZip}
 use Rattle.lsp_docs.specs.Terms.{terms_of}
 use Rattle.lsp_frame.specs.Sink.{Wrote, Stopped}
 use Rattle.lsp_frame.proofs.Writing.{wrote_nothing}
-use Rattle.lsp_explain.specs.Explained.{Explains, notes_of}
+use Rattle.lsp_explain.specs.Explained.{Explains}
 use Rattle.lsp_explain.proofs.AllCauses.{cause_follows, cause_told}
 use Rattle.lsp_explain.proofs.run_all.explain_cause.Goals as goal
 
