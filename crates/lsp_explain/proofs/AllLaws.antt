@@ -1,7 +1,7 @@
 -- What is explained of all that is wrong with a log, beside what is listed of it.
 use Rattle.std.specs.Prelude.{map, filter, not, if◌then◌else◌}
 use Rattle.std.specs.List.{AllZip}
-use Rattle.std.proofs.Common.{◌≡◌, ℕ, Bool, true, false, List, [], ◌∷◌, ◌++◌, Option, Some, None, refl, sym, ap, ◌∙◌, subst}
+use Rattle.std.proofs.Common.{◌≡◌, Bool, true, false, List, [], ◌∷◌, ◌++◌, Option, Some, None, refl, sym, ap, ◌∙◌}
 use Rattle.std.proofs.lemmas.List.{map-append}
 use Rattle.std.proofs.lemmas.List.Elements.{filter-append}
 use Rattle.lsp_docs.specs.Terms.{Terms}
@@ -13,7 +13,7 @@ use Rattle.lsp_verdict.specs.Verdict.{Verdict, Ending, first_no}
 use Rattle.lsp_verdict.specs.declared.completeness.Completeness.{Completeness}
 use Rattle.lsp_verdict.proofs.Offences.Offending.{first_listed, nothing_listed}
 use Rattle.lsp_verdict.proofs.Offences.Surveying.{survey_agrees}
-use Rattle.lsp_explain.specs.AllExplained.{AreAllSaid, causes, is_cause}
+use Rattle.lsp_explain.specs.AllExplained.{causes, is_cause}
 use Rattle.lsp_explain.specs.Explained.{Heard, Breach, Explained, Explains, notes_of, breaches, end_explained}
 use Rattle.lsp_explain.specs.ExplainLaws.{CausesAreExplained, FirstIsVerdict}
 use Rattle.lsp_explain.specs.FlawFacts.{Rests}
