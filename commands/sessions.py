@@ -93,6 +93,11 @@ REST_REPORT = b"no 107 editor 1 event 1\nstream ends inside a frame\n"
 
 # A header part that is none, and behind it a message of either side.
 BROKEN = HEAD + b"E 4\n\r\n\r\n\n" + EXIT + STOPPED
+BROKEN_REPORT = b"no 102 editor 1 event 1\nbad header line\n"
+
+# A header part without a length, while the other side is inside a frame.
+MISSPELT = HEAD + b"E 3\nabc\n" + b"S 23\nContent-Lenght: 2\r\n\r\n{}\n"
+MISSPELT_REPORT = b"no 103 server 1 event 1\nnot exactly one Content-Length\n"
 
 
 def changed(version, *changes):
@@ -154,26 +159,103 @@ DIFFERS = HEAD + INITIALIZE + ANSWER + INITIALIZED + OPEN + changed(3, RENEWED) 
 REVERSES_REPORT = b"no 606 editor 4 event 5\nrange is reversed\n"
 DIFFERS_REPORT = b"no 702 snapshot 1 event 6\nsnapshot differs\n"
 
+# The same where a snapshot before was equal; a second answer to a request, and a request whose id is taken.
+PARTS = HEAD + INITIALIZE + ANSWER + INITIALIZED + OPEN + SNAPSHOT + changed(3, RENEWED) + shown(3, b"old")
+PARTS_REPORT = b"no 702 snapshot 2 event 7\nsnapshot differs\n"
+AGAIN = HEAD + INITIALIZE + ANSWER + ANSWER
+AGAIN_REPORT = b"no 301 server 2 event 3\nresponse to no open request\n"
+HOVER = editor('{"jsonrpc":"2.0","id":1,"method":"textDocument/hover","params":{}}')
+TAKEN = HEAD + INITIALIZE + ANSWER + INITIALIZED + HOVER + HOVER
+TAKEN_REPORT = b"no 302 editor 4 event 5\nid is already open\n"
+
 URI_LINE = b'uri "file:///a"\n'
-STAYS_FACTS = b'event 5 editor notification "textDocument/didChange"\n' + URI_LINE + b"held 1\nsent 1\nchanges 0\n"
+STAYS_FACTS = b'event 5 editor notification "textDocument/didChange"\n' + URI_LINE + b"held 1\nbrought 4\nsent 1\nchanges 0\n"
 REVERSED_FACTS = b'event 5 editor notification "textDocument/didChange"\n' + URI_LINE
-REVERSED_FACTS += b"held 1\nsent 2\nchanges 1\nchange 1 0 2 0 1\nlength 2\n"
+REVERSED_FACTS += b"held 1\nbrought 4\nsent 2\nchanges 1\nchange 1 0 2 0 1\nlength 2\n"
 DIFFERS_FACTS = b'event 6 snapshot 3 3 "file:///a"\n' + URI_LINE
-DIFFERS_FACTS += b'held 3\nsent 3\nat 0 0\nheld "new"\nrecorded "old"\n'
+DIFFERS_FACTS += b'held 3\nbrought 5\nsent 3\nat 0 0\nheld "new"\nrecorded "old"\nsnapshot 6\n'
+PARTS_FACTS = b'event 7 snapshot 3 3 "file:///a"\n' + URI_LINE
+PARTS_FACTS += b'held 3\nbrought 6\nsent 3\nat 0 0\nheld "new"\nrecorded "old"\nsnapshot 7\nagreed 5 1\n'
 
 # Of logs with a no: what is said behind its two lines.
 FACTS = [
     (WRONGS, STAYS, STAYS_FACTS),
     (REVERSES, REVERSES_REPORT, REVERSED_FACTS),
     (DIFFERS, DIFFERS_REPORT, DIFFERS_FACTS),
-    (EXITS, EXITS_REPORT, b'event 9 editor notification "exit"\nphase exited\n'),
-    (REST, REST_REPORT, b"event 1 editor\n"),
+    (EXITS, EXITS_REPORT, b'event 9 editor notification "exit"\nphase exited\nsince 8\n'),
+    (PARTS, PARTS_REPORT, PARTS_FACTS),
+    (AGAIN, AGAIN_REPORT, b"event 3 server result 1\nid 1\nanswered 2\n"),
+    (TAKEN, TAKEN_REPORT, b'event 5 editor request 1 "textDocument/hover"\nid 1\nasked 4\nanswered 2\n'),
+    (REST, REST_REPORT, b'event 1 editor\nbegins "abc"\n'),
+    (BROKEN, BROKEN_REPORT, rb'''event 1 editor
+begins "\r\n\r\n"
+'''),
+    (MISSPELT, MISSPELT_REPORT, rb'''event 1 server
+begins "Content-Lenght: 2\r\n\r\n"
+'''),
 ]
 
 # The same of sessions that have to be complete.
 LACK_FACTS = [
-    (UNANSWERED, UNANSWERED_REPORT, b'event 8 editor\nphase exited\nrequest 2 "shutdown"\n'),
-    (KILLED, KILLED_REPORT, b"event 8 editor\nphase stopping\n"),
+    (UNANSWERED, UNANSWERED_REPORT, b'event 8 editor\nrequest 2 "shutdown" 6\nphase exited\nsince 7\n'),
+    (KILLED, KILLED_REPORT, b"event 8 editor\nphase stopping\nsince 6\n"),
+]
+
+# Of logs with several: what explains each that follows from no earlier one, and how many offences there are.
+WRONGS_EXPLAINED = STAYS + STAYS_FACTS + rb'''no 606 editor 5 event 7
+range is reversed
+event 7 editor notification "textDocument/didChange"
+uri "file:///a"
+held 1
+brought 4
+sent 2
+changes 1
+change 1 0 2 0 1
+length 2
+no 702 snapshot 3 event 10
+snapshot differs
+event 10 snapshot 3 3 "file:///a"
+uri "file:///a"
+held 3
+brought 9
+sent 3
+at 0 0
+held "new"
+recorded "old"
+snapshot 10
+agreed 6 1
+no 406 editor 9 event 14
+editor message after exit
+event 14 editor notification "exit"
+phase exited
+since 13
+'''
+ALL_FACTS = [
+    (WRONGS, WRONGS_EXPLAINED, b"offences 5 following 1\n"),
+    (
+        UNSHAKEN,
+        UNSHAKEN_LINES + rb'''event 1 editor
+begins "{\"jsonrpc\":\"2.0\",\"id\":1,\"method\":\"initialize\",\"params\":[]}"
+''',
+        b"offences 3 following 2\n",
+    ),
+    (EXITS, EXITS_REPORT + b'event 9 editor notification "exit"\nphase exited\nsince 8\n', b"offences 1 following 0\n"),
+    (
+        RESTS,
+        REST_REPORT + b'event 1 editor\nbegins "abc"\n' + REST_REPORT.replace(b"editor", b"server") + b'event 1 server\nbegins "abc"\n',
+        b"offences 2 following 0\n",
+    ),
+    (
+        BROKEN,
+        BROKEN_REPORT + rb'''event 1 editor
+begins "\r\n\r\n"
+no 301 server 1 event 2
+response to no open request
+event 2 server result 2
+id 2
+''',
+        b"offences 2 following 0\n",
+    ),
 ]
 
 
@@ -205,6 +287,17 @@ BAD_LOGS = {
     b"T 1 1 1\na\n\xff\n": b"bad log L5 record 1\nsnapshot is not UTF-8\n",
 }
 
+# The lines that stand at the places of these faults, as JSON text.
+BAD_LINES = {
+    b"E 0\n": rb'"E 0\n"',
+    b"E 1048577\n": rb'"E 1048577\n"',
+    b"T -0 1 0\n": rb'"T -0 1 0\n"',
+    b"X\n": rb'"X\n"',
+    b"X": b'"X"',
+    b"E 2\nab": rb'"E 2\n"',
+    b"T 1 1 1\na\n\xff\n": rb'"T 1 1 1\n"',
+}
+
 BAD_FIRST_LINE = b"bad log L1 record 0\nbad first line\n"
 
 # What doesn't begin as a log does, and a word of the hint that has to be given.
@@ -218,6 +311,19 @@ NO_LOGS = {
     b"\x28\xb5\x2f\xfd\x00": b"compressed",
     b"lsp-session 9\n": b"format",
     b"hello\n": b"docs/LOG_FORMAT.md",
+}
+
+# How they begin, as JSON text: at most the 14 bytes that a first line has, up to a line end, as far as they are UTF-8.
+NO_LOG_LINES = {
+    b"": b'""',
+    b"Content-Length: 2\r\n\r\n{}": b'"Content-Length"',
+    b"lsp-session 1\r\nE 1\r\n": rb'"lsp-session 1\r"',
+    b"lsp-session 2\r\nE 1\r\n": rb'"lsp-session 2\r"',
+    b"\xef\xbb\xbflsp-session 1\n": b'"\xef\xbb\xbflsp-session"',
+    b"\x1f\x8b\x08\x00\x00\x00\x00\x00": rb'"\u001f"',
+    b"\x28\xb5\x2f\xfd\x00": b'"("',
+    b"lsp-session 9\n": rb'"lsp-session 9\n"',
+    b"hello\n": rb'"hello\n"',
 }
 
 EXIT_CONTENT = b'{"jsonrpc":"2.0","method":"exit"}'

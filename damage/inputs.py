@@ -171,7 +171,7 @@ def case(seed):
         text = ["text", str(1 + rng.randrange(12)), rng.choice(URIS[:2])]
         event = ["event", str(1 + rng.randrange(12))]
         listed = ["check", rng.choice(["--all", "--every"]), *rng.choice([[], ["--complete"]])]
-        explain = ["explain", *rng.choice([[], ["--complete"]])]
+        explain = ["explain", *rng.choice([[], ["--all"]]), *rng.choice([[], ["--complete"]])]
         judged = [["check"], ["check"], COMPLETE, listed, listed, explain, explain, ["show"], ["show", "--long"], ["upgrade"], ["upgrade"], text]
         words = rng.choice([*judged, ["normal"], event])
     return words, damaged(rng, data)

@@ -15,6 +15,7 @@ use Rattle.lsp_verdict.specs.RunIo.{OfRead, AppendsFront}
 use Rattle.lsp_verdict.specs.Shown.{text_is, no_document, too_few, refused}
 use Rattle.lsp_judge.specs.ShownLog.{IsShown, BeginsShown}
 use Rattle.lsp_streams.specs.StreamRun.{IsRun, BeginsRun}
+use Rattle.lsp_explain.specs.AllExplained.{IsAllExplained, BeginsAllExplained}
 use Rattle.lsp_explain.specs.Explained.{IsExplanation, BeginsExplanation}
 use Rattle.lsp_survey.specs.Reported.{IsReported, BeginsReported}
 use Rattle.lsp_survey.specs.declared.listing.Listing.{Listing}
@@ -31,7 +32,7 @@ use Rattle.lsp_verdict.specs.declared.verdict.Summary.{Summary}
 use Rattle.lsp_verdict.specs.declared.verdict.Verdict.{Verdict}
 use Rattle.lsp_verdict.specs.declared.verdict.Verdict.TheVariants as verdicts
 use Rattle.lsp_command.specs.declared.task.Task.{Task}
-use Rattle.lsp_command.specs.declared.task.Task.TheVariants.{Check, Survey, Explain, Show, Text, Event, Normal, Upgrade, Frames}
+use Rattle.lsp_command.specs.declared.task.Task.TheVariants.{Check, Survey, Explain, ExplainAll, Show, Text, Event, Normal, Upgrade, Frames}
 
 -- what a source and a sink tell before a run and after it
 pub record Ports : Type 0 where
@@ -81,6 +82,15 @@ pub record Explained (completeness : Completeness) (limits : Bounds) (p : Ports)
   pub read_fault : result ≡ Err faults.Read → IsSilent p
   pub memory : result ≡ Err faults.Memory → IsSilent p
   pub write_fault : result ≡ Err faults.Write → (out : List ℕ) × Wrote p out × Read limits p (λ log. BeginsExplanation completeness limits log out)
+
+-- `explain --all`: the verdict on the log read, whose session has to be complete or not, and what explains all that is wrong with it, or after a fault what begins that
+pub record AllExplained (completeness : Completeness) (limits : Bounds) (p : Ports) (result : Result Outcome RunFault) : Type 0 where
+  pub judged : IfOk result (λ outcome. (v : Verdict) × (outcome ≡ outcomes.Judged v))
+  pub verdict : (v : Verdict) → result ≡ Ok (outcomes.Judged v) → Read limits p (λ log. IsVerdictBy completeness limits log (verdict_view v))
+  pub written : (v : Verdict) → result ≡ Ok (outcomes.Judged v)
+      → (out : List ℕ) × Wrote p out × Read limits p (λ log. IsAllExplained completeness limits log (verdict_view v) out)
+  pub ended : (s : Summary) → result ≡ Ok (outcomes.Judged (verdicts.Yes s)) → IsAtEnd p.source_after.bytes
+  pub fault : OnErr result ((out : List ℕ) × Wrote p out × Read limits p (λ log. BeginsAllExplained completeness limits log out))
 
 -- `show`: the verdict on the log read, the lines of the events before its place, short or long, and its report
 pub record Showed (lines : Lines) (limits : Bounds) (p : Ports) (result : Result Outcome RunFault) : Type 0 where
@@ -137,6 +147,7 @@ abbrev pub Answers : Bounds → Task → Ports → Result Outcome RunFault → T
 Answers limits (Check completeness) p result = Checked completeness limits p result
 Answers limits (Survey completeness listing) p result = Surveyed completeness listing limits p result
 Answers limits (Explain completeness) p result = Explained completeness limits p result
+Answers limits (ExplainAll completeness) p result = AllExplained completeness limits p result
 Answers limits (Show lines) p result = Showed lines limits p result
 Answers limits (Text number uri) p result = ToldText limits p (non_zero_u64_get number) uri.now result
 Answers limits (Event number) p result = GaveEvent limits p (non_zero_u64_get number) result

@@ -60,9 +60,16 @@ pub record AsksCheck (found : Found) (asked : Option Task) : Type 0 where
   pub every_is : IsFlag (one_text found (codes "every")) every
   pub is : asked ≡ Some (check_of (completeness_of complete) (listing_of all every))
 
--- what explains the verdict on a log, whose session has to be complete where the option for it is set
-abbrev pub AsksExplain : Found → Option Task → Type 0
-AsksExplain found asked = (set : Bool) × IsFlag (one_text found (codes "complete")) set × (asked ≡ Some (tasks.Explain (completeness_of set)))
+abbrev pub explain_of : Completeness → Bool → Task
+explain_of completeness all = if all then tasks.ExplainAll completeness else tasks.Explain completeness
+
+-- what explains the verdict on a log, or all that is wrong with it where the option for that is set; its session has to be complete where the option for that is set
+pub record AsksExplain (found : Found) (asked : Option Task) : Type 0 where
+  pub complete : Bool
+  pub all : Bool
+  pub complete_is : IsFlag (one_text found (codes "complete")) complete
+  pub all_is : IsFlag (one_text found (codes "all")) all
+  pub is : asked ≡ Some (explain_of (completeness_of complete) all)
 
 abbrev pub lines_of : Bool → Lines
 lines_of true = Long
@@ -83,6 +90,7 @@ AsksText found (tasks.Text number uri) = (first_value found (codes "uri") ≡ So
 AsksText found (tasks.Check completeness) = ⊥
 AsksText found (tasks.Survey completeness listing) = ⊥
 AsksText found (tasks.Explain completeness) = ⊥
+AsksText found (tasks.ExplainAll completeness) = ⊥
 AsksText found (tasks.Show lines) = ⊥
 AsksText found (tasks.Event number) = ⊥
 AsksText found tasks.Normal = ⊥
@@ -95,6 +103,7 @@ AsksEvent found (tasks.Event number) = GivesNumber found (non_zero_u64_get numbe
 AsksEvent found (tasks.Check completeness) = ⊥
 AsksEvent found (tasks.Survey completeness listing) = ⊥
 AsksEvent found (tasks.Explain completeness) = ⊥
+AsksEvent found (tasks.ExplainAll completeness) = ⊥
 AsksEvent found (tasks.Show lines) = ⊥
 AsksEvent found (tasks.Text number uri) = ⊥
 AsksEvent found tasks.Normal = ⊥

@@ -8,7 +8,7 @@ ghost use Rattle.lsp_command.specs.Tasks.{Answers, RanThrough};
 use crate::inlet::Inlet;
 use crate::outlet::Outlet;
 use crate::task::Task;
-use lsp_explain::run_explain;
+use lsp_explain::{run_explain, run_explain_all};
 use lsp_frame::{Limits, Sink, Source};
 use lsp_judge::{
     Completeness, Outcome, RunFault, run_check, run_check_complete, run_event, run_frames,
@@ -42,6 +42,9 @@ pub fn run_task<R: Source, W: Sink>(
             run_survey(alloc, source, sink, limits, completeness, listing)
         }
         Task::Explain(completeness) => run_explain(alloc, source, sink, limits, completeness),
+        Task::ExplainAll(completeness) => {
+            run_explain_all(alloc, source, sink, limits, completeness)
+        }
         Task::Show(lines) => run_show(alloc, source, sink, limits, lines),
         Task::Text { number, uri } => run_text(alloc, source, sink, limits, number.get(), uri),
         Task::Event { number } => run_event(alloc, source, sink, limits, number.get()),

@@ -12,6 +12,8 @@ pub enum Task<'a> {
     Survey(Completeness, Listing),
     /// To explain what is wrong with a recorded session, which has to be complete or not.
     Explain(Completeness),
+    /// To explain all that is wrong with a recorded session, which has to be complete or not.
+    ExplainAll(Completeness),
     /// To list the events of a recorded session by short or long lines, and to judge it.
     Show(Lines),
     /// To write the text of the document with this URI, as it is after the editor's message of this

@@ -2,7 +2,7 @@
 ghost use Rattle.std.specs.Prelude.{◌≡◌, ℕ, List, IfOk, IfSome, Some, codes, option_map};
 ghost use Rattle.clap.specs.Matches.{first_value, found_of};
 ghost use Rattle.clap.specs.declared.parser.matches.Found.{Found};
-ghost use Rattle.lsp_command.specs.Words.{Asks, AsksCheck, AsksEvent, AsksExplain, AsksShow, AsksText, check_of, completeness_of, file_of, lines_of, listing_of, mode_of};
+ghost use Rattle.lsp_command.specs.Words.{Asks, AsksCheck, AsksEvent, AsksExplain, AsksShow, AsksText, check_of, completeness_of, explain_of, file_of, lines_of, listing_of, mode_of};
 
 use crate::task::{Request, Task};
 use clap::error::ErrorKind;
@@ -23,6 +23,7 @@ Examples:
   lspcheck check session.log                 the verdict on a recorded session
   lspcheck check --all session.log           all that is wrong with it
   lspcheck explain session.log               what a no lacks
+  lspcheck explain --all session.log         the same of all that is wrong
   lspcheck show session.log | tail           the events before it
   lspcheck text 12 file:///a.c session.log   what the server should hold then
   lspcheck event 8 session.log               the content that a verdict speaks of
@@ -74,9 +75,14 @@ fn explain<'a>(alloc: Global) -> Result<Command<'a>, AllocError> {
         .long("complete")
         .action(ArgAction::SetTrue)
         .help("A session has to be complete, as for check");
+    let all = Arg::new(alloc, "all")
+        .long("all")
+        .action(ArgAction::SetTrue)
+        .help("Explains all that check --all lists");
     Command::new(alloc, "explain")
         .about("Judges a recorded session, and tells what a no lacks")
         .arg(complete)?
+        .arg(all)?
         .arg(log_file(alloc))
 }
 
@@ -211,6 +217,18 @@ fn check_of<'a>(completeness: Completeness, listing: Option<Listing>) -> Task<'a
     }
 }
 
+/// What explains the verdict on a session, or all that is wrong with it, where the option for that is
+/// set or not.
+fn explain_of<'a>(completeness: Completeness, all: bool) -> Task<'a>
+    ensures { result ≡ explain_of completeness all }
+{
+    if all {
+        Task::ExplainAll(completeness)
+    } else {
+        Task::Explain(completeness)
+    }
+}
+
 /// What the lines of events tell, where the option for long ones is set or not.
 fn lines_of(set: bool) -> Lines
     ensures { result ≡ lines_of set }
@@ -235,7 +253,10 @@ fn task_of<'a>(name: &str, arguments: &ArgMatches<'a>) -> Option<Task<'a>>
             completeness_of(arguments.get_flag("complete")),
             listing_of(arguments.get_flag("all"), arguments.get_flag("every")),
         )),
-        "explain" => Some(Task::Explain(completeness_of(arguments.get_flag("complete")))),
+        "explain" => Some(explain_of(
+            completeness_of(arguments.get_flag("complete")),
+            arguments.get_flag("all"),
+        )),
         "show" => Some(Task::Show(lines_of(arguments.get_flag("long")))),
         "text" => Some(Task::Text {
             number: arguments.get_one::<NonZeroU64>("number")?,

@@ -24,7 +24,9 @@ check --complete=true = 64
 check a b = 64
 explain = Explain(Ignored) None
 explain a.log --complete = Explain(Required) Some("a.log")
-explain --all = 64
+explain --all = ExplainAll(Ignored) None
+explain --all --complete a.log = ExplainAll(Required) Some("a.log")
+explain --every = 64
 show a.log = Show(Short) Some("a.log")
 show --long = Show(Long) None
 show --long a.log = Show(Long) Some("a.log")

@@ -24,7 +24,7 @@ const WHOLE: u64 = 371;
 const REPORT: &str = "bad log L6 record 372\nlog too long\n";
 
 /// The same with what explains it.
-const EXPLAINED: &str = "bad log L6 record 372\nlog too long\nrecord 372\n";
+const EXPLAINED: &str = "bad log L6 record 372\nlog too long\nrecord 372\nbyte 4095\nfound \"T\"\n";
 
 /// A frame of 97 bytes, over and over: 42 of them are whole.
 const FRAME: &[u8] =
@@ -122,6 +122,8 @@ fn a_log_without_end_through_each_run(rt: HostRuntime) -> Result<(), Fail> {
     );
     let explain = Task::Explain(Completeness::Ignored);
     check_snapshots(&rt, alloc, HEAD, explain, EXPLAINED);
+    let explain_all = Task::ExplainAll(Completeness::Ignored);
+    check_snapshots(&rt, alloc, HEAD, explain_all, EXPLAINED);
     let survey = Task::Survey(Completeness::Ignored, Listing::Every);
     check_snapshots(&rt, alloc, HEAD, survey, REPORT);
     check_snapshots(&rt, alloc, HEAD, Task::Show(Lines::Short), shown.as_str());

@@ -134,6 +134,7 @@ fn task_of(word: &str) -> Option<Task<'static>> {
         "show" => Some(Task::Show(Lines::Short)),
         "long" => Some(Task::Show(Lines::Long)),
         "explain" => Some(Task::Explain(Completeness::Ignored)),
+        "explain-all" => Some(Task::ExplainAll(Completeness::Ignored)),
         "normal" => Some(Task::Normal),
         "upgrade" => Some(Task::Upgrade),
         "lengths" => Some(Task::Frames(Mode::Lengths)),

@@ -108,7 +108,7 @@ fn the_offences_of_a_session(rt: HostRuntime) {
     check_sessions(&rt, rt.alloc(), OFFENCES, Limits::profile());
 }
 
-/// What explains a change that is refused, and the place of a log's fault.
+/// What explains a change that is refused, the place of a log's fault, and two offences.
 const EXPLANATIONS: &str = r#"START
 E OPEN 1 "ab"
 E CHG 2 / REP 0 2 0 1 "x"
@@ -117,6 +117,7 @@ E CHG 2 / REP 0 2 0 1 "x"
 > event 5 editor notification "textDocument/didChange"
 > uri "file:///a"
 > held 1
+> brought 4
 > sent 2
 > changes 1
 > change 1 0 2 0 1
@@ -127,7 +128,33 @@ HEAD
 > bad log L2 record 1
 > bad record line
 > record 1
-explain bad-log"#;
+> byte 14
+> found "X\n"
+explain bad-log
+START
+E OPEN 1 "ab"
+E CHG 1
+E CHG 2 / REP 0 2 0 1 "x"
+> no 603 editor 4 event 5
+> version does not rise
+> event 5 editor notification "textDocument/didChange"
+> uri "file:///a"
+> held 1
+> brought 4
+> sent 1
+> changes 0
+> no 606 editor 5 event 6
+> range is reversed
+> event 6 editor notification "textDocument/didChange"
+> uri "file:///a"
+> held 1
+> brought 4
+> sent 2
+> changes 1
+> change 1 0 2 0 1
+> length 2
+> offences 2 following 0
+explain-all no"#;
 
 #[test]
 fn what_explains_a_verdict(rt: HostRuntime) {

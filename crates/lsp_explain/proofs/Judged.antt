@@ -1,5 +1,5 @@
 -- The verdict that is explained is the verdict on the log.
-use Rattle.std.proofs.Common.{◌≡◌, ℕ, List, Option, sym, ◌∙◌, subst}
+use Rattle.std.proofs.Common.{ℕ, List, Option, sym, ◌∙◌, subst}
 use Rattle.lsp_frame.specs.Bounds.{Bounds, IsInRange}
 use Rattle.lsp_verdict.specs.Complete.{IsVerdictBy}
 use Rattle.lsp_verdict.specs.Offences.{Offence}
@@ -11,16 +11,17 @@ use Rattle.lsp_verdict.proofs.Completing.{some_complete_verdict}
 use Rattle.lsp_verdict.proofs.Logs.{some_verdict}
 use Rattle.lsp_verdict.proofs.Offences.Surveying.{survey_agrees}
 use Rattle.lsp_explain.specs.Explained.{Explained, raws_of, notes_of, IsExplained, IsExplanation}
+use Rattle.lsp_explain.specs.Fact.{Fact}
 
 -- the survey that is explained
-pub survey_in : (completeness : Completeness) (limits : Bounds) (log : List ℕ) (found : List Offence) (explained : List Explained) (bad : Option Verdict) (s : Summary) → IsExplained completeness limits log found explained bad s → IsSurvey completeness limits log found bad s
-survey_in completeness limits log found explained bad s e = record {
+pub survey_in : (completeness : Completeness) (limits : Bounds) (log : List ℕ) (found : List Offence) (explained : List Explained) (bad : Option Verdict) (flaw : List Fact) (s : Summary) → IsExplained completeness limits log found explained bad flaw s → IsSurvey completeness limits log found bad s
+survey_in completeness limits log found explained bad flaw s e = record {
   format = e.format;
   records = e.records;
   log_fault = e.log_fault;
   notes = notes_of e.heard;
-  editor = e.editor;
-  server = e.server;
+  editor = e.rests.editor;
+  server = e.rests.server;
   is_log = e.is_log;
   session = (raws_of e.heard, e.placed_are, e.noted);
   editor_rest = e.editor_rest;
@@ -30,12 +31,12 @@ survey_in completeness limits log found explained bad s e = record {
   comes_to = e.comes_to;
 }
 
-some_by : (completeness : Completeness) (limits : Bounds) (log : List ℕ) → (v : Verdict) × IsVerdictBy completeness limits log v
+pub some_by : (completeness : Completeness) (limits : Bounds) (log : List ℕ) → (v : Verdict) × IsVerdictBy completeness limits log v
 some_by Ignored limits log = some_verdict limits log
 some_by Required limits log = some_complete_verdict limits log
 
 pub explained_verdict : (completeness : Completeness) (limits : Bounds) → IsInRange limits → (log : List ℕ) (v : Verdict) (out : List ℕ) → IsExplanation completeness limits log v out → IsVerdictBy completeness limits log v
 explained_verdict completeness limits sizes log v out e =
     let w = some_by completeness limits log in
-    let agrees = survey_agrees completeness limits sizes log e.found e.bad e.s w.0 (survey_in completeness limits log e.found e.explained e.bad e.s e.is) w.1 in
+    let agrees = survey_agrees completeness limits sizes log e.found e.bad e.s w.0 (survey_in completeness limits log e.found e.explained e.bad e.flaw e.s e.is) w.1 in
     subst (IsVerdictBy completeness limits log) (agrees ∙ sym e.judges) w.1

@@ -10,6 +10,12 @@ pub mod DocumentRules
 pub mod Refused
 pub mod SaidFacts
 pub mod Spoken
+pub mod Standing
 pub mod Telling
 pub mod ToldFirst
 pub mod Worked
+pub mod Tracing
+pub mod AllCauses
+pub mod AllTelling
+pub mod AllEnding
+pub mod AllLaws

@@ -1,6 +1,6 @@
 -- What is said of an event that offends, by how it was found.
 use Rattle.std.specs.Prelude.{chars, string_bytes}
-use Rattle.std.proofs.Common.{◌≡◌, ℕ, List, [], ◌++◌, Option, Some, refl, sym, ap, ◌∙◌, subst}
+use Rattle.std.proofs.Common.{◌≡◌, ℕ, List, Some, refl, sym, ap, ◌∙◌, subst}
 use Rattle.lsp_docs.specs.Calls.{shows}
 use Rattle.lsp_docs.specs.Terms.{Terms}
 use Rattle.lsp_events.specs.Standing.{RefusesMessage}
@@ -10,50 +10,65 @@ use Rattle.lsp_survey.specs.declared.offending.Offending.{Offending}
 use Rattle.lsp_survey.specs.declared.offending.Offending.TheVariants as what
 use Rattle.lsp_verdict.specs.Contents.{IsSent}
 use Rattle.lsp_verdict.specs.Event.{Event, message, fault, snapshot, sent_in}
+use Rattle.lsp_verdict.specs.Offences.{kept_of, rule_at}
 use Rattle.lsp_verdict.specs.Placed.{Raw, content, broken, show, Reads}
-use Rattle.lsp_verdict.specs.Verdict.{offence}
 use Rattle.lsp_verdict.proofs.OneEvent.{one_event}
 use Rattle.lsp_explain.specs.Explained.{AreCallFacts, AreFacts, AreMessageFacts}
 use Rattle.lsp_explain.specs.Fact.{Fact}
+use Rattle.lsp_explain.specs.FlawFacts.{Rests, rest_of, frame_facts}
 use Rattle.lsp_explain.specs.Lines.{event_line, message_event, side_event, snapshot_event}
 use Rattle.lsp_explain.specs.MessageFacts.{content_facts}
+use Rattle.lsp_explain.specs.RunSteps.{ShowsFault}
+use Rattle.lsp_explain.specs.Traced.{AreTraced}
 use Rattle.lsp_explain.proofs.Spoken.{same_line}
 
-module _ (terms : Terms) (kept : List Event) (rule : ℕ) where
-  -- what is said of what was found
-  abbrev pub Says : Offending → List Fact → Type 0
-  Says (what.Frames by) facts = facts ≡ []
-  Says (what.Content by given) facts = facts ≡ content_facts given.items
-  Says (what.Message by spoken) facts =
-      (bytes : List ℕ) → (refused : RefusesMessage by bytes (message_view spoken.message) (act_view spoken.act) terms kept rule) → AreMessageFacts terms kept refused.sent rule facts
-  Says (what.Snapshot version uri text) facts =
-      offence terms kept (snapshot (string_bytes uri) version (chars (string_bytes text))) ≡ Some rule → AreCallFacts terms kept rule (Some (shows (string_bytes uri) version (chars (string_bytes text)))) facts
+module _ (terms : Terms) (before : List Event) (rule : ℕ) where
+  abbrev kept : List Event
+  kept = kept_of terms before
+
+  -- what is said of what was found, where these bytes are held of its side
+  abbrev pub Says : List ℕ → Offending → List Fact → Type 0
+  Says rest (what.Frames by) facts = facts ≡ frame_facts rest
+  Says rest (what.Content by given) facts = facts ≡ content_facts given.items
+  Says rest (what.Message by spoken) facts =
+      (bytes : List ℕ) → (refused : RefusesMessage by bytes (message_view spoken.message) (act_view spoken.act) terms kept rule)
+      → AreTraced (AreMessageFacts terms kept refused.sent rule) terms before (message refused.sent) rule facts
+  Says rest (what.Snapshot version uri text) facts =
+      rule_at terms before (snapshot (string_bytes uri) version (chars (string_bytes text))) ≡ Some rule
+      → AreTraced (AreCallFacts terms kept rule (Some (shows (string_bytes uri) version (chars (string_bytes text))))) terms before (snapshot (string_bytes uri) version (chars (string_bytes text))) rule facts
+
+  -- the facts on this event, with the events that brought it
+  abbrev pub AreAll : Rests → Raw → Event → List Fact → Type 0
+  AreAll rests raw event facts = AreTraced (AreFacts rests terms kept raw event rule) terms before event rule facts
 
   -- is said of the event that it is
-  pub facts_said : (raw : Raw) (event : Event) (o : Offending) (facts : List Fact) → Reads raw event → IsOffending raw terms kept rule o → offence terms kept event ≡ Some rule → Says o facts → AreFacts terms kept raw event rule facts
-  facts_said (broken side code) event (what.Frames by) facts reads is offends says = subst (λ e. AreFacts terms kept (broken side code) e rule facts) (sym reads) says
-  facts_said (content side bytes) event (what.Content by given) facts reads is offends says =
+  pub facts_said : (rest : List ℕ) (rests : Rests) (raw : Raw) (event : Event) (o : Offending) (facts : List Fact) → Reads raw event → IsOffending raw terms kept rule o → rule_at terms before event ≡ Some rule → ShowsFault rests o rest → Says rest o facts
+      → AreAll rests raw event facts
+  facts_said rest rests (broken side code) event (what.Frames by) facts reads is offends seen says =
+      subst (λ e. AreAll rests (broken side code) e facts) (sym reads) (facts, says ∙ ap content_facts seen ∙ ap (λ s. frame_facts (rest_of rests s)) is, refl)
+  facts_said rest rests (content side bytes) event (what.Content by given) facts reads is offends seen says =
       let same : event ≡ fault side rule = one_event side bytes event (fault side rule) reads is.2 in
-      subst (λ e. AreFacts terms kept (content side bytes) e rule facts) (sym same) (says ∙ ap content_facts is.1)
-  facts_said (content side bytes) event (what.Message by spoken) facts reads is offends says =
+      subst (λ e. AreAll rests (content side bytes) e facts) (sym same) (facts, says ∙ ap content_facts is.1, refl)
+  facts_said rest rests (content side bytes) event (what.Message by spoken) facts reads is offends seen says =
       let refused = is.1 in
       let same : event ≡ message refused.sent = one_event side bytes event (message refused.sent) reads refused.reads in
       let by_side : RefusesMessage by bytes (message_view spoken.message) (act_view spoken.act) terms kept rule =
       record { sent = refused.sent; reads = subst (λ s. IsSent s bytes refused.sent) (sym is.0) refused.reads; says = refused.says; means = refused.means; offends = refused.offends; whole = refused.whole } in
-      subst (λ e. AreFacts terms kept (content side bytes) e rule facts) (sym same) (says bytes by_side)
-  facts_said (show number uri text) event (what.Snapshot version name shown) facts reads is offends says =
+      subst (λ e. AreAll rests (content side bytes) e facts) (sym same) (says bytes by_side)
+  facts_said rest rests (show number uri text) event (what.Snapshot version name shown) facts reads is offends seen says =
       let same : event ≡ snapshot (string_bytes name) version (chars (string_bytes shown)) =
       reads ∙ ap (λ u. snapshot u number (chars text)) (sym is.1) ∙ ap (λ n. snapshot (string_bytes name) n (chars text)) (sym is.0) ∙ ap (λ t. snapshot (string_bytes name) version (chars t)) (sym is.2) in
-      subst (λ e. AreFacts terms kept (show number uri text) e rule facts) (sym same) (says (subst (λ e. offence terms kept e ≡ Some rule) same offends))
-  facts_said (broken side code) event (what.Content by given) facts reads is offends says = absurd is
-  facts_said (broken side code) event (what.Message by spoken) facts reads is offends says = absurd is
-  facts_said (broken side code) event (what.Snapshot version name shown) facts reads is offends says = absurd is
-  facts_said (content side bytes) event (what.Frames by) facts reads is offends says = absurd is
-  facts_said (content side bytes) event (what.Snapshot version name shown) facts reads is offends says = absurd is
-  facts_said (show number uri text) event (what.Frames by) facts reads is offends says = absurd is
-  facts_said (show number uri text) event (what.Content by given) facts reads is offends says = absurd is
-  facts_said (show number uri text) event (what.Message by spoken) facts reads is offends says = absurd is
+      subst (λ e. AreAll rests (show number uri text) e facts) (sym same) (says (subst (λ e. rule_at terms before e ≡ Some rule) same offends))
+  facts_said rest rests (broken side code) event (what.Content by given) facts reads is offends seen says = absurd is
+  facts_said rest rests (broken side code) event (what.Message by spoken) facts reads is offends seen says = absurd is
+  facts_said rest rests (broken side code) event (what.Snapshot version name shown) facts reads is offends seen says = absurd is
+  facts_said rest rests (content side bytes) event (what.Frames by) facts reads is offends seen says = absurd is
+  facts_said rest rests (content side bytes) event (what.Snapshot version name shown) facts reads is offends seen says = absurd is
+  facts_said rest rests (show number uri text) event (what.Frames by) facts reads is offends seen says = absurd is
+  facts_said rest rests (show number uri text) event (what.Content by given) facts reads is offends seen says = absurd is
+  facts_said rest rests (show number uri text) event (what.Message by spoken) facts reads is offends seen says = absurd is
 
+module _ (terms : Terms) (kept : List Event) (rule : ℕ) where
   -- the line that names what was found
   abbrev pub line_for : ℕ → Offending → List ℕ
   line_for number (what.Frames by) = side_event number by

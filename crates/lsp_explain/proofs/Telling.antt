@@ -1,29 +1,39 @@
 -- What a run tells of the first offence that it finds.
-use Rattle.std.specs.Prelude.{string_bytes, map}
-use Rattle.std.specs.List.{AllZip}
-use Rattle.std.proofs.Common.{◌≡◌, ◌⊎◌, ℕ, ◌+◌, suc, List, [], ◌∷◌, ◌++◌, length, Option, Some, None, inl, inr, refl, sym, ap, ◌∙◌, subst, append_assoc}
+use Rattle.std.proofs.Common.{◌≡◌, ℕ, ◌+◌, ◌<◌, ◌^◌, suc, true, List, [], ◌∷◌, ◌++◌, length, Option, Some, refl, sym, ap, ◌∙◌, subst}
 use Rattle.lsp_docs.specs.Terms.{Terms, terms_of}
-use Rattle.lsp_events.specs.Standing.{Holds}
 use Rattle.lsp_frame.specs.Bounds.{Bounds}
 use Rattle.lsp_frame.specs.Told.{Told}
-use Rattle.lsp_survey.specs.Reads.{SoFar, Finds, GaveEvent}
+use Rattle.lsp_log.specs.Log.{Record}
+use Rattle.lsp_types.specs.declared.side.Side.{Side}
+use Rattle.lsp_types.specs.declared.side.Side.TheVariants.{Editor, Server}
+use Rattle.lsp_survey.specs.Marking.{number_next}
+use Rattle.lsp_survey.specs.Reads.{SoFar, Finds, GaveEvent, found_in}
+use Rattle.lsp_survey.specs.Surveys.{HasEnded, ShowsFront, stream_of}
 use Rattle.lsp_survey.specs.Walking.{IsOffending}
 use Rattle.lsp_survey.specs.declared.offending.Found.{Found}
 use Rattle.lsp_survey.specs.declared.offending.Heard.TheVariants as heard
+use Rattle.lsp_survey.specs.declared.offending.Offending.{Offending}
+use Rattle.lsp_survey.specs.declared.offending.Offending.TheVariants as what
+use Rattle.lsp_survey.specs.declared.survey.Survey.{Survey}
 use Rattle.lsp_survey.specs.declared.survey_reader.SurveyReader.{SurveyReader}
 use Rattle.lsp_verdict.specs.Event.{Event}
 use Rattle.lsp_verdict.specs.Given.{offence_view, verdict_view}
 use Rattle.lsp_verdict.specs.Offences.{Noted, Offence, events_of, kept_of, rule_at}
-use Rattle.lsp_verdict.specs.Placed.{Raw, Reads}
+use Rattle.lsp_verdict.specs.Outcome.{HasRest}
+use Rattle.lsp_verdict.specs.Placed.{Raw, content, broken, show, joined, Reads}
 use Rattle.lsp_verdict.specs.Report.{report}
-use Rattle.lsp_verdict.specs.Verdict.{offence, no, no_by, whose}
+use Rattle.lsp_verdict.specs.Verdict.{no, whose}
 use Rattle.lsp_verdict.specs.declared.verdict.Who.{Who}
-use Rattle.lsp_verdict.proofs.Offences.Steps.{kept-refused, events_of-push}
-use Rattle.lsp_explain.specs.Explained.{Heard, Explained, AreFacts, Explains, breach, raws_of, notes_of, said_of}
+use Rattle.lsp_verdict.proofs.ExactCounts.{capped_is}
+use Rattle.lsp_explain.specs.Explained.{Heard, Explained, AreFacts, raws_of, notes_of}
 use Rattle.lsp_explain.specs.Fact.{Fact}
+use Rattle.lsp_explain.specs.FlawFacts.{Rests, rest_of}
 use Rattle.lsp_explain.specs.Lines.{event_line, fact_lines}
-use Rattle.lsp_explain.specs.RunSteps.{Tells}
+use Rattle.lsp_explain.specs.RunSteps.{RestsBehind, ShowsFault, Tells, side_of}
+use Rattle.lsp_explain.specs.Standing.{StandsAfter, terms_in}
+use Rattle.lsp_explain.specs.Traced.{AreTraced}
 use Rattle.lsp_explain.specs.declared.run.Explanation.{Explanation}
+use Rattle.lsp_explain.proofs.Standing.{few_before, stands_before}
 
 pub same_no : (r s : ℕ) (a b : Who) (m n k l : ℕ) → no r a m k ≡ no s b n l → (r ≡ s) × (k ≡ l)
 same_no r s a b m n k l e = (cc e, cc e)
@@ -32,51 +42,76 @@ length_events : (hs : List Heard) → length (events_of (notes_of hs)) ≡ lengt
 length_events [] = refl
 length_events (h ∷ hs) = ap (λ n. suc n) (length_events hs)
 
--- what is said of what was found, where session and documents hold the kept events
-abbrev pub SaidOf : SurveyReader → Found → List ℕ → Type 0
-SaidOf e found said =
-    (raw : Raw) (event : Event) (kept : List Event) → Holds e.survey.walk.events.session e.survey.walk.events.docs kept → Reads raw event
-    → IsOffending raw e.survey.walk.events.docs.terms kept found.offence.rule found.offending → offence e.survey.walk.events.docs.terms kept event ≡ Some found.offence.rule
-    → (facts : List Fact) × AreFacts e.survey.walk.events.docs.terms kept raw event found.offence.rule facts × (said ≡ event_line found.offence.event event ++ fact_lines facts)
+-- what is said of what was found, where the reader stands for the events before it, and these bytes of its side are held
+abbrev pub SaidOf : SurveyReader → Found → List ℕ → List ℕ → Type 0
+SaidOf e found rest said =
+    (raw : Raw) (event : Event) (before : List Event) → StandsAfter e before → found.offence.event ≡ number_next before → Reads raw event
+    → IsOffending raw (terms_in e) (kept_of (terms_in e) before) found.offence.rule found.offending → rule_at (terms_in e) before event ≡ Some found.offence.rule
+    → (facts : List Fact)
+    × ((rests : Rests) → ShowsFault rests found.offending rest → AreTraced (AreFacts rests (terms_in e) (kept_of (terms_in e) before) raw event found.offence.rule) (terms_in e) before event found.offence.rule facts)
+    × (said ≡ event_line found.offence.event event ++ fact_lines facts)
 
-module _ (e : SurveyReader) (found : Found) (x : Explanation) (said : List ℕ) (text : x.text.items ≡ report (offence_view found.offence).no ++ said) (named : verdict_view x.verdict ≡ (offence_view found.offence).no) (says : SaidOf e found said) where
-  module _ (hs : List Heard) (h : Heard) (noted : Reads h.raw h.note.event) where
+-- behind a fault of its frames these bytes show the header part that has it, whatever records follow
+abbrev pub SeenOf : SurveyReader → Found → List ℕ → Type 0
+SeenOf e found rest =
+    (limits : Bounds) (start now : Told) (past : List Raw) (notes : List Noted) (prior : List Offence) → (so : SoFar limits e start now past notes prior)
+    → (stream_of e.survey (side_of found.offending)).ended ≡ true → ShowsFront limits (side_of found.offending) so.records rest
+
+rest_at : (limits : Bounds) (records : List Record) (rests : Rests) (side : Side) (behind : RestsBehind limits records rests) → HasRest limits (joined side (records ++ behind.more)) (rest_of rests side)
+rest_at limits records rests Editor behind = behind.editor
+rest_at limits records rests Server behind = behind.server
+
+-- so the fault that was found is shown
+fault_shown : (limits : Bounds) (s : Survey) (records : List Record) (rests : Rests) (rest : List ℕ) (terms : Terms) (kept : List Event) (rule : ℕ) (raw : Raw) (o : Offending) → IsOffending raw terms kept rule o → HasEnded s raw
+    → ((stream_of s (side_of o)).ended ≡ true → ShowsFront limits (side_of o) records rest) → RestsBehind limits records rests → ShowsFault rests o rest
+fault_shown limits s records rests rest terms kept rule (broken side code) (what.Frames by) is ended seen behind =
+    seen (ap (λ w. (stream_of s w).ended) is ∙ ended) behind.more (rest_of rests by) (rest_at limits records rests by behind)
+fault_shown limits s records rests rest terms kept rule (content side bytes) (what.Frames by) is ended seen behind = absurd is
+fault_shown limits s records rests rest terms kept rule (show number uri text) (what.Frames by) is ended seen behind = absurd is
+fault_shown limits s records rests rest terms kept rule raw (what.Content by given) is ended seen behind = tt
+fault_shown limits s records rests rest terms kept rule raw (what.Message by spoken) is ended seen behind = tt
+fault_shown limits s records rests rest terms kept rule raw (what.Snapshot version uri text) is ended seen behind = tt
+
+module _ (e : SurveyReader) (found : Found) (x : Explanation) (rest said : List ℕ) (text : x.text.items ≡ report (offence_view found.offence).no ++ said) (named : verdict_view x.verdict ≡ (offence_view found.offence).no) (says : SaidOf e found rest said) where
+  module _ (limits : Bounds) (records : List Record) (hs : List Heard) (h : Heard) (noted : Reads h.raw h.note.event) (few : length (events_of (notes_of hs)) + 1 < 2 ^ 64)
+      (shows_fault : (rests : Rests) → RestsBehind limits records rests → ShowsFault rests found.offending rest) where
     abbrev before : List Event
     before = events_of (notes_of hs)
 
-    under : (terms : Terms) → terms ≡ e.survey.walk.events.docs.terms → Finds h.raw terms (notes_of hs) h.note found
-        → Holds e.survey.walk.events.session e.survey.walk.events.docs (kept_of terms before) → Tells terms hs h found x
-    under terms same f holds =
+    abbrev AreAll : Rests → Terms → ℕ → List Fact → Type 0
+    AreAll rests terms rule facts = AreTraced (AreFacts rests terms (kept_of terms before) h.raw h.note.event rule) terms before h.note.event rule facts
+
+    under : (terms : Terms) → terms ≡ terms_in e → Finds h.raw terms (notes_of hs) h.note found → StandsAfter e before → Tells limits records terms hs h found x
+    under terms same f stands =
         let parts = same_no found.offence.rule f.rule found.offence.who (whose h.note.event) found.offence.number _ found.offence.event _ (ap (λ (o : Offence). o.no) f.is) in
         let such : IsOffending h.raw terms (kept_of terms before) found.offence.rule found.offending = subst (λ r. IsOffending h.raw terms (kept_of terms before) r found.offending) (sym parts.0) f.is_such in
-        let offends : offence terms (kept_of terms before) h.note.event ≡ Some found.offence.rule = f.offends ∙ ap (λ r. let o : Option ℕ = Some r in o) (sym parts.0) in
-        let told = says h.raw h.note.event (kept_of terms before) holds noted
-        (subst (λ t. IsOffending h.raw t (kept_of terms before) found.offence.rule found.offending) same such)
-        (subst (λ t. offence t (kept_of terms before) h.note.event ≡ Some found.offence.rule) same offends) in
+        let offends : rule_at terms before h.note.event ≡ Some found.offence.rule = f.offends ∙ ap (λ r. let o : Option ℕ = Some r in o) (sym parts.0) in
+        let told = says h.raw h.note.event before stands (parts.1 ∙ sym (capped_is (length before + 1) few)) noted
+        (subst (λ t. IsOffending h.raw t (kept_of t before) found.offence.rule found.offending) same such)
+        (subst (λ t. rule_at t before h.note.event ≡ Some found.offence.rule) same offends) in
         let y : Explained = record { no = (offence_view found.offence).no; event = event_line found.offence.event h.note.event; facts = told.0 } in record {
           rule = f.rule;
           offends = f.offends;
           told = y;
-          explains = record {
+          explains = λ rests behind. record {
             no_is = ap (λ (o : Offence). o.no) f.is;
             event_is = ap (λ n. event_line n h.note.event) (parts.1 ∙ ap (λ n. n + 1) (length_events hs));
-            facts_are = subst (λ r. AreFacts terms (kept_of terms before) h.raw h.note.event r told.0) parts.0
-                (subst (λ t. AreFacts t (kept_of terms before) h.raw h.note.event found.offence.rule told.0) (sym same) told.1);
+            facts_are = subst (λ r. AreAll rests terms r told.0) parts.0 (subst (λ t. AreAll rests t found.offence.rule told.0) (sym same) (told.1 rests (shows_fault rests behind)));
           };
+          no_is = ap (λ (o : Offence). o.no) f.is;
           is = refl;
           verdict_is = named;
           text_is = text ∙ ap (λ w. report (offence_view found.offence).no ++ w) told.2;
         }
 
-  pub tells : (limits : Bounds) (start now : Told) (hs : List Heard) (prior : List Offence) (given : GaveEvent limits e start now (raws_of hs) (notes_of hs) prior (heard.Offence found))
-      → Tells (terms_of limits e.survey.format) hs (record { raw = given.raw; note = given.n }) found x
-  tells limits start now hs prior given =
+  pub tells : SeenOf e found rest → (limits : Bounds) (start now : Told) (hs : List Heard) (prior : List Offence) (given : GaveEvent limits e start now (raws_of hs) (notes_of hs) prior (heard.Offence found))
+      → Tells limits given.so_far.records (terms_of limits e.survey.format) hs (record { raw = given.raw; note = given.n }) found x
+  tells seen limits start now hs prior given =
       let terms = terms_of limits e.survey.format in
-      let same : terms ≡ e.survey.walk.events.docs.terms = sym given.so_far.surveys.terms in
+      let same : terms ≡ terms_in e = sym given.so_far.surveys.terms in
       let f = given.is_heard in
-      let holds = given.so_far.surveys.walks.holds in
-      let kept : kept_of e.survey.walk.events.docs.terms (events_of (notes_of hs ++ given.n ∷ [])) ≡ kept_of terms (events_of (notes_of hs)) =
-      ap (kept_of e.survey.walk.events.docs.terms) (events_of-push (notes_of hs) given.n)
-      ∙ ap (λ t. kept_of t (events_of (notes_of hs) ++ given.n.event ∷ [])) (sym same)
-      ∙ kept-refused terms (events_of (notes_of hs)) given.n.event f.rule f.offends in
-      under hs (record { raw = given.raw; note = given.n }) given.is_noted.0 terms same f (subst (Holds e.survey.walk.events.session e.survey.walk.events.docs) kept holds)
+      let offends : rule_at (terms_in e) (events_of (notes_of hs)) given.n.event ≡ Some f.rule = subst (λ t. rule_at t (events_of (notes_of hs)) given.n.event ≡ Some f.rule) same f.offends in
+      let shows_fault : (rests : Rests) → RestsBehind limits given.so_far.records rests → ShowsFault rests found.offending rest = λ rests behind.
+      fault_shown limits e.survey given.so_far.records rests rest terms (kept_of terms (events_of (notes_of hs))) f.rule given.raw found.offending f.is_such given.ends (seen limits start now _ _ _ given.so_far) behind in
+      under limits given.so_far.records hs (record { raw = given.raw; note = given.n }) given.is_noted.0 (few_before limits e start now (raws_of hs ++ given.raw ∷ []) (notes_of hs) given.n (prior ++ found_in (heard.Offence found)) given.so_far) shows_fault terms same f
+      (stands_before e (notes_of hs) given.n f.rule given.so_far.surveys.walks offends)

@@ -18,7 +18,6 @@ use Rattle.lsp_verdict.specs.Offences.{Noted, Offence, IsNoted, events_of, offen
 use Rattle.lsp_verdict.specs.Outcome.{format_or_one, log_terms}
 use Rattle.lsp_verdict.specs.Placed.{Raw, Placed}
 use Rattle.lsp_verdict.specs.Report.{report}
-use Rattle.lsp_verdict.specs.RunIo.{OfRead}
 use Rattle.lsp_verdict.specs.Verdict.{no_by}
 use Rattle.lsp_verdict.specs.declared.completeness.Completeness.{Completeness}
 use Rattle.lsp_verdict.specs.declared.outcome.RunFault.{RunFault}
@@ -29,7 +28,7 @@ use Rattle.lsp_verdict.proofs.Offences.Steps.{offences-push}
 use Rattle.lsp_verdict.proofs.Offences.Surveying.{some_asks}
 use Rattle.lsp_verdict.proofs.OneEvent.{some_read}
 use Rattle.lsp_verdict.proofs.RunReading.{read_map}
-use Rattle.lsp_explain.specs.Explained.{Heard, Explained, Explains, raws_of, notes_of, breach, breaches, said_of, IsExplanation}
+use Rattle.lsp_explain.specs.Explained.{Heard, Explains, raws_of, notes_of, breach, breaches, said_of, IsExplanation}
 use Rattle.lsp_explain.specs.RunSteps.{Tells, TellsEnd, EndsWhole, IsFollowing, IsExplainedBy, BreaksOff}
 use Rattle.lsp_explain.specs.declared.run.Explanation.{Explanation}
 use Rattle.lsp_explain.proofs.EndOfLog.{no_breach}
@@ -64,7 +63,7 @@ module _ (completeness : Completeness) (limits : Bounds) (e : SurveyReader) (sta
     raws_here : raws_of hs ++ given.raw ∷ [] ≡ raws_of (hs ++ here ∷ [])
     raws_here = sym (raws-append hs (here ∷ []))
 
-    module _ (t : Tells own hs here found x) where
+    module _ (t : Tells limits given.so_far.records own hs here found x) where
       -- nothing was found before
       clean : breaches own hs ≡ []
       clean =
@@ -84,14 +83,15 @@ module _ (completeness : Completeness) (limits : Bounds) (e : SurveyReader) (sta
             t.rule t.told
             (subst (λ (ts : Terms). breaches ts hs ≡ []) (sym same) clean)
             (subst (λ (ts : Terms). rule_at ts (events_of (notes_of hs)) given.n.event ≡ Some t.rule) (sym same) t.offends)
-            (subst (λ (ts : Terms). Explains ts (breach hs here t.rule) t.told) (sym same) t.explains) in record {
+            (λ rests behind. subst (λ (ts : Terms). Explains rests ts (breach hs here t.rule) t.told) (sym same) (t.explains rests behind)) in record {
               found = offence_of (log_terms limits first.format) (breach hs here t.rule) ∷ f.found;
               explained = t.told ∷ [];
               bad = f.bad;
+              flaw = f.flaw;
               s = f.s;
               is = f.is;
-              judges = t.verdict_is ∙ t.explains.no_is;
-              says = t.text_is ∙ ap (λ v. report v ++ said_of t.told) t.explains.no_is ∙ ap (λ w. report (no_by (events_of (notes_of hs)) given.n.event t.rule) ++ w) (sym (append-nil (said_of t.told)));
+              judges = t.verdict_is ∙ t.no_is;
+              says = t.text_is ∙ ap (λ v. report v ++ said_of t.told) t.no_is ∙ ap (λ w. report (no_by (events_of (notes_of hs)) given.n.event t.rule) ++ w) (sym (append-nil (said_of t.told)));
             }
       ]
 
@@ -100,7 +100,7 @@ module _ (completeness : Completeness) (limits : Bounds) (e : SurveyReader) (sta
         of_read = read_map limits start now (HasFirst limits e.log.format given.so_far.records) (λ log. IsExplanation completeness limits log (verdict_view x.verdict) x.text.items) of_log
             (is_first e.log limits start now given.so_far.records given.so_far.same given.so_far.at);
         failures = given.so_far.at.failures;
-        ended = λ s yes. let same : verdict_view (verdicts.Yes s) ≡ no_by (events_of (notes_of hs)) given.n.event t.rule = ap verdict_view (sym yes) ∙ t.verdict_is ∙ t.explains.no_is in absurd cc;
+        ended = λ s yes. let same : verdict_view (verdicts.Yes s) ≡ no_by (events_of (notes_of hs)) given.n.event t.rule = ap verdict_view (sym yes) ∙ t.verdict_is ∙ t.no_is in absurd cc;
       }
 
 -- memory was refused behind some events

@@ -1,4 +1,6 @@
 -- Worked rows, each checked by computing it.
 pub mod Messages
+pub mod Flaws
+pub mod Traced
 pub mod Lines
 pub mod Documents

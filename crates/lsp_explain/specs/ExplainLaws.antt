@@ -1,17 +1,36 @@
 -- Laws of what is explained.
-use Rattle.std.specs.Prelude.{◌≡◌, List, [], ◌++◌, ℕ, Option}
+use Rattle.std.specs.Prelude.{◌≡◌, List, [], ◌∷◌, ◌++◌, map, false, ℕ, Option}
+use Rattle.lsp_frame.specs.Bounds.{Bounds, IsInRange}
+use Rattle.lsp_verdict.specs.Complete.{IsVerdictBy}
 use Rattle.lsp_verdict.specs.Offences.{Offence}
 use Rattle.lsp_verdict.specs.Report.{report}
-use Rattle.lsp_verdict.specs.Survey.{first_verdict}
+use Rattle.lsp_verdict.specs.Survey.{first_verdict, shown_of}
 use Rattle.lsp_verdict.specs.Verdict.{Verdict, Summary, yes}
+use Rattle.lsp_verdict.specs.declared.completeness.Completeness.{Completeness}
+use Rattle.lsp_explain.specs.AllExplained.{AreAllSaid}
 use Rattle.lsp_explain.specs.Explained.{Explained, explanation}
+use Rattle.lsp_explain.specs.Fact.{Fact}
 
 -- **An explanation begins with the report of the verdict.**
 abbrev pub BeginsWithReport : Type 0
 BeginsWithReport =
-    (found : List Offence) (explained : List Explained) (bad : Option Verdict) (s : Summary)
-    → (said : List ℕ) × (explanation found explained bad s ≡ report (first_verdict found bad s) ++ said)
+    (found : List Offence) (explained : List Explained) (bad : Option Verdict) (flaw : List Fact) (s : Summary)
+    → (said : List ℕ) × (explanation found explained bad flaw s ≡ report (first_verdict found bad s) ++ said)
 
 -- **Of Yes it is the report.**
 abbrev pub YesIsReport : Type 0
-YesIsReport = (found : List Offence) (explained : List Explained) (bad : Option Verdict) (s t : Summary) → found ≡ [] → first_verdict found bad s ≡ yes t → explanation found explained bad s ≡ report (yes t)
+YesIsReport = (found : List Offence) (explained : List Explained) (bad : Option Verdict) (flaw : List Fact) (s t : Summary) → found ≡ [] → first_verdict found bad s ≡ yes t → explanation found explained bad flaw s ≡ report (yes t)
+
+-- ---- all that is wrong
+
+-- **What is explained are just the offences that `check --all` lists**, in order: those that follow from none.
+abbrev pub CausesAreExplained : Type 0
+CausesAreExplained =
+    (completeness : Completeness) (limits : Bounds) (log : List ℕ) (found : List Offence) (explained : List Explained) (bad : Option Verdict) (flaw : List Fact) (s : Summary)
+    → AreAllSaid completeness limits log found explained bad flaw s → map (λ (e : Explained). e.no) explained ≡ map (λ (o : Offence). o.no) (shown_of false found)
+
+-- **The first that is explained is the verdict on the log.**
+abbrev pub FirstIsVerdict : Type 0
+FirstIsVerdict =
+    (completeness : Completeness) (limits : Bounds) → IsInRange limits → (log : List ℕ) (found : List Offence) (e : Explained) (explained : List Explained) (bad : Option Verdict) (flaw : List Fact) (s : Summary) (v : Verdict)
+    → AreAllSaid completeness limits log found (e ∷ explained) bad flaw s → IsVerdictBy completeness limits log v → v ≡ e.no

@@ -20,12 +20,15 @@ use Rattle.lsp_verdict.specs.Placed as placed
 use Rattle.lsp_verdict.specs.Placed.{Raw, broken, show, Placed, joined}
 use Rattle.lsp_verdict.specs.Report.{report}
 use Rattle.lsp_verdict.specs.Survey.{found_in, ends_listed, first_verdict}
-use Rattle.lsp_verdict.specs.Verdict.{Verdict, yes, no, bad_log, Summary, summary, Ending, bad_log_of, no_by}
+use Rattle.lsp_verdict.specs.Verdict.{Verdict, yes, no, bad_log, Summary, summary, bad_log_of, no_by}
 use Rattle.lsp_verdict.specs.declared.completeness.Completeness.{Completeness}
 use Rattle.lsp_explain.specs.DocumentFacts.{AreDocumentFacts}
-use Rattle.lsp_explain.specs.Fact.{Fact, in_record}
-use Rattle.lsp_explain.specs.Lines.{fact_line, fact_lines, event_line, end_event}
-use Rattle.lsp_explain.specs.MessageFacts.{content_facts, session_facts, lack_facts}
+use Rattle.lsp_explain.specs.Fact.{Fact}
+use Rattle.lsp_explain.specs.FlawFacts.{Rests, rest_of, side_by, frame_facts, unfinished_facts, log_facts}
+use Rattle.lsp_explain.specs.Lines.{fact_lines, event_line, end_event}
+use Rattle.lsp_explain.specs.MessageFacts.{content_facts, session_facts}
+use Rattle.lsp_explain.specs.Traced.{AreTraced, lack_traced}
+use Rattle.lsp_survey.specs.Asking.{Numbered, numbered}
 
 -- ---- an event that offends
 
@@ -58,11 +61,11 @@ breaches terms heard = each_of (breach_at terms) heard
 
 -- ---- the facts on it
 
--- of a content that is no message, and none of frames that have a fault
-abbrev pub fault_facts : Raw → List Fact
-fault_facts (placed.content side bytes) = content_facts bytes
-fault_facts (broken side rule) = []
-fault_facts (show number uri text) = []
+-- of a content that is no message, or of the header part that has a fault of the frames; these are the rests of both sides' whole streams
+abbrev pub fault_facts : Rests → Raw → List Fact
+fault_facts rests (placed.content side bytes) = content_facts bytes
+fault_facts rests (broken side rule) = frame_facts (rest_of rests side)
+fault_facts rests (show number uri text) = []
 
 -- a call on a document that breaks this rule after the kept events
 abbrev pub AreCallFacts : Terms → List Event → ℕ → Option Call → List Fact → Type 0
@@ -78,23 +81,23 @@ abbrev pub AreMessageFacts : Terms → List Event → Sent → ℕ → List Fact
 AreMessageFacts terms kept m rule facts = AreFactsBy (nat_lt rule 601) terms kept m rule facts
 
 -- **the facts on an event that offends by this rule after the kept ones before it**
-abbrev pub AreFacts : Terms → List Event → Raw → Event → ℕ → List Fact → Type 0
-AreFacts terms kept raw (fault side number) rule facts = facts ≡ fault_facts raw
-AreFacts terms kept raw (message m) rule facts = AreMessageFacts terms kept m rule facts
-AreFacts terms kept raw (snapshot uri number text) rule facts = AreCallFacts terms kept rule (call_at kept (snapshot uri number text)) facts
+abbrev pub AreFacts : Rests → Terms → List Event → Raw → Event → ℕ → List Fact → Type 0
+AreFacts rests terms kept raw (fault side number) rule facts = facts ≡ fault_facts rests raw
+AreFacts rests terms kept raw (message m) rule facts = AreMessageFacts terms kept m rule facts
+AreFacts rests terms kept raw (snapshot uri number text) rule facts = AreCallFacts terms kept rule (call_at kept (snapshot uri number text)) facts
 
 -- ---- what is said of it
 
--- the No, the line that names the event, and the facts
+-- the No, the line that names the event, and the facts, with the events that brought it
 pub record Explained : Type 0 where
   pub no : Verdict
   pub event : List ℕ
   pub facts : List Fact
 
-pub record Explains (terms : Terms) (b : Breach) (e : Explained) : Type 0 where
+pub record Explains (rests : Rests) (terms : Terms) (b : Breach) (e : Explained) : Type 0 where
   pub no_is : e.no ≡ no_by (events_of (notes_of b.before)) b.here.note.event b.rule
   pub event_is : e.event ≡ event_line (length b.before + 1) b.here.note.event
-  pub facts_are : AreFacts terms (kept_of terms (events_of (notes_of b.before))) b.here.raw b.here.note.event b.rule e.facts
+  pub facts_are : AreTraced (AreFacts rests terms (kept_of terms (events_of (notes_of b.before))) b.here.raw b.here.note.event b.rule) terms (events_of (notes_of b.before)) b.here.note.event b.rule e.facts
 
 -- ---- how a session ends
 
@@ -104,61 +107,62 @@ end_line (no rule by count event) = end_event event by
 end_line (yes s) = []
 end_line (bad_log at code) = []
 
--- 303 and 407 say what waits after the kept events, and 107 nothing
-abbrev pub end_facts : List Event → Verdict → List Fact
-end_facts kept (no rule by count event) = if rule == 107 then [] else lack_facts (sent_in kept)
-end_facts kept (yes s) = []
-end_facts kept (bad_log at code) = []
+-- 107 says how the frame begins that is not whole, 303 and 407 what waits after the kept messages
+abbrev pub end_facts : Rests → List Numbered → Verdict → List Fact
+end_facts rests said (no rule by count event) = if rule == 107 then unfinished_facts (rest_of rests (side_by by)) else lack_traced said
+end_facts rests said (yes s) = []
+end_facts rests said (bad_log at code) = []
 
-abbrev pub end_explained : List Event → Verdict → Explained
-end_explained kept v = record { no = v; event = end_line v; facts = end_facts kept v }
+abbrev pub end_explained : Rests → List Numbered → Verdict → Explained
+end_explained rests said v = record { no = v; event = end_line v; facts = end_facts rests said v }
 
 -- ---- the report
 
 abbrev pub said_of : Explained → List ℕ
 said_of e = e.event ++ fact_lines e.facts
 
--- the number of the record at which the log has its fault
-abbrev pub flaw_lines : Option Verdict → List ℕ
-flaw_lines (Some (bad_log at code)) = fact_line (in_record at)
-flaw_lines _ = []
+-- what is said of the fault of a log
+abbrev pub flaw_lines : Option Verdict → List Fact → List ℕ
+flaw_lines (Some (bad_log at code)) flaw = fact_lines flaw
+flaw_lines _ flaw = []
 
--- **the explanation**: where nothing offends the report, with the record of a bad log; else of the first offence the report of its No and what is said of it
-abbrev pub explanation : List Offence → List Explained → Option Verdict → Summary → List ℕ
-explanation [] explained bad s = report (first_verdict [] bad s) ++ flaw_lines bad
-explanation (o ∷ found) explained bad s = report o.no ++ flat_map said_of explained
+-- **the explanation**: where nothing offends the report, and of a bad log what is said of its fault; else of the first offence the report of its No and what is said of it
+abbrev pub explanation : List Offence → List Explained → Option Verdict → List Fact → Summary → List ℕ
+explanation [] explained bad flaw s = report (first_verdict [] bad s) ++ flaw_lines bad flaw
+explanation (o ∷ found) explained bad flaw s = report o.no ++ flat_map said_of explained
 
 -- ---- a log
 
--- **what is explained of a log**, the first offence: `found` and `bad` and `s` are its survey
-pub record IsExplained (completeness : Completeness) (limits : Bounds) (log : List ℕ) (found : List Offence) (explained : List Explained) (bad : Option Verdict) (s : Summary) : Type 0 where
+-- **what is explained of a log**, the first offence: `found` and `bad` and `s` are its survey, and `flaw` is said of its fault
+pub record IsExplained (completeness : Completeness) (limits : Bounds) (log : List ℕ) (found : List Offence) (explained : List Explained) (bad : Option Verdict) (flaw : List Fact) (s : Summary) : Type 0 where
   pub format : Option Format
   pub records : List Record
   pub log_fault : Option (ℕ × LogCode)
   pub heard : List Heard
-  pub editor : List ℕ
-  pub server : List ℕ
+  pub rests : Rests
   pub of_events : List Explained
   pub is_log : IsLog limits log format records log_fault
   pub placed_are : Placed limits records (raws_of heard)
   pub noted : AllZip IsNoted (raws_of heard) (notes_of heard)
-  pub editor_rest : HasRest limits (joined Editor records) editor
-  pub server_rest : HasRest limits (joined Server records) server
-  pub lists : found ≡ found_in completeness (log_terms limits format) (notes_of heard) (ending log_fault editor server)
+  pub editor_rest : HasRest limits (joined Editor records) rests.editor
+  pub server_rest : HasRest limits (joined Server records) rests.server
+  pub lists : found ≡ found_in completeness (log_terms limits format) (notes_of heard) (ending log_fault rests.editor rests.server)
   pub bad_is : bad ≡ bad_log_of log_fault
+  pub flaw_is : flaw ≡ log_facts limits log format records log_fault
   pub comes_to : s ≡ summary (log_terms limits format) (events_of (notes_of heard))
-  pub explains : AllZip (Explains (log_terms limits format)) (take 1 (breaches (log_terms limits format) heard)) of_events
-  pub shows : explained ≡ take 1 (of_events ++ map (end_explained (kept_of (log_terms limits format) (events_of (notes_of heard)))) (ends_listed completeness (log_terms limits format) (events_of (notes_of heard)) (ending log_fault editor server)))
+  pub explains : AllZip (Explains rests (log_terms limits format)) (take 1 (breaches (log_terms limits format) heard)) of_events
+  pub shows : explained ≡ take 1 (of_events ++ map (end_explained rests (numbered (log_terms limits format) (events_of (notes_of heard)))) (ends_listed completeness (log_terms limits format) (events_of (notes_of heard)) (ending log_fault rests.editor rests.server)))
 
 -- **the verdict on a log, and what explains it**: the first that its survey lists, else its fault, else Yes
 pub record IsExplanation (completeness : Completeness) (limits : Bounds) (log : List ℕ) (v : Verdict) (out : List ℕ) : Type 0 where
   pub found : List Offence
   pub explained : List Explained
   pub bad : Option Verdict
+  pub flaw : List Fact
   pub s : Summary
-  pub is : IsExplained completeness limits log found explained bad s
+  pub is : IsExplained completeness limits log found explained bad flaw s
   pub judges : v ≡ first_verdict found bad s
-  pub says : out ≡ explanation found explained bad s
+  pub says : out ≡ explanation found explained bad flaw s
 
 -- what begins the explanation of a log
 abbrev pub BeginsExplanation : Completeness → Bounds → List ℕ → List ℕ → Type 0

@@ -43,10 +43,21 @@ pub data Fact : Type 0 where
   registers : List ℕ → Fact
   -- a request that waits, with its method
   waits : Ident → List ℕ → Fact
+  waits_since : Ident → List ℕ → ℕ → Fact
+  -- the event that brought the held version, that of a snapshot, and the snapshot that was found equal last
+  brought_by : ℕ → Fact
+  shown_by : ℕ → Fact
+  agreed_by : ℕ → ℤ → Fact
+  -- the event that answered a request, that asked one, and that led to the phase
+  answered_by : ℕ → Fact
+  asked_by : ℕ → Fact
+  led_by : ℕ → Fact
   -- the front of a content
   begins : List ℕ → Fact
-  -- the number of a record
+  -- the number of a record, the byte at which it begins, and the line that stands there
   in_record : ℕ → Fact
+  at_byte : ℕ → Fact
+  finds : List ℕ → Fact
 
 abbrev pub fact_view : fact.Fact → Fact
 fact_view (facts.Uri text) = of_uri (string_bytes text)
@@ -70,8 +81,17 @@ fact_view (facts.Offered names) = offers (texts_view names.items)
 fact_view (facts.Picked name) = picks (string_bytes name)
 fact_view (facts.Registers method) = registers (string_bytes method)
 fact_view (facts.Request id method) = waits (id_view id) (string_bytes method)
+fact_view (facts.RequestBy id method event) = waits_since (id_view id) (string_bytes method) event
+fact_view (facts.Brought event) = brought_by event
+fact_view (facts.Snapshot event) = shown_by event
+fact_view (facts.Agreed event number) = agreed_by event number
+fact_view (facts.Answered event) = answered_by event
+fact_view (facts.Asked event) = asked_by event
+fact_view (facts.Since event) = led_by event
 fact_view (facts.Begins text) = begins (string_bytes text)
 fact_view (facts.Record number) = in_record number
+fact_view (facts.Byte place) = at_byte place
+fact_view (facts.Found text) = finds (string_bytes text)
 
 abbrev pub facts_view : List fact.Fact → List Fact
 facts_view said = map fact_view said

@@ -15,7 +15,7 @@ use Rattle.lsp_verdict.specs.Event.{Event, message, fault, snapshot}
 use Rattle.lsp_verdict.specs.Report.{line, side_name, who_name, kind_name}
 use Rattle.lsp_verdict.specs.Shown.{snapshot_words}
 use Rattle.lsp_verdict.specs.declared.verdict.Who.{Who}
-use Rattle.lsp_explain.specs.Fact.{Fact, of_uri, holds, sends, has_changes, has_kind, fails, line_has, falls_inside, would_have, may_have, differs_at, held_line, recorded_line, saved_line, keeps, has_id, in_phase, offers, picks, registers, waits, begins, in_record}
+use Rattle.lsp_explain.specs.Fact.{Fact, of_uri, holds, sends, has_changes, has_kind, fails, line_has, falls_inside, would_have, may_have, differs_at, held_line, recorded_line, saved_line, keeps, has_id, in_phase, offers, picks, registers, waits, waits_since, brought_by, shown_by, agreed_by, answered_by, asked_by, led_by, begins, in_record, at_byte, finds}
 
 -- ---- words
 
@@ -67,8 +67,17 @@ fact_line (offers names) = codes "offered" ++ flat_map (λ name. spaced (quoted 
 fact_line (picks name) = line (codes "picked" ∷ quoted name ∷ [])
 fact_line (registers method) = line (codes "registers" ∷ quoted method ∷ [])
 fact_line (waits id method) = line (codes "request" ∷ id_text id ∷ quoted method ∷ [])
+fact_line (waits_since id method event) = line (codes "request" ∷ id_text id ∷ quoted method ∷ decimal event ∷ [])
+fact_line (brought_by event) = line (codes "brought" ∷ decimal event ∷ [])
+fact_line (shown_by event) = line (codes "snapshot" ∷ decimal event ∷ [])
+fact_line (agreed_by event number) = line (codes "agreed" ∷ decimal event ∷ signed_decimal number ∷ [])
+fact_line (answered_by event) = line (codes "answered" ∷ decimal event ∷ [])
+fact_line (asked_by event) = line (codes "asked" ∷ decimal event ∷ [])
+fact_line (led_by event) = line (codes "since" ∷ decimal event ∷ [])
 fact_line (begins text) = line (codes "begins" ∷ quoted text ∷ [])
 fact_line (in_record number) = line (codes "record" ∷ decimal number ∷ [])
+fact_line (at_byte place) = line (codes "byte" ∷ decimal place ∷ [])
+fact_line (finds text) = line (codes "found" ∷ quoted text ∷ [])
 
 abbrev pub fact_lines : List Fact → List ℕ
 fact_lines facts = flat_map fact_line facts

@@ -1,18 +1,15 @@
--- What is said of a message that offends, and of a session that lacks something, read off the messages before.
-use Rattle.std.specs.Prelude.{◌≡◌, ℕ, List, [], ◌∷◌, ◌++◌, map, take, if◌then◌else◌, Option, Some, None, option_map, option_to_list, unwrap_or}
+-- What is said of a message that offends, read off the messages before.
+use Rattle.std.specs.Prelude.{ℕ, List, [], ◌∷◌, take, if◌then◌else◌, Option, Some, None, option_map, option_to_list, unwrap_or}
 use Rattle.std.specs.Str.Lossy.{utf8_valid_len}
-use Rattle.lsp_rpc.specs.Act.{Text, Act, Offer, Picked, register}
+use Rattle.lsp_rpc.specs.Act.{Text, Act, Picked, register}
 use Rattle.lsp_rpc.specs.Ident.{Ident}
 use Rattle.lsp_rpc.specs.Message.{Message, request, notification, response}
 use Rattle.lsp_rpc.specs.Results.{picked_at}
-use Rattle.lsp_types.specs.declared.side.Side.TheVariants.{Editor}
-use Rattle.lsp_session.specs.Entry.{Entry}
 use Rattle.lsp_session.specs.Handshake.{Settled, settled_by, phase}
 use Rattle.lsp_session.specs.Negotiation.{is_synchronisation}
-use Rattle.lsp_session.specs.Requests.{open_requests}
 use Rattle.lsp_session.specs.Sent.{Sent}
 use Rattle.lsp_verdict.specs.Offences.{is_within}
-use Rattle.lsp_explain.specs.Fact.{Fact, has_id, in_phase, offers, picks, registers, waits, begins}
+use Rattle.lsp_explain.specs.Fact.{Fact, has_id, in_phase, offers, picks, registers, begins}
 
 -- ---- contents that are no message: 201 to 209
 
@@ -66,12 +63,3 @@ session_facts rule before m =
     else (if is_within 401 412 rule then in_phase (phase before) ∷ []
     else (if is_within 501 503 rule then settled_facts (settled_by before m)
     else register_facts m.act))
-
--- ---- a session that lacks something: 303 and 407
-
-abbrev pub waiting : Entry → Fact
-waiting e = waits e.id e.method
-
--- the editor's requests that wait, in order of asking, and how far the session has come
-abbrev pub lack_facts : List Sent → List Fact
-lack_facts before = map waiting (open_requests Editor before) ++ in_phase (phase before) ∷ []

@@ -1,34 +1,79 @@
 -- What the steps of a run that explains a log answer.
-use Rattle.std.specs.Prelude.{◌≡◌, ℕ, List, [], ◌++◌, Option, Some, None, Result, Ok, Err}
+use Rattle.std.specs.Prelude.{◌≡◌, ℕ, List, [], ◌++◌, Option, Some, Result, Ok, Err}
 use Rattle.std.specs.Io.KnownBytes.{IsAtEnd}
 use Rattle.lsp_frame.specs.Bounds.{Bounds}
+use Rattle.lsp_frame.specs.Front.{header_front}
 use Rattle.lsp_frame.specs.Told.{Told}
+use Rattle.lsp_log.specs.Log.{Record}
+use Rattle.lsp_log.specs.Reader.{shown_by}
+use Rattle.lsp_types.specs.declared.side.Side.{Side}
+use Rattle.lsp_types.specs.declared.side.Side.TheVariants.{Editor, Server}
 use Rattle.lsp_docs.specs.Terms.{Terms, terms_of}
 use Rattle.lsp_events.specs.Standing.{Follows}
 use Rattle.lsp_survey.specs.Reads.{SoFar, GaveEvent, Ended}
 use Rattle.lsp_survey.specs.declared.offending.Found.{Found}
 use Rattle.lsp_survey.specs.declared.offending.Heard.TheVariants as heard
+use Rattle.lsp_survey.specs.declared.offending.Offending.{Offending}
+use Rattle.lsp_survey.specs.declared.offending.Offending.TheVariants as what
 use Rattle.lsp_survey.specs.declared.survey_reader.End.{End}
 use Rattle.lsp_survey.specs.declared.survey_reader.SurveyReader.{SurveyReader}
 use Rattle.lsp_verdict.specs.Given.{as_given, offence_view, verdict_view}
 use Rattle.lsp_verdict.specs.Offences.{Noted, Offence, events_of, rule_at}
+use Rattle.lsp_verdict.specs.Outcome.{HasRest}
+use Rattle.lsp_verdict.specs.Placed.{joined}
 use Rattle.lsp_verdict.specs.Report.{report}
 use Rattle.lsp_verdict.specs.RunIo.{OfRead, failures_after}
-use Rattle.lsp_verdict.specs.Verdict.{Summary, summary, yes}
+use Rattle.lsp_verdict.specs.Verdict.{Verdict, Summary, summary, yes, bad_log, no_by}
 use Rattle.lsp_verdict.specs.declared.completeness.Completeness.{Completeness}
 use Rattle.lsp_verdict.specs.declared.outcome.RunFault.{RunFault}
 use Rattle.lsp_verdict.specs.declared.outcome.RunFault.TheVariants as faults
 use Rattle.lsp_verdict.specs.declared.verdict.Summary as code
 use Rattle.lsp_verdict.specs.declared.verdict.Verdict.TheVariants as verdicts
 use Rattle.lsp_explain.specs.Explained.{Heard, Explained, Explains, breach, raws_of, notes_of, said_of, IsExplanation}
+use Rattle.lsp_explain.specs.Fact.{Fact}
+use Rattle.lsp_explain.specs.FlawFacts.{Rests, rest_of, flaw_facts}
 use Rattle.lsp_explain.specs.declared.run.Explanation.{Explanation}
 
--- the event that was found offends behind these, and this is said of it
-pub record Tells (terms : Terms) (hs : List Heard) (h : Heard) (found : Found) (x : Explanation) : Type 0 where
+-- ---- what a reader of events holds of faults
+
+-- the bytes of both sides behind their last whole frames
+abbrev pub rests_held : SurveyReader → Rests
+rests_held e = record { editor = e.survey.editor.decoder.rest; server = e.survey.server.decoder.rest }
+
+-- the facts on the fault of a log
+abbrev pub flaw_held : SurveyReader → Option Verdict → List Fact
+flaw_held e (Some (bad_log number code)) = flaw_facts number e.log.place (shown_by e.log)
+flaw_held e _ = []
+
+-- whose event offends; a snapshot is the editor's
+abbrev pub side_of : Offending → Side
+side_of (what.Frames side) = side
+side_of (what.Content side content) = side
+side_of (what.Message side spoken) = side
+side_of (what.Snapshot version uri text) = Editor
+
+-- the rests of both sides of a log that has these records first
+pub record RestsBehind (limits : Bounds) (records : List Record) (rests : Rests) : Type 0 where
+  pub more : List Record
+  pub editor : HasRest limits (joined Editor (records ++ more)) rests.editor
+  pub server : HasRest limits (joined Server (records ++ more)) rests.server
+
+-- of a fault of the frames these bytes show the header part that has it
+abbrev pub ShowsFault : Rests → Offending → List ℕ → Type 0
+ShowsFault rests (what.Frames side) bytes = header_front bytes ≡ header_front (rest_of rests side)
+ShowsFault rests (what.Content side content) bytes = Unit {0}
+ShowsFault rests (what.Message side spoken) bytes = Unit {0}
+ShowsFault rests (what.Snapshot version uri text) bytes = Unit {0}
+
+-- ---- what the steps tell
+
+-- the event that was found offends behind these, and this is said of it, whatever records follow
+pub record Tells (limits : Bounds) (records : List Record) (terms : Terms) (hs : List Heard) (h : Heard) (found : Found) (x : Explanation) : Type 0 where
   pub rule : ℕ
   pub offends : rule_at terms (events_of (notes_of hs)) h.note.event ≡ Some rule
   pub told : Explained
-  pub explains : Explains terms (breach hs h rule) told
+  pub explains : (rests : Rests) → RestsBehind limits records rests → Explains rests terms (breach hs h rule) told
+  pub no_is : told.no ≡ no_by (events_of (notes_of hs)) h.note.event rule
   pub is : told.no ≡ (offence_view found.offence).no
   pub verdict_is : verdict_view x.verdict ≡ told.no
   pub text_is : x.text.items ≡ report told.no ++ said_of told
@@ -37,7 +82,7 @@ pub record Tells (terms : Terms) (hs : List Heard) (h : Heard) (found : Found) (
 abbrev pub TellsOf : SurveyReader → Found → Explanation → Type 0
 TellsOf e found x =
     (limits : Bounds) (start now : Told) (hs : List Heard) (prior : List Offence) (given : GaveEvent limits e start now (raws_of hs) (notes_of hs) prior (heard.Offence found))
-    → Tells (terms_of limits e.survey.format) hs (record { raw = given.raw; note = given.n }) found x
+    → Tells limits given.so_far.records (terms_of limits e.survey.format) hs (record { raw = given.raw; note = given.n }) found x
 
 -- what the events heard come to
 abbrev pub summary_behind : SurveyReader → List Noted → Summary

@@ -49,8 +49,26 @@ pub enum Fact {
     Registers(String),
     /// A request of the editor's that waits for its response.
     Request { id: Id, method: String },
+    /// The same, and the number of the event that asked it, from 1.
+    RequestBy { id: Id, method: String, event: u64 },
+    /// The number of the event that brought the held version, from 1.
+    Brought(u64),
+    /// The number of the event of a snapshot that has another text, from 1.
+    Snapshot(u64),
+    /// The snapshot of the standing opening that was found equal last: the number of its event, from 1, and its version.
+    Agreed { event: u64, version: i32 },
+    /// The number of the event that answered a request of this id, from 1.
+    Answered(u64),
+    /// The number of the event that asked the open request of this id, from 1.
+    Asked(u64),
+    /// The number of the event that led to the phase, from 1.
+    Since(u64),
     /// The front of a content that is no message.
     Begins(String),
     /// The number of a record of the log, from 1; 0 for the first line.
     Record(u64),
+    /// How many bytes of the log stand before it.
+    Byte(u64),
+    /// The line that stands there, or its front, as far as it is UTF-8.
+    Found(String),
 }

@@ -1,14 +1,22 @@
 //! Laws of what is explained.
-ghost use Rattle.lsp_explain.specs.ExplainLaws.{BeginsWithReport, YesIsReport};
+ghost use Rattle.lsp_explain.specs.ExplainLaws.{BeginsWithReport, CausesAreExplained, FirstIsVerdict, YesIsReport};
 
 /// An explanation begins with the report of the verdict.
 pub fn explanation_begins_with_report()
     ensures { BeginsWithReport }
-{
-}
+{}
 
 /// The explanation of Yes is the report.
 pub fn explanation_of_yes_is_report()
     ensures { YesIsReport }
-{
-}
+{}
+
+/// What is explained of all that is wrong with a log are just the offences that follow from none.
+pub fn all_explained_are_causes()
+    ensures { CausesAreExplained }
+{}
+
+/// The first of them is the verdict on the log.
+pub fn first_explained_is_verdict()
+    ensures { FirstIsVerdict }
+{}

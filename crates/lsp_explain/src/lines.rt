@@ -7,7 +7,7 @@ ghost use Rattle.lsp_rpc.specs.Ident.{id_view};
 ghost use Rattle.lsp_docs.specs.Texts.{byte_len};
 ghost use Rattle.lsp_rpc.specs.View.{message_view, texts_view};
 ghost use Rattle.lsp_verdict.specs.Report.{line, who_name};
-ghost use Rattle.lsp_explain.specs.Fact.{fact_view, facts_view, has_kind, differs_at, fails, in_phase, has_id, waits, keeps, offers};
+ghost use Rattle.lsp_explain.specs.Fact.{fact_view, facts_view, has_kind, differs_at, fails, in_phase, has_id, waits, waits_since, agreed_by, keeps, offers};
 ghost use Rattle.lsp_explain.specs.Lines as spec;
 
 use crate::fact::Fact;
@@ -129,6 +129,31 @@ fn push_request(alloc: Global, lines: &mut String, id: &Id, method: &str) -> Res
     Ok(lines.push_str("\n")?)
 }
 
+fn push_request_by(
+    alloc: Global,
+    lines: &mut String,
+    id: &Id,
+    method: &str,
+    event: u64,
+) -> Result<(), Memory>
+    ensures { OnOk result (string_bytes lines.new
+        ≡ string_bytes lines.old ++ spec.fact_line (waits_since (id_view id.now) method.now event)) }
+{
+    lines.push_str("request ")?;
+    push_id(alloc, lines, id)?;
+    lines.push_str(" ")?;
+    push_quoted(alloc, lines, method)?;
+    writeln!(lines, " {event}")?;
+    Ok(())
+}
+
+fn push_agreed(lines: &mut String, event: u64, version: i32) -> Result<(), Memory>
+    ensures { OnOk result (string_bytes lines.new ≡ string_bytes lines.old ++ spec.fact_line (agreed_by event version)) }
+{
+    writeln!(lines, "agreed {event} {version}")?;
+    Ok(())
+}
+
 fn push_versions(lines: &mut String, versions: &[i32]) -> Result<(), Memory>
     ensures { OnOk result (string_bytes lines.new ≡ string_bytes lines.old ++ spec.fact_line (keeps versions.now)) }
 {
@@ -189,8 +214,19 @@ pub(crate) fn push_fact(alloc: Global, lines: &mut String, fact: &Fact) -> Resul
         Fact::Picked(name) => push_text(alloc, lines, "picked", name.as_str()),
         Fact::Registers(method) => push_text(alloc, lines, "registers", method.as_str()),
         Fact::Request { id, method } => push_request(alloc, lines, id, method.as_str()),
+        Fact::RequestBy { id, method, event } => {
+            push_request_by(alloc, lines, id, method.as_str(), *event)
+        }
+        Fact::Brought(event) => push_number(lines, "brought", *event),
+        Fact::Snapshot(event) => push_number(lines, "snapshot", *event),
+        Fact::Agreed { event, version } => push_agreed(lines, *event, *version),
+        Fact::Answered(event) => push_number(lines, "answered", *event),
+        Fact::Asked(event) => push_number(lines, "asked", *event),
+        Fact::Since(event) => push_number(lines, "since", *event),
         Fact::Begins(text) => push_text(alloc, lines, "begins", text.as_str()),
         Fact::Record(number) => push_number(lines, "record", *number),
+        Fact::Byte(place) => push_number(lines, "byte", *place),
+        Fact::Found(text) => push_text(alloc, lines, "found", text.as_str()),
     }
 }
 

@@ -1,11 +1,10 @@
-//! Facts on messages, on contents that are none, and on sessions that lack something.
-ghost use Rattle.std.specs.Prelude.{◌≡◌, ◌≤◌, List, [], ◌∷◌, ◌++◌, IfOk, OnOk, length, map, take, option_map, unwrap_or};
+//! Facts on messages, and on contents that are none.
+ghost use Rattle.std.specs.Prelude.{◌≡◌, ◌≤◌, List, [], ◌∷◌, ◌++◌, IfOk, OnOk, length, take, option_map, unwrap_or};
 ghost use Rattle.std.specs.Str.{IsUtf8};
 ghost use Rattle.serde_json.specs.View.{view};
 ghost use Rattle.lsp_rpc.specs.Ident.{id_view};
 ghost use Rattle.lsp_rpc.specs.Results.{picked_at};
 ghost use Rattle.lsp_rpc.specs.View.{act_view, message_view, offer_view, texts_view};
-ghost use Rattle.lsp_session.specs.Entry.{request_view};
 ghost use Rattle.lsp_session.specs.Handshake.{open_initializes, settled_among};
 ghost use Rattle.lsp_session.specs.Sent.{Sent};
 ghost use Rattle.lsp_session.specs.State.{Stands};
@@ -15,7 +14,7 @@ ghost use Rattle.lsp_explain.specs.MessageFacts as spec;
 
 use crate::fact::Fact;
 use lsp_rpc::{Act, Id, Memory, Message, Offer, RpcFault, Side, copy_id, picked_of};
-use lsp_session::{OpenRequest, Pending, Session, is_synchronisation};
+use lsp_session::{Session, is_synchronisation};
 use serde_json::Value;
 use std::alloc::Global;
 use std::str::from_utf8;
@@ -42,7 +41,7 @@ fn front_of(bytes: &[u8], len: usize) -> &str
 }
 
 /// The longest front of some bytes that is UTF-8.
-fn text_front(bytes: &[u8]) -> &str
+pub(crate) fn text_front(bytes: &[u8]) -> &str
     ensures { result.now ≡ spec.text_front bytes.now }
 {
     match from_utf8(bytes) {
@@ -61,7 +60,7 @@ pub fn content_facts(alloc: Global, content: &[u8]) -> Result<Vec<Fact>, Memory>
 }
 
 /// The id in a message, if it has one.
-fn id_in(message: &Message) -> Option<&Id>
+pub(crate) fn id_in(message: &Message) -> Option<&Id>
     ensures { option_map (λ i. id_view i.now) result ≡ spec.id_in (message_view message.now) }
 {
     match message {
@@ -184,41 +183,4 @@ pub fn session_facts(
         501..=503 => settled_facts(alloc, session, side, message),
         _ => register_facts(alloc, act),
     }
-}
-
-fn request_fact(alloc: Global, request: &OpenRequest) -> Result<Fact, Memory>
-    ensures { IfOk result (λ fact. fact_view fact ≡ spec.waiting (request_view request.now)) }
-{
-    Ok(Fact::Request {
-        id: copy_id(&request.id)?,
-        method: String::from_str(alloc, request.method.as_str())?,
-    })
-}
-
-fn request_facts(alloc: Global, pending: &Pending) -> Result<Vec<Fact>, Memory>
-    ensures { IfOk result (λ facts. facts_view facts.items ≡ map spec.waiting pending.now) }
-{
-    let mut facts = Vec::new(alloc);
-    for index in 0..pending.len() {
-        let Some(request) = pending.at(index) else {
-            return Ok(facts);
-        };
-        facts.push(request_fact(alloc, request)?)?;
-    }
-    Ok(facts)
-}
-
-/// What is said of a session that ends where a request of the editor's has no answer (303), or without
-/// `exit` (407): the requests of the editor's that wait, in order of asking, and how far the session has
-/// come.
-///
-/// # Errors
-/// `Memory` where memory was refused.
-pub fn lack_facts(alloc: Global, session: &Session) -> Result<Vec<Fact>, Memory>
-    ensures { IfOk result (λ facts. (before : List Sent) → Stands session.now before
-        → facts_view facts.items ≡ spec.lack_facts before) }
-{
-    let mut facts = request_facts(alloc, session.pending(Side::Editor))?;
-    facts.push(Fact::Phase(session.phase()))?;
-    Ok(facts)
 }

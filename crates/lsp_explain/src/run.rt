@@ -1,33 +1,36 @@
 //! Explains the verdict on a log.
-ghost use Rattle.std.specs.Prelude.{◌≡◌, ◌+◌, ◌++◌, List, [], ℕ, None, Ok, Err, IfOk, IfSome, option_map, string_bytes};
+ghost use Rattle.std.specs.Prelude.{◌≡◌, ◌+◌, ◌++◌, List, [], ℕ, None, Ok, Err, IfOk, IfSome, OnOk, option_map, string_bytes};
 ghost use Rattle.std.specs.Io.KnownBytes.{IsAtEnd};
 ghost use Rattle.lsp_frame.specs.Bounds.{Bounds, IsInRange};
 ghost use Rattle.lsp_frame.specs.Told.{Told, Took};
-ghost use Rattle.lsp_session.specs.State.{Stands};
+ghost use Rattle.lsp_log.specs.Reader.{shown_by};
+ghost use Rattle.lsp_survey.specs.Asking.{numbered};
 ghost use Rattle.lsp_survey.specs.Reads.{SoFar};
 ghost use Rattle.lsp_verdict.specs.Complete.{IsVerdictBy};
-ghost use Rattle.lsp_verdict.specs.Event.{Event, sent_in};
+ghost use Rattle.lsp_verdict.specs.Event.{Event};
 ghost use Rattle.lsp_verdict.specs.Given.{offence_view, verdict_view};
 ghost use Rattle.lsp_verdict.specs.Offences.{Noted};
 ghost use Rattle.lsp_verdict.specs.Report.{report};
 ghost use Rattle.lsp_verdict.specs.RunIo.{OfRead, GaveAtMost, source_failures, sink_failures};
 ghost use Rattle.lsp_verdict.specs.Survey.{first_verdict};
 ghost use Rattle.lsp_explain.specs.Explained.{BeginsExplanation, IsExplanation, end_explained, flaw_lines, said_of};
-ghost use Rattle.lsp_explain.specs.RunSteps.{EndsWhole, ExplainsLog, IsSound, TellsEnd, TellsOf, summary_behind};
+ghost use Rattle.lsp_explain.specs.FlawFacts.{Rests, flaw_facts, rest_of, side_by};
+ghost use Rattle.lsp_explain.specs.Lines.{fact_lines};
+ghost use Rattle.lsp_explain.specs.RunSteps.{EndsWhole, ExplainsLog, IsSound, TellsEnd, TellsOf, flaw_held, side_of, summary_behind};
+ghost use Rattle.lsp_explain.specs.Standing.{StandsAfter, terms_in};
 
-use crate::fact::Fact;
-use crate::lines::push_fact;
+use crate::flaws::flaw_facts;
+use crate::lines::push_facts;
 use crate::said::{push_end, push_said};
 use lsp_frame::{Limits, Sink, Source, put_all};
-use lsp_rpc::Memory;
-use lsp_session::Session;
-use lsp_survey::{End, Found, Heard, Next, SurveyReader};
-use lsp_verdict::{Completeness, Offence, Outcome, RunFault, Summary, Verdict, report_of};
+use lsp_rpc::{Memory, Side};
+use lsp_survey::{End, Found, Heard, Next, Offending, SurveyReader};
+use lsp_verdict::{Completeness, Offence, Outcome, RunFault, Summary, Verdict, Who, report_of};
 use std::alloc::Global;
 
 /// Reads a log and writes the report of the verdict on it, and behind a No what is wrong: the
-/// line that names the first event that offends, and the facts on it. Behind the report of a bad log stands
-/// the number of its record.
+/// line that names the first event that offends, and the facts on it. Behind the report of a bad log stand
+/// the number of its record, how many bytes stand before that, and the line that stands there.
 ///
 /// It reads up to the first event that offends, and nothing is written before the verdict is known.
 ///
@@ -67,9 +70,9 @@ pub fn run_explain<R: Source, W: Sink>(
 
 /// What is written of a verdict, and the verdict.
 #[derive(Drop)]
-struct Explanation {
-    text: Vec<u8>,
-    verdict: Verdict,
+pub(crate) struct Explanation {
+    pub text: Vec<u8>,
+    pub verdict: Verdict,
 }
 
 /// Reads a log, and finds what explains the verdict on it.
@@ -124,15 +127,32 @@ fn explain_heard(
 }
 
 /// What explains an offence that was found.
-fn explain_found(alloc: Global, events: &SurveyReader, found: &Found) -> Result<Explanation, Memory>
+pub(crate) fn explain_found(
+    alloc: Global,
+    events: &SurveyReader,
+    found: &Found,
+) -> Result<Explanation, Memory>
     ensures { IfOk result (TellsOf events.now found.now) }
 {
     let verdict = found.offence.verdict();
     let mut text = report_of(alloc, &verdict)?;
     let mut said = String::new(alloc);
-    push_said(alloc, &mut said, events.session(), events.docs(), found)?;
+    let rest = events.rest(side_of(&found.offending));
+    push_said(alloc, &mut said, events, rest, found)?;
     text.extend_from_slice(said.as_bytes())?;
     Ok(Explanation { text, verdict })
+}
+
+/// Whose event offends; a snapshot is the editor's.
+fn side_of(offending: &Offending) -> Side
+    ensures { result ≡ side_of offending.now }
+{
+    match offending {
+        Offending::Frames(side) => *side,
+        Offending::Content { side, .. } => *side,
+        Offending::Message { side, .. } => *side,
+        Offending::Snapshot { .. } => Side::Editor,
+    }
 }
 
 /// What explains the end of a log, where no event offends.
@@ -145,47 +165,80 @@ fn explain_end(alloc: Global, events: &mut SurveyReader, end: End) -> Result<Exp
         return explain_sound(alloc, events, bad);
     };
     drop(bad);
-    explain_listed(alloc, events.session(), offence)
+    explain_listed(alloc, events, events.rest(side_by(offence.who)), offence)
 }
 
-/// What explains what is listed of the end of a session.
-fn explain_listed(alloc: Global, session: &Session, listed: &Offence) -> Result<Explanation, Memory>
+/// The side whose event it is; a snapshot is the editor's.
+pub(crate) fn side_by(who: Who) -> Side
+    ensures { result ≡ side_by who }
+{
+    match who {
+        Who::Server => Side::Server,
+        _ => Side::Editor,
+    }
+}
+
+/// What explains what is listed of the end of a session. The rest is of the side that it is said of.
+pub(crate) fn explain_listed(
+    alloc: Global,
+    events: &SurveyReader,
+    rest: &[u8],
+    listed: &Offence,
+) -> Result<Explanation, Memory>
     ensures verdict { IfOk result (λ x. verdict_view x.verdict ≡ (offence_view listed.now).no) }
-    ensures text { IfOk result (λ x. (kept : List Event) → Stands session.now (sent_in kept)
-        → x.text.items ≡ report (offence_view listed.now).no ++ said_of (end_explained kept (offence_view listed.now).no)) }
+    ensures text { IfOk result (λ x. (rests : Rests) (before : List Event) → StandsAfter events.now before
+        → rest.now ≡ rest_of rests (side_by listed.now.who)
+        → x.text.items ≡ report (offence_view listed.now).no ++ said_of (end_explained rests (numbered (terms_in events.now) before) (offence_view listed.now).no)) }
 {
     let verdict = listed.verdict();
     let mut text = report_of(alloc, &verdict)?;
     let mut said = String::new(alloc);
-    push_end(alloc, &mut said, session, listed)?;
+    push_end(alloc, &mut said, events, rest, listed)?;
     text.extend_from_slice(said.as_bytes())?;
     Ok(Explanation { text, verdict })
 }
 
 /// What explains the verdict where nothing is listed: Yes, or the fault of the log.
-fn explain_sound(
+pub(crate) fn explain_sound(
     alloc: Global,
     events: &mut SurveyReader,
     bad: Option<Verdict>,
 ) -> Result<Explanation, Memory>
     ensures { IfOk result (λ x. (notes : List Noted) → IsSound events.old notes
         → (verdict_view x.verdict ≡ first_verdict [] (option_map verdict_view bad) (summary_behind events.old notes))
-        × (x.text.items ≡ report (first_verdict [] (option_map verdict_view bad) (summary_behind events.old notes)) ++ flaw_lines (option_map verdict_view bad))) }
+        × (x.text.items ≡ report (first_verdict [] (option_map verdict_view bad) (summary_behind events.old notes)) ++ flaw_lines (option_map verdict_view bad) (flaw_held events.old (option_map verdict_view bad)))) }
 {
-    let flaw = flaw_text(alloc, &bad)?;
+    let flaw = flaw_text(alloc, events, &bad)?;
     let verdict = events.sound(bad)?;
     let mut text = report_of(alloc, &verdict)?;
     text.extend_from_slice(flaw.as_bytes())?;
     Ok(Explanation { text, verdict })
 }
 
-/// The line that tells at which record a log has its fault, if it has one.
-fn flaw_text(alloc: Global, bad: &Option<Verdict>) -> Result<String, Memory>
-    ensures { IfOk result (λ text. string_bytes text ≡ flaw_lines (option_map verdict_view bad.now)) }
+/// The lines that tell where a log has its fault, if it has one.
+pub(crate) fn flaw_text(
+    alloc: Global,
+    events: &SurveyReader,
+    bad: &Option<Verdict>,
+) -> Result<String, Memory>
+    ensures { IfOk result (λ text. string_bytes text ≡ flaw_lines (option_map verdict_view bad.now) (flaw_held events.now (option_map verdict_view bad.now))) }
 {
     let mut text = String::new(alloc);
     if let Some(Verdict::BadLog { number, .. }) = bad {
-        push_fact(alloc, &mut text, &Fact::Record(*number))?;
+        push_flaw(alloc, &mut text, events, *number)?;
     }
     Ok(text)
+}
+
+/// Adds the lines that tell where a log has its fault, at the record of this number.
+fn push_flaw(
+    alloc: Global,
+    lines: &mut String,
+    events: &SurveyReader,
+    number: u64,
+) -> Result<(), Memory>
+    ensures { OnOk result (string_bytes lines.new ≡ string_bytes lines.old ++ fact_lines (flaw_facts number events.now.log.place (shown_by events.now.log))) }
+{
+    let facts = flaw_facts(alloc, number, events.place(), events.found())?;
+    push_facts(alloc, lines, facts.as_slice())
 }

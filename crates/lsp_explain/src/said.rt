@@ -1,60 +1,66 @@
 //! What is said of an offence: the line that names its event, and the facts on it.
 ghost use Rattle.std.specs.Prelude.{◌≡◌, ◌++◌, ℕ, List, Some, IfOk, OnOk, string_bytes};
 ghost use Rattle.lsp_docs.specs.Terms.{Terms};
-ghost use Rattle.lsp_events.specs.Standing.{Holds};
+ghost use Rattle.lsp_survey.specs.Asking.{numbered};
+ghost use Rattle.lsp_survey.specs.Marking.{number_next};
 ghost use Rattle.lsp_survey.specs.Walking.{IsOffending};
-ghost use Rattle.lsp_session.specs.State.{Stands};
-ghost use Rattle.lsp_verdict.specs.Event.{Event, sent_in};
+ghost use Rattle.lsp_verdict.specs.Event.{Event};
 ghost use Rattle.lsp_verdict.specs.Given.{offence_view};
+ghost use Rattle.lsp_verdict.specs.Offences.{kept_of, rule_at};
 ghost use Rattle.lsp_verdict.specs.Placed.{Raw, Reads};
-ghost use Rattle.lsp_verdict.specs.Verdict.{offence, no};
+ghost use Rattle.lsp_verdict.specs.Verdict.{no};
 ghost use Rattle.lsp_verdict.specs.declared.verdict.Who.{Who};
 ghost use Rattle.lsp_explain.specs.Explained.{AreFacts, end_explained, end_facts, said_of};
 ghost use Rattle.lsp_explain.specs.Fact.{Fact as SpecFact, facts_view};
+ghost use Rattle.lsp_explain.specs.FlawFacts.{Rests, rest_of, side_by};
 ghost use Rattle.lsp_explain.specs.Lines.{event_line, fact_lines};
+ghost use Rattle.lsp_explain.specs.RunSteps.{ShowsFault};
+ghost use Rattle.lsp_explain.specs.Standing.{StandsAfter, terms_in};
+ghost use Rattle.lsp_explain.specs.Traced.{AreTraced};
 
 use crate::fact::Fact;
+use crate::flaws::{frame_facts, unfinished_facts};
 use crate::lines::{
     push_end_event, push_facts, push_message_event, push_side_event, push_snapshot_event,
 };
-use crate::messages::{content_facts, lack_facts};
-use crate::offending::{message_facts, shown_facts};
-use lsp_docs::Docs;
+use crate::messages::content_facts;
+use crate::trace::{lack_traced, message_traced, shown_traced};
 use lsp_rpc::Memory;
-use lsp_session::Session;
-use lsp_survey::{Found, Offending};
-use lsp_text::TextStore;
+use lsp_survey::{Found, Offending, SurveyReader};
 use lsp_verdict::Offence;
 use std::alloc::Global;
 
 /// A stream that ends inside a frame.
 const ENDS_INSIDE: u16 = 107;
 
-/// The facts on what offends by this rule. Session and documents hold the kept events before it.
-fn facts_of<S: TextStore>(
+/// The facts on what offends by this rule, the event of this number. The reader stands for the events
+/// before it, and the rest is of its side.
+fn facts_of(
     alloc: Global,
-    session: &Session,
-    docs: &Docs<S>,
+    events: &SurveyReader,
+    rest: &[u8],
     offending: &Offending,
+    number: u64,
     rule: u16,
 ) -> Result<Vec<Fact>, Memory>
-    ensures { IfOk result (λ facts. (raw : Raw) (event : Event) (kept : List Event) → Holds session.now docs.now kept → Reads raw event
-        → IsOffending raw docs.now.terms kept rule offending.now → offence docs.now.terms kept event ≡ Some rule
-        → AreFacts docs.now.terms kept raw event rule (facts_view facts.items)) }
+    ensures { IfOk result (λ facts. (raw : Raw) (event : Event) (before : List Event) → StandsAfter events.now before → number ≡ number_next before → Reads raw event
+        → IsOffending raw (terms_in events.now) (kept_of (terms_in events.now) before) rule offending.now → rule_at (terms_in events.now) before event ≡ Some rule
+        → (rests : Rests) → ShowsFault rests offending.now rest.now
+        → AreTraced (AreFacts rests (terms_in events.now) (kept_of (terms_in events.now) before) raw event rule) (terms_in events.now) before event rule (facts_view facts.items)) }
 {
     match offending {
-        Offending::Frames(_) => Ok(Vec::new(alloc)),
+        Offending::Frames(_) => frame_facts(alloc, rest),
         Offending::Content { content, .. } => content_facts(alloc, content.as_slice()),
         Offending::Message { side, spoken } => {
             let side = *side;
-            message_facts(alloc, session, docs, side, spoken, rule)
+            message_traced(alloc, events, side, spoken, rule)
         }
         Offending::Snapshot { version, uri, text } => {
             let version = *version;
-            shown_facts(
+            shown_traced(
                 alloc,
-                session,
-                docs,
+                events,
+                number,
                 version,
                 uri.as_str(),
                 text.as_str(),
@@ -89,47 +95,61 @@ fn push_event(
     }
 }
 
-/// Adds what is said of an offence. Session and documents hold the kept events before it.
-pub(crate) fn push_said<S: TextStore>(
+/// Adds what is said of an offence. The reader stands for the events before it, and the rest is of its
+/// side.
+pub(crate) fn push_said(
     alloc: Global,
     lines: &mut String,
-    session: &Session,
-    docs: &Docs<S>,
+    events: &SurveyReader,
+    rest: &[u8],
     found: &Found,
 ) -> Result<(), Memory>
-    ensures { OnOk result ((raw : Raw) (event : Event) (kept : List Event) → Holds session.now docs.now kept → Reads raw event
-        → IsOffending raw docs.now.terms kept found.now.offence.rule found.now.offending → offence docs.now.terms kept event ≡ Some found.now.offence.rule
-        → (facts : List SpecFact) × AreFacts docs.now.terms kept raw event found.now.offence.rule facts
+    ensures { OnOk result ((raw : Raw) (event : Event) (before : List Event) → StandsAfter events.now before → found.now.offence.event ≡ number_next before → Reads raw event
+        → IsOffending raw (terms_in events.now) (kept_of (terms_in events.now) before) found.now.offence.rule found.now.offending
+        → rule_at (terms_in events.now) before event ≡ Some found.now.offence.rule
+        → (facts : List SpecFact)
+        × ((rests : Rests) → ShowsFault rests found.now.offending rest.now
+        → AreTraced (AreFacts rests (terms_in events.now) (kept_of (terms_in events.now) before) raw event found.now.offence.rule) (terms_in events.now) before event found.now.offence.rule facts)
         × (string_bytes lines.new ≡ string_bytes lines.old ++ (event_line found.now.offence.event event ++ fact_lines facts))) }
 {
     let Found { offence, offending } = found;
     push_event(alloc, lines, offence.event, offending)?;
-    let facts = facts_of(alloc, session, docs, offending, offence.rule)?;
+    let facts = facts_of(alloc, events, rest, offending, offence.event, offence.rule)?;
     push_facts(alloc, lines, facts.as_slice())
 }
 
-/// The facts on how a session ends that breaks this rule: 107 has none, 303 and 407 those on what it lacks.
-fn end_facts(alloc: Global, session: &Session, rule: u16) -> Result<Vec<Fact>, Memory>
-    ensures { IfOk result (λ facts. (kept : List Event) (who : Who) (number event : ℕ) → Stands session.now (sent_in kept)
-        → facts_view facts.items ≡ end_facts kept (no rule who number event)) }
+/// The facts on how a session ends that breaks this rule: 107 has those on the rest of a side, 303 and 407
+/// those on what the session lacks. The reader stands for all its events.
+fn end_facts(
+    alloc: Global,
+    events: &SurveyReader,
+    rest: &[u8],
+    rule: u16,
+) -> Result<Vec<Fact>, Memory>
+    ensures { IfOk result (λ facts. (rests : Rests) (before : List Event) (who : Who) (number event : ℕ) → StandsAfter events.now before
+        → rest.now ≡ rest_of rests (side_by who)
+        → facts_view facts.items ≡ end_facts rests (numbered (terms_in events.now) before) (no rule who number event)) }
 {
     if rule == ENDS_INSIDE {
-        return Ok(Vec::new(alloc));
+        return unfinished_facts(alloc, rest);
     }
-    lack_facts(alloc, session)
+    lack_traced(alloc, events)
 }
 
-/// Adds what is said of how a session ends. It stands for the kept events.
+/// Adds what is said of how a session ends. The reader stands for all its events, and the rest is of the
+/// side that it is said of.
 pub(crate) fn push_end(
     alloc: Global,
     lines: &mut String,
-    session: &Session,
+    events: &SurveyReader,
+    rest: &[u8],
     end: &Offence,
 ) -> Result<(), Memory>
-    ensures { OnOk result ((kept : List Event) → Stands session.now (sent_in kept)
-        → string_bytes lines.new ≡ string_bytes lines.old ++ said_of (end_explained kept (offence_view end.now).no)) }
+    ensures { OnOk result ((rests : Rests) (before : List Event) → StandsAfter events.now before
+        → rest.now ≡ rest_of rests (side_by end.now.who)
+        → string_bytes lines.new ≡ string_bytes lines.old ++ said_of (end_explained rests (numbered (terms_in events.now) before) (offence_view end.now).no)) }
 {
     push_end_event(lines, end.event, end.who)?;
-    let facts = end_facts(alloc, session, end.rule)?;
+    let facts = end_facts(alloc, events, rest, end.rule)?;
     push_facts(alloc, lines, facts.as_slice())
 }

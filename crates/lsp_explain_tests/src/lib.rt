@@ -4,4 +4,6 @@
 #![tactic(auto)]
 
 #[cfg(test)]
+mod all_explanations;
+#[cfg(test)]
 mod explanations;

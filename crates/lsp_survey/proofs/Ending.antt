@@ -3,8 +3,7 @@ use Rattle.std.specs.Prelude.{map, not, ◌&&◌, ◌==◌, if◌then◌else◌,
 use Rattle.std.specs.Global.{Global}
 use Rattle.std.specs.List.{list_any}
 use Rattle.std.proofs.lemmas.Bool.Decides.{nat_tests}
-use Rattle.std.proofs.Common.{◌≡◌, ℕ, ◌<◌, Bool, true, false, true≢false, List, [], ◌∷◌, ◌++◌, length, Option, Some, None, refl, sym, ap, subst, ◌∙◌, append-nil, arith}
-use Rattle.lsp_docs.specs.Terms.{Terms}
+use Rattle.std.proofs.Common.{◌≡◌, ℕ, ◌<◌, Bool, true, false, List, [], ◌∷◌, ◌++◌, length, Option, None, refl, sym, ap, subst, ◌∙◌, arith}
 use Rattle.lsp_frame.specs.Bounds.{Bounds}
 use Rattle.lsp_frame.specs.Decoder as decoder
 use Rattle.lsp_frame.specs.Frame.{IsStream}
@@ -14,7 +13,7 @@ use Rattle.lsp_log.specs.Log.{Record}
 use Rattle.lsp_survey.specs.Surveys.{Awaits, IsSpent, Surveys, lack_by}
 use Rattle.lsp_survey.specs.declared.survey.Survey.{Survey}
 use Rattle.lsp_verdict.specs.Counting.{AreCounts}
-use Rattle.lsp_verdict.specs.Event.{Event, sent_in}
+use Rattle.lsp_verdict.specs.Event.{Event}
 use Rattle.lsp_verdict.specs.Given.{given_offence}
 use Rattle.lsp_verdict.specs.Offences.{Noted, Offence, events_of}
 use Rattle.lsp_verdict.specs.Placed.{Raw, joined}
@@ -39,15 +38,21 @@ and_true : (b : Bool) → (b && true) ≡ b
 and_true true = refl
 and_true false = refl
 
+-- of a stream whose frames have no fault the decoder holds the rest
+pub rest_held : (limits : Bounds) (ended : Bool) (d : decoder.State) (bytes rest : List ℕ) → ended ≡ false → IsSpent limits ended d bytes → HasRest limits bytes rest → rest ≡ d.rest
+rest_held limits true d bytes rest is spent has = absurd cc
+rest_held limits false d bytes rest is spent has =
+    let drained = spent.1 in
+    let own = subst (λ (b : Bounds). IsStream b bytes drained.contents d.rest None) spent.0 drained.ends.1 in
+    (one_stream limits bytes has.0 drained.contents rest d.rest has.1 None has.2 own).rest
+
 pub inside_is : (limits : Bounds) (side : Side) (ended : Bool) (d : decoder.State) (bytes rest : List ℕ) (events : List Event) (inside : Bool) → ended ≡ list_any (is_frame_fault side) events → IsSpent limits ended d bytes → HasRest limits bytes rest
     → (ended ≡ true → inside ≡ false) → (ended ≡ false → d.fault ≡ None → inside ≡ is_rest d.rest) → inside ≡ ends_inside side events (is_rest rest)
 inside_is limits side true d bytes rest events inside ends spent has broken whole =
     broken refl ∙ sym (and_false (is_rest rest)) ∙ ap (λ b. is_rest rest && not b) ends
 inside_is limits side false d bytes rest events inside ends spent has broken whole =
-    let drained = spent.1 in
-    let own = subst (λ (b : Bounds). IsStream b bytes drained.contents d.rest None) spent.0 drained.ends.1 in
-    let same = (one_stream limits bytes has.0 drained.contents rest d.rest has.1 None has.2 own).rest in
-    whole refl drained.ends.0 ∙ ap is_rest (sym same) ∙ sym (and_true (is_rest rest)) ∙ ap (λ b. is_rest rest && not b) ends
+    let same = rest_held limits false d bytes rest refl spent has in
+    whole refl spent.1.ends.0 ∙ ap is_rest (sym same) ∙ sym (and_true (is_rest rest)) ∙ ap (λ b. is_rest rest && not b) ends
 
 -- ---- both rests
 

@@ -1,12 +1,12 @@
 -- Which rules the frames and the contents of a side break.
 use Rattle.std.specs.Prelude.{nat_le, not, ◌&&◌, if◌then◌else◌}
-use Rattle.std.specs.List.{list_any, AllByRecursion}
+use Rattle.std.specs.List.{AllByRecursion}
 use Rattle.std.specs.Str.Parse.{digits_value}
-use Rattle.std.proofs.Common.{◌≡◌, ◌⊎◌, ℕ, Bool, true, false, List, [], ◌∷◌, ◌++◌, Option, Some, None, Result, Ok, Err, inl, inr, refl, sym, ap, subst, ◌∙◌, arith}
+use Rattle.std.proofs.Common.{◌≡◌, ℕ, Bool, true, false, List, [], ◌∷◌, Some, Result, Ok, Err, inl, inr, refl, sym, ap, ◌∙◌}
 use Rattle.lsp_frame.specs.Bounds.{Bounds}
 use Rattle.lsp_frame.specs.Frame.{Breaks}
 use Rattle.lsp_frame.specs.Header.{is_number, lengths, content_length, fits_charsets, length_and_charset, Says}
-use Rattle.lsp_rpc.specs.Reading.{BreaksRule, broken_rule, least_broken, rules_on, parts_of}
+use Rattle.lsp_rpc.specs.Reading.{least_broken, rules_on, parts_of}
 use Rattle.lsp_rpc.specs.Shape.{is_object}
 use Rattle.lsp_types.specs.declared.side.Side.{Side}
 use Rattle.lsp_types.specs.declared.side.Side.TheVariants.{Editor, Server}

@@ -1,9 +1,12 @@
 -- How a walk hears a content, a fault of the frames, and a snapshot.
 use Rattle.std.specs.Prelude.{unwrap_or, string_bytes, String, chars, ℤ}
 use Rattle.std.specs.Global.{Global}
-use Rattle.std.proofs.Common.{◌≡◌, ℕ, Bool, true, false, List, [], ◌∷◌, ◌++◌, Option, Some, None, refl, sym, ap, subst, ◌∙◌}
+use Rattle.std.proofs.Common.{◌≡◌, ℕ, Bool, false, List, [], ◌∷◌, ◌++◌, Option, Some, None, refl, sym, ap, subst, ◌∙◌}
 use Rattle.lsp_docs.specs.Calls.{Call, shows}
-use Rattle.lsp_docs.specs.State as docs
+use Rattle.lsp_docs.specs.Answer.{answer_of}
+use Rattle.lsp_docs.specs.Documents.{held}
+use Rattle.lsp_docs.specs.Kept.{kept as kept_versions}
+use Rattle.lsp_docs.specs.declared.snapshot.Match.{Match}
 use Rattle.lsp_docs.specs.Terms.{Terms}
 use Rattle.lsp_events.specs.Standing.{Holds, RefusesMessage, Hears as HearsContent}
 use Rattle.lsp_rpc.specs.Act.{Act}
@@ -12,9 +15,16 @@ use Rattle.lsp_rpc.specs.Outline.{outline}
 use Rattle.lsp_rpc.specs.View.{act_view, message_view}
 use Rattle.lsp_rpc.specs.declared.act.Spoken.{Spoken}
 use Rattle.lsp_session.specs.Negotiation.{encoding, sync_kind}
+use Rattle.lsp_session.specs.Handshake.{phase}
 use Rattle.lsp_session.specs.Sent.{Sent}
+use Rattle.lsp_session.specs.State as session
+use Rattle.lsp_survey.specs.Marking.{number_next}
+use Rattle.lsp_survey.specs.Marks.{AreMarks, DoneBy, ShownBy}
+use Rattle.lsp_survey.specs.SessionNoting.{AreNotes, SaysOn}
+use Rattle.lsp_survey.specs.declared.marks.Marks.{Marks}
+use Rattle.lsp_survey.specs.declared.session_notes.SessionNotes.{SessionNotes}
 use Rattle.lsp_survey.specs.Notes.{AreAfter}
-use Rattle.lsp_survey.specs.Walking.{WalksBy, Walks, asks_of, Counted, IsUnread, PassesOver, IsOffending, Hears}
+use Rattle.lsp_survey.specs.Walking.{Walks, asks_of, Counted, IsUnread, PassesOver, IsOffending, Hears}
 use Rattle.lsp_survey.specs.declared.offending.Heard.{Heard}
 use Rattle.lsp_survey.specs.declared.offending.Heard.TheVariants as heard
 use Rattle.lsp_survey.specs.declared.offending.Offending.{Offending}
@@ -26,7 +36,9 @@ use Rattle.lsp_types.specs.declared.position.Encoding.{Encoding}
 use Rattle.lsp_types.specs.declared.position.Encoding.TheVariants.{Utf16}
 use Rattle.lsp_types.specs.declared.side.Side.{Side}
 use Rattle.lsp_types.specs.declared.side.Side.TheVariants.{Editor, Server}
-use Rattle.lsp_verdict.specs.Calls.{call_of}
+use Rattle.lsp_verdict.specs.Calls.{call_of, calls}
+use Rattle.lsp_verdict.specs.Counting.{AreCounts}
+use Rattle.lsp_verdict.specs.declared.counts.Counts.{Counts}
 use Rattle.lsp_verdict.specs.Contents.{IsSent, ReadsAs}
 use Rattle.lsp_verdict.specs.Event.{Event, message, fault, snapshot, sent_in}
 use Rattle.lsp_verdict.specs.Offences.{Noted, Asks, asks_handshake, events_of, kept_of, rule_at}
@@ -35,7 +47,10 @@ use Rattle.lsp_verdict.specs.Verdict.{who_of}
 use Rattle.lsp_verdict.specs.declared.verdict.Who.{Who}
 use Rattle.lsp_verdict.specs.declared.verdict.Who.TheVariants as who
 use Rattle.lsp_verdict.proofs.Offences.Surveying.{by_asking}
+use Rattle.lsp_verdict.proofs.Offences.Steps.{kept-push}
+use Rattle.lsp_survey.proofs.MarkSteps.{act_done, shown_done}
 use Rattle.lsp_survey.proofs.Passing.{passed_over, kept_on}
+use Rattle.lsp_survey.proofs.SessionSteps.{message_noted, other_unsaid}
 
 -- ---- an `initialize`
 
@@ -56,13 +71,13 @@ pub frames_heard : (old new : Walk) (notes : List Noted) (side : Side) (rule : �
     → PassesOver old new by rule false (λ enc kind. None) (λ o. o ≡ what.Frames side) given → Hears (broken side rule) old.events.docs.terms new notes given
 frames_heard old new notes side rule by given is walks passes =
     let n : Noted = record { event = fault side rule; asks = false } in
-    passed_over (broken side rule) old old new notes n by rule (λ enc kind. None) Utf16 Nothing (λ o. o ≡ what.Frames side) given walks refl refl refl refl walks.holds (refl, refl) (sym is) refl refl
+    passed_over (broken side rule) old old new notes n by rule (λ enc kind. None) Utf16 Nothing (λ o. o ≡ what.Frames side) given walks refl refl refl refl refl refl walks.holds (refl, refl) (sym is) refl refl
     (λ o e. subst (IsOffending (broken side rule) old.events.docs.terms (kept_of old.events.docs.terms (events_of notes)) rule) (sym e) refl) passes
 
 -- ---- contents
 
 module _ (old mid new : Walk) (notes : List Noted) (side : Side) (bytes : List ℕ) (given : Heard) (walks : Walks old notes)
-    (counts : mid.events.counts ≡ old.events.counts) (same : mid.notes ≡ old.notes) (broken_is : mid.broken ≡ old.broken) (same_terms : mid.events.docs.terms ≡ old.events.docs.terms) where
+    (counts : mid.events.counts ≡ old.events.counts) (same : mid.notes ≡ old.notes) (broken_is : mid.broken ≡ old.broken) (marks_are : mid.marks ≡ old.marks) (said_are : mid.said ≡ old.said) (same_terms : mid.events.docs.terms ≡ old.events.docs.terms) where
   abbrev terms : Terms
   terms = old.events.docs.terms
 
@@ -80,7 +95,7 @@ module _ (old mid new : Walk) (notes : List Noted) (side : Side) (bytes : List �
       → PassesOver mid new (who_of side) rule asks (λ e k. None) (IsUnread side bytes) given → Hears (content side bytes) terms new notes given
   unread_heard rule asks holds reads asked passes =
       let n : Noted = record { event = fault side rule; asks = asks } in
-      passed_over (content side bytes) old mid new notes n (who_of side) rule (λ e k. None) enc kind (IsUnread side bytes) given walks counts same broken_is same_terms holds (reads, asked) refl refl refl is_such passes
+      passed_over (content side bytes) old mid new notes n (who_of side) rule (λ e k. None) enc kind (IsUnread side bytes) given walks counts same broken_is marks_are said_are same_terms holds (reads, asked) refl refl refl is_such passes
     where
       is_such : (o : Offending) → IsUnread side bytes o → IsOffending (content side bytes) terms kept rule o
       is_such (what.Frames by) u = absurd u
@@ -94,23 +109,37 @@ module _ (old mid new : Walk) (notes : List Noted) (side : Side) (bytes : List �
   refused_heard rule spoken holds refuses passes =
       let sent = refuses.sent in
       let n : Noted = record { event = message sent; asks = asks_of side (message_view spoken.message) } in
-      passed_over (content side bytes) old mid new notes n (who_of side) rule (λ e k. call_of e k (act_view spoken.act)) enc kind (λ o. o ≡ what.Message side spoken) given walks counts same broken_is same_terms holds
+      passed_over (content side bytes) old mid new notes n (who_of side) rule (λ e k. call_of e k (act_view spoken.act)) enc kind (λ o. o ≡ what.Message side spoken) given walks counts same broken_is marks_are said_are same_terms holds
       (refuses.reads, asks_said side bytes sent (message_view spoken.message) refuses.reads refuses.says) (ap who_of refuses.reads.by) refuses.offends (ap (call_of enc kind) refuses.means)
       (λ o e. subst (IsOffending (content side bytes) terms kept rule) (sym e) (refl, refuses)) passes
 
   -- a message that is kept
   pub message_heard : (said : Message) (act : Act) → HearsContent side bytes said act terms mid.events.session mid.events.docs kept
-      → given ≡ heard.Kept → Counted mid new (who_of side) None false → ((e : Encoding) (k : SyncKind) → AreAfter None (call_of e k act) mid.notes.map.entries new.notes.map.entries) → Hears (content side bytes) terms new notes given
-  message_heard said act hears is_kept counted noted =
+      → given ≡ heard.Kept → Counted mid new (who_of side) None false → ((e : Encoding) (k : SyncKind) → AreAfter None (call_of e k act) mid.notes.map.entries new.notes.map.entries)
+      → ((events : List Event) → AreCounts mid.events.counts events → (e : Encoding) (k : SyncKind) → DoneBy (number_next events) (call_of e k act) mid.marks.map.entries new.marks.map.entries)
+      → ((events : List Event) (sents : List Sent) → AreCounts mid.events.counts events → session.Stands mid.events.session sents → SaysOn (number_next events) side said (phase sents) mid.said new.said)
+      → Hears (content side bytes) terms new notes given
+  message_heard said act hears is_kept counted noted does says =
       let sent = hears.sent in
+      let events = events_of notes in
+      let are_counts = subst (λ (c : Counts). AreCounts c events) (sym counts) walks.counted in
+      let marks_before = subst (λ (m : Marks). AreMarks terms m.map.entries events) (sym marks_are) walks.marked in
+      let notes_before = subst (λ (m : SessionNotes). AreNotes terms m events) (sym said_are) walks.said in
+      let more : kept ++ message sent ∷ [] ≡ kept_of terms (events ++ message sent ∷ []) = sym (kept-push terms events (message sent) hears.clean) in
+      let tells : SaysOn (number_next events) side said (phase (sent_in (kept_of terms (events ++ message sent ∷ [])))) mid.said new.said =
+      subst (λ (es : List Event). SaysOn (number_next events) side said (phase (sent_in es)) mid.said new.said) more (says events (sent_in (kept ++ message sent ∷ [])) are_counts hears.holds.sent) in
       let n : Noted = record { event = message sent; asks = asks_of side said } in
       kept_on (content side bytes) old mid new notes n (who_of side) 0 (λ e k. call_of e k act) enc kind (λ o. Unit {0}) given walks counts same broken_is same_terms hears.holds
       (hears.reads, asks_said side bytes sent said hears.reads hears.says) (ap who_of hears.reads.by) hears.clean (ap (call_of enc kind) hears.means) is_kept counted (noted enc kind)
+      (act_done terms mid.marks.map.entries new.marks.map.entries events sent (number_next events) marks_before hears.clean refl
+      (λ e k. subst (λ (a : Act). DoneBy (number_next events) (call_of e k a) mid.marks.map.entries new.marks.map.entries) (sym hears.means) (does events are_counts e k)))
+      (message_noted terms mid.said new.said events sent said (number_next events) notes_before hears.clean refl hears.says
+      (subst (λ (by : Side). SaysOn (number_next events) by said (phase (sent_in (kept_of terms (events ++ message sent ∷ [])))) mid.said new.said) (sym hears.reads.by) tells))
 
 -- ---- snapshots
 
 module _ (old mid new : Walk) (notes : List Noted) (number : ℤ) (uri text : String Global) (given : Heard) (walks : Walks old notes)
-    (counts : mid.events.counts ≡ old.events.counts) (same : mid.notes ≡ old.notes) (broken_is : mid.broken ≡ old.broken) (same_terms : mid.events.docs.terms ≡ old.events.docs.terms) where
+    (counts : mid.events.counts ≡ old.events.counts) (same : mid.notes ≡ old.notes) (broken_is : mid.broken ≡ old.broken) (marks_are : mid.marks ≡ old.marks) (said_are : mid.said ≡ old.said) (same_terms : mid.events.docs.terms ≡ old.events.docs.terms) where
   abbrev raw : Raw
   raw = show number (string_bytes uri) (string_bytes text)
 
@@ -123,10 +152,19 @@ module _ (old mid new : Walk) (notes : List Noted) (number : ℤ) (uri text : St
   pub late_heard : (rule : ℕ) → Holds mid.events.session mid.events.docs (kept_of old.events.docs.terms (events_of notes)) → rule_at old.events.docs.terms (events_of notes) shown.event ≡ Some rule
       → PassesOver mid new who.Snapshot rule false says (λ o. o ≡ what.Snapshot number uri text) given → Hears raw old.events.docs.terms new notes given
   late_heard rule holds is passes =
-      passed_over raw old mid new notes shown who.Snapshot rule says Utf16 Nothing (λ o. o ≡ what.Snapshot number uri text) given walks counts same broken_is same_terms holds (refl, refl) refl is refl
+      passed_over raw old mid new notes shown who.Snapshot rule says Utf16 Nothing (λ o. o ≡ what.Snapshot number uri text) given walks counts same broken_is marks_are said_are same_terms holds (refl, refl) refl is refl
       (λ o e. subst (IsOffending raw old.events.docs.terms (kept_of old.events.docs.terms (events_of notes)) rule) (sym e) (refl, refl, refl)) passes
 
   pub shown_heard : Holds mid.events.session mid.events.docs (kept_of old.events.docs.terms (events_of notes) ++ shown.event ∷ []) → rule_at old.events.docs.terms (events_of notes) shown.event ≡ None
-      → given ≡ heard.Kept → Counted mid new who.Snapshot None false → AreAfter None (says Utf16 Nothing) mid.notes.map.entries new.notes.map.entries → Hears raw old.events.docs.terms new notes given
-  shown_heard holds is is_kept counted noted =
+      → given ≡ heard.Kept → Counted mid new who.Snapshot None false → AreAfter None (says Utf16 Nothing) mid.notes.map.entries new.notes.map.entries
+      → (answer : Match) → answer ≡ answer_of number (kept_versions old.events.docs.terms (string_bytes uri) (calls (kept_of old.events.docs.terms (events_of notes)))) (held old.events.docs.terms (string_bytes uri) (calls (kept_of old.events.docs.terms (events_of notes))))
+      → ((events : List Event) → AreCounts mid.events.counts events → ShownBy (number_next events) (string_bytes uri) number answer mid.marks.map.entries new.marks.map.entries)
+      → new.said ≡ mid.said → Hears raw old.events.docs.terms new notes given
+  shown_heard holds is is_kept counted noted answer answers does unsaid =
+      let terms = old.events.docs.terms in
+      let events = events_of notes in
       kept_on raw old mid new notes shown who.Snapshot 0 says Utf16 Nothing (λ o. Unit {0}) given walks counts same broken_is same_terms holds (refl, refl) refl is refl is_kept counted noted
+      (shown_done terms mid.marks.map.entries new.marks.map.entries events (string_bytes uri) number (chars (string_bytes text)) (number_next events) answer
+      (subst (λ (m : Marks). AreMarks terms m.map.entries events) (sym marks_are) walks.marked) is refl answers
+      (does events (subst (λ (c : Counts). AreCounts c events) (sym counts) walks.counted)))
+      (other_unsaid terms new.said events shown.event (subst (λ (m : SessionNotes). AreNotes terms m events) (sym (unsaid ∙ said_are)) walks.said) refl)

@@ -2,7 +2,15 @@ pub mod Noting
 pub mod Passing
 pub mod Hearing
 pub mod Tails
+pub mod Exchanging
+pub mod Marking
+pub mod MarkSteps
+pub mod MarksWorked
+pub mod OkParts
+pub mod SessionSteps
+pub mod Waiting
 pub mod FrameRules
+pub mod Rests
 pub mod Streaming
 pub mod Taking
 pub mod Ending

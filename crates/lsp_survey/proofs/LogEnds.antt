@@ -1,25 +1,23 @@
 -- The end of a log behind the events heard.
-use Rattle.std.specs.Prelude.{map, filter, option_map, option_to_list, if◌then◌else◌}
+use Rattle.std.specs.Prelude.{map, option_map, option_to_list}
 use Rattle.std.specs.Io.KnownBytes.{IsAtEnd}
-use Rattle.std.specs.List.{AllZip, cons_option}
+use Rattle.std.specs.List.{cons_option}
 use Rattle.std.proofs.Common.{◌≡◌, ℕ, ◌+◌, ◌<◌, ◌≤◌, ◌^◌, Bool, true, false, List, [], ◌∷◌, ◌++◌, length, length-append, Option, Some, None, refl, sym, ap, subst, ◌∙◌, append-nil, append_assoc, arith}
 use Rattle.std.proofs.lemmas.List.{length-map}
 use Rattle.lsp_docs.specs.Snapshots.{unmatched}
 use Rattle.lsp_docs.specs.State.{capped}
 use Rattle.lsp_docs.specs.Terms.{Terms, terms_of}
 use Rattle.lsp_events.specs.Standing.{Follows, Holds}
-use Rattle.lsp_frame.specs.Bounds.{Bounds, IsInRange}
+use Rattle.lsp_frame.specs.Bounds.{Bounds}
 use Rattle.lsp_frame.specs.Told.{Told}
 use Rattle.lsp_frame.specs.declared.format.Format.{Format}
 use Rattle.lsp_log.specs.Log.{Record, IsLog}
-use Rattle.lsp_log.specs.Records.{record_view}
 use Rattle.lsp_log.specs.Reader as reader
 use Rattle.lsp_log.specs.declared.fault.LogCode.{LogCode}
-use Rattle.lsp_log.specs.declared.record.Record as code
 use Rattle.lsp_session.specs.Incomplete.{incomplete}
 use Rattle.lsp_types.specs.declared.side.Side.{Side}
 use Rattle.lsp_types.specs.declared.side.Side.TheVariants.{Editor, Server}
-use Rattle.lsp_survey.specs.Reads.{SoFar, Ended, Gives, BrokeOff, TakesEntry, Ready, IsSurveyOf}
+use Rattle.lsp_survey.specs.Reads.{GoesBehind, SoFarBehind, GaveBehind, EndedBehind, SoFar, Ended, Gives, BrokeOff, Ready, IsLogOf, IsSurveyOf}
 use Rattle.lsp_survey.specs.Surveys.{Awaits, Surveys, TakesOne}
 use Rattle.lsp_survey.specs.declared.offending.Heard.{Heard}
 use Rattle.lsp_survey.specs.declared.survey.Survey.{Survey}
@@ -30,17 +28,17 @@ use Rattle.lsp_verdict.specs.Calls.{call_at, calls}
 use Rattle.lsp_verdict.specs.declared.outcome.RunFault.{RunFault}
 use Rattle.lsp_verdict.specs.declared.verdict.Verdict as verdicts
 use Rattle.lsp_verdict.specs.Entries as entries
-use Rattle.lsp_verdict.specs.Entries.{IsAt, HasRecords, HasFirst, IsKnown}
+use Rattle.lsp_verdict.specs.Entries.{IsAt, HasRecords, HasFirst, IsKnown, ShowsFault}
 use Rattle.lsp_verdict.specs.Event.{Event, sent_in}
 use Rattle.lsp_verdict.specs.Given.{as_given, offence_view, verdict_view}
 use Rattle.lsp_verdict.specs.LookBack.{each_from}
-use Rattle.lsp_verdict.specs.Offences.{Noted, Offence, IsNoted, events_of, kept_of, offence_at, offences}
-use Rattle.lsp_verdict.specs.Outcome.{HasRest, ending, format_or_one, log_terms}
+use Rattle.lsp_verdict.specs.Offences.{Noted, Offence, events_of, kept_of, offence_at, offences}
+use Rattle.lsp_verdict.specs.Outcome.{HasRest, ending, log_terms}
 use Rattle.lsp_verdict.specs.Placed.{Raw, Placed, joined}
 use Rattle.lsp_verdict.specs.RunIo.{OfRead}
 use Rattle.lsp_verdict.specs.Survey.{IsSurvey, by_itself, ends_inside, ends_listed, first_ends, lacks_listed, rests_listed}
 use Rattle.lsp_verdict.specs.Survey as survey
-use Rattle.lsp_verdict.specs.Verdict.{Summary, Verdict, Ending, bad_log_of, count_of, first_no, is_of, is_snapshot, no_next, summary, yes}
+use Rattle.lsp_verdict.specs.Verdict.{Summary, Verdict, Ending, bad_log_of, count_of, is_of, is_snapshot, no_next, summary, yes}
 use Rattle.lsp_verdict.specs.declared.completeness.Completeness.{Completeness}
 use Rattle.lsp_verdict.specs.declared.completeness.Completeness.TheVariants.{Ignored, Required}
 use Rattle.lsp_verdict.specs.declared.outcome.RunFault.TheVariants as faults
@@ -52,8 +50,8 @@ use Rattle.lsp_verdict.proofs.EventCounts.{count_few, unmatched_events}
 use Rattle.lsp_verdict.proofs.ExactCounts.{capped_is, no_exact}
 use Rattle.lsp_verdict.proofs.Offences.Offending.{all_are_kept, nothing_listed}
 use Rattle.lsp_verdict.proofs.RunReading.{read_map}
-use Rattle.lsp_survey.proofs.Ending.{given_by}
-use Rattle.lsp_survey.proofs.Reading.{event_given, notes_few, ready_begins, ready_few, survey_of}
+use Rattle.lsp_survey.proofs.Ending.{given_by, rest_held}
+use Rattle.lsp_survey.proofs.Reading.{event_given, not_behind, notes_few, ready_begins, ready_few, survey_of}
 
 -- ---- exact numbers
 
@@ -128,7 +126,7 @@ module _ (completeness : Completeness) (limits : Bounds) (e : SurveyReader) (sta
     (r : Ready limits e.survey e.log.format records past notes found) (has : HasRecords limits start now e.log.format records flaw)
     (lists : (editor server : List ℕ) → HasRest limits (joined Editor records) editor → HasRest limits (joined Server records) server
     → map offence_view end.listed.items ≡ map given_by (ends_listed completeness e.survey.walk.events.docs.terms (events_of notes) (ending flaw editor server)))
-    (bad_is : option_map verdict_view end.bad ≡ bad_log_of flaw) (met : end.bad ≡ None → IsAtEnd now.bytes) where
+    (bad_is : option_map verdict_view end.bad ≡ bad_log_of flaw) (met : end.bad ≡ None → IsAtEnd now.bytes) (known : OfRead limits start now (IsLogOf e.log limits records flaw)) where
   h : Surveys limits e.survey records past notes
   h = r.surveys
 
@@ -179,20 +177,27 @@ module _ (completeness : Completeness) (limits : Bounds) (e : SurveyReader) (sta
         counted = h.walks.counted;
       }
 
-  whole_here : (log : List ℕ) → IsLog limits log e.log.format records flaw → IsSurveyOf completeness limits log (found ++ map offence_view end.listed.items) (option_map verdict_view end.bad) own past notes
+  awaits_none : Awaits limits None e.survey records h.due
+  awaits_none = subst (λ (t : Option Side). Awaits limits t e.survey records h.due) r.idle h.awaits
+
+  unfoldable whole_here : (log : List ℕ) → IsLogOf e.log limits records flaw log → IsSurveyOf e completeness limits log (found ++ map offence_view end.listed.items) (option_map verdict_view end.bad) own past notes
   unfolding survey_of
-  whole_here log is_log = record {
-    survey = survey_of completeness limits log e.log.format records flaw is_log past placed notes h.are_noted (found ++ map offence_view end.listed.items) (option_map verdict_view end.bad) (summary own (events_of notes))
+  whole_here log is = record {
+    survey = survey_of completeness limits log e.log.format records flaw is.0 past placed notes h.are_noted (found ++ map offence_view end.listed.items) (option_map verdict_view end.bad) (summary own (events_of notes))
         all_listed bad_is (ap (λ (t : Terms). summary t (events_of notes)) same_terms);
     raws_are = refl;
     notes_are = refl;
     terms_are = sym same_terms;
+    editor_held = λ whole. let a = some_stream limits (joined Editor records) in rest_held limits e.survey.editor.ended e.survey.editor.decoder (joined Editor records) a.1 (h.editor_ends ∙ whole) awaits_none.1 (a.0, a.2, a.3);
+    server_held = λ whole. let a = some_stream limits (joined Server records) in rest_held limits e.survey.server.ended e.survey.server.decoder (joined Server records) a.1 (h.server_ends ∙ whole) awaits_none.2 (a.0, a.2, a.3);
+    flaw_known = is.1;
   }
 
   pub ended_here : Ended completeness limits e start now past notes found end
   ended_here = record {
-    whole = read_map limits start now (λ log. IsLog limits log e.log.format records flaw) (λ log. IsSurveyOf completeness limits log (found ++ map offence_view end.listed.items) (option_map verdict_view end.bad) own past notes) whole_here has.of_read;
+    whole = read_map limits start now (IsLogOf e.log limits records flaw) (λ log. IsSurveyOf e completeness limits log (found ++ map offence_view end.listed.items) (option_map verdict_view end.bad) own past notes) whole_here known;
     walks = h.walks;
+    terms_are = same_terms;
     lists = own_found;
     of_read = read_map limits start now (λ log. IsLog limits log e.log.format records flaw) (λ log. IsSurvey completeness limits log (found ++ map offence_view end.listed.items) (option_map verdict_view end.bad) (summary own (events_of notes)))
         (λ log is_log. survey_of completeness limits log e.log.format records flaw is_log past placed notes h.are_noted (found ++ map offence_view end.listed.items) (option_map verdict_view end.bad) (summary own (events_of notes))
@@ -214,6 +219,14 @@ module _ (completeness : Completeness) (limits : Bounds) (e : SurveyReader) (sta
     exact = yes_exact own (events_of notes) small;
   }
 
+  -- these are all its records
+  pub ended_behind : EndedBehind records completeness limits e start now past notes found end
+  unfolding whole_here survey_of
+  ended_behind =
+      read_map limits start now (IsLogOf e.log limits records flaw)
+      (λ log. (is : IsSurveyOf e completeness limits log (found ++ map offence_view end.listed.items) (option_map verdict_view end.bad) own past notes) × GoesBehind records is.survey.records)
+      (λ log is. (whole_here log is, not_behind records)) known
+
 -- ---- one more record
 
 -- a log with one more record first has those before it first
@@ -230,7 +243,7 @@ fewer_first limits known records next start now has =
 
 module _ (completeness : Completeness) (limits : Bounds) (e : SurveyReader) (t : Survey) (start now : Told) (records : List Record) (next_record : Record) (past : List Raw) (notes : List Noted) (found : List Offence)
     (r : Ready limits t e.log.format records past notes found) (same : e.log.limits ≡ limits) (at : IsAt e.log start now (records ++ next_record ∷ [])) where
-  first : OfRead limits start now (HasFirst limits e.log.format records)
+  pub first : OfRead limits start now (HasFirst limits e.log.format records)
   first = fewer_first limits e.log.format records next_record start now (is_first e.log limits start now (records ++ next_record ∷ []) same at)
 
   -- memory was refused for it
@@ -238,7 +251,7 @@ module _ (completeness : Completeness) (limits : Bounds) (e : SurveyReader) (t :
   record_refused = ready_begins completeness limits t start now e.log.format records past notes found r first at.failures
 
   -- it was taken
-  pub record_taken : e.survey.format ≡ t.format → Surveys limits e.survey (records ++ next_record ∷ []) past notes → SoFar limits e start now past notes found
+  unfoldable pub record_taken : e.survey.format ≡ t.format → Surveys limits e.survey (records ++ next_record ∷ []) past notes → SoFar limits e start now past notes found
   record_taken fits surveys = record {
     records = records ++ next_record ∷ [];
     at = at;
@@ -248,11 +261,19 @@ module _ (completeness : Completeness) (limits : Bounds) (e : SurveyReader) (t :
     lists = r.lists ∙ ap (λ (f : Format). offences (terms_of limits f) notes) (sym fits);
   }
 
-  pub record_heard : (given : Heard) → e.survey.format ≡ t.format → TakesOne limits e.survey (records ++ next_record ∷ []) past notes (Some given) → Gives completeness limits e start now past notes found (next.Event given)
+  unfoldable pub record_heard : (given : Heard) → e.survey.format ≡ t.format → TakesOne limits e.survey (records ++ next_record ∷ []) past notes (Some given) → Gives completeness limits e start now past notes found (next.Event given)
   record_heard given fits one =
       event_given limits e start now (records ++ next_record ∷ []) past notes found given at same (fits ∙ r.fits) r.surveys.range
       (ready_few limits t start now e.log.format records past notes found r first)
       (r.lists ∙ ap (λ (f : Format). offences (terms_of limits f) notes) (sym fits)) one
+
+  pub taken_behind : e.survey.format ≡ t.format → Surveys limits e.survey (records ++ next_record ∷ []) past notes → SoFarBehind records limits e start now past notes found
+  unfolding record_taken
+  taken_behind fits surveys = (record_taken fits surveys, (next_record ∷ [], refl))
+
+  pub heard_record_behind : (given : Heard) → e.survey.format ≡ t.format → TakesOne limits e.survey (records ++ next_record ∷ []) past notes (Some given) → GaveBehind records limits e start now past notes found given
+  unfolding record_heard event_given
+  heard_record_behind given fits one = (record_heard given fits one, (next_record ∷ [], refl))
 
 -- a log with just these records has them first
 pub end_first : (limits : Bounds) (known : Option Format) (records : List Record) (flaw : Option (ℕ × LogCode)) (start now : Told) → HasRecords limits start now known records flaw → OfRead limits start now (HasFirst limits known records)
@@ -275,6 +296,16 @@ records_at was limits start now known records flaw same has = subst (λ (b : Bou
 
 pub broke_at : (was limits : Bounds) (start now : Told) (known : Option Format) (records : List Record) (fault : RunFault) → was ≡ limits → entries.BrokeOff was start now known records fault → entries.BrokeOff limits start now known records fault
 broke_at was limits start now known records fault same broke = subst (λ (b : Bounds). entries.BrokeOff b start now known records fault) same broke
+
+-- a log without a fault has no place of one
+pub sound_log : (r : reader.State) (limits : Bounds) (start now : Told) (records : List Record) → HasRecords limits start now r.format records None → OfRead limits start now (IsLogOf r limits records None)
+sound_log r limits start now records has = read_map limits start now (λ log. IsLog limits log r.format records None) (IsLogOf r limits records None) (λ log is. (is, tt)) has.of_read
+
+-- of the fault of a log its reader knows the place
+pub flawed_log : (r : reader.State) (was limits : Bounds) (start now : Told) (records : List Record) (fault : ℕ × LogCode) → was ≡ limits → OfRead was start now (ShowsFault r was records fault) → OfRead limits start now (IsLogOf r limits records (Some fault))
+flawed_log r was limits start now records fault same shows =
+    read_map limits start now (ShowsFault r limits records fault) (IsLogOf r limits records (Some fault)) (λ log is. (is.is_log, (is.place_is, is.line_is)))
+    (subst (λ (b : Bounds). OfRead b start now (ShowsFault r b records fault)) same shows)
 
 -- a fault of the log is one
 pub is_bad : {P : Type 0} (v : verdicts.Verdict) → Some v ≡ None → P

@@ -1,5 +1,5 @@
 -- The notes of documents, with one of them set, and behind one more event.
-use Rattle.std.specs.Prelude.{if◌then◌else◌, unwrap_or, option_and_then, String, Vec, map, is_none, length, vec_len, ◌==◌, ◌||◌, not, ℤ}
+use Rattle.std.specs.Prelude.{if◌then◌else◌, unwrap_or, String, Vec, map, is_none, length, vec_len, ◌==◌, ◌||◌, not, ℤ}
 use Rattle.std.specs.List.{list_any}
 use Rattle.std.specs.Global.{Global}
 use Rattle.std.specs.Str.{bytes_eq}
@@ -10,7 +10,7 @@ use Rattle.lsp_docs.specs.Opened.{held_by}
 use Rattle.lsp_docs.proofs.Entries.{PutsUnder}
 use Rattle.lsp_docs.proofs.Words.{uri_flip}
 use Rattle.lsp_rpc.specs.View.{changes_view}
-use Rattle.lsp_survey.specs.Notes.{nothing, note_in, SetsNote, note_after, AreAfter}
+use Rattle.lsp_survey.specs.Notes.{nothing, note_in, SetsNote, AreAfter}
 use Rattle.lsp_survey.specs.declared.note.Note.{Note}
 use Rattle.lsp_text.specs.Edits.{Edit}
 use Rattle.lsp_types.specs.declared.change.Change.{Change}

@@ -1,5 +1,5 @@
 -- A walk over events, with one event more.
-use Rattle.std.specs.Prelude.{if◌then◌else◌, is_some, option_map, option_and_then, ◌&&◌, ◌||◌}
+use Rattle.std.specs.Prelude.{if◌then◌else◌, is_some, option_and_then, ◌||◌}
 use Rattle.std.proofs.Common.{◌≡◌, ℕ, Bool, true, false, List, [], ◌∷◌, ◌++◌, Option, Some, None, refl, sym, ap, subst, ◌∙◌}
 use Rattle.lsp_docs.specs.Calls.{Call}
 use Rattle.lsp_docs.specs.State as docs
@@ -7,12 +7,16 @@ use Rattle.lsp_docs.specs.Terms.{Terms}
 use Rattle.lsp_events.specs.Standing.{Holds}
 use Rattle.lsp_session.specs.State as session
 use Rattle.lsp_survey.specs.Notes.{note_in, note_of, note_after, AreAfter, is_noted_lost}
+use Rattle.lsp_survey.specs.Marks.{AreMarks}
+use Rattle.lsp_survey.specs.SessionNoting.{AreNotes}
 use Rattle.lsp_survey.specs.Walking.{WalksBy, Walks, breaks_by, Counted, offence_of, PassesOver, IsOffending, Offends, IsHeard, Hears}
+use Rattle.lsp_survey.specs.declared.marks.Marks.{Marks}
 use Rattle.lsp_survey.specs.declared.note.Note.{Note}
 use Rattle.lsp_survey.specs.declared.note.Notes.{Notes}
 use Rattle.lsp_survey.specs.declared.offending.Heard.{Heard}
 use Rattle.lsp_survey.specs.declared.offending.Heard.TheVariants as heard
 use Rattle.lsp_survey.specs.declared.offending.Offending.{Offending}
+use Rattle.lsp_survey.specs.declared.session_notes.SessionNotes.{SessionNotes}
 use Rattle.lsp_survey.specs.declared.walk.Walk.{Walk}
 use Rattle.lsp_types.specs.declared.change.SyncKind.{SyncKind}
 use Rattle.lsp_types.specs.declared.position.Encoding.{Encoding}
@@ -20,11 +24,13 @@ use Rattle.lsp_verdict.specs.Counting.{AreCounts}
 use Rattle.lsp_verdict.specs.Event.{Event}
 use Rattle.lsp_verdict.specs.Given.{given_offence}
 use Rattle.lsp_verdict.specs.LookBack.{first_of}
-use Rattle.lsp_verdict.specs.Offences.{Noted, Offence, IsNoted, breaks_handshake, broken_by, events_of, is_lost, is_on_lost, kept_of, offence_by, rule_at, said_at}
+use Rattle.lsp_verdict.specs.Offences.{Noted, IsNoted, breaks_handshake, broken_by, events_of, is_on_lost, kept_of, rule_at, said_at}
 use Rattle.lsp_verdict.specs.Placed.{Raw}
 use Rattle.lsp_verdict.specs.Verdict.{whose}
 use Rattle.lsp_verdict.specs.declared.counts.Counts.{Counts}
 use Rattle.lsp_verdict.specs.declared.verdict.Who.{Who}
+use Rattle.lsp_survey.proofs.MarkSteps.{refused_leaves}
+use Rattle.lsp_survey.proofs.SessionSteps.{refused_unsaid}
 use Rattle.lsp_verdict.proofs.Offences.Steps.{broken-push, events_of-push, is_lost-push, kept-push, kept-refused}
 
 -- ---- what is noted
@@ -63,6 +69,8 @@ pub record Steps (terms : Terms) (old mid new : Walk) (notes : List Noted) (n : 
   pub holds : Holds mid.events.session mid.events.docs (kept_of terms (events_of (notes ++ n ∷ [])))
   pub counted : Counted mid new by rule n.asks
   pub noted : AreAfter rule said mid.notes.map.entries new.notes.map.entries
+  pub marked : AreMarks terms new.marks.map.entries (events_of notes ++ n.event ∷ [])
+  pub told : AreNotes terms new.said (events_of notes ++ n.event ∷ [])
 
 walks_by : (terms : Terms) (old mid new : Walk) (notes : List Noted) (n : Noted) (rule : Option ℕ) (said : Option Call) → WalksBy terms old notes → Steps terms old mid new notes n rule said → WalksBy terms new (notes ++ n ∷ [])
 walks_by terms old mid new notes n rule said walks s = record {
@@ -83,6 +91,8 @@ walks_by terms old mid new notes n rule said walks s = record {
       ∙ ap (λ (b : Bool). b || breaks_by rule n.asks) (s.broken_is ∙ walks.is_broken)
       ∙ ap (λ (o : Option ℕ). is_some (first_of (broken_by terms) notes) || breaks_by o n.asks) (sym s.rule_is)
       ∙ sym (broken_pushed terms notes n);
+  marked = subst (AreMarks terms new.marks.map.entries) (sym (events_of-push notes n)) s.marked;
+  said = subst (AreNotes terms new.said) (sym (events_of-push notes n)) s.told;
 }
 
 pub walks_on : (terms : Terms) (old mid new : Walk) (notes : List Noted) (n : Noted) (rule : Option ℕ) (said : Option Call) → WalksBy terms old notes → Steps terms old mid new notes n rule said → Walks new (notes ++ n ∷ [])
@@ -106,17 +116,19 @@ module _ (raw : Raw) (old mid new : Walk) (notes : List Noted) (n : Noted) (by :
   terms = old.events.docs.terms
 
   -- the event was passed over
-  pub passed_over : Walks old notes → mid.events.counts ≡ old.events.counts → mid.notes ≡ old.notes → mid.broken ≡ old.broken → mid.events.docs.terms ≡ terms
+  pub passed_over : Walks old notes → mid.events.counts ≡ old.events.counts → mid.notes ≡ old.notes → mid.broken ≡ old.broken → mid.marks ≡ old.marks → mid.said ≡ old.said → mid.events.docs.terms ≡ terms
       → Holds mid.events.session mid.events.docs (kept_of terms (events_of notes))
       → IsNoted raw n → whose n.event ≡ by → rule_at terms (events_of notes) n.event ≡ Some rule → said_at terms (events_of notes) n.event ≡ says enc kind
       → ((what : Offending) → IsSuch what → IsOffending raw terms (kept_of terms (events_of notes)) rule what)
       → PassesOver mid new by rule n.asks says IsSuch given → Hears raw terms new notes given
-  passed_over walks counts same broken same_terms holds is_noted whose_is rule_is said_is such p =
+  passed_over walks counts same broken marks_are said_are same_terms holds is_noted whose_is rule_is said_is such p =
       let before : WalksBy terms mid notes = record {
         holds = holds;
         counted = subst (λ (c : Counts). AreCounts c (events_of notes)) (sym counts) walks.counted;
         noted = λ uri. ap (λ (w : Notes). note_in w.map.entries uri) same ∙ walks.noted uri;
         is_broken = broken ∙ walks.is_broken;
+        marked = subst (λ (m : Marks). AreMarks terms m.map.entries (events_of notes)) (sym marks_are) walks.marked;
+        said = subst (λ (m : SessionNotes). AreNotes terms m (events_of notes)) (sym said_are) walks.said;
       } in
       let offence = p.offence enc kind notes (subst (λ (t : Terms). WalksBy t mid notes) (sym same_terms) before) in
       let found : Offends raw terms notes n p.found = record {
@@ -145,6 +157,8 @@ module _ (raw : Raw) (old mid new : Walk) (notes : List Noted) (n : Noted) (by :
           holds = kept_holds terms notes n rule mid.events.session mid.events.docs rule_is holds;
           counted = p.counted;
           noted = p.noted enc kind;
+          marked = refused_leaves terms new.marks.map.entries (events_of notes) n.event rule (subst (λ (m : Marks). AreMarks terms m.map.entries (events_of notes)) (sym p.marks) before.marked) rule_is;
+          told = refused_unsaid terms new.said (events_of notes) n.event rule (subst (λ (m : SessionNotes). AreNotes terms m (events_of notes)) (sym p.said) before.said) rule_is;
         });
       }
 
@@ -152,8 +166,9 @@ module _ (raw : Raw) (old mid new : Walk) (notes : List Noted) (n : Noted) (by :
   pub kept_on : Walks old notes → mid.events.counts ≡ old.events.counts → mid.notes ≡ old.notes → mid.broken ≡ old.broken → mid.events.docs.terms ≡ terms
       → Holds mid.events.session mid.events.docs (kept_of terms (events_of notes) ++ n.event ∷ [])
       → IsNoted raw n → whose n.event ≡ by → rule_at terms (events_of notes) n.event ≡ None → said_at terms (events_of notes) n.event ≡ says enc kind
-      → given ≡ heard.Kept → Counted mid new by None false → AreAfter None (says enc kind) mid.notes.map.entries new.notes.map.entries → Hears raw terms new notes given
-  kept_on walks counts same broken same_terms holds is_noted whose_is rule_is said_is is_kept counted noted = record {
+      → given ≡ heard.Kept → Counted mid new by None false → AreAfter None (says enc kind) mid.notes.map.entries new.notes.map.entries
+      → AreMarks terms new.marks.map.entries (events_of notes ++ n.event ∷ []) → AreNotes terms new.said (events_of notes ++ n.event ∷ []) → Hears raw terms new notes given
+  kept_on walks counts same broken same_terms holds is_noted whose_is rule_is said_is is_kept counted noted marked told = record {
     n = n;
     is_noted = is_noted;
     is_heard = subst (IsHeard raw terms notes n) (sym is_kept) rule_is;
@@ -169,5 +184,7 @@ module _ (raw : Raw) (old mid new : Walk) (notes : List Noted) (n : Noted) (by :
       holds = more_holds terms notes n mid.events.session mid.events.docs rule_is holds;
       counted = record { session = counted.session; documents = counted.documents; counts = counted.counts; is_broken = counted.is_broken };
       noted = noted;
+      marked = marked;
+      told = told;
     });
   }

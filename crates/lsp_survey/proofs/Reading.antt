@@ -1,11 +1,9 @@
 -- The events of a log against what is listed of it.
-use Rattle.std.specs.Prelude.{map, option_map, option_to_list, if◌then◌else◌}
-use Rattle.std.specs.Io.KnownBytes.{IsAtEnd}
+use Rattle.std.specs.Prelude.{map, option_map}
 use Rattle.std.specs.List.{AllZip, cons_option}
-use Rattle.std.proofs.Common.{◌≡◌, ◌⊎◌, ℕ, ◌+◌, ◌-◌, ◌<◌, ◌≤◌, ◌^◌, Bool, true, false, List, [], ◌∷◌, ◌++◌, length, length-append, Option, Some, None, Result, Ok, Err, inl, inr, refl, sym, ap, subst, ◌∙◌, append_assoc, append-nil, arith}
-use Rattle.std.proofs.lemmas.List.{length-map, map-append}
+use Rattle.std.proofs.Common.{◌≡◌, ◌⊎◌, ℕ, ◌+◌, ◌-◌, ◌<◌, ◌≤◌, ◌^◌, List, [], ◌∷◌, ◌++◌, length, length-append, Option, Some, None, Ok, inl, inr, refl, sym, ap, subst, ◌∙◌, append_assoc, append-nil, arith}
+use Rattle.std.proofs.lemmas.List.{length-map}
 use Rattle.lsp_docs.specs.Terms.{Terms, terms_of}
-use Rattle.lsp_events.specs.Standing.{Follows, Holds}
 use Rattle.lsp_frame.specs.Bounds.{Bounds, IsInRange}
 use Rattle.lsp_frame.specs.Told.{Told}
 use Rattle.lsp_frame.specs.declared.format.Format.{Format}
@@ -13,29 +11,26 @@ use Rattle.lsp_frame.specs.declared.format.Format.TheVariants.{One, Two}
 use Rattle.lsp_log.specs.Log.{Record, IsLog}
 use Rattle.lsp_log.specs.Reader as reader
 use Rattle.lsp_log.specs.declared.fault.LogCode.{LogCode}
-use Rattle.lsp_types.specs.declared.side.Side.{Side}
 use Rattle.lsp_types.specs.declared.side.Side.TheVariants.{Editor, Server}
-use Rattle.lsp_survey.specs.Reads.{BeginsSurvey, SoFar, Finds, IsHeardAs, found_in, GaveEvent, Ended, BrokeOff, Gives, PullsHere, Ready}
-use Rattle.lsp_survey.specs.Surveys.{Awaits, Surveys, HearsOne, HearsHere, IsFitted, IsRefitted}
-use Rattle.lsp_survey.specs.Walking.{IsHeard, Offends}
+use Rattle.lsp_survey.specs.Reads.{GoesBehind, GivesBehind, HearsBehind, BeginsSurvey, HasHeard, SoFar, IsHeardAs, found_in, GaveEvent, BrokeOff, Gives, PullsHere, Ready}
+use Rattle.lsp_survey.specs.Surveys.{Surveys, HearsOne, HearsHere, IsRefitted}
+use Rattle.lsp_survey.specs.Walking.{IsHeard}
 use Rattle.lsp_survey.specs.declared.offending.Heard.{Heard}
 use Rattle.lsp_survey.specs.declared.offending.Heard.TheVariants as heard
 use Rattle.lsp_survey.specs.declared.survey.Survey.{Survey}
-use Rattle.lsp_survey.specs.declared.survey_reader.End.{End}
 use Rattle.lsp_survey.specs.declared.survey_reader.Next.{Next}
+use Rattle.lsp_survey.specs.declared.survey_reader.Next.TheVariants as next
 use Rattle.lsp_survey.specs.declared.survey_reader.SurveyReader.{SurveyReader}
 use Rattle.lsp_verdict.specs.Entries as entries
 use Rattle.lsp_verdict.specs.Entries.{IsAt, HasRecords, HasFirst, IsKnown}
-use Rattle.lsp_verdict.specs.Event.{Event}
-use Rattle.lsp_verdict.specs.Given.{as_given, given_offence, offence_view, verdict_view}
 use Rattle.lsp_verdict.specs.LookBack.{each_from}
-use Rattle.lsp_verdict.specs.Offences.{Noted, Offence, IsNoted, events_of, kept_of, offence_at, offence_by, offences, rule_at}
+use Rattle.lsp_verdict.specs.Offences.{Noted, Offence, IsNoted, events_of, offence_at, offence_by, offences}
 use Rattle.lsp_verdict.specs.Outcome.{HasRest, ending, format_or_one, log_terms}
 use Rattle.lsp_verdict.specs.Placed.{Raw, Placed, joined}
-use Rattle.lsp_verdict.specs.RunIo.{OfRead, failures_after}
+use Rattle.lsp_verdict.specs.RunIo.{OfRead}
 use Rattle.lsp_verdict.specs.Survey.{IsSurvey, by_itself, ends_listed}
 use Rattle.lsp_verdict.specs.Survey as survey
-use Rattle.lsp_verdict.specs.Verdict.{Summary, Verdict, bad_log_of, summary, yes, whose}
+use Rattle.lsp_verdict.specs.Verdict.{Summary, Verdict, bad_log_of, summary, whose}
 use Rattle.lsp_verdict.specs.declared.completeness.Completeness.{Completeness}
 use Rattle.lsp_verdict.specs.declared.completeness.Completeness.TheVariants.{Ignored}
 use Rattle.lsp_verdict.specs.declared.outcome.RunFault.{RunFault}
@@ -167,6 +162,49 @@ module _ (completeness : Completeness) (limits : Bounds) (known : Option Format)
         same_length past notes h.are_noted,
       )
 
+-- ---- a log that has these records and events first
+
+pub behind_then : (a b c : List Record) → GoesBehind a b → GoesBehind b c → GoesBehind a c
+behind_then a b c (more, is) (rest, goes) = (more ++ rest, goes ∙ ap (λ (w : List Record). w ++ rest) is ∙ append_assoc a more rest)
+
+pub not_behind : (records : List Record) → GoesBehind records records
+not_behind records = ([], sym (append-nil records))
+
+pub has_heard : (limits : Bounds) (known : Option Format) (records : List Record) (past due : List Raw) → Placed limits records (past ++ due) → (log : List ℕ) → HasFirst limits known records log → HasHeard limits known records past log
+has_heard limits known records past due placed log has =
+    let all = some_placed limits [] [] (records ++ has.more) in
+    let front = placed_front limits [] [] records has.more (past ++ due) all.0 placed all.1 in
+    record {
+      format = has.format;
+      records = records ++ has.more;
+      log_fault = has.fault;
+      later = due ++ front.0;
+      is_log = has.is_log;
+      goes = (has.more, refl);
+      placed_are = subst (Placed limits (records ++ has.more)) (front.1 ∙ append_assoc past due front.0) all.1;
+      is_known = has.is_known;
+    }
+
+known_before : (old new format : Option Format) → reader.KeepsFormat old new → IsKnown new format → IsKnown old format
+known_before None new format keeps known = tt
+known_before (Some f) new format keeps known = subst (λ (o : Option Format). IsKnown o format) (keeps f refl) known
+
+-- what is known later was so before, as far as anything was known
+pub heard_before : (limits : Bounds) (old new : Option Format) (front records : List Record) (past : List Raw) (start now : Told) → reader.KeepsFormat old new → GoesBehind front records → OfRead limits start now (HasHeard limits new records past)
+    → OfRead limits start now (HasHeard limits old front past)
+heard_before limits old new front records past start now keeps goes has =
+    read_map limits start now (HasHeard limits new records past) (HasHeard limits old front past)
+    (λ log h. record {
+      format = h.format;
+      records = h.records;
+      log_fault = h.log_fault;
+      later = h.later;
+      is_log = h.is_log;
+      goes = behind_then front records h.records goes h.goes;
+      placed_are = h.placed_are;
+      is_known = known_before old new h.format keeps h.is_known;
+    }) has
+
 -- ---- a reader of events
 
 module _ (completeness : Completeness) (limits : Bounds) (e : SurveyReader) (start now : Told) (past : List Raw) (notes : List Noted) (found : List Offence) (so : SoFar limits e start now past notes found) where
@@ -179,6 +217,12 @@ module _ (completeness : Completeness) (limits : Bounds) (e : SurveyReader) (sta
       read_map limits start now (HasFirst limits e.log.format so.records) (BeginsSurvey completeness limits found)
       (begins completeness limits e.log.format e.survey so.records past notes found so.format so.at.early so.surveys so.lists) first
 
+  -- its events begin with those heard
+  pub so_far_heard : OfRead limits start now (HasHeard limits e.log.format so.records past)
+  so_far_heard =
+      read_map limits start now (HasFirst limits e.log.format so.records) (HasHeard limits e.log.format so.records past)
+      (has_heard limits e.log.format so.records past so.surveys.due so.surveys.placed) first
+
   pub so_far_few : length notes ≤ limits.log
   so_far_few = few_first completeness limits e.log.format e.survey so.records past notes found so.format so.at.early so.surveys so.lists first.bytes (first.holds first.bytes ([], sym (append-nil first.bytes), λ end. refl))
 
@@ -187,11 +231,11 @@ module _ (completeness : Completeness) (limits : Bounds) (e : SurveyReader) (sta
 
 -- ---- one event
 
-small_events : (limits : Bounds) → IsInRange limits → (notes : List Noted) → length notes ≤ limits.log → length (events_of notes) + 1 < 2 ^ 64
+pub small_events : (limits : Bounds) → IsInRange limits → (notes : List Noted) → length notes ≤ limits.log → length (events_of notes) + 1 < 2 ^ 64
 small_events limits sizes notes few = omega (arith, sizes.log_high, few, length-map notes (λ (n : Noted). n.event))
 
 -- its numbers are exact
-exact_event : (limits : Bounds) (raw : Raw) (terms : Terms) (before : List Noted) (n : Noted) (given : Heard) → length (events_of before) + 1 < 2 ^ 64 → IsHeard raw terms before n given → IsHeardAs raw terms before n given
+pub exact_event : (limits : Bounds) (raw : Raw) (terms : Terms) (before : List Noted) (n : Noted) (given : Heard) → length (events_of before) + 1 < 2 ^ 64 → IsHeard raw terms before n given → IsHeardAs raw terms before n given
 exact_event limits raw terms before n heard.Kept small is = is
 exact_event limits raw terms before n (heard.Offence found) small is = record {
   rule = is.rule;
@@ -200,7 +244,7 @@ exact_event limits raw terms before n (heard.Offence found) small is = record {
   is_such = is.is_such;
 }
 
-one_listed : (terms : Terms) (before : List Noted) (n : Noted) (raw : Raw) (given : Heard) → IsHeardAs raw terms before n given → offences terms (before ++ n ∷ []) ≡ offences terms before ++ found_in given
+pub one_listed : (terms : Terms) (before : List Noted) (n : Noted) (raw : Raw) (given : Heard) → IsHeardAs raw terms before n given → offences terms (before ++ n ∷ []) ≡ offences terms before ++ found_in given
 one_listed terms before n raw heard.Kept is =
     offences-push terms before n ∙ ap (λ (o : Option ℕ). offences terms before ++ cons_option (option_map (offence_by terms before n) o) []) is
 one_listed terms before n raw (heard.Offence found) is =
@@ -209,7 +253,7 @@ one_listed terms before n raw (heard.Offence found) is =
     ∙ ap (λ (o : Offence). offences terms before ++ o ∷ []) (sym is.is)
 
 -- one more event was heard of the records read
-pub event_given : (limits : Bounds) (e : SurveyReader) (start now : Told) (records : List Record) (past : List Raw) (before : List Noted) (found : List Offence) (given : Heard) → IsAt e.log start now records → e.log.limits ≡ limits → e.survey.format ≡ format_or_one e.log.format
+unfoldable pub event_given : (limits : Bounds) (e : SurveyReader) (start now : Told) (records : List Record) (past : List Raw) (before : List Noted) (found : List Offence) (given : Heard) → IsAt e.log start now records → e.log.limits ≡ limits → e.survey.format ≡ format_or_one e.log.format
     → IsInRange limits → length before ≤ limits.log → found ≡ offences (terms_of limits e.survey.format) before → HearsOne limits e.survey records past before given → GaveEvent limits e start now past before found given
 event_given limits e start now records past before found given at same fits sizes few lists one =
     let terms = terms_of limits e.survey.format in
@@ -219,6 +263,7 @@ event_given limits e start now records past before found given at same fits size
       n = one.n;
       is_noted = one.is_noted;
       is_heard = is_heard;
+      ends = one.ends;
       so_far = record {
         records = records;
         at = at;
@@ -294,7 +339,7 @@ ready_few limits s start now known records past notes found r has =
     few_first Ignored limits known s records past notes found r.fits r.early r.surveys r.lists has.bytes (has.holds has.bytes ([], sym (append-nil has.bytes), λ end. refl))
 
 -- the next event of the records read was heard, or all were
-pub heard_here : (completeness : Completeness) (limits : Bounds) (e : SurveyReader) (s : Survey) (start now : Told) (past : List Raw) (before : List Noted) (found : List Offence) (answer : Option Heard) → s.format ≡ e.survey.format
+unfoldable pub heard_here : (completeness : Completeness) (limits : Bounds) (e : SurveyReader) (s : Survey) (start now : Told) (past : List Raw) (before : List Noted) (found : List Offence) (answer : Option Heard) → s.format ≡ e.survey.format
     → (so : SoFar limits e start now past before found) → HearsHere limits s so.records past before answer → PullsHere completeness limits (record e { survey = s }) start now past before found (Ok answer)
 heard_here completeness limits e s start now past before found None same so here = record {
   records = so.records;
@@ -307,6 +352,27 @@ heard_here completeness limits e s start now past before found None same so here
 heard_here completeness limits e s start now past before found (Some given) same so here =
     event_given limits (record e { survey = s }) start now so.records past before found given so.at so.same (same ∙ so.format) so.surveys.range (so_far_few completeness limits e start now past before found so)
     (so.lists ∙ ap (λ (f : Format). offences (terms_of limits f) before) (sym same)) here
+
+-- ---- the records go on
+
+pub gives_behind : (a b : List Record) (k m : Completeness) (limits : Bounds) (e : SurveyReader) (start now : Told) (past : List Raw) (before : List Noted) (found : List Offence) (given : Next) → k ≡ m → GoesBehind a b
+    → GivesBehind b k limits e start now past before found given → GivesBehind a m limits e start now past before found given
+gives_behind a b k m limits e start now past before found (next.Event given) same goes (gave, more) = (gave, behind_then a b gave.so_far.records goes more)
+gives_behind a b k m limits e start now past before found (next.End end) same goes ended =
+    subst (λ (c : Completeness). GivesBehind a c limits e start now past before found (next.End end)) same
+    (record {
+      bytes = ended.bytes;
+      ended = ended.ended;
+      read = ended.read;
+      holds = λ log on. let r = ended.holds log on in (r.0, behind_then a b r.0.survey.records goes r.1);
+    })
+
+-- hearing takes no record
+pub heard_behind : (limits : Bounds) (e : SurveyReader) (s : Survey) (start now : Told) (past : List Raw) (before : List Noted) (found : List Offence) (answer : Option Heard) → s.format ≡ e.survey.format
+    → (so : SoFar limits e start now past before found) → HearsHere limits s so.records past before answer → HearsBehind so.records limits (record e { survey = s }) start now past before found answer
+unfolding heard_here event_given
+heard_behind limits e s start now past before found None same so here = (heard_here Ignored limits e s start now past before found None same so here, not_behind so.records)
+heard_behind limits e s start now past before found (Some given) same so here = (heard_here Ignored limits e s start now past before found (Some given) same so here, not_behind so.records)
 
 -- ---- whether or not the session has to be complete
 

@@ -10,11 +10,10 @@ use Rattle.lsp_frame.specs.Sink.{Wrote, Stopped}
 use Rattle.lsp_frame.specs.Told.{Told, Took, after_failure}
 use Rattle.lsp_frame.proofs.Telling.{took_then}
 use Rattle.lsp_frame.proofs.Writing.{stopped_before, stopped_then, wrote_nothing, wrote_then}
-use Rattle.lsp_survey.specs.Reads.{BeginsSurvey, SoFar, Ended, BrokeOff, found_in}
-use Rattle.lsp_survey.specs.Reported.{is_every, IsReported, BeginsReported, lines_of, closing, IsYes, sink_after, IsTally, AllReported, PartReported, Reports, Listed, Lists}
+use Rattle.lsp_survey.specs.Reads.{BeginsSurvey, SoFar, BrokeOff}
+use Rattle.lsp_survey.specs.Reported.{is_every, IsReported, BeginsReported, lines_of, closing, IsYes, sink_after, IsTally, AllReported, PartReported, Listed}
 use Rattle.lsp_survey.specs.declared.listing.Listing.{Listing}
 use Rattle.lsp_survey.specs.declared.listing.Listing.TheVariants.{Causes, Every}
-use Rattle.lsp_survey.specs.declared.offending.Heard.{Heard}
 use Rattle.lsp_survey.specs.declared.survey_reader.End.{End}
 use Rattle.lsp_survey.specs.declared.survey_reader.SurveyReader.{SurveyReader}
 use Rattle.lsp_survey.specs.declared.tally.Tally.{Tally}
@@ -27,7 +26,7 @@ use Rattle.lsp_log.specs.declared.fault.LogCode.{LogCode}
 use Rattle.lsp_verdict.specs.Complete.{IsCompleteVerdict, IsVerdictBy}
 use Rattle.lsp_verdict.specs.Outcome.{IsVerdict}
 use Rattle.lsp_verdict.specs.Report.{line}
-use Rattle.lsp_verdict.specs.Verdict.{Summary, Verdict, yes, bad_log, bad_log_of}
+use Rattle.lsp_verdict.specs.Verdict.{Summary, Verdict, bad_log, bad_log_of}
 use Rattle.lsp_verdict.specs.declared.completeness.Completeness.TheVariants.{Ignored, Required}
 use Rattle.lsp_verdict.specs.declared.offence.Offence as code
 use Rattle.lsp_verdict.specs.declared.outcome.Outcome.{Outcome}
@@ -42,7 +41,6 @@ use Rattle.lsp_verdict.specs.declared.completeness.Completeness.{Completeness}
 use Rattle.lsp_verdict.specs.declared.outcome.RunFault.{RunFault}
 use Rattle.lsp_verdict.specs.declared.outcome.RunFault.TheVariants as faults
 use Rattle.lsp_verdict.proofs.RunReading.{read_map}
-use Rattle.lsp_survey.proofs.Reading.{so_far_begins}
 
 -- ---- lines
 

@@ -1,41 +1,42 @@
 -- The stream of one side: what more bytes bring, and its next event.
 use Rattle.std.specs.Prelude.{map}
-use Rattle.std.proofs.Common.{◌≡◌, ℕ, Bool, true, false, List, [], ◌∷◌, ◌++◌, Option, Some, None, Result, Ok, Err, refl, sym, ap, subst, ◌∙◌, append_assoc, append-nil}
+use Rattle.std.proofs.Common.{◌≡◌, ℕ, true, false, List, [], ◌∷◌, ◌++◌, Option, Some, None, Ok, Err, refl, sym, ap, subst, ◌∙◌, append_assoc, append-nil}
 use Rattle.std.proofs.lemmas.List.{append_cancel_left}
 use Rattle.lsp_docs.specs.Terms.{Terms}
 use Rattle.lsp_frame.specs.Bounds.{Bounds}
 use Rattle.lsp_frame.specs.Decoder as decoder
 use Rattle.lsp_frame.specs.Frame.{Frames, IsStream}
 use Rattle.lsp_types.specs.declared.side.Side.{Side}
-use Rattle.lsp_survey.specs.Surveys.{HasDue, AreBroken, IsSpent, IsDue, Pushes, HearsFirst, HearsNext}
+use Rattle.lsp_survey.specs.Surveys.{HasDue, AreBroken, IsSpent, IsDue, Pushes, HearsNext}
 use Rattle.lsp_survey.specs.Walking.{Walks, Hears}
 use Rattle.lsp_survey.specs.declared.offending.Heard.{Heard}
 use Rattle.lsp_survey.specs.declared.walk.Walk.{Walk}
-use Rattle.lsp_verdict.specs.Drained.{IsDrained}
 use Rattle.lsp_verdict.specs.Offences.{Noted}
-use Rattle.lsp_verdict.specs.Placed.{Raw, content, broken, new_fault, Brings}
-use Rattle.lsp_verdict.proofs.Below.{faulty_more, frames_first, one_stream, some_stream}
+use Rattle.lsp_verdict.specs.Placed.{Raw, content, broken, new_fault}
+use Rattle.lsp_verdict.proofs.Below.{frames_first, one_stream, some_stream}
 use Rattle.lsp_survey.proofs.FrameRules.{breaks_low}
+use Rattle.lsp_survey.proofs.Rests.{broken_more, held_broken}
 
 -- ---- more bytes
 
 -- behind a fault nothing comes
-pub nothing_more : (limits : Bounds) (side : Side) (d : decoder.State) (sent more : List ℕ) → AreBroken limits sent → Pushes limits side true d sent more
-nothing_more limits side d sent more (contents, rest, rule, stream) =
-    let later = faulty_more limits sent contents rest rule more stream in (
+pub nothing_more : (limits : Bounds) (side : Side) (d : decoder.State) (sent more : List ℕ) → AreBroken limits d sent → Pushes limits side true d sent more
+unfolding broken_more
+nothing_more limits side d sent more b =
+    let later = broken_more limits d sent more b in (
       [],
       record {
-        contents = contents;
-        rest = rest;
-        old_fault = Some rule;
-        stream = stream;
+        contents = b.contents;
+        rest = d.rest ++ b.more;
+        old_fault = Some b.rule;
+        stream = b.stream;
         new_contents = [];
-        new_rest = rest ++ more;
-        last_fault = Some rule;
-        new_stream = subst (λ (cs : List (List ℕ)). IsStream limits (sent ++ more) cs (rest ++ more) (Some rule)) (sym (append-nil contents)) later;
+        new_rest = d.rest ++ later.more;
+        last_fault = Some b.rule;
+        new_stream = subst (λ (cs : List (List ℕ)). IsStream limits (sent ++ more) cs (d.rest ++ later.more) (Some b.rule)) (sym (append-nil b.contents)) later.stream;
         brought = refl;
       },
-      (refl, (contents, rest ++ more, rule, later)),
+      (refl, later),
     )
 
 -- what they bring is due
@@ -159,6 +160,6 @@ module _ (limits : Bounds) (side : Side) (d new : decoder.State) (terms : Terms)
         is_of = (refl, breaks_low d.limits told.1.0 rule stream.fault);
         unbroken = refl;
         ends = refl;
-        left = (refl, (h.given, told.1.0, rule, subst (λ (b : Bounds). IsStream b bytes h.given told.1.0 (Some rule)) is_due.0 stream));
+        left = (refl, held_broken limits new bytes h.given told.1.0 rule (same ∙ is_due.0) (ap (λ (s : decoder.State). s.fault) next.step.same) told.0 (subst (λ (b : Bounds). IsStream b bytes h.given told.1.0 (Some rule)) is_due.0 stream));
         hears = hears;
       }

@@ -1,18 +1,16 @@
 -- A survey of records, with one record more, and with one event more.
-use Rattle.std.specs.Prelude.{◌||◌, IfOk, String, string_bytes, chars, ℤ}
-use Rattle.std.specs.Global.{Global}
+use Rattle.std.specs.Prelude.{◌||◌, IfOk, ℤ}
 use Rattle.std.specs.List.{AllZip, list_any}
 use Rattle.std.proofs.Common.{◌≡◌, ℕ, Bool, true, false, List, [], ◌∷◌, ◌++◌, Option, Some, None, Result, Ok, Err, refl, sym, ap, subst, ◌∙◌, append_assoc, append-nil}
 use Rattle.lsp_docs.specs.Terms.{Terms, terms_of}
 use Rattle.lsp_frame.specs.Bounds.{Bounds, IsInRange}
 use Rattle.lsp_frame.specs.Decoder as decoder
-use Rattle.lsp_frame.specs.declared.format.Format.{Format}
 use Rattle.lsp_log.specs.Log.{Record, chunk, shown}
 use Rattle.lsp_types.specs.declared.memory.Memory.{Memory}
 use Rattle.lsp_types.specs.declared.side.Side.{Side}
 use Rattle.lsp_types.specs.declared.side.Side.TheVariants.{Editor, Server}
 use Rattle.lsp_session.specs.Sent.{same_side}
-use Rattle.lsp_survey.specs.Surveys.{AreBroken, IsSpent, IsDue, Pushes, IsOf, is_break, HearsFirst, HearsNext, turn_after, Awaits, Surveys, HearsOne, HearsHere}
+use Rattle.lsp_survey.specs.Surveys.{IsSpent, IsDue, Pushes, IsOf, is_break, HearsNext, turn_after, Awaits, Surveys, HearsOne, HearsHere}
 use Rattle.lsp_survey.specs.Walking.{Walks, IsHeard, Hears}
 use Rattle.lsp_survey.specs.declared.offending.Heard.{Heard}
 use Rattle.lsp_survey.specs.declared.survey.Stream.{Stream}
@@ -20,13 +18,14 @@ use Rattle.lsp_survey.specs.declared.survey.Survey.{Survey}
 use Rattle.lsp_survey.specs.declared.walk.Walk.{Walk}
 use Rattle.lsp_verdict.specs.Event.{Event}
 use Rattle.lsp_verdict.specs.Offences.{Noted, IsNoted, events_of}
-use Rattle.lsp_verdict.specs.Placed.{Raw, show, Placed, Brings, joined}
+use Rattle.lsp_verdict.specs.Placed.{Raw, show, Placed, joined}
 use Rattle.lsp_verdict.specs.Survey.{is_frame_fault}
 use Rattle.lsp_verdict.proofs.Streams.Drained.{new_drained}
 use Rattle.lsp_verdict.proofs.Offences.Steps.{events_of-push}
 use Rattle.lsp_verdict.proofs.OneRecord.{joined_own, joined_server, joined_editor, joined_shown, placed_one}
 use Rattle.lsp_verdict.proofs.PlacedLemmas.{placed-snoc}
 use Rattle.lsp_survey.proofs.FrameRules.{own_fault, other_fault}
+use Rattle.lsp_survey.proofs.Rests.{ended_by}
 
 -- ---- lists
 
@@ -166,6 +165,7 @@ snapshot_taken limits s w rs past notes number uri text given idle same_terms to
       n = heard.n;
       is_noted = heard.is_noted;
       is_heard = subst (λ (t : Terms). IsHeard (show number uri text) t notes heard.n given) h.terms heard.is_heard;
+      ends = tt;
       surveys = record {
         range = h.range;
         same = h.same;
@@ -218,6 +218,7 @@ editor_heard limits s t w turn rs past notes (Some given) is turns same_terms to
       n = n;
       is_noted = one.hears.is_noted;
       is_heard = subst (λ (u : Terms). IsHeard one.raw u notes n given) h.terms one.hears.is_heard;
+      ends = ended_by (record s { editor = t; walk = w; turn = turn }) Editor t.ended one.raw refl one.is_of one.ends;
       surveys = record {
         range = h.range;
         same = h.same;
@@ -261,6 +262,7 @@ server_heard limits s t w turn rs past notes (Some given) is turns same_terms to
       n = n;
       is_noted = one.hears.is_noted;
       is_heard = subst (λ (u : Terms). IsHeard one.raw u notes n given) h.terms one.hears.is_heard;
+      ends = ended_by (record s { server = t; walk = w; turn = turn }) Server t.ended one.raw refl one.is_of one.ends;
       surveys = record {
         range = h.range;
         same = h.same;

@@ -4,12 +4,14 @@ use Rattle.std.specs.List.{AllZip, list_any}
 use Rattle.lsp_docs.specs.Terms.{Terms, terms_of}
 use Rattle.lsp_frame.specs.Bounds.{Bounds, IsInRange}
 use Rattle.lsp_frame.specs.Decoder as decoder
-use Rattle.lsp_frame.specs.Frame.{IsStream}
+use Rattle.lsp_frame.specs.Frame.{Breaks, IsStream}
+use Rattle.lsp_frame.specs.Front.{header_front}
 use Rattle.lsp_frame.specs.declared.format.Format.{Format}
 use Rattle.lsp_log.specs.Log.{Record}
 use Rattle.lsp_session.specs.Incomplete.{incomplete}
 use Rattle.lsp_survey.specs.Walking.{Walks, Hears, IsHeard}
 use Rattle.lsp_survey.specs.declared.offending.Heard.{Heard}
+use Rattle.lsp_survey.specs.declared.survey.Stream.{Stream}
 use Rattle.lsp_survey.specs.declared.survey.Survey.{Survey}
 use Rattle.lsp_survey.specs.declared.walk.Walk.{Walk}
 use Rattle.lsp_types.specs.declared.side.Side.{Side}
@@ -17,6 +19,7 @@ use Rattle.lsp_types.specs.declared.side.Side.TheVariants.{Editor, Server}
 use Rattle.lsp_verdict.specs.Drained.{IsDrained}
 use Rattle.lsp_verdict.specs.Event.{Event, sent_in}
 use Rattle.lsp_verdict.specs.Offences.{Noted, IsNoted, events_of}
+use Rattle.lsp_verdict.specs.Outcome.{HasRest}
 use Rattle.lsp_verdict.specs.Placed.{Raw, content, broken, show, new_fault, Brings, Placed, joined}
 use Rattle.lsp_verdict.specs.Survey.{is_frame_fault}
 use Rattle.lsp_verdict.specs.declared.completeness.Completeness.{Completeness}
@@ -34,19 +37,23 @@ pub record HasDue (side : Side) (d : decoder.State) (bytes : List ℕ) (due : Li
   pub stream : IsStream d.limits bytes (given ++ left) rest breaks
   pub are : due ≡ map (content side) left ++ new_fault side None breaks
 
--- the frames of these bytes have a fault
-abbrev pub AreBroken : Bounds → List ℕ → Type 0
-AreBroken limits bytes = (contents : List (List ℕ)) × (rest : List ℕ) × (rule : ℕ) × IsStream limits bytes contents rest (Some rule)
+-- the frames of these bytes have a fault, and what the decoder holds behind the last whole one goes at least as far as that is seen
+pub record AreBroken (limits : Bounds) (d : decoder.State) (bytes : List ℕ) : Type 0 where
+  pub contents : List (List ℕ)
+  pub more : List ℕ
+  pub rule : ℕ
+  pub stream : IsStream limits bytes contents (d.rest ++ more) (Some rule)
+  pub breaks : Breaks limits d.rest rule
 
 -- all events of a side's bytes were given; behind a fault of its frames there are none
 abbrev pub IsSpent : Bounds → Bool → decoder.State → List ℕ → Type 0
 IsSpent limits false d bytes = (d.limits ≡ limits) × IsDrained d bytes
-IsSpent limits true d bytes = AreBroken limits bytes
+IsSpent limits true d bytes = AreBroken limits d bytes
 
 -- of the events of a side's bytes these are still to be given
 abbrev pub IsDue : Bounds → Side → Bool → decoder.State → List ℕ → List Raw → Type 0
 IsDue limits side false d bytes due = (d.limits ≡ limits) × HasDue side d bytes due
-IsDue limits side true d bytes due = (due ≡ []) × AreBroken limits bytes
+IsDue limits side true d bytes due = (due ≡ []) × AreBroken limits d bytes
 
 -- what more bytes bring is still to be given
 abbrev pub Pushes : Bounds → Side → Bool → decoder.State → List ℕ → List ℕ → Type 0
@@ -110,12 +117,31 @@ pub record Surveys (limits : Bounds) (s : Survey) (records : List Record) (past 
   pub server_ends : s.server.ended ≡ list_any (is_frame_fault Server) (events_of notes)
   pub awaits : Awaits limits s.turn s records due
 
+-- ---- the bytes behind the last whole frame of a side
+
+abbrev pub stream_of : Survey → Side → Stream
+stream_of s Editor = s.editor
+stream_of s Server = s.server
+
+-- behind a fault of its frames a side has ended
+abbrev pub HasEnded : Survey → Raw → Type 0
+HasEnded s (content side bytes) = Unit {0}
+HasEnded s (broken side rule) = (stream_of s side).ended ≡ true
+HasEnded s (show number uri text) = Unit {0}
+
+-- these bytes show the header part that has a fault of the side's frames, whatever records follow
+abbrev pub ShowsFront : Bounds → Side → List Record → List ℕ → Type 0
+ShowsFront limits side records bytes = (more : List Record) (rest : List ℕ) → HasRest limits (joined side (records ++ more)) rest → header_front bytes ≡ header_front rest
+
+-- ---- one more event, or one more record
+
 -- one more event of the records was heard behind these
 pub record HearsOne (limits : Bounds) (s : Survey) (records : List Record) (past : List Raw) (before : List Noted) (given : Heard) : Type 0 where
   pub raw : Raw
   pub n : Noted
   pub is_noted : IsNoted raw n
   pub is_heard : IsHeard raw (terms_of limits s.format) before n given
+  pub ends : HasEnded s raw
   pub surveys : Surveys limits s records (past ++ raw ∷ []) (before ++ n ∷ [])
 
 -- of the records taken, or all were heard

@@ -1,10 +1,12 @@
 -- What a walk over the events of a session holds, and how one more event is heard.
-use Rattle.std.specs.Prelude.{◌≡◌, ℕ, List, [], ◌∷◌, ◌++◌, Bool, true, false, ◌&&◌, ◌||◌, Option, Some, None, is_some, string_bytes}
+use Rattle.std.specs.Prelude.{◌≡◌, ℕ, List, [], ◌∷◌, ◌++◌, Bool, false, ◌&&◌, ◌||◌, Option, Some, None, is_some, string_bytes}
 use Rattle.lsp_docs.specs.Calls.{Call}
 use Rattle.lsp_docs.specs.Terms.{Terms}
 use Rattle.lsp_events.specs.Standing.{Holds, RefusesMessage}
 use Rattle.lsp_rpc.specs.Message.{Message}
 use Rattle.lsp_rpc.specs.View.{act_view, message_view}
+use Rattle.lsp_survey.specs.Marks.{AreMarks}
+use Rattle.lsp_survey.specs.SessionNoting.{AreNotes}
 use Rattle.lsp_survey.specs.Notes.{note_in, note_of, AreAfter, is_noted_lost}
 use Rattle.lsp_survey.specs.declared.offending.Found.{Found}
 use Rattle.lsp_survey.specs.declared.offending.Heard.{Heard}
@@ -34,6 +36,8 @@ pub record WalksBy (terms : Terms) (w : Walk) (notes : List Noted) : Type 0 wher
   pub counted : AreCounts w.events.counts (events_of notes)
   pub noted : (uri : List ℕ) → note_in w.notes.map.entries uri ≡ note_of terms uri (events_of notes)
   pub is_broken : w.broken ≡ is_some (first_of (broken_by terms) notes)
+  pub marked : AreMarks terms w.marks.map.entries (events_of notes)
+  pub said : AreNotes terms w.said (events_of notes)
 
 -- **a walk has heard these events**, and passed over each that offends behind the kept ones before it
 abbrev pub Walks : Walk → List Noted → Type 0
@@ -77,6 +81,8 @@ pub record PassesOver (old new : Walk) (by : Who) (rule : ℕ) (asks : Bool) (sa
   pub is_such : IsSuch found.offending
   pub counted : Counted old new by (Some rule) asks
   pub noted : (enc : Encoding) (kind : SyncKind) → AreAfter (Some rule) (says enc kind) old.notes.map.entries new.notes.map.entries
+  pub marks : new.marks ≡ old.marks
+  pub said : new.said ≡ old.said
   pub offence : (enc : Encoding) (kind : SyncKind) (notes : List Noted) → Walks old notes
       → offence_view found.offence ≡ given_offence (offence_of old.events.docs.terms notes by rule (is_noted_lost old.notes.map.entries (says enc kind)))
 

@@ -7,18 +7,26 @@
 #![tactic(auto)]
 
 mod asks;
+mod exchange;
 mod listing;
+mod mark;
+mod marks;
 mod note;
 mod offending;
 mod rules;
 mod run;
 mod said;
+mod session_notes;
 mod survey;
 mod survey_reader;
 mod tally;
 mod walk;
 
 pub use listing::Listing;
+pub use mark::Shown;
+pub use marks::Marks;
 pub use offending::{Found, Heard, Offending};
 pub use run::run_survey;
+pub use session_notes::SessionNotes;
 pub use survey_reader::{End, Next, SurveyReader};
+pub use tally::Tally;

@@ -15,7 +15,7 @@ ghost use Rattle.lsp_verdict.specs.Outcome.{HasRest, ending, is_rest};
 ghost use Rattle.lsp_verdict.specs.Placed.{Raw, joined};
 ghost use Rattle.lsp_verdict.specs.Survey.{by_itself, ends_listed};
 ghost use Rattle.lsp_verdict.specs.Verdict.{no_next};
-ghost use Rattle.lsp_survey.specs.Surveys.{HearsHere, HearsNext, IsDue, IsFitted, IsSpent, Pushes, Surveys, TakesOne, lack_by, turn_after};
+ghost use Rattle.lsp_survey.specs.Surveys.{HearsHere, HearsNext, IsDue, IsFitted, IsSpent, Pushes, Surveys, TakesOne, lack_by, stream_of, turn_after};
 ghost use Rattle.lsp_survey.specs.Walking.{Walks};
 
 use crate::offending::Heard;
@@ -196,6 +196,16 @@ impl Survey {
         };
         listed.push(Offence::next(counts, rule, Who::Editor, false))?;
         Ok(listed)
+    }
+
+    /// The bytes of a side behind the last whole frame, as far as they are held.
+    pub(crate) fn rest(&self, side: Side) -> &[u8]
+        ensures { result.now ≡ (stream_of self.now side).decoder.rest }
+    {
+        match side {
+            Side::Editor => self.editor.decoder.rest(),
+            Side::Server => self.server.decoder.rest(),
+        }
     }
 
     /// The rule by which the session is not complete, where it has to be.

@@ -6,18 +6,20 @@ ghost use Rattle.lsp_verdict.specs.Offences.{Offence as SpecOffence};
 
 use lsp_verdict::Offence;
 
-/// The first offence, how many there were, and how many of them follow from earlier ones; each at most
-/// 2^64 - 1.
+/// The first offence, how many there were, and how many of them follow from earlier ones.
 #[derive(Drop)]
-pub(crate) struct Tally {
+pub struct Tally {
+    /// The first that was found.
     pub first: Option<Offence>,
+    /// How many were found, at most 2^64 - 1.
     pub found: u64,
+    /// How many of them follow from earlier ones, at most 2^64 - 1.
     pub following: u64,
 }
 
 impl Tally {
     /// The tally of no offences.
-    pub(crate) fn new() -> Tally
+    pub fn new() -> Tally
         ensures { IsTally result [] }
     {
         Tally {
@@ -28,7 +30,7 @@ impl Tally {
     }
 
     /// One more offence.
-    pub(crate) fn add(&mut self, offence: &Offence)
+    pub fn add(&mut self, offence: &Offence)
         ensures { (found : List SpecOffence) → IsTally self.old found → IsTally self.new (found ++ offence_view offence.now ∷ []) }
     {
         self.first = self.first.or(Some(*offence));

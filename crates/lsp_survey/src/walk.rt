@@ -3,27 +3,37 @@ ghost use Rattle.std.specs.Prelude.{◌≡◌, ◌&&◌, ◌||◌, [], Bool, Lis
 ghost use Rattle.lsp_docs.specs.Calls.{shows};
 ghost use Rattle.lsp_docs.specs.Terms.{terms_of};
 ghost use Rattle.lsp_rpc.specs.View.{act_view, message_view};
+ghost use Rattle.lsp_session.specs.Handshake.{phase};
+ghost use Rattle.lsp_session.specs.Sent.{Sent};
+ghost use Rattle.lsp_session.specs.State.{Stands};
 ghost use Rattle.lsp_types.specs.declared.change.SyncKind.{SyncKind};
 ghost use Rattle.lsp_types.specs.declared.position.Encoding.{Encoding};
 ghost use Rattle.lsp_verdict.specs.Calls.{call_of};
+ghost use Rattle.lsp_verdict.specs.Counting.{AreCounts};
+ghost use Rattle.lsp_verdict.specs.Event.{Event};
 ghost use Rattle.lsp_verdict.specs.Given.{given_offence, offence_view};
 ghost use Rattle.lsp_verdict.specs.Offences.{Asks, Noted, breaks_handshake, is_handshake_lost, wants_handshake, wants_text};
 ghost use Rattle.lsp_verdict.specs.Placed as placed;
 ghost use Rattle.lsp_verdict.specs.Verdict as spec;
+ghost use Rattle.lsp_survey.specs.Marking.{number_next};
+ghost use Rattle.lsp_survey.specs.Marks.{DoneBy, ShownBy};
 ghost use Rattle.lsp_survey.specs.Notes.{AreAfter};
+ghost use Rattle.lsp_survey.specs.SessionNoting.{SaysOn};
 ghost use Rattle.lsp_survey.specs.Walking.{Counted, Hears, IsUnread, PassesOver, Walks, asks_of, offence_of};
 
 use crate::asks::{asks_again, asks_handshake};
+use crate::marks::Marks;
 use crate::note::Notes;
 use crate::offending::{Found, Heard, Offending};
 use crate::rules::{breaks_handshake, wants_handshake, wants_text};
 use crate::said::{is_on_lost, note_kept_act, note_refused, note_refused_act};
-use lsp_docs::DocFault;
+use crate::session_notes::SessionNotes;
+use lsp_docs::{DocFault, Match};
 use lsp_events::{Events, Refused};
 use lsp_frame::{Format, Limits};
 use lsp_rpc::{Memory, Side, Spoken};
 use lsp_text::Lined;
-use lsp_verdict::{Offence, Who, who_of};
+use lsp_verdict::{Counts, Offence, Who, who_of};
 use std::alloc::Global;
 
 /// What the events of a session have come to, where each that offends is passed over.
@@ -35,6 +45,10 @@ pub(crate) struct Walk {
     notes: Notes,
     /// Whether an event of the handshake was refused.
     broken: bool,
+    /// Which kept events left the documents as they are.
+    pub marks: Marks,
+    /// By which kept events requests were asked and answered.
+    pub said: SessionNotes,
 }
 
 impl Walk {
@@ -47,6 +61,8 @@ impl Walk {
             events: Events::new(alloc, limits, format),
             notes: Notes::new(alloc),
             broken: false,
+            marks: Marks::new(alloc),
+            said: SessionNotes::new(alloc),
         }
     }
 
@@ -85,10 +101,7 @@ impl Walk {
             .docs
             .snapshot(uri.as_str(), version, text.as_str())
         {
-            Ok(_) => {
-                self.events.counts.add(Who::Snapshot);
-                Ok(Heard::Kept)
-            }
+            Ok(answer) => self.keep_snapshot(uri.as_str(), version, answer),
             Err(DocFault::Rule(rule)) => self.refuse_snapshot(rule, version, uri, text),
             Err(DocFault::Memory) => Err(Memory),
         }
@@ -114,11 +127,48 @@ impl Walk {
         ensures counted { OnOk result (Counted self.old self.new (spec.who_of side) None false) }
         ensures noted { OnOk result ((enc : Encoding) (kind : SyncKind)
             → AreAfter None (call_of enc kind (act_view spoken.act)) self.old.notes.map.entries self.new.notes.map.entries) }
+        ensures marked { OnOk result ((events : List Event) → AreCounts self.old.events.counts events → (enc : Encoding) (kind : SyncKind)
+            → DoneBy (number_next events) (call_of enc kind (act_view spoken.act)) self.old.marks.map.entries self.new.marks.map.entries) }
+        ensures said { OnOk result ((events : List Event) (sents : List Sent) → AreCounts self.old.events.counts events → Stands self.old.events.session sents
+            → SaysOn (number_next events) side (message_view spoken.message) (phase sents) self.old.said self.new.said) }
     {
-        let noted = note_kept_act(&mut self.notes, &spoken.act);
+        let noted = self.note(side, &spoken);
         drop(spoken);
         noted?;
         self.events.counts.add(who_of(side));
+        Ok(Heard::Kept)
+    }
+
+    /// Notes a message that is kept.
+    fn note(&mut self, side: Side, spoken: &Spoken) -> Result<(), Memory>
+        ensures same { (self.new.events ≡ self.old.events) × (self.new.broken ≡ self.old.broken) }
+        ensures noted { OnOk result ((enc : Encoding) (kind : SyncKind)
+            → AreAfter None (call_of enc kind (act_view spoken.now.act)) self.old.notes.map.entries self.new.notes.map.entries) }
+        ensures marked { OnOk result ((events : List Event) → AreCounts self.old.events.counts events → (enc : Encoding) (kind : SyncKind)
+            → DoneBy (number_next events) (call_of enc kind (act_view spoken.now.act)) self.old.marks.map.entries self.new.marks.map.entries) }
+        ensures said { OnOk result ((events : List Event) (sents : List Sent) → AreCounts self.old.events.counts events → Stands self.old.events.session sents
+            → SaysOn (number_next events) side (message_view spoken.now.message) (phase sents) self.old.said self.new.said) }
+    {
+        let number = number_next(&self.events.counts);
+        let phase = self.events.session.phase();
+        note_kept_act(&mut self.notes, &spoken.act)?;
+        self.marks.keep_act(number, &spoken.act)?;
+        self.said.keep(number, side, &spoken.message, phase)
+    }
+
+    /// Takes over a snapshot that is kept, as it was answered.
+    fn keep_snapshot(&mut self, uri: &str, version: i32, answer: Match) -> Result<Heard, Memory>
+        ensures kept { IfOk result (λ heard. heard ≡ Heard.Kept) }
+        ensures terms { self.new.events.docs.terms ≡ self.old.events.docs.terms }
+        ensures notes { self.new.notes ≡ self.old.notes }
+        ensures said { self.new.said ≡ self.old.said }
+        ensures counted { OnOk result (Counted self.old self.new Who.Snapshot None false) }
+        ensures marked { OnOk result ((events : List Event) → AreCounts self.old.events.counts events
+            → ShownBy (number_next events) uri.now version answer self.old.marks.map.entries self.new.marks.map.entries) }
+    {
+        let number = number_next(&self.events.counts);
+        self.marks.keep_snapshot(number, uri, version, answer)?;
+        self.events.counts.add(Who::Snapshot);
         Ok(Heard::Kept)
     }
 
@@ -184,6 +234,8 @@ impl Walk {
     fn refuse(&mut self, rule: u16, by: Who, asks: bool, on_lost: bool) -> Offence
         ensures counted { Counted self.old self.new by (Some rule) asks }
         ensures notes { self.new.notes ≡ self.old.notes }
+        ensures marks { self.new.marks ≡ self.old.marks }
+        ensures said { self.new.said ≡ self.old.said }
         ensures offence { (before : List Noted) → Walks self.old before
             → offence_view result ≡ given_offence (offence_of self.old.events.docs.terms before by rule on_lost) }
     {
@@ -220,4 +272,11 @@ impl Walk {
     {
         self.broken || breaks_handshake(asks, rule)
     }
+}
+
+/// The number of the event that comes next, from 1.
+fn number_next(counts: &Counts) -> u64
+    ensures { (events : List Event) → AreCounts counts.now events → result ≡ number_next events }
+{
+    counts.all.saturating_add(1)
 }

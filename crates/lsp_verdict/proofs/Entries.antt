@@ -12,7 +12,7 @@ use Rattle.lsp_frame.proofs.Telling.{gave_nothing, gave_then}
 use Rattle.lsp_frame.specs.declared.format.Format.{Format}
 use Rattle.lsp_log.specs.Log.{Record, chunk, shown, Fits, head_of, in_range, is_i32, is_within, IsLog}
 use Rattle.lsp_log.specs.Reader as reader
-use Rattle.lsp_log.specs.Place.{place_of, found_behind}
+use Rattle.lsp_log.specs.Place.{found_behind}
 use Rattle.lsp_log.specs.Reader.{empty, shown_by, kept_by, kept_in, StandsFor, StandsAt, Begins, MayFollow, KeepsFormat, Given}
 use Rattle.lsp_log.specs.Records.{record_view}
 use Rattle.lsp_log.specs.declared.fault.LogCode.{LogCode}
@@ -29,7 +29,7 @@ use Rattle.lsp_verdict.specs.declared.entry.Entry.TheVariants as entry
 use Rattle.lsp_verdict.specs.declared.outcome.RunFault.{RunFault}
 use Rattle.lsp_verdict.specs.declared.outcome.RunFault.TheVariants as faults
 use Rattle.lsp_verdict.proofs.Below.{some_log, records_come_first}
-use Rattle.lsp_verdict.specs.Entries.{IsAt, HasRecords, HasFirst, IsKnown, BrokeOff, IsRecord, IfRecord}
+use Rattle.lsp_verdict.specs.Entries.{IsAt, HasRecords, HasFirst, IsKnown, BrokeOff, ShowsFault, IsRecord, IfRecord}
 
 -- ---- the log read
 
@@ -164,12 +164,14 @@ module _ (r s : reader.State) (start mid now : Told) (records : List Record) (a 
     failures = got.tells.1 ∙ a.failures;
   }
 
-  pub bad_found : (number : ℕ) (fault : LogCode) → Given s mid now (Err (log_faults.Bad number fault)) a.bytes records → (s.place ≡ place_of s.format records) × OfRead r.limits start now (λ log. shown_by s ≡ found_behind r.limits s.format records log)
-  bad_found number fault got = (
-    got.stands.2,
-    read_all (Err (log_faults.Bad number fault)) (λ log. shown_by s ≡ found_behind r.limits s.format records log) got
-        (λ more follows. subst (λ (b : Bounds). shown_by s ≡ found_behind b s.format records ((a.bytes ++ got.piece) ++ more)) same (got.shows more follows)),
-  )
+  pub bad_found : (number : ℕ) (fault : LogCode) → Given s mid now (Err (log_faults.Bad number fault)) a.bytes records → OfRead r.limits start now (ShowsFault s r.limits records (number, fault))
+  bad_found number fault got =
+      read_all (Err (log_faults.Bad number fault)) (ShowsFault s r.limits records (number, fault)) got
+      (λ more follows. record {
+        is_log = subst (λ (b : Bounds). IsLog b ((a.bytes ++ got.piece) ++ more) s.format records (Some (number, fault))) same (got.tells.0 more follows);
+        place_is = got.stands.2;
+        line_is = subst (λ (b : Bounds). shown_by s ≡ found_behind b s.format records ((a.bytes ++ got.piece) ++ more)) same (got.shows more follows);
+      })
 
   -- the bytes read in the call go on from those read before
   broke : (result : Result (Option code.Record) LogFault) (fault : RunFault) → (got : Given s mid now result a.bytes records) → now.failures ≡ failures_after fault start.failures → (fault ≡ faults.Write → ⊥) → BrokeOff r.limits start now r.format records fault

@@ -56,9 +56,14 @@ EntryIs r limits start now known records (Ok entry.End) = HasRecords limits star
 EntryIs r limits start now known records (Ok (entry.Bad number fault)) = HasRecords limits start now r.format records (Some (number, fault))
 EntryIs r limits start now known records (Err fault) = BrokeOff limits start now known records fault
 
--- where the log has its fault, the reader says how many bytes stand before it, and shows the line of the log read that stands there
+-- the log has its fault behind these records, and the reader of it knows how many bytes stand before that, and the line that stands there
+pub record ShowsFault (r : reader.State) (limits : Bounds) (records : List Record) (fault : ℕ × LogCode) (log : List ℕ) : Type 0 where
+  pub is_log : IsLog limits log r.format records (Some fault)
+  pub place_is : r.place ≡ place_of r.format records
+  pub line_is : shown_by r ≡ found_behind limits r.format records log
+
 abbrev pub FaultIs : reader.State → Bounds → Told → Told → List Record → Result Entry RunFault → Type 0
-FaultIs r limits start now records (Ok (entry.Bad number fault)) = (r.place ≡ place_of r.format records) × OfRead limits start now (λ log. shown_by r ≡ found_behind limits r.format records log)
+FaultIs r limits start now records (Ok (entry.Bad number fault)) = OfRead limits start now (ShowsFault r limits records (number, fault))
 FaultIs r limits start now records answer = Unit {0}
 
 abbrev pub IsRecord : Entry → Type 0

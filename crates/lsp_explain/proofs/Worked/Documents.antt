@@ -1,7 +1,6 @@
 -- What is said of calls that break a rule on documents, one of each.
-use Rattle.std.proofs.Common.{◌≡◌, ◌<◌, ℕ, Bool, true, false, List, [], ◌∷◌, ◌++◌, Option, Some, None, refl, ap, inl, inr, arith, true≢false}
+use Rattle.std.proofs.Common.{◌<◌, ℕ, Bool, false, List, [], ◌∷◌, ◌++◌, Option, Some, None, refl, ap, inl, inr, arith, true≢false}
 use Rattle.std.specs.Prelude.{◌==◌, codes, pos}
-use Rattle.lsp_types.specs.declared.position.Encoding.{Encoding}
 use Rattle.lsp_types.specs.declared.position.Encoding.TheVariants.{Utf8, Utf16}
 use Rattle.lsp_types.specs.declared.position.Position.{Position}
 use Rattle.lsp_types.specs.declared.position.Span.{Span}
@@ -10,7 +9,7 @@ use Rattle.lsp_text.specs.Edits.{Edit}
 use Rattle.lsp_docs.specs.Texts.{Text}
 use Rattle.lsp_docs.specs.Terms.{Terms}
 use Rattle.lsp_docs.specs.Calls.{Call, opens, changes, closes, saves, shows}
-use Rattle.lsp_explain.specs.Fact.{Fact, of_uri, holds, sends, has_changes, has_kind, fails, line_has, falls_inside, would_have, may_have, differs_at, held_line, recorded_line, saved_line, keeps}
+use Rattle.lsp_explain.specs.Fact.{of_uri, holds, sends, has_changes, has_kind, fails, line_has, falls_inside, would_have, may_have, differs_at, held_line, recorded_line, saved_line, keeps}
 use Rattle.lsp_explain.specs.DocumentFacts.{AreDocumentFacts}
 
 abbrev A : List ℕ

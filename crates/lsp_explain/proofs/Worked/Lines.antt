@@ -1,13 +1,13 @@
 -- The lines of facts.
-use Rattle.std.proofs.Common.{◌≡◌, ℕ, ◌∷◌, [], List, ◌++◌, refl}
-use Rattle.std.specs.Prelude.{ℤ, pos, negsuc, codes, Option, Some, None}
+use Rattle.std.proofs.Common.{◌≡◌, ℕ, ◌∷◌, [], ◌++◌, refl}
+use Rattle.std.specs.Prelude.{pos, negsuc, codes, Some, None}
 use Rattle.std.specs.Fmt.{digits}
 use lib.Utf8.{encode}
 use Rattle.json.specs.Print.{escape_byte}
 use Rattle.lsp_types.specs.declared.change.SyncKind.TheVariants.{Nothing, Full, Incremental}
 use Rattle.lsp_types.specs.declared.position.Position.{Position}
 use Rattle.lsp_types.specs.declared.position.Span.{Span}
-use Rattle.lsp_types.specs.declared.side.Side.TheVariants.{Editor, Server}
+use Rattle.lsp_types.specs.declared.side.Side.TheVariants.{Server}
 use Rattle.lsp_verdict.specs.Event.{fault, snapshot}
 use Rattle.lsp_explain.specs.Fact.{of_uri, holds, sends, has_changes, has_kind, fails, line_has, falls_inside, would_have, may_have, differs_at, held_line, recorded_line, saved_line, keeps, offers, in_record}
 use Rattle.lsp_explain.specs.Lines.{fact_lines, event_line}

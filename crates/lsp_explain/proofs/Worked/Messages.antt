@@ -16,7 +16,7 @@ use Rattle.lsp_verdict.specs.Event.{Event, message, sent_in}
 use Rattle.lsp_verdict.proofs.Worked.Templates.{I1, IE, A, A1, START, REQ, SH, EX, RES, ERR, LOG, REG, CANCEL}
 use Rattle.lsp_explain.specs.Fact.{begins}
 use Rattle.lsp_explain.specs.Lines.{fact_lines}
-use Rattle.lsp_explain.specs.MessageFacts.{content_facts, session_facts, lack_facts}
+use Rattle.lsp_explain.specs.MessageFacts.{content_facts, session_facts}
 
 -- what is said of a message that breaks this rule behind these events
 abbrev said : ℕ → List Event → Event → List ℕ
@@ -88,16 +88,6 @@ outside_the_profile = refl
 registers_opening : said 504 START (REG (codes "textDocument/didOpen")) ≡ codes "registers \"textDocument/didOpen\"\n"
 unfolding value punctuate lex content word after_number number_of scan_numeral chars digits escape_byte
 registers_opening = refl
-
--- ---- what a session lacks
-
-nothing_answered : fact_lines (lack_facts (sent_in (START ++ REQ ∷ SH ∷ []))) ≡ codes "request 7 \"textDocument/hover\"\nrequest 2 \"shutdown\"\nphase stopping\n"
-unfolding value punctuate lex content word after_number number_of scan_numeral chars digits escape_byte
-nothing_answered = refl
-
-no_exit : fact_lines (lack_facts (sent_in START)) ≡ codes "phase ready\n"
-unfolding value punctuate lex content word after_number number_of scan_numeral chars digits escape_byte
-no_exit = refl
 
 -- ---- contents that are no message
 

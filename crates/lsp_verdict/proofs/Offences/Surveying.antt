@@ -49,7 +49,7 @@ no_stays Ignored events before e rule = refl
 no_stays Required events before e rule = refl
 
 -- where no event offends, none is a fault of the frames
-no_frame_fault : (terms : Terms) (side : Side) (before events : List Event) → first_from (no_at terms) before events ≡ None → list_any (is_frame_fault side) events ≡ false
+pub no_frame_fault : (terms : Terms) (side : Side) (before events : List Event) → first_from (no_at terms) before events ≡ None → list_any (is_frame_fault side) events ≡ false
 no_frame_fault terms side before [] none = refl
 no_frame_fault terms side before (message m ∷ events) none = no_frame_fault terms side (before ++ message m ∷ []) events (or_none_parts (no_at terms before (message m)) _ none).1
 no_frame_fault terms side before (snapshot uri n t ∷ events) none = no_frame_fault terms side (before ++ snapshot uri n t ∷ []) events (or_none_parts (no_at terms before (snapshot uri n t)) _ none).1

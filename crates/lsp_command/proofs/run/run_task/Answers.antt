@@ -46,6 +46,15 @@ returns-in-Explain-clause-answers g c = rw c.in-Explain.is (record {
   write_fault = c.run_explain.ensures.write_fault;
 })
 
+pub returns-in-ExplainAll-clause-answers : goal.returns-in-ExplainAll-clause-answers
+returns-in-ExplainAll-clause-answers g c = rw c.in-ExplainAll.is (record {
+  judged = c.run_explain_all.ensures.judged;
+  verdict = c.run_explain_all.ensures.verdict;
+  written = c.run_explain_all.ensures.written;
+  ended = c.run_explain_all.ensures.ended;
+  fault = c.run_explain_all.ensures.fault;
+})
+
 pub returns-in-Show-clause-answers : goal.returns-in-Show-clause-answers
 returns-in-Show-clause-answers g c = rw c.in-Show.is (record {
   judged = c.run_show.ensures.judged;

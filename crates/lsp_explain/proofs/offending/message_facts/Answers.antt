@@ -1,14 +1,13 @@
-use Rattle.std.proofs.Common.{ap, ◌∙◌, sym}
+use Rattle.std.proofs.Common.{ap, ◌∙◌}
 use Rattle.std.specs.Prelude.{unwrap_or}
 use Rattle.std.proofs.lemmas.Result.{IfOk-weaker}
 use Rattle.lsp_types.specs.declared.change.SyncKind.TheVariants.{Nothing}
 use Rattle.lsp_types.specs.declared.position.Encoding.TheVariants.{Utf16}
-use Rattle.lsp_rpc.specs.View.{act_view, message_view}
+use Rattle.lsp_rpc.specs.View.{act_view}
 use Rattle.lsp_verdict.specs.Calls.{calls}
 use Rattle.lsp_verdict.specs.Event.{sent_in}
 use Rattle.lsp_explain.specs.Fact.{facts_view}
-use Rattle.lsp_explain.proofs.Refused.{on_document, on_message}
-use Rattle.lsp_explain.proofs.Spoken.{same_facts}
+use Rattle.lsp_explain.proofs.Refused.{on_document}
 use Rattle.lsp_explain.proofs.offending.message_facts.Goals as goal
 
 pub returns : goal.returns

@@ -1,16 +1,20 @@
-use Rattle.std.proofs.Common.{ap, ◌∙◌, ◌++◌, string_bytes}
+use Rattle.std.proofs.Common.{ap, subst, ◌∙◌, ◌++◌, string_bytes}
 use Rattle.lsp_verdict.specs.Report.{report}
 use Rattle.lsp_explain.specs.Lines.{event_line, fact_lines}
-use Rattle.lsp_explain.proofs.Telling.{tells}
+use Rattle.lsp_survey.specs.Surveys.{ShowsFront, stream_of}
+use Rattle.lsp_explain.proofs.Telling.{SeenOf, tells}
 use Rattle.lsp_explain.proofs.run.explain_found.Goals as goal
 
 pub returns : goal.returns
 returns c =
     let found = c.args.found.now in
     let said = string_bytes c.push_said.new.lines in
-    let says = rw (c.session.ensures, c.docs.ensures) at c.in_ok-push_said.ensures in
     let text =
     c.in_ok-extend_from_slice.ensures.items ∙ ap (λ w. c.in_ok-text.text.items ++ w) c.as_bytes.ensures.value
     ∙ ap (λ w. w ++ said) (c.in_ok-text.ensures ∙ ap report c.verdict-verdict.ensures) in
-    tells c.args.events.now found _ said text c.verdict-verdict.ensures
-    (λ raw event kept holds reads is offends. let r = says raw event kept holds reads is offends in (r.0, r.1, r.2 ∙ ap (λ w. w ++ (event_line found.offence.event event ++ fact_lines r.0)) c.new-said.ensures.bytes))
+    let seen : SeenOf c.args.events.now found c.rest-rest.result.now = λ limits start now past notes prior so ended.
+    subst (λ s. ShowsFront limits s so.records c.rest-rest.result.now) c.side_of.ensures
+    (c.rest-rest.ensures.broken limits start now past notes prior so (ap (λ s. (stream_of c.args.events.now.survey s).ended) c.side_of.ensures ∙ ended)) in
+    tells c.args.events.now found _ c.rest-rest.result.now said text c.verdict-verdict.ensures
+    (λ raw event before stands number reads is offends. let r = c.in_ok-push_said.ensures raw event before stands number reads is offends in (r.0, λ rests shows. r.1 rests shows, r.2 ∙ ap (λ w. w ++ (event_line found.offence.event event ++ fact_lines r.0)) c.new-said.ensures.bytes))
+    seen

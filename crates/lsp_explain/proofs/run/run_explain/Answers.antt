@@ -1,4 +1,4 @@
-use Rattle.std.proofs.Common.{List, ℕ, ◌≡◌, ◌++◌, sym, ap, ◌∙◌, subst}
+use Rattle.std.proofs.Common.{List, ℕ, ◌≡◌, ◌++◌, sym, ◌∙◌, subst}
 use Rattle.lsp_frame.specs.Told.{Took}
 use Rattle.lsp_verdict.specs.Complete.{IsVerdictBy}
 use Rattle.lsp_verdict.specs.Given.{verdict_view}
@@ -36,6 +36,9 @@ returns-in_err-put_all-clause-write_fault g c = λ is.
     let start = g.R.Source.told c.args.reader.now in
     let now = g.R.Source.told c.explain.new.reader in
     let stopped = c.in_err-put_all.ensures in
-    let whole : x.text.items ≡ stopped.front ++ stopped.back = sym c.as_slice.ensures.value ∙ stopped.whole in
-    (stopped.front, stopped.took, read_map limits start now (λ log. IsExplanation c.args.completeness limits log (verdict_view x.verdict) x.text.items) (λ log. BeginsExplanation c.args.completeness limits log stopped.front)
-    (λ log e. (verdict_view x.verdict, stopped.back, subst (λ (w : List ℕ). IsExplanation c.args.completeness limits log (verdict_view x.verdict) w) whole e)) c.in_ok-explanation.ensures.answer.of_read)
+    let whole : x.text.items ≡ stopped.front ++ stopped.back = sym c.as_slice.ensures.value ∙ stopped.whole in (
+      stopped.front,
+      stopped.took,
+      read_map limits start now (λ log. IsExplanation c.args.completeness limits log (verdict_view x.verdict) x.text.items) (λ log. BeginsExplanation c.args.completeness limits log stopped.front)
+          (λ log e. (verdict_view x.verdict, stopped.back, subst (λ (w : List ℕ). IsExplanation c.args.completeness limits log (verdict_view x.verdict) w) whole e)) c.in_ok-explanation.ensures.answer.of_read,
+    )

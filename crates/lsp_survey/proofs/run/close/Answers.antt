@@ -1,9 +1,6 @@
-use Rattle.std.specs.Prelude.{option_map}
-use Rattle.std.proofs.Common.{◌≡◌, [], ◌++◌, List, map, sym, ap, ◌∙◌}
+use Rattle.std.proofs.Common.{◌++◌, map}
 use Rattle.std.proofs.lemmas.Result.{err_from_is_err_and}
 use Rattle.lsp_verdict.specs.Given.{offence_view, verdict_view}
-use Rattle.lsp_verdict.specs.Offences.{events_of}
-use Rattle.lsp_verdict.specs.Verdict.{summary}
 use Rattle.lsp_survey.proofs.Reporting.{close_failed, close_refused, closed, ended_begins, first_none, more_wrote, some_failed, told_by, yes_met}
 use Rattle.lsp_survey.proofs.run.close.Goals as goal
 

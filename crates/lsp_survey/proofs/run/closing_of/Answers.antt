@@ -1,5 +1,4 @@
 use Rattle.std.specs.Prelude.{option_map}
-use Rattle.std.proofs.Common.{◌∙◌}
 use Rattle.lsp_verdict.specs.Given.{verdict_view}
 use Rattle.lsp_survey.proofs.Reporting.{closed_some}
 use Rattle.lsp_survey.proofs.run.closing_of.Goals as goal

@@ -1,4 +1,4 @@
-use Rattle.std.proofs.Common.{sym, ap, ◌∙◌}
+use Rattle.std.proofs.Common.{sym}
 use Rattle.std.proofs.lemmas.Result.{err_from_is_err_and}
 use Rattle.lsp_survey.proofs.Reporting.{fresh_at, listed_by, part_by}
 use Rattle.lsp_survey.proofs.run.report_all.Goals as goal

@@ -1,5 +1,5 @@
 use Rattle.std.specs.Prelude.{string_bytes, chars, map}
-use Rattle.std.proofs.Common.{None, sym, refl, ap, ◌∙◌}
+use Rattle.std.proofs.Common.{None, sym, refl, ◌∙◌}
 use Rattle.std.proofs.lemmas.Result.{on_ok_weaker}
 use Rattle.lsp_docs.specs.Calls.{opens, changes}
 use Rattle.lsp_rpc.specs.View.{changes_view}

@@ -1,5 +1,5 @@
 use Rattle.std.specs.Prelude.{string_bytes, option_map, chars, map}
-use Rattle.std.proofs.Common.{sym, refl, ap, ◌∙◌, not}
+use Rattle.std.proofs.Common.{sym, refl}
 use Rattle.std.proofs.lemmas.Result.{on_ok_weaker}
 use Rattle.lsp_docs.specs.Calls.{opens, changes, closes, saves}
 use Rattle.lsp_rpc.specs.View.{changes_view}

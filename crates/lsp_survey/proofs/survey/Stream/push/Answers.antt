@@ -1,6 +1,5 @@
-use Rattle.std.proofs.Common.{Bool, true, false, ap, subst, ◌∙◌}
+use Rattle.std.proofs.Common.{ap, ◌∙◌}
 use Rattle.lsp_frame.specs.Decoder.{State}
-use Rattle.lsp_survey.specs.Surveys.{IsSpent, Pushes}
 use Rattle.lsp_verdict.proofs.Streams.Drained.{pushed_limits}
 use Rattle.lsp_survey.proofs.Streaming.{nothing_more, pushed_due}
 use Rattle.lsp_survey.proofs.Tails.{on_ok_both}

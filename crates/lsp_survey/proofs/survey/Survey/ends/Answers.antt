@@ -1,11 +1,8 @@
-use Rattle.std.proofs.Common.{[], ◌∷◌, ◌++◌, map, Some, None, Option, ℕ, refl, sym, ap, ◌∙◌}
-use Rattle.std.specs.Prelude.{option_map, option_to_list}
+use Rattle.std.proofs.Common.{[], ◌∷◌, ◌++◌, map, Some, None, sym, ap, ◌∙◌}
 use Rattle.std.proofs.lemmas.List.{map-append}
 use Rattle.lsp_verdict.specs.Given.{offence_view}
 use Rattle.lsp_verdict.specs.Offences.{events_of, kept_of}
 use Rattle.lsp_verdict.specs.Survey.{lacks_listed}
-use Rattle.lsp_verdict.specs.Verdict.{no_next}
-use Rattle.lsp_verdict.specs.declared.verdict.Who.TheVariants as who
 use Rattle.lsp_survey.proofs.Ending.{given_by, rests_here, ends_some, ends_none, lacks_are, no_items, some_items}
 use Rattle.lsp_survey.proofs.survey.Survey.ends.Goals as goal
 

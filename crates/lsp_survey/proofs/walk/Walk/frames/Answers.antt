@@ -15,5 +15,7 @@ returns-clause-heard c = λ before walks.
       is_such = refl;
       counted = refused.counted;
       noted = λ enc kind. subst (λ (w : Notes). AreAfter (Some c.args.rule) None old.notes.map.entries w.map.entries) (sym refused.notes) (nothing_said (Some c.args.rule) old.notes.map.entries);
+      marks = refused.marks;
+      said = refused.said;
       offence = λ enc kind notes w. refused.offence notes w;
     })

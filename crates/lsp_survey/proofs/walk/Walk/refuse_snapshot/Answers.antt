@@ -1,5 +1,5 @@
 use Rattle.std.specs.Prelude.{string_bytes, chars}
-use Rattle.std.proofs.Common.{◌≡◌, Some, false, refl, sym, ap, subst, ◌∙◌, w32}
+use Rattle.std.proofs.Common.{Some, refl, sym, ap, subst, ◌∙◌, w32}
 use Rattle.std.proofs.lemmas.Int.{to_z-of_z}
 use mir.Val.{SFits}
 use Rattle.lsp_docs.specs.Calls.{shows}
@@ -26,5 +26,7 @@ returns-clause-passes c =
       is_such = ap (λ v. Snapshot v c.args.uri c.args.text) (to_z-of_z w32 c.args.version fits);
       counted = record { session = refused.counted.session; documents = refused.counted.documents; counts = refused.counted.counts; is_broken = refused.counted.is_broken };
       noted = λ enc kind. subst (λ (w : Notes). AreAfter (Some c.args.rule) (Some call) w.map.entries c.note_refused.new.notes.map.entries) refused.notes (c.in_ok-note_refused.ensures call (sym c.as_str-2.ensures.value) refl);
+      marks = refused.marks;
+      said = refused.said;
       offence = λ enc kind notes w. refused.offence notes w ∙ ap (λ b. given_offence (offence_of old.events.docs.terms notes who.Snapshot c.args.rule b)) is_lost;
     }

@@ -1,0 +1,103 @@
+-- Which event brought what: what is added to the facts on an offence, read off all events before it.
+use Rattle.std.specs.Prelude.{◌≡◌, ℕ, List, [], ◌∷◌, ◌++◌, map, insert, slice_get, nat_lt, Bool, true, false, ◌==◌, if◌then◌else◌, Option, Some, None, option_map, option_and_then, option_to_list}
+use Rattle.lsp_docs.specs.Calls.{Call, opens, changes, closes, saves, shows, uri_of}
+use Rattle.lsp_docs.specs.Terms.{Terms}
+use Rattle.lsp_rpc.specs.Ident.{Ident}
+use Rattle.lsp_session.specs.Entry.{Entry}
+use Rattle.lsp_session.specs.Handshake.{phase}
+use Rattle.lsp_session.specs.Requests.{open_requests}
+use Rattle.lsp_session.specs.Sent.{other_side}
+use Rattle.lsp_types.specs.declared.side.Side.{Side}
+use Rattle.lsp_types.specs.declared.side.Side.TheVariants.{Editor}
+use Rattle.lsp_verdict.specs.Event.{Event, message, fault, snapshot}
+use Rattle.lsp_verdict.specs.Offences.{is_within, said_at}
+use Rattle.lsp_survey.specs.Asking.{Numbered, answered, asked, numbered, sents, since}
+use Rattle.lsp_survey.specs.Marking.{Step, agreed, brought, number_next, steps, waiting_for}
+use Rattle.lsp_survey.specs.declared.mark.Shown.{Shown}
+use Rattle.lsp_explain.specs.Fact.{Fact, holds, waits, waits_since, brought_by, shown_by, agreed_by, answered_by, asked_by, led_by, in_phase}
+use Rattle.lsp_explain.specs.MessageFacts.{id_in}
+
+-- a fact on an event, where there is one
+abbrev pub number_facts : (ℕ → Fact) → Option ℕ → List Fact
+number_facts says n = option_to_list (option_map says n)
+
+-- ---- documents
+
+abbrev pub is_holding : Option Fact → Bool
+is_holding (Some (holds number)) = true
+is_holding _ = false
+
+-- behind the version that is held, which stands second, the event that brought it
+abbrev pub with_brought : Option ℕ → List Fact → List Fact
+with_brought None facts = facts
+with_brought (Some n) facts = if is_holding (slice_get facts 1) then insert facts 2 (brought_by n) else facts
+
+abbrev pub agreed_facts : Option Shown → List Fact
+agreed_facts None = []
+agreed_facts (Some shown) = agreed_by shown.event shown.version ∷ []
+
+-- the snapshots whose text a call is compared with, by their events: those that wait for its version, or it is one itself, by this event
+abbrev pub compared_with : List Step → ℕ → Call → List ℕ
+compared_with done n (opens uri number text) = waiting_for number done
+compared_with done n (changes enc kind uri number edits) = waiting_for number done
+compared_with done n (closes uri) = []
+compared_with done n (saves uri text) = []
+compared_with done n (shows uri number text) = n ∷ []
+
+-- 702: these snapshots; and with 608 the one that was found equal last
+abbrev pub texts_traced : Option Shown → List ℕ → ℕ → List Fact
+texts_traced equal snapshots rule =
+    if rule == 702 then map shown_by snapshots ++ agreed_facts equal
+    else (if rule == 608 then agreed_facts equal else [])
+
+abbrev pub document_traced : List Step → List ℕ → ℕ → List Fact → List Fact
+document_traced done snapshots rule plain = with_brought (brought done) plain ++ texts_traced (agreed done) snapshots rule
+
+-- the facts on a call that breaks this rule behind these events
+abbrev pub call_traced : Terms → List Event → ℕ → Option Call → List Fact → List Fact
+call_traced terms before rule None plain = plain
+call_traced terms before rule (Some call) plain =
+    document_traced (steps terms (uri_of call) before) (compared_with (steps terms (uri_of call) before) (number_next before) call) rule plain
+
+-- ---- messages
+
+-- the event that answered a request of this side's with the id last
+abbrev pub answer_facts : Side → List Numbered → Option Ident → List Fact
+answer_facts side said id = number_facts answered_by (option_and_then (λ own. answered side own said) id)
+
+-- the event that asked the side's open request with the id
+abbrev pub asking_facts : Side → List Numbered → Option Ident → List Fact
+asking_facts side said id = number_facts asked_by (option_and_then (λ own. asked side own said) id)
+
+-- 301 and 302: the event that answered a request of this id before; 302 too: the one that asked it and is open; 401 to 412: the one that led to the phase
+abbrev pub session_trace : ℕ → List Numbered → Side → Option Ident → List Fact
+session_trace rule said side id =
+    if rule == 301 then answer_facts (other_side side) said id
+    else (if rule == 302 then asking_facts side said id ++ answer_facts side said id
+    else (if is_within 401 412 rule then number_facts led_by (since said) else []))
+
+-- **the facts on an event that offends by this rule behind these**, with the events that brought it
+abbrev pub traced : Terms → List Event → Event → ℕ → List Fact → List Fact
+traced terms before (fault side number) rule plain = plain
+traced terms before (message m) rule plain =
+    if nat_lt rule 601 then plain ++ session_trace rule (numbered terms before) m.side (id_in m.message)
+    else call_traced terms before rule (said_at terms before (message m)) plain
+traced terms before (snapshot uri number text) rule plain = call_traced terms before rule (said_at terms before (snapshot uri number text)) plain
+
+-- what is said of the event, with the events that brought it
+abbrev pub AreTraced : (List Fact → Type 0) → Terms → List Event → Event → ℕ → List Fact → Type 0
+AreTraced AreSaid terms before event rule facts = (plain : List Fact) × AreSaid plain × (facts ≡ traced terms before event rule plain)
+
+-- ---- sessions that lack something
+
+-- a request of the editor's that waits, and the event that asked it
+abbrev pub request_by : Entry → Option ℕ → Fact
+request_by e None = waits e.id e.method
+request_by e (Some n) = waits_since e.id e.method n
+
+abbrev pub waiting_by : List Numbered → Entry → Fact
+waiting_by said e = request_by e (asked Editor e.id said)
+
+-- **the facts on a session that ends behind these messages where it lacks something**
+abbrev pub lack_traced : List Numbered → List Fact
+lack_traced said = map (waiting_by said) (open_requests Editor (sents said)) ++ in_phase (phase (sents said)) ∷ number_facts led_by (since said)

@@ -1,0 +1,243 @@
+//! Explains all that is wrong with a log.
+ghost use Rattle.std.specs.Prelude.{◌≡◌, ◌+◌, ◌++◌, ◌∷◌, [], List, ℕ, map, codes, decimal, option_map, Ok, IfOk, OnOk, OnErr};
+ghost use Rattle.std.specs.Io.KnownBytes.{IsAtEnd};
+ghost use Rattle.std.specs.List.{flat_map};
+ghost use Rattle.lsp_frame.specs.Bounds.{Bounds, IsInRange};
+ghost use Rattle.lsp_frame.specs.Told.{Told, Took};
+ghost use Rattle.lsp_survey.specs.Asking.{numbered};
+ghost use Rattle.lsp_survey.specs.Reads.{SoFar, found_in};
+ghost use Rattle.lsp_survey.specs.Reported.{IsTally};
+ghost use Rattle.lsp_verdict.specs.Complete.{IsVerdictBy};
+ghost use Rattle.lsp_verdict.specs.Event.{Event};
+ghost use Rattle.lsp_verdict.specs.Given.{offence_view, verdict_view};
+ghost use Rattle.lsp_verdict.specs.Offences.{Offence as SpecOffence};
+ghost use Rattle.lsp_verdict.specs.Report.{line};
+ghost use Rattle.lsp_verdict.specs.RunIo.{OfRead, GaveAtMost, source_failures, sink_failures};
+ghost use Rattle.lsp_verdict.specs.Survey.{bad_lines};
+ghost use Rattle.lsp_explain.specs.AllExplained.{BeginsAllExplained, IsAllExplained, cause_lines};
+ghost use Rattle.lsp_explain.specs.AllSteps.{CausesTold, IsClosing, IsLast, TellsAll, TellsCauses, TellsHeard, ends_said};
+ghost use Rattle.lsp_explain.specs.Explained.{flaw_lines};
+ghost use Rattle.lsp_explain.specs.RunSteps.{flaw_held, rests_held};
+ghost use Rattle.lsp_explain.specs.Standing.{StandsAfter, terms_in};
+
+use crate::run::{Explanation, explain_found, explain_listed, explain_sound, flaw_text, side_by};
+use lsp_frame::{Limits, Sink, Source, put_all};
+use lsp_rpc::Memory;
+use lsp_survey::{End, Found, Heard, Next, SurveyReader, Tally};
+use lsp_verdict::{
+    Completeness, Offence, Outcome, RunFault, Summary, Verdict, found_report, report_of,
+};
+use std::alloc::Global;
+
+/// Reads a log to its end, and explains each offence in it that follows from no earlier one: the two lines
+/// of its No, the line that names its event, and the facts on it. Behind them stand the lines of a fault
+/// of the log with the number of its record, and how many offences were found. Of a log with nothing
+/// wrong it is the report of the verdict.
+///
+/// An event that offends is passed over, as if it had not been sent, and the next is judged after those
+/// that keep the rules. What is said of an offence is written when it is found.
+///
+/// # Errors
+/// `Read` where the source failed, `Write` where the sink did, and `Memory` where memory was refused;
+/// what was written before stays written.
+pub fn run_explain_all<R: Source, W: Sink>(
+    alloc: Global,
+    reader: &mut R,
+    writer: &mut W,
+    limits: Limits,
+    completeness: Completeness,
+) -> Result<Outcome, RunFault>
+    // The answer is the verdict on the log read, however that goes on where its end was not met: the one
+    // that `run_check` gives, or `run_check_complete`.
+    ensures judged { IfOk result (λ outcome. (v : Verdict) × (outcome ≡ Outcome.Judged v)) }
+    ensures verdict { (v : Verdict) → result ≡ Ok (Outcome.Judged v)
+        → OfRead limits (R.told reader.old) (R.told reader.new) (λ log. IsVerdictBy completeness limits log (verdict_view v)) }
+    // What explains all that is wrong with that log is written, and nothing else.
+    ensures written { (v : Verdict) → result ≡ Ok (Outcome.Judged v) → (out : List ℕ) × Took (W.told writer.old) (W.told writer.new) out
+        × OfRead limits (R.told reader.old) (R.told reader.new) (λ log. IsAllExplained completeness limits log (verdict_view v) out) }
+    // Yes is answered only where the end was met.
+    ensures ended { (s : Summary) → result ≡ Ok (Outcome.Judged (Verdict.Yes s)) → IsAtEnd (R.told reader.new).bytes }
+
+    // What is written before a fault begins what is due for the log.
+    ensures fault { OnErr result ((out : List ℕ) × Took (W.told writer.old) (W.told writer.new) out
+        × OfRead limits (R.told reader.old) (R.told reader.new) (λ log. BeginsAllExplained completeness limits log out)) }
+    ensures source_failures { (R.told reader.new).failures ≡ source_failures result (R.told reader.old).failures }
+    ensures sink_failures { (W.told writer.new).failures ≡ sink_failures result (W.told writer.old).failures }
+    // At most one byte past the limit is read.
+    ensures limit { GaveAtMost (limits.log + 1) (R.told reader.old) (R.told reader.new) }
+{
+    let verdict = explain_all(alloc, reader, writer, limits, completeness)?;
+    Ok(Outcome::Judged(verdict))
+}
+
+/// Reads a log to its end, explains all that is wrong with it, and gives its verdict.
+fn explain_all<R: Source, W: Sink>(
+    alloc: Global,
+    reader: &mut R,
+    writer: &mut W,
+    limits: Limits,
+    completeness: Completeness,
+) -> Result<Verdict, RunFault>
+    ensures range { IsInRange limits }
+    ensures tells { TellsAll completeness limits (R.told reader.old) (R.told reader.new) (W.told writer.old) (W.told writer.new) result }
+{
+    let mut events = SurveyReader::new(alloc, limits, completeness);
+    let mut tally = Tally::new();
+    let end = explain_events(alloc, &mut events, reader, writer, &mut tally)?;
+    close(alloc, &mut events, writer, &mut tally, end)
+}
+
+/// Explains the causes among a log's events up to its end.
+fn explain_events<R: Source, W: Sink>(
+    alloc: Global,
+    events: &mut SurveyReader,
+    reader: &mut R,
+    writer: &mut W,
+    tally: &mut Tally,
+) -> Result<End, RunFault>
+    requires tally { IsTally tally.old [] }
+    requires range { IsInRange events.old.survey.limits }
+    requires fresh { SoFar events.old.survey.limits events.old (R.told reader.old) (R.told reader.old) [] [] [] }
+    ensures { TellsCauses events.old.completeness events.old.survey.limits events.new tally.new (R.told reader.old) (R.told reader.new) (W.told writer.old) (W.told writer.new) result }
+{
+    loop {
+        match events.next(reader)? {
+            Next::Event(heard) => explain_heard(alloc, events, writer, tally, heard)?,
+            Next::End(end) => return Ok(end),
+        }
+    }
+}
+
+/// Counts an event that was heard where it offends, and explains it where it is a cause.
+fn explain_heard<W: Sink>(
+    alloc: Global,
+    events: &SurveyReader,
+    writer: &mut W,
+    tally: &mut Tally,
+    heard: Heard,
+) -> Result<(), RunFault>
+    ensures tally { (found : List SpecOffence) → IsTally tally.old found → IsTally tally.new (found ++ found_in heard) }
+    ensures tells { TellsHeard events.now heard (W.told writer.old) (W.told writer.new) result }
+{
+    match heard {
+        Heard::Kept => Ok(()),
+        Heard::Offence(found) => {
+            tally.add(&found.offence);
+            explain_cause(alloc, events, writer, &found)
+        }
+    }
+}
+
+/// Explains an offence that was found, where it follows from no earlier one.
+fn explain_cause<W: Sink>(
+    alloc: Global,
+    events: &SurveyReader,
+    writer: &mut W,
+    found: &Found,
+) -> Result<(), RunFault>
+    ensures { TellsHeard events.now (Heard.Offence found.now) (W.told writer.old) (W.told writer.new) result }
+{
+    if found.offence.follows {
+        return Ok(());
+    }
+    let explanation = explain_found(alloc, events, found)?;
+    put_all(writer, explanation.text.as_slice())?;
+    Ok(())
+}
+
+/// Explains the end of a log behind the offences of its events, and closes the explanation.
+fn close<W: Sink>(
+    alloc: Global,
+    events: &mut SurveyReader,
+    writer: &mut W,
+    tally: &mut Tally,
+    end: End,
+) -> Result<Verdict, RunFault>
+    ensures { (completeness : Completeness) (limits : Bounds) (start now old : Told) → CausesTold completeness limits events.old tally.old start now old (W.told writer.old) end
+        → TellsAll completeness limits start now old (W.told writer.new) result }
+{
+    let closing = closing_of(alloc, events, tally, end)?;
+    put_all(writer, closing.text.as_slice())?;
+    Ok(closing.verdict)
+}
+
+/// What stands behind the offences of the events, and the verdict. What is listed of the end is counted
+/// with them.
+fn closing_of(
+    alloc: Global,
+    events: &mut SurveyReader,
+    tally: &mut Tally,
+    end: End,
+) -> Result<Explanation, Memory>
+    ensures tally { OnOk result ((found : List SpecOffence) → IsTally tally.old found → IsTally tally.new (found ++ map offence_view end.listed.items)) }
+    ensures closing { IfOk result (λ x. IsClosing events.old tally.old end x) }
+{
+    let End { listed, bad } = end;
+    let mut text = ends_text(alloc, events, tally, listed.as_slice())?;
+    let last = last_of(alloc, events, tally, bad)?;
+    text.extend_from_slice(last.text.as_slice())?;
+    Ok(Explanation {
+        text,
+        verdict: last.verdict,
+    })
+}
+
+/// What explains what is listed of the end of a session, which is counted.
+fn ends_text(
+    alloc: Global,
+    events: &SurveyReader,
+    tally: &mut Tally,
+    listed: &[Offence],
+) -> Result<Vec<u8>, Memory>
+    ensures tally { OnOk result ((found : List SpecOffence) → IsTally tally.old found → IsTally tally.new (found ++ map offence_view listed.now)) }
+    ensures text { IfOk result (λ text. (before : List Event) → StandsAfter events.now before
+        → text.items ≡ flat_map cause_lines (ends_said (rests_held events.now) (numbered (terms_in events.now) before) listed.now)) }
+{
+    let mut text = Vec::new(alloc);
+    for offence in listed {
+        tally.add(offence);
+        let rest = events.rest(side_by(offence.who));
+        let explanation = explain_listed(alloc, events, rest, offence)?;
+        text.extend_from_slice(explanation.text.as_slice())?;
+    }
+    Ok(text)
+}
+
+/// What stands behind all offences, and the verdict.
+fn last_of(
+    alloc: Global,
+    events: &mut SurveyReader,
+    tally: &Tally,
+    bad: Option<Verdict>,
+) -> Result<Explanation, Memory>
+    ensures { IfOk result (λ x. IsLast events.old tally.now bad x) }
+{
+    match tally.first {
+        Some(first) => Ok(Explanation {
+            text: last_lines(alloc, events, tally, &bad)?,
+            verdict: first.verdict(),
+        }),
+        None => explain_sound(alloc, events, bad),
+    }
+}
+
+/// The lines of a fault of the log, and the one that says how many offences were found.
+fn last_lines(
+    alloc: Global,
+    events: &SurveyReader,
+    tally: &Tally,
+    bad: &Option<Verdict>,
+) -> Result<Vec<u8>, Memory>
+    ensures { IfOk result (λ text. text.items ≡ bad_lines (option_map verdict_view bad.now) ++ flaw_lines (option_map verdict_view bad.now) (flaw_held events.now (option_map verdict_view bad.now))
+        ++ line (codes "offences" ∷ decimal tally.now.found ∷ codes "following" ∷ decimal tally.now.following ∷ [])) }
+{
+    let count = found_report(alloc, tally.found, tally.following)?;
+    let Some(verdict) = bad else {
+        return Ok(count);
+    };
+    let flaw = flaw_text(alloc, events, bad)?;
+    let mut text = report_of(alloc, verdict)?;
+    text.extend_from_slice(flaw.as_bytes())?;
+    text.extend_from_slice(count.as_slice())?;
+    Ok(text)
+}

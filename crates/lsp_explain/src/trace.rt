@@ -1,0 +1,341 @@
+//! Which event brought what: facts on an offence that name earlier events.
+ghost use Rattle.std.specs.Prelude.{◌≡◌, ◌≤◌, ◌++◌, ℕ, Some, chars, nat_lt, if◌then◌else◌, ◌∷◌, [], List, true, IfOk, OnOk, map, slice_get, vec_len, option_and_then};
+ghost use Rattle.lsp_docs.specs.Calls.{shows};
+ghost use Rattle.lsp_docs.specs.Terms.{Terms};
+ghost use Rattle.lsp_rpc.specs.View.{act_view, message_view};
+ghost use Rattle.lsp_session.specs.Entry.{request_view};
+ghost use Rattle.lsp_session.specs.Sent.{other_side};
+ghost use Rattle.lsp_types.specs.declared.change.SyncKind.{SyncKind as ASyncKind};
+ghost use Rattle.lsp_types.specs.declared.position.Encoding.{Encoding as AnEncoding};
+ghost use Rattle.lsp_verdict.specs.Calls.{call_of};
+ghost use Rattle.lsp_events.specs.Standing.{RefusesMessage};
+ghost use Rattle.lsp_verdict.specs.Event.{Event, message, snapshot};
+ghost use Rattle.lsp_verdict.specs.Offences.{kept_of, rule_at};
+ghost use Rattle.lsp_survey.specs.Asking.{answered, asked, numbered};
+ghost use Rattle.lsp_survey.specs.Marking.{number_next, steps};
+ghost use Rattle.lsp_survey.specs.Marks.{AreMarks};
+ghost use Rattle.lsp_survey.specs.SessionNoting.{AreNotes};
+ghost use Rattle.lsp_explain.specs.Explained.{AreCallFacts, AreMessageFacts};
+ghost use Rattle.lsp_explain.specs.Fact.{answered_by, asked_by, fact_view, facts_view, led_by, shown_by};
+ghost use Rattle.lsp_explain.specs.MessageFacts.{id_in};
+ghost use Rattle.lsp_explain.specs.Standing.{StandsAfter, terms_in};
+ghost use Rattle.lsp_explain.specs.Traced as spec;
+
+use crate::fact::Fact;
+use crate::messages::id_in;
+use crate::offending::{message_facts, shown_facts};
+use lsp_rpc::{Act, Memory, Message, Side, Spoken, copy_id};
+use lsp_session::{OpenRequest, Pending};
+use lsp_survey::{Marks, SessionNotes, Shown, SurveyReader};
+use std::alloc::Global;
+
+/// A snapshot differs from the text of its version.
+const SNAPSHOT_DIFFERS: u16 = 702;
+
+/// A saved text differs from the held one.
+const SAVED_TEXT_DIFFERS: u16 = 608;
+
+/// The least rule on documents.
+const FIRST_ON_DOCUMENTS: u16 = 601;
+
+/// What is said of a message of a side that offends by this rule, 301 to 702, with the events that
+/// brought it. The reader stands for the events before it.
+pub(crate) fn message_traced(
+    alloc: Global,
+    events: &SurveyReader,
+    side: Side,
+    spoken: &Spoken,
+    rule: u16,
+) -> Result<Vec<Fact>, Memory>
+    ensures { IfOk result (λ facts. (content : List ℕ) (before : List Event) → StandsAfter events.now before
+        → (refused : RefusesMessage side content (message_view spoken.now.message) (act_view spoken.now.act) (terms_in events.now) (kept_of (terms_in events.now) before) rule)
+        → spec.AreTraced (AreMessageFacts (terms_in events.now) (kept_of (terms_in events.now) before) refused.sent rule)
+        (terms_in events.now) before (message refused.sent) rule (facts_view facts.items)) }
+{
+    let session = events.session();
+    let mut facts = message_facts(alloc, session, events.docs(), side, spoken, rule)?;
+    let said = events.session_notes();
+    trace_spoken(&mut facts, events.marks(), said, side, spoken, rule)?;
+    Ok(facts)
+}
+
+/// What is said of a snapshot, the event of this number, that offends by this rule, with the events
+/// that brought it. The reader stands for the events before it.
+pub(crate) fn shown_traced(
+    alloc: Global,
+    events: &SurveyReader,
+    number: u64,
+    version: i32,
+    uri: &str,
+    text: &str,
+    rule: u16,
+) -> Result<Vec<Fact>, Memory>
+    ensures { IfOk result (λ facts. (before : List Event) → StandsAfter events.now before → number ≡ number_next before
+        → rule_at (terms_in events.now) before (snapshot uri.now version (chars text.now)) ≡ Some rule
+        → spec.AreTraced (AreCallFacts (terms_in events.now) (kept_of (terms_in events.now) before) rule (Some (shows uri.now version (chars text.now))))
+        (terms_in events.now) before (snapshot uri.now version (chars text.now)) rule (facts_view facts.items)) }
+{
+    let session = events.session();
+    let mut facts = shown_facts(alloc, session, events.docs(), version, uri, text, rule)?;
+    trace_snapshot(&mut facts, events.marks(), number, uri, rule)?;
+    Ok(facts)
+}
+
+/// Adds to the facts on a message of a side the events that brought it.
+fn trace_spoken(
+    facts: &mut Vec<Fact>,
+    marks: &Marks,
+    said: &SessionNotes,
+    side: Side,
+    spoken: &Spoken,
+    rule: u16,
+) -> Result<(), Memory>
+    ensures { OnOk result ((enc : AnEncoding) (kind : ASyncKind) (terms : Terms) (before : List Event)
+        → AreMarks terms marks.now.map.entries before → AreNotes terms said.now before
+        → facts_view facts.new.items ≡ (if nat_lt rule 601 then facts_view facts.old.items ++ spec.session_trace rule (numbered terms before) side (id_in (message_view spoken.now.message))
+        else spec.call_traced terms before rule (call_of enc kind (act_view spoken.now.act)) (facts_view facts.old.items))) }
+{
+    if rule < FIRST_ON_DOCUMENTS {
+        return trace_message(facts, said, side, &spoken.message, rule);
+    }
+    trace_act(facts, marks, &spoken.act, rule)
+}
+
+/// Adds to the facts on an act that breaks this rule on documents the event that brought the held
+/// version; under 702 the snapshots that wait for the version in it; under 608 and 702 the snapshot that
+/// was found equal last.
+fn trace_act(facts: &mut Vec<Fact>, marks: &Marks, act: &Act, rule: u16) -> Result<(), Memory>
+    ensures { OnOk result ((enc : AnEncoding) (kind : ASyncKind) (terms : Terms) (before : List Event) → AreMarks terms marks.now.map.entries before
+        → facts_view facts.new.items ≡ spec.call_traced terms before rule (call_of enc kind (act_view act.now)) (facts_view facts.old.items)) }
+{
+    match act {
+        Act::DidOpen { uri, version, .. } => {
+            let snapshots = marks.waiting(uri.as_str(), *version);
+            trace_document(facts, marks, uri.as_str(), snapshots, rule)
+        }
+        Act::DidChange { uri, version, .. } => {
+            let snapshots = marks.waiting(uri.as_str(), *version);
+            trace_document(facts, marks, uri.as_str(), snapshots, rule)
+        }
+        Act::DidClose { uri } => trace_document(facts, marks, uri.as_str(), &[], rule),
+        Act::DidSave { uri, .. } => trace_document(facts, marks, uri.as_str(), &[], rule),
+        _ => Ok(()),
+    }
+}
+
+/// The same of a snapshot, the event of this number, which is named itself under 702.
+fn trace_snapshot(
+    facts: &mut Vec<Fact>,
+    marks: &Marks,
+    event: u64,
+    uri: &str,
+    rule: u16,
+) -> Result<(), Memory>
+    ensures { OnOk result ((terms : Terms) (before : List Event) → AreMarks terms marks.now.map.entries before
+        → facts_view facts.new.items ≡ spec.document_traced (steps terms uri.now before) (event ∷ []) rule (facts_view facts.old.items)) }
+{
+    trace_document(facts, marks, uri, &[event], rule)
+}
+
+/// Adds to the facts on a message of a side that breaks this rule, 301 to 504, under 301 and 302 the
+/// event that answered a request of its id before, under 302 also the one that asked the request that is
+/// open, under 401 to 412 the one that led to the phase.
+fn trace_message(
+    facts: &mut Vec<Fact>,
+    said: &SessionNotes,
+    side: Side,
+    message: &Message,
+    rule: u16,
+) -> Result<(), Memory>
+    ensures { OnOk result ((terms : Terms) (before : List Event) → AreNotes terms said.now before
+        → facts_view facts.new.items ≡ facts_view facts.old.items ++ spec.session_trace rule (numbered terms before) side (id_in (message_view message.now))) }
+{
+    match rule {
+        301 => push_answered(facts, answered(said, other_side(side), message)),
+        302 => {
+            push_asked(facts, asked(said, side, message))?;
+            push_answered(facts, answered(said, side, message))
+        }
+        401..=412 => push_since(facts, said.since()),
+        _ => Ok(()),
+    }
+}
+
+/// The event that answered a request of this side with the id of a message last.
+fn answered(said: &SessionNotes, side: Side, message: &Message) -> Option<u64>
+    ensures { (terms : Terms) (before : List Event) → AreNotes terms said.now before
+        → result ≡ option_and_then (λ id. answered side id (numbered terms before)) (id_in (message_view message.now)) }
+{
+    match id_in(message) {
+        Some(id) => said.answered(side, id),
+        None => None,
+    }
+}
+
+/// The event that asked the open request of this side with the id of a message.
+fn asked(said: &SessionNotes, side: Side, message: &Message) -> Option<u64>
+    ensures { (terms : Terms) (before : List Event) → AreNotes terms said.now before
+        → result ≡ option_and_then (λ id. asked side id (numbered terms before)) (id_in (message_view message.now)) }
+{
+    match id_in(message) {
+        Some(id) => said.asked(side, id),
+        None => None,
+    }
+}
+
+fn other_side(side: Side) -> Side
+    ensures { result ≡ other_side side }
+{
+    match side {
+        Side::Editor => Side::Server,
+        Side::Server => Side::Editor,
+    }
+}
+
+/// Adds to the facts on a call that speaks of this document.
+fn trace_document(
+    facts: &mut Vec<Fact>,
+    marks: &Marks,
+    uri: &str,
+    snapshots: &[u64],
+    rule: u16,
+) -> Result<(), Memory>
+    ensures { OnOk result ((terms : Terms) (before : List Event) → AreMarks terms marks.now.map.entries before
+        → facts_view facts.new.items ≡ spec.document_traced (steps terms uri.now before) snapshots.now rule (facts_view facts.old.items)) }
+{
+    put_brought(facts, marks.brought(uri))?;
+    push_texts(facts, marks.agreed(uri), snapshots, rule)
+}
+
+/// Puts the event that brought the held version behind that version.
+fn put_brought(facts: &mut Vec<Fact>, brought: Option<u64>) -> Result<(), Memory>
+    ensures { OnOk result (facts_view facts.new.items ≡ spec.with_brought brought (facts_view facts.old.items)) }
+{
+    let Some(event) = brought else {
+        return Ok(());
+    };
+    if names_held(facts) {
+        facts.insert(2, Fact::Brought(event))?;
+    }
+    Ok(())
+}
+
+/// Whether the second fact is the version that is held.
+fn names_held(facts: &Vec<Fact>) -> bool
+    ensures holding { result ≡ spec.is_holding (slice_get (facts_view facts.now.items) 1) }
+    ensures long { result ≡ true → 2 ≤ vec_len facts.now }
+{
+    match facts.as_slice().get(1) {
+        Some(fact) => matches!(fact, Fact::Held(_)),
+        None => false,
+    }
+}
+
+/// Adds the snapshots that differ, and the one that was found equal last.
+fn push_texts(
+    facts: &mut Vec<Fact>,
+    agreed: Option<Shown>,
+    snapshots: &[u64],
+    rule: u16,
+) -> Result<(), Memory>
+    ensures { OnOk result (facts_view facts.new.items ≡ facts_view facts.old.items ++ spec.texts_traced agreed snapshots.now rule) }
+{
+    if rule == SNAPSHOT_DIFFERS {
+        push_snapshots(facts, snapshots)?;
+        return push_agreed(facts, agreed);
+    }
+    if rule == SAVED_TEXT_DIFFERS {
+        return push_agreed(facts, agreed);
+    }
+    Ok(())
+}
+
+fn push_snapshots(facts: &mut Vec<Fact>, snapshots: &[u64]) -> Result<(), Memory>
+    ensures { OnOk result (facts_view facts.new.items ≡ facts_view facts.old.items ++ map shown_by snapshots.now) }
+{
+    for event in snapshots {
+        facts.push(Fact::Snapshot(*event))?;
+    }
+    Ok(())
+}
+
+fn push_agreed(facts: &mut Vec<Fact>, agreed: Option<Shown>) -> Result<(), Memory>
+    ensures { OnOk result (facts_view facts.new.items ≡ facts_view facts.old.items ++ spec.agreed_facts agreed) }
+{
+    let Some(Shown { event, version }) = agreed else {
+        return Ok(());
+    };
+    Ok(facts.push(Fact::Agreed { event, version })?)
+}
+
+fn push_answered(facts: &mut Vec<Fact>, event: Option<u64>) -> Result<(), Memory>
+    ensures { OnOk result (facts_view facts.new.items ≡ facts_view facts.old.items ++ spec.number_facts answered_by event) }
+{
+    let Some(event) = event else {
+        return Ok(());
+    };
+    Ok(facts.push(Fact::Answered(event))?)
+}
+
+fn push_asked(facts: &mut Vec<Fact>, event: Option<u64>) -> Result<(), Memory>
+    ensures { OnOk result (facts_view facts.new.items ≡ facts_view facts.old.items ++ spec.number_facts asked_by event) }
+{
+    let Some(event) = event else {
+        return Ok(());
+    };
+    Ok(facts.push(Fact::Asked(event))?)
+}
+
+fn push_since(facts: &mut Vec<Fact>, event: Option<u64>) -> Result<(), Memory>
+    ensures { OnOk result (facts_view facts.new.items ≡ facts_view facts.old.items ++ spec.number_facts led_by event) }
+{
+    let Some(event) = event else {
+        return Ok(());
+    };
+    Ok(facts.push(Fact::Since(event))?)
+}
+
+/// What is said of a session that ends where it lacks something: the requests of the editor's that wait,
+/// in order of asking, with the events that asked them; how far the session has come, and the event that
+/// led there. The reader stands for all its events.
+///
+/// # Errors
+/// `Memory` where memory was refused.
+pub(crate) fn lack_traced(alloc: Global, events: &SurveyReader) -> Result<Vec<Fact>, Memory>
+    ensures { IfOk result (λ facts. (before : List Event) → StandsAfter events.now before
+        → facts_view facts.items ≡ spec.lack_traced (numbered (terms_in events.now) before)) }
+{
+    let session = events.session();
+    let said = events.session_notes();
+    let mut facts = requests(alloc, session.pending(Side::Editor), said)?;
+    facts.push(Fact::Phase(session.phase()))?;
+    push_since(&mut facts, said.since())?;
+    Ok(facts)
+}
+
+/// The requests that wait, with the events that asked them.
+fn requests(alloc: Global, pending: &Pending, said: &SessionNotes) -> Result<Vec<Fact>, Memory>
+    ensures { IfOk result (λ facts. (terms : Terms) (before : List Event) → AreNotes terms said.now before
+        → facts_view facts.items ≡ map (spec.waiting_by (numbered terms before)) pending.now) }
+{
+    let mut facts = Vec::new(alloc);
+    for index in 0..pending.len() {
+        let Some(request) = pending.at(index) else {
+            return Ok(facts);
+        };
+        facts.push(request_by(alloc, request, said)?)?;
+    }
+    Ok(facts)
+}
+
+fn request_by(alloc: Global, request: &OpenRequest, said: &SessionNotes) -> Result<Fact, Memory>
+    ensures { IfOk result (λ fact. (terms : Terms) (before : List Event) → AreNotes terms said.now before
+        → fact_view fact ≡ spec.waiting_by (numbered terms before) (request_view request.now)) }
+{
+    let id = copy_id(&request.id)?;
+    let method = String::from_str(alloc, request.method.as_str())?;
+    match said.asked(Side::Editor, &request.id) {
+        Some(event) => Ok(Fact::RequestBy { id, method, event }),
+        None => Ok(Fact::Request { id, method }),
+    }
+}
