@@ -4,4 +4,3 @@ pub mod Ports
 pub mod Remarks
 pub mod Status
 pub mod Tasks
-pub mod Words

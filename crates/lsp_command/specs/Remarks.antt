@@ -10,8 +10,8 @@ use Rattle.lsp_verdict.specs.declared.outcome.RunFault.{RunFault}
 use Rattle.lsp_verdict.specs.declared.outcome.RunFault.TheVariants.{Read, Write, Memory}
 use Rattle.lsp_verdict.specs.declared.verdict.Verdict.{Verdict}
 use Rattle.lsp_verdict.specs.declared.verdict.Verdict.TheVariants.{Yes}
-use Rattle.lsp_command.specs.declared.task.Task.{Task}
-use Rattle.lsp_command.specs.declared.task.Task.TheVariants.{Text, Event, Normal, Upgrade, Frames}
+use Rattle.lsp_words.specs.declared.task.Task.{Task}
+use Rattle.lsp_words.specs.declared.task.Task.TheVariants.{Text, Event, Normal, Upgrade, Frames}
 
 -- the fixed words for how a run ended
 abbrev pub remark_of : Result Outcome RunFault → Option (List ℕ)

@@ -1,8 +1,9 @@
-//! From the words of the command line to a run, and from how the run ended to a status and to what is
-//! said of it on standard error.
+//! From what the words of the command line ask for to a run, and from how the run ended to a status
+//! and to what is said of it on standard error.
 //!
-//! `request_of` reads the words, `run_task` does what they ask for over any source and sink, and
-//! `run_through` does it over a file or standard input and into standard output. `status_of` is the
+//! `request_of` of `lsp_words`, given on here, reads the words, `run_task` does what they ask for over
+//! any source and sink, and `run_through` does it over a file or standard input and into standard
+//! output. `status_of` is the
 //! table of statuses, `remark_of`, `report_apart` and `hint_of` are what a user reads on standard
 //! error.
 #![tactic(auto)]
@@ -15,15 +16,12 @@ mod remark;
 mod run;
 mod status;
 mod tally;
-mod task;
-mod words;
 
 pub use beginning::Beginning;
 pub use hint::{Hint, hint_of};
 pub use inlet::Inlet;
+pub use lsp_words::{Request, Task, request_of};
 pub use outlet::Outlet;
 pub use remark::{remark_of, report_apart};
 pub use run::{run_task, run_through};
 pub use status::{status_of, status_of_words};
-pub use task::{Request, Task};
-pub use words::request_of;

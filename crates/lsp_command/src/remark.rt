@@ -3,8 +3,8 @@ ghost use Rattle.std.specs.Prelude.{◌≡◌, IfOk, IfErr, option_map};
 ghost use Rattle.lsp_verdict.specs.declared.outcome.RunFault.TheVariants as faults;
 ghost use Rattle.lsp_command.specs.Remarks.{remark_of, report_apart};
 
-use crate::task::Task;
 use lsp_judge::{Mode, Outcome, RunFault, Verdict, report_of, stream_report};
+use lsp_words::Task;
 use std::alloc::Global;
 
 /// The fixed words for how a run ended, without their line end, where there are any.

@@ -7,7 +7,6 @@ ghost use Rattle.lsp_command.specs.Tasks.{Answers, RanThrough};
 
 use crate::inlet::Inlet;
 use crate::outlet::Outlet;
-use crate::task::Task;
 use lsp_explain::{run_explain, run_explain_all};
 use lsp_frame::{Limits, Sink, Source};
 use lsp_judge::{
@@ -15,6 +14,7 @@ use lsp_judge::{
     run_normal, run_show, run_text, run_upgrade,
 };
 use lsp_survey::run_survey;
+use lsp_words::Task;
 use std::alloc::Global;
 use std::io::{Read, Write};
 

@@ -13,9 +13,9 @@ use Rattle.lsp_verdict.specs.declared.outcome.Mode.{Mode}
 use Rattle.lsp_verdict.specs.declared.outcome.Mode.TheVariants.{Lengths, Canonical, Kinds}
 use Rattle.lsp_survey.specs.declared.listing.Listing.{Listing}
 use Rattle.lsp_survey.specs.declared.listing.Listing.TheVariants.{Causes, Every}
-use Rattle.lsp_command.specs.declared.task.Request.{Request}
-use Rattle.lsp_command.specs.declared.task.Task.{Task}
-use Rattle.lsp_command.specs.declared.task.Task.TheVariants as tasks
+use Rattle.lsp_words.specs.declared.task.Request.{Request}
+use Rattle.lsp_words.specs.declared.task.Task.{Task}
+use Rattle.lsp_words.specs.declared.task.Task.TheVariants as tasks
 
 -- the file of a name: `-` is standard input, as is no name
 abbrev pub file_of : Option (List ℕ) → Option (List ℕ)

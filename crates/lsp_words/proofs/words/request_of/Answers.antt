@@ -1,7 +1,7 @@
 use Rattle.std.proofs.Common.{◌≡◌, ◌∙◌, Some, sym, ap, subst}
 use Rattle.clap.specs.Matches.{found_of}
-use Rattle.lsp_command.specs.Words.{AsksCheck, AsksExplain, AsksShow, file_of}
-use Rattle.lsp_command.proofs.words.request_of.Goals as goal
+use Rattle.lsp_words.specs.Words.{AsksCheck, AsksExplain, AsksShow, file_of}
+use Rattle.lsp_words.proofs.words.request_of.Goals as goal
 
 pub returns : goal.returns
 returns c =
