@@ -21,9 +21,9 @@ use crate::heard::{Heard, Place};
 use crate::judge::Judge;
 use crate::text_answer::TextAnswer;
 use lsp_frame::{Limits, Source};
+use lsp_lined::Lined;
 use lsp_log::{LogReader, Record};
 use lsp_rpc::Memory;
-use lsp_text::Lined;
 use lsp_verdict::{Completeness, Entry, RunFault, Verdict, next_entry};
 use std::alloc::Global;
 

@@ -1,8 +1,8 @@
 //! A judge that is asked for its verdict more than once.
 use lsp_judge::{Judge, Limits, LogCode, Verdict, report_of};
+use lsp_lined::Lined;
 use lsp_log::Record;
 use lsp_rpc::Side;
-use lsp_text::Lined;
 use std::alloc::Global;
 use std::process::Abort;
 

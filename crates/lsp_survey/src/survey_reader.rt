@@ -20,10 +20,10 @@ use crate::survey::Survey;
 use lsp_docs::Docs;
 use lsp_events::summary_of;
 use lsp_frame::{Format, Limits, Source};
+use lsp_lined::Lined;
 use lsp_log::LogReader;
 use lsp_rpc::{Memory, Side};
 use lsp_session::Session;
-use lsp_text::Lined;
 use lsp_verdict::{Completeness, Entry, Offence, RunFault, Verdict, next_entry};
 use std::alloc::Global;
 

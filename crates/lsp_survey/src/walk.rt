@@ -31,8 +31,8 @@ use crate::session_notes::SessionNotes;
 use lsp_docs::{DocFault, Match};
 use lsp_events::{Events, Refused};
 use lsp_frame::{Format, Limits};
+use lsp_lined::Lined;
 use lsp_rpc::{Memory, Side, Spoken};
-use lsp_text::Lined;
 use lsp_verdict::{Counts, Offence, Who, who_of};
 use std::alloc::Global;
 

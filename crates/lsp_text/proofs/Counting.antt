@@ -1,7 +1,6 @@
 -- A loop over the characters of a text, and places as offsets in its bytes.
 use Rattle.std.proofs.Common.{◌≡◌, ◌<◌, ◌≤◌, ◌+◌, ◌-◌, ℕ, true, cond, ltb, List, [], ◌∷◌, ◌++◌, length, get_or, take, drop, Option, Some, None, refl, sym, ap, subst, ◌∙◌, arith, length-append}
 use Rattle.std.proofs.lemmas.List.{append-nil, at_drop_more, take-append-drop, take_at, drop_at, length-take-le, take_more}
-use Rattle.std.proofs.lemmas.Bool.Decides.{nat_tests}
 use Rattle.std.proofs.lemmas.Bool.{and_parts, and_from, cond-true, cond-false, lt-ltb, le-ltb}
 use Rattle.std.specs.Option.{option_map}
 use Rattle.std.specs.Str.{chars, IsUtf8, IsCharBoundary}
@@ -9,7 +8,7 @@ use Rattle.std.specs.Char.{len_utf8}
 use Rattle.std.proofs.lemmas.Str.{encodes-chars, scalars-chars, chars-encodes, encodes-append, IsCharBoundary-at_seam, length-encode, length-le-encodes}
 use lib.Utf8.{encodes, encode, scalars, scalar}
 use Rattle.lsp_types.specs.declared.position.Encoding.{Encoding}
-use Rattle.lsp_types.specs.declared.position.Encoding.TheVariants.{Utf8, Utf16}
+use Rattle.lsp_types.specs.declared.position.Encoding.TheVariants.{Utf8}
 use Rattle.lsp_text.specs.Places.{units, units_of_char, place_in_line}
 use Rattle.lsp_text.specs.Offsets.{IsOffset}
 
@@ -17,22 +16,12 @@ pub units-append : (enc : Encoding) (xs ys : List ℕ) → units enc (xs ++ ys) 
 units-append enc [] ys = omega arith
 units-append enc (x ∷ xs) ys = omega (arith, units-append enc xs ys)
 
-units_utf16-le : (c : ℕ) → units_of_char Utf16 c ≤ len_utf8 c
-units_utf16-le c = grind (arith, nat_tests)
-
-pub units-utf16_le : (cs : List ℕ) → units Utf16 cs ≤ length (encodes cs)
-units-utf16_le [] = omega arith
-units-utf16_le (c ∷ cs) = omega (arith, units-utf16_le cs, units_utf16-le c, length-encode c, length-append (encode c) (encodes cs))
-
 pub units-utf8 : (cs : List ℕ) → units Utf8 cs ≡ length (encodes cs)
 units-utf8 [] = refl
 units-utf8 (c ∷ cs) = omega (arith, units-utf8 cs, length-encode c, length-append (encode c) (encodes cs))
 
 pub units-utf8_text : (bs : List ℕ) → IsUtf8 bs → units Utf8 (chars bs) ≡ length bs
 units-utf8_text bs u = units-utf8 (chars bs) ∙ ap length (encodes-chars bs u)
-
-pub units-utf16_text : (bs : List ℕ) → IsUtf8 bs → units Utf16 (chars bs) ≤ length bs
-units-utf16_text bs u = omega (arith, units-utf16_le (chars bs), ap length (encodes-chars bs u))
 
 pub length-chars_le : (bs : List ℕ) → IsUtf8 bs → length (chars bs) ≤ length bs
 length-chars_le bs u = omega (arith, length-le-encodes (chars bs), ap length (encodes-chars bs u))

@@ -1,17 +1,14 @@
 -- No place lies between a CR and a LF that end a line together.
-use Rattle.std.proofs.Common.{◌≡◌, ◌⊎◌, ◌<◌, ◌≤◌, ◌+◌, ℕ, zero, suc, get_or, true, false, List, [], ◌∷◌, ◌++◌, length, take, drop, refl, sym, ap, subst, ◌∙◌, inl, inr, ⊎_elim, arith, length-append, length-drop, append_assoc}
+use Rattle.std.proofs.Common.{◌≡◌, ◌⊎◌, ◌<◌, ◌≤◌, ◌+◌, ℕ, zero, true, false, List, [], ◌∷◌, ◌++◌, length, take, drop, refl, sym, ap, subst, ◌∙◌, inl, inr, ⊎_elim, arith, length-append, length-drop, append_assoc}
 use Rattle.std.proofs.lemmas.Bool.{false≢true, cases_lt}
 use Rattle.std.proofs.lemmas.List.{append-nil, take_at, drop_at, drop-append-le, same_from_push}
 use Rattle.lsp_text.specs.Lines.{Line, open_line, spelled, text_of, lines_of, is_feed, is_return, starts_with_feed, has_no_line_end, IsEndBefore, AreEnded}
-use Rattle.lsp_types.specs.declared.position.Encoding.TheVariants.{Utf8}
-use Rattle.lsp_text.specs.Steps.{line_at}
-use Rattle.lsp_text.proofs.LineEdits.{end_units}
-use Rattle.lsp_text.specs.Places.{units, NoneInsideLineEnd}
+use Rattle.lsp_text.specs.Places.{NoneInsideLineEnd}
 use Rattle.lsp_text.proofs.Cuts.{IsCut-lines_of, text_of-append, whole_parts}
 use Rattle.lsp_text.proofs.Positions.{text_of-lines_of}
 
 -- each line has no line end inside, and an end where others follow, and nowhere else
-abbrev AreWhole : List Line → Type 0
+abbrev pub AreWhole : List Line → Type 0
 AreWhole [] = Unit {0}
 AreWhole (l ∷ ls) = (has_no_line_end l.text ≡ true) × (((ls ≡ []) × (l.end ≡ [])) ⊎ IsEndBefore (text_of ls) l.end) × AreWhole ls
 
@@ -70,18 +67,8 @@ none_inside (b ∷ before) line after pre post offset whole e at within =
     none_inside before line after (drop n pre) post offset whole.2 rest (omega (arith, length-drop n pre)) within)
     (cases_lt (length pre) n)
 
-are_whole_lines : (t : List ℕ) → AreWhole (lines_of t)
+pub are_whole_lines : (t : List ℕ) → AreWhole (lines_of t)
 are_whole_lines t = let cut = IsCut-lines_of t in subst AreWhole (sym cut.lines) (are_whole cut.front cut.last cut.ended cut.whole)
-
-end_bytes : (ls : List Line) (i : ℕ) → AreWhole ls → i < length ls → units Utf8 (get_or ls i (open_line [])).end ≡ length (get_or ls i (open_line [])).end
-end_bytes [] i h lt = absurd (omega arith)
-end_bytes (l ∷ ls) zero h lt =
-    ⊎_elim (λ none. ap (units Utf8) none.1 ∙ ap length (sym none.1)) (λ ends. end_units (text_of ls) l.end ends) h.1
-end_bytes (l ∷ ls) (suc i) h lt = end_bytes ls i h.2 (omega arith)
-
--- the characters of a line's end have one byte each
-pub end_bytes_of : (t : List ℕ) (i : ℕ) → i < length (lines_of t) → units Utf8 (line_at i t).end ≡ length (line_at i t).end
-end_bytes_of t i lt = end_bytes (lines_of t) i (are_whole_lines t) lt
 
 -- **No position denotes the place between a CR and a LF.**
 pub none_inside_line_end : NoneInsideLineEnd

@@ -2,9 +2,8 @@
 use Rattle.std.specs.Prelude.{◌≡◌, ◌≢◌, ◌⊎◌, ◌<◌, ◌≤◌, ◌+◌, ◌-◌, ◌^◌, ℕ, List, ◌∷◌, ◌++◌, length, take, drop, min, slice_get}
 use Rattle.lsp_types.specs.declared.position.Encoding.{Encoding}
 use Rattle.lsp_types.specs.declared.position.Position.{Position}
-use Rattle.lsp_text.specs.Lines.{lines_of, text_of, spelled}
+use Rattle.lsp_text.specs.Lines.{lines_of, text_of, spelled, line_at}
 use Rattle.lsp_text.specs.Places.{units, Denotes}
-use Rattle.lsp_text.specs.Steps.{line_at}
 
 -- the first n characters are the same, and at n they differ, or one text ends there and the other goes on
 pub record IsFirstDifference (a b : List ℕ) (n : ℕ) : Type 0 where

@@ -1,5 +1,5 @@
 -- How a text, a list of characters, is cut into lines.
-use Rattle.std.specs.Prelude.{◌≡◌, ◌⊎◌, ◌==◌, ◌||◌, ℕ, Bool, true, false, cond, List, [], ◌∷◌, ◌++◌}
+use Rattle.std.specs.Prelude.{◌≡◌, ◌⊎◌, ◌==◌, ◌||◌, ℕ, Bool, true, false, cond, List, [], ◌∷◌, ◌++◌, slice_index_or}
 use Rattle.std.specs.List.{flat_map}
 
 -- a line's characters, and those of its line end: CR LF, LF, CR, or none
@@ -96,3 +96,7 @@ LinesOfJoined = (t s : List ℕ) → EndsWithLineEnd t → (EndsWith t (13 ∷ [
 -- the lines of a text are its one cut
 abbrev pub LinesAreTheCut : Type 0
 LinesAreTheCut = (t : List ℕ) → IsCut t (lines_of t) × ((ls : List Line) → IsCut t ls → ls ≡ lines_of t)
+
+-- line `i` of a text
+abbrev pub line_at : ℕ → List ℕ → Line
+line_at i t = slice_index_or (lines_of t) i (open_line [])

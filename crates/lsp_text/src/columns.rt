@@ -16,31 +16,8 @@ struct Skipped {
     left: u32,
 }
 
-/// The bytes of a line before a column, or `None` where the column lies inside a character. The line's
-/// units and its characters are counted already: they tell where a column past the line and one among
-/// characters of one byte each lie.
-pub(crate) fn offset_in_counted(
-    line: &str,
-    width: u64,
-    count: u64,
-    encoding: Encoding,
-    column: u32,
-) -> Option<usize>
-    requires width { width ≡ units encoding (chars line.now) }
-    requires count { count ≡ units Encoding.Utf32 (chars line.now) }
-    ensures { MatchOption result (place_in_line encoding (chars line.now) column ≡ None) (IsOffset encoding line.now column) }
-{
-    if width <= column as u64 {
-        return Some(line.len());
-    }
-    if count == line.len() as u64 {
-        return Some(column as usize);
-    }
-    offset_in_line(line, encoding, column)
-}
-
 /// The bytes of a line before a column, or `None` where the column lies inside a character.
-pub(crate) fn offset_in_line(line: &str, encoding: Encoding, column: u32) -> Option<usize>
+pub fn offset_in_line(line: &str, encoding: Encoding, column: u32) -> Option<usize>
     ensures { MatchOption result (place_in_line encoding (chars line.now) column ≡ None) (IsOffset encoding line.now column) }
 {
     match encoding {

@@ -2,8 +2,7 @@
 
 ghost use Rattle.std.specs.Prelude.{◌≡◌, ◌+◌, ◌-◌, ◌^◌, ◌≤◌, ◌↔◌, Some, length, take, drop, min, slice_get, IsTrue, IfNone, IfSome, MatchOption};
 ghost use Rattle.std.specs.Str.{chars, IsCharBoundary};
-ghost use Rattle.lsp_text.specs.Lines.{spelled};
-ghost use Rattle.lsp_text.specs.Steps.{line_at};
+ghost use Rattle.lsp_text.specs.Lines.{spelled, line_at};
 ghost use Rattle.lsp_text.specs.Difference.{IsFirstDifference, DifferFirst, line_around, position_at};
 ghost use Rattle.lsp_text.specs.Parting.{AreSameTo, IsParting, IsInsideEnd, IsSearchEnd, IsLineStart};
 

@@ -1,10 +1,11 @@
 //! Texts as lists of characters: the places that positions denote, and stores that are edited.
 //!
 //! [`TextStore`] says what a store of a text is, and [`change`] and [`change_all`] make the changes of
-//! a `textDocument/didChange` in any of them. [`Plain`] keeps a text in one `String`. [`Lined`] keeps
-//! its lines, and an edit touches no others than those of its span and the one before. [`measure`]
-//! counts characters and units of UTF-16, [`first_difference`] tells where two texts first differ, and
-//! [`line_at`], [`width_of`], [`char_inside`] and [`size_with`] read a text by its lines and columns.
+//! a `textDocument/didChange` in any of them. [`Plain`] keeps a text in one `String`; `lsp_lined` has a
+//! store that keeps its lines. [`measure`] counts characters and units of UTF-16, [`first_difference`]
+//! tells where two texts first differ, and [`line_at`], [`width_of`], [`char_inside`] and [`size_with`]
+//! read a text by its lines and columns. A store of one's own cuts lines with [`FirstLine`] and finds
+//! columns with [`offset_in_line`].
 #![tactic(auto)]
 
 mod changes;
@@ -12,25 +13,23 @@ mod columns;
 mod counts;
 mod cut;
 mod difference;
-mod edit;
 mod fault;
 mod lanes;
 mod laws;
-mod lined;
 mod plain;
 mod reading;
-mod spot;
 mod store;
 
 pub use changes::{change, change_all};
+pub use columns::offset_in_line;
 pub use counts::{Counts, measure};
+pub use cut::FirstLine;
 pub use difference::{Difference, first_difference};
-pub use fault::TextFault;
+pub use fault::{INSIDE_CHARACTER, OVER_LIMIT, REVERSED, TextFault};
 pub use laws::{
     characters_denote, line_ends_are_whole, lines_are_the_cut, lines_of_joined, one_difference,
     places_are_denoted, places_have_positions, positions_denote_one_place, positions_lie_inside,
 };
-pub use lined::Lined;
 pub use plain::Plain;
 pub use reading::{char_inside, line_at, size_with, width_of};
 pub use store::{Place, TextStore};

@@ -2,7 +2,8 @@
 //! tells too.
 
 use crate::texts::{EDITS, ENCODINGS, at, span};
-use lsp_text::{Lined, Plain, TextStore};
+use lsp_lined::Lined;
+use lsp_text::{Plain, TextStore};
 use lsp_types::{Encoding, Position, Span};
 use std::alloc::Global;
 use std::process::Abort;

@@ -1,6 +1,7 @@
 //! Tables of positions, edits and counts, over both stores.
 
-use lsp_text::{Counts, Lined, Place, Plain, TextFault, TextStore, change, change_all, measure};
+use lsp_lined::Lined;
+use lsp_text::{Counts, Place, Plain, TextFault, TextStore, change, change_all, measure};
 use lsp_types::{Change, Encoding, Position, Span};
 use std::alloc::Global;
 use std::process::Abort;

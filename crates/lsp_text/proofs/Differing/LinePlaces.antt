@@ -4,14 +4,13 @@ use Rattle.std.proofs.lemmas.List.{append-nil, drop_at, get_or-append-add, lengt
 use Rattle.std.specs.Str.{chars, IsUtf8, IsCharBoundary}
 use Rattle.std.proofs.lemmas.Str.{chars-append, IsUtf8-take, IsCharBoundary-at_seam}
 use Rattle.lsp_text.specs.declared.cut.FirstLine.{FirstLine}
-use Rattle.lsp_text.specs.Lines.{Line, open_line, text_of, spelled, lines_of, has_no_line_end}
-use Rattle.lsp_text.specs.Steps.{line_at}
+use Rattle.lsp_text.specs.Lines.{Line, open_line, text_of, spelled, lines_of, has_no_line_end, line_at}
 use Rattle.lsp_text.specs.FirstLine.{IsFirstLine}
 use Rattle.lsp_text.specs.Difference.{line_number_at, line_around, line_before_place}
 use Rattle.lsp_text.specs.Parting.{IsLineStart}
 use Rattle.lsp_text.proofs.Cuts.{lines_of-no_end}
 use Rattle.lsp_text.proofs.Positions.{lines_of-first, text_of-lines_of}
-use Rattle.lsp_text.proofs.Recut.{text_of-open}
+use Rattle.lsp_text.proofs.JoinedLines.{text_of-open}
 
 -- a text, its lines and a place of it, cut where the place's line begins
 record IsPlaced (bs : List ℕ) (offset start : ℕ) : Type 0 where

@@ -10,7 +10,7 @@ use Rattle.lsp_text.specs.Lines.{Line, lines_of, before_line, starts_with_feed, 
 use Rattle.lsp_text.specs.Parting.{IsInsideEnd, IsSearchEnd, IsLineStart}
 use Rattle.lsp_text.proofs.Cuts.{HasFirst, lines_of-HasFirst, lines_of-whole}
 use Rattle.lsp_text.proofs.LineBytes.{ends, ascii_from_end, starts_with_feed-text, has_no_line_end-text}
-use Rattle.lsp_text.proofs.Recut.{lines_are_joined}
+use Rattle.lsp_text.proofs.JoinedLines.{lines_are_joined}
 
 -- ---- how many lines a text has
 

@@ -1,4 +1,4 @@
--- Places, edits and what an edit touches, computed on small texts.
+-- Places and edits, computed on small texts.
 use Rattle.std.proofs.Common.{◌≡◌, ℕ, List, [], ◌∷◌, Option, Some, None, Ok, Err, length, map, refl}
 use Rattle.lsp_types.specs.declared.position.Encoding.{Encoding}
 use Rattle.lsp_types.specs.declared.position.Encoding.TheVariants.{Utf8, Utf16, Utf32}
@@ -7,12 +7,11 @@ use Rattle.lsp_types.specs.declared.position.Span.{Span}
 use Rattle.lsp_text.specs.Lines.{lines_of}
 use Rattle.lsp_text.specs.Places.{units, place_of}
 use Rattle.lsp_text.specs.Edits.{replaced, applied}
-use Rattle.lsp_text.specs.Steps.{touched}
 
-abbrev at : ℕ → ℕ → Position
+abbrev pub at : ℕ → ℕ → Position
 at line column = record { line = line; column = column }
 
-abbrev between : ℕ → ℕ → ℕ → ℕ → Span
+abbrev pub between : ℕ → ℕ → ℕ → ℕ → Span
 between line column to_line to_column = record { first = at line column; second = at to_line to_column }
 
 -- é U+1F600 b CR LF c CR
@@ -105,8 +104,3 @@ third_is_reversed = refl
 
 over_the_limit_in_between : applied 1 Utf16 (97 ∷ []) (record { span = None; text = 97 ∷ 98 ∷ [] } ∷ record { span = None; text = [] } ∷ []) ≡ Err 607
 over_the_limit_in_between = refl
-
--- what an edit touches, in bytes
-touched_bytes :
-    touched (97 ∷ 13 ∷ []) (between 1 0 1 0) (10 ∷ []) ∷ touched (97 ∷ 13 ∷ 98 ∷ 10 ∷ []) (between 1 0 1 1) [] ∷ touched (97 ∷ 98 ∷ []) (between 0 2 0 1) (120 ∷ []) ∷ [] ≡ 3 ∷ 4 ∷ 3 ∷ []
-touched_bytes = refl

@@ -1,7 +1,6 @@
 use Rattle.std.proofs.Common.{ap, ◌∙◌}
 use Rattle.std.specs.Str.{chars}
-use Rattle.lsp_text.specs.Lines.{spelled}
-use Rattle.lsp_text.specs.Steps.{line_at}
+use Rattle.lsp_text.specs.Lines.{spelled, line_at}
 use Rattle.lsp_text.proofs.Differing.LinePlaces.{line_there}
 use Rattle.lsp_text.proofs.difference.line_of.Goals as goal
 

@@ -1,0 +1,306 @@
+-- Edits before the end of one line.
+use Rattle.std.proofs.Common.{◌≡◌, ◌<◌, ◌≤◌, ◌+◌, ◌-◌, ℕ, true, false, List, [], ◌∷◌, ◌++◌, length, take, drop, get_or, set, zero, suc, refl, sym, ap, subst, ◌∙◌, inl, inr, arith, append_assoc, length-append, length-drop, ◌⊎◌, ⊎_elim, Option, Some, None, is_some}
+use Rattle.std.proofs.lemmas.List.{append-nil, take-append-drop, drop_more, take_at, drop_at, take-append-le, drop-append-le, length-take-le, set_at, take-take, drop-take}
+use Rattle.std.specs.List.{replace_range}
+use Rattle.std.specs.Str.{chars, IsUtf8, IsCharBoundary}
+use Rattle.std.proofs.lemmas.Str.{chars-append, chars-encodes, encodes-chars, encodes-append, IsUtf8-append, IsUtf8-take, IsUtf8-drop, IsUtf8-between, IsCharBoundary-at_seam}
+use lib.Utf8.{encodes, scalars}
+use Rattle.lsp_types.specs.declared.position.Encoding.{Encoding}
+use Rattle.lsp_types.specs.declared.position.Encoding.TheVariants.{Utf8}
+use Rattle.lsp_text.specs.Lines.{Line, open_line, spelled, text_of, is_feed, is_return, starts_with_feed, has_no_line_end, IsEndBefore, AreEnded, lines_of, line_at}
+use Rattle.lsp_text.specs.Places.{units}
+use Rattle.lsp_lined.specs.Rewriting.{rewritten, with_text, line_utf8, line_after, StaysInLine}
+use Rattle.lsp_text.proofs.Cuts.{HasFirst, IsCut-lines_of, lines_of-ended, lines_of-line, lines_of-no_end, text_of-append, whole_parts}
+use Rattle.lsp_text.proofs.Counting.{scalars-parts, units-append, units-utf8, units-utf8_text}
+use Rattle.lsp_lined.proofs.Recut.{AreLines, AreLines-lines_of, lines_apart}
+use Rattle.lsp_text.proofs.Splices.{chars-cut, units_some}
+use Rattle.memchr.specs.Find.{is_byte2, IsFirstByte}
+use Rattle.lsp_text.proofs.LineEnds.{AreWhole, are_whole_lines}
+use Rattle.lsp_text.proofs.LineBytes.{ends, has_no_line_end-text}
+
+-- a line end has one byte a character
+pub end_units : (rest e : List ℕ) → IsEndBefore rest e → units Utf8 e ≡ length e
+end_units rest e h = elim h [ inl k ↦ rw k refl | inr j ↦ elim j [ inl k ↦ rw k refl | inr p ↦ let k = p.0 in rw k refl ] ]
+
+-- a boundary of the first bytes is one of all
+pub boundary_in_all : (bs : List ℕ) (n i : ℕ) → IsUtf8 bs → IsCharBoundary bs n → IsCharBoundary (take n bs) i → IsCharBoundary bs i
+boundary_in_all bs n i u b h =
+    let front = take n bs in
+    let back = drop i front ++ drop n bs in
+    let parts : bs ≡ take i front ++ back =
+    sym (take-append-drop n bs) ∙ ap (λ (x : List ℕ). x ++ drop n bs) (sym (take-append-drop i front)) ∙ append_assoc (take i front) (drop i front) (drop n bs) in
+    subst (λ (x : ℕ). IsCharBoundary bs x) (length-take-le i front h.0)
+    (IsCharBoundary-at_seam bs (take i front) back parts (IsUtf8-append (drop i front) (drop n bs) (IsUtf8-drop front i (IsUtf8-take bs n u b) h) (IsUtf8-drop bs n u b)))
+
+-- what lies between two places of the first bytes
+pub between_is : (bs : List ℕ) (i n : ℕ) → i ≤ n → drop i (take n bs) ≡ take (n - i) (drop i bs)
+between_is bs i n le = let e : n ≡ i + (n - i) = omega arith in ap (λ (k : ℕ). drop i (take k bs)) e ∙ drop-take i (n - i) bs
+
+-- a boundary of all is one of the first bytes, up to a later boundary
+pub boundary_in_front : (bs : List ℕ) (n i : ℕ) → IsUtf8 bs → IsCharBoundary bs n → IsCharBoundary bs i → i ≤ n → IsCharBoundary (take n bs) i
+boundary_in_front bs n i u b h le =
+    let front = take n bs in
+    let back : IsUtf8 (drop i front) = subst (λ (x : List ℕ). IsUtf8 x) (sym (between_is bs i n le)) (IsUtf8-between bs i n u le h b) in
+    subst (λ (x : ℕ). IsCharBoundary front x) (length-take-le i front (omega (arith, length-take-le n bs b.0)))
+    (IsCharBoundary-at_seam front (take i front) (drop i front) (sym (take-append-drop i front)) back)
+
+-- a replacement before some last bytes
+pub replace_before : (front back s : List ℕ) (i j : ℕ) → i ≤ length front → j ≤ length front → replace_range (front ++ back) i j s ≡ replace_range front i j s ++ back
+replace_before front back s i j li lj =
+    ap (λ (x : List ℕ). (x ++ s) ++ drop j (front ++ back)) (take-append-le i front back li)
+    ∙ ap (λ (x : List ℕ). (take i front ++ s) ++ x) (drop-append-le j front back lj)
+    ∙ sym (append_assoc (take i front ++ s) (drop j front) back)
+
+-- the characters of a replacement
+pub chars_replaced : (bs s : List ℕ) (i j : ℕ) → IsUtf8 bs → IsUtf8 s → IsCharBoundary bs i →
+    chars (replace_range bs i j s) ≡ (chars (take i bs) ++ chars s) ++ chars (drop j bs)
+chars_replaced bs s i j u us b =
+    let front = IsUtf8-take bs i u b in
+    chars-append (take i bs ++ s) (drop j bs) (IsUtf8-append (take i bs) s front us) ∙ ap (λ (x : List ℕ). x ++ chars (drop j bs)) (chars-append (take i bs) s front)
+
+pub utf8_replaced : (bs s : List ℕ) (i j : ℕ) → IsUtf8 bs → IsUtf8 s → IsCharBoundary bs i → IsCharBoundary bs j → IsUtf8 (replace_range bs i j s)
+utf8_replaced bs s i j u us bi bj = IsUtf8-append (take i bs ++ s) (drop j bs) (IsUtf8-append (take i bs) s (IsUtf8-take bs i u bi) us) (IsUtf8-drop bs j u bj)
+
+-- a line's characters, in three parts
+chars_parts : (bs : List ℕ) (i j : ℕ) → IsUtf8 bs → IsCharBoundary bs i → IsCharBoundary bs j → i ≤ j →
+    chars bs ≡ (chars (take i bs) ++ chars (drop i (take j bs))) ++ chars (drop j bs)
+chars_parts bs i j u bi bj le =
+    let front = take j bs in
+    chars-cut bs j u bj
+    ∙ ap (λ (x : List ℕ). x ++ chars (drop j bs))
+    (chars-cut front i (IsUtf8-take bs j u bj) (boundary_in_front bs j i u bj bi le)
+    ∙ ap (λ (x : List ℕ). chars x ++ chars (drop i front)) (take-take i j bs le))
+
+-- the bytes of a line and its end after a replacement before the end, `between` being what goes
+pub record IsReplaced (bs s between : List ℕ) (body i j now : ℕ) : Type 0 where
+  pub front : take now (replace_range bs i j s) ≡ replace_range (take body bs) i j s
+  pub back : drop now (replace_range bs i j s) ≡ drop body bs
+  pub boundary : IsCharBoundary (replace_range bs i j s) now
+  pub utf8 : IsUtf8 (replace_range (take body bs) i j s)
+  pub units_are : (enc : Encoding) → units enc (chars (replace_range (take body bs) i j s)) + units enc (chars between) ≡ units enc (chars (take body bs)) + units enc (chars s)
+  pub fewer : (enc : Encoding) → units enc (chars between) ≤ units enc (chars (take body bs))
+
+pub is_replaced : (bs s between : List ℕ) (body i j now : ℕ) → IsUtf8 bs → IsUtf8 s → IsCharBoundary bs body → i ≤ j → IsCharBoundary (take body bs) i → IsCharBoundary (take body bs) j →
+    between ≡ drop i (take j bs) → now ≡ length (replace_range bs i j s) - (length bs - body) → IsReplaced bs s between body i j now
+is_replaced bs s between body i j now u us b le bi bj is at =
+    let line = take body bs in
+    let end = drop body bs in
+    let ul = IsUtf8-take bs body u b in
+    let ue = IsUtf8-drop bs body u b in
+    let len = length-take-le body bs b.0 in
+    let whole : replace_range bs i j s ≡ replace_range line i j s ++ end =
+    ap (λ (x : List ℕ). replace_range x i j s) (sym (take-append-drop body bs)) ∙ replace_before line end s i j bi.0 bj.0 in
+    let n : length (replace_range line i j s) ≡ now =
+    omega (arith, ap length whole, length-append (replace_range line i j s) end, length-drop body bs) in
+    let jl = bj.0 in
+    let gone : between ≡ drop i (take j line) = is ∙ ap (drop i) (sym (take-take j body bs (omega arith))) in
+    let parts : chars line ≡ (chars (take i line) ++ chars between) ++ chars (drop j line) =
+    chars_parts line i j ul bi bj le ∙ ap (λ (x : List ℕ). (chars (take i line) ++ chars x) ++ chars (drop j line)) (sym gone) in
+    let new = chars_replaced line s i j ul us bi in
+    let ur = utf8_replaced line s i j ul us bi bj in
+    record {
+      front = ap (take now) whole ∙ take_at (replace_range line i j s) end now n;
+      back = ap (drop now) whole ∙ drop_at (replace_range line i j s) end now n;
+      boundary = subst (λ (x : ℕ). IsCharBoundary (replace_range bs i j s) x) n (IsCharBoundary-at_seam (replace_range bs i j s) (replace_range line i j s) end whole ue);
+      utf8 = ur;
+      units_are =
+          λ enc. omega (
+            arith,
+            ap (units enc) new,
+            ap (units enc) parts,
+            units-append enc (chars (take i line) ++ chars s) (chars (drop j line)),
+            units-append enc (chars (take i line)) (chars s),
+            units-append enc (chars (take i line) ++ chars between) (chars (drop j line)),
+            units-append enc (chars (take i line)) (chars between),
+          );
+      fewer =
+          λ enc. omega (
+            arith,
+            ap (units enc) parts,
+            units-append enc (chars (take i line) ++ chars between) (chars (drop j line)),
+            units-append enc (chars (take i line)) (chars between),
+          );
+    }
+
+-- a text with no line end begins with no LF, if with anything
+calm : (x y : List ℕ) → has_no_line_end x ≡ true → 0 < length x → starts_with_feed (x ++ y) ≡ false
+calm [] y h some = absurd (omega arith)
+calm (c ∷ cs) y h some = (whole_parts (is_feed c) (is_return c) (has_no_line_end cs) h).0
+
+end_calm : (x a b e : List ℕ) → starts_with_feed b ≡ false → IsEndBefore (x ++ a) e → IsEndBefore (x ++ b) e
+end_calm [] a b e s h = elim h [ inl k ↦ inl k | inr j ↦ elim j [ inl k ↦ inr (inl k) | inr p ↦ inr (inr (p.0, s)) ] ]
+end_calm (c ∷ cs) a b e s h = h
+
+-- ended lines stay so before a text that begins with no LF
+AreEnded-calm : (ls : List Line) (a b : List ℕ) → starts_with_feed b ≡ false → AreEnded a ls → AreEnded b ls
+AreEnded-calm [] a b s h = tt
+AreEnded-calm (l ∷ ls) a b s h = (h.0, end_calm (text_of ls) a b l.end s h.1, AreEnded-calm ls a b s h.2)
+
+only_line : (front : List Line) (last : List ℕ) (l : Line) → l ∷ [] ≡ front ++ open_line last ∷ [] → l ≡ open_line last
+only_line [] last l e = cc
+only_line (f ∷ []) last l e = let r : [] ≡ open_line last ∷ [] = cc in absurd (cc)
+only_line (f ∷ g ∷ fs) last l e = let r : [] ≡ g ∷ (fs ++ open_line last ∷ []) = cc in absurd (cc)
+
+-- a last line, changed before its end
+last_line_with : (l new : Line) → AreLines (l ∷ []) → new.end ≡ l.end → has_no_line_end new.text ≡ true → lines_of (text_of (new ∷ [])) ≡ new ∷ []
+last_line_with l new h same whole =
+    let cut = IsCut-lines_of (text_of (l ∷ [])) in
+    let bare : l ≡ open_line cut.last = only_line cut.front cut.last l (sym h.are ∙ cut.lines) in
+    let none : new.end ≡ [] = same ∙ ap (λ (x : Line). x.end) bare in
+    let text : text_of (new ∷ []) ≡ new.text = append-nil (new.text ++ new.end) ∙ ap (λ (x : List ℕ). new.text ++ x) none ∙ append-nil new.text in
+    ap lines_of text ∙ lines_of-no_end new.text whole ∙ ap (λ (x : List ℕ). let m : Line = record { text = new.text; end = x } in m ∷ []) (sym none)
+
+from_line_with : (l new : Line) (ns : List Line) → AreLines (l ∷ ns) → new.end ≡ l.end → has_no_line_end new.text ≡ true → lines_of (text_of (new ∷ ns)) ≡ new ∷ ns
+from_line_with l new [] h same whole = last_line_with l new h same whole
+from_line_with l new (n ∷ ns) h same whole =
+    let some : HasFirst (n ∷ ns) = record { first = n; rest = ns; are = refl } in
+    let apart = lines_apart (l ∷ []) (n ∷ ns) some h in
+    let ended : IsEndBefore (text_of (n ∷ ns)) new.end = subst (λ (x : List ℕ). IsEndBefore (text_of (n ∷ ns)) x) (sym same) apart.0.1 in
+    lines_of-line new (text_of (n ∷ ns)) whole ended ∙ ap (λ (x : List Line). new ∷ x) apart.1.are
+
+-- **A line that changes before its end, and holds something there, leaves the other lines.**
+pub lines_with : (ps ns : List Line) (l new : Line) → AreLines (ps ++ l ∷ ns) → new.end ≡ l.end → has_no_line_end new.text ≡ true → 0 < length new.text → lines_of (text_of (ps ++ new ∷ ns)) ≡ ps ++ new ∷ ns
+lines_with ps ns l new h same whole some =
+    let apart = lines_apart ps (l ∷ ns) (record { first = l; rest = ns; are = refl }) h in
+    let starts : starts_with_feed (text_of (new ∷ ns)) ≡ false =
+    ap starts_with_feed (append_assoc new.text new.end (text_of ns)) ∙ calm new.text (new.end ++ text_of ns) whole some in
+    ap lines_of (text_of-append ps (new ∷ ns))
+    ∙ lines_of-ended ps (text_of (new ∷ ns)) (AreEnded-calm ps (text_of (l ∷ ns)) (text_of (new ∷ ns)) starts apart.0)
+    ∙ ap (λ (x : List Line). ps ++ x) (from_line_with l new ns apart.1 same whole)
+
+-- no line has a line end inside
+whole_of : (front : List Line) (last rest : List ℕ) (i : ℕ) → AreEnded rest front → has_no_line_end last ≡ true → has_no_line_end (get_or (front ++ open_line last ∷ []) i (open_line [])).text ≡ true
+whole_of [] last rest zero h w = w
+whole_of [] last rest (suc i) h w = refl
+whole_of (l ∷ ls) last rest zero h w = h.0
+whole_of (l ∷ ls) last rest (suc i) h w = whole_of ls last rest i h.2 w
+
+pub whole_at : (t : List ℕ) (i : ℕ) → has_no_line_end (line_at i t).text ≡ true
+whole_at t i =
+    let cut = IsCut-lines_of t in
+    ap (λ (x : List Line). has_no_line_end (get_or x i (open_line [])).text) cut.lines ∙ whole_of cut.front cut.last cut.last i cut.ended cut.whole
+
+no_end_both : (x y : List ℕ) → has_no_line_end x ≡ true → has_no_line_end y ≡ true → has_no_line_end (x ++ y) ≡ true
+no_end_both [] y h k = k
+no_end_both (c ∷ cs) y h k =
+    let p : (is_feed c ≡ false) × (is_return c ≡ false) × (has_no_line_end cs ≡ true) = whole_parts (is_feed c) (is_return c) (has_no_line_end cs) h in
+    rw (p.0, p.1) (no_end_both cs y p.2 k)
+
+no_end_first : (x y : List ℕ) → has_no_line_end (x ++ y) ≡ true → has_no_line_end x ≡ true
+no_end_first [] y h = refl
+no_end_first (c ∷ cs) y h =
+    let p : (is_feed c ≡ false) × (is_return c ≡ false) × (has_no_line_end (cs ++ y) ≡ true) = whole_parts (is_feed c) (is_return c) (has_no_line_end (cs ++ y)) h in
+    rw (p.0, p.1) (no_end_first cs y p.2)
+
+no_end_last : (x y : List ℕ) → has_no_line_end (x ++ y) ≡ true → has_no_line_end y ≡ true
+no_end_last [] y h = h
+no_end_last (c ∷ cs) y h = no_end_last cs y (whole_parts (is_feed c) (is_return c) (has_no_line_end (cs ++ y)) h).2
+
+-- what a replacement in a line makes of the text
+pub record IsLineEdit (t : List ℕ) (i j k : ℕ) (s : List ℕ) (new : Line) : Type 0 where
+  pub from_boundary : IsCharBoundary (encodes (line_at i t).text) j
+  pub to_boundary : IsCharBoundary (encodes (line_at i t).text) k
+  pub text : text_of (set (lines_of t) i new) ≡ rewritten t i i (line_after t i j k s)
+  pub lines : lines_of (text_of (set (lines_of t) i new)) ≡ set (lines_of t) i new
+
+-- a line has no more bytes than the text in which it stands
+pub line_units_le : (ls : List Line) (i : ℕ) (new : Line) → i < length ls → units Utf8 (spelled new) ≤ units Utf8 (text_of (set ls i new))
+line_units_le ls i new lt =
+    let rest = drop (i + 1) ls in
+    let here : ls ≡ take i ls ++ get_or ls i new ∷ rest = sym (take-append-drop i ls) ∙ ap (λ (x : List Line). take i ls ++ x) (drop_more ls i new lt) in
+    let put : set ls i new ≡ take i ls ++ new ∷ rest = ap (λ (x : List Line). set x i new) here ∙ set_at (take i ls) (get_or ls i new) rest new i (length-take-le i ls (let le : i ≤ length ls = omega arith in le)) in
+    omega (
+      arith,
+      ap (λ (x : List Line). units Utf8 (text_of x)) put,
+      ap (units Utf8) (text_of-append (take i ls) (new ∷ rest)),
+      units-append Utf8 (text_of (take i ls)) (text_of (new ∷ rest)),
+      units-append Utf8 (spelled new) (text_of rest),
+    )
+
+pub is_line_edit : (t : List ℕ) (i j k : ℕ) (s : List ℕ) (new : Line) → IsUtf8 s → StaysInLine t i j k s → new ≡ with_text (line_at i t) (chars (replace_range (encodes (line_at i t).text) j k s)) →
+    IsLineEdit t i j k s new
+is_line_edit t i j k s new us stays made =
+    let ls = lines_of t in
+    let l = line_at i t in
+    let bs = line_utf8 t i in
+    let body = encodes l.text in
+    let end = encodes l.end in
+    let n = length body in
+    let bytes : n ≡ units Utf8 l.text = sym (units-utf8 l.text) in
+    let fine : (scalars l.text ≡ true) × (scalars l.end ≡ true) = scalars-parts l.text l.end stays.scalar in
+    let u : IsUtf8 bs = (spelled l, (stays.scalar, refl)) in
+    let ub : IsUtf8 body = (l.text, (fine.0, refl)) in
+    let ue : IsUtf8 end = (l.end, (fine.1, refl)) in
+    let parts : bs ≡ body ++ end = encodes-append l.text l.end in
+    let front : take n bs ≡ body = ap (take n) parts ∙ take_at body end n refl in
+    let b : IsCharBoundary bs n = IsCharBoundary-at_seam bs body end parts ue in
+    let order = stays.order in
+    let before = stays.before_end in
+    let bj : IsCharBoundary body j = subst (λ (x : List ℕ). IsCharBoundary x j) front (boundary_in_front bs n j u b stays.from_boundary (omega arith)) in
+    let bk : IsCharBoundary body k = subst (λ (x : List ℕ). IsCharBoundary x k) front (boundary_in_front bs n k u b stays.to_boundary (omega arith)) in
+    let replaced = replace_range body j k s in
+    let ur : IsUtf8 replaced = utf8_replaced body s j k ub us bj bk in
+    let text : new.text ≡ chars replaced = ap (λ (x : Line). x.text) made in
+    let same : new.end ≡ l.end = ap (λ (x : Line). x.end) made in
+    let after : line_after t i j k s ≡ spelled new =
+    ap (λ (x : List ℕ). chars (replace_range x j k s)) parts ∙ ap chars (replace_before body end s j k bj.0 bk.0) ∙ chars-append replaced end ur
+    ∙ ap (λ (x : List ℕ). chars replaced ++ x) (chars-encodes l.end fine.1) ∙ sym (ap (λ (x : List ℕ). x ++ new.end) text ∙ ap (λ (x : List ℕ). chars replaced ++ x) same) in
+    let rest = drop (i + 1) ls in
+    let len = length-take-le i ls (let lt = stays.line in omega arith) in
+    let here : ls ≡ take i ls ++ l ∷ rest = sym (take-append-drop i ls) ∙ ap (λ (x : List Line). take i ls ++ x) (drop_more ls i (open_line []) stays.line) in
+    let put : set ls i new ≡ take i ls ++ new ∷ rest = ap (λ (x : List Line). set x i new) here ∙ set_at (take i ls) l rest new i len in
+    let are : AreLines (take i ls ++ l ∷ rest) = subst (λ (x : List Line). AreLines x) here (AreLines-lines_of t) in
+    let old : chars body ≡ l.text = chars-encodes l.text fine.0 in
+    let none = whole_at t i in
+    let first : has_no_line_end (chars (take j body)) ≡ true =
+    no_end_first (chars (take j body)) (chars (drop j body)) (ap has_no_line_end (sym (chars-cut body j ub bj) ∙ old) ∙ none) in
+    let last : has_no_line_end (chars (drop k body)) ≡ true =
+    no_end_last (chars (take k body)) (chars (drop k body)) (ap has_no_line_end (sym (chars-cut body k ub bk) ∙ old) ∙ none) in
+    let whole : has_no_line_end new.text ≡ true =
+    ap has_no_line_end (text ∙ chars_replaced body s j k ub us bj)
+    ∙ no_end_both (chars (take j body) ++ chars s) (chars (drop k body)) (no_end_both (chars (take j body)) (chars s) first stays.whole) last in
+    let left = stays.some in
+    let count : length replaced ≡ j + length s + (n - k) =
+    omega (arith, length-append (take j body ++ s) (drop k body), length-append (take j body) s, length-drop k body, length-take-le j body bj.0) in
+    let some : 0 < length new.text = units_some new.text (omega (arith, ap (units Utf8) text, units-utf8_text replaced ur)) in
+    record {
+      from_boundary = bj;
+      to_boundary = bk;
+      text = ap text_of put ∙ text_of-append (take i ls) (new ∷ rest) ∙ ap (λ (x : List ℕ). text_of (take i ls) ++ (x ++ text_of rest)) (sym after);
+      lines = ap (λ (x : List Line). lines_of (text_of x)) put ∙ lines_with (take i ls) rest l new are same whole some ∙ sym put;
+    }
+
+-- where a kept line may be cut, and its text as bytes
+pub record CanReplace (bs : List ℕ) (old : Line) (body i j : ℕ) : Type 0 where
+  pub line : encodes old.text ≡ take body bs
+  pub from_line : IsCharBoundary (take body bs) i
+  pub to_line : IsCharBoundary (take body bs) j
+  pub from_front : IsCharBoundary (take j bs) i
+  pub from_all : IsCharBoundary bs i
+  pub to_all : IsCharBoundary bs j
+
+pub can_replace : (bs : List ℕ) (old : Line) (body i j : ℕ) → IsUtf8 bs → IsCharBoundary bs body → chars (take body bs) ≡ old.text → i ≤ j → IsCharBoundary (encodes old.text) i → IsCharBoundary (encodes old.text) j →
+    CanReplace bs old body i j
+can_replace bs old body i j u b is le bi bj =
+    let line : encodes old.text ≡ take body bs = ap encodes (sym is) ∙ encodes-chars (take body bs) (IsUtf8-take bs body u b) in
+    let li = subst (λ (x : List ℕ). IsCharBoundary x i) line bi in
+    let lj = subst (λ (x : List ℕ). IsCharBoundary x j) line bj in
+    let ai = boundary_in_all bs body i u b li in
+    let aj = boundary_in_all bs body j u b lj in
+    record { line = line; from_line = li; to_line = lj; from_front = boundary_in_front bs j i u aj ai le; from_all = ai; to_all = aj }
+
+end_bytes : (ls : List Line) (i : ℕ) → AreWhole ls → i < length ls → units Utf8 (get_or ls i (open_line [])).end ≡ length (get_or ls i (open_line [])).end
+end_bytes [] i h lt = absurd (omega arith)
+end_bytes (l ∷ ls) zero h lt =
+    ⊎_elim (λ none. ap (units Utf8) none.1 ∙ ap length (sym none.1)) (λ ends. end_units (text_of ls) l.end ends) h.1
+end_bytes (l ∷ ls) (suc i) h lt = end_bytes ls i h.2 (omega arith)
+
+-- the characters of a line's end have one byte each
+pub end_bytes_of : (t : List ℕ) (i : ℕ) → i < length (lines_of t) → units Utf8 (line_at i t).end ≡ length (line_at i t).end
+end_bytes_of t i lt = end_bytes (lines_of t) i (are_whole_lines t) lt
+
+-- a search for a line end that found none
+pub no_end_found : (bs hay : List ℕ) (r : Option ℕ) → IsUtf8 bs → hay ≡ bs → IsFirstByte (is_byte2 13 10) hay r → is_some r ≡ false → has_no_line_end (chars bs) ≡ true
+no_end_found bs hay None u is h off =
+    has_no_line_end-text bs u (λ k lt at. h k (omega arith) (rw is lt) (ap (λ (x : List ℕ). ends (get_or x k 0)) is ∙ at))
+no_end_found bs hay (Some i) u is h off = absurd (cc)

@@ -1,0 +1,132 @@
+//! A text as its lines, each with its counts.
+
+pub(crate) mod lines;
+
+ghost use Rattle.std.specs.Prelude.{◌≡◌, ◌+◌, ◌*◌, ◌↔◌, length, IfOk, OnOk, OnErr, IfErr, IsTrue, Ok};
+ghost use Rattle.std.specs.Str.{chars};
+ghost use Rattle.std.specs.String.{string_bytes};
+ghost use Rattle.lsp_text.specs.Edits.{replaced, limited, IsFaultOf};
+ghost use Rattle.lsp_lined.specs.Steps.{RisesWithin, touched};
+
+use crate::edit::edit;
+use crate::spot::Spot;
+use lines::{Lines, Steps};
+use lsp_text::{INSIDE_CHARACTER, OVER_LIMIT, Place, TextFault, TextStore};
+use lsp_types::{Encoding, Memory, Position, Span};
+use std::alloc::Global;
+use std::marker::Model;
+
+/// A text as its lines, each with the counts of its characters and units, and with a count of the bytes that
+/// its edits looked at and inserted. An edit looks at no lines but those of its span and the one before.
+#[derive(Drop)]
+pub struct Lined {
+    lines: Lines,
+    steps: Steps,
+}
+
+impl Model for Lined {
+    ghost use Rattle.lsp_lined.specs.Counted.{Counted};
+
+    ghost Value = { Counted };
+
+    ghost view = { λ a. record { content = a.lines; steps = a.steps } };
+}
+
+impl Lined {
+    /// The bytes of held lines lent to edits, and the bytes inserted by them, up to 2^64 - 1. A new store and a
+    /// copy have none yet.
+    pub fn steps(&self) -> u64
+        ensures { result ≡ self.now.steps }
+    {
+        self.steps.count()
+    }
+}
+
+impl TextStore for Lined {
+    ghost content = { λ s. s.content };
+
+    fn from_text(alloc: Global, text: &str) -> Result<Lined, Memory>
+        ensures content { IfOk result (λ store. store.content ≡ chars text.now) }
+        ensures steps { IfOk result (λ store. store.steps ≡ 0) }
+    {
+        Ok(Lined {
+            lines: Lines::of(alloc, text)?,
+            steps: Steps::none(),
+        })
+    }
+
+    fn resolve(&self, encoding: Encoding, position: Position) -> Result<Place, TextFault> {
+        let number = self.lines.number_of(position);
+        let line = self.lines.peek(number);
+        match Spot::in_line(&self.lines, number, line.again(), encoding, position) {
+            None => Err(TextFault::Rule(INSIDE_CHARACTER)),
+            Some(spot) => Ok(Place {
+                chars: self.lines.chars_before(number) + line.chars_before(spot.offset),
+            }),
+        }
+    }
+
+    fn replace(
+        &mut self,
+        encoding: Encoding,
+        span: Span,
+        text: &str,
+        limit: u64,
+    ) -> Result<(), TextFault>
+        ensures ok { OnOk result (replaced encoding self.old.content span (chars text.now) limit ≡ Ok self.new.content) }
+        ensures fault { IfErr result (IsFaultOf (replaced encoding self.old.content span (chars text.now) limit)) }
+        ensures err { OnErr result (self.new.content ≡ self.old.content) }
+
+        // The steps rise by about what the edit has to touch.
+        ensures counted { OnOk result (RisesWithin self.old.steps self.new.steps (length text.now) (4 * touched self.old.content span (chars text.now))) }
+        ensures err_counted { OnErr result (RisesWithin self.old.steps self.new.steps 0 (4 * touched self.old.content span (chars text.now))) }
+    {
+        edit(
+            &mut self.lines,
+            &mut self.steps,
+            encoding,
+            span,
+            text,
+            limit,
+        )
+    }
+
+    fn replace_all(&mut self, text: &str, limit: u64) -> Result<(), TextFault>
+        ensures ok { OnOk result (limited limit (chars text.now) ≡ Ok self.new.content) }
+        ensures fault { IfErr result (IsFaultOf (limited limit (chars text.now))) }
+        ensures err { OnErr result (self.new.content ≡ self.old.content) }
+        ensures steps { self.new.steps ≡ self.old.steps }
+    {
+        if limit < text.len() as u64 {
+            return Err(TextFault::Rule(OVER_LIMIT));
+        }
+        self.lines.renew(text)?;
+        Ok(())
+    }
+
+    fn equals(&self, text: &str) -> bool {
+        self.lines.spell(text)
+    }
+
+    fn to_text(&self, alloc: Global) -> Result<String, Memory> {
+        Ok(self.lines.to_text(alloc)?)
+    }
+
+    fn byte_len(&self) -> u64 {
+        self.lines.byte_len()
+    }
+
+    fn line_count(&self) -> u64 {
+        self.lines.len() as u64
+    }
+
+    fn copy(&self, alloc: Global) -> Result<Lined, Memory>
+        ensures content { IfOk result (λ store. store.content ≡ self.now.content) }
+        ensures steps { IfOk result (λ store. store.steps ≡ 0) }
+    {
+        Ok(Lined {
+            lines: self.lines.copy(alloc)?,
+            steps: Steps::none(),
+        })
+    }
+}
