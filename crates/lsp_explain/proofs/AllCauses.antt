@@ -21,7 +21,7 @@ use Rattle.lsp_verdict.proofs.LookBackLemmas.{each_of-snoc}
 use Rattle.lsp_explain.specs.AllExplained.{is_cause, causes, cause_lines}
 use Rattle.lsp_explain.specs.AllSteps.{cause_at, AreSaid}
 use Rattle.lsp_explain.specs.Explained.{Heard, Breach, Explained, Explains, raws_of, notes_of, breach, breach_at, breaches}
-use Rattle.lsp_explain.specs.FlawFacts.{Rests}
+use Rattle.lsp_facts.specs.FlawFacts.{Rests}
 use Rattle.lsp_explain.specs.RunSteps.{RestsBehind, Tells}
 use Rattle.lsp_explain.specs.declared.run.Explanation.{Explanation}
 

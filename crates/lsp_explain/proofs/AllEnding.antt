@@ -49,8 +49,8 @@ use Rattle.lsp_verdict.proofs.RunReading.{read_map}
 use Rattle.lsp_explain.specs.AllExplained.{causes, cause_lines, all_closing, all_explanation, AreAllSaid, IsAllExplained, BeginsAllExplained}
 use Rattle.lsp_explain.specs.AllSteps.{AreSaid, AllTold, PartTold, CausesTold, ends_said}
 use Rattle.lsp_explain.specs.Explained.{Heard, Explained, Explains, raws_of, notes_of, end_explained, flaw_lines}
-use Rattle.lsp_explain.specs.Fact.{Fact}
-use Rattle.lsp_explain.specs.FlawFacts.{Rests}
+use Rattle.lsp_facts.specs.Fact.{Fact}
+use Rattle.lsp_facts.specs.FlawFacts.{Rests}
 use Rattle.lsp_explain.specs.RunSteps.{RestsBehind, flaw_held, rests_held, summary_behind}
 use Rattle.lsp_explain.proofs.AllCauses.{said_under}
 use Rattle.lsp_explain.proofs.AllTelling.{IsTelling, lines, lines_append}

@@ -31,7 +31,7 @@ use Rattle.lsp_verdict.proofs.RunReading.{read_map}
 use Rattle.lsp_explain.specs.AllExplained.{causes, cause_lines, AreFirstSaid, BeginsAllExplained}
 use Rattle.lsp_explain.specs.AllSteps.{AreSaid, PartTold, TellsCause, cause_at}
 use Rattle.lsp_explain.specs.Explained.{Heard, Breach, Explained, Explains, raws_of, notes_of}
-use Rattle.lsp_explain.specs.FlawFacts.{Rests}
+use Rattle.lsp_facts.specs.FlawFacts.{Rests}
 use Rattle.lsp_explain.specs.RunSteps.{RestsBehind}
 use Rattle.lsp_explain.proofs.AllCauses.{causes-push, nothing_heard, said_behind, said_terms, said_under, zip_append}
 use Rattle.lsp_explain.proofs.Explaining.{raws-append, notes-append, noted-append}

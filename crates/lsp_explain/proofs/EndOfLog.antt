@@ -37,7 +37,7 @@ use Rattle.lsp_verdict.proofs.Offences.Offending.{nothing_listed}
 use Rattle.lsp_verdict.proofs.Offences.Surveying.{no_frame_fault}
 use Rattle.lsp_verdict.proofs.RunReading.{read_map}
 use Rattle.lsp_explain.specs.Explained.{Heard, Breach, Explains, raws_of, notes_of, breaches, end_explained, explanation, flaw_lines, said_of, IsExplained, IsExplanation}
-use Rattle.lsp_explain.specs.FlawFacts.{Rests, rest_of, flaw_facts, log_facts}
+use Rattle.lsp_facts.specs.FlawFacts.{Rests, rest_of, flaw_facts, log_facts}
 use Rattle.lsp_explain.specs.RunSteps.{IsSound, flaw_held, rests_held, summary_behind}
 use Rattle.lsp_explain.specs.Standing.{StandsAfter}
 use Rattle.lsp_explain.specs.declared.run.Explanation.{Explanation}

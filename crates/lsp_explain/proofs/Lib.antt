@@ -1,13 +1,8 @@
-pub mod Differing
 pub mod EndOfLog
 pub mod ExplainedReport
 pub mod Explaining
 pub mod FirstOffence
 pub mod Judged
-pub mod MadeChanges
-pub mod Refusals
-pub mod DocumentRules
-pub mod Refused
 pub mod SaidFacts
 pub mod Spoken
 pub mod Standing

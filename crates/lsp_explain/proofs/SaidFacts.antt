@@ -13,11 +13,11 @@ use Rattle.lsp_verdict.specs.Event.{Event, message, fault, snapshot, sent_in}
 use Rattle.lsp_verdict.specs.Offences.{kept_of, rule_at}
 use Rattle.lsp_verdict.specs.Placed.{Raw, content, broken, show, Reads}
 use Rattle.lsp_verdict.proofs.OneEvent.{one_event}
-use Rattle.lsp_explain.specs.Explained.{AreCallFacts, AreFacts, AreMessageFacts}
-use Rattle.lsp_explain.specs.Fact.{Fact}
-use Rattle.lsp_explain.specs.FlawFacts.{Rests, rest_of, frame_facts}
-use Rattle.lsp_explain.specs.Lines.{event_line, message_event, side_event, snapshot_event}
-use Rattle.lsp_explain.specs.MessageFacts.{content_facts}
+use Rattle.lsp_facts.specs.EventFacts.{AreCallFacts, AreFacts, AreMessageFacts}
+use Rattle.lsp_facts.specs.Fact.{Fact}
+use Rattle.lsp_facts.specs.FlawFacts.{Rests, rest_of, frame_facts}
+use Rattle.lsp_facts.specs.Lines.{event_line, message_event, side_event, snapshot_event}
+use Rattle.lsp_facts.specs.MessageFacts.{content_facts}
 use Rattle.lsp_explain.specs.RunSteps.{ShowsFault}
 use Rattle.lsp_explain.specs.Traced.{AreTraced}
 use Rattle.lsp_explain.proofs.Spoken.{same_line}

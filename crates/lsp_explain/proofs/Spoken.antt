@@ -12,9 +12,9 @@ use Rattle.lsp_session.specs.OpenInitialize.{Initialize}
 use Rattle.lsp_session.specs.Sent.{Sent}
 use Rattle.lsp_verdict.specs.Offences.{is_within}
 use Rattle.lsp_verdict.specs.Report.{line, side_name}
-use Rattle.lsp_explain.specs.Fact.{Fact, has_id, in_phase}
-use Rattle.lsp_explain.specs.Lines.{message_event}
-use Rattle.lsp_explain.specs.MessageFacts.{id_in, session_facts, settled_facts, register_facts}
+use Rattle.lsp_facts.specs.Fact.{Fact, has_id, in_phase}
+use Rattle.lsp_facts.specs.Lines.{message_event}
+use Rattle.lsp_facts.specs.MessageFacts.{id_in, session_facts, settled_facts, register_facts}
 
 id_in-outline : (m : Message) → id_in m ≡ id_in (outline m)
 id_in-outline (request id method params) = refl

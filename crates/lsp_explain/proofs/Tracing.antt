@@ -14,8 +14,8 @@ use Rattle.lsp_verdict.specs.Calls.{call_of}
 use Rattle.lsp_verdict.specs.Event.{Event, message, sent_in}
 use Rattle.lsp_verdict.specs.Offences.{kept_of}
 use Rattle.lsp_survey.specs.Asking.{numbered}
-use Rattle.lsp_explain.specs.Fact.{Fact}
-use Rattle.lsp_explain.specs.MessageFacts.{id_in}
+use Rattle.lsp_facts.specs.Fact.{Fact}
+use Rattle.lsp_facts.specs.MessageFacts.{id_in}
 use Rattle.lsp_explain.specs.Traced.{call_traced, session_trace, traced}
 
 outline_id : (m : Message) → id_in m ≡ id_in (outline m)

@@ -1,6 +1,2 @@
 -- Worked rows, each checked by computing it.
-pub mod Messages
-pub mod Flaws
 pub mod Traced
-pub mod Lines
-pub mod Documents

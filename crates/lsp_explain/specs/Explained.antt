@@ -1,32 +1,24 @@
 -- What is said of a log that offends: with its offences, the events that offend and the facts on them.
-use Rattle.std.specs.Prelude.{◌≡◌, ℕ, ◌+◌, List, [], ◌∷◌, ◌++◌, map, take, length, Bool, true, false, ◌==◌, nat_lt, if◌then◌else◌, Option, Some, None, option_map, unwrap_or}
+use Rattle.std.specs.Prelude.{◌≡◌, ℕ, ◌+◌, List, [], ◌∷◌, ◌++◌, map, take, length, ◌==◌, if◌then◌else◌, Option, Some, None, option_map}
 use Rattle.std.specs.List.{AllZip, flat_map}
 use Rattle.lsp_frame.specs.Bounds.{Bounds}
 use Rattle.lsp_frame.specs.declared.format.Format.{Format}
-use Rattle.lsp_types.specs.declared.position.Encoding.TheVariants.{Utf16}
 use Rattle.lsp_types.specs.declared.side.Side.TheVariants.{Editor, Server}
-use Rattle.lsp_session.specs.Negotiation.{encoding}
-use Rattle.lsp_session.specs.Sent.{Sent}
-use Rattle.lsp_docs.specs.Calls.{Call}
 use Rattle.lsp_docs.specs.Terms.{Terms}
 use Rattle.lsp_log.specs.Log.{Record, IsLog}
 use Rattle.lsp_log.specs.declared.fault.LogCode.{LogCode}
-use Rattle.lsp_verdict.specs.Calls.{call_at, calls}
-use Rattle.lsp_verdict.specs.Event.{Event, message, fault, snapshot, sent_in}
 use Rattle.lsp_verdict.specs.LookBack.{each_of}
 use Rattle.lsp_verdict.specs.Offences.{Noted, Offence, IsNoted, events_of, kept_of, rule_at}
 use Rattle.lsp_verdict.specs.Outcome.{HasRest, ending, log_terms}
-use Rattle.lsp_verdict.specs.Placed as placed
-use Rattle.lsp_verdict.specs.Placed.{Raw, broken, show, Placed, joined}
+use Rattle.lsp_verdict.specs.Placed.{Raw, Placed, joined}
 use Rattle.lsp_verdict.specs.Report.{report}
 use Rattle.lsp_verdict.specs.Survey.{found_in, ends_listed, first_verdict}
 use Rattle.lsp_verdict.specs.Verdict.{Verdict, yes, no, bad_log, Summary, summary, bad_log_of, no_by}
 use Rattle.lsp_verdict.specs.declared.completeness.Completeness.{Completeness}
-use Rattle.lsp_explain.specs.DocumentFacts.{AreDocumentFacts}
-use Rattle.lsp_explain.specs.Fact.{Fact}
-use Rattle.lsp_explain.specs.FlawFacts.{Rests, rest_of, side_by, frame_facts, unfinished_facts, log_facts}
-use Rattle.lsp_explain.specs.Lines.{fact_lines, event_line, end_event}
-use Rattle.lsp_explain.specs.MessageFacts.{content_facts, session_facts}
+use Rattle.lsp_facts.specs.EventFacts.{AreFacts}
+use Rattle.lsp_facts.specs.Fact.{Fact}
+use Rattle.lsp_facts.specs.FlawFacts.{Rests, rest_of, side_by, unfinished_facts, log_facts}
+use Rattle.lsp_facts.specs.Lines.{fact_lines, event_line, end_event}
 use Rattle.lsp_explain.specs.Traced.{AreTraced, lack_traced}
 use Rattle.lsp_survey.specs.Asking.{Numbered, numbered}
 
@@ -58,33 +50,6 @@ breach_at terms before h = option_map (breach before h) (rule_at terms (events_o
 -- all of them
 abbrev pub breaches : Terms → List Heard → List Breach
 breaches terms heard = each_of (breach_at terms) heard
-
--- ---- the facts on it
-
--- of a content that is no message, or of the header part that has a fault of the frames; these are the rests of both sides' whole streams
-abbrev pub fault_facts : Rests → Raw → List Fact
-fault_facts rests (placed.content side bytes) = content_facts bytes
-fault_facts rests (broken side rule) = frame_facts (rest_of rests side)
-fault_facts rests (show number uri text) = []
-
--- a call on a document that breaks this rule after the kept events
-abbrev pub AreCallFacts : Terms → List Event → ℕ → Option Call → List Fact → Type 0
-AreCallFacts terms kept rule None facts = facts ≡ []
-AreCallFacts terms kept rule (Some call) facts = AreDocumentFacts terms (unwrap_or (encoding (sent_in kept)) Utf16) (calls kept) call rule facts
-
--- 301 to 504 are broken by the message, 601 to 702 by what it says of a document
-abbrev pub AreFactsBy : Bool → Terms → List Event → Sent → ℕ → List Fact → Type 0
-AreFactsBy true terms kept m rule facts = facts ≡ session_facts rule (sent_in kept) m
-AreFactsBy false terms kept m rule facts = AreCallFacts terms kept rule (call_at kept (message m)) facts
-
-abbrev pub AreMessageFacts : Terms → List Event → Sent → ℕ → List Fact → Type 0
-AreMessageFacts terms kept m rule facts = AreFactsBy (nat_lt rule 601) terms kept m rule facts
-
--- **the facts on an event that offends by this rule after the kept ones before it**
-abbrev pub AreFacts : Rests → Terms → List Event → Raw → Event → ℕ → List Fact → Type 0
-AreFacts rests terms kept raw (fault side number) rule facts = facts ≡ fault_facts rests raw
-AreFacts rests terms kept raw (message m) rule facts = AreMessageFacts terms kept m rule facts
-AreFacts rests terms kept raw (snapshot uri number text) rule facts = AreCallFacts terms kept rule (call_at kept (snapshot uri number text)) facts
 
 -- ---- what is said of it
 

@@ -1,14 +1,7 @@
-pub mod Fact
-pub mod Lines
-pub mod FlawFacts
-pub mod MessageFacts
-pub mod DocumentFacts
 pub mod Traced
 pub mod Standing
 pub mod Explained
 pub mod ExplainLaws
 pub mod RunSteps
-pub mod Making
-pub mod Comparing
 pub mod AllExplained
 pub mod AllSteps

@@ -30,8 +30,8 @@ use Rattle.lsp_verdict.specs.declared.outcome.RunFault.TheVariants as faults
 use Rattle.lsp_verdict.specs.declared.verdict.Summary as code
 use Rattle.lsp_verdict.specs.declared.verdict.Verdict.TheVariants as verdicts
 use Rattle.lsp_explain.specs.Explained.{Heard, Explained, Explains, breach, raws_of, notes_of, said_of, IsExplanation}
-use Rattle.lsp_explain.specs.Fact.{Fact}
-use Rattle.lsp_explain.specs.FlawFacts.{Rests, rest_of, flaw_facts}
+use Rattle.lsp_facts.specs.Fact.{Fact}
+use Rattle.lsp_facts.specs.FlawFacts.{Rests, rest_of, flaw_facts}
 use Rattle.lsp_explain.specs.declared.run.Explanation.{Explanation}
 
 -- ---- what a reader of events holds of faults

@@ -14,14 +14,13 @@ ghost use Rattle.lsp_verdict.specs.Report.{report};
 ghost use Rattle.lsp_verdict.specs.RunIo.{OfRead, GaveAtMost, source_failures, sink_failures};
 ghost use Rattle.lsp_verdict.specs.Survey.{first_verdict};
 ghost use Rattle.lsp_explain.specs.Explained.{BeginsExplanation, IsExplanation, end_explained, flaw_lines, said_of};
-ghost use Rattle.lsp_explain.specs.FlawFacts.{Rests, flaw_facts, rest_of, side_by};
-ghost use Rattle.lsp_explain.specs.Lines.{fact_lines};
+ghost use Rattle.lsp_facts.specs.FlawFacts.{Rests, flaw_facts, rest_of, side_by};
+ghost use Rattle.lsp_facts.specs.Lines.{fact_lines};
 ghost use Rattle.lsp_explain.specs.RunSteps.{EndsWhole, ExplainsLog, IsSound, TellsEnd, TellsOf, flaw_held, side_of, summary_behind};
 ghost use Rattle.lsp_explain.specs.Standing.{StandsAfter, terms_in};
 
-use crate::flaws::flaw_facts;
-use crate::lines::push_facts;
 use crate::said::{push_end, push_said};
+use lsp_facts::{flaw_facts, push_facts};
 use lsp_frame::{Limits, Sink, Source, put_all};
 use lsp_rpc::{Memory, Side};
 use lsp_survey::{End, Found, Heard, Next, Offending, SurveyReader};

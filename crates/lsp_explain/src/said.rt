@@ -10,21 +10,20 @@ ghost use Rattle.lsp_verdict.specs.Offences.{kept_of, rule_at};
 ghost use Rattle.lsp_verdict.specs.Placed.{Raw, Reads};
 ghost use Rattle.lsp_verdict.specs.Verdict.{no};
 ghost use Rattle.lsp_verdict.specs.declared.verdict.Who.{Who};
-ghost use Rattle.lsp_explain.specs.Explained.{AreFacts, end_explained, end_facts, said_of};
-ghost use Rattle.lsp_explain.specs.Fact.{Fact as SpecFact, facts_view};
-ghost use Rattle.lsp_explain.specs.FlawFacts.{Rests, rest_of, side_by};
-ghost use Rattle.lsp_explain.specs.Lines.{event_line, fact_lines};
+ghost use Rattle.lsp_explain.specs.Explained.{end_explained, end_facts, said_of};
+ghost use Rattle.lsp_facts.specs.EventFacts.{AreFacts};
+ghost use Rattle.lsp_facts.specs.Fact.{Fact as SpecFact, facts_view};
+ghost use Rattle.lsp_facts.specs.FlawFacts.{Rests, rest_of, side_by};
+ghost use Rattle.lsp_facts.specs.Lines.{event_line, fact_lines};
 ghost use Rattle.lsp_explain.specs.RunSteps.{ShowsFault};
 ghost use Rattle.lsp_explain.specs.Standing.{StandsAfter, terms_in};
 ghost use Rattle.lsp_explain.specs.Traced.{AreTraced};
 
-use crate::fact::Fact;
-use crate::flaws::{frame_facts, unfinished_facts};
-use crate::lines::{
-    push_end_event, push_facts, push_message_event, push_side_event, push_snapshot_event,
-};
-use crate::messages::content_facts;
 use crate::trace::{lack_traced, message_traced, shown_traced};
+use lsp_facts::{
+    Fact, content_facts, frame_facts, push_end_event, push_facts, push_message_event,
+    push_side_event, push_snapshot_event, unfinished_facts,
+};
 use lsp_rpc::Memory;
 use lsp_survey::{Found, Offending, SurveyReader};
 use lsp_verdict::Offence;

@@ -13,8 +13,8 @@ use Rattle.serde_json.specs.Read.{number_of}
 use Rattle.lsp_survey.specs.Asking.{numbered}
 use Rattle.lsp_verdict.specs.Event.{Event}
 use Rattle.lsp_verdict.proofs.Worked.Templates.{terms, I1, N1, START, OPEN, CHG, FULL, CLOSE, REQ, RES, ERR, T}
-use Rattle.lsp_explain.specs.Fact.{Fact, of_uri, holds, sends}
-use Rattle.lsp_explain.specs.Lines.{fact_lines}
+use Rattle.lsp_facts.specs.Fact.{Fact, of_uri, holds, sends}
+use Rattle.lsp_facts.specs.Lines.{fact_lines}
 use Rattle.lsp_explain.specs.Traced.{traced, lack_traced}
 
 -- what is said of an event that breaks this rule behind these, where this is said of it by itself

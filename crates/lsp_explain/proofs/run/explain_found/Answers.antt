@@ -1,6 +1,6 @@
 use Rattle.std.proofs.Common.{ap, subst, ◌∙◌, ◌++◌, string_bytes}
 use Rattle.lsp_verdict.specs.Report.{report}
-use Rattle.lsp_explain.specs.Lines.{event_line, fact_lines}
+use Rattle.lsp_facts.specs.Lines.{event_line, fact_lines}
 use Rattle.lsp_survey.specs.Surveys.{ShowsFront, stream_of}
 use Rattle.lsp_explain.proofs.Telling.{SeenOf, tells}
 use Rattle.lsp_explain.proofs.run.explain_found.Goals as goal

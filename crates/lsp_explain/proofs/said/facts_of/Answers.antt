@@ -2,8 +2,8 @@ use Rattle.std.proofs.Common.{◌∙◌, ap, subst}
 use Rattle.std.proofs.lemmas.Result.{IfOk-weaker}
 use Rattle.lsp_survey.specs.Walking.{IsOffending}
 use Rattle.lsp_verdict.specs.Offences.{kept_of}
-use Rattle.lsp_explain.specs.Fact.{facts_view}
-use Rattle.lsp_explain.specs.MessageFacts.{content_facts}
+use Rattle.lsp_facts.specs.Fact.{facts_view}
+use Rattle.lsp_facts.specs.MessageFacts.{content_facts}
 use Rattle.lsp_explain.specs.RunSteps.{ShowsFault}
 use Rattle.lsp_explain.specs.Standing.{terms_in}
 use Rattle.lsp_explain.proofs.SaidFacts.{facts_said}

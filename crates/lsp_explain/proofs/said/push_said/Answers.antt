@@ -1,8 +1,8 @@
 use Rattle.std.proofs.Common.{◌∙◌, ◌++◌, ap, string_bytes, append_assoc}
 use Rattle.std.proofs.lemmas.Result.{IfOk-weaker}
 use Rattle.lsp_verdict.specs.Offences.{kept_of}
-use Rattle.lsp_explain.specs.Fact.{facts_view}
-use Rattle.lsp_explain.specs.Lines.{event_line, fact_lines}
+use Rattle.lsp_facts.specs.Fact.{facts_view}
+use Rattle.lsp_facts.specs.Lines.{event_line, fact_lines}
 use Rattle.lsp_explain.specs.Standing.{terms_in}
 use Rattle.lsp_explain.proofs.said.push_said.Goals as goal
 

@@ -10,7 +10,7 @@ use Rattle.lsp_survey.specs.Marks.{AreMarks}
 use Rattle.lsp_survey.specs.SessionNoting.{AreNotes}
 use Rattle.lsp_survey.specs.declared.marks.Marks.{Marks}
 use Rattle.lsp_survey.specs.declared.session_notes.SessionNotes.{SessionNotes}
-use Rattle.lsp_explain.specs.Fact.{facts_view}
+use Rattle.lsp_facts.specs.Fact.{facts_view}
 use Rattle.lsp_explain.specs.Standing.{terms_in}
 use Rattle.lsp_explain.proofs.Tracing.{same_traced}
 use Rattle.lsp_explain.proofs.trace.message_traced.Goals as goal

@@ -5,8 +5,8 @@ use Rattle.lsp_docs.proofs.Faults.{on_ok}
 use Rattle.lsp_rpc.specs.View.{act_view, message_view}
 use Rattle.lsp_verdict.specs.Calls.{call_of}
 use Rattle.lsp_survey.specs.Asking.{numbered}
-use Rattle.lsp_explain.specs.Fact.{facts_view}
-use Rattle.lsp_explain.specs.MessageFacts.{id_in}
+use Rattle.lsp_facts.specs.Fact.{facts_view}
+use Rattle.lsp_facts.specs.MessageFacts.{id_in}
 use Rattle.lsp_explain.specs.Traced.{call_traced, session_trace}
 use Rattle.lsp_explain.proofs.trace.trace_spoken.Goals as goal
 
