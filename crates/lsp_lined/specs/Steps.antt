@@ -3,7 +3,7 @@ use Rattle.std.specs.Prelude.{◌≡◌, ◌≤◌, ℕ, ◌+◌, ◌-◌, ◌^�
 use Rattle.lsp_types.specs.declared.position.Encoding.TheVariants.{Utf8}
 use Rattle.lsp_types.specs.declared.position.Position.{Position}
 use Rattle.lsp_types.specs.declared.position.Span.{Span}
-use Rattle.lsp_text.specs.Lines.{lines_of, text_of, spelled}
+use Rattle.lsp_text.specs.Lines.{lines_of, line_at, text_of, spelled}
 use Rattle.lsp_text.specs.Places.{units}
 
 -- a count of at most 2^64 - 1
