@@ -1,5 +1,5 @@
 -- What is said of a log that offends: with its offences, the events that offend and the facts on them.
-use Rattle.std.specs.Prelude.{◌≡◌, ℕ, ◌+◌, List, [], ◌∷◌, ◌++◌, map, take, length, ◌==◌, if◌then◌else◌, Option, Some, None, option_map}
+use Rattle.std.specs.Prelude.{◌≡◌, ℕ, ◌+◌, List, [], ◌∷◌, ◌++◌, map, take, length, ◌==◌, if◌then◌else◌, Option, Some, option_map}
 use Rattle.std.specs.List.{AllZip, flat_map}
 use Rattle.lsp_frame.specs.Bounds.{Bounds}
 use Rattle.lsp_frame.specs.declared.format.Format.{Format}

@@ -32,42 +32,198 @@ fn check_all(rt: &impl Abort, alloc: Global, row: &Row, completeness: Completene
 
 const SESSIONS: [Row; 8] = [
     (
-        "lsp-session 1\nE 97\nContent-Length: 75\r\n\r\n{\"jsonrpc\":\"2.0\",\"id\":1,\"method\":\"initialize\",\"params\":{\"capabilities\":{}}}\nS 95\nContent-Length: 73\r\n\r\n{\"jsonrpc\":\"2.0\",\"id\":1,\"result\":{\"capabilities\":{\"textDocumentSync\":2}}}\nE 74\nContent-Length: 52\r\n\r\n{\"jsonrpc\":\"2.0\",\"method\":\"initialized\",\"params\":{}}\n",
+        "lsp-session 1\n\
+         E 97\nContent-Length: 75\r\n\r\n\
+         {\"jsonrpc\":\"2.0\",\"id\":1,\"method\":\"initialize\",\"params\":{\"capabilities\":{}}}\n\
+         S 95\nContent-Length: 73\r\n\r\n\
+         {\"jsonrpc\":\"2.0\",\"id\":1,\"result\":{\"capabilities\":{\"textDocumentSync\":2}}}\n\
+         E 74\nContent-Length: 52\r\n\r\n\
+         {\"jsonrpc\":\"2.0\",\"method\":\"initialized\",\"params\":{}}\n",
         "yes\nmessages 2 1\nsnapshots 0 unmatched 0\nencoding utf-16 sync incremental\n",
     ),
     (
-        "lsp-session 1\nE 97\nContent-Length: 75\r\n\r\n{\"jsonrpc\":\"2.0\",\"id\":1,\"method\":\"initialize\",\"params\":{\"capabilities\":{}}}\nS 95\nContent-Length: 73\r\n\r\n{\"jsonrpc\":\"2.0\",\"id\":1,\"result\":{\"capabilities\":{\"textDocumentSync\":2}}}\nE 74\nContent-Length: 52\r\n\r\n{\"jsonrpc\":\"2.0\",\"method\":\"initialized\",\"params\":{}}\nE 175\nContent-Length: 152\r\n\r\n{\"jsonrpc\":\"2.0\",\"method\":\"textDocument/didOpen\",\"params\":{\"textDocument\":{\"uri\":\"file:///a.c\",\"languageId\":\"c\",\"version\":1,\"text\":\"int x;\\nint y;\\n\"}}}\nE 240\nContent-Length: 217\r\n\r\n{\"jsonrpc\":\"2.0\",\"method\":\"textDocument/didChange\",\"params\":{\"textDocument\":{\"uri\":\"file:///a.c\",\"version\":1},\"contentChanges\":[{\"range\":{\"start\":{\"line\":0,\"character\":0},\"end\":{\"line\":0,\"character\":1}},\"text\":\"z\"}]}}\nT 1 11 14\nfile:///a.c\nznt x;\nint y;\n\nS 62\nContent-Length: 40\r\n\r\n{\"jsonrpc\":\"2.0\",\"id\":\"7\",\"result\":null}\n",
-        "no 603 editor 4 event 5\nversion does not rise\nevent 5 editor notification \"textDocument/didChange\"\nuri \"file:///a.c\"\nheld 1\nbrought 4\nsent 1\nchanges 1\nno 301 server 2 event 7\nresponse to no open request\nevent 7 server result \"7\"\nid \"7\"\noffences 3 following 1\n",
+        "lsp-session 1\n\
+         E 97\nContent-Length: 75\r\n\r\n\
+         {\"jsonrpc\":\"2.0\",\"id\":1,\"method\":\"initialize\",\"params\":{\"capabilities\":{}}}\n\
+         S 95\nContent-Length: 73\r\n\r\n\
+         {\"jsonrpc\":\"2.0\",\"id\":1,\"result\":{\"capabilities\":{\"textDocumentSync\":2}}}\n\
+         E 74\nContent-Length: 52\r\n\r\n\
+         {\"jsonrpc\":\"2.0\",\"method\":\"initialized\",\"params\":{}}\n\
+         E 175\nContent-Length: 152\r\n\r\n\
+         {\"jsonrpc\":\"2.0\",\"method\":\"textDocument/didOpen\",\"params\":{\"textDocument\":{\
+         \"uri\":\"file:///a.c\",\"languageId\":\"c\",\"version\":1,\"text\":\"int x;\\nint y;\\n\"}}}\n\
+         E 240\nContent-Length: 217\r\n\r\n\
+         {\"jsonrpc\":\"2.0\",\"method\":\"textDocument/didChange\",\"params\":{\"textDocument\":{\
+         \"uri\":\"file:///a.c\",\"version\":1},\"contentChanges\":[{\"range\":{\"start\":{\"line\":0,\
+         \"character\":0},\"end\":{\"line\":0,\"character\":1}},\"text\":\"z\"}]}}\n\
+         T 1 11 14\nfile:///a.c\nznt x;\nint y;\n\n\
+         S 62\nContent-Length: 40\r\n\r\n\
+         {\"jsonrpc\":\"2.0\",\"id\":\"7\",\"result\":null}\n",
+        "no 603 editor 4 event 5\n\
+         version does not rise\n\
+         event 5 editor notification \"textDocument/didChange\"\n\
+         uri \"file:///a.c\"\n\
+         held 1\n\
+         brought 4\n\
+         sent 1\n\
+         changes 1\n\
+         no 301 server 2 event 7\n\
+         response to no open request\n\
+         event 7 server result \"7\"\n\
+         id \"7\"\n\
+         offences 3 following 1\n",
     ),
     (
-        "lsp-session 1\nE 97\nContent-Length: 75\r\n\r\n{\"jsonrpc\":\"2.0\",\"id\":1,\"method\":\"initialize\",\"params\":{\"capabilities\":{}}}\nS 95\nContent-Length: 73\r\n\r\n{\"jsonrpc\":\"2.0\",\"id\":1,\"result\":{\"capabilities\":{\"textDocumentSync\":2}}}\nE 74\nContent-Length: 52\r\n\r\n{\"jsonrpc\":\"2.0\",\"method\":\"initialized\",\"params\":{}}\nE 175\nContent-Length: 152\r\n\r\n{\"jsonrpc\":\"2.0\",\"method\":\"textDocument/didOpen\",\"params\":{\"textDocument\":{\"uri\":\"file:///a.c\",\"languageId\":\"c\",\"version\":1,\"text\":\"int x;\\nint y;\\n\"}}}\nE 240\nContent-Length: 217\r\n\r\n{\"jsonrpc\":\"2.0\",\"method\":\"textDocument/didChange\",\"params\":{\"textDocument\":{\"uri\":\"file:///a.c\",\"version\":1},\"contentChanges\":[{\"range\":{\"start\":{\"line\":0,\"character\":0},\"end\":{\"line\":0,\"character\":1}},\"text\":\"z\"}]}}\nE 240\nContent-Length: 217\r\n\r\n{\"jsonrpc\":\"2.0\",\"method\":\"textDocument/didChange\",\"params\":{\"textDocument\":{\"uri\":\"file:///a.c\",\"version\":2},\"contentChanges\":[{\"range\":{\"start\":{\"line\":0,\"character\":0},\"end\":{\"line\":0,\"character\":1}},\"text\":\"q\"}]}}\nS 62\nContent-Length: 40\r\n\r\n{\"jsonrpc\":\"2.0\",\"id\":\"7\",\"result\":null}\n",
-        "no 603 editor 4 event 5\nversion does not rise\nevent 5 editor notification \"textDocument/didChange\"\nuri \"file:///a.c\"\nheld 1\nbrought 4\nsent 1\nchanges 1\nno 301 server 2 event 7\nresponse to no open request\nevent 7 server result \"7\"\nid \"7\"\noffences 2 following 0\n",
+        "lsp-session 1\n\
+         E 97\nContent-Length: 75\r\n\r\n\
+         {\"jsonrpc\":\"2.0\",\"id\":1,\"method\":\"initialize\",\"params\":{\"capabilities\":{}}}\n\
+         S 95\nContent-Length: 73\r\n\r\n\
+         {\"jsonrpc\":\"2.0\",\"id\":1,\"result\":{\"capabilities\":{\"textDocumentSync\":2}}}\n\
+         E 74\nContent-Length: 52\r\n\r\n\
+         {\"jsonrpc\":\"2.0\",\"method\":\"initialized\",\"params\":{}}\n\
+         E 175\nContent-Length: 152\r\n\r\n\
+         {\"jsonrpc\":\"2.0\",\"method\":\"textDocument/didOpen\",\"params\":{\"textDocument\":{\
+         \"uri\":\"file:///a.c\",\"languageId\":\"c\",\"version\":1,\"text\":\"int x;\\nint y;\\n\"}}}\n\
+         E 240\nContent-Length: 217\r\n\r\n\
+         {\"jsonrpc\":\"2.0\",\"method\":\"textDocument/didChange\",\"params\":{\"textDocument\":{\
+         \"uri\":\"file:///a.c\",\"version\":1},\"contentChanges\":[{\"range\":{\"start\":{\"line\":0,\
+         \"character\":0},\"end\":{\"line\":0,\"character\":1}},\"text\":\"z\"}]}}\n\
+         E 240\nContent-Length: 217\r\n\r\n\
+         {\"jsonrpc\":\"2.0\",\"method\":\"textDocument/didChange\",\"params\":{\"textDocument\":{\
+         \"uri\":\"file:///a.c\",\"version\":2},\"contentChanges\":[{\"range\":{\"start\":{\"line\":0,\
+         \"character\":0},\"end\":{\"line\":0,\"character\":1}},\"text\":\"q\"}]}}\n\
+         S 62\nContent-Length: 40\r\n\r\n\
+         {\"jsonrpc\":\"2.0\",\"id\":\"7\",\"result\":null}\n",
+        "no 603 editor 4 event 5\n\
+         version does not rise\n\
+         event 5 editor notification \"textDocument/didChange\"\n\
+         uri \"file:///a.c\"\n\
+         held 1\n\
+         brought 4\n\
+         sent 1\n\
+         changes 1\n\
+         no 301 server 2 event 7\n\
+         response to no open request\n\
+         event 7 server result \"7\"\n\
+         id \"7\"\n\
+         offences 2 following 0\n",
     ),
     (
-        "lsp-session 1\nE 97\nContent-Length: 75\r\n\r\n{\"jsonrpc\":\"2.0\",\"id\":1,\"method\":\"initialize\",\"params\":{\"capabilities\":{}}}\nS 95\nContent-Length: 73\r\n\r\n{\"jsonrpc\":\"2.0\",\"id\":1,\"result\":{\"capabilities\":{\"textDocumentSync\":2}}}\nE 74\nContent-Length: 52\r\n\r\n{\"jsonrpc\":\"2.0\",\"method\":\"initialized\",\"params\":{}}\nS 62\nContent-Length: 40\r\n\r\n{\"jsonrpc\":\"2.0\",\"id\":\"7\",\"result\":null}\nE 2\nab",
-        "no 301 server 2 event 4\nresponse to no open request\nevent 4 server result \"7\"\nid \"7\"\nbad log L4 record 5\nrecord cut short or its line end missing\nrecord 5\nbyte 366\nfound \"E 2\\n\"\noffences 1 following 0\n",
+        "lsp-session 1\n\
+         E 97\nContent-Length: 75\r\n\r\n\
+         {\"jsonrpc\":\"2.0\",\"id\":1,\"method\":\"initialize\",\"params\":{\"capabilities\":{}}}\n\
+         S 95\nContent-Length: 73\r\n\r\n\
+         {\"jsonrpc\":\"2.0\",\"id\":1,\"result\":{\"capabilities\":{\"textDocumentSync\":2}}}\n\
+         E 74\nContent-Length: 52\r\n\r\n\
+         {\"jsonrpc\":\"2.0\",\"method\":\"initialized\",\"params\":{}}\n\
+         S 62\nContent-Length: 40\r\n\r\n\
+         {\"jsonrpc\":\"2.0\",\"id\":\"7\",\"result\":null}\n\
+         E 2\n\
+         ab",
+        "no 301 server 2 event 4\n\
+         response to no open request\n\
+         event 4 server result \"7\"\n\
+         id \"7\"\n\
+         bad log L4 record 5\n\
+         record cut short or its line end missing\n\
+         record 5\n\
+         byte 366\n\
+         found \"E 2\\n\"\n\
+         offences 1 following 0\n",
     ),
     (
         "lsp-session 1\nE 2\nab",
         "bad log L4 record 1\nrecord cut short or its line end missing\nrecord 1\nbyte 14\nfound \"E 2\\n\"\n",
     ),
     (
-        "lsp-session 1\nE 97\nContent-Length: 75\r\n\r\n{\"jsonrpc\":\"2.0\",\"id\":1,\"method\":\"initialize\",\"params\":{\"capabilities\":{}}}\nS 95\nContent-Length: 73\r\n\r\n{\"jsonrpc\":\"2.0\",\"id\":1,\"result\":{\"capabilities\":{\"textDocumentSync\":2}}}\nE 74\nContent-Length: 52\r\n\r\n{\"jsonrpc\":\"2.0\",\"method\":\"initialized\",\"params\":{}}\nS 8\noops\r\n\r\n\nE 175\nContent-Length: 152\r\n\r\n{\"jsonrpc\":\"2.0\",\"method\":\"textDocument/didOpen\",\"params\":{\"textDocument\":{\"uri\":\"file:///a.c\",\"languageId\":\"c\",\"version\":1,\"text\":\"int x;\\nint y;\\n\"}}}\nE 175\nContent-Length: 152\r\n\r\n{\"jsonrpc\":\"2.0\",\"method\":\"textDocument/didOpen\",\"params\":{\"textDocument\":{\"uri\":\"file:///a.c\",\"languageId\":\"c\",\"version\":1,\"text\":\"int x;\\nint y;\\n\"}}}\n",
-        "no 102 server 2 event 4\nbad header line\nevent 4 server\nbegins \"oops\\r\\n\\r\\n\"\nno 601 editor 4 event 6\ndocument is already open\nevent 6 editor notification \"textDocument/didOpen\"\nuri \"file:///a.c\"\nheld 1\nbrought 5\nsent 1\noffences 2 following 0\n",
+        "lsp-session 1\n\
+         E 97\nContent-Length: 75\r\n\r\n\
+         {\"jsonrpc\":\"2.0\",\"id\":1,\"method\":\"initialize\",\"params\":{\"capabilities\":{}}}\n\
+         S 95\nContent-Length: 73\r\n\r\n\
+         {\"jsonrpc\":\"2.0\",\"id\":1,\"result\":{\"capabilities\":{\"textDocumentSync\":2}}}\n\
+         E 74\nContent-Length: 52\r\n\r\n\
+         {\"jsonrpc\":\"2.0\",\"method\":\"initialized\",\"params\":{}}\n\
+         S 8\noops\r\n\r\n\
+         \n\
+         E 175\nContent-Length: 152\r\n\r\n\
+         {\"jsonrpc\":\"2.0\",\"method\":\"textDocument/didOpen\",\"params\":{\"textDocument\":{\
+         \"uri\":\"file:///a.c\",\"languageId\":\"c\",\"version\":1,\"text\":\"int x;\\nint y;\\n\"}}}\n\
+         E 175\nContent-Length: 152\r\n\r\n\
+         {\"jsonrpc\":\"2.0\",\"method\":\"textDocument/didOpen\",\"params\":{\"textDocument\":{\
+         \"uri\":\"file:///a.c\",\"languageId\":\"c\",\"version\":1,\"text\":\"int x;\\nint y;\\n\"}}}\n",
+        "no 102 server 2 event 4\n\
+         bad header line\n\
+         event 4 server\n\
+         begins \"oops\\r\\n\\r\\n\"\n\
+         no 601 editor 4 event 6\n\
+         document is already open\n\
+         event 6 editor notification \"textDocument/didOpen\"\n\
+         uri \"file:///a.c\"\n\
+         held 1\n\
+         brought 5\n\
+         sent 1\n\
+         offences 2 following 0\n",
     ),
     (
-        "lsp-session 1\nE 97\nContent-Length: 75\r\n\r\n{\"jsonrpc\":\"2.0\",\"id\":1,\"method\":\"initialize\",\"params\":{\"capabilities\":{}}}\nS 95\nContent-Length: 73\r\n\r\n{\"jsonrpc\":\"2.0\",\"id\":1,\"result\":{\"capabilities\":{\"textDocumentSync\":2}}}\nE 74\nContent-Length: 52\r\n\r\n{\"jsonrpc\":\"2.0\",\"method\":\"initialized\",\"params\":{}}\nS 22\nContent-Length: 7\r\n\r\n{\nE 23\nContent-Length: 9\r\n\r\nab\n",
-        "no 107 editor 3 event 4\nstream ends inside a frame\nevent 4 editor\nbegins \"Content-Length: 9\\r\\n\\r\\nab\"\nno 107 server 2 event 4\nstream ends inside a frame\nevent 4 server\nbegins \"Content-Length: 7\\r\\n\\r\\n{\"\noffences 2 following 0\n",
+        "lsp-session 1\n\
+         E 97\nContent-Length: 75\r\n\r\n\
+         {\"jsonrpc\":\"2.0\",\"id\":1,\"method\":\"initialize\",\"params\":{\"capabilities\":{}}}\n\
+         S 95\nContent-Length: 73\r\n\r\n\
+         {\"jsonrpc\":\"2.0\",\"id\":1,\"result\":{\"capabilities\":{\"textDocumentSync\":2}}}\n\
+         E 74\nContent-Length: 52\r\n\r\n\
+         {\"jsonrpc\":\"2.0\",\"method\":\"initialized\",\"params\":{}}\n\
+         S 22\nContent-Length: 7\r\n\r\n\
+         {\n\
+         E 23\nContent-Length: 9\r\n\r\n\
+         ab\n",
+        "no 107 editor 3 event 4\n\
+         stream ends inside a frame\n\
+         event 4 editor\n\
+         begins \"Content-Length: 9\\r\\n\\r\\nab\"\n\
+         no 107 server 2 event 4\n\
+         stream ends inside a frame\n\
+         event 4 server\n\
+         begins \"Content-Length: 7\\r\\n\\r\\n{\"\n\
+         offences 2 following 0\n",
     ),
     (
-        "lsp-session 1\nE 96\nContent-Length: 74\r\n\r\n{\"jsonrpc\":\"2.0\",\"id\":1,\"method\":\"initialize\",\"params\":{\"capabilities\":1}}\nE 88\nContent-Length: 66\r\n\r\n{\"jsonrpc\":\"2.0\",\"id\":7,\"method\":\"textDocument/hover\",\"params\":{}}\n",
-        "no 209 editor 1 event 1\nbad params of an interpreted method\nevent 1 editor\nbegins \"{\\\"jsonrpc\\\":\\\"2.0\\\",\\\"id\\\":1,\\\"method\\\":\\\"initialize\\\",\\\"params\\\":{\\\"capabil\"\noffences 2 following 1\n",
+        "lsp-session 1\n\
+         E 96\nContent-Length: 74\r\n\r\n\
+         {\"jsonrpc\":\"2.0\",\"id\":1,\"method\":\"initialize\",\"params\":{\"capabilities\":1}}\n\
+         E 88\nContent-Length: 66\r\n\r\n\
+         {\"jsonrpc\":\"2.0\",\"id\":7,\"method\":\"textDocument/hover\",\"params\":{}}\n",
+        "no 209 editor 1 event 1\n\
+         bad params of an interpreted method\n\
+         event 1 editor\n\
+         begins \"{\\\"jsonrpc\\\":\\\"2.0\\\",\\\"id\\\":1,\\\"method\\\":\\\"initialize\\\",\
+         \\\"params\\\":{\\\"capabil\"\n\
+         offences 2 following 1\n",
     ),
 ];
 
 const CUT_SHORT: Row = (
-    "lsp-session 1\nE 97\nContent-Length: 75\r\n\r\n{\"jsonrpc\":\"2.0\",\"id\":1,\"method\":\"initialize\",\"params\":{\"capabilities\":{}}}\nS 95\nContent-Length: 73\r\n\r\n{\"jsonrpc\":\"2.0\",\"id\":1,\"result\":{\"capabilities\":{\"textDocumentSync\":2}}}\nE 74\nContent-Length: 52\r\n\r\n{\"jsonrpc\":\"2.0\",\"method\":\"initialized\",\"params\":{}}\nE 88\nContent-Length: 66\r\n\r\n{\"jsonrpc\":\"2.0\",\"id\":7,\"method\":\"textDocument/hover\",\"params\":{}}\nS 62\nContent-Length: 40\r\n\r\n{\"jsonrpc\":\"2.0\",\"id\":\"7\",\"result\":null}\n",
-    "no 301 server 2 event 5\nresponse to no open request\nevent 5 server result \"7\"\nid \"7\"\nno 303 editor 4 event 6\nrequest is not answered\nevent 6 editor\nrequest 7 \"textDocument/hover\" 4\nphase ready\nsince 3\noffences 2 following 0\n",
+    "lsp-session 1\n\
+     E 97\nContent-Length: 75\r\n\r\n\
+     {\"jsonrpc\":\"2.0\",\"id\":1,\"method\":\"initialize\",\"params\":{\"capabilities\":{}}}\n\
+     S 95\nContent-Length: 73\r\n\r\n\
+     {\"jsonrpc\":\"2.0\",\"id\":1,\"result\":{\"capabilities\":{\"textDocumentSync\":2}}}\n\
+     E 74\nContent-Length: 52\r\n\r\n\
+     {\"jsonrpc\":\"2.0\",\"method\":\"initialized\",\"params\":{}}\n\
+     E 88\nContent-Length: 66\r\n\r\n\
+     {\"jsonrpc\":\"2.0\",\"id\":7,\"method\":\"textDocument/hover\",\"params\":{}}\n\
+     S 62\nContent-Length: 40\r\n\r\n\
+     {\"jsonrpc\":\"2.0\",\"id\":\"7\",\"result\":null}\n",
+    "no 301 server 2 event 5\n\
+     response to no open request\n\
+     event 5 server result \"7\"\n\
+     id \"7\"\n\
+     no 303 editor 4 event 6\n\
+     request is not answered\n\
+     event 6 editor\n\
+     request 7 \"textDocument/hover\" 4\n\
+     phase ready\n\
+     since 3\n\
+     offences 2 following 0\n",
 );
 
 #[test]
