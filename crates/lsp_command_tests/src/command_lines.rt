@@ -2,7 +2,6 @@
 use lsp_command::{Request, request_of};
 use std::alloc::Global;
 use std::process::Abort;
-use std::test::*;
 
 /// Words behind the program's name, and behind ` = ` the task and the file, or the status where there
 /// is nothing to run.

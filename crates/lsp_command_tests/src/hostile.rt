@@ -1,12 +1,10 @@
 //! Logs and streams that are cut short, at small limits, nested deep, or spoilt in one byte.
-use crate::logs::{frame_of, log_of, split_word};
-use crate::readers::Pieces;
-use crate::runs::{Work, check_sessions, word_of};
 use lsp_command::Task;
 use lsp_judge::{Completeness, Limits, Mode};
+use lsp_trials::{Pieces, Work, check_sessions, frame_of, log_of, split_word, word_of};
 use std::alloc::Global;
 use std::process::Abort;
-use std::test::*;
+use std::test::Fail;
 
 /// A session from the handshake to the exit, with a document and a snapshot of it: 698 bytes.
 const SESSION: &str = r#"START
@@ -270,15 +268,15 @@ EMPTY
 lengths fault"#;
 
 #[test]
-fn logs_over_a_limit_of_sixteen_bytes(rt: HostRuntime) {
+fn logs_over_a_limit_of_sixteen_bytes(rt: HostRuntime) -> Result<(), Fail> {
     let limits = Limits::new(64, 1, 1, 0, 16).expect(&rt, "limits");
-    check_sessions(&rt, rt.alloc(), OVER_SIXTEEN_BYTES, limits);
+    check_sessions(rt.alloc(), OVER_SIXTEEN_BYTES, limits)
 }
 
 #[test]
-fn logs_and_streams_at_small_limits(rt: HostRuntime) {
+fn logs_and_streams_at_small_limits(rt: HostRuntime) -> Result<(), Fail> {
     let limits = Limits::new(64, 8, 4, 0, 4096).expect(&rt, "limits");
-    check_sessions(&rt, rt.alloc(), SMALL_LIMITS, limits);
+    check_sessions(rt.alloc(), SMALL_LIMITS, limits)
 }
 
 /// How deep arrays nest in a member of an object, and what is reported then.
@@ -302,11 +300,12 @@ fn nested(alloc: Global, depth: usize, report: &str) -> Option<String> {
 }
 
 #[test]
-fn nesting_at_the_limit(rt: HostRuntime) {
+fn nesting_at_the_limit(rt: HostRuntime) -> Result<(), Fail> {
     for (depth, report) in &NESTED {
         let lines = nested(rt.alloc(), *depth, report).expect(&rt, "memory");
-        check_sessions(&rt, rt.alloc(), lines.as_str(), Limits::profile());
+        check_sessions(rt.alloc(), lines.as_str(), Limits::profile())?;
     }
+    Ok(())
 }
 
 /// These bytes with another one in this place.

@@ -1,7 +1,7 @@
 //! Raw streams in each mode, and a session and a stream through the runs that they are not made for.
-use crate::runs::check_sessions;
 use lsp_judge::Limits;
-use std::test::*;
+use lsp_trials::check_sessions;
+use std::test::Fail;
 
 /// A log is no stream, and a stream is no log.
 const EVERY_RUN: &str = r#"START
@@ -250,21 +250,21 @@ F EX
 kinds fault"#;
 
 #[test]
-fn a_session_and_a_stream_through_every_run(rt: HostRuntime) {
-    check_sessions(&rt, rt.alloc(), EVERY_RUN, Limits::profile());
+fn a_session_and_a_stream_through_every_run(rt: HostRuntime) -> Result<(), Fail> {
+    check_sessions(rt.alloc(), EVERY_RUN, Limits::profile())
 }
 
 #[test]
-fn contents_of_streams(rt: HostRuntime) {
-    check_sessions(&rt, rt.alloc(), CONTENTS, Limits::profile());
+fn contents_of_streams(rt: HostRuntime) -> Result<(), Fail> {
+    check_sessions(rt.alloc(), CONTENTS, Limits::profile())
 }
 
 #[test]
-fn faults_of_header_parts(rt: HostRuntime) {
-    check_sessions(&rt, rt.alloc(), FAULTS, Limits::profile());
+fn faults_of_header_parts(rt: HostRuntime) -> Result<(), Fail> {
+    check_sessions(rt.alloc(), FAULTS, Limits::profile())
 }
 
 #[test]
-fn kinds_of_messages(rt: HostRuntime) {
-    check_sessions(&rt, rt.alloc(), KINDS, Limits::profile());
+fn kinds_of_messages(rt: HostRuntime) -> Result<(), Fail> {
+    check_sessions(rt.alloc(), KINDS, Limits::profile())
 }

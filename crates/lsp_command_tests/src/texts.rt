@@ -1,7 +1,6 @@
 //! The text behind a message, by a reader that fails at each of its calls in turn.
-use crate::logs::log_of;
-use crate::readers::Pieces;
 use lsp_judge::{Input, Limits, RunFault, TextAnswer, text_after};
+use lsp_trials::{Pieces, log_of};
 use std::alloc::Global;
 use std::process::Abort;
 

@@ -1,7 +1,7 @@
 //! Worked sessions on documents: their edits, versions and snapshots.
-use crate::runs::check_sessions;
 use lsp_judge::Limits;
-use std::test::*;
+use lsp_trials::check_sessions;
+use std::test::Fail;
 
 /// Positions past the end of a line and of a text, and edits that change line ends.
 const LINE_ENDS: &str = r#"START
@@ -39,8 +39,8 @@ T 2 "a\r\n"
 = yes"#;
 
 #[test]
-fn edits_and_line_ends(rt: HostRuntime) {
-    check_sessions(&rt, rt.alloc(), LINE_ENDS, Limits::profile());
+fn edits_and_line_ends(rt: HostRuntime) -> Result<(), Fail> {
+    check_sessions(rt.alloc(), LINE_ENDS, Limits::profile())
 }
 
 /// Columns by the units of each encoding.
@@ -97,8 +97,8 @@ E CHG 2 / REP 0 1 0 1 "x"
 = no"#;
 
 #[test]
-fn columns_in_each_encoding(rt: HostRuntime) {
-    check_sessions(&rt, rt.alloc(), UNITS, Limits::profile());
+fn columns_in_each_encoding(rt: HostRuntime) -> Result<(), Fail> {
+    check_sessions(rt.alloc(), UNITS, Limits::profile())
 }
 
 /// Changes in their order, and versions.
@@ -137,8 +137,8 @@ E CHG 9 / FULL "b"
 = no"#;
 
 #[test]
-fn changes_and_versions(rt: HostRuntime) {
-    check_sessions(&rt, rt.alloc(), CHANGES, Limits::profile());
+fn changes_and_versions(rt: HostRuntime) -> Result<(), Fail> {
+    check_sessions(rt.alloc(), CHANGES, Limits::profile())
 }
 
 /// Snapshots that come early, late, or differ.
@@ -183,8 +183,8 @@ T 4 "b"
 = no"#;
 
 #[test]
-fn early_late_and_different_snapshots(rt: HostRuntime) {
-    check_sessions(&rt, rt.alloc(), SNAPSHOTS, Limits::profile());
+fn early_late_and_different_snapshots(rt: HostRuntime) -> Result<(), Fail> {
+    check_sessions(rt.alloc(), SNAPSHOTS, Limits::profile())
 }
 
 /// What may be sent to an open document, and a registration that is outside the profile.
@@ -228,8 +228,8 @@ S REG "textDocument/didChange"
 = no"#;
 
 #[test]
-fn open_documents(rt: HostRuntime) {
-    check_sessions(&rt, rt.alloc(), DOCUMENTS, Limits::profile());
+fn open_documents(rt: HostRuntime) -> Result<(), Fail> {
+    check_sessions(rt.alloc(), DOCUMENTS, Limits::profile())
 }
 
 /// Texts over a limit of four bytes.
@@ -246,7 +246,7 @@ E CHG 2 / REP 0 0 0 0 "x"
 = no"#;
 
 #[test]
-fn documents_over_a_small_limit(rt: HostRuntime) {
+fn documents_over_a_small_limit(rt: HostRuntime) -> Result<(), Fail> {
     let limits = Limits::new(4096, 67_108_864, 1_048_576, 4, 1 << 40).expect(&rt, "limits");
-    check_sessions(&rt, rt.alloc(), OVER_FOUR_BYTES, limits);
+    check_sessions(rt.alloc(), OVER_FOUR_BYTES, limits)
 }

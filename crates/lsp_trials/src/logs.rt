@@ -53,7 +53,7 @@ fn template(name: &str) -> Option<&'static str> {
 }
 
 /// The first word, and the others.
-pub(super) fn split_word(line: &str) -> (&str, &str) {
+pub fn split_word(line: &str) -> (&str, &str) {
     line.split_once(' ').unwrap_or((line, ""))
 }
 
@@ -95,7 +95,7 @@ fn content_of(alloc: Global, words: &str) -> Option<String> {
 }
 
 /// The canonical frame of the content that these words name.
-pub(super) fn frame_of(alloc: Global, words: &str) -> Option<String> {
+pub fn frame_of(alloc: Global, words: &str) -> Option<String> {
     let content = content_of(alloc, words)?;
     let content = content.as_str();
     format!(in alloc; "Content-Length: {}\r\n\r\n{content}", content.len()).ok()
@@ -130,7 +130,7 @@ fn push_unescaped(bytes: &mut Vec<u8>, text: &str) -> Option<()> {
 
 /// A log that is built line by line.
 #[derive(Drop)]
-pub(super) struct Log {
+pub struct Log {
     alloc: Global,
     bytes: Vec<u8>,
     /// How many bytes a record of bytes has at most.
@@ -138,8 +138,8 @@ pub(super) struct Log {
 }
 
 impl Log {
-    /// A log without a byte.
-    pub(super) fn new(alloc: Global) -> Log {
+    /// A log without a byte, whose records of bytes may have any length.
+    pub fn new(alloc: Global) -> Log {
         Log {
             alloc,
             bytes: Vec::new(alloc),
@@ -147,7 +147,8 @@ impl Log {
         }
     }
 
-    pub(super) fn bytes(&self) -> &[u8] {
+    /// The bytes as they are now.
+    pub fn bytes(&self) -> &[u8] {
         self.bytes.as_slice()
     }
 
@@ -232,7 +233,7 @@ impl Log {
     /// of the editor, `S` of the server, `T` a snapshot, `+` bytes as they are; `:` says how many bytes
     /// there are. From `CUT` on, records of bytes have so many bytes at most. `F` adds a frame outside
     /// of any record, `LONG` one whose header part has a field of so many letters.
-    pub(super) fn add(&mut self, word: &str, rest: &str) -> Option<()> {
+    pub fn add(&mut self, word: &str, rest: &str) -> Option<()> {
         match word {
             "EMPTY" => self.begin(""),
             "HEAD" => self.begin(first_line(rest)),
@@ -250,7 +251,7 @@ impl Log {
 }
 
 /// The log that these lines build, whose records of bytes have so many bytes at most.
-pub(super) fn log_of(alloc: Global, lines: &str, most: usize) -> Option<Log> {
+pub fn log_of(alloc: Global, lines: &str, most: usize) -> Option<Log> {
     let mut log = Log::new(alloc);
     log.most = most;
     for line in lines.lines() {

@@ -1,7 +1,7 @@
 //! Worked sessions through the runs that write more than a report.
-use crate::runs::check_sessions;
 use lsp_judge::Limits;
-use std::test::*;
+use lsp_trials::check_sessions;
+use std::test::Fail;
 
 /// The events of a session, and a session whose first event offends.
 const EVENTS: &str = r#"START
@@ -31,8 +31,8 @@ E REQ 7
 show no"#;
 
 #[test]
-fn the_events_of_a_session(rt: HostRuntime) {
-    check_sessions(&rt, rt.alloc(), EVENTS, Limits::profile());
+fn the_events_of_a_session(rt: HostRuntime) -> Result<(), Fail> {
+    check_sessions(rt.alloc(), EVENTS, Limits::profile())
 }
 
 /// The events of a session by long lines, which tell the document of a message.
@@ -61,8 +61,8 @@ E CLOSE
 long yes"#;
 
 #[test]
-fn the_events_by_long_lines(rt: HostRuntime) {
-    check_sessions(&rt, rt.alloc(), LONG_LINES, Limits::profile());
+fn the_events_by_long_lines(rt: HostRuntime) -> Result<(), Fail> {
+    check_sessions(rt.alloc(), LONG_LINES, Limits::profile())
 }
 
 /// A session in which four events offend, the third since the second lost the document.
@@ -104,8 +104,8 @@ every no
 all-complete no"#;
 
 #[test]
-fn the_offences_of_a_session(rt: HostRuntime) {
-    check_sessions(&rt, rt.alloc(), OFFENCES, Limits::profile());
+fn the_offences_of_a_session(rt: HostRuntime) -> Result<(), Fail> {
+    check_sessions(rt.alloc(), OFFENCES, Limits::profile())
 }
 
 /// What explains a change that is refused, the place of a log's fault, and two offences.
@@ -157,8 +157,8 @@ E CHG 2 / REP 0 2 0 1 "x"
 explain-all no"#;
 
 #[test]
-fn what_explains_a_verdict(rt: HostRuntime) {
-    check_sessions(&rt, rt.alloc(), EXPLANATIONS, Limits::profile());
+fn what_explains_a_verdict(rt: HostRuntime) -> Result<(), Fail> {
+    check_sessions(rt.alloc(), EXPLANATIONS, Limits::profile())
 }
 
 /// The text of a document after a message of the editor, and what is said where there is none.
@@ -179,8 +179,8 @@ E REQ 7
 text 1 file:///a no"#;
 
 #[test]
-fn the_text_after_a_message(rt: HostRuntime) {
-    check_sessions(&rt, rt.alloc(), TEXTS, Limits::profile());
+fn the_text_after_a_message(rt: HostRuntime) -> Result<(), Fail> {
+    check_sessions(rt.alloc(), TEXTS, Limits::profile())
 }
 
 /// What each event holds, of a session whose ninth event offends and whose tenth is no message.
@@ -214,8 +214,8 @@ event 12 fewer-events
 event 1099511627776 fewer-events"#;
 
 #[test]
-fn the_contents_of_events(rt: HostRuntime) {
-    check_sessions(&rt, rt.alloc(), EVENT_CONTENTS, Limits::profile());
+fn the_contents_of_events(rt: HostRuntime) -> Result<(), Fail> {
+    check_sessions(rt.alloc(), EVENT_CONTENTS, Limits::profile())
 }
 
 /// Events in records of one byte, faults of the frames of each side, and logs that end before the
@@ -267,8 +267,8 @@ EMPTY
 event 1 bad-log"#;
 
 #[test]
-fn fewer_events(rt: HostRuntime) {
-    check_sessions(&rt, rt.alloc(), FEWER_EVENTS, Limits::profile());
+fn fewer_events(rt: HostRuntime) -> Result<(), Fail> {
+    check_sessions(rt.alloc(), FEWER_EVENTS, Limits::profile())
 }
 
 /// The normal form of a session is the session with whole records, however it was cut; a fault ends
@@ -311,8 +311,8 @@ EMPTY
 normal bad-log"#;
 
 #[test]
-fn normal_forms(rt: HostRuntime) {
-    check_sessions(&rt, rt.alloc(), NORMAL_FORMS, Limits::profile());
+fn normal_forms(rt: HostRuntime) -> Result<(), Fail> {
+    check_sessions(rt.alloc(), NORMAL_FORMS, Limits::profile())
 }
 
 /// A frame of 97 bytes in records of 33 and 64 bytes, and in its normal form where a record has 64
@@ -327,7 +327,7 @@ HEAD
 normal done"#;
 
 #[test]
-fn normal_form_with_short_records(rt: HostRuntime) {
+fn normal_form_with_short_records(rt: HostRuntime) -> Result<(), Fail> {
     let limits = Limits::new(4096, 67_108_864, 64, 16_777_216, 1 << 40).expect(&rt, "limits");
-    check_sessions(&rt, rt.alloc(), SHORT_RECORDS, limits);
+    check_sessions(rt.alloc(), SHORT_RECORDS, limits)
 }

@@ -4,7 +4,7 @@ use crate::runs::word_of;
 use lsp_command::{Task, run_task};
 use lsp_judge::{Input, Limits, Output};
 use std::alloc::Global;
-use std::process::Abort;
+use std::test::Fail;
 
 /// How many bytes a reader gives a call, and a writer takes.
 const PIECE: usize = 16;
@@ -22,9 +22,9 @@ struct Left {
 
 /// What a run wrote, the word for how it ended, and what its reader and its writer had left then.
 #[derive(Drop)]
-pub(super) struct Told {
-    pub(super) written: Vec<u8>,
-    pub(super) ended: &'static str,
+struct Told {
+    written: Vec<u8>,
+    ended: &'static str,
     left: Left,
 }
 
@@ -60,39 +60,67 @@ fn is_cut(told: &Told, due: &Told, fault: &str) -> bool {
     told.ended == fault && due.written.as_slice().starts_with(told.written.as_slice())
 }
 
-/// A read fault at each call that the run makes of its reader. A run that is to judge has written
-/// nothing then.
-fn fail_reads(
-    rt: &impl Abort,
+/// A read fault behind so many calls. A run that is to judge has written nothing then.
+fn fail_read(
     alloc: Global,
     limits: Limits,
     task: Task<'_>,
     bytes: &[u8],
     due: &Told,
-) {
-    let is_check = matches!(task, Task::Check(_));
-    for reads in 0..u64::MAX - due.left.reads {
-        let left = Left {
-            reads,
-            writes: u64::MAX,
-            takes_nothing: false,
-        };
-        let told = run_with(alloc, limits, task, bytes, left);
-        let is_cut = is_cut(&told, due, "read-fault");
-        let is_silent = told.written.is_empty() || !is_check;
-        assert!(rt; is_cut && is_silent, "{task:?} behind {reads} reads");
+    reads: u64,
+) -> Result<(), Fail> {
+    let left = Left {
+        reads,
+        writes: u64::MAX,
+        takes_nothing: false,
+    };
+    let told = run_with(alloc, limits, task, bytes, left);
+    let is_silent = told.written.is_empty() || !matches!(task, Task::Check(_));
+    if is_cut(&told, due, "read-fault") && is_silent {
+        return Ok(());
     }
+    Err(Fail::new(format_args!("{task:?} behind {reads} reads")))
+}
+
+/// A write fault behind so many calls, of which each took a byte at least.
+fn fail_write(
+    alloc: Global,
+    limits: Limits,
+    task: Task<'_>,
+    bytes: &[u8],
+    due: &Told,
+    left: Left,
+) -> Result<(), Fail> {
+    let told = run_with(alloc, limits, task, bytes, left);
+    let writes = left.writes;
+    if is_cut(&told, due, "write-fault") && writes <= told.written.len() as u64 {
+        return Ok(());
+    }
+    Err(Fail::new(format_args!("{task:?} behind {writes} writes")))
+}
+
+/// A read fault at each call that the run makes of its reader.
+fn fail_reads(
+    alloc: Global,
+    limits: Limits,
+    task: Task<'_>,
+    bytes: &[u8],
+    due: &Told,
+) -> Result<(), Fail> {
+    for reads in 0..u64::MAX - due.left.reads {
+        fail_read(alloc, limits, task, bytes, due, reads)?;
+    }
+    Ok(())
 }
 
 /// A write fault at each call that the run makes of its writer.
 fn fail_writes(
-    rt: &impl Abort,
     alloc: Global,
     limits: Limits,
     task: Task<'_>,
     bytes: &[u8],
     due: &Told,
-) {
+) -> Result<(), Fail> {
     for writes in 0..u64::MAX - due.left.writes {
         for takes_nothing in [false, true] {
             let left = Left {
@@ -100,30 +128,36 @@ fn fail_writes(
                 writes,
                 takes_nothing,
             };
-            let told = run_with(alloc, limits, task, bytes, left);
-            let is_cut = is_cut(&told, due, "write-fault");
-            let is_all = writes <= told.written.len() as u64;
-            assert!(rt; is_cut && is_all, "{task:?} behind {writes} writes");
+            fail_write(alloc, limits, task, bytes, due, left)?;
         }
     }
+    Ok(())
 }
 
-/// Fails each call of the reader in turn, and each of the writer. Gives what the run tells where none
-/// fails.
+/// What is due begins what a run has to tell, and its word ends that.
+fn check_due(task: Task<'_>, due: &Told, wanted: &[u8]) -> Result<(), Fail> {
+    let ended = due.ended.as_bytes();
+    if wanted.starts_with(due.written.as_slice()) && wanted.ends_with(ended) {
+        return Ok(());
+    }
+    Err(Fail::new(format_args!("{task:?} in pieces of {PIECE}")))
+}
+
+/// Fails each call of the reader in turn, and each of the writer, where a run has to tell this.
 pub(super) fn check_faults(
-    rt: &impl Abort,
     alloc: Global,
     limits: Limits,
     task: Task<'_>,
     bytes: &[u8],
-) -> Told {
+    wanted: &[u8],
+) -> Result<(), Fail> {
     let left = Left {
         reads: u64::MAX,
         writes: u64::MAX,
         takes_nothing: false,
     };
     let due = run_with(alloc, limits, task, bytes, left);
-    fail_reads(rt, alloc, limits, task, bytes, &due);
-    fail_writes(rt, alloc, limits, task, bytes, &due);
-    due
+    check_due(task, &due, wanted)?;
+    fail_reads(alloc, limits, task, bytes, &due)?;
+    fail_writes(alloc, limits, task, bytes, &due)
 }

@@ -4,15 +4,16 @@ use std::io::{Read, Write};
 
 /// A reader that gives so many bytes a call at most, and whose calls fail once none is left.
 #[derive(Drop)]
-pub(super) struct Pieces<'a> {
-    pub(super) rest: &'a [u8],
-    pub(super) most: usize,
-    pub(super) calls_left: u64,
+pub struct Pieces<'a> {
+    rest: &'a [u8],
+    most: usize,
+    /// How many calls are left before they fail.
+    pub calls_left: u64,
 }
 
 impl<'a> Pieces<'a> {
     /// A reader whose calls don't fail.
-    pub(super) fn new(rest: &'a [u8], most: usize) -> Pieces<'a> {
+    pub fn new(rest: &'a [u8], most: usize) -> Pieces<'a> {
         Pieces {
             rest,
             most,
@@ -38,8 +39,9 @@ impl Read for Pieces<'_> {
 
 /// A reader that gives these bytes and fails in place of its end.
 #[derive(Drop)]
-pub(super) struct Broken<'a> {
-    pub(super) rest: &'a [u8],
+pub struct Broken<'a> {
+    /// The bytes that are still to be given.
+    pub rest: &'a [u8],
 }
 
 impl Read for Broken<'_> {
@@ -57,14 +59,16 @@ impl Read for Broken<'_> {
 
 /// A reader without an end: its first bytes, and then others over and over.
 #[derive(Drop)]
-pub(super) struct Endless<'a> {
-    pub(super) rest: &'a [u8],
-    pub(super) again: &'a [u8],
-    pub(super) given: u64,
+pub struct Endless<'a> {
+    rest: &'a [u8],
+    again: &'a [u8],
+    /// How many bytes were given.
+    pub given: u64,
 }
 
 impl<'a> Endless<'a> {
-    pub(super) fn new(first: &'a [u8], again: &'a [u8]) -> Endless<'a> {
+    /// A reader that has given nothing yet.
+    pub fn new(first: &'a [u8], again: &'a [u8]) -> Endless<'a> {
         Endless {
             rest: first,
             again,
@@ -91,11 +95,15 @@ impl Read for Endless<'_> {
 /// A writer that takes so many bytes a call at most, and whose calls fail once none is left, or take
 /// nothing.
 #[derive(Drop)]
-pub(super) struct Sparing {
-    pub(super) bytes: Vec<u8>,
-    pub(super) most: usize,
-    pub(super) calls_left: u64,
-    pub(super) takes_nothing: bool,
+pub struct Sparing {
+    /// The bytes that were taken.
+    pub bytes: Vec<u8>,
+    /// How many are taken a call at most.
+    pub most: usize,
+    /// How many calls are left before they fail.
+    pub calls_left: u64,
+    /// Whether they then take nothing, in place of failing.
+    pub takes_nothing: bool,
 }
 
 impl Write for Sparing {

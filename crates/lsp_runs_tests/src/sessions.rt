@@ -2,12 +2,10 @@
 //! without an end, `KEEP` the log's own bytes) and to report apart from that (`!` a line), and then
 //! the run and how it ends: `=` stands for `check` and `complete` for `check --complete`. The lines
 //! behind a run add to the same log, until one begins a new log.
-use crate::logs::log_of;
-use crate::readers::Broken;
-use crate::runs::{check_sessions, word_of};
 use lsp_judge::{Input, Limits, Output, run_check};
+use lsp_trials::{Broken, check_sessions, log_of, word_of};
 use std::alloc::Global;
-use std::test::*;
+use std::test::Fail;
 
 /// The first line alone.
 const FIRST_LINE: &str = r#"HEAD
@@ -20,8 +18,8 @@ const FIRST_LINE: &str = r#"HEAD
 /// With ample memory the first line alone is accepted, so a run doesn't always answer that memory
 /// was refused.
 #[test]
-fn accepts_the_first_line(rt: HostRuntime) {
-    check_sessions(&rt, rt.alloc(), FIRST_LINE, Limits::profile());
+fn accepts_the_first_line(rt: HostRuntime) -> Result<(), Fail> {
+    check_sessions(rt.alloc(), FIRST_LINE, Limits::profile())
 }
 
 /// A session from the handshake to the exit, and the same in records of one byte; behind `:` stands
@@ -55,8 +53,8 @@ E EX
 = yes"#;
 
 #[test]
-fn whole_sessions_however_cut(rt: HostRuntime) {
-    check_sessions(&rt, rt.alloc(), WHOLE, Limits::profile());
+fn whole_sessions_however_cut(rt: HostRuntime) -> Result<(), Fail> {
+    check_sessions(rt.alloc(), WHOLE, Limits::profile())
 }
 
 /// Requests, their cancellation and their responses.
@@ -105,8 +103,8 @@ E REQ 7
 = no"#;
 
 #[test]
-fn requests_and_responses(rt: HostRuntime) {
-    check_sessions(&rt, rt.alloc(), REQUESTS, Limits::profile());
+fn requests_and_responses(rt: HostRuntime) -> Result<(), Fail> {
+    check_sessions(rt.alloc(), REQUESTS, Limits::profile())
 }
 
 /// What may be sent while `initialize` is open, and what its answer may pick.
@@ -180,8 +178,8 @@ E CHG 2 / REP 0 0 0 0 "b"
 = no"#;
 
 #[test]
-fn handshakes(rt: HostRuntime) {
-    check_sessions(&rt, rt.alloc(), HANDSHAKES, Limits::profile());
+fn handshakes(rt: HostRuntime) -> Result<(), Fail> {
+    check_sessions(rt.alloc(), HANDSHAKES, Limits::profile())
 }
 
 /// Logs that break the form, and streams that end inside a frame.
@@ -236,8 +234,8 @@ HEAD
 = no"#;
 
 #[test]
-fn logs_with_a_fault(rt: HostRuntime) {
-    check_sessions(&rt, rt.alloc(), FAULTS, Limits::profile());
+fn logs_with_a_fault(rt: HostRuntime) -> Result<(), Fail> {
+    check_sessions(rt.alloc(), FAULTS, Limits::profile())
 }
 
 /// Messages out of their place in the lifecycle.
@@ -284,8 +282,8 @@ E EX
 = no"#;
 
 #[test]
-fn lifecycle(rt: HostRuntime) {
-    check_sessions(&rt, rt.alloc(), LIFECYCLE, Limits::profile());
+fn lifecycle(rt: HostRuntime) -> Result<(), Fail> {
+    check_sessions(rt.alloc(), LIFECYCLE, Limits::profile())
 }
 
 /// The same messages of each side in two orders, and in one where a response comes first.
@@ -317,8 +315,8 @@ E REQ 7
 = no"#;
 
 #[test]
-fn messages_in_two_orders(rt: HostRuntime) {
-    check_sessions(&rt, rt.alloc(), ORDERS, Limits::profile());
+fn messages_in_two_orders(rt: HostRuntime) -> Result<(), Fail> {
+    check_sessions(rt.alloc(), ORDERS, Limits::profile())
 }
 
 /// A request before the handshake, and 64 bytes that are no record.
@@ -428,6 +426,6 @@ HEAD
 complete bad-log"#;
 
 #[test]
-fn sessions_that_have_to_be_complete(rt: HostRuntime) {
-    check_sessions(&rt, rt.alloc(), COMPLETE, Limits::profile());
+fn sessions_that_have_to_be_complete(rt: HostRuntime) -> Result<(), Fail> {
+    check_sessions(rt.alloc(), COMPLETE, Limits::profile())
 }

@@ -1,7 +1,7 @@
 //! Worked sessions in both formats, and logs of format 1 that are upgraded.
-use crate::runs::check_sessions;
 use lsp_judge::Limits;
-use std::test::*;
+use lsp_trials::check_sessions;
+use std::test::Fail;
 
 /// Snapshots below the version that is held: always late in format 1, in format 2 compared with the
 /// text held at their version, where that is one of the last sixteen before it.
@@ -164,8 +164,8 @@ T 1 "a"
 = no"#;
 
 #[test]
-fn late_snapshots_in_both_formats(rt: HostRuntime) {
-    check_sessions(&rt, rt.alloc(), FORMATS, Limits::profile());
+fn late_snapshots_in_both_formats(rt: HostRuntime) -> Result<(), Fail> {
+    check_sessions(rt.alloc(), FORMATS, Limits::profile())
 }
 
 /// A log written again in format 2, up to the record whose event offends.
@@ -231,6 +231,6 @@ EMPTY
 upgrade bad-log"#;
 
 #[test]
-fn upgrades(rt: HostRuntime) {
-    check_sessions(&rt, rt.alloc(), UPGRADES, Limits::profile());
+fn upgrades(rt: HostRuntime) -> Result<(), Fail> {
+    check_sessions(rt.alloc(), UPGRADES, Limits::profile())
 }

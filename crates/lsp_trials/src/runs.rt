@@ -8,22 +8,25 @@ use lsp_judge::{Completeness, Input, Limits, Lines, Mode, Outcome, Output, RunFa
 use lsp_survey::Listing;
 use std::alloc::Global;
 use std::num::NonZeroU64;
-use std::process::Abort;
+use std::test::Fail;
 
 /// How a run ended.
-pub(super) type Ended = Result<Outcome, RunFault>;
+pub type Ended = Result<Outcome, RunFault>;
 
 /// A log or a stream that comes in pieces, and its limits.
 #[derive(Drop)]
-pub(super) struct Work<'a> {
-    pub(super) alloc: Global,
-    pub(super) limits: Limits,
-    pub(super) log: Pieces<'a>,
+pub struct Work<'a> {
+    /// The heap that the run takes its memory from.
+    pub alloc: Global,
+    /// What the run accepts at most.
+    pub limits: Limits,
+    /// The bytes, in pieces.
+    pub log: Pieces<'a>,
 }
 
 impl Work<'_> {
     /// The run that the program makes for the task.
-    pub(super) fn run(self, task: Task<'_>, written: &mut Vec<u8>) -> Ended {
+    pub fn run(self, task: Task<'_>, written: &mut Vec<u8>) -> Ended {
         let mut source = Input::new(self.log);
         let mut sink = Output::new(written);
         run_task(self.alloc, task, &mut source, &mut sink, self.limits)
@@ -31,7 +34,7 @@ impl Work<'_> {
 }
 
 /// The word for how a run ended.
-pub(super) fn word_of(ended: &Ended) -> &'static str {
+pub fn word_of(ended: &Ended) -> &'static str {
     match ended {
         Ok(Outcome::Done) => "done",
         Ok(Outcome::Judged(Verdict::Yes(_))) => "yes",
@@ -153,54 +156,64 @@ fn run_of<'a>(word: &str, rest: &'a str) -> Option<(Task<'a>, &'a str)> {
     }
 }
 
+/// The text that these bytes are, for the note of a failure.
+fn shown(bytes: &[u8]) -> &str {
+    str::from_utf8(bytes).unwrap_or("no text")
+}
+
+/// Fails where a run doesn't tell what it has to.
+fn compare(task: Task<'_>, told: &[u8], wanted: &[u8]) -> Result<(), Fail> {
+    if told == wanted {
+        return Ok(());
+    }
+    let (told, wanted) = (shown(told), shown(wanted));
+    Err(Fail::new(format_args!("{task:?}: {told:?} for {wanted:?}")))
+}
+
 /// Runs over a log by a reader that gives so many bytes a call.
 fn check_by(
-    rt: &impl Abort,
     alloc: Global,
     task: Task<'_>,
     limits: Limits,
     log: Pieces<'_>,
     wanted: &[u8],
-) {
-    let told = told_by(alloc, task, limits, log).expect(rt, "memory");
-    assert!(rt;
-        told.as_slice() == wanted,
-        "{task:?}: {told:?} for {wanted:?}"
-    );
+) -> Result<(), Fail> {
+    match told_by(alloc, task, limits, log) {
+        Some(told) => compare(task, told.as_slice(), wanted),
+        None => Err(Fail::new("memory")),
+    }
 }
 
 /// Runs over a log by readers that give a byte, a few or many a call, then by one that fails at each
 /// call, and into a writer that fails at each.
 fn check_log(
-    rt: &impl Abort,
     alloc: Global,
     task: Task<'_>,
     limits: Limits,
     log: &[u8],
     wanted: &[u8],
-) {
+) -> Result<(), Fail> {
     for most in &[1, 7, 4096] {
-        check_by(rt, alloc, task, limits, Pieces::new(log, *most), wanted);
+        check_by(alloc, task, limits, Pieces::new(log, *most), wanted)?;
     }
-    let told = check_faults(rt, alloc, limits, task, log);
-    assert!(rt; wanted.starts_with(told.written.as_slice()), "{task:?}");
-    assert!(rt; wanted.ends_with(told.ended.as_bytes()), "{task:?}");
+    check_faults(alloc, limits, task, log, wanted)
 }
 
-/// Makes the runs that these lines ask for.
-pub(super) fn check_sessions(rt: &impl Abort, alloc: Global, lines: &str, limits: Limits) {
+/// Makes the runs that these lines ask for, and fails at the first that doesn't tell what it has to.
+pub fn check_sessions(alloc: Global, lines: &str, limits: Limits) -> Result<(), Fail> {
     let mut log = Log::new(alloc);
     let mut wanted = Vec::new(alloc);
     for line in lines.lines() {
         let (word, rest) = split_word(line);
         if let Some((task, end)) = run_of(word, rest) {
-            wanted
-                .extend_from_slice(end.as_bytes())
-                .expect(rt, "memory");
-            check_log(rt, alloc, task, limits, log.bytes(), wanted.as_slice());
+            wanted.extend_from_slice(end.as_bytes())?;
+            check_log(alloc, task, limits, log.bytes(), wanted.as_slice())?;
             wanted.clear();
         } else {
-            take_line(&mut log, &mut wanted, word, rest).expect(rt, "a line");
+            let Some(()) = take_line(&mut log, &mut wanted, word, rest) else {
+                return Err(Fail::new(format_args!("no line: {line}")));
+            };
         }
     }
+    Ok(())
 }
