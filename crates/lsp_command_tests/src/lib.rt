@@ -1,11 +1,9 @@
-//! Tests of the words of the command line, of inputs and outputs, and of runs over streams, over logs that
-//! are cut or spoilt and over readers without an end, by public names alone.
+//! Tests of inputs and outputs, and of runs over streams, over logs that are cut or spoilt and over readers
+//! without an end, by public names alone.
 //!
 //! They stand apart from the crate that they try, so that it is proved once.
 #![tactic(auto)]
 
-#[cfg(test)]
-mod command_lines;
 #[cfg(test)]
 mod endless;
 #[cfg(test)]

@@ -1,5 +1,5 @@
 //! Command lines, and what they ask for.
-use lsp_command::{Request, request_of};
+use lsp_words::{Request, request_of};
 use std::alloc::Global;
 use std::process::Abort;
 
