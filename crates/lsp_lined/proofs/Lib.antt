@@ -10,3 +10,4 @@ pub mod GroupPlaces
 pub mod Tables
 pub mod Spans
 pub mod Edits
+pub mod ManyLines

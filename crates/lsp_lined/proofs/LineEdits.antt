@@ -1,5 +1,5 @@
 -- Edits before the end of one line.
-use Rattle.std.proofs.Common.{◌≡◌, ◌<◌, ◌≤◌, ◌+◌, ◌-◌, ℕ, true, false, List, [], ◌∷◌, ◌++◌, length, take, drop, get_or, set, zero, suc, refl, sym, ap, subst, ◌∙◌, inl, inr, arith, append_assoc, length-append, length-drop, ◌⊎◌, ⊎_elim, Option, Some, None, is_some}
+use Rattle.std.proofs.Common.{◌≡◌, ◌<◌, ◌≤◌, ◌+◌, ◌-◌, ℕ, true, false, List, [], ◌∷◌, ◌++◌, length, take, drop, get_or, set, zero, suc, refl, sym, ap, subst, ◌∙◌, inl, inr, arith, append_assoc, length-append, length-drop, ⊎_elim, Option, Some, None, is_some}
 use Rattle.std.proofs.lemmas.List.{append-nil, take-append-drop, drop_more, take_at, drop_at, take-append-le, drop-append-le, length-take-le, set_at, take-take, drop-take}
 use Rattle.std.specs.List.{replace_range}
 use Rattle.std.specs.Str.{chars, IsUtf8, IsCharBoundary}

@@ -1,6 +1,6 @@
 //! The chunks of a text, one after another.
 
-ghost use Rattle.std.specs.Prelude.{◌≡◌, ◌+◌, ◌-◌, ◌<◌, ◌≤◌, ◌^◌, ◌++◌, [], length, take, drop, slice_index_or, IfSome, IfOk, OnOk, OnErr, IsTrue, ◌↔◌};
+ghost use Rattle.std.specs.Prelude.{◌≡◌, ◌+◌, ◌-◌, ◌<◌, ◌≤◌, ◌^◌, ◌++◌, [], length, take, drop, slice_index_or, MatchOption, IfOk, OnOk, OnErr, IsTrue, ◌↔◌};
 ghost use Rattle.std.specs.List.{splice};
 ghost use Rattle.std.specs.Str.{chars};
 ghost use Rattle.std.specs.String.{string_bytes};
@@ -29,7 +29,7 @@ pub(crate) fn locate(chunks: &[Chunk], i: usize) -> InRuns
 
 /// How many lines chunks have, if a number can tell it.
 pub(crate) fn count_in(chunks: &[Chunk]) -> Option<usize>
-    ensures { IfSome result (λ count. count ≡ length (joined_runs chunks.now)) }
+    ensures { MatchOption result (2 ^ 64 ≤ length (joined_runs chunks.now)) (λ count. count ≡ length (joined_runs chunks.now)) }
 {
     let mut count: usize = 0;
     for chunk in chunks {
@@ -49,7 +49,7 @@ pub(crate) fn count_after(
     requires count { count ≡ length (joined_runs chunks.now) }
     requires order { first ≤ end }
     requires within { end ≤ length chunks.now }
-    ensures { IfSome result (λ sum. sum ≡ length (joined_runs (splice chunks.now first end fresh.now))) }
+    ensures { MatchOption result (2 ^ 64 ≤ length (joined_runs (splice chunks.now first end fresh.now))) (λ sum. sum ≡ length (joined_runs (splice chunks.now first end fresh.now))) }
 {
     let gone = count_in(&chunks[first..end])?;
     let more = count_in(fresh)?;

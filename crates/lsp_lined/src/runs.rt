@@ -1,6 +1,6 @@
 //! The runs of a chunk, one after another.
 
-ghost use Rattle.std.specs.Prelude.{◌≡◌, ◌+◌, ◌<◌, ◌≤◌, ◌^◌, ◌++◌, true, length, take, MatchOption, IfSome, OnOk};
+ghost use Rattle.std.specs.Prelude.{◌≡◌, ◌+◌, ◌<◌, ◌≤◌, ◌^◌, ◌++◌, true, length, take, MatchOption, OnOk};
 ghost use Rattle.std.specs.String.{string_bytes};
 ghost use Rattle.lsp_text.specs.Lines.{text_of};
 ghost use Rattle.lsp_text.specs.Places.{units};
@@ -35,7 +35,7 @@ pub(crate) fn locate(runs: &[SharedRun], i: usize) -> InRuns
 
 /// How many lines runs have, if a number can tell it.
 pub(crate) fn count_in(runs: &[SharedRun]) -> Option<usize>
-    ensures { IfSome result (λ count. count ≡ length (joined_runs runs.now)) }
+    ensures { MatchOption result (2 ^ 64 ≤ length (joined_runs runs.now)) (λ count. count ≡ length (joined_runs runs.now)) }
 {
     let mut count: usize = 0;
     for run in runs {
