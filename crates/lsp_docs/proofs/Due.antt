@@ -215,10 +215,6 @@ module _ (n : ℤ) where
         | inr p ↦ rw p (ap (λ k. k + length (filter (is_before n) (versions_in es))) (sym (ap length (none_pass (is_before n) e.0 e.1 (λ t. p)))) ∙ sym split)
       ]
 
-  pub shorter : (es : Entries) → is_first_within n es ≡ true → length (rest_of es) + 1 ≡ length es
-  shorter [] h = absurd (true≢false (sym h))
-  shorter (e ∷ es) h = omega arith
-
   pub rest_sorted : (es : Entries) → IsStrictlySortedBy int_cmp (keys_of es) → IsStrictlySortedBy int_cmp (keys_of (rest_of es))
   rest_sorted [] h = h
   rest_sorted (e ∷ es) h = tail_sorted e es h

@@ -206,11 +206,6 @@ module _ (uri : Bytes) (w : Option Version) (held next : Bytes → Option Versio
   listed-others (u ∷ uris) n =
       rw (at_other u (left_false (bytes_eq uri u) _ n)) (ap (λ l. as_held u (held u) ++ l) (listed-others uris (right_false (bytes_eq uri u) _ n)))
 
-  AllHeld-others : (uris : List Bytes) → list_any (bytes_eq uri) uris ≡ false → AllHeld uris held → AllHeld uris next
-  AllHeld-others [] n a = tt
-  AllHeld-others (u ∷ uris) n a =
-      (ap is_some (at_other u (left_false (bytes_eq uri u) _ n)) ∙ a.0, AllHeld-others uris (right_false (bytes_eq uri u) _ n) a.1)
-
 -- ---- a document comes to a version
 
 module _ (uri : Bytes) (v : Version) (held next : Bytes → Option Version) (put : PutsUnder uri (Some v) held next) where

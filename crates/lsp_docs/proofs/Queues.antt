@@ -209,9 +209,6 @@ module _ {D : Type 0} (versions : D → List Version) where
       count = let none : length (queue_of uri (map queued es)) ≡ 0 = ap length (queue_of-absent es h) in let same = ap (λ l. total (map queued l)) is in omega (arith, none, same);
     }
 
-abbrev pub made : List Queue → ℕ → Waits
-made queues missed = record { queues = queues; missed = missed }
-
 pub lengths-total : (es : List (String Global × List Version)) → lengths (map (λ e. e.1) es) ≡ total (queues_in es)
 lengths-total [] = refl
 lengths-total (e ∷ es) = ap (λ n. length e.1 + n) (lengths-total es)

@@ -145,10 +145,6 @@ entry_lem false false false true y s p e up down = refl
 entry_lem false false false false true s p e up down = absurd (true≢false (sym (up refl)))
 entry_lem false false false false false s p e up down = refl
 
-not_both : (a : Bool) → (a ≡ true → a ≡ false) → a ≡ false
-not_both true f = f refl
-not_both false f = refl
-
 entry-push : (terms : Terms) (before after : List Call) (d c : Call) → AreAccepted terms before → AreAcceptedFrom terms before (d ∷ after) → call_rule terms (before ++ d ∷ after) c ≡ None
     → unmatched_entry terms before d (after ++ c ∷ []) + length (filter (meets c) (shown_entry terms (before ++ d ∷ after) d after)) ≡ unmatched_entry terms before d after
 entry-push terms before after (opens u n t) c done h e = refl

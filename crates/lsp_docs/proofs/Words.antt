@@ -61,9 +61,6 @@ pub length-map : {A B : Type 0} (f : A → B) (xs : List A) → length (map f xs
 length-map f [] = refl
 length-map f (x ∷ xs) = ap suc (length-map f xs)
 
-pub count-map : {A B : Type 0} (f : A → B) (p : B → Bool) (xs : List A) → length (filter (λ x. p (f x)) xs) ≡ length (filter p (map f xs))
-count-map f p xs = sym (length-map f (filter (λ x. p (f x)) xs)) ∙ ap length (filter-map f p xs)
-
 pub uri_same : (a : List ℕ) → bytes_eq a a ≡ true
 uri_same a = (bytes_eq-Decides a a).1 refl
 

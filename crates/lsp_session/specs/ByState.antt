@@ -1,5 +1,5 @@
 -- The rules and readings as a session finds them by what it keeps.
-use Rattle.std.specs.Prelude.{ℕ, List, [], ◌∷◌, Bool, true, not, ◌&&◌, ◌||◌, Option, Some, None, is_some, option_and_then}
+use Rattle.std.specs.Prelude.{ℕ, List, [], ◌∷◌, Bool, true, not, ◌&&◌, ◌||◌, Option, Some, None, is_some}
 use Rattle.std.specs.Option.{option_or}
 use Rattle.lsp_rpc.specs.Act.{Act}
 use Rattle.lsp_rpc.specs.Message.{Message}
@@ -12,8 +12,7 @@ use Rattle.lsp_session.specs.Negotiation.{first_row, register_rule, settled_rule
 use Rattle.lsp_session.specs.OpenInitialize.{Initialize}
 use Rattle.lsp_session.specs.Requests.{id_rule}
 use Rattle.lsp_session.specs.Sent.{Sent, is_exit, is_initialize, is_initialized, is_response, other_side}
-use Rattle.lsp_session.specs.State.{State, agreed_in}
-use Rattle.lsp_session.specs.declared.negotiation.Agreed.{Agreed}
+use Rattle.lsp_session.specs.State.{State}
 
 abbrev pub open_of : Side → State → List Entry
 open_of Editor s = s.editor
@@ -27,13 +26,6 @@ is_waiting s = not (is_done s) && not (is_empty s.initializes)
 
 abbrev pub is_fresh : State → Bool
 is_fresh s = not (is_done s) && is_empty s.initializes
-
--- what the message agrees on, where it is a result that answers the open `initialize`
-abbrev pub agreed_by : State → Side → Message → Option (Option Agreed)
-agreed_by s side message = agreed_in (settled_among s.initializes side message)
-
-abbrev pub agreement : State → Option Agreed
-agreement s = option_and_then (λ agreed. agreed) s.agreed
 
 -- ---- the rules
 

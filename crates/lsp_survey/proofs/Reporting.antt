@@ -88,9 +88,6 @@ begins_at completeness limits listing found out left whole log (later, bad, s, i
       },
     )
 
-by_source : (start now : Told) (f : RunFault) → now.failures ≡ failures_after f start.failures → now.failures ≡ failures_after f start.failures
-by_source start now f e = e
-
 by_sink : (old mid : Told) (f : RunFault) → mid.failures ≡ old.failures → (f ≡ faults.Write → ⊥) → mid.failures ≡ sink_after f old.failures
 by_sink old mid faults.Read e unwritten = e
 by_sink old mid faults.Write e unwritten = absurd (unwritten refl)
@@ -107,21 +104,6 @@ pub record IsListing (completeness : Completeness) (limits : Bounds) (listing : 
   pub same : e.completeness ≡ completeness
   pub tally : IsTally t found
   pub wrote : Wrote old new (lines_of listing found)
-
-none_lines : (listing : Listing) → lines_of listing [] ≡ []
-none_lines Every = refl
-none_lines Causes = refl
-
-pub nothing_listed_yet : (limits : Bounds) (listing : Listing) (e : SurveyReader) (t : Tally) (start old : Told) → SoFar limits e start start [] [] [] → IsTally t [] → IsListing e.completeness limits listing e t start start old old
-nothing_listed_yet limits listing e t start old so tally = record {
-  past = [];
-  notes = [];
-  found = [];
-  so_far = so;
-  same = refl;
-  tally = tally;
-  wrote = subst (Wrote old old) (sym (none_lines listing)) (wrote_nothing old);
-}
 
 module _ (completeness : Completeness) (limits : Bounds) (listing : Listing) (start now old mid new : Told) (found : List Offence) (wrote : Wrote old mid (lines_of listing found)) where
   -- the log was not read to its end

@@ -2,11 +2,6 @@
 use Rattle.std.specs.Prelude.{IfOk, OnOk}
 use Rattle.std.proofs.Common.{Result, Ok, Err}
 
--- three clauses of one result
-pub if_ok_kept : {X E : Type 0} (r : Result X E) (P S : X → Type 0) (Q R : Type 0) → ((x : X) → P x → Q → R → S x) → IfOk r P → OnOk r Q → OnOk r R → IfOk r S
-if_ok_kept (Ok x) P S Q R f p q t = f x p q t
-if_ok_kept (Err e) P S Q R f p q t = p
-
 -- two of a result without a value
 pub on_ok_both : {X E : Type 0} {P Q R : Type 0} (r : Result X E) → (P → Q → R) → OnOk r P → OnOk r Q → OnOk r R
 on_ok_both (Ok x) f p q = f p q

@@ -58,10 +58,6 @@ offence_decides limits sizes format log rest rs v begins offends =
     let final = subst (λ (f : Option Format). IsFinal limits (format_or_one f) whole.1.records whole.1.fault whole.0) cut.0 whole.1.final in
     subst (IsVerdict limits log) (sym (final_more limits format rs whole.1.records cut.1 whole.1.fault v whole.0 cut.2 offends final)) whole.1
 
--- its terms are those of the format of any records that it begins with
-pub log_format : (limits : Bounds) → IsInRange limits → (format : Format) (log rest : List ℕ) (rs : List Record) (v : Verdict) → BeginsLog limits format log rs rest → (whole : IsVerdict limits log v) → log_terms limits whole.format ≡ terms_of limits format
-log_format limits sizes format log rest rs v begins whole = ap (log_terms limits) (records_come_first limits sizes log rest format whole.format rs whole.records whole.fault begins whole.is_log).0
-
 -- ---- and one only
 
 pub same_events : (limits : Bounds) → IsInRange limits → (log : List ℕ) (v w : Verdict) → (p : IsVerdict limits log v) → (q : IsVerdict limits log w) → p.final.events ≡ q.final.events

@@ -2,6 +2,7 @@
 use Rattle.std.proofs.Common.{◌≡◌, ℕ, ◌+◌, Bool, true, false, not, ◌&&◌, ◌||◌, true≢false, List, [], ◌∷◌, ◌++◌, length, Option, Some, None, is_some, refl, sym, ap, ◌∙◌}
 use Rattle.std.specs.Prelude.{if◌then◌else◌}
 use Rattle.std.proofs.lemmas.Bool.{and_parts}
+use Rattle.std.proofs.Math.Bool.{or-true}
 use Rattle.lsp_rpc.specs.Ident.{Ident}
 use Rattle.lsp_rpc.specs.Act.{Act, initialize, initialized, shutdown, exit, did_open, did_change, did_close, did_save, cancel, progress, early, register, other}
 use Rattle.lsp_types.specs.declared.side.Side.{Side}
@@ -11,7 +12,6 @@ use Rattle.lsp_session.specs.Handshake.{was_sent}
 use Rattle.lsp_session.specs.Requests.{names, is_answered, open_entry, open_requests, answers, answers_request}
 use Rattle.lsp_session.specs.Sent.{Sent, same_side, request_of, request_by, answered_id, is_exit, sends}
 use Rattle.lsp_verdict.specs.BroughtToEnd.{AllAnswered, HasUnanswered, HasExit}
-use Rattle.lsp_verdict.proofs.Below.{or_true}
 use Rattle.lsp_verdict.proofs.Finding.{same_split}
 
 -- ---- an answer among later messages
@@ -44,7 +44,7 @@ first_answer id (m ∷ later) e = by_here (first_answer id later) (names (answer
 
 answered_by : (id : Ident) (between : List Sent) (reply : Sent) (after : List Sent) → names (answered_id Editor reply) id ≡ true → is_answered Editor id (between ++ reply ∷ after) ≡ true
 answered_by id [] reply after named = ap (λ b. b || is_answered Editor id after) named
-answered_by id (m ∷ between) reply after named = ap (λ b. names (answered_id Editor m) id || b) (answered_by id between reply after named) ∙ or_true (names (answered_id Editor m) id)
+answered_by id (m ∷ between) reply after named = ap (λ b. names (answered_id Editor m) id || b) (answered_by id between reply after named) ∙ or-true (names (answered_id Editor m) id)
 
 -- ---- a request of the editor's
 
@@ -204,7 +204,7 @@ sends_exit m by exits = ap (λ s. same_side Editor s && is_exit m.act) by ∙ ap
 
 exit_at : (before : List Sent) (m : Sent) (after : List Sent) → sends is_exit m ≡ true → was_sent is_exit (before ++ m ∷ after) ≡ true
 exit_at [] m after e = ap (λ b. b || was_sent is_exit after) e
-exit_at (x ∷ before) m after e = ap (λ b. sends is_exit x || b) (exit_at before m after e) ∙ or_true (sends is_exit x)
+exit_at (x ∷ before) m after e = ap (λ b. sends is_exit x || b) (exit_at before m after e) ∙ or-true (sends is_exit x)
 
 pub exit_found : (messages : List Sent) → HasExit messages → was_sent is_exit messages ≡ true
 exit_found messages has = ap (was_sent is_exit) has.whole ∙ exit_at has.before has.sent has.after (sends_exit has.sent has.by has.exits)
