@@ -13,15 +13,15 @@ use Rattle.lsp_log.specs.Place.{line_of}
 pub line_first : (line after : List ℕ) → holds_feed line ≡ false → line_of (with_feed line ++ after) ≡ with_feed line
 line_first [] after none = refl
 line_first (b ∷ line) after none =
-    cond-false (b == 10) (b ∷ []) (b ∷ line_of (with_feed line ++ after)) ((or_parts (b == 10) (holds_feed line) none).0)
-    ∙ ap (λ (w : List ℕ). b ∷ w) (line_first line after ((or_parts (b == 10) (holds_feed line) none).1))
+    cond-false (b == 10) (b ∷ []) (b ∷ line_of (with_feed line ++ after)) (or_parts (b == 10) (holds_feed line) none).0
+    ∙ ap (λ (w : List ℕ). b ∷ w) (line_first line after (or_parts (b == 10) (holds_feed line) none).1)
 
 -- bytes without a LF are all one line
 pub line_all : (bytes : List ℕ) → holds_feed bytes ≡ false → line_of bytes ≡ bytes
 line_all [] none = refl
 line_all (b ∷ bytes) none =
-    cond-false (b == 10) (b ∷ []) (b ∷ line_of bytes) ((or_parts (b == 10) (holds_feed bytes) none).0)
-    ∙ ap (λ (w : List ℕ). b ∷ w) (line_all bytes ((or_parts (b == 10) (holds_feed bytes) none).1))
+    cond-false (b == 10) (b ∷ []) (b ∷ line_of bytes) (or_parts (b == 10) (holds_feed bytes) none).0
+    ∙ ap (λ (w : List ℕ). b ∷ w) (line_all bytes (or_parts (b == 10) (holds_feed bytes) none).1)
 
 -- so it is where at most 64 bytes are looked at
 pub line_near : (line after : List ℕ) → length line < 64 → holds_feed line ≡ false → line_of (take 64 (with_feed line ++ after)) ≡ with_feed line

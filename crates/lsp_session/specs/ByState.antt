@@ -12,7 +12,8 @@ use Rattle.lsp_session.specs.Negotiation.{first_row, register_rule, settled_rule
 use Rattle.lsp_session.specs.OpenInitialize.{Initialize}
 use Rattle.lsp_session.specs.Requests.{id_rule}
 use Rattle.lsp_session.specs.Sent.{Sent, is_exit, is_initialize, is_initialized, is_response, other_side}
-use Rattle.lsp_session.specs.State.{State}
+use Rattle.lsp_session.specs.State.{State, agreed_in}
+use Rattle.lsp_session.specs.declared.negotiation.Agreed.{Agreed}
 
 abbrev pub open_of : Side → State → List Entry
 open_of Editor s = s.editor
@@ -26,6 +27,10 @@ is_waiting s = not (is_done s) && not (is_empty s.initializes)
 
 abbrev pub is_fresh : State → Bool
 is_fresh s = not (is_done s) && is_empty s.initializes
+
+-- what the message agrees on, where it is a result that answers the open `initialize`
+abbrev pub agreed_by : State → Side → Message → Option (Option Agreed)
+agreed_by s side message = agreed_in (settled_among s.initializes side message)
 
 -- ---- the rules
 

@@ -6,9 +6,9 @@ use Rattle.std.specs.Option.{option_or}
 use Rattle.std.proofs.Common.{◌≡◌, ℕ, zero, suc, ◌≤◌, ◌<◌, Bool, true, false, cond, List, [], ◌∷◌, ◌++◌, Option, Some, None, refl, sym, ap, ◌∙◌, inl, inr, arith}
 use Rattle.std.proofs.lemmas.Bool.{cases_Bool}
 use Rattle.std.proofs.lemmas.Bool.Decides.{nat_tests}
+use Rattle.std.proofs.lemmas.List.{map-append}
 use Rattle.lsp_rpc.specs.Ident.{Ident, id_view, same_id}
 use Rattle.lsp_rpc.specs.declared.message.Id.{Id}
-use Rattle.lsp_docs.proofs.Words.{map-append}
 use Rattle.lsp_verdict.specs.Offences.{last_or}
 use Rattle.lsp_survey.specs.Asking.{Reply, most_replies, last_ones, reply_to, last_reply}
 use Rattle.lsp_survey.specs.SessionNoting.{asked_in, given_view, room_in}

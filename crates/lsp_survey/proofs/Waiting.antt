@@ -1,13 +1,11 @@
 -- The snapshots that wait, kept by version, beside what they stand for.
-use Rattle.std.specs.Prelude.{ℤ, int_lt, not, if◌then◌else◌, IsSome, unwrap_or}
+use Rattle.std.specs.Prelude.{ℤ, int_lt, not, IsSome}
 use Rattle.std.specs.Global.{Global}
 use Rattle.std.specs.Map.{lookup}
 use Rattle.std.specs.Ordering.{int_eq, int_cmp, is_gt}
 use Rattle.std.proofs.lemmas.Int.{ints}
-use Rattle.std.proofs.Common.{◌≡◌, ℕ, true, false, List, [], ◌∷◌, ◌++◌, Option, Some, None, Vec, refl, sym, ap, ◌∙◌, cond, inl, inr, arith, append-nil, length, ◌+◌, true≢false}
-use Rattle.lsp_docs.proofs.Words.{true_or_false, int_is}
-use Rattle.lsp_survey.specs.Marking.{above}
-use Rattle.lsp_survey.specs.Marks.{events_in, waiting_in, is_first_reached, rest_of}
+use Rattle.std.proofs.Common.{◌≡◌, ℕ, true, false, List, Option, Some, None, Vec, refl, sym, ◌∙◌, arith, true≢false}
+use Rattle.lsp_survey.specs.Marks.{waiting_in}
 
 abbrev Entries : Type 0
 Entries = List (ℤ × Vec ℕ Global)

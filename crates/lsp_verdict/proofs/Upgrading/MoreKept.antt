@@ -6,6 +6,7 @@ use Rattle.std.specs.Option.{option_or}
 use Rattle.std.specs.Ordering.{int_eq}
 use Rattle.std.specs.Str.{bytes_eq}
 use Rattle.std.proofs.lemmas.Int.{ints}
+use Rattle.std.proofs.lemmas.Bool.{and_parts}
 use Rattle.lsp_types.specs.declared.position.Encoding.{Encoding}
 use Rattle.lsp_types.specs.declared.change.SyncKind.{SyncKind}
 use Rattle.lsp_text.specs.Edits.{Edit, applied}
@@ -19,7 +20,6 @@ use Rattle.lsp_docs.specs.Terms.{Terms}
 use Rattle.lsp_docs.specs.Texts.{Text, byte_len}
 use Rattle.lsp_docs.proofs.Past.{nothing-past, kept-rises, rule-none_kept, compared-none_kept}
 use Rattle.lsp_docs.proofs.Rising.{last-empty}
-use Rattle.lsp_docs.proofs.Words.{both_parts}
 
 module _ (t u : Terms) (same : t.limit ≡ u.limit) where
   -- ---- what is held doesn't depend on how many are kept
@@ -77,13 +77,13 @@ behind : (w v n : ℤ) → int_lt w v ≡ true → int_lt n v ≡ false → int_
 behind w v n less late = grind (arith, ints)
 
 last_after : (m : ℤ) (xs : List Version) (x : Version) → list_all (is_after m) (xs ++ x ∷ []) ≡ true → int_lt m x.number ≡ true
-last_after m [] x e = (both_parts (int_lt m x.number) true e).0
-last_after m (y ∷ xs) x e = last_after m xs x (both_parts (int_lt m y.number) (list_all (is_after m) (xs ++ x ∷ [])) e).1
+last_after m [] x e = (and_parts (int_lt m x.number) true e).0
+last_after m (y ∷ xs) x e = last_after m xs x (and_parts (int_lt m y.number) (list_all (is_after m) (xs ++ x ∷ [])) e).1
 
 none_at : (ks : List Version) (v : Version) (n : ℤ) → rises (ks ++ v ∷ []) ≡ true → int_lt n v.number ≡ false → list_any (is_at n) ks ≡ false
 none_at [] v n up late = refl
 none_at (k ∷ ks) v n up late =
-    let parts = both_parts (list_all (is_after k.number) (ks ++ v ∷ [])) (rises (ks ++ v ∷ [])) up in
+    let parts = and_parts (list_all (is_after k.number) (ks ++ v ∷ [])) (rises (ks ++ v ∷ [])) up in
     let first = behind k.number v.number n (last_after k.number ks v parts.0) late in
     ap (λ b. b || list_any (is_at n) ks) first ∙ none_at ks v n parts.1 late
 
