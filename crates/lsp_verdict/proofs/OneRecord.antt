@@ -1,16 +1,12 @@
 -- The bytes and the events of records, with one more record.
 use Rattle.std.proofs.Common.{◌≡◌, ℕ, List, [], ◌∷◌, ◌++◌, refl, sym, ap, ◌∙◌, append_assoc, append-nil}
-use Rattle.std.specs.Prelude.{ℤ, chars, if◌then◌else◌, Bool, true, false}
-use Rattle.std.specs.List.{AllZip}
+use Rattle.std.specs.Prelude.{ℤ, if◌then◌else◌, Bool, true, false}
 use Rattle.lsp_frame.specs.Bounds.{Bounds}
 use Rattle.lsp_types.specs.declared.side.Side.{Side}
 use Rattle.lsp_types.specs.declared.side.Side.TheVariants.{Editor, Server}
 use Rattle.lsp_session.specs.Sent.{same_side}
 use Rattle.lsp_log.specs.Log.{Record, chunk, shown}
-use Rattle.lsp_verdict.specs.Event.{Event, snapshot}
-use Rattle.lsp_verdict.specs.Placed.{Raw, show, Brings, PlacedAfter, IsSession, Reads, joined}
-use Rattle.lsp_verdict.proofs.OneEvent.{lists_join}
-use Rattle.lsp_verdict.proofs.PlacedLemmas.{placed-snoc}
+use Rattle.lsp_verdict.specs.Placed.{Raw, Brings, PlacedAfter, joined}
 
 -- ---- the bytes of a side, with one more record
 

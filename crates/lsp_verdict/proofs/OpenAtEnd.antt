@@ -183,17 +183,13 @@ is_it early e = absurd (true≢false (sym e))
 is_it (register methods) e = absurd (true≢false (sym e))
 is_it other e = absurd (true≢false (sym e))
 
-sent_parts : (side act : Bool) → (side && act) ≡ true → (side ≡ true) × (act ≡ true)
-sent_parts true act e = (refl, e)
-sent_parts false act e = absurd (true≢false (sym e))
-
 pub exit_sent : (messages : List Sent) → was_sent is_exit messages ≡ true → HasExit messages
 exit_sent [] e = absurd (true≢false (sym e))
 exit_sent (m ∷ later) e = by_here (exit_sent later) (sends is_exit m) refl e
   where
     by_here : (was_sent is_exit later ≡ true → HasExit later) → (b : Bool) → sends is_exit m ≡ b → (b || was_sent is_exit later) ≡ true → HasExit (m ∷ later)
     by_here next true is e =
-        let parts = sent_parts (same_side Editor m.side) (is_exit m.act) is in
+        let parts = and_parts (same_side Editor m.side) (is_exit m.act) is in
         record { before = []; sent = m; after = later; whole = refl; by = is_editor m.side parts.0; exits = is_it m.act parts.1 }
     by_here next false is e =
         let rest = next e in
