@@ -1,7 +1,6 @@
 -- What is answered on a log and on records means what the verdict on it means.
-use Rattle.std.proofs.Common.{◌≡◌, ◌⊎◌, ℕ, List, Option, Some, None, Result, Ok, Err, inl, inr, refl, sym, ap, subst, ◌∙◌}
+use Rattle.std.proofs.Common.{◌≡◌, ◌⊎◌, ℕ, List, Option, Some, None, Result, Ok, inl, inr, refl, sym, ap, subst, ◌∙◌}
 use Rattle.std.specs.Prelude.{IfOk, option_map}
-use Rattle.std.specs.Result.{IsErr}
 use Rattle.std.proofs.lemmas.Option.{same_Some}
 use Rattle.lsp_frame.specs.Bounds.{Bounds, IsInRange}
 use Rattle.lsp_frame.specs.Sink.{Stopped}
@@ -28,7 +27,7 @@ use Rattle.lsp_verdict.specs.Outcome.{IsFinal, IsVerdict, format_or_one, log_ter
 use Rattle.lsp_verdict.specs.Placed.{IsSession}
 use Rattle.lsp_verdict.specs.RunIo.{OfRead, AppendsFront}
 use Rattle.lsp_judge.specs.Rulings.{verdict_in}
-use Rattle.lsp_judge.specs.Standing.{HasOffence, State, Stands, WasRefused, is_given}
+use Rattle.lsp_judge.specs.Standing.{HasOffence, State, Stands}
 use Rattle.lsp_verdict.specs.Verdict.{Verdict, Summary, yes, no, bad_log, summary, first_no}
 use Rattle.lsp_judge.proofs.Finals.{open_clean}
 use Rattle.lsp_verdict.proofs.Completing.{some_complete_final, are_complete, complete_no, complete_yes, one_complete_verdict}

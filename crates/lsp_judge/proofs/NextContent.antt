@@ -15,7 +15,7 @@ use Rattle.lsp_verdict.specs.Given.{as_given}
 use Rattle.lsp_judge.specs.Rulings.{verdict_in, IsNoAt, IsNoAtSome}
 use Rattle.lsp_events.specs.Standing.{Follows}
 use Rattle.lsp_verdict.specs.Counting.{AreCounts}
-use Rattle.lsp_judge.specs.Next.{HeardAs, HeardOne, HeardNone, IsNext, StoppedNext}
+use Rattle.lsp_judge.specs.Next.{HeardAs, HeardOne, IsNext, StoppedNext}
 use Rattle.lsp_verdict.specs.Verdict.{first_no, no_next, who_of}
 use Rattle.lsp_verdict.specs.declared.counts.Counts.{Counts}
 use Rattle.lsp_judge.specs.declared.ruling.Ruling.{Ruling}

@@ -140,7 +140,7 @@ outlined ms m good keeps is =
     let whole = made p.version p.method p.id p.params p.result p.error m is in
     (whole.0, record { keeps_rules = ap least_broken (sym (rules_kept (parts_of (object ms)) good)) ∙ keeps; made = whole.1 }, whole.2)
 
-words_by_outline : (m : Message) → words_of m ≡ words_of (outline m)
+pub words_by_outline : (m : Message) → words_of m ≡ words_of (outline m)
 words_by_outline (request id method params) = refl
 words_by_outline (notification method params) = refl
 words_by_outline (response id (result value)) = refl

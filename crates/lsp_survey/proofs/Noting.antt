@@ -8,7 +8,6 @@ use Rattle.std.proofs.Common.{arith, ◌<◌, ◌≡◌, ℕ, Bool, true, false,
 use Rattle.lsp_docs.specs.Calls.{Call, uri_of, changes as changes_by}
 use Rattle.lsp_docs.specs.Opened.{held_by}
 use Rattle.lsp_docs.proofs.Entries.{PutsUnder}
-use Rattle.lsp_docs.proofs.Words.{uri_flip}
 use Rattle.lsp_rpc.specs.View.{changes_view}
 use Rattle.lsp_survey.specs.Notes.{nothing, note_in, SetsNote, AreAfter}
 use Rattle.lsp_survey.specs.declared.note.Note.{Note}
@@ -17,7 +16,7 @@ use Rattle.lsp_types.specs.declared.change.Change.{Change}
 use Rattle.lsp_types.specs.declared.change.SyncKind.{SyncKind}
 use Rattle.lsp_types.specs.declared.position.Encoding.{Encoding}
 use Rattle.lsp_verdict.specs.Calls.{edit_of}
-use Rattle.lsp_verdict.specs.Offences.{loses, renews, has_changes, left_lost}
+use Rattle.lsp_verdict.specs.Offences.{renews, has_changes, left_lost}
 
 -- ---- one note is set
 
