@@ -9,6 +9,10 @@ pub first_nil : {A : Type 0} (xs ys : List A) → xs ++ ys ≡ [] → xs ≡ []
 first_nil [] ys e = refl
 first_nil (x ∷ xs) ys e = absurd cc
 
+pub rest_nil : {A : Type 0} (xs ys : List A) → xs ++ ys ≡ [] → ys ≡ []
+rest_nil [] ys e = e
+rest_nil (x ∷ xs) ys e = absurd cc
+
 pub not_nil : {A : Type 0} (xs : List A) (x : A) → xs ++ x ∷ [] ≡ [] → ⊥
 not_nil [] x e = absurd cc
 not_nil (y ∷ xs) x e = absurd cc

@@ -13,6 +13,7 @@ use Rattle.lsp_session.specs.Requests.{names, is_answered, open_entry, open_requ
 use Rattle.lsp_session.specs.Sent.{Sent, same_side, request_of, request_by, answered_id, is_exit, sends}
 use Rattle.lsp_verdict.specs.BroughtToEnd.{AllAnswered, HasUnanswered, HasExit}
 use Rattle.lsp_verdict.proofs.Finding.{same_split}
+use Rattle.lsp_verdict.proofs.Lists.{first_nil, rest_nil}
 
 -- ---- an answer among later messages
 
@@ -60,19 +61,11 @@ answers_is : (asked reply : Sent) (between : List Sent) (call : Ident × List �
     → answers asked between reply ≡ (names (answered_id Editor reply) call.0 && not (is_answered Editor call.0 between))
 answers_is asked reply between call by asks = ap (λ s. answers_request s (request_of asked.message) between reply) by ∙ ap (λ o. answers_request Editor o between reply) asks
 
-nil_left : {A : Type 0} (xs ys : List A) → xs ++ ys ≡ [] → xs ≡ []
-nil_left [] ys e = refl
-nil_left (x ∷ xs) ys e = absurd cc
-
-nil_right : {A : Type 0} (xs ys : List A) → xs ++ ys ≡ [] → ys ≡ []
-nil_right [] ys e = e
-nil_right (x ∷ xs) ys e = absurd cc
-
 -- ---- none is open
 
 open_behind : (before : List Sent) (m : Sent) (after : List Sent) → open_requests Editor (before ++ m ∷ after) ≡ [] → open_entry Editor (request_by Editor m) after ≡ []
-open_behind [] m after e = nil_left (open_entry Editor (request_by Editor m) after) (open_requests Editor after) e
-open_behind (x ∷ before) m after e = open_behind before m after (nil_right (open_entry Editor (request_by Editor x) (before ++ m ∷ after)) (open_requests Editor (before ++ m ∷ after)) e)
+open_behind [] m after e = first_nil (open_entry Editor (request_by Editor m) after) (open_requests Editor after) e
+open_behind (x ∷ before) m after e = open_behind before m after (rest_nil (open_entry Editor (request_by Editor x) (before ++ m ∷ after)) (open_requests Editor (before ++ m ∷ after)) e)
 
 closed_entry : (call : Ident × List ℕ) (later : List Sent) → is_answered Editor call.0 later ≡ true → open_entry Editor (Some call) later ≡ []
 closed_entry call later closed = rw closed refl
