@@ -4,14 +4,14 @@ use Rattle.std.specs.Prelude.{int_lt, if◌then◌else◌}
 use Rattle.std.specs.List.{list_any}
 use Rattle.std.specs.Option.{option_or}
 use Rattle.std.specs.Str.{bytes_eq}
-use Rattle.std.proofs.lemmas.Bool.{or_parts}
+use Rattle.std.proofs.lemmas.Bool.{or_parts, cases_Bool}
 use Rattle.std.proofs.lemmas.Option.{same_Some}
 use Rattle.lsp_text.specs.Edits.{applied}
 use Rattle.lsp_docs.specs.Terms.{Terms}
 use Rattle.lsp_docs.specs.Calls.{Bytes, Call, opens, changes, closes, saves, shows, is_close, is_change}
 use Rattle.lsp_docs.specs.Documents.{Version, versioned, text_or, held}
 use Rattle.lsp_docs.specs.Rules.{call_rule, AreAcceptedFrom}
-use Rattle.lsp_docs.proofs.Words.{true_or_false, uri_is, lt_trans}
+use Rattle.lsp_docs.proofs.Words.{uri_is, lt_trans}
 use Rattle.lsp_docs.proofs.HeldSteps.{next_held, held-snoc}
 use Rattle.lsp_docs.proofs.WaitingSteps.{change_parts}
 
@@ -41,7 +41,7 @@ module _ (terms : Terms) (uri : Bytes) (calls : List Call) (v : Version) (now : 
     stays = λ p. refl;
   }
   next (changes enc k u n cs) e open_still =
-      elim (true_or_false (bytes_eq uri u)) [
+      elim (cases_Bool (bytes_eq uri u)) [
         | inl p ↦
             let parts = change_parts terms _ enc k n cs (held terms u calls) e in
             let same : parts.old ≡ v = same_Some parts.old v (sym parts.is ∙ (ap (λ x. held terms x calls) (sym (uri_is uri u p)) ∙ now)) in
@@ -100,8 +100,8 @@ risen terms uri calls (c ∷ more) v h open_still now =
     record {
       version = rest.version;
       held = ap (held terms uri) (sym (append_assoc calls (c ∷ []) more)) ∙ rest.held;
-      rises = λ p. elim (true_or_false (is_change uri c)) [
-        | inl q ↦ elim (true_or_false (list_any (is_change uri) more)) [
+      rises = λ p. elim (cases_Bool (is_change uri c)) [
+        | inl q ↦ elim (cases_Bool (list_any (is_change uri) more)) [
           | inl r ↦ lt_trans v.number one.version.number rest.version.number (one.rises q) (rest.rises r)
           | inr r ↦ ap (λ w. int_lt v.number w.number) (sym (rest.stays r)) ∙ one.rises q
         ]

@@ -4,7 +4,7 @@ use Rattle.std.specs.Prelude.{ℤ, int_lt, not, is_some, nat_lt}
 use Rattle.std.specs.List.{list_any, list_all}
 use Rattle.std.specs.Ordering.{int_eq}
 use Rattle.std.specs.Str.{bytes_eq}
-use Rattle.std.proofs.lemmas.Bool.{or_parts}
+use Rattle.std.proofs.lemmas.Bool.{or_parts, cases_Bool}
 use Rattle.std.proofs.lemmas.Cmp.{int_eq_equiv}
 use Rattle.std.proofs.lemmas.List.Folds.{list_any-append}
 use Rattle.std.proofs.lemmas.Option.{same_Some}
@@ -17,12 +17,13 @@ use Rattle.lsp_docs.specs.Documents.{Version, versioned, is_after, text_or, held
 use Rattle.lsp_docs.specs.Kept.{past, kept}
 use Rattle.lsp_docs.specs.Snapshots.{is_ahead, waits, shown_entry, waiting_in, waiting, versions_of}
 use Rattle.lsp_docs.specs.Rules.{differs, version_rule, show_rule, call_rule, AreAcceptedFrom, AreAccepted}
-use Rattle.lsp_docs.proofs.Words.{true_or_false, unchanged, uri_is, uri_same}
+use Rattle.lsp_docs.proofs.Words.{unchanged, uri_is, uri_same}
 use Rattle.lsp_docs.proofs.HeldSteps.{next_held, held-snoc}
-use Rattle.lsp_docs.proofs.WaitingSteps.{none_row, no_some, change_parts, versions_of-append}
+use Rattle.lsp_docs.proofs.WaitingSteps.{none_row, change_parts, versions_of-append}
 use Rattle.lsp_docs.proofs.Accepted.{accepted-split, risen}
 use Rattle.lsp_docs.proofs.Rising.{Among, among-none, among-below, among-last}
 use Rattle.lsp_docs.proofs.Past.{past-rises-to, was-held}
+use Rattle.lsp_order.proofs.SlotLemmas.{no_some}
 
 -- where the held version is the snapshot's, the texts agree
 abbrev pub Agrees : Terms → Bytes → ℤ → Text → List Call → Type 0
@@ -69,7 +70,7 @@ module _ (terms : Terms) (front mid : List Call) (uri : Bytes) (n : ℤ) (t : Te
   -- one more accepted call that doesn't close the opening
   step : (c : Call) → is_close uri c ≡ false → call_rule terms here c ≡ None → Agrees terms uri n t (here ++ c ∷ [])
   step (opens u m s) stays e =
-      elim (true_or_false (bytes_eq uri u)) [
+      elim (cases_Bool (bytes_eq uri u)) [
         | inl p ↦ λ v is number.
             let rule : call_rule terms here (opens uri m s) ≡ None = subst (λ x. call_rule terms here (opens x m s) ≡ None) (sym (uri_is uri u p)) e in
             let first = none_row (is_some (held terms uri here)) 601 _ rule in
@@ -82,7 +83,7 @@ module _ (terms : Terms) (front mid : List Call) (uri : Bytes) (n : ℤ) (t : Te
         | inr p ↦ keeps (opens u m s) (rw p (unchanged (held terms uri here)))
       ]
   step (changes enc k u m cs) stays e =
-      elim (true_or_false (bytes_eq uri u)) [
+      elim (cases_Bool (bytes_eq uri u)) [
         | inl p ↦ λ v is number.
             let rule : call_rule terms here (changes enc k uri m cs) ≡ None = subst (λ x. call_rule terms here (changes enc k x m cs) ≡ None) (sym (uri_is uri u p)) e in
             let parts = change_parts terms _ enc k m cs (held terms uri here) rule in

@@ -4,7 +4,7 @@ use Rattle.std.specs.Prelude.{ℤ, not, is_some, if◌then◌else◌, option_map
 use Rattle.std.specs.List.{list_any}
 use Rattle.std.specs.Option.{option_or}
 use Rattle.std.specs.Str.{bytes_eq}
-use Rattle.std.proofs.lemmas.Bool.{or_parts}
+use Rattle.std.proofs.lemmas.Bool.{or_parts, cases_Bool}
 use Rattle.std.proofs.lemmas.List.Folds.{list_any-append}
 use Rattle.std.proofs.lemmas.Option.{same_Some, none-some}
 use Rattle.lsp_docs.specs.Texts.{Text}
@@ -13,10 +13,11 @@ use Rattle.lsp_docs.specs.Calls.{Bytes, Call, opens, changes, closes, saves, sho
 use Rattle.lsp_docs.specs.Documents.{Version, opening, held_since, held}
 use Rattle.lsp_docs.specs.Rules.{call_rule, AreAcceptedFrom, AreAccepted}
 use Rattle.lsp_docs.specs.Binding.{standing, next_opening, binding}
-use Rattle.lsp_docs.proofs.Words.{true_or_false, uri_is}
+use Rattle.lsp_docs.proofs.Words.{uri_is}
 use Rattle.lsp_docs.proofs.HeldSteps.{next_held, held-snoc}
 use Rattle.lsp_docs.proofs.Accepted.{accepted-split}
 use Rattle.lsp_docs.proofs.Agreeing.{agrees-behind, agrees-before}
+use Rattle.lsp_order.proofs.SlotLemmas.{no_some}
 
 -- ---- two ways to cut a list
 
@@ -64,7 +65,7 @@ opens_still false b h = absurd (true≢false (sym h))
 standing-at : (uri : Bytes) (calls : List Call) (i : ℕ) → standing uri calls ≡ Some i → StandsAt uri calls i
 standing-at uri [] i e = absurd (none-some i e)
 standing-at uri (c ∷ after) i e =
-    elim (true_or_false (is_some (opening uri c) && not (list_any (is_close uri) after))) [
+    elim (cases_Bool (is_some (opening uri c) && not (list_any (is_close uri) after))) [
       | inl p ↦
           let parts = opens_still (is_some (opening uri c)) (list_any (is_close uri) after) p in
           let zero_is : 0 ≡ i = same_Some 0 i (sym (ap (λ b. if b then Some 0 else option_map (λ j. j + 1) (standing uri after)) p) ∙ e) in
@@ -87,7 +88,7 @@ standing-at uri (c ∷ after) i e =
 since_none : (terms : Terms) (uri : Bytes) (after : List Call) (o : Option Version) → (is_some o && not (list_any (is_close uri) after)) ≡ false → held_since terms uri after o ≡ None
 since_none terms uri after None h = refl
 since_none terms uri after (Some v) h =
-    elim (true_or_false (list_any (is_close uri) after)) [
+    elim (cases_Bool (list_any (is_close uri) after)) [
       | inl p ↦ rw p refl
       | inr p ↦ absurd (true≢false (sym (ap (λ b. not b) p) ∙ h))
     ]
@@ -96,7 +97,7 @@ since_none terms uri after (Some v) h =
 standing-none : (terms : Terms) (uri : Bytes) (calls : List Call) → standing uri calls ≡ None → held terms uri calls ≡ None
 standing-none terms uri [] e = refl
 standing-none terms uri (c ∷ after) e =
-    elim (true_or_false (is_some (opening uri c) && not (list_any (is_close uri) after))) [
+    elim (cases_Bool (is_some (opening uri c) && not (list_any (is_close uri) after))) [
       | inl p ↦ absurd (none-some 0 (sym e ∙ ap (λ b. if b then Some 0 else option_map (λ j. j + 1) (standing uri after)) p))
       | inr p ↦
           let rest = unmapped (standing uri after) (sym (ap (λ b. if b then Some 0 else option_map (λ j. j + 1) (standing uri after)) p) ∙ e) in
@@ -119,7 +120,7 @@ held-standing terms uri calls v h = go (standing uri calls) refl
 none-opens : (uri : Bytes) (m rest : List Call) (k : ℕ) → next_opening uri (m ++ rest) ≡ Some k → length m ≡ k → list_any (λ c. is_some (opening uri c)) m ≡ false
 none-opens uri [] rest k e n = refl
 none-opens uri (c ∷ m) rest k e n =
-    elim (true_or_false (is_some (opening uri c))) [
+    elim (cases_Bool (is_some (opening uri c))) [
       | inl p ↦
           let here : 0 ≡ k = same_Some 0 k (sym (ap (λ b. if b then Some 0 else option_map (λ j. j + 1) (next_opening uri (m ++ rest))) p) ∙ e) in
           absurd (omega (arith, here, n))
@@ -129,16 +130,12 @@ none-opens uri (c ∷ m) rest k e n =
           rw p (none-opens uri m rest next.0 next.1 at)
     ]
 
-not_opening : (o : Option Version) → is_some o ≡ false → o ≡ None
-not_opening None h = refl
-not_opening (Some v) h = absurd (true≢false h)
-
 -- a close of what is not open is refused
 not_closing : (terms : Terms) (uri : Bytes) (calls : List Call) (c : Call) → held terms uri calls ≡ None → call_rule terms calls c ≡ None → is_close uri c ≡ false
 not_closing terms uri calls (opens u n t) none e = refl
 not_closing terms uri calls (changes enc k u n cs) none e = refl
 not_closing terms uri calls (closes u) none e =
-    elim (true_or_false (bytes_eq uri u)) [
+    elim (cases_Bool (bytes_eq uri u)) [
       | inl p ↦ absurd (let rule : ℕ = 602 in none-some rule (sym e ∙ ap (λ o. if is_some o then None else Some 602) (ap (λ x. held terms x calls) (sym (uri_is uri u p)) ∙ none)))
       | inr p ↦ p
     ]
@@ -152,7 +149,7 @@ none-closes terms uri calls (c ∷ m) h none opened =
     let parts = or_parts (is_some (opening uri c)) (list_any (λ d. is_some (opening uri d)) m) opened in
     let close = not_closing terms uri calls c none h.0 in
     let still : held terms uri (calls ++ c ∷ []) ≡ None = held-snoc terms uri calls c
-    ∙ (ap (λ x. next_held terms uri x c) none ∙ (ap (λ b. if b then None else option_or None (opening uri c)) close ∙ not_opening (opening uri c) parts.0)) in
+    ∙ (ap (λ x. next_held terms uri x c) none ∙ (ap (λ b. if b then None else option_or None (opening uri c)) close ∙ no_some (opening uri c) parts.0)) in
     rw close (none-closes terms uri (calls ++ c ∷ []) m h.1 still parts.1)
 
 -- ---- between a snapshot and a prefix of one opening no close stands

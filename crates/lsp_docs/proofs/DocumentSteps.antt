@@ -4,6 +4,9 @@ use Rattle.std.specs.Prelude.{if◌then◌else◌, ℤ, not}
 use Rattle.std.specs.Str.{bytes_eq}
 use Rattle.std.specs.Option.{option_or}
 use Rattle.std.proofs.lemmas.Option.{none-some, same_Some}
+use Rattle.std.proofs.lemmas.Bool.{cases_Bool}
+use Rattle.std.proofs.lemmas.List.Elements.{filter-append}
+use Rattle.std.proofs.lemmas.List.{map-append}
 use Rattle.lsp_types.specs.declared.position.Encoding.{Encoding}
 use Rattle.lsp_types.specs.declared.change.SyncKind.{SyncKind}
 use Rattle.lsp_docs.specs.Texts.{Text}
@@ -12,7 +15,7 @@ use Rattle.lsp_text.specs.Edits.{Edit, applied}
 use Rattle.lsp_docs.specs.Calls.{Bytes, Call, opens, changes, closes, saves, shows, is_close}
 use Rattle.lsp_docs.specs.Documents.{Version, versioned, revised, held_since, held, Held, as_held, held_entry, documents}
 use Rattle.lsp_docs.specs.State.{held_in, set_in, without}
-use Rattle.lsp_docs.proofs.Words.{true_or_false, filter-append, map-append, uri_is, uri_flip}
+use Rattle.lsp_docs.proofs.Words.{uri_is, uri_flip}
 use Rattle.lsp_docs.proofs.HeldSteps.{since, held_since-snoc}
 
 abbrev pub stays : Call → Held → Bool
@@ -23,8 +26,8 @@ revised_held terms c h = record { uri = h.uri; version = revised terms h.uri h.v
 
 as_since : (terms : Terms) (u : Bytes) (o : Option Version) (c : Call)
     → as_held u (since terms u o (is_close u c) c) ≡ map (revised_held terms c) (filter (stays c) (as_held u o))
-as_since terms u None c = elim (true_or_false (is_close u c)) [ inl p ↦ rw p refl | inr p ↦ rw p refl ]
-as_since terms u (Some v) c = elim (true_or_false (is_close u c)) [ inl p ↦ rw p refl | inr p ↦ rw p refl ]
+as_since terms u None c = elim (cases_Bool (is_close u c)) [ inl p ↦ rw p refl | inr p ↦ rw p refl ]
+as_since terms u (Some v) c = elim (cases_Bool (is_close u c)) [ inl p ↦ rw p refl | inr p ↦ rw p refl ]
 
 held_entry-push : (terms : Terms) (c : Call) (later : List Call) (m : Call)
     → held_entry terms c (later ++ m ∷ []) ≡ map (revised_held terms m) (filter (stays m) (held_entry terms c later))
@@ -51,15 +54,15 @@ documents-push terms (c ∷ calls) m =
 -- ---- what is held of a URI stands in the list
 
 held_in-as : (uri u : Bytes) (o : Option Version) (rest : List Held) → held_in uri (as_held u o ++ rest) ≡ (if bytes_eq uri u then option_or o (held_in uri rest) else held_in uri rest)
-held_in-as uri u None rest = elim (true_or_false (bytes_eq uri u)) [ inl p ↦ rw p refl | inr p ↦ rw p refl ]
-held_in-as uri u (Some v) rest = elim (true_or_false (bytes_eq uri u)) [ inl p ↦ rw p refl | inr p ↦ rw p refl ]
+held_in-as uri u None rest = elim (cases_Bool (bytes_eq uri u)) [ inl p ↦ rw p refl | inr p ↦ rw p refl ]
+held_in-as uri u (Some v) rest = elim (cases_Bool (bytes_eq uri u)) [ inl p ↦ rw p refl | inr p ↦ rw p refl ]
 
 pub held-documents : (terms : Terms) (uri : Bytes) (calls : List Call) → held terms uri calls ≡ held_in uri (documents terms calls)
 held-documents terms uri [] = refl
 held-documents terms uri (opens u n t ∷ calls) =
     let rest = held-documents terms uri calls in
     let o = held_since terms u calls (Some (versioned n t)) in
-    elim (true_or_false (bytes_eq uri u)) [
+    elim (cases_Bool (bytes_eq uri u)) [
       | inl p ↦ rw (held_in-as uri u o (documents terms calls), p, rest, uri_is uri u p) refl
       | inr p ↦ rw (held_in-as uri u o (documents terms calls), p, rest) refl
     ]
@@ -109,7 +112,7 @@ closed_none terms u (h ∷ hs) e =
 pub closed_is : (terms : Terms) (u : Bytes) (hs : List Held) → IsDistinct hs → after_call terms (closes u) hs ≡ without u hs
 closed_is terms u [] d = refl
 closed_is terms u (h ∷ hs) d =
-    elim (true_or_false (bytes_eq u h.uri)) [
+    elim (cases_Bool (bytes_eq u h.uri)) [
       | inl p ↦ rw (uri_flip h.uri u, p) (closed_none terms u hs (subst (λ x. held_in x hs ≡ None) (sym (uri_is u h.uri p)) d.0))
       | inr p ↦ rw (uri_flip h.uri u, p) (ap (λ l. h ∷ l) (closed_is terms u hs d.1))
     ]
@@ -125,7 +128,7 @@ module _ (terms : Terms) (enc : Encoding) (k : SyncKind) (u : Bytes) (n : ℤ) (
       → after_call terms (changes enc k u n cs) hs ≡ set_in u (versioned n t) hs
   changed_is v t made [] d e = absurd (none-some v e)
   changed_is v t made (h ∷ hs) d e =
-      elim (true_or_false (bytes_eq u h.uri)) [
+      elim (cases_Bool (bytes_eq u h.uri)) [
         | inl p ↦
             let same : h.version ≡ v = here (bytes_eq u h.uri) h.version v (held_in u hs) e p in
             rw (uri_flip h.uri u, p, same, made) (ap (λ l. record { uri = h.uri; version = versioned n t } ∷ l) (changed_none hs (subst (λ x. held_in x hs ≡ None) (sym (uri_is u h.uri p)) d.0)))

@@ -22,7 +22,11 @@ use Rattle.std.proofs.lemmas.Bool.Decides.{nat_tests}
 use Rattle.std.specs.Prelude.{nat_lt}
 use Rattle.std.specs.Str.{bytes_eq, chars}
 use Rattle.std.proofs.lemmas.Bool.Decides.{Decides-int_eq}
-use Rattle.lsp_docs.proofs.Words.{true_or_false, int_is, filter-append, map-append, length-map}
+use Rattle.std.proofs.lemmas.Bool.{cases_Bool, and_left, not-true, not-false}
+use Rattle.std.proofs.lemmas.List.Elements.{filter-append}
+use Rattle.std.proofs.lemmas.List.{map-append, length-map}
+use Rattle.std.proofs.Math.Bool.{or-false}
+use Rattle.lsp_docs.proofs.Words.{int_is, lt_trans, less_behind, and_first}
 use Rattle.lsp_docs.proofs.Queues.{rest_of as rest_of_entry, head_is, not_head}
 use Rattle.lsp_docs.proofs.SameVersions.{count-append}
 
@@ -33,9 +37,9 @@ Entries = List (ℤ × List Text)
 
 less_is : (a b : ℤ) → is_lt (int_cmp a b) ≡ int_lt a b
 less_is a b =
-    elim (true_or_false (int_lt a b)) [
+    elim (cases_Bool (int_lt a b)) [
       | inl p ↦ rw p refl
-      | inr p ↦ rw p (elim (true_or_false (int_lt b a)) [ inl q ↦ rw q refl | inr q ↦ rw q refl ])
+      | inr p ↦ rw p (elim (cases_Bool (int_lt b a)) [ inl q ↦ rw q refl | inr q ↦ rw q refl ])
     ]
 
 lt_of : (a b : ℤ) → int_cmp a b ≡ Less → int_lt a b ≡ true
@@ -44,18 +48,12 @@ lt_of a b h = sym (less_is a b) ∙ ap is_lt h
 irreflexive : (v : ℤ) → int_lt v v ≡ false
 irreflexive v = grind (arith, ints)
 
-trans : (a b c : ℤ) → int_lt a b ≡ true → int_lt b c ≡ true → int_lt a c ≡ true
-trans a b c h k = grind (arith, ints)
-
 past : (a b c : ℤ) → int_lt a b ≡ true → int_lt b c ≡ true → int_lt c a ≡ false
 past a b c h k = grind (arith, ints)
 
-not_back : (a b : ℤ) → int_lt a b ≡ true → int_lt b a ≡ false
-not_back a b h = grind (arith, ints)
-
 apart : (a b : ℤ) → int_lt a b ≡ true → int_eq a b ≡ false
 apart a b h =
-    elim (true_or_false (int_eq a b)) [
+    elim (cases_Bool (int_eq a b)) [
       | inl p ↦ absurd (true≢false (sym h ∙ (ap (λ x. int_lt x b) (int_is a b p) ∙ irreflexive b)))
       | inr p ↦ p
     ]
@@ -95,13 +93,9 @@ module _ (n : ℤ) (q : Text → Bool) (test : Version → Bool)
       list_any-append test (map (versioned e.0) e.1) (versions_in es)
       ∙ (ap (λ b. b || list_any test (versions_in es)) (any_away e.0 e.1 (apart n e.0 (lt_of n e.0 h.0))) ∙ any_above es h.1)
 
-  or_none : (b : Bool) → (b || false) ≡ b
-  or_none true = refl
-  or_none false = refl
-
   head_found : (k : ℤ) (ts : List Text) (es : Entries) → n ≡ k → Above k es → list_any test (map (versioned k) ts) || list_any test (versions_in es) ≡ list_any q ts
   head_found k ts es e h =
-      rw (← e) (ap (λ b. list_any test (map (versioned n) ts) || b) (any_above es (subst_above es e h)) ∙ (or_none (list_any test (map (versioned n) ts)) ∙ any_here ts))
+      rw (← e) (ap (λ b. list_any test (map (versioned n) ts) || b) (any_above es (subst_above es e h)) ∙ (or-false (list_any test (map (versioned n) ts)) ∙ any_here ts))
     where
       subst_above : (es : Entries) → n ≡ k → Above k es → Above n es
       subst_above es e h = subst (λ x. Above x es) (sym e) h
@@ -111,7 +105,7 @@ module _ (n : ℤ) (q : Text → Bool) (test : Version → Bool)
   any_found [] h = refl
   any_found (e ∷ es) h =
       list_any-append test (map (versioned e.0) e.1) (versions_in es)
-      ∙ elim (true_or_false (int_eq n e.0)) [
+      ∙ elim (cases_Bool (int_eq n e.0)) [
         | inl p ↦ rw p (head_found e.0 e.1 es (int_is n e.0 p) (head_above e es h))
         | inr p ↦ rw p (ap (λ b. b || list_any test (versions_in es)) (any_away e.0 e.1 p) ∙ any_found es (tail_sorted e es h))
       ]
@@ -128,7 +122,7 @@ eq_same n = (Decides-int_eq n n).1 refl
 
 eq_flip : (a b : ℤ) → int_eq a b ≡ false → int_eq b a ≡ false
 eq_flip a b h =
-    elim (true_or_false (int_eq b a)) [
+    elim (cases_Bool (int_eq b a)) [
       | inl p ↦ absurd (true≢false (sym (eq_same b) ∙ (ap (λ x. int_eq x b) (int_is b a p) ∙ h)))
       | inr p ↦ p
     ]
@@ -143,20 +137,14 @@ due-there n es ts h at = sym (any_text ts) ∙ sym (due_found n es h ∙ ap (fou
 pub due-absent : (n : ℤ) (es : Entries) → IsStrictlySortedBy int_cmp (keys_of es) → lookup (int_eq n) es ≡ None → false ≡ list_any (is_at n) (versions_in es)
 due-absent n es h at = sym (due_found n es h ∙ ap (found n (λ _. true) (is_at n) (λ t. eq_same n) (λ v e. eq_flip n v.number e)) at)
 
-and_same : (b c : Bool) → b ≡ true → (b && c) ≡ c
-and_same b c e = rw e refl
-
-and_no : (b c : Bool) → b ≡ false → (b && c) ≡ false
-and_no b c e = rw e refl
-
 differs_found : (n : ℤ) (text : Text) (es : Entries) → IsStrictlySortedBy int_cmp (keys_of es)
     → list_any (differs (versioned n text)) (versions_in es)
-    ≡ found n (λ t. not (bytes_eq text t)) (differs (versioned n text)) (λ t. and_same (int_eq n n) _ (eq_same n)) (λ v e. and_no (int_eq n v.number) _ e) (lookup (int_eq n) es)
-differs_found n text es h = any_found n (λ t. not (bytes_eq text t)) (differs (versioned n text)) (λ t. and_same (int_eq n n) _ (eq_same n)) (λ v e. and_no (int_eq n v.number) _ e) es h
+    ≡ found n (λ t. not (bytes_eq text t)) (differs (versioned n text)) (λ t. and_first (int_eq n n) _ (eq_same n)) (λ v e. and_left (int_eq n v.number) _ e) (lookup (int_eq n) es)
+differs_found n text es h = any_found n (λ t. not (bytes_eq text t)) (differs (versioned n text)) (λ t. and_first (int_eq n n) _ (eq_same n)) (λ v e. and_left (int_eq n v.number) _ e) es h
 
 module _ (n : ℤ) (text : Text) (es : Entries) (h : IsStrictlySortedBy int_cmp (keys_of es)) where
   abbrev looked : Option (List Text) → Bool
-  looked = found n (λ t. not (bytes_eq text t)) (differs (versioned n text)) (λ t. and_same (int_eq n n) _ (eq_same n)) (λ v e. and_no (int_eq n v.number) _ e)
+  looked = found n (λ t. not (bytes_eq text t)) (differs (versioned n text)) (λ t. and_first (int_eq n n) _ (eq_same n)) (λ v e. and_left (int_eq n v.number) _ e)
 
   pub differs-there : (ts : List Text) → lookup (int_eq n) es ≡ Some ts → list_any (λ t. not (bytes_eq text t)) ts ≡ list_any (differs (versioned n text)) (versions_in es)
   differs-there ts at = sym (differs_found n text es h ∙ ap looked at)
@@ -166,10 +154,10 @@ module _ (n : ℤ) (text : Text) (es : Entries) (h : IsStrictlySortedBy int_cmp 
 
 module _ (n : ℤ) (text other : Text) (es : Entries) (h : IsStrictlySortedBy int_cmp (keys_of es)) where
   namely : (t : Text) → is_other (versioned n text) other (versioned n t) ≡ is_other_text text other t
-  namely t = ap (λ b. b && bytes_eq t other) (and_same (int_eq n n) _ (eq_same n))
+  namely t = ap (λ b. b && bytes_eq t other) (and_first (int_eq n n) _ (eq_same n))
 
   away : (v : Version) → int_eq n v.number ≡ false → is_other (versioned n text) other v ≡ false
-  away v e = ap (λ b. b && bytes_eq v.text other) (and_no (int_eq n v.number) _ e)
+  away v e = ap (λ b. b && bytes_eq v.text other) (and_left (int_eq n v.number) _ e)
 
   pub other-there : (ts : List Text) → lookup (int_eq n) es ≡ Some ts → list_any (is_other_text text other) ts ≡ list_any (is_other (versioned n text) other) (versions_in es)
   other-there ts at = sym (any_found n (is_other_text text other) (is_other (versioned n text) other) namely away es h ∙ ap (found n (is_other_text text other) (is_other (versioned n text) other) namely away) at)
@@ -190,34 +178,22 @@ none_pass : (p : Version → Bool) (k : ℤ) (ts : List Text) → ((t : Text) �
 none_pass p k [] h = refl
 none_pass p k (t ∷ ts) h = rw (h t) (none_pass p k ts h)
 
-not_true : (b : Bool) → not b ≡ true → b ≡ false
-not_true true h = sym h
-not_true false h = refl
-
-not_false : (b : Bool) → not b ≡ false → b ≡ true
-not_false true h = refl
-not_false false h = absurd (true≢false h)
-
 module _ (n : ℤ) where
   -- the first version is reached
   pub after_step : (es : Entries) → is_first_within n es ≡ true → filter (is_after n) (versions_in (rest_of es)) ≡ filter (is_after n) (versions_in es)
   after_step [] h = refl
   after_step (e ∷ es) h =
       sym (filter-append (is_after n) (map (versioned e.0) e.1) (versions_in es)
-      ∙ ap (λ l. l ++ filter (is_after n) (versions_in es)) (none_pass (is_after n) e.0 e.1 (λ t. not_true (int_lt n e.0) h)))
+      ∙ ap (λ l. l ++ filter (is_after n) (versions_in es)) (none_pass (is_after n) e.0 e.1 (λ t. not-true (int_lt n e.0) h)))
 
   pub before_step : (es : Entries) → first_before n es + length (filter (is_before n) (versions_in (rest_of es))) ≡ length (filter (is_before n) (versions_in es))
   before_step [] = refl
   before_step (e ∷ es) =
       let split = count-append (is_before n) (map (versioned e.0) e.1) (versions_in es) in
-      elim (true_or_false (int_lt e.0 n)) [
-        | inl p ↦ rw p (ap (λ k. k + length (filter (is_before n) (versions_in es))) (sym (ap length (all_pass (is_before n) e.0 e.1 (λ t. p)) ∙ length-map (versioned e.0) e.1)) ∙ sym split)
+      elim (cases_Bool (int_lt e.0 n)) [
+        | inl p ↦ rw p (ap (λ k. k + length (filter (is_before n) (versions_in es))) (sym (ap length (all_pass (is_before n) e.0 e.1 (λ t. p)) ∙ length-map e.1 (versioned e.0))) ∙ sym split)
         | inr p ↦ rw p (ap (λ k. k + length (filter (is_before n) (versions_in es))) (sym (ap length (none_pass (is_before n) e.0 e.1 (λ t. p)))) ∙ sym split)
       ]
-
-  pub shorter : (es : Entries) → is_first_within n es ≡ true → length (rest_of es) + 1 ≡ length es
-  shorter [] h = absurd (true≢false (sym h))
-  shorter (e ∷ es) h = omega arith
 
   pub rest_sorted : (es : Entries) → IsStrictlySortedBy int_cmp (keys_of es) → IsStrictlySortedBy int_cmp (keys_of (rest_of es))
   rest_sorted [] h = h
@@ -228,7 +204,7 @@ module _ (n : ℤ) where
   after_above k [] less h = refl
   after_above k (e ∷ es) less h =
       filter-append (is_after n) (map (versioned e.0) e.1) (versions_in es)
-      ∙ (ap (λ l. l ++ filter (is_after n) (versions_in es)) (all_pass (is_after n) e.0 e.1 (λ t. trans n k e.0 less (lt_of k e.0 h.0)))
+      ∙ (ap (λ l. l ++ filter (is_after n) (versions_in es)) (all_pass (is_after n) e.0 e.1 (λ t. lt_trans n k e.0 less (lt_of k e.0 h.0)))
       ∙ ap (λ l. map (versioned e.0) e.1 ++ l) (after_above k es less h.1))
 
   before_above : (k : ℤ) (es : Entries) → int_lt n k ≡ true → Above k es → filter (is_before n) (versions_in es) ≡ []
@@ -241,7 +217,7 @@ module _ (n : ℤ) where
   pub after_end : (es : Entries) → IsStrictlySortedBy int_cmp (keys_of es) → is_first_within n es ≡ false → filter (is_after n) (versions_in es) ≡ versions_in es
   after_end [] h e = refl
   after_end (x ∷ es) h e =
-      let less = not_false (int_lt n x.0) e in
+      let less = not-false (int_lt n x.0) e in
       filter-append (is_after n) (map (versioned x.0) x.1) (versions_in es)
       ∙ (ap (λ l. l ++ filter (is_after n) (versions_in es)) (all_pass (is_after n) x.0 x.1 (λ t. less))
       ∙ ap (λ l. map (versioned x.0) x.1 ++ l) (after_above x.0 es less (head_above x es h)))
@@ -249,9 +225,9 @@ module _ (n : ℤ) where
   pub before_end : (es : Entries) → IsStrictlySortedBy int_cmp (keys_of es) → is_first_within n es ≡ false → filter (is_before n) (versions_in es) ≡ []
   before_end [] h e = refl
   before_end (x ∷ es) h e =
-      let less = not_false (int_lt n x.0) e in
+      let less = not-false (int_lt n x.0) e in
       filter-append (is_before n) (map (versioned x.0) x.1) (versions_in es)
-      ∙ (ap (λ l. l ++ filter (is_before n) (versions_in es)) (none_pass (is_before n) x.0 x.1 (λ t. not_back n x.0 less))
+      ∙ (ap (λ l. l ++ filter (is_before n) (versions_in es)) (none_pass (is_before n) x.0 x.1 (λ t. less_behind x.0 n less))
       ∙ before_above x.0 es less (head_above x es h))
 
 -- what a loop over the first versions keeps
@@ -279,7 +255,7 @@ module _ (n : ℤ) (x : Text) (p : Version → Bool) where
   count-there : (es : Entries) (ts w : List Text) → lookup (int_eq n) es ≡ Some ts → w ≡ ts ++ x ∷ [] → many (versions_in es ++ one) ≡ many (versions_in (set_value (int_eq n) es w))
   count-there [] ts w h e = absurd (none-some ts h)
   count-there (y ∷ es) ts w h e =
-      elim (true_or_false (int_eq n y.0)) [
+      elim (cases_Bool (int_eq n y.0)) [
         | inl k ↦
             let same : n ≡ y.0 = int_is n y.0 k in
             let own : y.1 ≡ ts = head_is (int_eq n y.0) y.1 (lookup (int_eq n) es) ts h k in
@@ -326,7 +302,7 @@ added-new n x es w h e = λ p. count-new n x p es h ∙ ap (λ v. length (filter
 pub same-written : (n : ℤ) (es : Entries) (ts w : List Text) → lookup (int_eq n) es ≡ Some ts → w ≡ ts → versions_in (set_value (int_eq n) es w) ≡ versions_in es
 same-written n [] ts w h e = refl
 same-written n (y ∷ es) ts w h e =
-    elim (true_or_false (int_eq n y.0)) [
+    elim (cases_Bool (int_eq n y.0)) [
       | inl k ↦ rw k (ap (λ l. map (versioned y.0) l ++ versions_in es) (e ∙ sym (head_is (int_eq n y.0) y.1 (lookup (int_eq n) es) ts h k)))
       | inr k ↦ rw k (ap (λ l. map (versioned y.0) y.1 ++ l) (same-written n es ts w (rest_of_entry (int_eq n y.0) y.1 (lookup (int_eq n) es) (Some ts) h k) e))
     ]
@@ -337,7 +313,7 @@ sizes (ts ∷ tss) = length ts + sizes tss
 
 pub sizes-all : (es : Entries) → sizes (map (λ e. e.1) es) ≡ length (versions_in es)
 sizes-all [] = refl
-sizes-all (e ∷ es) = let rest = sizes-all es in let own = length-map (versioned e.0) e.1 in let all = length-append (map (versioned e.0) e.1) (versions_in es) in omega (arith, rest, own, all)
+sizes-all (e ∷ es) = let rest = sizes-all es in let own = length-map e.1 (versioned e.0) in let all = length-append (map (versioned e.0) e.1) (versions_in es) in omega (arith, rest, own, all)
 
 -- ---- the loop that drops what is reached
 

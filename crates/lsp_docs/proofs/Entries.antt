@@ -1,5 +1,5 @@
 -- The documents by URI beside the list that they stand for.
-use Rattle.std.proofs.Common.{◌≡◌, ℕ, ◌≤◌, List, [], ◌∷◌, ◌++◌, map, filter, length, Option, Some, None, option_map, is_some, inl, inr, Bool, true, false, not, ◌||◌, refl, sym, ap, ◌∙◌, subst, suc, append-nil, append_assoc, string_bytes, String, Global, Bor, true≢false}
+use Rattle.std.proofs.Common.{◌≡◌, ℕ, ◌≤◌, List, [], ◌∷◌, ◌++◌, map, filter, length, Option, Some, None, option_map, is_some, inl, inr, true, false, not, ◌||◌, refl, sym, ap, ◌∙◌, subst, suc, append-nil, append_assoc, string_bytes, String, Global, Bor, true≢false}
 use Rattle.std.specs.Prelude.{if◌then◌else◌}
 use Rattle.std.proofs.lemmas.Option.{none-some}
 use Rattle.std.specs.List.{list_any}
@@ -7,24 +7,18 @@ use Rattle.std.specs.Option.{option_copied}
 use Rattle.std.specs.String.{string_eq}
 use Rattle.std.specs.Map.{lookup, KeepsOthers}
 use Rattle.std.specs.Str.{bytes_eq}
+use Rattle.std.proofs.lemmas.Bool.{cases_Bool, or_parts}
+use Rattle.std.proofs.Math.Bool.{or-false}
 use Rattle.lsp_docs.specs.Calls.{Bytes}
 use Rattle.lsp_docs.specs.Documents.{Version, Held, as_held}
 use Rattle.lsp_docs.specs.Kept.{last_of}
 use Rattle.lsp_docs.specs.State.{Kept, held_in, kept_in, set_in, without, KeepsSame, KeepsOn, KeepsNone}
 use Rattle.lsp_docs.specs.Opened.{held_by, kept_of, or_nothing, listed, AllHeld, UrisDiffer, AreHeld}
-use Rattle.lsp_docs.proofs.Words.{true_or_false, uri_is, uri_same, uri_flip}
+use Rattle.lsp_docs.proofs.Words.{uri_is, uri_same, uri_flip}
 
 pub copied-map : {D R : Type 0} (f : D → R) (r : Option (Bor D)) → option_map (λ x. f x.now) r ≡ option_map f (option_copied r)
 copied-map f None = refl
 copied-map f (Some x) = refl
-
-left_false : (a b : Bool) → (a || b) ≡ false → a ≡ false
-left_false true b h = h
-left_false false b h = refl
-
-right_false : (a b : Bool) → (a || b) ≡ false → b ≡ false
-right_false true b h = absurd (true≢false h)
-right_false false b h = h
 
 -- ---- one URI is changed
 
@@ -37,7 +31,7 @@ pub puts : {D R : Type 0} (f : D → R) (uri : Bytes) (w : Option D) (es new : L
     → KeepsOthers string_eq (λ key. bytes_eq uri (string_bytes key)) es new → PutsUnder uri (option_map f w) (held_by f es) (held_by f new)
 unfolding KeepsOthers
 puts f uri w es new at keeps u =
-    elim (true_or_false (bytes_eq uri u)) [
+    elim (cases_Bool (bytes_eq uri u)) [
       | inl p ↦ ap (λ x. held_by f new x) (sym (uri_is uri u p)) ∙ (ap (option_map f) at ∙ sym (ap (λ b. if b then option_map f w else held_by f es u) p))
       | inr p ↦
           ap (option_map f) (keeps (λ key. bytes_eq u (string_bytes key)) (λ x y h. ap (λ b. bytes_eq b (string_bytes y)) (uri_is u (string_bytes x) h))
@@ -56,7 +50,7 @@ pub puts-undone : {R : Type 0} (uri : Bytes) (w : Option R) (held next last : By
 puts-undone uri w held next last none first second = λ i u. same u i
   where
     same : (u : Bytes) → held u ≡ last u
-    same u = elim (true_or_false (bytes_eq uri u)) [
+    same u = elim (cases_Bool (bytes_eq uri u)) [
       | inl p ↦ ap held (sym (uri_is uri u p)) ∙ (none ∙ sym (second u ∙ ap (λ b. if b then None else next u) p))
       | inr p ↦ sym (second u ∙ (ap (λ b. if b then None else next u) p ∙ (first u ∙ ap (λ b. if b then w else held u) p)))
     ]
@@ -74,7 +68,7 @@ kept-absent f g uri es none = ap (option_map g) (unmapped f (lookup (λ key. byt
 looked_up : (uri : Bytes) (uris : List Bytes) (held : Bytes → Option (List Version)) → kept_in uri (kept_of uris held) ≡ (if list_any (bytes_eq uri) uris then or_nothing (held uri) else [])
 looked_up uri [] held = refl
 looked_up uri (u ∷ uris) held =
-    elim (true_or_false (bytes_eq uri u)) [
+    elim (cases_Bool (bytes_eq uri u)) [
       | inl p ↦ rw p (ap (λ x. or_nothing (held x)) (sym (uri_is uri u p)))
       | inr p ↦ rw p (looked_up uri uris held)
     ]
@@ -84,7 +78,7 @@ pub kept_in-of : {D : Type 0} (f : D → Version) (g : D → List Version) (es :
     → (uri : Bytes) → kept_in uri (kept_of uris (held_by g es)) ≡ or_nothing (held_by g es uri)
 kept_in-of f g es uris h uri =
     looked_up uri uris (held_by g es)
-    ∙ elim (true_or_false (list_any (bytes_eq uri) uris)) [
+    ∙ elim (cases_Bool (list_any (bytes_eq uri) uris)) [
       | inl p ↦ rw p refl
       | inr p ↦ rw p (sym (ap or_nothing (kept-absent f g uri es (h.others uri p))))
     ]
@@ -93,14 +87,14 @@ kept_in-of f g es uris h uri =
 pub kept-under : (uri : Bytes) (o : Option (List Version)) (held next : Bytes → Option (List Version)) → PutsUnder uri o held next
     → (u : Bytes) → or_nothing (next u) ≡ (if bytes_eq uri u then or_nothing o else or_nothing (held u))
 kept-under uri o held next put u =
-    ap or_nothing (put u) ∙ elim (true_or_false (bytes_eq uri u)) [ inl p ↦ rw p refl | inr p ↦ rw p refl ]
+    ap or_nothing (put u) ∙ elim (cases_Bool (bytes_eq uri u)) [ inl p ↦ rw p refl | inr p ↦ rw p refl ]
 
 -- where the same is kept of the one URI, the same is kept of all
 pub kept-unchanged : (uri : Bytes) (o : Option (List Version)) (held next : Bytes → Option (List Version)) → PutsUnder uri o held next → or_nothing (held uri) ≡ or_nothing o
     → (u : Bytes) → or_nothing (next u) ≡ or_nothing (held u)
 kept-unchanged uri o held next put same u =
     kept-under uri o held next put u
-    ∙ elim (true_or_false (bytes_eq uri u)) [
+    ∙ elim (cases_Bool (bytes_eq uri u)) [
       | inl p ↦ rw p (sym same ∙ ap (λ x. or_nothing (held x)) (uri_is uri u p))
       | inr p ↦ rw p refl
     ]
@@ -127,7 +121,7 @@ module _ {D : Type 0} (f : D → Version) (g : D → List Version) (uri : Bytes)
   keeps-on most h v ws put is joins few u =
       now u
       ∙ (kept-under uri (Some ws) (held_by g es) (held_by g new) put u
-      ∙ elim (true_or_false (bytes_eq uri u)) [
+      ∙ elim (cases_Bool (bytes_eq uri u)) [
         | inl p ↦
             let here : kept_in u (kept_of uris (held_by g es)) ≡ or_nothing (held_by g es uri) = was u ∙ ap (λ x. or_nothing (held_by g es x)) (sym (uri_is uri u p)) in
             rw (p, is, here) (joins (subst (λ l. length l ≤ most) (was uri) few))
@@ -137,7 +131,7 @@ module _ {D : Type 0} (f : D → Version) (g : D → List Version) (uri : Bytes)
 -- of a URI that is not open nothing is kept
 pub kept-nothing : (uri : Bytes) (ks : List Kept) → kept_in uri ks ≡ [] → KeepsNone uri ks ks
 kept-nothing uri ks nothing u =
-    elim (true_or_false (bytes_eq uri u)) [
+    elim (cases_Bool (bytes_eq uri u)) [
       | inl p ↦ rw p (ap (λ x. kept_in x ks) (sym (uri_is uri u p)) ∙ nothing)
       | inr p ↦ rw p refl
     ]
@@ -167,7 +161,7 @@ held_in-listed : (uri : Bytes) (uris : List Bytes) (held : Bytes → Option Vers
 held_in-listed uri [] held h = refl
 held_in-listed uri (u ∷ uris) held h =
     held_in-first uri u (held u) (listed uris held) h.0
-    ∙ elim (true_or_false (bytes_eq uri u)) [
+    ∙ elim (cases_Bool (bytes_eq uri u)) [
       | inl p ↦ rw p (ap held (sym (uri_is uri u p)))
       | inr p ↦ rw p (held_in-listed uri uris held h.1)
     ]
@@ -175,7 +169,7 @@ held_in-listed uri (u ∷ uris) held h =
 pub held_in-kept : (uri : Bytes) (uris : List Bytes) (held : Bytes → Option Version) → AreHeld uris held → held_in uri (listed uris held) ≡ held uri
 held_in-kept uri uris held h =
     held_in-listed uri uris held h.have
-    ∙ elim (true_or_false (list_any (bytes_eq uri) uris)) [
+    ∙ elim (cases_Bool (list_any (bytes_eq uri) uris)) [
       | inl p ↦ rw p refl
       | inr p ↦ rw p (sym (h.others uri p))
     ]
@@ -186,7 +180,7 @@ not_among uri uris held h none = away uris h.have
   where
     away : (uris : List Bytes) → AllHeld uris held → list_any (bytes_eq uri) uris ≡ false
     away [] a = refl
-    away (u ∷ uris) a = elim (true_or_false (bytes_eq uri u)) [
+    away (u ∷ uris) a = elim (cases_Bool (bytes_eq uri u)) [
       | inl p ↦ absurd (true≢false (sym a.0 ∙ (ap (λ x. is_some (held x)) (sym (uri_is uri u p)) ∙ ap is_some none)))
       | inr p ↦ rw p (away uris a.1)
     ]
@@ -204,12 +198,7 @@ module _ (uri : Bytes) (w : Option Version) (held next : Bytes → Option Versio
   listed-others : (uris : List Bytes) → list_any (bytes_eq uri) uris ≡ false → listed uris next ≡ listed uris held
   listed-others [] n = refl
   listed-others (u ∷ uris) n =
-      rw (at_other u (left_false (bytes_eq uri u) _ n)) (ap (λ l. as_held u (held u) ++ l) (listed-others uris (right_false (bytes_eq uri u) _ n)))
-
-  AllHeld-others : (uris : List Bytes) → list_any (bytes_eq uri) uris ≡ false → AllHeld uris held → AllHeld uris next
-  AllHeld-others [] n a = tt
-  AllHeld-others (u ∷ uris) n a =
-      (ap is_some (at_other u (left_false (bytes_eq uri u) _ n)) ∙ a.0, AllHeld-others uris (right_false (bytes_eq uri u) _ n) a.1)
+      rw (at_other u (or_parts (bytes_eq uri u) _ n).0) (ap (λ l. as_held u (held u) ++ l) (listed-others uris (or_parts (bytes_eq uri u) _ n).1))
 
 -- ---- a document comes to a version
 
@@ -225,7 +214,7 @@ module _ (uri : Bytes) (v : Version) (held next : Bytes → Option Version) (put
   pub listed-set : (uris : List Bytes) → AllHeld uris held → UrisDiffer uris → listed uris next ≡ set_in uri v (listed uris held)
   listed-set [] a d = refl
   listed-set (u ∷ uris) a d =
-      elim (true_or_false (bytes_eq uri u)) [
+      elim (cases_Bool (bytes_eq uri u)) [
         | inl p ↦ rw (at_uri uri (Some v) held next put u p)
             (ap (λ l. record { uri = u; version = v } ∷ l) (listed-others uri (Some v) held next put uris (differs-from uri u uris p d.0))
             ∙ sym (set_in-first u (held u) (listed uris held) a.0 p))
@@ -236,7 +225,7 @@ module _ (uri : Bytes) (v : Version) (held next : Bytes → Option Version) (put
   AllHeld-set : (uris : List Bytes) → AllHeld uris held → AllHeld uris next
   AllHeld-set [] a = tt
   AllHeld-set (u ∷ uris) a = (
-    elim (true_or_false (bytes_eq uri u)) [
+    elim (cases_Bool (bytes_eq uri u)) [
       | inl p ↦ ap is_some (at_uri uri (Some v) held next put u p)
       | inr p ↦ ap is_some (at_other uri (Some v) held next put u p) ∙ a.0
     ],
@@ -247,7 +236,7 @@ module _ (uri : Bytes) (v : Version) (held next : Bytes → Option Version) (put
   AreHeld-set uris h there = record {
     have = AllHeld-set uris h.have;
     differ = h.differ;
-    others = λ u n. elim (true_or_false (bytes_eq uri u)) [
+    others = λ u n. elim (cases_Bool (bytes_eq uri u)) [
       | inl p ↦ absurd (true≢false (sym there ∙ (ap (λ x. is_some (held x)) (uri_is uri u p) ∙ ap is_some (h.others u n))))
       | inr p ↦ at_other uri (Some v) held next put u p ∙ h.others u n
     ];
@@ -269,18 +258,14 @@ module _ (uri : Bytes) (v : Version) (held next : Bytes → Option Version) (put
   AllHeld-push (u ∷ uris) a = (a.0, AllHeld-push uris a.1)
 
   any-push : (u : Bytes) (uris : List Bytes) → list_any (bytes_eq u) (uris ++ uri ∷ []) ≡ (list_any (bytes_eq u) uris || bytes_eq u uri)
-  any-push u [] = or_false (bytes_eq u uri)
-    where
-      or_false : (b : Bool) → (b || false) ≡ b
-      or_false true = refl
-      or_false false = refl
-  any-push u (x ∷ uris) = elim (true_or_false (bytes_eq u x)) [ inl p ↦ rw p refl | inr p ↦ rw p (any-push u uris) ]
+  any-push u [] = or-false (bytes_eq u uri)
+  any-push u (x ∷ uris) = elim (cases_Bool (bytes_eq u x)) [ inl p ↦ rw p refl | inr p ↦ rw p (any-push u uris) ]
 
   UrisDiffer-push : (uris : List Bytes) → UrisDiffer uris → list_any (bytes_eq uri) uris ≡ false → UrisDiffer (uris ++ uri ∷ [])
   UrisDiffer-push [] d n = (refl, tt)
   UrisDiffer-push (u ∷ uris) d n = (
-    any-push u uris ∙ rw (d.0, uri_flip u uri, left_false (bytes_eq uri u) _ n) refl,
-    UrisDiffer-push uris d.1 (right_false (bytes_eq uri u) _ n),
+    any-push u uris ∙ rw (d.0, uri_flip u uri, (or_parts (bytes_eq uri u) _ n).0) refl,
+    UrisDiffer-push uris d.1 (or_parts (bytes_eq uri u) _ n).1,
   )
 
   pub AreHeld-push : (uris : List Bytes) → AreHeld uris held → list_any (bytes_eq uri) uris ≡ false → AreHeld (uris ++ uri ∷ []) next
@@ -289,8 +274,8 @@ module _ (uri : Bytes) (v : Version) (held next : Bytes → Option Version) (put
     differ = UrisDiffer-push uris h.differ n;
     others = λ u away.
         let parts = sym (any-push u uris) ∙ away in
-        at_other uri (Some v) held next put u (uri_flip uri u ∙ right_false (list_any (bytes_eq u) uris) _ parts)
-        ∙ h.others u (left_false (list_any (bytes_eq u) uris) _ parts);
+        at_other uri (Some v) held next put u (uri_flip uri u ∙ (or_parts (list_any (bytes_eq u) uris) _ parts).1)
+        ∙ h.others u (or_parts (list_any (bytes_eq u) uris) _ parts).0;
   }
 
 -- ---- a document is closed
@@ -298,7 +283,7 @@ module _ (uri : Bytes) (v : Version) (held next : Bytes → Option Version) (put
 module _ (uri : Bytes) (held next : Bytes → Option Version) (put : PutsUnder uri None held next) where
   all_others : (uris : List Bytes) → list_any (bytes_eq uri) uris ≡ false → filter (λ u. not (bytes_eq uri u)) uris ≡ uris
   all_others [] n = refl
-  all_others (u ∷ uris) n = rw (left_false (bytes_eq uri u) _ n) (ap (λ l. u ∷ l) (all_others uris (right_false (bytes_eq uri u) _ n)))
+  all_others (u ∷ uris) n = rw ((or_parts (bytes_eq uri u) _ n).0) (ap (λ l. u ∷ l) (all_others uris (or_parts (bytes_eq uri u) _ n).1))
 
   without-first : (u : Bytes) (o : Option Version) (rest : List Held) → is_some o ≡ true → bytes_eq uri u ≡ true → without uri (as_held u o ++ rest) ≡ rest
   without-first u None rest e p = absurd (true≢false (sym e))
@@ -311,7 +296,7 @@ module _ (uri : Bytes) (held next : Bytes → Option Version) (put : PutsUnder u
   pub listed-without : (uris : List Bytes) → AllHeld uris held → UrisDiffer uris → listed (filter (λ u. not (bytes_eq uri u)) uris) next ≡ without uri (listed uris held)
   listed-without [] a d = refl
   listed-without (u ∷ uris) a d =
-      elim (true_or_false (bytes_eq uri u)) [
+      elim (cases_Bool (bytes_eq uri u)) [
         | inl p ↦
             let away = differs-from uri u uris p d.0 in
             rw (p, all_others uris away) (listed-others uri None held next put uris away ∙ sym (without-first u (held u) (listed uris held) a.0 p))
@@ -322,7 +307,7 @@ module _ (uri : Bytes) (held next : Bytes → Option Version) (put : PutsUnder u
   AllHeld-without : (uris : List Bytes) → AllHeld uris held → AllHeld (filter (λ u. not (bytes_eq uri u)) uris) next
   AllHeld-without [] a = tt
   AllHeld-without (u ∷ uris) a =
-      elim (true_or_false (bytes_eq uri u)) [
+      elim (cases_Bool (bytes_eq uri u)) [
         | inl p ↦ rw p (AllHeld-without uris a.1)
         | inr p ↦ rw p (ap is_some (at_other uri None held next put u p) ∙ a.0, AllHeld-without uris a.1)
       ]
@@ -330,13 +315,13 @@ module _ (uri : Bytes) (held next : Bytes → Option Version) (put : PutsUnder u
   fewer : (u : Bytes) (uris : List Bytes) → list_any (bytes_eq u) uris ≡ false → list_any (bytes_eq u) (filter (λ x. not (bytes_eq uri x)) uris) ≡ false
   fewer u [] n = refl
   fewer u (x ∷ uris) n =
-      let rest = fewer u uris (right_false (bytes_eq u x) _ n) in
-      elim (true_or_false (bytes_eq uri x)) [ inl p ↦ rw p rest | inr p ↦ rw p (rw (left_false (bytes_eq u x) _ n) rest) ]
+      let rest = fewer u uris (or_parts (bytes_eq u x) _ n).1 in
+      elim (cases_Bool (bytes_eq uri x)) [ inl p ↦ rw p rest | inr p ↦ rw p (rw ((or_parts (bytes_eq u x) _ n).0) rest) ]
 
   UrisDiffer-without : (uris : List Bytes) → UrisDiffer uris → UrisDiffer (filter (λ u. not (bytes_eq uri u)) uris)
   UrisDiffer-without [] d = tt
   UrisDiffer-without (u ∷ uris) d =
-      elim (true_or_false (bytes_eq uri u)) [
+      elim (cases_Bool (bytes_eq uri u)) [
         | inl p ↦ rw p (UrisDiffer-without uris d.1)
         | inr p ↦ rw p (fewer u uris d.0, UrisDiffer-without uris d.1)
       ]
@@ -345,18 +330,18 @@ module _ (uri : Bytes) (held next : Bytes → Option Version) (put : PutsUnder u
   none_before : (u : Bytes) (uris : List Bytes) → bytes_eq uri u ≡ false → list_any (bytes_eq u) (filter (λ x. not (bytes_eq uri x)) uris) ≡ false → list_any (bytes_eq u) uris ≡ false
   none_before u [] p n = refl
   none_before u (x ∷ uris) p n =
-      elim (true_or_false (bytes_eq uri x)) [
+      elim (cases_Bool (bytes_eq uri x)) [
         | inl q ↦ rw (ap (λ y. bytes_eq u y) (sym (uri_is uri x q)) ∙ (uri_flip u uri ∙ p)) (none_before u uris p (rw q at n))
         | inr q ↦
             let kept : (bytes_eq u x || list_any (bytes_eq u) (filter (λ y. not (bytes_eq uri y)) uris)) ≡ false = rw q at n in
-            rw (left_false (bytes_eq u x) _ kept) (none_before u uris p (right_false (bytes_eq u x) _ kept))
+            rw ((or_parts (bytes_eq u x) _ kept).0) (none_before u uris p (or_parts (bytes_eq u x) _ kept).1)
       ]
 
   pub AreHeld-without : (uris : List Bytes) → AreHeld uris held → AreHeld (filter (λ u. not (bytes_eq uri u)) uris) next
   AreHeld-without uris h = record {
     have = AllHeld-without uris h.have;
     differ = UrisDiffer-without uris h.differ;
-    others = λ u n. elim (true_or_false (bytes_eq uri u)) [
+    others = λ u n. elim (cases_Bool (bytes_eq uri u)) [
       | inl p ↦ at_uri uri None held next put u p
       | inr p ↦ at_other uri None held next put u p ∙ h.others u (none_before u uris p n)
     ];
@@ -367,7 +352,7 @@ module _ (uri : Bytes) (held next : Bytes → Option Version) (put : PutsUnder u
 pub without-absent : (uri : Bytes) (hs : List Held) → held_in uri hs ≡ None → without uri hs ≡ hs
 without-absent uri [] h = refl
 without-absent uri (d ∷ hs) h =
-    elim (true_or_false (bytes_eq uri d.uri)) [
+    elim (cases_Bool (bytes_eq uri d.uri)) [
       | inl p ↦ absurd (none-some d.version (sym (rw p at h)))
       | inr p ↦ rw p (ap (λ l. d ∷ l) (without-absent uri hs (rw p at h)))
     ]
@@ -376,7 +361,7 @@ pub puts-same : {R : Type 0} (uri : Bytes) (v : R) (held next : Bytes → Option
 puts-same uri v held next there put = λ i u. same u i
   where
     same : (u : Bytes) → next u ≡ held u
-    same u = elim (true_or_false (bytes_eq uri u)) [
+    same u = elim (cases_Bool (bytes_eq uri u)) [
       | inl p ↦ put u ∙ (ap (λ b. if b then Some v else held u) p ∙ (sym there ∙ ap held (uri_is uri u p)))
       | inr p ↦ put u ∙ ap (λ b. if b then Some v else held u) p
     ]

@@ -1,6 +1,6 @@
 -- Versions that have another text than a given one, as they are looked for.
-use Rattle.std.proofs.Common.{◌≡◌, ◌<◌, ◌+◌, ℕ, Bool, true, false, ◌||◌, List, [], ◌∷◌, ◌++◌, map, length, get_or, take, drop, Option, Some, None, refl, sym, ap, ◌∙◌, inl, inr, true≢false}
-use Rattle.std.proofs.lemmas.Bool.{cond-true, cond-false}
+use Rattle.std.proofs.Common.{◌≡◌, ◌<◌, ◌+◌, ℕ, Bool, true, false, List, [], ◌∷◌, ◌++◌, map, length, get_or, take, drop, Option, Some, None, refl, sym, ap, ◌∙◌, inl, inr, true≢false}
+use Rattle.std.proofs.lemmas.Bool.{cond-true, cond-false, cases_Bool, or_right, or_left}
 use Rattle.std.proofs.lemmas.List.{take_more, take-append-drop, at_drop_more}
 use Rattle.std.proofs.lemmas.List.Folds.{find-append, list_any-append}
 use Rattle.std.specs.List.{find, list_any}
@@ -15,7 +15,6 @@ use Rattle.lsp_docs.specs.Documents.{Version}
 use Rattle.lsp_docs.specs.State.{SameVersions}
 use Rattle.lsp_docs.specs.Rules.{differs}
 use Rattle.lsp_docs.specs.Others.{is_other, is_other_text, differs_from, other_in, other_than, FindsOther}
-use Rattle.lsp_docs.proofs.Words.{true_or_false}
 use Rattle.lsp_docs.proofs.SameVersions.{same-any}
 
 module _ {X : Type 0} (p : X → Bool) (xs : List X) (i : ℕ) (x : X) (lt : i < length xs) (is : x ≡ get_or xs i x) where
@@ -37,24 +36,17 @@ module _ {X : Type 0} (p : X → Bool) (xs : List X) (i : ℕ) (x : X) (lt : i <
       ∙ (find-append p (take i xs) (x ∷ drop (i + 1) xs)
       ∙ (ap (λ o. option_or o (find p (x ∷ drop (i + 1) xs))) none ∙ cond-true _ _ _ passes))
 
-  or_true : (a b : Bool) → b ≡ true → (a || b) ≡ true
-  or_true true b h = refl
-  or_true false b h = h
-
-  true_or : (a b : Bool) → a ≡ true → (a || b) ≡ true
-  true_or a b h = ap (λ x. x || b) h
-
   -- one passes
   pub any-here : p x ≡ true → list_any p xs ≡ true
   any-here passes =
       ap (list_any p) parts
       ∙ (list_any-append p (take i xs) (x ∷ drop (i + 1) xs)
-      ∙ or_true (list_any p (take i xs)) (list_any p (x ∷ drop (i + 1) xs)) (true_or (p x) (list_any p (drop (i + 1) xs)) passes))
+      ∙ or_right (list_any p (take i xs)) (list_any p (x ∷ drop (i + 1) xs)) (or_left (p x) (list_any p (drop (i + 1) xs)) passes))
 
 -- a test on the parts of a list
 pub find-map : {A B : Type 0} (p : B → Bool) (f : A → B) (xs : List A) → find p (map f xs) ≡ option_map f (find (λ x. p (f x)) xs)
 find-map p f [] = refl
-find-map p f (x ∷ xs) = elim (true_or_false (p (f x))) [ inl h ↦ rw h refl | inr h ↦ rw h (find-map p f xs) ]
+find-map p f (x ∷ xs) = elim (cases_Bool (p (f x))) [ inl h ↦ rw h refl | inr h ↦ rw h (find-map p f xs) ]
 
 pub map-twice : {A B C : Type 0} (g : B → C) (f : A → B) (o : Option A) → option_map g (option_map f o) ≡ option_map (λ x. g (f x)) o
 map-twice g f None = refl
@@ -63,9 +55,9 @@ map-twice g f (Some x) = refl
 -- texts are the same where their bytes are
 pub same_text : (a b : List ℕ) → IsUtf8 a → IsUtf8 b → bytes_eq a b ≡ bytes_eq (chars b) (chars a)
 same_text a b u v =
-    elim (true_or_false (bytes_eq a b)) [
+    elim (cases_Bool (bytes_eq a b)) [
       | inl h ↦ h ∙ sym ((bytes_eq-Decides (chars b) (chars a)).1 (ap chars (sym ((bytes_eq-Decides a b).0 h))))
-      | inr h ↦ elim (true_or_false (bytes_eq (chars b) (chars a))) [
+      | inr h ↦ elim (cases_Bool (bytes_eq (chars b) (chars a))) [
         | inl k ↦ absurd (true≢false (sym ((bytes_eq-Decides a b).1 (sym (chars_same b a v u ((bytes_eq-Decides (chars b) (chars a)).0 k)))) ∙ h))
         | inr k ↦ h ∙ sym k
       ]

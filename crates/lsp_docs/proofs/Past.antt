@@ -1,12 +1,10 @@
 -- The versions that an opening held before the present one.
-use Rattle.std.proofs.Common.{◌≡◌, ◌⊎◌, Bool, true, false, ◌&&◌, ◌||◌, List, [], ◌∷◌, ◌++◌, refl, sym, ap, ◌∙◌, subst, Option, Some, None, inl, inr, append_assoc, append-nil, true≢false, arith}
+use Rattle.std.proofs.Common.{◌≡◌, ◌⊎◌, Bool, true, false, ◌&&◌, ◌||◌, List, [], ◌∷◌, ◌++◌, refl, sym, ap, ◌∙◌, subst, Option, Some, None, inl, inr, append_assoc, append-nil, true≢false}
 use Rattle.std.specs.Prelude.{ℤ, int_lt, not, is_some, if◌then◌else◌, option_map, option_to_list}
 use Rattle.std.specs.List.{list_any}
-use Rattle.std.specs.Ordering.{int_eq}
 use Rattle.std.specs.Option.{option_or}
 use Rattle.std.specs.Str.{bytes_eq}
-use Rattle.std.proofs.lemmas.Bool.{or_parts}
-use Rattle.std.proofs.lemmas.Int.{ints}
+use Rattle.std.proofs.lemmas.Bool.{or_parts, cases_Bool, or_cases}
 use Rattle.std.proofs.lemmas.List.Folds.{list_any-append}
 use Rattle.std.proofs.lemmas.Option.{none-some}
 use Rattle.lsp_docs.specs.Texts.{Text}
@@ -18,11 +16,12 @@ use Rattle.lsp_docs.specs.Kept.{past_entry, past_in, past, last_of, kept}
 use Rattle.lsp_docs.specs.Snapshots.{is_ahead, holds_number, has_number, comes_to, is_compared}
 use Rattle.lsp_docs.specs.Rules.{show_rule, call_rule, AreAcceptedFrom, AreAccepted}
 use Rattle.lsp_docs.specs.Laws.{rises, held_rule}
-use Rattle.lsp_docs.proofs.Words.{true_or_false, either, int_is, unchanged, uri_is}
+use Rattle.lsp_docs.proofs.Words.{int_is, unchanged, uri_is, equal_behind, less_behind}
 use Rattle.lsp_docs.proofs.HeldSteps.{next_held, held-snoc}
-use Rattle.lsp_docs.proofs.WaitingSteps.{none_row, no_some, change_parts}
+use Rattle.lsp_docs.proofs.WaitingSteps.{none_row, change_parts}
 use Rattle.lsp_docs.proofs.Accepted.{next}
 use Rattle.lsp_docs.proofs.Rising.{Among, among-front, among-back, among-split, among-drop, among-below, any-among, rises-snoc, last-none, last-empty, last-rises}
+use Rattle.lsp_order.proofs.SlotLemmas.{no_some}
 
 -- ---- one more call
 
@@ -130,7 +129,7 @@ module _ (terms : Terms) (uri : Bytes) where
   step_rises : (calls : List Call) (c : Call) → call_rule terms calls c ≡ None → all_rise (past terms uri calls) (held terms uri calls) ≡ true
       → all_rise (next_past uri (past terms uri calls) (held terms uri calls) c) (next_held terms uri (held terms uri calls) c) ≡ true
   step_rises calls (opens u n t) e so =
-      elim (true_or_false (bytes_eq uri u)) [
+      elim (cases_Bool (bytes_eq uri u)) [
         | inl p ↦
             let none = no_some (held terms u calls) (none_row (is_some (held terms u calls)) 601 _ e).0 in
             let here : held terms uri calls ≡ None = ap (λ x. held terms x calls) (uri_is uri u p) ∙ none in
@@ -139,7 +138,7 @@ module _ (terms : Terms) (uri : Bytes) where
         | inr p ↦ rw p (left_rises (past terms uri calls) (held terms uri calls) so)
       ]
   step_rises calls (changes enc k u n cs) e so =
-      elim (true_or_false (bytes_eq uri u)) [
+      elim (cases_Bool (bytes_eq uri u)) [
         | inl p ↦
             let c = changes enc k u n cs in
             let parts = change_parts terms _ enc k n cs (held terms u calls) e in
@@ -154,7 +153,7 @@ module _ (terms : Terms) (uri : Bytes) where
         | inr p ↦ rw p (left_rises (past terms uri calls) (held terms uri calls) so)
       ]
   step_rises calls (closes u) e so =
-      elim (true_or_false (bytes_eq uri u)) [
+      elim (cases_Bool (bytes_eq uri u)) [
         | inl p ↦ rw p refl
         | inr p ↦ rw p (left_rises (past terms uri calls) (held terms uri calls) so)
       ]
@@ -192,7 +191,7 @@ was-held terms uri calls (c ∷ more) v h open_still so =
   where
     step : is_close uri c ≡ false → (held terms uri calls ≡ Some v) ⊎ Among v (past terms uri calls) → (held terms uri (calls ++ c ∷ []) ≡ Some v) ⊎ Among v (past terms uri (calls ++ c ∷ []))
     step p (inl now) =
-        elim (true_or_false (is_change uri c)) [
+        elim (cases_Bool (is_change uri c)) [
           | inl q ↦ inr (subst (Among v) (sym (past-changed terms uri calls c v q now)) (among-back v (past terms uri calls) (v ∷ []) (inl refl)))
           | inr q ↦
               let one = next terms uri calls v now c h.0 p in
@@ -232,12 +231,6 @@ past-held terms uri calls v m = past_in-held terms uri [] calls v m
 
 -- ---- a version that is held or kept is not ahead
 
-equal_behind : (m n : ℤ) → int_eq m n ≡ true → int_lt m n ≡ false
-equal_behind m n h = grind (arith, ints)
-
-less_behind : (m n : ℤ) → int_lt n m ≡ true → int_lt m n ≡ false
-less_behind m n h = grind (arith, ints)
-
 pub reached-number : (terms : Terms) (uri : Bytes) (calls : List Call) (n : ℤ) → AreAccepted terms calls → has_number n (kept terms uri calls) (held terms uri calls) ≡ true
     → is_ahead n (held terms uri calls) ≡ false
 reached-number terms uri calls n h e = go (held terms uri calls) refl
@@ -248,7 +241,7 @@ reached-number terms uri calls n h e = go (held terms uri calls) refl
         absurd (true≢false (sym e ∙ (ap (λ ks. has_number n ks (held terms uri calls)) nothing ∙ ap (holds_number n) now)))
     go (Some v) now =
         ap (is_ahead n) now
-        ∙ elim (either (list_any (is_at n) (kept terms uri calls)) (holds_number n (held terms uri calls)) e) [
+        ∙ elim (or_cases (list_any (is_at n) (kept terms uri calls)) (holds_number n (held terms uri calls)) e) [
           | inl p ↦
               let one = any-among (is_at n) (kept terms uri calls) p in
               let less = among-below (past terms uri calls) one.version v (past-rises-to terms uri calls v h now) (among-drop one.version _ (past terms uri calls) one.among) in

@@ -11,10 +11,11 @@ use Rattle.std.proofs.Math.ListN.{get_or}
 use Rattle.std.proofs.lemmas.List.Sums.{sum_by-cons, sum_by-swap_remove}
 use Rattle.indexmap.specs.IndexMap.{insert_entry, swap_remove_entry}
 use Rattle.indexmap.proofs.MapLemmas.{Found-position, Missing-position, swap_remove_entry-found}
+use Rattle.std.proofs.lemmas.Bool.{cases_Bool}
 use Rattle.lsp_docs.specs.Documents.{Version}
-use Rattle.lsp_docs.specs.State.{Queue, Waits, queue_of, keep_in, total, SameVersions, IsAdded, IsReleased}
+use Rattle.lsp_docs.specs.State.{Queue, queue_of, keep_in, total, SameVersions, IsAdded, IsReleased}
 use Rattle.lsp_docs.specs.Stored.{queues_in, lengths}
-use Rattle.lsp_docs.proofs.Words.{true_or_false, uri_is, uri_same}
+use Rattle.lsp_docs.proofs.Words.{uri_is, uri_same}
 use Rattle.lsp_docs.proofs.SameVersions.{same-length, same-of}
 
 -- a key other than the first entry's finds what it finds in the rest
@@ -36,7 +37,7 @@ found_in versions (Some d) = versions d
 
 queue_of-found : {D : Type 0} (versions : D → List Version) (u : List ℕ) (es : List (String Global × D)) → queue_of u (map (λ e. record { uri = string_bytes e.0; versions = versions e.1 }) es) ≡ found_in versions (lookup (λ key. bytes_eq u (string_bytes key)) es)
 queue_of-found versions u [] = refl
-queue_of-found versions u (e ∷ es) = elim (true_or_false (bytes_eq u (string_bytes e.0))) [ inl p ↦ rw p refl | inr p ↦ rw p (queue_of-found versions u es) ]
+queue_of-found versions u (e ∷ es) = elim (cases_Bool (bytes_eq u (string_bytes e.0))) [ inl p ↦ rw p refl | inr p ↦ rw p (queue_of-found versions u es) ]
 
 module _ {D : Type 0} (versions : D → List Version) where
   abbrev pub queued : String Global × D → Queue
@@ -49,7 +50,7 @@ module _ {D : Type 0} (versions : D → List Version) where
     pub queue_of-there : (es : List (String Global × D)) (d : D) → lookup is_key es ≡ Some d → queue_of uri (map queued es) ≡ versions d
     queue_of-there [] d h = absurd (none-some d h)
     queue_of-there (e ∷ es) d h =
-        elim (true_or_false (is_key e.0)) [
+        elim (cases_Bool (is_key e.0)) [
           | inl p ↦ rw p (ap versions (head_is (is_key e.0) e.1 (lookup is_key es) d h p))
           | inr p ↦ rw p (queue_of-there es d (rest_of (is_key e.0) e.1 (lookup is_key es) (Some d) h p))
         ]
@@ -64,7 +65,7 @@ module _ {D : Type 0} (versions : D → List Version) where
         → map queued (set_value is_key es w) ≡ keep_in uri p (map queued es)
     keep_in-there q d w same [] h = refl
     keep_in-there q d w same (e ∷ es) h =
-        elim (true_or_false (is_key e.0)) [
+        elim (cases_Bool (is_key e.0)) [
           | inl p ↦ let found = head_is (is_key e.0) e.1 (lookup is_key es) d h p in
               rw (p, same ∙ ap (λ x. filter q (versions x)) (sym found)) refl
           | inr p ↦ rw p (ap (λ l. queued e ∷ l) (keep_in-there q d w same es (rest_of (is_key e.0) e.1 (lookup is_key es) (Some d) h p)))
@@ -79,7 +80,7 @@ module _ {D : Type 0} (versions : D → List Version) where
     pub queued-same : (d w : D) → versions w ≡ versions d → (es : List (String Global × D)) → lookup is_key es ≡ Some d → map queued (set_value is_key es w) ≡ map queued es
     queued-same d w same [] h = refl
     queued-same d w same (e ∷ es) h =
-        elim (true_or_false (is_key e.0)) [
+        elim (cases_Bool (is_key e.0)) [
           | inl p ↦ let found = head_is (is_key e.0) e.1 (lookup is_key es) d h p in
               rw (p, same ∙ ap versions (sym found)) refl
           | inr p ↦ rw p (ap (λ l. queued e ∷ l) (queued-same d w same es (rest_of (is_key e.0) e.1 (lookup is_key es) (Some d) h p)))
@@ -88,7 +89,7 @@ module _ {D : Type 0} (versions : D → List Version) where
     pub written-there : (d w : D) (es : List (String Global × D)) → lookup is_key es ≡ Some d → lookup is_key (set_value is_key es w) ≡ Some w
     written-there d w [] h = absurd (none-some d h)
     written-there d w (e ∷ es) h =
-        elim (true_or_false (is_key e.0)) [
+        elim (cases_Bool (is_key e.0)) [
           | inl p ↦ rw (p, p) refl
           | inr p ↦ rw (p, p) (written-there d w es (rest_of (is_key e.0) e.1 (lookup is_key es) (Some d) h p))
         ]
@@ -96,15 +97,15 @@ module _ {D : Type 0} (versions : D → List Version) where
     pub written-others : (u : List ℕ) (w : D) → bytes_eq u uri ≡ false → (es : List (String Global × D)) → queue_of u (map queued (set_value is_key es w)) ≡ queue_of u (map queued es)
     written-others u w apart [] = refl
     written-others u w apart (e ∷ es) =
-        elim (true_or_false (is_key e.0)) [
+        elim (cases_Bool (is_key e.0)) [
           | inl p ↦ rw (p, ap (bytes_eq u) (sym (uri_is uri (string_bytes e.0) p)) ∙ apart) refl
-          | inr p ↦ rw p (elim (true_or_false (bytes_eq u (string_bytes e.0))) [ inl k ↦ rw k refl | inr k ↦ rw k (written-others u w apart es) ])
+          | inr p ↦ rw p (elim (cases_Bool (bytes_eq u (string_bytes e.0))) [ inl k ↦ rw k refl | inr k ↦ rw k (written-others u w apart es) ])
         ]
 
     pub written-count : (d w : D) → length (versions w) ≡ length (versions d) + 1 → (es : List (String Global × D)) → lookup is_key es ≡ Some d → total (map queued (set_value is_key es w)) ≡ total (map queued es) + 1
     written-count d w more [] h = absurd (none-some d h)
     written-count d w more (e ∷ es) h =
-        elim (true_or_false (is_key e.0)) [
+        elim (cases_Bool (is_key e.0)) [
           | inl p ↦ let own = ap (λ x. length (versions x)) (head_is (is_key e.0) e.1 (lookup is_key es) d h p) in
               rw p (omega (arith, own, more))
           | inr p ↦ rw p (omega (arith, written-count d w more es (rest_of (is_key e.0) e.1 (lookup is_key es) (Some d) h p)))
@@ -141,7 +142,7 @@ module _ {D : Type 0} (versions : D → List Version) where
 
       end_others : (u : List ℕ) → bytes_eq u uri ≡ false → (es : List (String Global × D)) → queue_of u (map queued (es ++ (k, w) ∷ [])) ≡ queue_of u (map queued es)
       end_others u apart [] = rw (ap (bytes_eq u) own ∙ apart) refl
-      end_others u apart (e ∷ es) = elim (true_or_false (bytes_eq u (string_bytes e.0))) [ inl p ↦ rw p refl | inr p ↦ rw p (end_others u apart es) ]
+      end_others u apart (e ∷ es) = elim (cases_Bool (bytes_eq u (string_bytes e.0))) [ inl p ↦ rw p refl | inr p ↦ rw p (end_others u apart es) ]
 
       end_count : (es : List (String Global × D)) → total (map queued (es ++ (k, w) ∷ [])) ≡ total (map queued es) + 1
       end_count [] = rw one refl
@@ -208,9 +209,6 @@ module _ {D : Type 0} (versions : D → List Version) where
       others = λ u apart. ap (λ l. queue_of u (map queued l)) is;
       count = let none : length (queue_of uri (map queued es)) ≡ 0 = ap length (queue_of-absent es h) in let same = ap (λ l. total (map queued l)) is in omega (arith, none, same);
     }
-
-abbrev pub made : List Queue → ℕ → Waits
-made queues missed = record { queues = queues; missed = missed }
 
 pub lengths-total : (es : List (String Global × List Version)) → lengths (map (λ e. e.1) es) ≡ total (queues_in es)
 lengths-total [] = refl

@@ -3,13 +3,14 @@ use Rattle.std.proofs.Common.{◌≡◌, ℕ, ◌+◌, ◌≤◌, ◌⊎◌, zer
 use Rattle.std.specs.Prelude.{◌-◌, int_lt}
 use Rattle.std.specs.List.{list_all, list_any}
 use Rattle.std.proofs.Math.Seq.{drop-append-add}
-use Rattle.std.proofs.lemmas.Bool.{or_parts}
+use Rattle.std.proofs.lemmas.Bool.{or_parts, cases_Bool, and_parts}
 use Rattle.std.proofs.lemmas.List.{drop-append-le, drop_all, length-take-le, take-append-drop}
 use Rattle.std.proofs.lemmas.List.Folds.{list_all-append}
+use Rattle.std.proofs.Math.Bool.{or-true}
 use Rattle.lsp_docs.specs.Documents.{Version, is_after}
 use Rattle.lsp_docs.specs.Kept.{last_of}
 use Rattle.lsp_docs.specs.Laws.{rises}
-use Rattle.lsp_docs.proofs.Words.{true_or_false, both_parts, lt_trans}
+use Rattle.lsp_docs.proofs.Words.{lt_trans}
 
 -- ---- the last so many
 
@@ -87,12 +88,7 @@ among-drop v (suc k) (x ∷ xs) m = inr (among-drop v k xs m)
 pub among-any : (p : Version → Bool) (v : Version) (xs : List Version) → Among v xs → p v ≡ true → list_any p xs ≡ true
 among-any p v [] m h = absurd m
 among-any p v (x ∷ xs) (inl e) h = rw (ap p (sym e) ∙ h) refl
-among-any p v (x ∷ xs) (inr m) h = rw (among-any p v xs m h) (or_true (p x))
-  where
-    or_true : (b : Bool) → (b || true) ≡ true
-    or_true true = refl
-    or_true false = refl
-
+among-any p v (x ∷ xs) (inr m) h = rw (among-any p v xs m h) (or-true (p x))
 pub among-none : (p : Version → Bool) (v : Version) (xs : List Version) → list_any p xs ≡ false → Among v xs → p v ≡ false
 among-none p v [] h m = absurd m
 among-none p v (x ∷ xs) h (inl e) = ap p e ∙ (or_parts (p x) (list_any p xs) h).0
@@ -107,7 +103,7 @@ pub record Passes (p : Version → Bool) (xs : List Version) : Type 0 where
 pub any-among : (p : Version → Bool) (xs : List Version) → list_any p xs ≡ true → Passes p xs
 any-among p [] h = absurd (true≢false (sym h))
 any-among p (x ∷ xs) h =
-    elim (true_or_false (p x)) [
+    elim (cases_Bool (p x)) [
       | inl e ↦ record { version = x; among = inl refl; passes = e }
       | inr e ↦
           let rest = any-among p xs (sym (ap (λ b. b || list_any p xs) e) ∙ h) in
@@ -119,22 +115,22 @@ any-among p (x ∷ xs) h =
 all-drop : (p : Version → Bool) (k : ℕ) (xs : List Version) → list_all p xs ≡ true → list_all p (drop k xs) ≡ true
 all-drop p zero xs h = h
 all-drop p (suc k) [] h = refl
-all-drop p (suc k) (x ∷ xs) h = all-drop p k xs (both_parts (p x) (list_all p xs) h).1
+all-drop p (suc k) (x ∷ xs) h = all-drop p k xs (and_parts (p x) (list_all p xs) h).1
 
 module _ (v : Version) where
   abbrev above : List Version → Bool
   above ws = list_all (is_after v.number) ws
 
   above-parts : (xs ys : List Version) → above (xs ++ ys) ≡ true → (above xs ≡ true) × (above ys ≡ true)
-  above-parts xs ys h = both_parts (above xs) (above ys) (sym (list_all-append (is_after v.number) xs ys) ∙ h)
+  above-parts xs ys h = and_parts (above xs) (above ys) (sym (list_all-append (is_after v.number) xs ys) ∙ h)
 
   above-last : (xs : List Version) (w : Version) → above (xs ++ w ∷ []) ≡ true → int_lt v.number w.number ≡ true
-  above-last xs w h = (both_parts (int_lt v.number w.number) true (above-parts xs (w ∷ []) h).1).0
+  above-last xs w h = (and_parts (int_lt v.number w.number) true (above-parts xs (w ∷ []) h).1).0
 
 pub rises-snoc : (xs : List Version) (a b : Version) → rises (xs ++ a ∷ []) ≡ true → int_lt a.number b.number ≡ true → rises ((xs ++ a ∷ []) ++ b ∷ []) ≡ true
 rises-snoc [] a b h less = rw less refl
 rises-snoc (x ∷ xs) a b h less =
-    let parts = both_parts (above x (xs ++ a ∷ [])) (rises (xs ++ a ∷ [])) h in
+    let parts = and_parts (above x (xs ++ a ∷ [])) (rises (xs ++ a ∷ [])) h in
     let next = lt_trans x.number a.number b.number (above-last x xs a parts.0) less in
     let all : above x ((xs ++ a ∷ []) ++ b ∷ []) ≡ true = list_all-append (is_after x.number) (xs ++ a ∷ []) (b ∷ []) ∙ rw (parts.0, next) refl in
     rw (all, rises-snoc xs a b parts.1 less) refl
@@ -142,12 +138,12 @@ rises-snoc (x ∷ xs) a b h less =
 rises-drop : (k : ℕ) (xs : List Version) → rises xs ≡ true → rises (drop k xs) ≡ true
 rises-drop zero xs h = h
 rises-drop (suc k) [] h = refl
-rises-drop (suc k) (x ∷ xs) h = rises-drop k xs (both_parts (above x xs) (rises xs) h).1
+rises-drop (suc k) (x ∷ xs) h = rises-drop k xs (and_parts (above x xs) (rises xs) h).1
 
 rises-front : (xs ys : List Version) → rises (xs ++ ys) ≡ true → rises xs ≡ true
 rises-front [] ys h = refl
 rises-front (x ∷ xs) ys h =
-    let parts = both_parts (above x (xs ++ ys)) (rises (xs ++ ys)) h in
+    let parts = and_parts (above x (xs ++ ys)) (rises (xs ++ ys)) h in
     rw ((above-parts x xs ys parts.0).0, rises-front xs ys parts.1) refl
 
 -- the last so many rise too, with what stands behind them
@@ -159,15 +155,15 @@ last-rises n xs ys h =
 -- a version among those that rise is below the last one
 pub among-below : (xs : List Version) (v w : Version) → rises (xs ++ w ∷ []) ≡ true → Among v xs → int_lt v.number w.number ≡ true
 among-below [] v w h m = absurd m
-among-below (x ∷ xs) v w h (inl e) = ap (λ (u : Version). int_lt u.number w.number) e ∙ above-last x xs w (both_parts (above x (xs ++ w ∷ [])) (rises (xs ++ w ∷ [])) h).0
-among-below (x ∷ xs) v w h (inr m) = among-below xs v w (both_parts (above x (xs ++ w ∷ [])) (rises (xs ++ w ∷ [])) h).1 m
+among-below (x ∷ xs) v w h (inl e) = ap (λ (u : Version). int_lt u.number w.number) e ∙ above-last x xs w (and_parts (above x (xs ++ w ∷ [])) (rises (xs ++ w ∷ [])) h).0
+among-below (x ∷ xs) v w h (inr m) = among-below xs v w (and_parts (above x (xs ++ w ∷ [])) (rises (xs ++ w ∷ [])) h).1 m
 
 among-rest : (k : ℕ) (xs : List Version) (v : Version) → rises xs ≡ true → Among v xs → Among v (drop k xs) ⊎ (list_all (is_after v.number) (drop k xs) ≡ true)
 among-rest zero xs v h m = inl m
 among-rest (suc k) [] v h m = absurd m
 among-rest (suc k) (x ∷ xs) v h (inl e) =
-    inr (all-drop (is_after v.number) k xs (ap (λ (u : Version). list_all (is_after u.number) xs) e ∙ (both_parts (above x xs) (rises xs) h).0))
-among-rest (suc k) (x ∷ xs) v h (inr m) = among-rest k xs v (both_parts (above x xs) (rises xs) h).1 m
+    inr (all-drop (is_after v.number) k xs (ap (λ (u : Version). list_all (is_after u.number) xs) e ∙ (and_parts (above x xs) (rises xs) h).0))
+among-rest (suc k) (x ∷ xs) v h (inr m) = among-rest k xs v (and_parts (above x xs) (rises xs) h).1 m
 
 -- **A version among those that rise is one of the last so many, or below each of them.**
 pub among-last : (n : ℕ) (xs ys : List Version) (v : Version) → rises (xs ++ ys) ≡ true → Among v xs → Among v (last_of n xs) ⊎ (list_all (is_after v.number) (last_of n xs) ≡ true)

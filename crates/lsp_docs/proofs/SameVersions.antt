@@ -2,6 +2,8 @@
 use Rattle.std.proofs.Common.{◌≡◌, ℕ, zero, suc, ◌+◌, Bool, true, false, ◌&&◌, List, [], ◌∷◌, ◌++◌, filter, length, length-append, refl, sym, ap, ◌∙◌, inl, inr, Option, Some, None, Result, Ok, Err}
 use Rattle.std.specs.Prelude.{ℤ, if◌then◌else◌, is_some, nat_lt, not, int_lt}
 use Rattle.std.specs.List.{list_any}
+use Rattle.std.proofs.lemmas.Bool.{cases_Bool}
+use Rattle.std.proofs.lemmas.List.Elements.{filter-append}
 use Rattle.lsp_types.specs.declared.position.Encoding.{Encoding}
 use Rattle.lsp_types.specs.declared.change.SyncKind.{SyncKind}
 use Rattle.lsp_text.specs.Edits.{Edit, applied}
@@ -11,7 +13,7 @@ use Rattle.lsp_docs.specs.Calls.{Call, opens, changes, closes, saves, shows}
 use Rattle.lsp_docs.specs.Documents.{Version, versioned}
 use Rattle.lsp_docs.specs.Rules.{differs, version_rule, text_rule, change_rule, rule_of, first_row, fits_kind}
 use Rattle.lsp_docs.specs.State.{SameVersions}
-use Rattle.lsp_docs.proofs.Words.{true_or_false, filter-append, filter-all}
+use Rattle.lsp_docs.proofs.Words.{filter-all}
 
 pub same-of : (vs ws : List Version) → vs ≡ ws → SameVersions vs ws
 same-of vs ws e = λ p. ap (λ l. length (filter p l)) e
@@ -31,8 +33,8 @@ same-behind vs ws us h = λ p. count-append p vs us ∙ (ap (λ n. n + length (f
 filter-both : (p q : Version → Bool) (vs : List Version) → filter p (filter q vs) ≡ filter (λ v. q v && p v) vs
 filter-both p q [] = refl
 filter-both p q (v ∷ vs) =
-    elim (true_or_false (q v)) [
-      | inl h ↦ elim (true_or_false (p v)) [
+    elim (cases_Bool (q v)) [
+      | inl h ↦ elim (cases_Bool (p v)) [
         | inl k ↦ rw (h, k) (ap (λ l. v ∷ l) (filter-both p q vs))
         | inr k ↦ rw (h, k) (filter-both p q vs)
       ]
@@ -48,7 +50,7 @@ is_more (suc n) = true
 
 any-counted : (p : Version → Bool) (vs : List Version) → list_any p vs ≡ is_more (length (filter p vs))
 any-counted p [] = refl
-any-counted p (v ∷ vs) = elim (true_or_false (p v)) [ inl h ↦ rw h refl | inr h ↦ rw h (any-counted p vs) ]
+any-counted p (v ∷ vs) = elim (cases_Bool (p v)) [ inl h ↦ rw h refl | inr h ↦ rw h (any-counted p vs) ]
 
 pub same-any : (p : Version → Bool) (vs ws : List Version) → SameVersions vs ws → list_any p vs ≡ list_any p ws
 same-any p vs ws h = any-counted p vs ∙ (ap is_more (h p) ∙ sym (any-counted p ws))

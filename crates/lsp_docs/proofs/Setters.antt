@@ -5,10 +5,11 @@ use Rattle.std.specs.List.{list_any}
 use Rattle.std.specs.Option.{option_or}
 use Rattle.std.specs.Ordering.{int_eq}
 use Rattle.std.specs.Str.{bytes_eq}
-use Rattle.std.proofs.lemmas.Bool.{or_parts}
+use Rattle.std.proofs.lemmas.Bool.{or_parts, cases_Bool, and_parts, or_cases}
 use Rattle.std.proofs.lemmas.Cmp.{int_eq_equiv}
 use Rattle.std.proofs.lemmas.List.Folds.{list_any-append}
 use Rattle.std.proofs.lemmas.Option.{same_Some, none-some}
+use Rattle.std.proofs.Math.Bool.{or-true}
 use Rattle.lsp_docs.specs.Texts.{Text}
 use Rattle.lsp_docs.specs.Terms.{Terms}
 use Rattle.lsp_text.specs.Edits.{applied}
@@ -18,15 +19,16 @@ use Rattle.lsp_docs.specs.Kept.{past, kept}
 use Rattle.lsp_docs.specs.Snapshots.{holds_number, has_number, sets, comes_to, is_compared}
 use Rattle.lsp_docs.specs.Rules.{show_rule, call_rule, AreAcceptedFrom, AreAccepted}
 use Rattle.lsp_docs.specs.Binding.{standing, next_opening, binding, IsSet}
-use Rattle.lsp_docs.proofs.Words.{true_or_false, both_parts, either, int_is, unchanged, uri_is}
+use Rattle.lsp_docs.proofs.Words.{int_is, unchanged, uri_is}
 use Rattle.lsp_docs.proofs.HeldSteps.{next_held, held-snoc}
-use Rattle.lsp_docs.proofs.WaitingSteps.{none_row, no_some, change_parts}
+use Rattle.lsp_docs.proofs.WaitingSteps.{none_row, change_parts}
 use Rattle.lsp_docs.proofs.Accepted.{accepted-split, risen}
 use Rattle.lsp_docs.proofs.Rising.{Among, among-any, among-drop, among-below, among-last, any-among}
 use Rattle.lsp_docs.proofs.Past.{WasHeld, past-held, past-rises-to, was-held}
 use Rattle.lsp_docs.proofs.Agreeing.{shown-late}
 use Rattle.lsp_docs.proofs.Unmatched.{set_opens}
 use Rattle.lsp_docs.proofs.Bindings.{mapped, Cuts, earlier, later, cuts, held-standing, any_behind, behind, ahead}
+use Rattle.lsp_order.proofs.SlotLemmas.{no_some}
 
 -- ---- the opening that stands after more calls
 
@@ -107,7 +109,7 @@ standing-next uri calls [] k h none e = absurd (none-some k e)
 standing-next uri calls (c ∷ m) k h none e =
     let closing = or_parts (is_close uri c) (list_any (is_close uri) m) h in
     let cut = ap (standing uri) (sym (append_assoc calls (c ∷ []) m)) in
-    elim (true_or_false (is_some (opening uri c))) [
+    elim (cases_Bool (is_some (opening uri c))) [
       | inl p ↦
           let zero_is = next_head (is_some (opening uri c)) (next_opening uri m) k e p in
           let at : length calls ≡ length calls + k = omega (arith, zero_is) in
@@ -134,7 +136,7 @@ standing-without uri calls (c ∷ m) h none e =
 next_opening-more : (uri : Bytes) (m rest : List Call) (k : ℕ) → next_opening uri m ≡ Some k → next_opening uri (m ++ rest) ≡ Some k
 next_opening-more uri [] rest k e = absurd (none-some k e)
 next_opening-more uri (c ∷ m) rest k e =
-    elim (true_or_false (is_some (opening uri c))) [
+    elim (cases_Bool (is_some (opening uri c))) [
       | inl p ↦ rw p (ap (λ i. let found : Option ℕ = Some i in found) (next_head (is_some (opening uri c)) (next_opening uri m) k e p))
       | inr p ↦
           let tail = next_tail (is_some (opening uri c)) (next_opening uri m) k e p in
@@ -177,12 +179,12 @@ record HeldAt (terms : Terms) (uri : Bytes) (calls : List Call) (n : ℤ) : Type
 
 set-held : (terms : Terms) (uri : Bytes) (n : ℤ) (calls : List Call) (c : Call) → call_rule terms calls c ≡ None → sets uri n c ≡ true → HeldAt terms uri (calls ++ c ∷ []) n
 set-held terms uri n calls (opens u m t) e h =
-    let parts = both_parts (bytes_eq uri u) (int_eq m n) h in
+    let parts = and_parts (bytes_eq uri u) (int_eq m n) h in
     let none = no_some (held terms u calls) (none_row (is_some (held terms u calls)) 601 _ e).0 in
     let here : held terms uri calls ≡ None = ap (λ x. held terms x calls) (uri_is uri u parts.0) ∙ none in
     record { version = versioned m t; is = held-snoc terms uri calls (opens u m t) ∙ (ap (λ x. next_held terms uri x (opens u m t)) here ∙ rw (parts.0) refl); number = int_is m n parts.1 }
 set-held terms uri n calls (changes enc k u m cs) e h =
-    let both = both_parts (bytes_eq uri u) (int_eq m n) h in
+    let both = and_parts (bytes_eq uri u) (int_eq m n) h in
     let parts = change_parts terms _ enc k m cs (held terms u calls) e in
     let here : held terms uri calls ≡ Some parts.old = ap (λ x. held terms x calls) (uri_is uri u both.0) ∙ parts.is in
     let new : Version = versioned m (text_or parts.old.text (applied terms.limit enc parts.old.text cs)) in
@@ -200,7 +202,7 @@ plain (Some i) = refl
 left : (terms : Terms) (uri : Bytes) (calls : List Call) (c : Call) (w : Version) → call_rule terms calls c ≡ None → next_held terms uri (held terms uri calls) c ≡ Some w → sets uri w.number c ≡ false
     → (held terms uri calls ≡ Some w) × (is_close uri c ≡ false) × (is_some (opening uri c) ≡ false)
 left terms uri calls (opens u m t) w e now other =
-    elim (true_or_false (bytes_eq uri u)) [
+    elim (cases_Bool (bytes_eq uri u)) [
       | inl p ↦
           let none = no_some (held terms u calls) (none_row (is_some (held terms u calls)) 601 _ e).0 in
           let here : held terms uri calls ≡ None = ap (λ x. held terms x calls) (uri_is uri u p) ∙ none in
@@ -213,7 +215,7 @@ left terms uri calls (opens u m t) w e now other =
           (sym rest ∙ now, refl, rw p refl)
     ]
 left terms uri calls (changes enc k u m cs) w e now other =
-    elim (true_or_false (bytes_eq uri u)) [
+    elim (cases_Bool (bytes_eq uri u)) [
       | inl p ↦
           let parts = change_parts terms _ enc k m cs (held terms u calls) e in
           let here : held terms uri calls ≡ Some parts.old = ap (λ x. held terms x calls) (uri_is uri u p) ∙ parts.is in
@@ -227,7 +229,7 @@ left terms uri calls (changes enc k u m cs) w e now other =
           (sym rest ∙ now, refl, refl)
     ]
 left terms uri calls (closes u) w e now other =
-    elim (true_or_false (bytes_eq uri u)) [
+    elim (cases_Bool (bytes_eq uri u)) [
       | inl p ↦ absurd (none-some w (sym (ap (λ b. if b then None else option_or (option_map (λ v. v) (held terms uri calls)) None) p) ∙ now))
       | inr p ↦
           let rest : next_held terms uri (held terms uri calls) (closes u) ≡ held terms uri calls = rw p (unchanged (held terms uri calls)) in
@@ -252,7 +254,7 @@ set-before terms uri calls (c ∷ more) h so_far v i now at =
 
     step : (w : Version) (j : ℕ) → held terms uri (calls ++ c ∷ []) ≡ Some w → standing uri (calls ++ c ∷ []) ≡ Some j → IsSet uri w.number (calls ++ c ∷ []) j
     step w j held_now stands =
-        elim (true_or_false (sets uri w.number c)) [
+        elim (cases_Bool (sets uri w.number c)) [
           | inl p ↦ set_here w j stands p
           | inr p ↦
               let kept = left terms uri calls c w h.0 (sym (held-snoc terms uri calls c) ∙ held_now) p in
@@ -301,15 +303,11 @@ comes_at uri n (c ∷ calls) h =
           }
     ]
 
-or_true : (b : Bool) → (b || true) ≡ true
-or_true true = refl
-or_true false = refl
-
 comes_there : (uri : Bytes) (n : ℤ) (mid : List Call) (c : Call) (after : List Call) → list_any (is_close uri) mid ≡ false → sets uri n c ≡ true → comes_to uri n (mid ++ c ∷ after) ≡ true
 comes_there uri n [] c after h p = rw p refl
 comes_there uri n (d ∷ mid) c after h p =
     let closing = or_parts (is_close uri d) (list_any (is_close uri) mid) h in
-    rw (closing.0, comes_there uri n mid c after closing.1 p) (or_true (sets uri n d))
+    rw (closing.0, comes_there uri n mid c after closing.1 p) (or-true (sets uri n d))
 
 holds-number : (n : ℤ) (o : Option Version) → holds_number n o ≡ true → (v : Version) × (o ≡ Some v) × (v.number ≡ n)
 holds-number n None h = absurd (true≢false (sym h))
@@ -351,7 +349,7 @@ module _ (terms : Terms) (front back : List Call) (uri : Bytes) (n : ℤ) (t : T
 
   held_there : has_number n (kept terms uri front) (held terms uri front) ≡ true → HasSetter
   held_there p =
-      elim (either (list_any (is_at n) (kept terms uri front)) (holds_number n (held terms uri front)) p) [
+      elim (or_cases (list_any (is_at n) (kept terms uri front)) (holds_number n (held terms uri front)) p) [
         | inl q ↦
             let one = any-among (is_at n) (kept terms uri front) q in
             held_then one.version (past-held terms uri front one.version (among-drop one.version _ (past terms uri front) one.among)) (int_is one.version.number n one.passes)
@@ -377,7 +375,7 @@ module _ (terms : Terms) (front back : List Call) (uri : Bytes) (n : ℤ) (t : T
       )
 
   pub has-setter : is_compared terms front uri n back ≡ true → HasSetter
-  has-setter p = elim (either (has_number n (kept terms uri front) (held terms uri front)) (comes_to uri n back) p) [ inl q ↦ held_there q | inr q ↦ comes_later q ]
+  has-setter p = elim (or_cases (has_number n (kept terms uri front) (held terms uri front)) (comes_to uri n back) p) [ inl q ↦ held_there q | inr q ↦ comes_later q ]
 
   -- ---- a setter brings a comparison
 
@@ -417,7 +415,7 @@ module _ (terms : Terms) (front back : List Call) (uri : Bytes) (n : ℤ) (t : T
       ]
     where
       has_held : (ks : List Version) (o : Option Version) → holds_number n o ≡ true → has_number n ks o ≡ true
-      has_held ks o e = ap (λ b. list_any (is_at n) ks || b) e ∙ or_true (list_any (is_at n) ks)
+      has_held ks o e = ap (λ b. list_any (is_at n) ks || b) e ∙ or-true (list_any (is_at n) ks)
 
       has_kept : (ks : List Version) (o : Option Version) → list_any (is_at n) ks ≡ true → has_number n ks o ≡ true
       has_kept ks o e = ap (λ b. b || holds_number n o) e

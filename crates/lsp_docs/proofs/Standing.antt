@@ -1,8 +1,9 @@
 -- What each accepted call leaves stands for the calls with it behind them.
-use Rattle.std.proofs.Common.{◌≡◌, ℕ, ◌+◌, Bool, true, false, ◌||◌, ◌&&◌, List, [], ◌∷◌, ◌++◌, filter, length, length-append, refl, sym, ap, ◌∙◌, Some, None, inl, inr, append_assoc, append-nil, subst, arith, zero, suc}
+use Rattle.std.proofs.Common.{◌≡◌, ℕ, ◌+◌, Bool, true, false, ◌||◌, List, [], ◌∷◌, ◌++◌, filter, length, length-append, refl, sym, ap, ◌∙◌, Some, None, inl, inr, append_assoc, append-nil, subst, arith, zero, suc}
 use Rattle.std.specs.Prelude.{ℤ, not, is_some, int_lt, slice_get}
 use Rattle.std.specs.Str.{bytes_eq}
 use Rattle.std.proofs.lemmas.Option.{none-some, same_Some}
+use Rattle.std.proofs.lemmas.Bool.{cases_Bool, and_left}
 use Rattle.lsp_types.specs.declared.position.Encoding.{Encoding}
 use Rattle.lsp_types.specs.declared.change.SyncKind.{SyncKind}
 use Rattle.lsp_docs.specs.Texts.{Text}
@@ -14,15 +15,16 @@ use Rattle.lsp_docs.specs.Snapshots.{Shown, shown_entry, waiting, versions_of}
 use Rattle.lsp_docs.specs.Rules.{call_rule, AreAcceptedFrom, AreAccepted}
 use Rattle.lsp_docs.specs.Missed.{ends_waiting, missed_at, missed}
 use Rattle.lsp_docs.specs.State.{Queue, Waits, held_in, queue_of, keep_in, total, capped, reached, missed_one, SameVersions, IsAdded, IsReleased, AreWaits}
-use Rattle.lsp_docs.proofs.Words.{true_or_false, filter-none, filter-all, capped-add, uri_is, uri_same, uri_flip}
+use Rattle.lsp_docs.proofs.Words.{filter-none, filter-all, capped-add, uri_is, uri_same, uri_flip, and_first}
 use Rattle.lsp_docs.proofs.DocumentSteps.{after_call, stays, documents-push, held-documents, IsDistinct, all_stay, not_here}
-use Rattle.lsp_docs.proofs.WaitingSteps.{still, waiting-push, missed-push, missed-quiet, versions-kept, count-kept, count-ended, versions_of-append, none_row, no_some}
+use Rattle.lsp_docs.proofs.WaitingSteps.{still, waiting-push, missed-push, missed-quiet, versions-kept, count-kept, count-ended, versions_of-append, none_row}
 use Rattle.lsp_docs.proofs.QueueSteps.{queue-kept, queue-others, total-kept}
 use Rattle.lsp_docs.proofs.SameVersions.{same-of, same-then, same-length, same-behind, same-filtered}
+use Rattle.lsp_order.proofs.SlotLemmas.{no_some}
 
 -- ---- accepted calls
 
-accepted_from-push : (terms : Terms) (before after : List Call) (c : Call) → AreAcceptedFrom terms before after → call_rule terms (before ++ after) c ≡ None → AreAcceptedFrom terms before (after ++ c ∷ [])
+pub accepted_from-push : (terms : Terms) (before after : List Call) (c : Call) → AreAcceptedFrom terms before after → call_rule terms (before ++ after) c ≡ None → AreAcceptedFrom terms before (after ++ c ∷ [])
 accepted_from-push terms before [] c h e = (ap (λ l. call_rule terms l c) (sym (append-nil before)) ∙ e, tt)
 accepted_from-push terms before (d ∷ after) c h e =
     (h.0, accepted_from-push terms (before ++ d ∷ []) after c h.1 (ap (λ l. call_rule terms l c) (append_assoc before (d ∷ []) after) ∙ e))
@@ -37,13 +39,13 @@ none-after terms c x [] e = refl
 none-after terms c x (h ∷ hs) e =
     let parts = not_here (bytes_eq x h.uri) h.version (held_in x hs) e in
     let rest = none-after terms c x hs parts.1 in
-    elim (true_or_false (stays c h)) [ inl p ↦ rw (p, parts.0) rest | inr p ↦ rw p rest ]
+    elim (cases_Bool (stays c h)) [ inl p ↦ rw (p, parts.0) rest | inr p ↦ rw p rest ]
 
 distinct-after : (terms : Terms) (c : Call) (hs : List Held) → IsDistinct hs → IsDistinct (after_call terms c hs)
 distinct-after terms c [] d = tt
 distinct-after terms c (h ∷ hs) d =
     let rest = distinct-after terms c hs d.1 in
-    elim (true_or_false (stays c h)) [ inl p ↦ rw p (none-after terms c h.uri hs d.0, rest) | inr p ↦ rw p rest ]
+    elim (cases_Bool (stays c h)) [ inl p ↦ rw p (none-after terms c h.uri hs d.0, rest) | inr p ↦ rw p rest ]
 
 none-last : (x : Bytes) (hs : List Held) (h : Held) → held_in x hs ≡ None → bytes_eq x h.uri ≡ false → held_in x (hs ++ h ∷ []) ≡ None
 none-last x [] h e p = rw p refl
@@ -83,7 +85,7 @@ held_at (g ∷ hs) zero h d e =
     subst (λ x. held_in x.uri (g ∷ hs) ≡ Some x.version) same (rw (uri_same g.uri) refl)
 held_at (g ∷ hs) (suc i) h d e =
     let rest = held_at hs i h d.1 e in
-    elim (true_or_false (bytes_eq h.uri g.uri)) [
+    elim (cases_Bool (bytes_eq h.uri g.uri)) [
       | inl p ↦ absurd (none-some h.version (sym (ap (λ x. held_in x hs) (uri_is h.uri g.uri p) ∙ d.0) ∙ rest))
       | inr p ↦ rw p rest
     ]
@@ -129,7 +131,7 @@ module _ (terms : Terms) (w : Waits) (calls : List Call) (c : Call) (h : AreWait
 
     queues_now : (x : Bytes) → SameVersions (queue_of x ns) (versions_of x (waiting terms (calls ++ c ∷ [])))
     queues_now x =
-        elim (true_or_false (bytes_eq x u)) [
+        elim (cases_Bool (bytes_eq x u)) [
           | inl p ↦
               let mine = same-of (queue_of x ns) (filter q (queue_of u w.queues)) (ap (λ y. queue_of y ns) (uri_is x u p) ∙ own) in
               let judged = same-filtered q (queue_of u w.queues) (versions_of u (waiting terms calls)) (h.queues u) in
@@ -189,25 +191,19 @@ judged_true b x p = rw p refl
 judged_false : (b x : Bool) → b ≡ false → (not b || x) ≡ true
 judged_false b x p = rw p refl
 
-and_first : (b x : Bool) → b ≡ true → (b && x) ≡ x
-and_first b x p = rw p refl
-
-and_none : (b x : Bool) → b ≡ false → (b && x) ≡ false
-and_none b x p = rw p refl
-
 pub waits-opened : (terms : Terms) (w : Waits) (calls : List Call) (u : Bytes) (n : ℤ) (t : Text) → AreWaits terms w calls → call_rule terms calls (opens u n t) ≡ None
     → AreWaits terms (reached u n w) (calls ++ opens u n t ∷ [])
 waits-opened terms w calls u n t h e =
     waits-judged terms w calls (opens u n t) h e u (is_after n) (is_before n) (keep_in u (is_after n) w.queues) (queue-kept u (is_after n) w.queues) (λ x p. queue-others x u (is_after n) w.queues p) (total-kept u (is_after n) w.queues) refl
     (λ s p. judged_true (bytes_eq u s.uri) (int_lt n s.version.number) p) (λ s p. judged_false (bytes_eq u s.uri) (int_lt n s.version.number) p)
-    (λ s p. and_first (bytes_eq u s.uri) (int_lt s.version.number n) p) (λ s p. and_none (bytes_eq u s.uri) (int_lt s.version.number n) p) refl
+    (λ s p. and_first (bytes_eq u s.uri) (int_lt s.version.number n) p) (λ s p. and_left (bytes_eq u s.uri) (int_lt s.version.number n) p) refl
 
 pub waits-changed : (terms : Terms) (w : Waits) (calls : List Call) (enc : Encoding) (k : SyncKind) (u : Bytes) (n : ℤ) (cs : List Edit) → AreWaits terms w calls → call_rule terms calls (changes enc k u n cs) ≡ None
     → AreWaits terms (reached u n w) (calls ++ changes enc k u n cs ∷ [])
 waits-changed terms w calls enc k u n cs h e =
     waits-judged terms w calls (changes enc k u n cs) h e u (is_after n) (is_before n) (keep_in u (is_after n) w.queues) (queue-kept u (is_after n) w.queues) (λ x p. queue-others x u (is_after n) w.queues p) (total-kept u (is_after n) w.queues) refl
     (λ s p. judged_true (bytes_eq u s.uri) (int_lt n s.version.number) p) (λ s p. judged_false (bytes_eq u s.uri) (int_lt n s.version.number) p)
-    (λ s p. and_first (bytes_eq u s.uri) (int_lt s.version.number n) p) (λ s p. and_none (bytes_eq u s.uri) (int_lt s.version.number n) p) refl
+    (λ s p. and_first (bytes_eq u s.uri) (int_lt s.version.number n) p) (λ s p. and_left (bytes_eq u s.uri) (int_lt s.version.number n) p) refl
 
 pub waits-closed : (terms : Terms) (w : Waits) (calls : List Call) (u : Bytes) (new : Waits) → AreWaits terms w calls → call_rule terms calls (closes u) ≡ None
     → IsReleased u w.queues new.queues → new.missed ≡ capped (w.missed + length (queue_of u w.queues)) → AreWaits terms new (calls ++ closes u ∷ [])
@@ -258,7 +254,7 @@ waits-shown terms w calls u n t new h e shown silent added counted =
     ∙ (h.queues x q ∙ ap (λ l. length (filter q l)) (sym (append-nil (versions_of x all))
     ∙ (ap (λ l. versions_of x all ++ l) (sym (versions-one x u v p)) ∙ (sym (versions_of-append x all one) ∙ ap (versions_of x) (sym same))))) in
     record {
-      queues = λ x. elim (true_or_false (bytes_eq x u)) [ inl p ↦ own x p | inr p ↦ other x p ];
+      queues = λ x. elim (cases_Bool (bytes_eq x u)) [ inl p ↦ own x p | inr p ↦ other x p ];
       count = added.count ∙ (ap (λ m. m + 1) h.count ∙ (sym (length-append all one) ∙ ap length (sym same)));
       missed = counted ∙ (h.missed ∙ ap capped (sym (missed_same terms w calls (shows u n t) h e one shown (λ s. refl) (λ s. refl) silent)));
     }

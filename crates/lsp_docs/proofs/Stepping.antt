@@ -1,6 +1,6 @@
 -- What stands for a list of calls, from one accepted call to the next.
 use Rattle.std.proofs.Common.{◌≡◌, ℕ, ◌+◌, ◌≤◌, Bool, true, false, ◌&&◌, List, [], ◌∷◌, ◌++◌, length, refl, sym, ap, ◌∙◌, Option, Some, None, inl, inr, append-nil, subst, Result, Ok, arith, true≢false}
-use Rattle.std.proofs.lemmas.Bool.{or_parts}
+use Rattle.std.proofs.lemmas.Bool.{or_parts, cases_Bool}
 use Rattle.std.proofs.lemmas.Bool.Decides.{Decides-int_eq}
 use Rattle.std.specs.Prelude.{if◌then◌else◌, ℤ, not, is_some, int_lt, nat_lt, option_to_list}
 use Rattle.std.specs.Str.{bytes_eq}
@@ -25,7 +25,7 @@ use Rattle.lsp_docs.specs.Fault.{Names}
 use Rattle.lsp_docs.specs.Answer.{answer_of}
 use Rattle.lsp_docs.specs.declared.snapshot.Match.{Match}
 use Rattle.lsp_docs.specs.declared.snapshot.Match.TheVariants as answers
-use Rattle.lsp_docs.proofs.Words.{true_or_false, uri_is, uri_flip, unchanged}
+use Rattle.lsp_docs.proofs.Words.{uri_is, uri_flip, unchanged}
 use Rattle.lsp_docs.proofs.HeldSteps.{held-snoc}
 use Rattle.lsp_docs.proofs.DocumentSteps.{documents-push, held-documents, all_stay, all_saved, all_shown, closed_is, changed_is}
 use Rattle.lsp_docs.proofs.WaitingSteps.{change_parts, none_row}
@@ -70,7 +70,7 @@ kept-changed : (s : State) (calls : List Call) (enc : Encoding) (k : SyncKind) (
     → (uri : Bytes) → kept_in uri ks ≡ kept s.terms uri (calls ++ changes enc k u n cs ∷ [])
 kept-changed s calls enc k u n cs v ks there keeps h uri =
     keeps few uri
-    ∙ elim (true_or_false (bytes_eq u uri)) [
+    ∙ elim (cases_Bool (bytes_eq u uri)) [
       | inl p ↦
           let now : held s.terms uri calls ≡ Some v = ap (λ x. held s.terms x calls) (sym (uri_is u uri p)) ∙ (sym (held-stands s calls u h) ∙ there) in
           rw p (ap (λ o. last_of most (kept_in uri s.kept ++ option_to_list o)) there
@@ -93,7 +93,7 @@ kept-changed s calls enc k u n cs v ks there keeps h uri =
 kept-closed : (s : State) (calls : List Call) (u : Bytes) (ks : List Kept) → KeepsNone u s.kept ks → Stands s calls → (uri : Bytes) → kept_in uri ks ≡ kept s.terms uri (calls ++ closes u ∷ [])
 kept-closed s calls u ks drops h uri =
     drops uri
-    ∙ elim (true_or_false (bytes_eq u uri)) [
+    ∙ elim (cases_Bool (bytes_eq u uri)) [
       | inl p ↦ rw p (sym (ap (last_of s.terms.kept) (past-closed s.terms uri calls (closes u) (uri_flip uri u ∙ p)) ∙ last-empty s.terms.kept))
       | inr p ↦ rw p (h.kept uri ∙ ap (last_of s.terms.kept) (sym (past-same s.terms uri calls (closes u) (uri_flip uri u ∙ p) refl)))
     ]
@@ -101,7 +101,7 @@ kept-closed s calls u ks drops h uri =
 -- nothing is ever kept: the old versions are those that are kept on
 pub keeps-none : (most : ℕ) (u : Bytes) (h : Option Version) (ks : List Kept) → most ≡ 0 → KeepsOn most u h ks ks
 keeps-none most u h ks none few uri =
-    elim (true_or_false (bytes_eq u uri)) [
+    elim (cases_Bool (bytes_eq u uri)) [
       | inl p ↦
           let empty : kept_in uri ks ≡ [] = ap (λ x. kept_in x ks) (sym (uri_is u uri p)) ∙ is_empty (kept_in u ks) most few none in
           rw p (empty ∙ (sym (last-none (kept_in uri ks ++ option_to_list h)) ∙ ap (λ m. last_of m (kept_in uri ks ++ option_to_list h)) (sym none)))
@@ -257,9 +257,9 @@ module _ (s : State) (calls : List Call) (u : Bytes) (n : ℤ) (t : Text) (e : r
 pub early-rule : (terms : Terms) (ws : List Version) (enc : Encoding) (k : SyncKind) (n : ℤ) (cs : List Edit) (o : Option Version) (r : ℕ) → early_rule k n cs o ≡ Some r → change_rule terms ws enc k n cs o ≡ Some r
 early-rule terms ws enc k n cs None r e = e
 early-rule terms ws enc k n cs (Some v) r e =
-    elim (true_or_false (not (int_lt v.number n))) [
+    elim (cases_Bool (not (int_lt v.number n))) [
       | inl p ↦ rw p (early_first (not (int_lt v.number n)) _ r e p)
-      | inr p ↦ elim (true_or_false (not (fits_kind k cs))) [
+      | inr p ↦ elim (cases_Bool (not (fits_kind k cs))) [
         | inl q ↦ rw (p, q) (early_second (not (int_lt v.number n)) (not (fits_kind k cs)) r e p q)
         | inr q ↦ absurd (early_none (not (int_lt v.number n)) (not (fits_kind k cs)) r e p q)
       ]
@@ -335,9 +335,9 @@ save-closed terms (Some v) ks ws u t e = absurd (none-some v (sym e))
 
 eq_flip : (a b : ℤ) → int_eq a b ≡ int_eq b a
 eq_flip a b =
-    elim (true_or_false (int_eq a b)) [
+    elim (cases_Bool (int_eq a b)) [
       | inl p ↦ rw ((Decides-int_eq a b).0 p) refl
-      | inr p ↦ elim (true_or_false (int_eq b a)) [
+      | inr p ↦ elim (cases_Bool (int_eq b a)) [
         | inl q ↦ rw ((Decides-int_eq b a).0 q) refl
         | inr q ↦ p ∙ sym q
       ]

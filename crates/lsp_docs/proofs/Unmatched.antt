@@ -4,8 +4,10 @@ use Rattle.std.specs.Prelude.{ℤ, int_lt, not, is_some, if◌then◌else◌}
 use Rattle.std.specs.List.{list_any}
 use Rattle.std.specs.Ordering.{int_eq}
 use Rattle.std.specs.Str.{bytes_eq}
-use Rattle.std.proofs.lemmas.Bool.{or_parts}
+use Rattle.std.proofs.lemmas.Bool.{or_parts, cases_Bool, and_parts, or_cases}
 use Rattle.std.proofs.lemmas.Int.{ints}
+use Rattle.std.proofs.lemmas.List.Elements.{filter-append}
+use Rattle.std.proofs.Math.Bool.{and-false, or-false}
 use Rattle.lsp_docs.specs.Texts.{Text}
 use Rattle.lsp_docs.specs.Terms.{Terms}
 use Rattle.lsp_docs.specs.Calls.{Bytes, Call, opens, changes, closes, saves, shows, is_close}
@@ -14,12 +16,13 @@ use Rattle.lsp_docs.specs.Kept.{kept}
 use Rattle.lsp_docs.specs.Snapshots.{Shown, is_ahead, shown_entry, waiting_in, waiting, has_number, sets, comes_to, is_compared, unmatched_entry, unmatched_in, unmatched}
 use Rattle.lsp_docs.specs.Rules.{call_rule, AreAcceptedFrom, AreAccepted}
 use Rattle.lsp_docs.specs.Missed.{ends_waiting, missed_at, missed}
-use Rattle.lsp_docs.proofs.Words.{true_or_false, both_parts, either, int_is, filter-append, uri_is, uri_flip}
+use Rattle.lsp_docs.proofs.Words.{int_is, uri_is, uri_flip, equal_behind}
 use Rattle.lsp_docs.proofs.HeldSteps.{next_held, held-snoc}
-use Rattle.lsp_docs.proofs.WaitingSteps.{still, still_at, ahead-step, and_false, or_false, none_row, no_some, change_parts, waiting-push, missed-push}
+use Rattle.lsp_docs.proofs.WaitingSteps.{still, still_at, ahead-step, none_row, change_parts, waiting-push, missed-push}
 use Rattle.lsp_docs.proofs.Standing.{accepted-push}
 use Rattle.lsp_docs.proofs.Past.{reached-number}
 use Rattle.lsp_docs.proofs.Stepping.{held-shown}
+use Rattle.lsp_order.proofs.SlotLemmas.{no_some}
 
 -- the call brings the snapshot's URI to its version
 abbrev meets : Call → Shown → Bool
@@ -33,20 +36,17 @@ later-one false true x l y = refl
 later-one false false x l y = refl
 
 comes_to-snoc : (uri : Bytes) (n : ℤ) (after : List Call) (c : Call) → comes_to uri n (after ++ c ∷ []) ≡ (comes_to uri n after || (not (list_any (is_close uri) after) && sets uri n c))
-comes_to-snoc uri n [] c = ap (λ b. sets uri n c || b) (and_false (not (is_close uri c))) ∙ or_false (sets uri n c)
+comes_to-snoc uri n [] c = ap (λ b. sets uri n c || b) (and-false (not (is_close uri c))) ∙ or-false (sets uri n c)
 comes_to-snoc uri n (d ∷ after) c =
     ap (λ b. sets uri n d || (not (is_close uri d) && b)) (comes_to-snoc uri n after c)
     ∙ later-one (sets uri n d) (is_close uri d) (comes_to uri n after) (list_any (is_close uri) after) (sets uri n c)
 
 -- ---- a version that was come to is held or passed, until a close
 
-not_less_now : (m n : ℤ) → int_eq m n ≡ true → int_lt m n ≡ false
-not_less_now m n h = grind (arith, ints)
-
 ends_still : (uri u : Bytes) (m n : ℤ) → (bytes_eq uri u && int_eq m n) ≡ true → (not (bytes_eq u uri) || int_lt m n) ≡ false
 ends_still uri u m n h =
-    let parts = both_parts (bytes_eq uri u) (int_eq m n) h in
-    rw (uri_flip u uri ∙ parts.0, not_less_now m n parts.1) refl
+    let parts = and_parts (bytes_eq uri u) (int_eq m n) h in
+    rw (uri_flip u uri ∙ parts.0, equal_behind m n parts.1) refl
 
 set_ends : (uri : Bytes) (n : ℤ) (c : Call) → sets uri n c ≡ true → still_at c uri n ≡ false
 set_ends uri n (opens u m t) h = ends_still uri u m n h
@@ -81,7 +81,7 @@ module _ (terms : Terms) (uri : Bytes) (n : ℤ) where
   reached-set calls c e h =
       ap (is_ahead n) (held-snoc terms uri calls c)
       ∙ first_of_both (is_ahead n (next_held terms uri (held terms uri calls) c)) (is_close uri c) (set_opens uri n c h)
-      (ahead-step terms uri n calls c e ∙ (ap (λ b. is_ahead n (held terms uri calls) && b) (set_ends uri n c h) ∙ and_false (is_ahead n (held terms uri calls))))
+      (ahead-step terms uri n calls c e ∙ (ap (λ b. is_ahead n (held terms uri calls) && b) (set_ends uri n c h) ∙ and-false (is_ahead n (held terms uri calls))))
 
   reached-on : (calls more : List Call) → AreAcceptedFrom terms calls more → list_any (is_close uri) more ≡ false → IsReached calls → IsReached (calls ++ more)
   reached-on calls [] h open_still r = subst IsReached (sym (append-nil calls)) r
@@ -109,7 +109,7 @@ module _ (terms : Terms) (uri : Bytes) (n : ℤ) where
   compared-reached before after t done h open_still is =
       let s = shows uri n t in
       subst IsReached (append_assoc before (s ∷ []) after)
-      (elim (either (has_number n (kept terms uri before) (held terms uri before)) (comes_to uri n after) is) [
+      (elim (or_cases (has_number n (kept terms uri before) (held terms uri before)) (comes_to uri n after) is) [
         | inl p ↦ reached-on (before ++ s ∷ []) after h.1 open_still (ap (is_ahead n) (held-shown terms before uri n t) ∙ reached-number terms uri before n done p)
         | inr p ↦ reached-come (before ++ s ∷ []) after h.1 open_still p
       ])
@@ -117,11 +117,11 @@ module _ (terms : Terms) (uri : Bytes) (n : ℤ) where
   -- and a call comes only to a version that was ahead
   sets-ahead : (calls : List Call) (c : Call) → call_rule terms calls c ≡ None → sets uri n c ≡ true → is_ahead n (held terms uri calls) ≡ true
   sets-ahead calls (opens u m t) e h =
-      let parts = both_parts (bytes_eq uri u) (int_eq m n) h in
+      let parts = and_parts (bytes_eq uri u) (int_eq m n) h in
       let none = no_some (held terms u calls) (none_row (is_some (held terms u calls)) 601 _ e).0 in
       ap (λ x. is_ahead n (held terms x calls)) (uri_is uri u parts.0) ∙ ap (is_ahead n) none
   sets-ahead calls (changes enc k u m cs) e h =
-      let both = both_parts (bytes_eq uri u) (int_eq m n) h in
+      let both = and_parts (bytes_eq uri u) (int_eq m n) h in
       let parts = change_parts terms _ enc k m cs (held terms u calls) e in
       ap (λ x. is_ahead n (held terms x calls)) (uri_is uri u both.0) ∙ (ap (is_ahead n) parts.is ∙ (ap (int_lt parts.old.number) (sym (int_is m n both.1)) ∙ parts.rises))
   sets-ahead calls (closes u) e h = absurd (true≢false (sym h))
@@ -144,10 +144,6 @@ entry_lem false false true false false s p e up down = rw e refl
 entry_lem false false false true y s p e up down = refl
 entry_lem false false false false true s p e up down = absurd (true≢false (sym (up refl)))
 entry_lem false false false false false s p e up down = refl
-
-not_both : (a : Bool) → (a ≡ true → a ≡ false) → a ≡ false
-not_both true f = f refl
-not_both false f = refl
 
 entry-push : (terms : Terms) (before after : List Call) (d c : Call) → AreAccepted terms before → AreAcceptedFrom terms before (d ∷ after) → call_rule terms (before ++ d ∷ after) c ≡ None
     → unmatched_entry terms before d (after ++ c ∷ []) + length (filter (meets c) (shown_entry terms (before ++ d ∷ after) d after)) ≡ unmatched_entry terms before d after
@@ -188,9 +184,9 @@ data Fate (s e m : Bool) : Type 0 where
 
 less_or : (m n : ℤ) → Fate (int_lt m n) (int_lt n m) (int_eq m n)
 less_or m n =
-    elim (true_or_false (int_lt m n)) [
+    elim (cases_Bool (int_lt m n)) [
       | inl p ↦ goes_on p (let h = p in grind (arith, ints)) (let h = p in grind (arith, ints))
-      | inr p ↦ elim (true_or_false (int_lt n m)) [
+      | inr p ↦ elim (cases_Bool (int_lt n m)) [
         | inl q ↦ is_missed p q (let h = q in grind (arith, ints))
         | inr q ↦ is_met p q (let h = p in let k = q in grind (arith, ints))
       ]
@@ -198,7 +194,7 @@ less_or m n =
 
 fate_of : (u uri : Bytes) (m n : ℤ) → Fate (not (bytes_eq u uri) || int_lt m n) (bytes_eq u uri && int_lt n m) (bytes_eq uri u && int_eq m n)
 fate_of u uri m n =
-    elim (true_or_false (bytes_eq u uri)) [
+    elim (cases_Bool (bytes_eq u uri)) [
       | inl p ↦ rw (uri_flip uri u, p) (less_or m n)
       | inr p ↦ rw (uri_flip uri u, p) (goes_on refl refl refl)
     ]
@@ -206,7 +202,7 @@ fate_of u uri m n =
 fate : (c : Call) (s : Shown) → Fate (still c s) (ends_waiting c s) (meets c s)
 fate (opens u m t) s = fate_of u s.uri m s.version.number
 fate (changes enc k u m cs) s = fate_of u s.uri m s.version.number
-fate (closes u) s = elim (true_or_false (bytes_eq u s.uri)) [ inl p ↦ rw p (is_missed refl refl refl) | inr p ↦ rw p (goes_on refl refl refl) ]
+fate (closes u) s = elim (cases_Bool (bytes_eq u s.uri)) [ inl p ↦ rw p (is_missed refl refl refl) | inr p ↦ rw p (goes_on refl refl refl) ]
 fate (saves u t) s = goes_on refl refl refl
 fate (shows u m t) s = goes_on refl refl refl
 

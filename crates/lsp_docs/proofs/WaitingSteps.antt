@@ -1,11 +1,15 @@
 -- What one more call does to the snapshots that wait.
-use Rattle.std.proofs.Common.{◌≡◌, ℕ, ◌+◌, Bool, true, false, ◌||◌, ◌&&◌, List, [], ◌∷◌, ◌++◌, map, filter, length, refl, sym, ap, ◌∙◌, Option, Some, None, inl, inr, append_assoc, append-nil, Result, Ok, Err, true≢false, arith}
+use Rattle.std.proofs.Common.{◌≡◌, ℕ, ◌+◌, Bool, true, false, ◌||◌, ◌&&◌, List, [], ◌∷◌, ◌++◌, map, filter, length, refl, sym, ap, ◌∙◌, Option, Some, None, inl, inr, append_assoc, append-nil, Result, Ok, Err, arith}
 use Rattle.std.specs.Prelude.{if◌then◌else◌, option_map, ℤ, not, is_some, int_lt}
 use Rattle.std.specs.Str.{bytes_eq}
 use Rattle.std.specs.Option.{option_or}
 use Rattle.std.specs.List.{list_any}
 use Rattle.std.proofs.lemmas.Option.{none-some}
 use Rattle.std.proofs.lemmas.List.Folds.{list_any-append}
+use Rattle.std.proofs.lemmas.Bool.{cases_Bool, not-false}
+use Rattle.std.proofs.lemmas.List.Elements.{filter-append}
+use Rattle.std.proofs.lemmas.List.{map-append}
+use Rattle.std.proofs.Math.Bool.{and-true, and-false, or-false}
 use Rattle.lsp_types.specs.declared.position.Encoding.{Encoding}
 use Rattle.lsp_types.specs.declared.change.SyncKind.{SyncKind}
 use Rattle.lsp_docs.specs.Texts.{Text}
@@ -16,8 +20,9 @@ use Rattle.lsp_docs.specs.Documents.{Version, versioned, revised, held}
 use Rattle.lsp_docs.specs.Snapshots.{Shown, is_ahead, waits, shown_entry, waiting_in, waiting, is_of, versions_of}
 use Rattle.lsp_docs.specs.Rules.{fits_kind, version_rule, text_rule, change_rule, call_rule}
 use Rattle.lsp_docs.specs.Missed.{ends_waiting, missed_at, missed_from, missed}
-use Rattle.lsp_docs.proofs.Words.{true_or_false, filter-append, map-append, uri_is, uri_flip, lt_trans}
+use Rattle.lsp_docs.proofs.Words.{uri_is, uri_flip, lt_trans}
 use Rattle.lsp_docs.proofs.HeldSteps.{next_held, held-snoc}
+use Rattle.lsp_order.proofs.SlotLemmas.{no_some}
 
 -- a snapshot of the URI and version waits on after the call
 abbrev pub still_at : Call → Bytes → ℤ → Bool
@@ -35,14 +40,6 @@ still c s = still_at c s.uri s.version.number
 pub none_row : (b : Bool) (n : ℕ) (rest : Option ℕ) → (if b then Some n else rest) ≡ None → (b ≡ false) × (rest ≡ None)
 none_row true n rest h = absurd (none-some n (sym h))
 none_row false n rest h = (refl, h)
-
-pub not_false : (b : Bool) → not b ≡ false → b ≡ true
-not_false true h = refl
-not_false false h = absurd (true≢false h)
-
-pub no_some : (o : Option Version) → is_some o ≡ false → o ≡ None
-no_some None h = refl
-no_some (Some v) h = absurd (true≢false h)
 
 -- what an accepted change says
 pub record Changes (terms : Terms) (ws : List Version) (enc : Encoding) (m : ℤ) (cs : List Edit) (h : Option Version) : Type 0 where
@@ -64,31 +61,19 @@ change_parts terms ws enc k m cs (Some v) e =
     let first = none_row (not (int_lt v.number m)) 603 _ e in
     let second = none_row (not (fits_kind k cs)) 604 _ first.1 in
     let made = text_made terms ws m (applied terms.limit enc v.text cs) second.1 in
-    record { old = v; text = made.0; is = refl; rises = not_false (int_lt v.number m) first.0; made = made.1; agrees = made.2 }
+    record { old = v; text = made.0; is = refl; rises = not-false (int_lt v.number m) first.0; made = made.1; agrees = made.2 }
 
 -- ---- one more call, for one snapshot
 
-pub and_true : (b : Bool) → (b && true) ≡ b
-and_true true = refl
-and_true false = refl
-
-pub and_false : (b : Bool) → (b && false) ≡ false
-and_false true = refl
-and_false false = refl
-
-pub or_false : (b : Bool) → (b || false) ≡ b
-or_false true = refl
-or_false false = refl
-
 shuffle : (a x b cl st : Bool) → (x && not cl) ≡ (a && st) → (x && not (b || (cl || false))) ≡ ((a && not b) && st)
-shuffle a x true cl st e = and_false x ∙ sym (ap (λ y. y && st) (and_false a))
-shuffle a x false cl st e = ap (λ y. x && not y) (or_false cl) ∙ (e ∙ sym (ap (λ y. y && st) (and_true a)))
+shuffle a x true cl st e = and-false x ∙ sym (ap (λ y. y && st) (and-false a))
+shuffle a x false cl st e = ap (λ y. x && not y) (or-false cl) ∙ (e ∙ sym (ap (λ y. y && st) (and-true a)))
 
 lesser : (a m n : ℤ) → int_lt a m ≡ true → int_lt m n ≡ (int_lt a n && int_lt m n)
 lesser a m n h =
-    elim (true_or_false (int_lt m n)) [
+    elim (cases_Bool (int_lt m n)) [
       | inl p ↦ rw (p, lt_trans a m n h p) refl
-      | inr p ↦ rw (p, and_false (int_lt a n)) refl
+      | inr p ↦ rw (p, and-false (int_lt a n)) refl
     ]
 
 module _ (terms : Terms) (uri : Bytes) (n : ℤ) where
@@ -100,20 +85,20 @@ module _ (terms : Terms) (uri : Bytes) (n : ℤ) where
       → (is_ahead n (next_held terms uri (held terms uri calls) c) && not (is_close uri c)) ≡ (is_ahead n (held terms uri calls) && still_at c uri n)
   ahead-step calls (opens u m t) e =
       let none = no_some (held terms u calls) (none_row (is_some (held terms u calls)) 601 _ e).0 in
-      elim (true_or_false (bytes_eq uri u)) [
-        | inl p ↦ rw (ap (λ x. held terms x calls) (uri_is uri u p) ∙ none, uri_flip u uri, p) (and_true (int_lt m n))
+      elim (cases_Bool (bytes_eq uri u)) [
+        | inl p ↦ rw (ap (λ x. held terms x calls) (uri_is uri u p) ∙ none, uri_flip u uri, p) (and-true (int_lt m n))
         | inr p ↦ rw (uri_flip u uri, p) (ap (λ b. b && true) (same_ahead (opens u m t) (λ v. refl) (held terms uri calls)))
       ]
   ahead-step calls (changes enc k u m cs) e =
       let parts = change_parts terms _ enc k m cs (held terms u calls) e in
-      elim (true_or_false (bytes_eq uri u)) [
-        | inl p ↦ rw (ap (λ x. held terms x calls) (uri_is uri u p) ∙ parts.is, uri_flip u uri, p) (and_true (int_lt m n) ∙ lesser parts.old.number m n parts.rises)
+      elim (cases_Bool (bytes_eq uri u)) [
+        | inl p ↦ rw (ap (λ x. held terms x calls) (uri_is uri u p) ∙ parts.is, uri_flip u uri, p) (and-true (int_lt m n) ∙ lesser parts.old.number m n parts.rises)
         | inr p ↦ ap (λ b. b && true) (same_ahead (changes enc k u m cs) (λ v. rw p refl) (held terms uri calls))
             ∙ sym (ap (λ b. is_ahead n (held terms uri calls) && (not b || int_lt m n)) (uri_flip u uri ∙ p))
       ]
   ahead-step calls (closes u) e =
-      elim (true_or_false (bytes_eq uri u)) [
-        | inl p ↦ rw (uri_flip u uri, p) (sym (and_false (is_ahead n (held terms uri calls))))
+      elim (cases_Bool (bytes_eq uri u)) [
+        | inl p ↦ rw (uri_flip u uri, p) (sym (and-false (is_ahead n (held terms uri calls))))
         | inr p ↦ rw (uri_flip u uri, p) (ap (λ b. b && true) (same_ahead (closes u) (λ v. refl) (held terms uri calls)))
       ]
   ahead-step calls (saves u t) e = ap (λ b. b && true) (same_ahead (saves u t) (λ v. refl) (held terms uri calls))
@@ -129,7 +114,7 @@ module _ (terms : Terms) (uri : Bytes) (n : ℤ) where
 
 entry_is : (a : Bool) (x : Shown) (p : Shown → Bool) → (if a && p x then x ∷ [] else []) ≡ filter p (if a then x ∷ [] else [])
 entry_is false x p = refl
-entry_is true x p = elim (true_or_false (p x)) [ inl h ↦ rw h refl | inr h ↦ rw h refl ]
+entry_is true x p = elim (cases_Bool (p x)) [ inl h ↦ rw h refl | inr h ↦ rw h refl ]
 
 shown_entry-push : (terms : Terms) (calls after : List Call) (c d : Call) → call_rule terms calls c ≡ None
     → shown_entry terms (calls ++ c ∷ []) d (after ++ c ∷ []) ≡ filter (still c) (shown_entry terms calls d after)
@@ -173,12 +158,12 @@ module _ (uri : Bytes) (p : Shown → Bool) (q : Version → Bool) (same : (s : 
   pub versions-kept : (ws : List Shown) → versions_of uri (filter p ws) ≡ filter q (versions_of uri ws)
   versions-kept [] = refl
   versions-kept (s ∷ ws) =
-      elim (true_or_false (bytes_eq uri s.uri)) [
-        | inl h ↦ elim (true_or_false (q s.version)) [
+      elim (cases_Bool (bytes_eq uri s.uri)) [
+        | inl h ↦ elim (cases_Bool (q s.version)) [
           | inl k ↦ rw (same s h, k, h, k) (ap (λ l. s.version ∷ l) (versions-kept ws))
           | inr k ↦ rw (same s h, k, h, k) (versions-kept ws)
         ]
-        | inr h ↦ elim (true_or_false (p s)) [
+        | inr h ↦ elim (cases_Bool (p s)) [
           | inl k ↦ rw (k, h) (versions-kept ws)
           | inr k ↦ rw (k, h) (versions-kept ws)
         ]
@@ -189,8 +174,8 @@ module _ (uri : Bytes) (p : Shown → Bool) (q : Version → Bool) (same : (s : 
   count-kept others [] = refl
   count-kept others (s ∷ ws) =
       let rest = count-kept others ws in
-      elim (true_or_false (bytes_eq uri s.uri)) [
-        | inl h ↦ elim (true_or_false (q s.version)) [
+      elim (cases_Bool (bytes_eq uri s.uri)) [
+        | inl h ↦ elim (cases_Bool (q s.version)) [
           | inl k ↦ rw (same s h, k, h, k) (omega (arith, rest))
           | inr k ↦ rw (same s h, k, h, k) (omega (arith, rest))
         ]
@@ -201,8 +186,8 @@ module _ (uri : Bytes) (p : Shown → Bool) (q : Version → Bool) (same : (s : 
   count-ended others [] = refl
   count-ended others (s ∷ ws) =
       let rest = count-ended others ws in
-      elim (true_or_false (bytes_eq uri s.uri)) [
-        | inl h ↦ elim (true_or_false (q s.version)) [
+      elim (cases_Bool (bytes_eq uri s.uri)) [
+        | inl h ↦ elim (cases_Bool (q s.version)) [
           | inl k ↦ rw (same s h, k, h, k) (omega (arith, rest))
           | inr k ↦ rw (same s h, k, h, k) rest
         ]

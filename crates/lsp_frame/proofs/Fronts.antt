@@ -1,13 +1,11 @@
 -- The header part that bytes begin with stays, whatever follows.
 use Rattle.std.proofs.Common.{◌≡◌, ℕ, ◌+◌, ◌-◌, ◌<◌, ◌≤◌, Bool, true, false, List, [], ◌∷◌, ◌++◌, length, take, drop, Option, Some, None, refl, sym, ap, subst, ◌∙◌, append_assoc, append-nil, arith, inl, inr}
-use Rattle.std.specs.Prelude.{if◌then◌else◌}
 use Rattle.std.proofs.lemmas.List.{length-append, take-append-le, take-append-drop, length-drop}
-use Rattle.std.proofs.lemmas.Bool.{cases_lt}
+use Rattle.std.proofs.lemmas.Bool.{cases_lt, cond-false}
 use Rattle.std.proofs.lemmas.Slice.Eq.{bytes_eq-Decides}
 use Rattle.memchr.specs.Find.{FindsNeedle}
-use Rattle.lsp_frame.specs.Bounds.{Bounds, IsInRange}
 use Rattle.lsp_frame.specs.Header.{blank_line}
-use Rattle.lsp_frame.specs.Frame.{HoldsNoBlank, Breaks, Frames}
+use Rattle.lsp_frame.specs.Frame.{HoldsNoBlank, Frames}
 use Rattle.lsp_frame.specs.Decoder.{State, StandsFor, RestAt}
 use Rattle.lsp_frame.specs.Front.{begins_blank, header_of, header_front, HoldsRest}
 use Rattle.lsp_frame.specs.Laws.{FrontStays}
@@ -16,13 +14,9 @@ use Rattle.lsp_frame.proofs.Splits.{none_found, first_part}
 
 -- ---- one byte more in front
 
-untested : (t : Bool) (x y : List ℕ) → t ≡ false → (if t then x else y) ≡ y
-untested true x y e = absurd cc
-untested false x y e = refl
-
 -- where no blank line stands in front, the first byte is one of the header part
 header_cons : (b : ℕ) (bytes : List ℕ) → (take 4 (b ∷ bytes) ≡ blank_line → ⊥) → header_of (b ∷ bytes) ≡ b ∷ header_of bytes
-header_cons b bytes none = untested (begins_blank (b ∷ bytes)) blank_line (b ∷ header_of bytes) (by_test (begins_blank (b ∷ bytes)) refl)
+header_cons b bytes none = cond-false (begins_blank (b ∷ bytes)) blank_line (b ∷ header_of bytes) (by_test (begins_blank (b ∷ bytes)) refl)
   where
     by_test : (t : Bool) → begins_blank (b ∷ bytes) ≡ t → t ≡ false
     by_test false e = refl

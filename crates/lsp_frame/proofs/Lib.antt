@@ -13,3 +13,4 @@ pub mod Passing
 pub mod Telling
 pub mod Writing
 pub mod Fronts
+pub mod FrameRules

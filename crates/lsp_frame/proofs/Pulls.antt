@@ -1,10 +1,11 @@
 -- A piece that a source put behind the bytes that a decoder holds.
-use Rattle.std.proofs.Common.{◌≡◌, ℕ, suc, ◌+◌, ◌-◌, ◌≤◌, List, [], ◌∷◌, ◌++◌, length, take, drop, Option, Some, None, refl, sym, ap, subst, ◌∙◌, append-nil, arith, true, false}
+use Rattle.std.proofs.Common.{◌≡◌, ℕ, ◌+◌, ◌-◌, ◌≤◌, List, [], ◌++◌, length, take, drop, Option, Some, None, refl, sym, ap, subst, ◌∙◌, append-nil, arith, true, false}
 use Rattle.std.proofs.lemmas.List.{length-append, length-take, take-append-le, take-take}
 use borrow.Rule.Slice.PartMut.{put_mid}
 use Rattle.lsp_frame.specs.Bounds.{Bounds}
 use Rattle.lsp_frame.specs.Told.{Told, Gave}
 use Rattle.std.specs.Prelude.{is_some}
+use Rattle.std.proofs.Math.Seq.{take-append-add}
 use Rattle.lsp_frame.proofs.Telling.{gave_nothing}
 use Rattle.lsp_frame.specs.Decoder.{State, pushed, pushed_at}
 use Rattle.lsp_frame.specs.Pulling.{Pulls}
@@ -14,14 +15,10 @@ use Rattle.lsp_frame.proofs.Starts.{header_stays}
 use Rattle.lsp_frame.specs.Buffer.{AheadStands, FaultStands}
 use Rattle.lsp_frame.specs.declared.start.FrameSize.{FrameSize}
 
-pub take_past : (xs ys : List ℕ) (n : ℕ) → take (length xs + n) (xs ++ ys) ≡ xs ++ take n ys
-take_past [] ys n = ap (λ k. take k ys) (omega arith)
-take_past (x ∷ xs) ys n = ap (λ k. take k (x ∷ (xs ++ ys))) (let e : suc (length xs) + n ≡ suc (length xs + n) = omega arith in e) ∙ ap (λ w. x ∷ w) (take_past xs ys n)
-
 -- a front of the buffer that was written behind what stood there
 pub take_written : (xs buffer tail : List ℕ) (len count : ℕ) → length xs ≡ len → count ≤ length buffer → take (len + count) (xs ++ (buffer ++ tail)) ≡ xs ++ take count buffer
 take_written xs buffer tail len count is fits =
-    ap (λ k. take (k + count) (xs ++ (buffer ++ tail))) (sym is) ∙ take_past xs (buffer ++ tail) count ∙ ap (λ w. xs ++ w) (take-append-le count buffer tail fits)
+    ap (λ k. take (k + count) (xs ++ (buffer ++ tail))) (sym is) ∙ take-append-add xs (buffer ++ tail) count ∙ ap (λ w. xs ++ w) (take-append-le count buffer tail fits)
 
 pushed_open : (fault : Option ℕ) (s : State) (rest piece : List ℕ) → s.fault ≡ fault → fault ≡ None → rest ≡ s.rest ++ piece → record s { kept = []; rest = rest } ≡ pushed_at fault s piece
 pushed_open None s rest piece is none same = ap (λ (w : List ℕ). record s { kept = []; rest = w }) same

@@ -4,32 +4,23 @@ use Rattle.std.proofs.lemmas.List.{length-append, take-append-drop, take-take, l
 use Rattle.std.proofs.lemmas.List.Edits.{take-paste}
 use Rattle.std.specs.List.{copy_within}
 use Rattle.std.specs.Prelude.{OnOk, IfSome}
+use Rattle.std.proofs.Math.Seq.{take-nil, take-add}
 use Rattle.lsp_frame.specs.declared.decoder.FrameFault.{FrameFault}
 use Rattle.lsp_frame.specs.Bounds.{Bounds}
 use Rattle.lsp_frame.specs.declared.start.FrameSize.{FrameSize}
 use Rattle.lsp_frame.specs.Start.{StartsWithHeader}
 use Rattle.lsp_frame.specs.Frame.{IsFrame, Begins, Frames, Breaks, IsStream}
 use Rattle.lsp_frame.specs.Decoder.{State, GivesFrame, GivesNothing, GivesFault, finish_at, empty, pushed, pushed_at, StandsFor, RestAt, EndsWith, Step, StepOf, Next}
-use Rattle.lsp_frame.specs.Buffer.{last_of, FaultStands}
+use Rattle.lsp_frame.specs.Buffer.{last_of}
 use Rattle.lsp_frame.proofs.Starts.{front_of, unfinished_content}
 use Rattle.lsp_frame.proofs.Readings.{rest_short}
 use Rattle.lsp_frame.proofs.Frames.{frames_more, frames_push, breaks_more, breaks_no_frame}
 
-pub take_nothing : (n : ℕ) → take {A = ℕ} n [] ≡ []
-take_nothing zero = refl
-take_nothing (suc n) = refl
-
 pub drop_take : (start end : ℕ) (xs : List ℕ) → take (end - start) (drop start xs) ≡ drop start (take end xs)
 drop_take zero end xs = ap (λ n. take n xs) (omega arith)
 drop_take (suc start) zero xs = ap (λ n. take n (drop (suc start) xs)) (let e : zero - suc start ≡ zero = omega arith in e)
-drop_take (suc start) (suc end) [] = take_nothing (suc end - suc start)
+drop_take (suc start) (suc end) [] = take-nil (suc end - suc start)
 drop_take (suc start) (suc end) (x ∷ xs) = ap (λ n. take n (drop start xs)) (let e : suc end - suc start ≡ end - start = omega arith in e) ∙ drop_take start end xs
-
-take_on : (s n : ℕ) (items : List ℕ) → take (s + n) items ≡ take s items ++ take n (drop s items)
-take_on s n items =
-    sym (take-append-drop s (take (s + n) items))
-    ∙ ap (λ (w : List ℕ). w ++ drop s (take (s + n) items)) (take-take s (s + n) items (omega arith))
-    ∙ ap (λ (w : List ℕ). take s items ++ w) (drop-take s n items)
 
 last_is : (kept frame : List ℕ) (header content : ℕ) → length frame ≡ header + content → last_of (kept ++ frame) content ≡ drop header frame
 last_is kept frame header content len =
@@ -53,7 +44,7 @@ gives_frame limits items start end header content fault none from fits starts in
     let n = header + content in
     let frame = take n rest in
     let front = front_of limits rest (record { header = header; content = content }) starts inside in
-    let kept : take (start + n) items ≡ take start items ++ frame = take_on start n items ∙ ap (λ (w : List ℕ). take start items ++ w) (front_on items start end n from inside) in
+    let kept : take (start + n) items ≡ take start items ++ frame = take-add start n items ∙ ap (λ (w : List ℕ). take start items ++ w) (front_on items start end n from inside) in
     let last : last_of (take (start + n) items) content ≡ drop header frame = ap (λ (w : List ℕ). last_of w content) kept ∙ last_is (take start items) frame header content front.len in (
       omega (arith, length-take (start + n) items, length-drop start (take end items), length-take end items, inside, from, fits),
       record {
@@ -203,10 +194,3 @@ pub given_again : (old new : State) (rule : ℕ) (fault : FrameFault) → GivesF
 given_again old new rule fault gives is =
     let again : fault.rule ≡ rule = sym (subst (λ (f : Option ℕ). IfSome f (λ before. before ≡ fault.rule)) is gives.again) in
     ap (λ (r : ℕ). record { rule = r }) again
-
--- a fault that was given is given again
-pub kept_fault : (s : State) (rule : ℕ) → s.fault ≡ Some rule → FaultStands s.limits s.rest s.fault → Next s s (Err rule)
-kept_fault s rule is stands =
-    let breaks : Breaks s.limits s.rest rule = subst (λ (f : Option ℕ). FaultStands s.limits s.rest f) is stands in
-    let same : s ≡ record s { fault = Some rule } = ap (λ (f : Option ℕ). record s { fault = f }) is in
-    next_of s s (Err rule) (record { breaks = breaks; again = rw is refl; same = same })

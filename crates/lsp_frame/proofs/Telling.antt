@@ -1,8 +1,7 @@
 -- What a source gave and a sink took, one call after another.
-use Rattle.std.proofs.Common.{◌≡◌, ℕ, ◌+◌, List, [], ◌++◌, Option, Some, None, sym, ◌∙◌, append-nil, arith}
+use Rattle.std.proofs.Common.{◌≡◌, ℕ, ◌+◌, List, [], ◌++◌, arith}
 use Rattle.std.proofs.lemmas.List.{length-append}
 use Rattle.std.proofs.KnownBytes.{Consumes-nil, Consumes-trans, Consumes-kept, Appends-nil, Appends-trans}
-use Rattle.std.specs.Io.KnownBytes.{Appends, Keeps}
 use Rattle.lsp_frame.specs.Told.{Told, Gave, Took, KeepsBytes, Raises}
 
 raises_none : (n : ℕ) → Raises n n 0
@@ -31,11 +30,3 @@ took_then a b c x y p q = record {
   bytes = Appends-trans a.bytes b.bytes c.bytes x y p.bytes q.bytes;
   count = raises_then a.count b.count c.count _ _ _ (length-append x y) p.count q.count;
 }
-
-keeps_appends : (a b : Option (List ℕ)) → Keeps a b → Appends a b []
-keeps_appends None b k = tt
-keeps_appends (Some xs) None k = k
-keeps_appends (Some xs) (Some ys) k = k ∙ sym (append-nil xs)
-
-pub took_kept : (a b : Told) → KeepsBytes a b → Took a b []
-took_kept a b k = record { bytes = keeps_appends a.bytes b.bytes k.bytes; count = omega (arith, k.count) }

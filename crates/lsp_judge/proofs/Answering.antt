@@ -1,7 +1,6 @@
 -- What is answered on a log and on records means what the verdict on it means.
-use Rattle.std.proofs.Common.{◌≡◌, ◌⊎◌, ℕ, List, Option, Some, None, Result, Ok, Err, inl, inr, refl, sym, ap, subst, ◌∙◌}
+use Rattle.std.proofs.Common.{◌≡◌, ◌⊎◌, ℕ, List, Option, Some, None, Result, Ok, inl, inr, refl, sym, ap, subst, ◌∙◌}
 use Rattle.std.specs.Prelude.{IfOk, option_map}
-use Rattle.std.specs.Result.{IsErr}
 use Rattle.std.proofs.lemmas.Option.{same_Some}
 use Rattle.lsp_frame.specs.Bounds.{Bounds, IsInRange}
 use Rattle.lsp_frame.specs.Sink.{Stopped}
@@ -28,7 +27,7 @@ use Rattle.lsp_verdict.specs.Outcome.{IsFinal, IsVerdict, format_or_one, log_ter
 use Rattle.lsp_verdict.specs.Placed.{IsSession}
 use Rattle.lsp_verdict.specs.RunIo.{OfRead, AppendsFront}
 use Rattle.lsp_judge.specs.Rulings.{verdict_in}
-use Rattle.lsp_judge.specs.Standing.{HasOffence, State, Stands, WasRefused, is_given}
+use Rattle.lsp_judge.specs.Standing.{HasOffence, State, Stands}
 use Rattle.lsp_verdict.specs.Verdict.{Verdict, Summary, yes, no, bad_log, summary, first_no}
 use Rattle.lsp_judge.proofs.Finals.{open_clean}
 use Rattle.lsp_verdict.proofs.Completing.{some_complete_final, are_complete, complete_no, complete_yes, one_complete_verdict}
@@ -181,19 +180,3 @@ pub no_yes : (ruling : Ruling) (s : Summary) → verdict_in ruling ≡ Some (yes
 no_yes (rulings.No rule by number event) s e = absurd cc
 no_yes (rulings.BadLog number fault) s e = absurd cc
 no_yes rulings.Memory s e = absurd cc
-
--- ---- what was given is given again
-
-pub given_again : {E : Type 0} (o : Option Ruling) (ruling : Ruling) (given : Verdict) (r : Result code.Verdict E) → o ≡ Some ruling → is_given o ≡ Some given → IfOk r (λ a. verdict_in ruling ≡ Some (verdict_view a)) → IfOk r (λ a. verdict_view a ≡ given)
-given_again o ruling given (Ok a) e is told = same_Some _ _ (sym told ∙ ap is_given (sym e) ∙ is)
-given_again o ruling given (Err refused) e is told = tt
-
-pub refused_again : {E : Type 0} (o : Option Ruling) (ruling : Ruling) (r : Result code.Verdict E) → o ≡ Some ruling → WasRefused o → IfOk r (λ a. verdict_in ruling ≡ Some (verdict_view a)) → IsErr r
-refused_again o ruling (Ok a) e was told =
-    let memory : ruling ≡ rulings.Memory = same_Some _ _ (sym e ∙ was) in
-    let none : None ≡ Some (verdict_view a) = ap verdict_in (sym memory) ∙ told in
-    absurd cc
-refused_again o ruling (Err refused) e was told = refl
-
-pub not_refused : {P : Type 0} (o : Option Ruling) → o ≡ None → WasRefused o → P
-not_refused o e was = let same : None ≡ Some rulings.Memory = sym e ∙ was in absurd cc

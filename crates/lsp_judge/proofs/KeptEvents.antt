@@ -2,6 +2,7 @@
 use Rattle.std.proofs.Common.{◌≡◌, ◌+◌, ◌-◌, ℕ, Bool, true, false, List, [], ◌∷◌, ◌++◌, length, take, Option, Some, None, refl, sym, ap, ◌∙◌, append_assoc, append-nil, arith}
 use Rattle.std.specs.Prelude.{unwrap_or}
 use Rattle.std.specs.Option.{option_or}
+use Rattle.std.proofs.Math.Seq.{take-length, take-append_seam}
 use Rattle.lsp_docs.specs.Terms.{Terms}
 use Rattle.lsp_log.specs.declared.fault.LogCode.{LogCode}
 use Rattle.lsp_verdict.specs.Event.{Event}
@@ -11,10 +12,6 @@ use Rattle.lsp_verdict.specs.Verdict.{Verdict, yes, Ending, offence, no_by, no_a
 use Rattle.lsp_verdict.proofs.Finding.{found, map_some}
 use Rattle.lsp_verdict.proofs.LookBackLemmas.{first_of-append}
 use Rattle.lsp_verdict.proofs.Verdicts.{no_found}
-
-pub take_front : {A : Type 0} (xs ys : List A) → take (length xs) (xs ++ ys) ≡ xs
-take_front [] ys = refl
-take_front (x ∷ xs) ys = ap (λ w. x ∷ w) (take_front xs ys)
 
 -- none does
 pub kept_clean : (terms : Terms) (events : List Event) → first_no terms events ≡ None → kept_within terms events ≡ events
@@ -29,7 +26,7 @@ kept_no terms events e after v clean is =
     ap (λ o. kept_by o (events ++ e ∷ after)) first
     ∙ ap (λ w. kept w (events ++ e ∷ after)) (sym rule.2)
     ∙ ap (λ k. take k (events ++ e ∷ after)) n
-    ∙ take_front events (e ∷ after)
+    ∙ take-append_seam events (e ∷ after)
 
 -- however the events go on
 pub kept_more : (terms : Terms) (events extra : List Event) → first_no terms events ≡ None → (tail : List Event) × (kept_within terms (events ++ extra) ≡ events ++ tail)
@@ -53,19 +50,16 @@ kept_more terms events extra clean = by_first (first_no terms (events ++ extra))
 kept_early : (terms : Terms) (events : List Event) (v : Verdict) → first_no terms events ≡ Some v → kept v events ≡ kept_within terms events
 kept_early terms events v is = sym (ap (λ o. kept_by o events) is)
 
-take_whole : (events : List Event) → take (length events) events ≡ events
-take_whole events = ap (take (length events)) (sym (append-nil events)) ∙ take_front events []
-
 take_before : (events : List Event) → take (length events + 1 - 1) events ≡ events
 take_before events =
     let n : length events + 1 - 1 ≡ length events = omega arith in
-    ap (λ k. take k events) n ∙ take_whole events
+    ap (λ k. take k events) n ∙ take-length events
 
 kept_all : (terms : Terms) (events : List Event) (flaw : Option (ℕ × LogCode)) (editor server : Bool) → kept (unwrap_or (option_or (bad_log_of flaw) (rest_of events editor server)) (yes (summary terms events))) events ≡ events
-kept_all terms events (Some flaw) editor server = take_whole events
+kept_all terms events (Some flaw) editor server = take-length events
 kept_all terms events None true server = take_before events
 kept_all terms events None false true = take_before events
-kept_all terms events None false false = take_whole events
+kept_all terms events None false false = take-length events
 
 pub kept_final : (terms : Terms) (events : List Event) (end : Ending) (v : Verdict) → verdict terms events end ≡ v → kept v events ≡ kept_within terms events
 kept_final terms events end v says = by_first (first_no terms events) refl

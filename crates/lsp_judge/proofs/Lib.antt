@@ -9,4 +9,3 @@ pub mod ShownLogs
 pub mod UpgradedLogs
 pub mod TextRuns
 pub mod Finals
-pub mod Tails

@@ -1,5 +1,5 @@
 -- The events of a log, heard one by one up to its verdict.
-use Rattle.std.proofs.Common.{◌≡◌, ◌<◌, ◌≤◌, ◌+◌, ◌-◌, ℕ, List, [], ◌∷◌, ◌++◌, Option, Some, None, inl, inr, ◌⊎◌, refl, sym, ap, subst, ◌∙◌, append_assoc, append-nil, length, length-append, arith}
+use Rattle.std.proofs.Common.{◌≡◌, ◌<◌, ◌≤◌, ◌+◌, ◌-◌, ℕ, List, [], ◌∷◌, ◌++◌, Option, Some, None, inl, inr, refl, sym, ap, subst, ◌∙◌, append_assoc, append-nil, length, length-append, arith}
 use Rattle.std.specs.List.{AllZip}
 use Rattle.lsp_frame.specs.Bounds.{Bounds, IsInRange}
 use Rattle.lsp_frame.specs.Told.{Told}
@@ -27,7 +27,7 @@ use Rattle.lsp_verdict.specs.declared.verdict.Verdict as code
 use Rattle.lsp_verdict.specs.declared.verdict.Who.{Who}
 use Rattle.lsp_verdict.proofs.Completing.{completed_other, complete_exact}
 use Rattle.lsp_verdict.proofs.ExactCounts.{events_within, exact}
-use Rattle.lsp_verdict.proofs.Logs.{some_final}
+use Rattle.lsp_verdict.proofs.Logs.{some_final, known_terms}
 use Rattle.lsp_verdict.proofs.OneEvent.{some_list, lists_join}
 use Rattle.lsp_verdict.proofs.Outcomes.{session_front, offends_final}
 use Rattle.lsp_verdict.proofs.RunReading.{read_map}
@@ -44,6 +44,7 @@ use Rattle.lsp_judge.specs.declared.event_reader.EventReader.{EventReader}
 use Rattle.lsp_judge.specs.declared.ruling.Ruling.{Ruling}
 use Rattle.lsp_judge.specs.declared.ruling.Ruling.TheVariants as rulings
 use Rattle.lsp_verdict.proofs.Entries.{is_first, at_start}
+use Rattle.lsp_verdict.proofs.Lists.{first_nil}
 use Rattle.lsp_judge.proofs.Answering.{no_yes}
 use Rattle.lsp_judge.proofs.KeptEvents.{kept_clean, kept_no, kept_more, kept_final}
 use Rattle.lsp_judge.proofs.Pulling.{open_hearing, hearing_open, hearing_session}
@@ -66,17 +67,8 @@ none_read [] [] e read = refl
 none_read [] (event ∷ heard) e read = absurd read
 none_read (raw ∷ past) heard e read = absurd cc
 
-first_none : (past due : List Raw) → past ++ due ≡ [] → past ≡ []
-first_none [] due e = refl
-first_none (raw ∷ past) due e = absurd cc
-
 pub hearing_none : (s : judge.State) (rs : List Record) (heard : List Event) → rs ≡ [] → IsHearing s rs heard → heard ≡ []
-hearing_none s rs heard none h = none_read h.past heard (first_none h.past h.due (subst (λ (w : List Record). Placed s.limits w (h.past ++ h.due)) none h.placed)) h.read
-
--- the terms of a log whose format is the one known
-pub known_terms : (limits : Bounds) (own : Format) (known format : Option Format) → own ≡ format_or_one known → IsKnown known format → (known ≡ None) ⊎ (log_terms limits format ≡ terms_of limits own)
-known_terms limits own None format is known = inl refl
-known_terms limits own (Some f) format is known = inr (ap (log_terms limits) known ∙ ap (terms_of limits) (sym is))
+hearing_none s rs heard none h = none_read h.past heard (first_nil h.past h.due (subst (λ (w : List Record). Placed s.limits w (h.past ++ h.due)) none h.placed)) h.read
 
 clean_known : (limits : Bounds) (own : Format) (known format : Option Format) (heard : List Event) → own ≡ format_or_one known → IsKnown known format → (known ≡ None → heard ≡ []) → first_no (terms_of limits own) heard ≡ None → first_no (log_terms limits format) heard ≡ None
 clean_known limits own known format heard is is_known early clean = elim (known_terms limits own known format is is_known) [

@@ -15,7 +15,7 @@ use Rattle.lsp_verdict.specs.Given.{as_given}
 use Rattle.lsp_judge.specs.Rulings.{verdict_in, IsNoAt, IsNoAtSome}
 use Rattle.lsp_events.specs.Standing.{Follows}
 use Rattle.lsp_verdict.specs.Counting.{AreCounts}
-use Rattle.lsp_judge.specs.Next.{HeardAs, HeardOne, HeardNone, IsNext, StoppedNext}
+use Rattle.lsp_judge.specs.Next.{HeardAs, HeardOne, IsNext, StoppedNext}
 use Rattle.lsp_verdict.specs.Verdict.{first_no, no_next, who_of}
 use Rattle.lsp_verdict.specs.declared.counts.Counts.{Counts}
 use Rattle.lsp_judge.specs.declared.ruling.Ruling.{Ruling}
@@ -31,12 +31,6 @@ same_limits old new content next =
 -- ---- the next content
 
 module _ (side : Side) (bytes : List ℕ) (contents : List (List ℕ)) (events : List Event) where
-  -- there is none
-  pub none_next : (old new : decoder.State) (m : session.State) (documents : docs.State) (c : Counts) → decoder.StandsFor old bytes contents → Follows m documents c events → decoder.Next old new (Ok None)
-      → HeardNone new m documents c bytes contents events
-  none_next old new m documents c stands follows next =
-      let told = next.stands bytes contents stands in
-      record { stands = told.0; ends = told.1; follows = follows }
 
   -- it is heard
   pub one_next : (old new : decoder.State) (m : session.State) (documents : docs.State) (c : Counts) (content : List ℕ) (said : Message) (act : Act) → decoder.StandsFor old bytes contents → decoder.Next old new (Ok (Some content))

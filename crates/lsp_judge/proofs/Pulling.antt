@@ -33,13 +33,11 @@ use Rattle.lsp_judge.specs.declared.ruling.Ruling.TheVariants.{No, BadLog, Memor
 use Rattle.lsp_verdict.proofs.Below.{one_stream, frames_first, some_stream}
 use Rattle.lsp_verdict.proofs.OneEvent.{some_list, lists_join}
 use Rattle.lsp_verdict.proofs.OneRecord.{joined_own, joined_server, joined_editor, joined_shown, placed_one}
-use Rattle.lsp_verdict.proofs.PlacedLemmas.{placed-snoc}
+use Rattle.lsp_verdict.proofs.PlacedLemmas.{placed-snoc, placed_whole, placed_next}
 use Rattle.lsp_verdict.proofs.Verdicts.{no_found}
+use Rattle.lsp_verdict.proofs.Lists.{cancel_all}
 
 -- ---- what a side's decoder has still to give
-
-nothing_left : (given left : List (List ℕ)) → given ≡ given ++ left → left ≡ []
-nothing_left given left e = append_cancel_left given left [] (sym e ∙ sym (append-nil given))
 
 module _ (side : Side) (d : decoder.State) (bytes : List ℕ) (due : List Raw) (h : HasDue side d bytes due) where
   due_with : (left : List (List ℕ)) (breaks : Option ℕ) → h.left ≡ left → h.breaks ≡ breaks → due ≡ map (content side) left ++ new_fault side None breaks
@@ -49,7 +47,7 @@ module _ (side : Side) (d : decoder.State) (bytes : List ℕ) (due : List Raw) (
   pub due_end : (rest : List ℕ) (breaks : Option ℕ) → IsStream d.limits bytes h.given rest breaks → due ≡ new_fault side None breaks
   due_end rest breaks stream =
       let one = one_stream d.limits bytes h.given (h.given ++ h.left) rest h.rest breaks h.breaks stream h.stream in
-      due_with [] breaks (nothing_left h.given h.left one.contents) (sym one.fault)
+      due_with [] breaks (cancel_all h.given h.left (sym one.contents)) (sym one.fault)
 
   -- the stream has this content next
   pub due_next : (c : List ℕ) (rest : List ℕ) → Frames d.limits bytes (h.given ++ c ∷ []) rest → (left : List (List ℕ)) × (h.given ++ h.left ≡ (h.given ++ c ∷ []) ++ left) × (due ≡ content side c ∷ (map (content side) left ++ new_fault side None h.breaks))
@@ -112,9 +110,6 @@ pushed_due side d new before bytes drained same stands =
 awaits_none : (s : State) (rs : List Record) (due : List Raw) → s.turn ≡ None → Awaits s.turn s rs due → Awaits None s rs due
 awaits_none s rs due idle a = subst (λ (t : Option Turn). Awaits t s rs due) idle a
 
-heard_whole : (limits : Bounds) (rs : List Record) (past due : List Raw) → due ≡ [] → Placed limits rs (past ++ due) → Placed limits rs past
-heard_whole limits rs past due none placed = subst (Placed limits rs) (ap (λ w. past ++ w) none ∙ append-nil past) placed
-
 pub pushed_editor : (old : State) (new : decoder.State) (rs : List Record) (heard : List Event) (b : List ℕ) → old.turn ≡ None → IsHearing old rs heard → new.limits ≡ old.editor.limits
     → ((bytes : List ℕ) (contents : List (List ℕ)) → decoder.StandsFor old.editor bytes contents → decoder.StandsFor new (bytes ++ b) contents)
     → IsHearing (record old { editor = new; turn = Some (turn.Bytes Editor) }) (rs ++ chunk Editor b ∷ []) heard
@@ -126,7 +121,7 @@ pushed_editor old new rs heard b idle h same stands =
       limits = record { range = h.limits.range; editor = same ∙ h.limits.editor; server = h.limits.server; documents = h.limits.documents };
       past = h.past;
       due = p.0;
-      placed = placed-snoc old.limits [] [] rs (chunk Editor b) h.past p.0 (heard_whole old.limits rs h.past h.due a.0 h.placed) (placed_one old.limits Editor rs b p.0 brings);
+      placed = placed-snoc old.limits [] [] rs (chunk Editor b) h.past p.0 (placed_whole old.limits rs h.past h.due a.0 h.placed) (placed_one old.limits Editor rs b p.0 brings);
       read = h.read;
       follows = h.follows;
       awaits = (subst (λ w. HasDue Editor new w p.0) (sym (joined_own Editor rs b)) p.2, subst (IsDrained old.server) (sym (joined_server rs b)) a.2);
@@ -143,7 +138,7 @@ pushed_server old new rs heard b idle h same stands =
       limits = record { range = h.limits.range; editor = h.limits.editor; server = same ∙ h.limits.server; documents = h.limits.documents };
       past = h.past;
       due = p.0;
-      placed = placed-snoc old.limits [] [] rs (chunk Server b) h.past p.0 (heard_whole old.limits rs h.past h.due a.0 h.placed) (placed_one old.limits Server rs b p.0 brings);
+      placed = placed-snoc old.limits [] [] rs (chunk Server b) h.past p.0 (placed_whole old.limits rs h.past h.due a.0 h.placed) (placed_one old.limits Server rs b p.0 brings);
       read = h.read;
       follows = h.follows;
       awaits = (subst (λ w. HasDue Server new w p.0) (sym (joined_own Server rs b)) p.2, subst (IsDrained old.editor) (sym (joined_editor rs b)) a.1);
@@ -158,7 +153,7 @@ snapshot_pushed old rs heard version uri text idle h =
       limits = record { range = h.limits.range; editor = h.limits.editor; server = h.limits.server; documents = h.limits.documents };
       past = h.past;
       due = now;
-      placed = placed-snoc old.limits [] [] rs (shown version (string_bytes uri) (string_bytes text)) h.past now (heard_whole old.limits rs h.past h.due a.0 h.placed) ([], refl, refl);
+      placed = placed-snoc old.limits [] [] rs (shown version (string_bytes uri) (string_bytes text)) h.past now (placed_whole old.limits rs h.past h.due a.0 h.placed) ([], refl, refl);
       read = h.read;
       follows = h.follows;
       awaits = (refl, subst (IsDrained old.editor) (sym (joined_shown Editor rs version _ _)) a.1, subst (IsDrained old.server) (sym (joined_shown Server rs version _ _)) a.2);
@@ -170,9 +165,6 @@ pushed_snapshot old rs heard given version uri text same idle h =
     subst (λ v. IsHearing (record old { turn = Some (turn.Snapshot v uri text) }) (rs ++ shown version (string_bytes uri) (string_bytes text) ∷ []) heard) (sym same) (snapshot_pushed old rs heard version uri text idle h)
 
 -- ---- an event is heard
-
-next_placed : (limits : Bounds) (rs : List Record) (past due later : List Raw) (raw : Raw) → due ≡ raw ∷ later → Placed limits rs (past ++ due) → Placed limits rs ((past ++ raw ∷ []) ++ later)
-next_placed limits rs past due later raw e placed = subst (Placed limits rs) (ap (λ w. past ++ w) e ∙ sym (append_assoc past (raw ∷ []) later)) placed
 
 -- all contents of a side were given
 drained_now : (d new : decoder.State) (bytes : List ℕ) (given : List (List ℕ)) (m : session.State) (documents : docs.State) (c : Counts) (events : List Event) → HeardNone new m documents c bytes given events → IsDrained new bytes
@@ -209,7 +201,7 @@ heard_editor old new m documents c (Some (Message by spoken)) rs before is same 
         limits = record { range = h.limits.range; editor = same ∙ h.limits.editor; server = h.limits.server; documents = same_limit ∙ h.limits.documents };
         past = h.past ++ raw ∷ [];
         due = next.0;
-        placed = next_placed old.limits rs h.past h.due next.0 raw next.1 h.placed;
+        placed = placed_next old.limits rs h.past h.due next.0 raw next.1 h.placed;
         read = lists_join h.past (raw ∷ []) before (message sent ∷ []) h.read (one.1.heard.reads, tt);
         follows = one.1.heard.follows;
         awaits = (next.2, a.1);
@@ -250,7 +242,7 @@ heard_server old new m documents c (Some (Message by spoken)) rs before is same 
         limits = record { range = h.limits.range; editor = h.limits.editor; server = same ∙ h.limits.server; documents = same_limit ∙ h.limits.documents };
         past = h.past ++ raw ∷ [];
         due = next.0;
-        placed = next_placed old.limits rs h.past h.due next.0 raw next.1 h.placed;
+        placed = placed_next old.limits rs h.past h.due next.0 raw next.1 h.placed;
         read = lists_join h.past (raw ∷ []) before (message sent ∷ []) h.read (one.1.heard.reads, tt);
         follows = one.1.heard.follows;
         awaits = (next.2, a.1);
@@ -292,7 +284,7 @@ heard_snapshot_at old m documents c version uri text answer rs before is same_li
         limits = record { range = h.limits.range; editor = h.limits.editor; server = h.limits.server; documents = same_limit ∙ h.limits.documents };
         past = h.past ++ raw ∷ [];
         due = [];
-        placed = next_placed old.limits rs h.past h.due [] raw a.0 h.placed;
+        placed = placed_next old.limits rs h.past h.due [] raw a.0 h.placed;
         read = lists_join h.past (raw ∷ []) before (event ∷ []) h.read (refl, tt);
         follows = one.1;
         awaits = (refl, a.1, a.2);
@@ -379,10 +371,10 @@ open_hearing s rs limits o = record {
 pub hearing_open : (s : State) (rs : List Record) (heard : List Event) → s.turn ≡ None → IsHearing s rs heard → IsOpen s rs
 hearing_open s rs heard idle h =
     let a = awaits_none s rs h.due idle h.awaits in
-    record { idle = idle; events = heard; is_session = (h.past, heard_whole s.limits rs h.past h.due a.0 h.placed, h.read); follows = h.follows; editor = a.1; server = a.2 }
+    record { idle = idle; events = heard; is_session = (h.past, placed_whole s.limits rs h.past h.due a.0 h.placed, h.read); follows = h.follows; editor = a.1; server = a.2 }
 
 pub hearing_session : (s : State) (rs : List Record) (heard : List Event) → s.turn ≡ None → IsHearing s rs heard → IsSession s.limits rs heard
-hearing_session s rs heard idle h = (h.past, heard_whole s.limits rs h.past h.due (awaits_none s rs h.due idle h.awaits).0 h.placed, h.read)
+hearing_session s rs heard idle h = (h.past, placed_whole s.limits rs h.past h.due (awaits_none s rs h.due idle h.awaits).0 h.placed, h.read)
 
 -- a No at the next event is that of the records
 pub stops_rules : (limits : Bounds) (format : Format) (rs : List Record) (before : List Event) (ruling : Ruling) → Stops limits format rs before ruling → Rules limits format rs ruling

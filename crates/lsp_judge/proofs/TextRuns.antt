@@ -27,7 +27,7 @@ use Rattle.lsp_verdict.specs.Shown.{refused, TextAnswer, kept_count, kept_within
 use Rattle.lsp_verdict.specs.TextAfter.{AnswersText}
 use Rattle.lsp_verdict.specs.Verdict.{Verdict, first_no, no_at, is_of, count_of}
 use Rattle.lsp_verdict.proofs.Finding.{found}
-use Rattle.lsp_verdict.proofs.Logs.{final_more}
+use Rattle.lsp_verdict.proofs.Logs.{final_more, known_terms}
 use Rattle.lsp_verdict.proofs.RunReading.{read_map, read_within}
 use Rattle.lsp_verdict.proofs.Logs.Text.{text_missing}
 use Rattle.lsp_verdict.proofs.UpTo.{reached_more, reached_past, reached_now, count-append, count_one}
@@ -36,7 +36,7 @@ use Rattle.lsp_judge.specs.LogEvents.{EndsAt, EndsBy, SoFar, Found, GivesText, f
 use Rattle.lsp_events.specs.Standing.{Follows}
 use Rattle.lsp_judge.specs.declared.event_reader.EventReader.{EventReader}
 use Rattle.lsp_judge.proofs.KeptEvents.{kept_clean, kept_no, kept_final}
-use Rattle.lsp_judge.proofs.LogEvents.{BeginsBy, known_terms, not_behind, so_far_by, so_far_clean, so_far_few, so_far_none, so_far_range}
+use Rattle.lsp_judge.proofs.LogEvents.{BeginsBy, not_behind, so_far_by, so_far_clean, so_far_few, so_far_none, so_far_range}
 
 -- ---- the message came
 

@@ -33,8 +33,9 @@ use Rattle.lsp_verdict.proofs.Logs.{some_final}
 use Rattle.lsp_verdict.proofs.Outcomes.{offends_final}
 use Rattle.lsp_verdict.proofs.RunReading.{read_map}
 use Rattle.lsp_verdict.proofs.Sessions.{some_session}
-use Rattle.lsp_verdict.proofs.Upgrading.{accepted_on, accepted_here, accepted_all, upgraded_more}
+use Rattle.lsp_verdict.proofs.Upgrading.{accepted_on, accepted_here, accepted_all, upgraded_more, accepted_none}
 use Rattle.lsp_verdict.proofs.Verdicts.{nothing_offends}
+use Rattle.lsp_verdict.proofs.Lists.{not_nil}
 use Rattle.lsp_judge.specs.LogEvents.{Ready}
 use Rattle.lsp_judge.specs.Standing as judge
 use Rattle.lsp_judge.specs.Standing.{IsRefitted, Stands, StandsBy, is_given}
@@ -66,9 +67,6 @@ stands_ungiven s records none stands = by_given s.given refl none stands.given
     by_given (Some Memory) is none by = absurd by
 
 -- ---- logs that begin with accepted records
-
-accepted_none : (limits : Bounds) (format : Format) → AreAccepted limits format []
-accepted_none limits format = record { events = []; session = ([], refl, tt); clean = nothing_offends (terms_of limits format) [] refl }
 
 accepted_known : (limits : Bounds) (own : Format) (known format : Option Format) (records : List Record) → own ≡ format_or_one known → IsKnown known format → (known ≡ None → records ≡ []) → AreAccepted limits own records → AreAccepted limits (format_or_one format) records
 accepted_known limits own None format records is is_known early keeps = subst (AreAccepted limits (format_or_one format)) (sym (early refl)) (accepted_none limits (format_or_one format))
@@ -104,10 +102,6 @@ module _ (limits : Bounds) (sizes : IsInRange limits) (log : List ℕ) (format :
       let whole : IsVerdict limits log final.0 = record { format = format; records = records; fault = fault; is_log = is_log; final = final.1 } in
       let named : given ≡ final.0 = says final.0 final.1 ∙ exact limits sizes log final.0 whole in
       subst (λ x. IsUpgraded limits log x (upgraded records)) (sym named) (record { whole = whole; accepted = records; has = accepted_all limits (format_or_one format) records keeps; is = refl })
-
-not_nil : (rs : List Record) (r : Record) → rs ++ r ∷ [] ≡ [] → ⊥
-not_nil [] r e = absurd cc
-not_nil (x ∷ rs) r e = absurd cc
 
 -- ---- the next entry was read
 

@@ -1,18 +1,18 @@
 -- A record at the front of a tape, or why there is none.
-use Rattle.std.proofs.Common.{◌≡◌, ℕ, ◌+◌, ◌<◌, true, false, List, ◌++◌, length, take, drop, Option, Some, None, refl, sym, ap, subst, ◌∙◌, append_assoc, append-nil, inl, inr, arith}
+use Rattle.std.proofs.Common.{◌≡◌, ℕ, ◌+◌, ◌<◌, true, false, List, ◌++◌, length, take, drop, Option, Some, None, refl, sym, ap, subst, ◌∙◌, append_assoc, inl, inr, arith}
 use Rattle.std.specs.List.{flat_map}
-use Rattle.std.proofs.lemmas.List.{take_all, take-append-le, nil_from_length}
+use Rattle.std.proofs.lemmas.List.{take_all, take-append-le}
 use Rattle.lsp_frame.specs.Bounds.{Bounds}
 use Rattle.lsp_frame.specs.Told.{Told}
 use Rattle.lsp_log.specs.Log as log
-use Rattle.lsp_log.specs.Log.{Flaw, bad_line, bad_number, cut_short, bad_end, not_utf8, Breaks, EndsWith, HasLine, HasHead, Fits, spelling, head_line, in_range, lengths_of, with_feed, holds_feed, head_of, parts_of, IsText}
+use Rattle.lsp_log.specs.Log.{Flaw, bad_line, bad_number, cut_short, bad_end, not_utf8, EndsWith, HasLine, HasHead, head_line, in_range, lengths_of, with_feed, holds_feed, head_of, parts_of}
 use Rattle.lsp_log.specs.Words.{head_view, IsHead, IsHeadFault}
 use Rattle.lsp_log.specs.declared.head.HeadFault.{HeadFault}
 use Rattle.lsp_log.specs.declared.head.HeadFault.TheVariants as heads
-use Rattle.lsp_log.specs.Tape.{Held, Pulled, Filled, Taken, IsOver}
+use Rattle.lsp_log.specs.Tape.{Held, Pulled, Filled, Taken}
 use Rattle.lsp_log.specs.Room.{AwaitsPart, AwaitsRecord}
 use Rattle.lsp_log.specs.Place.{line_of}
-use Rattle.lsp_log.specs.Stops.{Ends, EndsAt, HoldsLine, Refused, StopAnswer, PartsBreak, HasParts, Found, is_flaw, wants_bytes, IsHeadStop}
+use Rattle.lsp_log.specs.Stops.{Ends, EndsAt, HoldsLine, Refused, StopAnswer, PartsBreak, HasParts, Found, is_flaw, IsHeadStop}
 use Rattle.lsp_log.specs.declared.head.Head.{Head}
 use Rattle.lsp_log.specs.declared.stop.Stop.{Stop}
 use Rattle.lsp_log.specs.declared.stop.Stop.TheVariants.{FirstLine, Nothing, Form, Number, Short, End, Text, Read, Memory}
@@ -33,32 +33,6 @@ full_window limits old new before after piece near f none same full = record {
   );
   over = λ h. absurd cc;
 }
-
--- no line ends there, and no more can be read
-no_more_read : (rest piece bytes : List ℕ) (flaw : Option Flaw) → rest ≡ bytes → wants_bytes flaw ≡ true → HoldsLine rest bytes flaw
-no_more_read rest piece bytes flaw same wants more none = ap (λ (w : List ℕ). line_of (take 64 w)) (same ∙ sym (append-nil bytes) ∙ ap (λ (w : List ℕ). bytes ++ w) (sym (none wants)))
-
-pub nothing_left : (limits : Bounds) (old new : Held) (before after : Told) (piece near : List ℕ) → Filled old new before after piece → (length new.rest < 64 → IsOver new.left after) → near ≡ new.rest → length near ≡ 0
-    → Ends (EndsAt limits new.rest) old new before after None
-nothing_left limits old new before after piece near f over same none =
-    let some : length new.rest ≡ 0 = ap length (sym same) ∙ none in
-    record {
-      piece = piece;
-      pulled = f.pulled;
-      holds = (sym f.rest ∙ nil_from_length new.rest some, no_more_read new.rest piece (old.rest ++ piece) None f.rest refl);
-      over = λ _. over (omega (arith, some));
-    }
-
-pub line_cut : (limits : Bounds) (old new : Held) (before after : Told) (piece near : List ℕ) → Filled old new before after piece → holds_feed new.rest ≡ false → (length new.rest < 64 → IsOver new.left after) → near ≡ new.rest → 0 < length near → length near < 64
-    → Ends (EndsAt limits new.rest) old new before after (Some cut_short)
-line_cut limits old new before after piece near f none over same some short =
-    let len : length new.rest ≡ length near = ap length (sym same) in
-    record {
-      piece = piece;
-      pulled = f.pulled;
-      holds = (inl (omega (arith, ap length f.rest, len, some), omega (arith, ap length f.rest, len, short), ap holds_feed (sym f.rest) ∙ none), no_more_read new.rest piece (old.rest ++ piece) (Some cut_short) f.rest refl);
-      over = λ _. over (omega (arith, len, short));
-    }
 
 -- a line stands there that is no head
 line_kept : (old new : Held) (before after : Told) (piece line rest : List ℕ) (flaw : Option Flaw) → Filled old new before after piece → HasLine new.rest line rest → HoldsLine new.rest (old.rest ++ piece) flaw

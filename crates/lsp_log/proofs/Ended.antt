@@ -15,7 +15,7 @@ use Rattle.lsp_log.specs.Place.{place_of, line_of, shown_line, found_behind}
 use Rattle.lsp_log.specs.Tape.{Held, ReadFailed, IsOver, IsCutAt}
 use Rattle.lsp_log.specs.Room.{AwaitsRecord}
 use Rattle.lsp_log.specs.Stops.{Ends, EndsAt, HoldsLine, Refused, LacksFirst, wants_bytes}
-use Rattle.lsp_log.specs.Reader.{State, StandsFor, StandsAt, Reads, ReadsNone, Begins, Given, kept_by, kept_in, MayFollow, TellsFormat, answer_of, shown_by}
+use Rattle.lsp_log.specs.Reader.{State, StandsFor, StandsAt, Reads, ReadsNone, Begins, Given, kept_by, kept_in, MayFollow, TellsFormat, answer_of}
 use Rattle.lsp_log.specs.Ending.{FoundFrom, EndAnswer, CutEnd, end_of, next_number, fault_of}
 use Rattle.lsp_log.specs.declared.fault.LogCode.{LogCode}
 use Rattle.lsp_log.specs.declared.fault.LogCode.TheVariants.{L1}
@@ -26,9 +26,10 @@ use Rattle.lsp_log.specs.declared.stop.Stop.TheVariants.{FirstLine, Nothing, For
 use Rattle.lsp_log.specs.declared.reader.Progress.{Progress}
 use Rattle.lsp_log.specs.declared.reader.Progress.TheVariants as progress
 use Rattle.lsp_frame.proofs.Telling.{gave_then}
+use Rattle.lsp_frame.proofs.Frames.{take_beyond}
 use Rattle.lsp_log.proofs.LogLemmas.{first_len}
 use Rattle.lsp_log.proofs.Tapes.{failed_then}
-use Rattle.lsp_log.proofs.Reading.{reads_at, none_at, left_at, behind, number_is, ends_there, two_codes, take_more}
+use Rattle.lsp_log.proofs.Reading.{reads_at, none_at, left_at, behind, number_is, ends_there, two_codes}
 use Rattle.lsp_log.proofs.Places.{shown_there}
 
 -- the log ends so behind these records, whatever may follow
@@ -225,7 +226,7 @@ no_first limits held tape before now bytes more rest format l whole left range f
     by_length (inr long) =
         let within : length (bytes ++ l.piece) ≤ limits.log = omega (arith, l.pulled.left, left, length-append bytes l.piece) in
         let front : take 14 (bytes ++ l.piece) ≡ first_line format =
-        sym (take-append-le 14 (bytes ++ l.piece) (take (limits.log - length (bytes ++ l.piece)) more) long) ∙ ap (take 14) (sym (take_more limits.log (bytes ++ l.piece) more within) ∙ e)
+        sym (take-append-le 14 (bytes ++ l.piece) (take (limits.log - length (bytes ++ l.piece)) more) long) ∙ ap (take 14) (sym (take_beyond limits.log (bytes ++ l.piece) more within) ∙ e)
         ∙ take_at (first_line format) rest 14 (first_len format) in
         l.none format (drop 14 (bytes ++ l.piece)) (sym same ∙ sym (take-append-drop 14 (bytes ++ l.piece)) ∙ ap (λ (w : List ℕ). w ++ drop 14 (bytes ++ l.piece)) front)
 
@@ -248,7 +249,7 @@ first_shown limits held tape before now bytes more l whole left range follows = 
     by_length (inr long) =
         ap (take 14) same
         ∙ sym (take-append-le 14 (bytes ++ l.piece) (take (limits.log - length (bytes ++ l.piece)) more) long)
-        ∙ ap (take 14) (sym (take_more limits.log (bytes ++ l.piece) more within))
+        ∙ ap (take 14) (sym (take_beyond limits.log (bytes ++ l.piece) more within))
 
 given_first : (s : State) (tape : Held) (before now : Told) (bytes : List ℕ) (records : List log.Record) → LacksFirst s.tape tape before now → IsInRange s.limits → s.place ≡ place_of s.format records → ReadsNone s bytes records
     → Given (over s tape (Err (log_fault.Bad 0 L1))) before now (Err (log_fault.Bad 0 L1)) bytes records
@@ -282,7 +283,7 @@ begins_at s bytes piece records progress.Records free st = subst (λ (f : Option
     let tail : List ℕ = take (s.limits.log - length bytes) (piece ++ more) in (
       s.tape.rest ++ tail,
       record {
-        whole = ap (take s.limits.log) (append_assoc bytes piece more) ∙ take_more s.limits.log bytes (piece ++ more) (omega (arith, st.left)) ∙ behind s bytes tail (s.tape.rest ++ tail) records st refl;
+        whole = ap (take s.limits.log) (append_assoc bytes piece more) ∙ take_beyond s.limits.log bytes (piece ++ more) (omega (arith, st.left)) ∙ behind s bytes tail (s.tape.rest ++ tail) records st refl;
         fits = st.fits;
       },
     ))

@@ -1,38 +1,27 @@
 -- The line that bytes begin with.
-use Rattle.std.proofs.Common.{◌≡◌, ℕ, ◌+◌, ◌-◌, ◌<◌, ◌≤◌, Bool, true, false, ◌||◌, List, [], ◌∷◌, ◌++◌, length, take, drop, refl, sym, ap, ◌∙◌, append_assoc, append-nil, arith}
-use Rattle.std.specs.Prelude.{◌==◌, if◌then◌else◌}
-use Rattle.std.proofs.lemmas.List.{length-append, take_at, length-take, take_all}
+use Rattle.std.proofs.Common.{◌≡◌, ℕ, ◌+◌, ◌-◌, ◌<◌, false, List, [], ◌∷◌, ◌++◌, length, take, drop, refl, sym, ap, ◌∙◌, append_assoc, append-nil, arith}
+use Rattle.std.specs.Prelude.{◌==◌}
+use Rattle.std.proofs.lemmas.List.{length-append, take_at, length-take}
 use Rattle.lsp_frame.proofs.Frames.{take_beyond}
 use Rattle.memchr.specs.Find.{Passes, Nowhere, NoneBefore, is_byte}
+use Rattle.std.proofs.lemmas.Bool.{cond-false, or_parts}
 use Rattle.lsp_log.specs.Log.{HasLine, holds_feed, with_feed}
 use Rattle.lsp_log.proofs.Bytes.{first_cut, nowhere_none}
 use Rattle.lsp_log.specs.Place.{line_of}
-
-untested : (t : Bool) (x y : List ℕ) → t ≡ false → (if t then x else y) ≡ y
-untested true x y e = absurd cc
-untested false x y e = refl
-
-first_not : (x y : Bool) → (x || y) ≡ false → x ≡ false
-first_not false y e = refl
-first_not true y e = absurd cc
-
-second_not : (x y : Bool) → (x || y) ≡ false → y ≡ false
-second_not false y e = e
-second_not true y e = absurd cc
 
 -- a line with its LF is the line that stands there
 pub line_first : (line after : List ℕ) → holds_feed line ≡ false → line_of (with_feed line ++ after) ≡ with_feed line
 line_first [] after none = refl
 line_first (b ∷ line) after none =
-    untested (b == 10) (b ∷ []) (b ∷ line_of (with_feed line ++ after)) (first_not (b == 10) (holds_feed line) none)
-    ∙ ap (λ (w : List ℕ). b ∷ w) (line_first line after (second_not (b == 10) (holds_feed line) none))
+    cond-false (b == 10) (b ∷ []) (b ∷ line_of (with_feed line ++ after)) (or_parts (b == 10) (holds_feed line) none).0
+    ∙ ap (λ (w : List ℕ). b ∷ w) (line_first line after (or_parts (b == 10) (holds_feed line) none).1)
 
 -- bytes without a LF are all one line
 pub line_all : (bytes : List ℕ) → holds_feed bytes ≡ false → line_of bytes ≡ bytes
 line_all [] none = refl
 line_all (b ∷ bytes) none =
-    untested (b == 10) (b ∷ []) (b ∷ line_of bytes) (first_not (b == 10) (holds_feed bytes) none)
-    ∙ ap (λ (w : List ℕ). b ∷ w) (line_all bytes (second_not (b == 10) (holds_feed bytes) none))
+    cond-false (b == 10) (b ∷ []) (b ∷ line_of bytes) (or_parts (b == 10) (holds_feed bytes) none).0
+    ∙ ap (λ (w : List ℕ). b ∷ w) (line_all bytes (or_parts (b == 10) (holds_feed bytes) none).1)
 
 -- so it is where at most 64 bytes are looked at
 pub line_near : (line after : List ℕ) → length line < 64 → holds_feed line ≡ false → line_of (take 64 (with_feed line ++ after)) ≡ with_feed line

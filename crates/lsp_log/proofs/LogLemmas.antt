@@ -1,5 +1,5 @@
 -- A log is one list of records.
-use Rattle.std.proofs.Common.{◌≡◌, ◌<◌, ◌≤◌, ◌+◌, ◌^◌, ℕ, zero, suc, Bool, true, false, ◌||◌, ◌&&◌, List, [], ◌∷◌, ◌++◌, length, refl, sym, ap, subst, ◌∙◌, append_assoc, Option, Some, None, arith, lit≤}
+use Rattle.std.proofs.Common.{◌≡◌, ◌<◌, ◌≤◌, ◌+◌, ◌^◌, ℕ, zero, suc, Bool, true, false, ◌&&◌, List, [], ◌∷◌, ◌++◌, length, refl, sym, ap, subst, ◌∙◌, append_assoc, Option, Some, None, arith, lit≤}
 use Rattle.std.specs.Prelude.{◌==◌, decimal, ℤ, pos, negsuc}
 use Rattle.std.specs.Str.Parse.{AllDigits, digits_value}
 use Rattle.std.specs.Char.{digit_value}
@@ -9,7 +9,7 @@ use Rattle.std.proofs.lemmas.Cmp.{nat_eq_equiv}
 use Rattle.std.proofs.lemmas.List.Folds.{list_any-append}
 use Rattle.std.specs.Fmt.{signed_decimal}
 use Rattle.std.specs.List.{list_any, flat_map}
-use Rattle.std.proofs.lemmas.Bool.{or_parts}
+use Rattle.std.proofs.lemmas.Bool.{or_parts, and_from, or_right}
 use Rattle.lsp_types.specs.declared.side.Side.{Side}
 use Rattle.lsp_types.specs.declared.side.Side.TheVariants.{Editor, Server}
 use borrow.Author.Tests.{ltb-true, lt-ltb, leb-true}
@@ -165,19 +165,14 @@ i32_small : (v : ℤ) → is_i32 v ≡ true → has_signed v ≡ true
 i32_small (pos n) is = let most : n < 2 ^ 31 = ltb-true n (2 ^ 31) is in small_decimal n (omega (arith, lit≤ {m = 2 ^ 31} {n = 10 ^ 64} tt))
 i32_small (negsuc n) is = let most : n < 2 ^ 31 = ltb-true n (2 ^ 31) is in small_decimal (n + 1) (omega (arith, lit≤ {m = 2 ^ 31 + 1} {n = 10 ^ 64} tt))
 
-pub true_both : (a b : Bool) → a ≡ true → b ≡ true → (a && b) ≡ true
-true_both true true p q = refl
-true_both true false p q = q
-true_both false b p q = p
-
 -- a head in its ranges can be written
 pub range_writable : (limits : Bounds) → IsInRange limits → (h : Head) → in_range limits h ≡ true → is_writable h ≡ true
 range_writable limits sizes (chunk_head side n) is = within_small 1 limits.chunk n (omega (arith, sizes.chunk_high)) is
 range_writable limits sizes (shown_head v a b) is =
     let outer = and_parts (is_i32 v && is_within 1 8192 a) (is_within 0 limits.document b) is in
     let inner = and_parts (is_i32 v) (is_within 1 8192 a) outer.0 in
-    true_both (has_signed v) (has_decimal a && has_decimal b) (i32_small v inner.0)
-    (true_both (has_decimal a) (has_decimal b) (within_small 1 8192 a (lit≤ tt) inner.1) (within_small 0 limits.document b sizes.document_high outer.1))
+    and_from (has_signed v) (has_decimal a && has_decimal b) (i32_small v inner.0)
+    (and_from (has_decimal a) (has_decimal b) (within_small 1 8192 a (lit≤ tt) inner.1) (within_small 0 limits.document b sizes.document_high outer.1))
 
 tails_of : (r u : Record) (xs ys : List ℕ) → head_of r ≡ head_of u → flat_map with_feed (parts_of r) ++ xs ≡ flat_map with_feed (parts_of u) ++ ys → (r ≡ u) × (xs ≡ ys)
 tails_of (chunk s b) (chunk t c) xs ys h e =
@@ -211,21 +206,11 @@ spelling_one r u xs ys p q e =
 
 pub holds_cut : (line after : List ℕ) → holds 10 (with_feed line ++ after) ≡ true
 holds_cut [] after = refl
-holds_cut (b ∷ line) after = either_way (b == 10) (holds 10 (with_feed line ++ after)) (holds_cut line after)
-  where
-    either_way : (x y : Bool) → y ≡ true → (x || y) ≡ true
-    either_way true y e = refl
-    either_way false y e = e
-
+holds_cut (b ∷ line) after = or_right (b == 10) (holds 10 (with_feed line ++ after)) (holds_cut line after)
 pub holds_near : (n : ℕ) (line after : List ℕ) → length line < n → holds 10 (take n (with_feed line ++ after)) ≡ true
 holds_near zero line after short = absurd (omega arith)
 holds_near (suc n) [] after short = refl
-holds_near (suc n) (b ∷ line) after short = either_way (b == 10) (holds 10 (take n (with_feed line ++ after))) (holds_near n line after (omega arith))
-  where
-    either_way : (x y : Bool) → y ≡ true → (x || y) ≡ true
-    either_way true y e = refl
-    either_way false y e = e
-
+holds_near (suc n) (b ∷ line) after short = or_right (b == 10) (holds 10 (take n (with_feed line ++ after))) (holds_near n line after (omega arith))
 decimal_short : (n : ℕ) → n < 10 ^ 10 → length (decimal n) ≤ 10
 decimal_short n small = length-decimal-le_wide 10 n (lit≤ tt) small (omega (arith, lit≤ {m = 10 ^ 10} {n = 10 ^ 64} tt))
 

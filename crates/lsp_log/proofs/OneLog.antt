@@ -1,13 +1,14 @@
 -- A log has one fault or none, and begins with the records that it has.
-use Rattle.std.proofs.Common.{◌≡◌, ℕ, ◌+◌, ◌<◌, ◌≤◌, Bool, true, false, List, [], ◌∷◌, ◌++◌, length, take, Option, Some, None, refl, sym, ap, subst, ◌∙◌, append_assoc, append-nil, inl, inr, arith}
+use Rattle.std.proofs.Common.{◌≡◌, ℕ, ◌+◌, ◌<◌, ◌≤◌, true, false, List, [], ◌∷◌, ◌++◌, length, take, Option, Some, None, refl, sym, ap, subst, ◌∙◌, append_assoc, append-nil, inl, inr, arith}
 use Rattle.std.specs.Prelude.{nat_lt, if◌then◌else◌}
 use Rattle.std.specs.List.{flat_map, AllByRecursion}
 use Rattle.std.proofs.lemmas.List.{append_cancel_left, length-append, take_all}
+use Rattle.std.proofs.lemmas.Bool.{cond-true, cond-false}
 use Rattle.lsp_frame.specs.Bounds.{Bounds, IsInRange}
 use Rattle.lsp_frame.specs.declared.format.Format.{Format}
 use Rattle.lsp_log.specs.declared.fault.LogCode.{LogCode}
 use Rattle.lsp_log.specs.Laws.{OneLog, RecordsComeFirst, WrittenIsRead, OnePlace}
-use Rattle.lsp_log.specs.Place.{place_of, found_behind, IsFaultAt}
+use Rattle.lsp_log.specs.Place.{place_of, found_behind}
 use Rattle.lsp_log.specs.Log.{first_line, HasRecords, at_record, code_of, Flaw, bad_line, bad_number, cut_short, bad_end, not_utf8, EndsWith, Breaks, HasLine, Fits, parts_flaw, lengths_of, in_range, is_writable, Record, Head, head_line, head_of, parts_of, with_feed, spelling, holds_feed}
 use Rattle.lsp_log.proofs.LogLemmas.{cut_one, same_head, head_holds_no, head_short, holds_near, holds_cut, parts_stand, range_writable, clash, records_one, spelling_one, no_record_at_end, one_format, has_first_line, T-is}
 use Rattle.lsp_log.proofs.Ended.{not_less}
@@ -28,27 +29,19 @@ data Reason (limits : Bounds) (xs : List ℕ) (flaw : Flaw) : Type 0 where
   formless : (line after : List ℕ) → HasLine xs line after → ((head : Head) → is_writable head ≡ true → line ≡ head_line head → ⊥) → flaw ≡ bad_line → Reason limits xs flaw
   headed : (head : Head) (after : List ℕ) → HasLine xs (head_line head) after → is_writable head ≡ true → head_flaw limits head after ≡ seen flaw → Reason limits xs flaw
 
-tested : (b : Bool) (x y : Option Flaw) → b ≡ true → (if b then x else y) ≡ x
-tested true x y e = refl
-tested false x y e = absurd cc
-
-untested : (b : Bool) (x y : Option Flaw) → b ≡ false → (if b then x else y) ≡ y
-untested true x y e = absurd cc
-untested false x y e = refl
-
 reason : (limits : Bounds) → IsInRange limits → (xs : List ℕ) (flaw : Flaw) → Breaks limits xs flaw → Reason limits xs flaw
 reason limits sizes xs bad_line (inl b) = long refl b.0 b.1
 reason limits sizes xs bad_line (inr b) = formless b.0 b.1 b.2 b.3 refl
-reason limits sizes xs bad_number b = headed b.0 b.1 b.2 b.3 (untested (in_range limits b.0) (parts_flaw (lengths_of b.0) b.1) (Some bad_number) b.4)
+reason limits sizes xs bad_number b = headed b.0 b.1 b.2 b.3 (cond-false (in_range limits b.0) (parts_flaw (lengths_of b.0) b.1) (Some bad_number) b.4)
 reason limits sizes xs cut_short (inl b) = ended refl b.0 b.1 b.2
-reason limits sizes xs cut_short (inr b) = headed b.0 b.1 b.2.line (range_writable limits sizes b.0 b.2.range) (tested (in_range limits b.0) (parts_flaw (lengths_of b.0) b.1) (Some bad_number) b.2.range ∙ b.3)
-reason limits sizes xs bad_end b = headed b.0 b.1 b.2.line (range_writable limits sizes b.0 b.2.range) (tested (in_range limits b.0) (parts_flaw (lengths_of b.0) b.1) (Some bad_number) b.2.range ∙ b.3)
+reason limits sizes xs cut_short (inr b) = headed b.0 b.1 b.2.line (range_writable limits sizes b.0 b.2.range) (cond-true (in_range limits b.0) (parts_flaw (lengths_of b.0) b.1) (Some bad_number) b.2.range ∙ b.3)
+reason limits sizes xs bad_end b = headed b.0 b.1 b.2.line (range_writable limits sizes b.0 b.2.range) (cond-true (in_range limits b.0) (parts_flaw (lengths_of b.0) b.1) (Some bad_number) b.2.range ∙ b.3)
 reason limits sizes xs not_utf8 b =
     let head = head_of b.0 in
     let after = flat_map with_feed (parts_of b.0) ++ b.1 in
     let writable = range_writable limits sizes head b.3 in
     let line : HasLine xs (head_line head) after = record { whole = b.2 ∙ append_assoc (with_feed (head_line head)) (flat_map with_feed (parts_of b.0)) b.1; short = head_short limits sizes head b.3; one = head_holds_no head writable } in
-    headed head after line writable (tested (in_range limits head) (parts_flaw (lengths_of head) after) (Some bad_number) b.3 ∙ parts_stand b.0 b.1)
+    headed head after line writable (cond-true (in_range limits head) (parts_flaw (lengths_of head) after) (Some bad_number) b.3 ∙ parts_stand b.0 b.1)
 
 one_line : (xs line after lines afters : List ℕ) → HasLine xs line after → HasLine xs lines afters → (line ≡ lines) × (after ≡ afters)
 one_line xs line after lines afters a b =

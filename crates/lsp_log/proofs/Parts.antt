@@ -7,13 +7,13 @@ use Rattle.lsp_types.specs.declared.side.Side.{Side}
 use Rattle.lsp_frame.specs.Bounds.{Bounds}
 use Rattle.lsp_frame.specs.Told.{Told}
 use Rattle.lsp_log.specs.Log as log
-use Rattle.lsp_log.specs.Log.{Flaw, cut_short, bad_end, not_utf8, parts_flaw, with_feed, head_of, head_line, parts_of, shown, chunk_head, shown_head, IsText, EndsWith}
+use Rattle.lsp_log.specs.Log.{Flaw, cut_short, bad_end, not_utf8, parts_flaw, with_feed, head_line, shown, chunk_head, shown_head}
 use Rattle.lsp_log.specs.Tape.{Held, Taken, Wants, Misses, PartAnswer}
 use Rattle.lsp_log.specs.Room.{AwaitsPart}
-use Rattle.lsp_log.specs.Stops.{Ends, Refused, StopAnswer, IsPartStop, PartsLack, PartsBreak, HasParts, TwoParts, TwoPartsAnswer, TextAnswer, PartsAnswer, FoundAnswer, is_flaw, put_back_at}
+use Rattle.lsp_log.specs.Stops.{Ends, Refused, StopAnswer, IsPartStop, PartsLack, PartsBreak, HasParts, TwoParts, TwoPartsAnswer, TextAnswer, PartsAnswer, FoundAnswer, is_flaw}
 use Rattle.lsp_log.specs.declared.record.Record.{Record}
 use Rattle.lsp_log.specs.declared.stop.Stop.{Stop}
-use Rattle.lsp_log.specs.declared.stop.Stop.TheVariants.{FirstLine, Nothing, Form, Number, Short, End, Text, Read, Memory}
+use Rattle.lsp_log.specs.declared.stop.Stop.TheVariants.{Short, End, Text, Read, Memory}
 use Rattle.lsp_log.specs.declared.tape.PartFault.{PartFault}
 use Rattle.lsp_log.specs.declared.tape.PartFault.TheVariants as faults
 use Rattle.lsp_log.proofs.LogLemmas.{one_part}
@@ -156,47 +156,3 @@ snapshot_found old new before after v w first second front back uri text two is_
 pub parts_found : (limits : Bounds) (old mid new : Held) (before now after : Told) (h : log.Head) (result : Result Record Stop) (front : List ℕ) → AtParts limits old mid before now h → front ≡ with_feed (head_line h) → IfErr result (λ stop. is_flaw stop ≡ true → new.rest ≡ front) → PartsAnswer mid new now after h result → FoundAnswer limits old new before after result
 parts_found limits old mid new before now after h (Ok r) front a is line p = found_record limits old mid new before now after h (record_view r) a p
 parts_found limits old mid new before now after h (Err stop) front a is line p = stop_at_parts limits old mid new before now after h stop a (λ flaw. line flaw ∙ is) p
-
--- ---- the line is put back
-
-ended_with : (P : List ℕ → Option Flaw → Type 0) (old new : Held) (before after : Told) (flaw : Option Flaw) (line : List ℕ) → Ends P old new before after flaw → Ends P old (record new { rest = line }) before after flaw
-ended_with P old new before after flaw line e = record { piece = e.piece; pulled = e.pulled; holds = e.holds; over = e.over }
-
-back_at : (old new : Held) (before after : Told) (h : log.Head) (stop : Stop) (line : List ℕ) → PartsAnswer old new before after h (Err stop) → PartsAnswer old (put_back_at stop line new) before after h (Err stop)
-back_at old new before after h FirstLine line p = p
-back_at old new before after h Nothing line p = p
-back_at old new before after h Form line p = p
-back_at old new before after h Number line p = p
-back_at old new before after h Short line p = ended_with (PartsBreak h) old new before after (Some cut_short) line p
-back_at old new before after h End line p = ended_with (PartsBreak h) old new before after (Some bad_end) line p
-back_at old new before after h Text line p = ended_with (PartsBreak h) old new before after (Some not_utf8) line p
-back_at old new before after h Read line p = p
-back_at old new before after h Memory line p = p
-
-pub put_back : (old mid last new : Held) (before after : Told) (h : log.Head) (stop : Stop) (line : List ℕ) → mid ≡ old → PartsAnswer mid last before after h (Err stop) → new ≡ put_back_at stop line last → PartsAnswer old new before after h (Err stop)
-put_back old mid last new before after h stop line same p is =
-    subst (λ (t : Held). PartsAnswer old t before after h (Err stop)) (sym is)
-    (back_at old last before after h stop line (subst (λ (t : Held). PartsAnswer t last before after h (Err stop)) same p))
-
-pub back_line : (stop : Stop) (line : List ℕ) (last new : Held) → new ≡ put_back_at stop line last → is_flaw stop ≡ true → new.rest ≡ line
-back_line Short line last new is flaw = ap (λ (t : Held). t.rest) is
-back_line End line last new is flaw = ap (λ (t : Held). t.rest) is
-back_line Text line last new is flaw = ap (λ (t : Held). t.rest) is
-back_line FirstLine line last new is flaw = absurd cc
-back_line Nothing line last new is flaw = absurd cc
-back_line Form line last new is flaw = absurd cc
-back_line Number line last new is flaw = absurd cc
-back_line Read line last new is flaw = absurd cc
-back_line Memory line last new is flaw = absurd cc
-
--- at most a window is held
-pub back_short : (stop : Stop) (line : List ℕ) (last new : Held) → new ≡ put_back_at stop line last → length line ≤ 64 → length last.rest ≤ 64 → length new.rest ≤ 64
-back_short Short line last new is short near = omega (arith, ap (λ (t : Held). length t.rest) is, short)
-back_short End line last new is short near = omega (arith, ap (λ (t : Held). length t.rest) is, short)
-back_short Text line last new is short near = omega (arith, ap (λ (t : Held). length t.rest) is, short)
-back_short FirstLine line last new is short near = omega (arith, ap (λ (t : Held). length t.rest) is, near)
-back_short Nothing line last new is short near = omega (arith, ap (λ (t : Held). length t.rest) is, near)
-back_short Form line last new is short near = omega (arith, ap (λ (t : Held). length t.rest) is, near)
-back_short Number line last new is short near = omega (arith, ap (λ (t : Held). length t.rest) is, near)
-back_short Read line last new is short near = omega (arith, ap (λ (t : Held). length t.rest) is, near)
-back_short Memory line last new is short near = omega (arith, ap (λ (t : Held). length t.rest) is, near)

@@ -10,7 +10,7 @@ use Rattle.lsp_log.specs.Log.{Flaw, spelling, first_line}
 use Rattle.lsp_log.specs.Place.{line_of, found_behind}
 use Rattle.lsp_log.specs.Stops.{HoldsLine, wants_bytes}
 
-take_none : (n : ℕ) (xs : List ℕ) → (n ≡ 0) ⊎ (xs ≡ []) → take n xs ≡ []
+pub take_none : (n : ℕ) (xs : List ℕ) → (n ≡ 0) ⊎ (xs ≡ []) → take n xs ≡ []
 take_none n xs (inl e) = ap (λ (k : ℕ). take k xs) e
 take_none zero xs (inr e) = refl
 take_none (suc n) xs (inr e) = ap (take (suc n)) e

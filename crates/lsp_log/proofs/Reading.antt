@@ -1,5 +1,5 @@
 -- What a reader stands for, and what its next answer adds.
-use Rattle.std.proofs.Common.{◌≡◌, ◌⊎◌, ℕ, zero, suc, ◌+◌, ◌-◌, ◌^◌, ◌≤◌, Bool, true, false, List, [], ◌∷◌, ◌++◌, length, take, Option, Some, None, refl, sym, ap, subst, ◌∙◌, append_assoc, append-nil, inl, inr, arith, lit≤}
+use Rattle.std.proofs.Common.{◌≡◌, ◌⊎◌, ℕ, ◌+◌, ◌-◌, ◌^◌, ◌≤◌, Bool, true, false, List, [], ◌∷◌, ◌++◌, length, take, Option, Some, None, refl, sym, ap, subst, ◌∙◌, append_assoc, append-nil, arith, lit≤}
 use Rattle.std.specs.Prelude.{nat_lt}
 use Rattle.std.specs.List.{flat_map, AllByRecursion}
 use Rattle.std.proofs.lemmas.List.{length-append}
@@ -9,7 +9,7 @@ use Rattle.lsp_frame.specs.Bounds.{Bounds, IsInRange}
 use Rattle.lsp_frame.specs.Told.{Told, Gave}
 use Rattle.lsp_frame.specs.declared.format.Format.{Format}
 use Rattle.lsp_log.specs.Log as log
-use Rattle.lsp_log.specs.Log.{Flaw, bad_line, bad_number, cut_short, bad_end, not_utf8, EndsWith, Fits, spelling, with_feed, head_line, head_of, parts_of, first_line, BeginsLog, HasRecords, code_of}
+use Rattle.lsp_log.specs.Log.{Flaw, bad_line, bad_number, cut_short, bad_end, not_utf8, EndsWith, Fits, spelling, with_feed, head_line, head_of, parts_of, first_line, HasRecords, code_of}
 use Rattle.lsp_log.specs.Tape.{Held, Taken}
 use Rattle.lsp_log.specs.Stops.{Found, wants_bytes}
 use Rattle.lsp_log.specs.Place.{place_of}
@@ -18,7 +18,9 @@ use Rattle.lsp_log.specs.Ending.{Starts, started, starts, next_number}
 use Rattle.lsp_log.specs.declared.reader.Progress.{Progress}
 use Rattle.lsp_log.specs.declared.reader.Progress.TheVariants as progress
 use Rattle.lsp_frame.proofs.Telling.{gave_nothing}
+use Rattle.lsp_frame.proofs.Frames.{take_beyond}
 use Rattle.lsp_log.proofs.Breaking.{ends_more}
+use Rattle.lsp_log.proofs.Places.{take_none}
 
 -- ---- a reader whose first line was read, and one whose first line was not
 
@@ -37,11 +39,6 @@ passed_is s bytes records o =
 
 pub stands_at : (s : State) (bytes : List ℕ) (records : List log.Record) → s.progress ≡ progress.Records → IsInRange s.limits → Reads s bytes records → s.place ≡ passed s → StandsFor s bytes records
 stands_at s bytes records at range r place = (range, subst (λ (p : Progress). StandsAt p s bytes records) (sym at) r, place ∙ passed_is s bytes records r, subst (λ (p : Progress). ShowsAt p s bytes records) (sym at) tt)
-
-pub open_records : (p : Progress) → kept_in p ≡ None → (p ≡ progress.FirstLine → ⊥) → p ≡ progress.Records
-open_records progress.FirstLine free not_first = absurd (not_first refl)
-open_records progress.Records free not_first = refl
-open_records (progress.Over end) free not_first = absurd cc
 
 -- how many bytes were read and how many may still be
 pub left_at : (s : State) (bytes : List ℕ) (records : List log.Record) (p : Progress) → kept_in p ≡ None → StandsAt p s bytes records → s.tape.left + length bytes ≡ s.limits.log
@@ -119,11 +116,6 @@ records_few s bytes records range o =
       range.log_high,
     )
 
-pub few_at : (s : State) (bytes : List ℕ) (records : List log.Record) (p : Progress) → kept_in p ≡ None → IsInRange s.limits → StandsAt p s bytes records → length records ≤ 2 ^ 40
-few_at s bytes records progress.FirstLine free range st = omega (arith, ap length st.none)
-few_at s bytes records progress.Records free range st = records_few s bytes records range st
-few_at s bytes records (progress.Over end) free range st = absurd cc
-
 pub number_is : (s : State) (bytes : List ℕ) (records : List log.Record) → IsInRange s.limits → Reads s bytes records → next_number s.given ≡ length records + 1
 number_is s bytes records range o =
     let few = records_few s bytes records range o in
@@ -163,16 +155,6 @@ two_codes (Some bad_number) c d e = refl
 two_codes (Some bad_end) c d e = refl
 two_codes (Some not_utf8) c d e = refl
 
-pub take_more : (n : ℕ) (xs ys : List ℕ) → length xs ≤ n → take n (xs ++ ys) ≡ xs ++ take (n - length xs) ys
-take_more n [] ys within = ap (λ (k : ℕ). take k ys) (omega arith)
-take_more zero (x ∷ xs) ys within = absurd (omega (arith, within))
-take_more (suc n) (x ∷ xs) ys within = ap (λ (w : List ℕ). x ∷ w) (take_more n xs ys (omega (arith, within)) ∙ ap (λ (k : ℕ). xs ++ take k ys) (omega arith))
-
-take_none : (n : ℕ) (xs : List ℕ) → (n ≡ 0) ⊎ (xs ≡ []) → take n xs ≡ []
-take_none n xs (inl e) = ap (λ (k : ℕ). take k xs) e
-take_none zero xs (inr e) = refl
-take_none (suc n) xs (inr e) = ap (take (suc n)) e
-
 -- the bytes up to here are within the limit, and then others follow; where bytes are wanted, none of those are within the limit
 pub ends_there : (limits : Bounds) (format : Format) (bytes more rest : List ℕ) (records : List log.Record) (flaw : Option Flaw) → bytes ≡ (first_line format ++ flat_map spelling records) ++ rest → AllByRecursion (Fits limits) records → length bytes ≤ limits.log
     → EndsWith limits rest flaw → (wants_bytes flaw ≡ true → (limits.log - length bytes ≡ 0) ⊎ (more ≡ [])) → HasRecords limits format (bytes ++ more) records (code_of flaw (nat_lt limits.log (length (bytes ++ more))))
@@ -180,7 +162,7 @@ ends_there limits format bytes more rest records flaw is fits within ends wants 
   rest = rest ++ take (limits.log - length bytes) more;
   flaw = flaw;
   begins = record {
-    whole = take_more limits.log bytes more within ∙ ap (λ (w : List ℕ). w ++ take (limits.log - length bytes) more) is ∙ append_assoc (first_line format ++ flat_map spelling records) rest (take (limits.log - length bytes) more);
+    whole = take_beyond limits.log bytes more within ∙ ap (λ (w : List ℕ). w ++ take (limits.log - length bytes) more) is ∙ append_assoc (first_line format ++ flat_map spelling records) rest (take (limits.log - length bytes) more);
     fits = fits;
   };
   ends = ends_more limits rest (take (limits.log - length bytes) more) flaw ends (λ w. take_none (limits.log - length bytes) more (wants w));

@@ -3,7 +3,7 @@ use Rattle.std.proofs.Common.{◌≡◌, ◌⊎◌, ℕ, zero, suc, ◌+◌, ◌
 use Rattle.std.specs.Prelude.{◌==◌, ℤ, pos, negsuc, decimal, slice_index}
 use Rattle.std.specs.Fmt.{signed_decimal}
 use Rattle.std.specs.Str.Parse.{digits_value}
-use Rattle.std.proofs.lemmas.Bool.{cases_Bool}
+use Rattle.std.proofs.lemmas.Bool.{cases_Bool, and_from}
 use Rattle.std.proofs.lemmas.Fmt.{decimal_digit}
 use Rattle.std.proofs.lemmas.List.{length-append}
 use Rattle.std.proofs.lemmas.Map.Views.{exact_unsigned_eq}
@@ -11,7 +11,7 @@ use Rattle.lsp_types.specs.declared.side.Side.TheVariants.{Editor, Server}
 use Rattle.lsp_frame.proofs.Readings as readings
 use Rattle.lsp_log.specs.Log.{Head, chunk_head, shown_head, head_line, is_writable, has_decimal, has_signed}
 use Rattle.lsp_log.specs.Words.{is_numeral, NoNumber, NoSigned, NoSnapshot, NoHead, holds_space}
-use Rattle.lsp_log.proofs.LogLemmas.{holds, clash, below, small_decimal, true_both, shown_line}
+use Rattle.lsp_log.proofs.LogLemmas.{holds, clash, below, small_decimal, shown_line}
 use Rattle.lsp_log.proofs.Numerals.{numeral_writes, not_numeral}
 use Rattle.lsp_log.proofs.Heads.{no_minus_none, minus_zero_none, three_words, no_version, no_uri, no_text, no_second, holds_there}
 
@@ -86,7 +86,7 @@ words_or_not rest version uri text short is p q =
         | inr none ↦ inr (no_uri rest version uri text words none)
         | inl a ↦ elim (number_or_not text (omega (arith, short, ap length is, sum, more))) [
           | inr none ↦ inr (no_text rest version uri text words none)
-          | inl b ↦ inl (v.0, a.0, b.0, true_both (has_signed v.0) (has_decimal a.0 && has_decimal b.0) v.1 (true_both (has_decimal a.0) (has_decimal b.0) a.1 b.1), is ∙ cc (v.2, a.2, b.2))
+          | inl b ↦ inl (v.0, a.0, b.0, and_from (has_signed v.0) (has_decimal a.0 && has_decimal b.0) v.1 (and_from (has_decimal a.0) (has_decimal b.0) a.1 b.1), is ∙ cc (v.2, a.2, b.2))
         ]
       ]
     ]

@@ -3,7 +3,7 @@ use Rattle.std.proofs.Common.{◌≡◌, Bool, true, false, ℕ, zero, suc, ◌+
 use Rattle.std.proofs.lemmas.List.{length-append, length-take, length-drop, take_at}
 use borrow.Rule.Slice.PartMut.{put_mid}
 use Rattle.lsp_frame.specs.Told.{Told, after_failure}
-use Rattle.lsp_frame.proofs.Telling.{gave_nothing, gave_then}
+use Rattle.lsp_frame.proofs.Telling.{gave_then}
 use Rattle.lsp_frame.proofs.Pulls.{take_written}
 use Rattle.memchr.specs.Find.{Passes, Nowhere, NoneBefore, is_byte}
 use Rattle.lsp_log.specs.Log.{HasLine, holds_feed}
@@ -25,9 +25,6 @@ pulled_then a b c before now after x y p q = record {
   failures = q.failures ∙ p.failures;
 }
 
-pub pulled_nothing : (a : ℕ) (now : Told) → Pulled a a now now []
-pulled_nothing a now = record { read = gave_nothing now; left = omega arith; failures = refl }
-
 pub failed_then : (a b : ℕ) (before now after : Told) (x : List ℕ) → Pulled a b before now x → ReadFailed b now after → ReadFailed a before after
 failed_then a b before now after x p f = record {
   piece = x ++ f.piece;
@@ -35,9 +32,6 @@ failed_then a b before now after x p f = record {
   within = omega (arith, length-append x f.piece, p.left, f.within);
   failures = f.failures ∙ ap after_failure p.failures;
 }
-
-pub nothing_taken : (a : Held) (now : Told) → Taken a a now now []
-nothing_taken a now = record { piece = []; pulled = pulled_nothing a.left now; whole = append-nil a.rest }
 
 pub taken_both : (a b c : Held) (before now after : Told) (x y : List ℕ) → Taken a b before now x → Taken b c now after y → Taken a c before after (x ++ y)
 taken_both a b c before now after x y p q = record {

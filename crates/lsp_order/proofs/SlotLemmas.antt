@@ -6,7 +6,7 @@ use Rattle.std.specs.List.{list_any}
 use Rattle.std.specs.Map.{lookup}
 use Rattle.std.specs.Option.{option_or}
 use Rattle.std.proofs.lemmas.Bool.{cases_Bool, or_parts}
-use Rattle.std.proofs.lemmas.Option.{none-some, same_Some}
+use Rattle.std.proofs.lemmas.Option.{none-some, same_Some, slice_get_within}
 use Rattle.lsp_order.specs.Slots.{keys_in, key_at, holds, place, renumbered, AllDiffer, ArePlaces, IsKept}
 
 -- ---- options
@@ -17,7 +17,7 @@ later None false = refl
 later (Some n) true = refl
 later (Some n) false = refl
 
-no_some : {A : Type 0} (o : Option A) → is_some o ≡ false → o ≡ None
+pub no_some : {A : Type 0} (o : Option A) → is_some o ≡ false → o ≡ None
 no_some None h = refl
 no_some (Some x) h = absurd (true≢false h)
 
@@ -83,11 +83,6 @@ module _ {K : Type 0} where
 
   -- ---- all slots are full
 
-  past : (slots : List (Option K)) (i : ℕ) → length slots ≤ i → slice_get slots i ≡ None
-  past [] i h = refl
-  past (slot ∷ slots) zero h = absurd (omega arith)
-  past (slot ∷ slots) (suc i) h = past slots i (omega arith)
-
   pub key_at-full : (slots : List (Option K)) (i : ℕ) → length (keys_in slots) ≡ length slots → key_at slots i ≡ slice_get (keys_in slots) i
   key_at-full [] i h = refl
   key_at-full (None ∷ slots) i h = absurd (omega (arith, keys_in-length slots, h))
@@ -126,11 +121,6 @@ module _ {K : Type 0} where
       found (Some j) there h =
           let at = there j refl in
           subst (IsAt test (slot ∷ slots)) (same_Some (suc j) i h) (record { key = at.key; is = at.is; passes = at.passes })
-
-  pub within : (slots : List (Option K)) (i : ℕ) (slot : Option K) → slice_get slots i ≡ Some slot → i < length slots
-  within [] i slot h = absurd (none-some slot h)
-  within (first ∷ slots) zero slot h = omega arith
-  within (first ∷ slots) (suc i) slot h = omega (arith, within slots i slot h)
 
   -- ---- keys that leave a list
 
@@ -257,7 +247,7 @@ module _ {K : Type 0} (eq : K → K → Bool) (laws : IsEquivalence eq) where
     at = at_place (eq key) slots i (sym (h.placed key) ∙ found)
 
     pub within-removed : i < length slots
-    within-removed = within slots i (Some at.key) at.is
+    within-removed = slice_get_within slots i (Some at.key) at.is
 
     pub keys_in-removed : keys_in (slice_set slots i None) ≡ filter (λ x. not (eq key x)) (keys_in slots)
     keys_in-removed = keys_in-emptied eq laws key slots i at.key h.differ at.is at.passes

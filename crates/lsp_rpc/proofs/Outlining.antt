@@ -6,8 +6,8 @@ use Rattle.serde_json.specs.Data.{Data, null, object, Members, put}
 use Rattle.serde_json.specs.Find.{get_member, as_str}
 use Rattle.serde_json.proofs.Views.{get_member-put, get_member-put_other}
 use Rattle.lsp_rpc.specs.Ident.{Ident}
-use Rattle.lsp_rpc.specs.Message.{Message, request, notification, response, Reply, result, error}
-use Rattle.lsp_rpc.specs.Outline.{outline, part_named, with_part, kept, IsOrIsOutline, IsOrLacksResult}
+use Rattle.lsp_rpc.specs.Message.{Message, request, notification, response, result, error}
+use Rattle.lsp_rpc.specs.Outline.{outline, part_named, with_part, kept, IsOrIsOutline}
 use Rattle.lsp_rpc.specs.Reading.{Parts, parts_of, rules_on, least_broken, message_in, call, code_of, reply_in, either, IsMessage}
 use Rattle.lsp_rpc.specs.Shape.{as_id, unless_null, is_structure_or_null, holds_unless_absent}
 use Rattle.lsp_rpc.specs.Words.{words_of}
@@ -140,7 +140,7 @@ outlined ms m good keeps is =
     let whole = made p.version p.method p.id p.params p.result p.error m is in
     (whole.0, record { keeps_rules = ap least_broken (sym (rules_kept (parts_of (object ms)) good)) ∙ keeps; made = whole.1 }, whole.2)
 
-words_by_outline : (m : Message) → words_of m ≡ words_of (outline m)
+pub words_by_outline : (m : Message) → words_of m ≡ words_of (outline m)
 words_by_outline (request id method params) = refl
 words_by_outline (notification method params) = refl
 words_by_outline (response id (result value)) = refl
@@ -150,10 +150,3 @@ words_by_outline (response id (error code)) = refl
 pub same_words : (m whole : Message) → IsOrIsOutline m whole → words_of m ≡ words_of whole
 same_words m whole (inl is) = ap words_of is
 same_words m whole (inr is) = ap words_of is ∙ sym (words_by_outline whole)
-
--- a response that is an outline lacks the value alone
-pub lacks_result : (id : Option Ident) (reply : Reply) (whole : Message) → response id reply ≡ outline whole → IsOrLacksResult (response id reply) whole
-lacks_result id reply (request other method params) h = absurd (cc)
-lacks_result id reply (notification method params) h = absurd (cc)
-lacks_result id reply (response other (result value)) h = inr h
-lacks_result id reply (response other (error code)) h = inr h

@@ -10,7 +10,7 @@ use Rattle.lsp_session.specs.Entry.{Entry, IdsDiffer, cancel, entry_of, has_id, 
 use Rattle.lsp_session.specs.Held.{AllDiffer, AllHave, IsHeld, IsOf, entries_in, entries_of, is_among, is_other, request_of}
 use Rattle.lsp_session.specs.declared.pending.OpenRequest.{OpenRequest}
 use Rattle.std.proofs.lemmas.Bool.{cases_Bool, or_parts}
-use Rattle.lsp_session.proofs.Bools.{or_false}
+use Rattle.std.proofs.Math.Bool.{or-false}
 use Rattle.lsp_rpc.proofs.IdLemmas.{same_id-refl, same_id-true}
 
 -- ---- entries alone
@@ -47,7 +47,7 @@ same_id-flip a b h = elim (cases_Bool (same_id b a)) [
 ]
 
 is_among-push : (x : Ident) (ids : List Id) (k : Id) → is_among x (ids ++ k ∷ []) ≡ (is_among x ids || same_id x (id_view k))
-is_among-push x [] k = or_false (same_id x (id_view k))
+is_among-push x [] k = or-false (same_id x (id_view k))
 is_among-push x (id ∷ ids) k =
     elim (cases_Bool (same_id x (id_view id))) [ inl p ↦ rw p refl | inr p ↦ rw p (is_among-push x ids k) ]
 
@@ -87,11 +87,6 @@ is_among-before id x (other ∷ ids) s n =
           let kept : (same_id x (id_view other) || is_among x (filter (is_other id) ids)) ≡ false = rw p at n in
           rw ((or_parts (same_id x (id_view other)) _ kept).0) (is_among-before id x ids s (or_parts (same_id x (id_view other)) _ kept).1)
     ]
-
-filter-absent : (id : Ident) (ids : List Id) → is_among id ids ≡ false → filter (is_other id) ids ≡ ids
-filter-absent id [] n = refl
-filter-absent id (other ∷ ids) n =
-    rw ((or_parts (same_id id (id_view other)) _ n).0) (ap (λ l. other ∷ l) (filter-absent id ids (or_parts (same_id id (id_view other)) _ n).1))
 
 -- an id that entered leaves again
 pub filter-last : (id : Ident) (ids : List Id) (last : Id) → is_among id ids ≡ false → same_id id (id_view last) ≡ true → filter (is_other id) (ids ++ last ∷ []) ≡ ids

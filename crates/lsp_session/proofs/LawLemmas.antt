@@ -12,7 +12,8 @@ use Rattle.lsp_session.specs.Requests.{answers, answers_request, id_rule, is_ans
 use Rattle.lsp_session.specs.Rules.{AdmittedAfter, rule_after}
 use Rattle.lsp_session.specs.Sent.{Sent, answered_from, answered_id, is_response, other_side, request_by, request_of, response_id, same_side}
 use Rattle.std.proofs.lemmas.Bool.{and_parts, cases_Bool, or_parts}
-use Rattle.lsp_session.proofs.Bools.{and_false, and_right_false, or_assoc, or_split, or_true}
+use Rattle.std.proofs.Math.Bool.{or_assoc, or-true}
+use Rattle.lsp_session.proofs.Bools.{and_false, and_right_false, or_split}
 use Rattle.lsp_rpc.proofs.IdLemmas.{same_id-refl, same_id-true}
 
 pub none_left : {X : Type 0} (a b : Option X) → option_or a b ≡ None → a ≡ None
@@ -45,7 +46,7 @@ open_at side [] asked between r own left = rw (own, left) (ap (λ b. b || has_id
 open_at side (x ∷ before) asked between r own left =
     has_id-append r.0 (open_entry side (request_by side x) (before ++ asked ∷ between)) (open_requests side (before ++ asked ∷ between))
     ∙ ap (λ b. has_id r.0 (open_entry side (request_by side x) (before ++ asked ∷ between)) || b) (open_at side before asked between r own left)
-    ∙ or_true (has_id r.0 (open_entry side (request_by side x) (before ++ asked ∷ between)))
+    ∙ or-true (has_id r.0 (open_entry side (request_by side x) (before ++ asked ∷ between)))
 
 -- ---- no response answers two requests
 
@@ -118,7 +119,7 @@ answered_once-at side (Some r) between m after again h =
     and_false (names (answered_id side again) r.0) (is_answered side r.0 (between ++ m ∷ after)) (
     is_answered-append side r.0 between (m ∷ after)
     ∙ ap (λ b. is_answered side r.0 between || (b || is_answered side r.0 after)) (and_parts (names (answered_id side m) r.0) _ h).0
-    ∙ or_true (is_answered side r.0 between))
+    ∙ or-true (is_answered side r.0 between))
 
 pub answered_once : AnsweredOnce
 answered_once asked between m after again h = answered_once-at asked.side (request_of asked.message) between m after again h

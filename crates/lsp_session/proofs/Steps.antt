@@ -14,14 +14,14 @@ use Rattle.lsp_session.specs.Requests.{is_answered, is_cancelled, names, open_en
 use Rattle.lsp_session.specs.Sent.{Sent, answered_id, cancelled_id, request_by, sends}
 use Rattle.lsp_session.specs.State.{agreed_in, closed, closed_initializes, marked, next, open_next, pushed, pushed_initialize, state_of, without_initialize}
 use Rattle.std.proofs.lemmas.Bool.{cases_Bool}
-use Rattle.lsp_session.proofs.Bools.{or_assoc, or_false, or_true}
+use Rattle.std.proofs.Math.Bool.{or_assoc, or-true, or-false}
 
 is_answered-push : (side : Side) (id : Ident) (h : List Sent) (m : Sent) → is_answered side id (h ++ m ∷ []) ≡ (is_answered side id h || names (answered_id side m) id)
-is_answered-push side id [] m = or_false (names (answered_id side m) id)
+is_answered-push side id [] m = or-false (names (answered_id side m) id)
 is_answered-push side id (x ∷ h) m = rw (is_answered-push side id h m) (sym (or_assoc (names (answered_id side x) id) _ _))
 
 is_cancelled-push : (side : Side) (id : Ident) (h : List Sent) (m : Sent) → is_cancelled side id (h ++ m ∷ []) ≡ (is_cancelled side id h || names (cancelled_id side m) id)
-is_cancelled-push side id [] m = or_false (names (cancelled_id side m) id)
+is_cancelled-push side id [] m = or-false (names (cancelled_id side m) id)
 is_cancelled-push side id (x ∷ h) m = rw (is_cancelled-push side id h m) (sym (or_assoc (names (cancelled_id side x) id) _ _))
 
 without-append : (id : Ident) (es fs : List Entry) → without id (es ++ fs) ≡ without id es ++ without id fs
@@ -51,13 +51,13 @@ pushed-append (Some r) es fs = append_assoc es fs _
 -- one open entry, before and after
 entry_marked : (id : Ident) (e : Entry) → entry.marked id e ≡ record e { cancelled = e.cancelled || same_id id e.id }
 entry_marked id e =
-    elim (cases_Bool (same_id id e.id)) [ inl p ↦ rw (p, or_true e.cancelled) refl | inr p ↦ rw (p, or_false e.cancelled) refl ]
+    elim (cases_Bool (same_id id e.id)) [ inl p ↦ rw (p, or-true e.cancelled) refl | inr p ↦ rw (p, or-false e.cancelled) refl ]
 
 entry_next : (c k : Option Ident) (e : Entry) → marked k (closed c (e ∷ [])) ≡ (if names c e.id then [] else record e { cancelled = e.cancelled || names k e.id } ∷ [])
-entry_next None None e = rw or_false refl
+entry_next None None e = rw or-false refl
 entry_next None (Some k) e = ap (λ x. x ∷ []) (entry_marked k e)
 entry_next (Some c) None e =
-    elim (cases_Bool (same_id c e.id)) [ inl p ↦ rw p refl | inr p ↦ rw (p, or_false e.cancelled) refl ]
+    elim (cases_Bool (same_id c e.id)) [ inl p ↦ rw p refl | inr p ↦ rw (p, or-false e.cancelled) refl ]
 entry_next (Some c) (Some k) e =
     elim (cases_Bool (same_id c e.id)) [ inl p ↦ rw p refl | inr p ↦ rw p (ap (λ x. x ∷ []) (entry_marked k e)) ]
 
@@ -160,7 +160,7 @@ agreed-push : (h : List Sent) (m : Sent) → agreed_in (first_settled (h ++ m �
 agreed-push h m = ap agreed_in (first_settled_from-push [] h m) ∙ agreed_in-or (first_settled h) (settled_by h m)
 
 was_sent-push : (test : Act → Bool) (h : List Sent) (m : Sent) → was_sent test (h ++ m ∷ []) ≡ (was_sent test h || sends test m)
-was_sent-push test h m = list_any-append (sends test) h (m ∷ []) ∙ ap (λ b. was_sent test h || b) (or_false (sends test m))
+was_sent-push test h m = list_any-append (sends test) h (m ∷ []) ∙ ap (λ b. was_sent test h || b) (or-false (sends test m))
 
 -- the state is that of the list, message after message
 pub state_of-push : (h : List Sent) (m : Sent) → next (state_of h) m ≡ state_of (h ++ m ∷ [])

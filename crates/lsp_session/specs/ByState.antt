@@ -1,5 +1,5 @@
 -- The rules and readings as a session finds them by what it keeps.
-use Rattle.std.specs.Prelude.{ℕ, List, [], ◌∷◌, Bool, true, not, ◌&&◌, ◌||◌, Option, Some, None, is_some, option_and_then}
+use Rattle.std.specs.Prelude.{ℕ, List, [], ◌∷◌, Bool, true, not, ◌&&◌, ◌||◌, Option, Some, None, is_some}
 use Rattle.std.specs.Option.{option_or}
 use Rattle.lsp_rpc.specs.Act.{Act}
 use Rattle.lsp_rpc.specs.Message.{Message}
@@ -31,9 +31,6 @@ is_fresh s = not (is_done s) && is_empty s.initializes
 -- what the message agrees on, where it is a result that answers the open `initialize`
 abbrev pub agreed_by : State → Side → Message → Option (Option Agreed)
 agreed_by s side message = agreed_in (settled_among s.initializes side message)
-
-abbrev pub agreement : State → Option Agreed
-agreement s = option_and_then (λ agreed. agreed) s.agreed
 
 -- ---- the rules
 

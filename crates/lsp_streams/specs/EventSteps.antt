@@ -15,7 +15,7 @@ use Rattle.lsp_streams.specs.declared.event.Search.{Search}
 use Rattle.lsp_verdict.specs.Drained.{IsDrained}
 use Rattle.lsp_verdict.specs.Entries.{IsAt}
 use Rattle.lsp_verdict.specs.Placed.{Raw, content, new_fault, Brings, Placed, joined}
-use Rattle.lsp_verdict.specs.RunIo.{OfRead, failures_after}
+use Rattle.lsp_verdict.specs.RunIo.{OfRead, BreaksOff}
 use Rattle.lsp_verdict.specs.declared.outcome.Outcome.TheVariants.{FewerEvents}
 use Rattle.lsp_verdict.specs.declared.outcome.RunFault.{RunFault}
 use Rattle.lsp_verdict.specs.declared.outcome.RunFault.TheVariants as faults
@@ -106,18 +106,12 @@ pub record Found (limits : Bounds) (n : ℕ) (start now : Told) (answer : Answer
   pub ended : answer.outcome ≡ FewerEvents → IsAtEnd now.bytes
   pub failures : now.failures ≡ start.failures
 
--- reading broke off before it
-pub record BrokeOff (limits : Bounds) (start now : Told) (fault : RunFault) : Type 0 where
-  pub of_read : OfRead limits start now (λ log. Unit {0})
-  pub failures : now.failures ≡ failures_after fault start.failures
-  pub unwritten : fault ≡ faults.Write → ⊥
-
 -- one more entry was taken
 abbrev pub SeeksEntry : Bounds → reader.State → Search → Told → Told → ℕ → Result (Option Answer) RunFault → Type 0
 SeeksEntry limits r s start now n (Ok None) = SoFar limits r s start now n
 SeeksEntry limits r s start now n (Ok (Some answer)) = Found limits n start now answer
-SeeksEntry limits r s start now n (Err fault) = BrokeOff limits start now fault
+SeeksEntry limits r s start now n (Err fault) = BreaksOff limits start now fault
 
 abbrev pub Finds : Bounds → ℕ → Told → Told → Result Answer RunFault → Type 0
 Finds limits n start now (Ok answer) = Found limits n start now answer
-Finds limits n start now (Err fault) = BrokeOff limits start now fault
+Finds limits n start now (Err fault) = BreaksOff limits start now fault

@@ -4,6 +4,7 @@ use Rattle.std.specs.Global.{Global}
 use Rattle.std.specs.List.{list_any}
 use Rattle.std.proofs.lemmas.Bool.Decides.{nat_tests}
 use Rattle.std.proofs.Common.{◌≡◌, ℕ, ◌<◌, Bool, true, false, List, [], ◌∷◌, ◌++◌, length, Option, None, refl, sym, ap, subst, ◌∙◌, arith}
+use Rattle.std.proofs.Math.Bool.{and-false, and-true}
 use Rattle.lsp_frame.specs.Bounds.{Bounds}
 use Rattle.lsp_frame.specs.Decoder as decoder
 use Rattle.lsp_frame.specs.Frame.{IsStream}
@@ -30,14 +31,6 @@ given_by v = given_offence (by_itself v)
 
 -- ---- whether a stream ends inside a frame
 
-and_false : (b : Bool) → (b && false) ≡ false
-and_false true = refl
-and_false false = refl
-
-and_true : (b : Bool) → (b && true) ≡ b
-and_true true = refl
-and_true false = refl
-
 -- of a stream whose frames have no fault the decoder holds the rest
 pub rest_held : (limits : Bounds) (ended : Bool) (d : decoder.State) (bytes rest : List ℕ) → ended ≡ false → IsSpent limits ended d bytes → HasRest limits bytes rest → rest ≡ d.rest
 rest_held limits true d bytes rest is spent has = absurd cc
@@ -49,10 +42,10 @@ rest_held limits false d bytes rest is spent has =
 pub inside_is : (limits : Bounds) (side : Side) (ended : Bool) (d : decoder.State) (bytes rest : List ℕ) (events : List Event) (inside : Bool) → ended ≡ list_any (is_frame_fault side) events → IsSpent limits ended d bytes → HasRest limits bytes rest
     → (ended ≡ true → inside ≡ false) → (ended ≡ false → d.fault ≡ None → inside ≡ is_rest d.rest) → inside ≡ ends_inside side events (is_rest rest)
 inside_is limits side true d bytes rest events inside ends spent has broken whole =
-    broken refl ∙ sym (and_false (is_rest rest)) ∙ ap (λ b. is_rest rest && not b) ends
+    broken refl ∙ sym (and-false (is_rest rest)) ∙ ap (λ b. is_rest rest && not b) ends
 inside_is limits side false d bytes rest events inside ends spent has broken whole =
     let same = rest_held limits false d bytes rest refl spent has in
-    whole refl spent.1.ends.0 ∙ ap is_rest (sym same) ∙ sym (and_true (is_rest rest)) ∙ ap (λ b. is_rest rest && not b) ends
+    whole refl spent.1.ends.0 ∙ ap is_rest (sym same) ∙ sym (and-true (is_rest rest)) ∙ ap (λ b. is_rest rest && not b) ends
 
 -- ---- both rests
 

@@ -6,9 +6,9 @@ use Rattle.std.specs.Option.{option_or}
 use Rattle.std.proofs.Common.{◌≡◌, ℕ, zero, suc, ◌≤◌, ◌<◌, Bool, true, false, cond, List, [], ◌∷◌, ◌++◌, Option, Some, None, refl, sym, ap, ◌∙◌, inl, inr, arith}
 use Rattle.std.proofs.lemmas.Bool.{cases_Bool}
 use Rattle.std.proofs.lemmas.Bool.Decides.{nat_tests}
+use Rattle.std.proofs.lemmas.List.{map-append, length-drop, length-map, drop-map}
 use Rattle.lsp_rpc.specs.Ident.{Ident, id_view, same_id}
 use Rattle.lsp_rpc.specs.declared.message.Id.{Id}
-use Rattle.lsp_docs.proofs.Words.{map-append}
 use Rattle.lsp_verdict.specs.Offences.{last_or}
 use Rattle.lsp_survey.specs.Asking.{Reply, most_replies, last_ones, reply_to, last_reply}
 use Rattle.lsp_survey.specs.SessionNoting.{asked_in, given_view, room_in}
@@ -46,11 +46,6 @@ drop_more zero xs = refl
 drop_more (suc n) [] = refl
 drop_more (suc n) (x ∷ xs) = drop_more n xs
 
-length_drop : {A : Type 0} (n : ℕ) (xs : List A) → length (drop n xs) ≡ length xs - n
-length_drop zero xs = omega arith
-length_drop (suc n) [] = omega arith
-length_drop (suc n) (x ∷ xs) = length_drop n xs ∙ (let same : length xs - n ≡ suc (length xs) - suc n = omega arith in same)
-
 length_behind : {A : Type 0} (xs : List A) (x : A) → length (xs ++ x ∷ []) ≡ suc (length xs)
 length_behind [] x = refl
 length_behind (y ∷ xs) x = ap suc (length_behind xs x)
@@ -73,7 +68,7 @@ last_behind_all most xs x some =
           let many : most ≤ length xs = grind (arith, nat_tests) in
           let next : suc (length xs) - most ≡ suc (length xs - most) = omega (arith, many) in
           let fits : suc (length xs - most) ≤ length xs = omega (arith, many, some) in
-          let size : length (drop (length xs - most) xs) ≡ most = length_drop (length xs - most) xs ∙ (let back : length xs - (length xs - most) ≡ most = omega (arith, many) in back) in
+          let size : length (drop (length xs - most) xs) ≡ most = length-drop (length xs - most) xs ∙ (let back : length xs - (length xs - most) ≡ most = omega (arith, many) in back) in
           let full : nat_lt (length (drop (length xs - most) xs)) most ≡ false = ap (λ (n : ℕ). nat_lt n most) size ∙ not_less most in
           ap (λ (n : ℕ). drop n (xs ++ x ∷ [])) next
           ∙ drop_behind (suc (length xs - most)) xs x fits
@@ -86,15 +81,6 @@ last_behind_all most xs x some =
 
 -- ---- answers
 
-map-drop : {A B : Type 0} (f : A → B) (n : ℕ) (xs : List A) → map f (drop n xs) ≡ drop n (map f xs)
-map-drop f zero xs = refl
-map-drop f (suc n) [] = refl
-map-drop f (suc n) (x ∷ xs) = map-drop f n xs
-
-length-map : {A B : Type 0} (f : A → B) (xs : List A) → length (map f xs) ≡ length xs
-length-map f [] = refl
-length-map f (x ∷ xs) = ap suc (length-map f xs)
-
 -- one more answer, behind what is left of those held
 pub pushed : (old mid new : List Given) (g : Given) (given : List Reply) → mid ≡ room_in old → new ≡ mid ++ g ∷ [] → map given_view old ≡ last_ones most_replies given
     → map given_view new ≡ last_ones most_replies (given ++ given_view g ∷ [])
@@ -102,13 +88,13 @@ pushed old mid new g given room more are =
     ap (map given_view) (more ∙ ap (λ (l : List Given). l ++ g ∷ []) room)
     ∙ map-append given_view (room_in old) (g ∷ [])
     ∙ ap (λ (l : List Reply). l ++ given_view g ∷ []) (by_test (nat_lt (length old) most_replies))
-    ∙ ap (λ (n : ℕ). (if nat_lt n most_replies then map given_view old else drop 1 (map given_view old)) ++ given_view g ∷ []) (sym (length-map given_view old))
+    ∙ ap (λ (n : ℕ). (if nat_lt n most_replies then map given_view old else drop 1 (map given_view old)) ++ given_view g ∷ []) (sym (length-map old given_view))
     ∙ ap (λ (l : List Reply). (if nat_lt (length l) most_replies then l else drop 1 l) ++ given_view g ∷ []) are
     ∙ sym (last_behind_all most_replies given (given_view g) (omega arith))
   where
     by_test : (b : Bool) → map given_view (if b then old else drop 1 old) ≡ (if b then map given_view old else drop 1 (map given_view old))
     by_test true = refl
-    by_test false = map-drop given_view 1 old
+    by_test false = sym (drop-map given_view 1 old)
 
 -- each of these is there
 abbrev AllSome : List (Option ℕ) → Type 0

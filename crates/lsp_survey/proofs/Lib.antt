@@ -1,7 +1,6 @@
 pub mod Noting
 pub mod Passing
 pub mod Hearing
-pub mod Tails
 pub mod Exchanging
 pub mod Marking
 pub mod MarkSteps

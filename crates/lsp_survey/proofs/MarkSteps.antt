@@ -34,9 +34,6 @@ Entries = List (String Global × Mark)
 
 -- ---- one document
 
-pub absent : (es : Entries) (uri : List ℕ) → held_by mark_view es uri ≡ None → marked_in es uri ≡ unmarked
-absent es uri none = ap (λ (o : Option Marked). unwrap_or o unmarked) none
-
 chosen : (b : Bool) (o x : Option Marked) → unwrap_or (if b then o else x) unmarked ≡ (if b then unwrap_or o unmarked else unwrap_or x unmarked)
 chosen true o x = refl
 chosen false o x = refl

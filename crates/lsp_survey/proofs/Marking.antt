@@ -9,20 +9,12 @@ use Rattle.lsp_docs.specs.Terms.{Terms}
 use Rattle.lsp_verdict.specs.Event.{Event}
 use Rattle.lsp_verdict.specs.LookBack.{each_of}
 use Rattle.lsp_verdict.specs.Offences.{last_or}
-use Rattle.lsp_verdict.proofs.LookBackLemmas.{each_of-snoc}
+use Rattle.lsp_verdict.proofs.LookBackLemmas.{each_of-snoc, cons_append}
+use Rattle.lsp_verdict.proofs.Offences.Steps.{last_behind}
 use Rattle.lsp_survey.specs.Marking.{Step, touches, closed, step_at, steps, brings, brought, ends_waiting, waiting_entry, waiting_for, last_shown, agrees, agreed, marked, stepped}
 use Rattle.lsp_survey.specs.declared.mark.Touch.TheVariants.{Opened, Changed, Compared, Awaited}
 
 -- ---- the last that is said
-
-pub last_behind : {A : Type 0} (none : A) (xs : List A) (o : Option A) → last_or none (xs ++ cons_option o []) ≡ unwrap_or o (last_or none xs)
-last_behind none [] None = refl
-last_behind none [] (Some x) = refl
-last_behind none (y ∷ xs) o = last_behind y xs o
-
-cons_append : {X : Type 0} (o : Option X) (xs ys : List X) → cons_option o (xs ++ ys) ≡ cons_option o xs ++ ys
-cons_append None xs ys = refl
-cons_append (Some x) xs ys = refl
 
 pub filter_map-snoc : {A X : Type 0} (f : A → Option X) (xs : List A) (x : A) → filter_map f (xs ++ x ∷ []) ≡ filter_map f xs ++ cons_option (f x) []
 filter_map-snoc f [] x = refl

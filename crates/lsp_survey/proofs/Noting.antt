@@ -8,7 +8,6 @@ use Rattle.std.proofs.Common.{arith, ◌<◌, ◌≡◌, ℕ, Bool, true, false,
 use Rattle.lsp_docs.specs.Calls.{Call, uri_of, changes as changes_by}
 use Rattle.lsp_docs.specs.Opened.{held_by}
 use Rattle.lsp_docs.proofs.Entries.{PutsUnder}
-use Rattle.lsp_docs.proofs.Words.{uri_flip}
 use Rattle.lsp_rpc.specs.View.{changes_view}
 use Rattle.lsp_survey.specs.Notes.{nothing, note_in, SetsNote, AreAfter}
 use Rattle.lsp_survey.specs.declared.note.Note.{Note}
@@ -17,7 +16,7 @@ use Rattle.lsp_types.specs.declared.change.Change.{Change}
 use Rattle.lsp_types.specs.declared.change.SyncKind.{SyncKind}
 use Rattle.lsp_types.specs.declared.position.Encoding.{Encoding}
 use Rattle.lsp_verdict.specs.Calls.{edit_of}
-use Rattle.lsp_verdict.specs.Offences.{loses, renews, has_changes, left_lost}
+use Rattle.lsp_verdict.specs.Offences.{renews, has_changes, left_lost}
 
 -- ---- one note is set
 
@@ -45,29 +44,6 @@ notes_stay rule call notes stays uri = sym (ap (λ (o : Option Bool). left_by o 
     by_test : (own : Bool) → left_by None own (note_in notes uri) ≡ note_in notes uri
     by_test true = refl
     by_test false = refl
-
--- it sets the note of its document
-pub note_set : (rule : Option ℕ) (call : Call) (uri : List ℕ) (lost : Bool) (old new : List (String Global × Note)) → uri_of call ≡ uri → left_lost rule call ≡ Some lost → SetsNote uri (record { lost = lost }) old new → AreAfter rule (Some call) old new
-note_set rule call uri lost old new own says sets u =
-    sets u
-    ∙ by_test (bytes_eq uri u)
-    ∙ ap (λ (b : Bool). left_by (Some lost) b (note_in old u)) (uri_flip uri u ∙ ap (bytes_eq u) (sym own))
-    ∙ ap (λ (o : Option Bool). left_by o (bytes_eq u (uri_of call)) (note_in old u)) (sym says)
-  where
-    by_test : (b : Bool) → (if b then record { lost = lost } else note_in old u) ≡ left_by (Some lost) b (note_in old u)
-    by_test true = refl
-    by_test false = refl
-
--- an event that is refused loses its document, or leaves it
-pub refused_loses : (rule : ℕ) (call : Call) → loses rule call ≡ true → left_lost (Some rule) call ≡ Some true
-refused_loses rule call is = ap (λ (b : Bool). if b then Some true else None) is
-
-pub refused_leaves : (rule : ℕ) (call : Call) → loses rule call ≡ false → left_lost (Some rule) call ≡ None
-refused_leaves rule call is = ap (λ (b : Bool). if b then Some true else None) is
-
--- an event that is kept finds it again, or leaves it
-pub kept_finds : (call : Call) → renews call ≡ true → left_lost None call ≡ Some false
-kept_finds call is = ap (λ (b : Bool). if b then Some false else None) is
 
 pub kept_leaves : (call : Call) → renews call ≡ false → left_lost None call ≡ None
 kept_leaves call is = ap (λ (b : Bool). if b then Some false else None) is

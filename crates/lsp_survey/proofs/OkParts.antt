@@ -9,7 +9,3 @@ if_ok_message (Err e) P S A B C D f p a b c d = p
 pub if_ok_snapshot : {X E : Type 0} (r : Result X E) (P S : X → Type 0) (A B : Type 0) → ((x : X) → P x → A → B → S x) → IfOk r P → OnOk r A → OnOk r B → IfOk r S
 if_ok_snapshot (Ok x) P S A B f p a b = f x p a b
 if_ok_snapshot (Err e) P S A B f p a b = p
-
-pub on_ok_both : {X E : Type 0} (r : Result X E) (A B C : Type 0) → (A → B → C) → OnOk r A → OnOk r B → OnOk r C
-on_ok_both (Ok x) A B C f a b = f a b
-on_ok_both (Err e) A B C f a b = a

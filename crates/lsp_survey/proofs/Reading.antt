@@ -22,7 +22,7 @@ use Rattle.lsp_survey.specs.declared.survey_reader.Next.{Next}
 use Rattle.lsp_survey.specs.declared.survey_reader.Next.TheVariants as next
 use Rattle.lsp_survey.specs.declared.survey_reader.SurveyReader.{SurveyReader}
 use Rattle.lsp_verdict.specs.Entries as entries
-use Rattle.lsp_verdict.specs.Entries.{IsAt, HasRecords, HasFirst, IsKnown}
+use Rattle.lsp_verdict.specs.Entries.{IsAt, HasFirst, IsKnown}
 use Rattle.lsp_verdict.specs.LookBack.{each_from}
 use Rattle.lsp_verdict.specs.Offences.{Noted, Offence, IsNoted, events_of, offence_at, offence_by, offences}
 use Rattle.lsp_verdict.specs.Outcome.{HasRest, ending, format_or_one, log_terms}
@@ -40,21 +40,13 @@ use Rattle.lsp_verdict.proofs.Entries.{is_first}
 use Rattle.lsp_verdict.proofs.ExactCounts.{no_exact, raws_within}
 use Rattle.lsp_verdict.proofs.LookBackLemmas.{each_from-append}
 use Rattle.lsp_verdict.proofs.Offences.Steps.{offences-push}
-use Rattle.lsp_verdict.proofs.Offences.Surveying.{some_asks}
-use Rattle.lsp_verdict.proofs.OneEvent.{some_read}
+use Rattle.lsp_verdict.proofs.Offences.Surveying.{some_notes}
 use Rattle.lsp_verdict.proofs.Outcomes.{placed_front}
 use Rattle.lsp_verdict.proofs.RunReading.{read_map}
 use Rattle.lsp_verdict.proofs.Sessions.{some_placed}
+use Rattle.lsp_verdict.proofs.Lists.{first_nil}
 
 -- ---- lists
-
-some_notes : (raws : List Raw) → (notes : List Noted) × AllZip IsNoted raws notes
-some_notes [] = ([], tt)
-some_notes (raw ∷ raws) =
-    let read = some_read raw in
-    let asks = some_asks raw in
-    let rest = some_notes raws in
-    (record { event = read.0; asks = asks.0 } ∷ rest.0, ((read.1, asks.1), rest.1))
 
 join_notes : (raws more : List Raw) (notes extra : List Noted) → AllZip IsNoted raws notes → AllZip IsNoted more extra → AllZip IsNoted (raws ++ more) (notes ++ extra)
 join_notes [] more [] extra p q = q
@@ -71,10 +63,6 @@ same_length (r ∷ raws) (n ∷ notes) all = omega (arith, same_length raws note
 no_notes : (notes : List Noted) → AllZip IsNoted [] notes → notes ≡ []
 no_notes [] all = refl
 no_notes (n ∷ notes) all = absurd all
-
-first_nil : (past due : List Raw) → past ++ due ≡ [] → past ≡ []
-first_nil [] due e = refl
-first_nil (raw ∷ past) due e = absurd cc
 
 -- ---- a survey of a log whose records begin with these
 

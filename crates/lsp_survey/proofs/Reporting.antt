@@ -9,7 +9,7 @@ use Rattle.lsp_frame.specs.Bounds.{Bounds, IsInRange}
 use Rattle.lsp_frame.specs.Sink.{Wrote, Stopped}
 use Rattle.lsp_frame.specs.Told.{Told, Took, after_failure}
 use Rattle.lsp_frame.proofs.Telling.{took_then}
-use Rattle.lsp_frame.proofs.Writing.{stopped_before, stopped_then, wrote_nothing, wrote_then}
+use Rattle.lsp_frame.proofs.Writing.{stopped_before, stopped_then, wrote_then}
 use Rattle.lsp_survey.specs.Reads.{BeginsSurvey, SoFar, BrokeOff}
 use Rattle.lsp_survey.specs.Reported.{is_every, IsReported, BeginsReported, lines_of, closing, IsYes, sink_after, IsTally, AllReported, PartReported, Listed}
 use Rattle.lsp_survey.specs.declared.listing.Listing.{Listing}
@@ -20,7 +20,7 @@ use Rattle.lsp_survey.specs.declared.tally.Tally.{Tally}
 use Rattle.lsp_verdict.specs.Given.{offence_view, verdict_view}
 use Rattle.lsp_verdict.specs.Offences.{Noted, Offence}
 use Rattle.lsp_verdict.specs.Placed.{Raw}
-use Rattle.lsp_verdict.specs.RunIo.{OfRead, Tells, TellsSome, failures_after}
+use Rattle.lsp_verdict.specs.RunIo.{OfRead, Tells, TellsSome}
 use Rattle.lsp_verdict.specs.Survey.{IsSurvey, all_report, bad_lines, first_verdict, found_line, offence_lines, shown_of}
 use Rattle.lsp_log.specs.declared.fault.LogCode.{LogCode}
 use Rattle.lsp_verdict.specs.Complete.{IsCompleteVerdict, IsVerdictBy}
@@ -88,10 +88,7 @@ begins_at completeness limits listing found out left whole log (later, bad, s, i
       },
     )
 
-by_source : (start now : Told) (f : RunFault) → now.failures ≡ failures_after f start.failures → now.failures ≡ failures_after f start.failures
-by_source start now f e = e
-
-by_sink : (old mid : Told) (f : RunFault) → mid.failures ≡ old.failures → (f ≡ faults.Write → ⊥) → mid.failures ≡ sink_after f old.failures
+pub by_sink : (old mid : Told) (f : RunFault) → mid.failures ≡ old.failures → (f ≡ faults.Write → ⊥) → mid.failures ≡ sink_after f old.failures
 by_sink old mid faults.Read e unwritten = e
 by_sink old mid faults.Write e unwritten = absurd (unwritten refl)
 by_sink old mid faults.Memory e unwritten = e
@@ -107,21 +104,6 @@ pub record IsListing (completeness : Completeness) (limits : Bounds) (listing : 
   pub same : e.completeness ≡ completeness
   pub tally : IsTally t found
   pub wrote : Wrote old new (lines_of listing found)
-
-none_lines : (listing : Listing) → lines_of listing [] ≡ []
-none_lines Every = refl
-none_lines Causes = refl
-
-pub nothing_listed_yet : (limits : Bounds) (listing : Listing) (e : SurveyReader) (t : Tally) (start old : Told) → SoFar limits e start start [] [] [] → IsTally t [] → IsListing e.completeness limits listing e t start start old old
-nothing_listed_yet limits listing e t start old so tally = record {
-  past = [];
-  notes = [];
-  found = [];
-  so_far = so;
-  same = refl;
-  tally = tally;
-  wrote = subst (Wrote old old) (sym (none_lines listing)) (wrote_nothing old);
-}
 
 module _ (completeness : Completeness) (limits : Bounds) (listing : Listing) (start now old mid new : Told) (found : List Offence) (wrote : Wrote old mid (lines_of listing found)) where
   -- the log was not read to its end

@@ -16,12 +16,13 @@ use Rattle.lsp_verdict.specs.OffenceLaws.{kept_at}
 use Rattle.lsp_verdict.specs.Offences.{kept_of, last_or, rule_at}
 use Rattle.lsp_verdict.proofs.LookBackLemmas.{each_of-snoc}
 use Rattle.lsp_verdict.proofs.Offences.Offending.{kept_are_others}
+use Rattle.lsp_verdict.proofs.Offences.Steps.{last_behind}
 use Rattle.lsp_survey.specs.Asking.{Numbered, Reply, numbered_as, numbered_by, numbered_at, numbered, sents, asks, asks_by, replied, reply_by, replies, most_replies, last_ones, leads, leads_by}
 use Rattle.lsp_survey.specs.Marking.{number_next}
 use Rattle.lsp_survey.specs.SessionNoting.{asked_in, Exchanges, IsExchange, SaysOn, SessionStands, AreNotes}
 use Rattle.lsp_survey.specs.declared.exchange.Exchange.{Exchange}
 use Rattle.lsp_survey.specs.declared.session_notes.SessionNotes.{SessionNotes}
-use Rattle.lsp_survey.proofs.Marking.{filter_map-snoc, last_behind}
+use Rattle.lsp_survey.proofs.Marking.{filter_map-snoc}
 
 -- ---- the kept messages
 

@@ -14,6 +14,7 @@ use Rattle.lsp_survey.specs.declared.walk.Walk.{Walk}
 use Rattle.lsp_verdict.specs.Offences.{Noted}
 use Rattle.lsp_verdict.specs.Placed.{Raw, content, broken, new_fault}
 use Rattle.lsp_verdict.proofs.Below.{frames_first, one_stream, some_stream}
+use Rattle.lsp_verdict.proofs.Lists.{cancel_all}
 use Rattle.lsp_survey.proofs.FrameRules.{breaks_low}
 use Rattle.lsp_survey.proofs.Rests.{broken_more, held_broken}
 
@@ -77,9 +78,6 @@ pushed_due limits side d new sent more (own, drained) same_d stands_all =
 
 -- ---- the next event
 
-nothing_left : (given left : List (List ℕ)) → given ≡ given ++ left → left ≡ []
-nothing_left given left e = append_cancel_left given left [] (sym e ∙ sym (append-nil given))
-
 module _ (side : Side) (d : decoder.State) (bytes : List ℕ) (due : List Raw) (h : HasDue side d bytes due) where
   due_with : (left : List (List ℕ)) (breaks : Option ℕ) → h.left ≡ left → h.breaks ≡ breaks → due ≡ map (content side) left ++ new_fault side None breaks
   due_with left breaks e f = h.are ∙ ap (λ w. map (content side) w ++ new_fault side None h.breaks) e ∙ ap (λ o. map (content side) left ++ new_fault side None o) f
@@ -88,7 +86,7 @@ module _ (side : Side) (d : decoder.State) (bytes : List ℕ) (due : List Raw) (
   due_end : (rest : List ℕ) (breaks : Option ℕ) → IsStream d.limits bytes h.given rest breaks → due ≡ new_fault side None breaks
   due_end rest breaks stream =
       let one = one_stream d.limits bytes h.given (h.given ++ h.left) rest h.rest breaks h.breaks stream h.stream in
-      due_with [] breaks (nothing_left h.given h.left one.contents) (sym one.fault)
+      due_with [] breaks (cancel_all h.given h.left (sym one.contents)) (sym one.fault)
 
   -- the stream has this content next, and it was given
   due_given : (new : decoder.State) (c : List ℕ) → new.limits ≡ d.limits → decoder.StandsFor new bytes (h.given ++ c ∷ []) → (later : List Raw) × (due ≡ content side c ∷ later) × HasDue side new bytes later

@@ -1,7 +1,9 @@
 -- A survey of records, with one record more, and with one event more.
 use Rattle.std.specs.Prelude.{◌||◌, IfOk, ℤ}
 use Rattle.std.specs.List.{AllZip, list_any}
-use Rattle.std.proofs.Common.{◌≡◌, ℕ, Bool, true, false, List, [], ◌∷◌, ◌++◌, Option, Some, None, Result, Ok, Err, refl, sym, ap, subst, ◌∙◌, append_assoc, append-nil}
+use Rattle.std.proofs.Common.{◌≡◌, ℕ, Bool, false, List, [], ◌∷◌, ◌++◌, Option, Some, None, Result, Ok, Err, refl, sym, ap, subst, ◌∙◌, append-nil}
+use Rattle.std.proofs.Math.Bool.{or-false}
+use Rattle.std.proofs.lemmas.List.Folds.{list_any-append}
 use Rattle.lsp_docs.specs.Terms.{Terms, terms_of}
 use Rattle.lsp_frame.specs.Bounds.{Bounds, IsInRange}
 use Rattle.lsp_frame.specs.Decoder as decoder
@@ -23,7 +25,7 @@ use Rattle.lsp_verdict.specs.Survey.{is_frame_fault}
 use Rattle.lsp_verdict.proofs.Streams.Drained.{new_drained}
 use Rattle.lsp_verdict.proofs.Offences.Steps.{events_of-push}
 use Rattle.lsp_verdict.proofs.OneRecord.{joined_own, joined_server, joined_editor, joined_shown, placed_one}
-use Rattle.lsp_verdict.proofs.PlacedLemmas.{placed-snoc}
+use Rattle.lsp_verdict.proofs.PlacedLemmas.{placed-snoc, placed_whole, placed_next}
 use Rattle.lsp_survey.proofs.FrameRules.{own_fault, other_fault}
 use Rattle.lsp_survey.proofs.Rests.{ended_by}
 
@@ -36,23 +38,10 @@ noted_push (r ∷ raws) [] raw n all is = absurd all
 noted_push (r ∷ raws) (m ∷ notes) raw n all is = (all.0, noted_push raws notes raw n all.1 is)
 
 any_push : (f : Event → Bool) (xs : List Event) (x : Event) → list_any f (xs ++ x ∷ []) ≡ (list_any f xs || f x)
-any_push f [] x = or_false (f x)
-  where
-    or_false : (b : Bool) → (b || false) ≡ b
-    or_false true = refl
-    or_false false = refl
-any_push f (y ∷ xs) x = ap (λ b. f y || b) (any_push f xs x) ∙ or_assoc (f y) (list_any f xs) (f x)
-  where
-    or_assoc : (a b c : Bool) → (a || (b || c)) ≡ (a || b || c)
-    or_assoc true b c = refl
-    or_assoc false b c = refl
+any_push f xs x = list_any-append f xs (x ∷ []) ∙ ap (λ b. list_any f xs || b) (or-false (f x))
 
 any_more : (f : Event → Bool) (notes : List Noted) (n : Noted) → list_any f (events_of (notes ++ n ∷ [])) ≡ (list_any f (events_of notes) || f n.event)
 any_more f notes n = ap (list_any f) (events_of-push notes n) ∙ any_push f (events_of notes) n.event
-
-or_none : (b : Bool) → (b || false) ≡ b
-or_none true = refl
-or_none false = refl
 
 -- the side's frames have a fault where they had one, or this is it
 own_ends : (side : Side) (before after : Bool) (raw : Raw) (notes : List Noted) (n : Noted) → before ≡ list_any (is_frame_fault side) (events_of notes) → before ≡ false → after ≡ is_break raw → IsOf side raw → IsNoted raw n
@@ -67,7 +56,7 @@ other_ends : (other side : Side) (before : Bool) (raw : Raw) (notes : List Noted
     → before ≡ list_any (is_frame_fault other) (events_of (notes ++ n ∷ []))
 other_ends other side before raw notes n apart was is_of is =
     was
-    ∙ sym (or_none (list_any (is_frame_fault other) (events_of notes)))
+    ∙ sym (or-false (list_any (is_frame_fault other) (events_of notes)))
     ∙ ap (λ b. list_any (is_frame_fault other) (events_of notes) || b) (sym (other_fault other side raw n.event apart is_of is.0))
     ∙ sym (any_more (is_frame_fault other) notes n)
 
@@ -75,7 +64,7 @@ shown_ends : (side : Side) (before : Bool) (number : ℤ) (uri text : List ℕ) 
     → before ≡ list_any (is_frame_fault side) (events_of (notes ++ n ∷ []))
 shown_ends side before number uri text notes n was is =
     was
-    ∙ sym (or_none (list_any (is_frame_fault side) (events_of notes)))
+    ∙ sym (or-false (list_any (is_frame_fault side) (events_of notes)))
     ∙ ap (λ b. list_any (is_frame_fault side) (events_of notes) || b) (sym (ap (is_frame_fault side) is.0))
     ∙ sym (any_more (is_frame_fault side) notes n)
 
@@ -106,9 +95,6 @@ none_taken limits s sizes same idle terms walks editor_whole server_whole editor
 awaits_none : (limits : Bounds) (s : Survey) (rs : List Record) (due : List Raw) → s.turn ≡ None → Awaits limits s.turn s rs due → Awaits limits None s rs due
 awaits_none limits s rs due idle a = subst (λ (t : Option Side). Awaits limits t s rs due) idle a
 
-all_heard : (limits : Bounds) (rs : List Record) (past due : List Raw) → due ≡ [] → Placed limits rs (past ++ due) → Placed limits rs past
-all_heard limits rs past due none placed = subst (Placed limits rs) (ap (λ w. past ++ w) none ∙ append-nil past) placed
-
 pub editor_taken : (limits : Bounds) (s : Survey) (t : Stream) (rs : List Record) (past : List Raw) (notes : List Noted) (b : List ℕ) → s.turn ≡ None → t.ended ≡ s.editor.ended
     → ((l : Bounds) (side : Side) (sent : List ℕ) → IsSpent l s.editor.ended s.editor.decoder sent → Pushes l side t.ended t.decoder sent b)
     → Surveys limits s rs past notes → Surveys limits (record s { editor = t; turn = Some Editor }) (rs ++ chunk Editor b ∷ []) past notes
@@ -120,7 +106,7 @@ editor_taken limits s t rs past notes b idle same pushes h =
       same = h.same;
       terms = h.terms;
       due = p.0;
-      placed = placed-snoc limits [] [] rs (chunk Editor b) past p.0 (all_heard limits rs past h.due a.0 h.placed) (placed_one limits Editor rs b p.0 p.1);
+      placed = placed-snoc limits [] [] rs (chunk Editor b) past p.0 (placed_whole limits rs past h.due a.0 h.placed) (placed_one limits Editor rs b p.0 p.1);
       are_noted = h.are_noted;
       walks = h.walks;
       editor_ends = same ∙ h.editor_ends;
@@ -142,7 +128,7 @@ server_taken limits s t rs past notes b idle same pushes h =
       same = h.same;
       terms = h.terms;
       due = p.0;
-      placed = placed-snoc limits [] [] rs (chunk Server b) past p.0 (all_heard limits rs past h.due a.0 h.placed) (placed_one limits Server rs b p.0 p.1);
+      placed = placed-snoc limits [] [] rs (chunk Server b) past p.0 (placed_whole limits rs past h.due a.0 h.placed) (placed_one limits Server rs b p.0 p.1);
       are_noted = h.are_noted;
       walks = h.walks;
       editor_ends = h.editor_ends;
@@ -159,7 +145,7 @@ pub snapshot_taken : (limits : Bounds) (s : Survey) (w : Walk) (rs : List Record
 snapshot_taken limits s w rs past notes number uri text given idle same_terms told h =
     let a = awaits_none limits s rs h.due idle h.awaits in
     let heard = told h.walks in
-    let placed = placed-snoc limits [] [] rs (shown number uri text) past (show number uri text ∷ []) (all_heard limits rs past h.due a.0 h.placed) ([], refl, refl) in
+    let placed = placed-snoc limits [] [] rs (shown number uri text) past (show number uri text ∷ []) (placed_whole limits rs past h.due a.0 h.placed) ([], refl, refl) in
     record {
       raw = show number uri text;
       n = heard.n;
@@ -185,9 +171,6 @@ snapshot_taken limits s w rs past notes number uri text given idle same_terms to
     }
 
 -- ---- an event
-
-next_placed : (limits : Bounds) (rs : List Record) (past due later : List Raw) (raw : Raw) → due ≡ raw ∷ later → Placed limits rs (past ++ due) → Placed limits rs ((past ++ raw ∷ []) ++ later)
-next_placed limits rs past due later raw e placed = subst (Placed limits rs) (ap (λ w. past ++ w) e ∙ sym (append_assoc past (raw ∷ []) later)) placed
 
 pub editor_heard : (limits : Bounds) (s : Survey) (t : Stream) (w : Walk) (turn : Option Side) (rs : List Record) (past : List Raw) (notes : List Noted) (answer : Option Heard) → s.turn ≡ Some Editor → turn ≡ turn_after Editor answer → w.events.docs.terms ≡ s.walk.events.docs.terms
     → ((bytes : List ℕ) (due : List Raw) → IsDue limits Editor s.editor.ended s.editor.decoder bytes due → Walks s.walk notes → HearsNext limits Editor s.editor.ended t.ended t.decoder s.walk.events.docs.terms w bytes due notes answer)
@@ -224,7 +207,7 @@ editor_heard limits s t w turn rs past notes (Some given) is turns same_terms to
         same = h.same;
         terms = same_terms ∙ h.terms;
         due = one.later;
-        placed = next_placed limits rs past h.due one.later one.raw one.first h.placed;
+        placed = placed_next limits rs past h.due one.later one.raw one.first h.placed;
         are_noted = noted_push past notes one.raw n h.are_noted one.hears.is_noted;
         walks = one.hears.walks;
         editor_ends = own_ends Editor s.editor.ended t.ended one.raw notes n h.editor_ends one.unbroken one.ends one.is_of one.hears.is_noted;
@@ -268,7 +251,7 @@ server_heard limits s t w turn rs past notes (Some given) is turns same_terms to
         same = h.same;
         terms = same_terms ∙ h.terms;
         due = one.later;
-        placed = next_placed limits rs past h.due one.later one.raw one.first h.placed;
+        placed = placed_next limits rs past h.due one.later one.raw one.first h.placed;
         are_noted = noted_push past notes one.raw n h.are_noted one.hears.is_noted;
         walks = one.hears.walks;
         editor_ends = other_ends Editor Server s.editor.ended one.raw notes n refl h.editor_ends one.is_of one.hears.is_noted;

@@ -4,7 +4,6 @@ pub use Rattle.lsp_frame.proofs.Frames.{one_stream, faulty_more, frames_more, fr
 pub use Rattle.lsp_frame.proofs.Readings.{some_stream}
 pub use Rattle.lsp_frame.proofs.Fronts.{shown_stays}
 pub use Rattle.lsp_session.proofs.LawLemmas.{answers_a_request, answers_no_other, answered_once}
-pub use Rattle.lsp_session.proofs.Bools.{or_true}
 pub use Rattle.lsp_docs.proofs.Bindings.{bound-agrees}
 pub use Rattle.lsp_log.proofs.OneLog.{one_log, records_come_first}
 pub use Rattle.lsp_log.proofs.SomeLog.{some_log}

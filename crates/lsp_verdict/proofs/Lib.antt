@@ -1,4 +1,5 @@
 pub mod Below
+pub mod Lists
 pub mod LookBackLemmas
 pub mod PlacedLemmas
 pub mod OneEvent

@@ -1,18 +1,15 @@
 -- Lists that are gone through by index, and the open documents in theirs.
-use Rattle.std.proofs.Common.{◌≡◌, ◌<◌, ◌+◌, ℕ, zero, suc, Bool, true, false, List, [], ◌∷◌, ◌++◌, length, take, Option, Some, None, refl, sym, ap, ◌∙◌, append_assoc, arith}
-use Rattle.std.specs.Prelude.{map, slice_get, if◌then◌else◌}
-use Rattle.std.specs.Str.{bytes_eq}
+use Rattle.std.proofs.Common.{◌≡◌, ◌<◌, ◌+◌, ℕ, zero, suc, List, [], ◌∷◌, ◌++◌, length, take, Some, None, refl, sym, ap, ◌∙◌, append_assoc, arith}
+use Rattle.std.specs.Prelude.{map, slice_get}
 use Rattle.std.proofs.lemmas.List.{map-append}
 use Rattle.std.proofs.lemmas.Option.{same_Some}
-use Rattle.std.proofs.lemmas.Slice.Eq.{bytes_eq-Decides}
 use Rattle.lsp_docs.specs.Calls.{Call}
 use Rattle.lsp_docs.specs.Documents.{Version, Held, held, documents}
-use Rattle.lsp_docs.specs.State.{State, Stands, held_in}
+use Rattle.lsp_docs.specs.State.{State, Stands}
 use Rattle.lsp_verdict.specs.Given.{document_view}
 use Rattle.lsp_verdict.specs.Verdict.{document_of}
 use Rattle.lsp_verdict.specs.declared.verdict.OpenDocument.{OpenDocument}
-use Rattle.lsp_docs.proofs.DocumentSteps.{IsDistinct, held-documents}
-use Rattle.lsp_docs.proofs.Standing.{documents-distinct}
+use Rattle.lsp_docs.proofs.Standing.{documents-held}
 
 -- one item more
 pub take_one : {A : Type 0} (xs : List A) (i : ℕ) (x : A) → slice_get xs i ≡ Some x → take (i + 1) xs ≡ take i xs ++ x ∷ []
@@ -30,27 +27,9 @@ get_some (y ∷ xs) (suc i) less = get_some xs i (omega (arith, less))
 pub map_one : {A B : Type 0} (f : A → B) (xs : List A) (i : ℕ) (x : A) → slice_get xs i ≡ Some x → map f (take (i + 1) xs) ≡ map f (take i xs) ++ f x ∷ []
 map_one f xs i x e = ap (map f) (take_one xs i x e) ∙ map-append f (take i xs) (x ∷ [])
 
-none_here : (uri : List ℕ) (h : Held) (hs : List Held) (v : Version) → held_in uri hs ≡ Some v → held_in h.uri hs ≡ None → bytes_eq uri h.uri ≡ false
-none_here uri h hs v some none = by_test (bytes_eq uri h.uri) refl
-  where
-    by_test : (b : Bool) → bytes_eq uri h.uri ≡ b → b ≡ false
-    by_test false e = refl
-    by_test true e = let same : Some v ≡ None = sym some ∙ ap (λ u. held_in u hs) ((bytes_eq-Decides uri h.uri).0 e) ∙ none in absurd cc
-
-distinct_at : (hs : List Held) (i : ℕ) (h : Held) → IsDistinct hs → slice_get hs i ≡ Some h → held_in h.uri hs ≡ Some h.version
-distinct_at [] i h d e = let same : None ≡ Some h = e in absurd cc
-distinct_at (g ∷ hs) zero h d e =
-    let same : g ≡ h = same_Some _ _ e in
-    ap (λ (x : Held). held_in x.uri (g ∷ hs)) (sym same)
-    ∙ ap (λ b. if b then Some g.version else held_in g.uri hs) ((bytes_eq-Decides g.uri g.uri).1 refl)
-    ∙ ap (λ (x : Held). let o : Option Version = Some x.version in o) same
-distinct_at (g ∷ hs) (suc i) h d e =
-    let rest = distinct_at hs i h d.1 e in
-    ap (λ b. if b then Some g.version else held_in h.uri hs) (none_here h.uri g hs h.version rest d.0) ∙ rest
-
 -- the document at a place is what is held of its URI
 pub held_at : (s : State) (calls : List Call) (i : ℕ) (h : Held) → Stands s calls → slice_get (documents s.terms calls) i ≡ Some h → held s.terms h.uri calls ≡ Some h.version
-held_at s calls i h stands e = held-documents s.terms h.uri calls ∙ distinct_at (documents s.terms calls) i h (documents-distinct s.terms calls stands.accepted) e
+held_at s calls i h stands e = documents-held s.terms calls i h stands.accepted e
 
 -- one item more was pushed
 pub pushed_one : {A B C : Type 0} (view : A → B) (f : C → B) (first items new : List A) (xs : List C) (i : ℕ) (a : A) (x : C) → new ≡ items ++ a ∷ [] → map view items ≡ map view first ++ map f (take i xs) → slice_get xs i ≡ Some x → view a ≡ f x

@@ -1,13 +1,13 @@
 -- A log has a verdict, and one only.
 pub mod Text
 pub mod Ends
-use Rattle.std.proofs.Common.{◌≡◌, ℕ, List, ◌++◌, Option, refl, sym, ap, subst}
+use Rattle.std.proofs.Common.{◌≡◌, ℕ, List, ◌++◌, Option, refl, sym, ap, subst, Some, None, ◌⊎◌, inl, inr, ◌∙◌}
 use Rattle.lsp_frame.specs.Bounds.{Bounds, IsInRange}
 use Rattle.lsp_frame.specs.declared.format.Format.{Format}
 use Rattle.lsp_types.specs.declared.side.Side.TheVariants.{Editor, Server}
 use Rattle.lsp_docs.specs.Terms.{terms_of}
 use Rattle.lsp_log.specs.declared.fault.LogCode.{LogCode}
-use Rattle.lsp_log.specs.Log.{Record, BeginsLog}
+use Rattle.lsp_log.specs.Log.{Record}
 use Rattle.lsp_verdict.specs.Laws.{OneVerdict, SomeVerdict, SomeFinal, EventsFirst, OffenceDecides, merged}
 use Rattle.lsp_verdict.specs.Placed.{IsSession, joined}
 use Rattle.lsp_verdict.specs.Outcome.{IsFinal, IsVerdict, Offends, ending, format_or_one, log_terms}
@@ -15,6 +15,7 @@ use Rattle.lsp_verdict.specs.Verdict.{Verdict, verdict}
 use Rattle.lsp_verdict.proofs.Below.{one_log, some_log, some_stream, records_come_first}
 use Rattle.lsp_verdict.proofs.Outcomes.{cuts_leave_verdict, offends_final, session_front}
 use Rattle.lsp_verdict.proofs.Sessions.{same_session, some_session}
+use Rattle.lsp_verdict.specs.Entries.{IsKnown}
 
 pub final_more : (limits : Bounds) (format : Format) (rs us more : List Record) (flaw : Option (ℕ × LogCode)) (v w : Verdict) → us ≡ rs ++ more → Offends limits format rs v → IsFinal limits format us flaw w → v ≡ w
 final_more limits format rs us more flaw v w whole p q = offends_final limits format rs more flaw v w p (subst (λ (x : List Record). IsFinal limits format x flaw w) whole q)
@@ -58,10 +59,6 @@ offence_decides limits sizes format log rest rs v begins offends =
     let final = subst (λ (f : Option Format). IsFinal limits (format_or_one f) whole.1.records whole.1.fault whole.0) cut.0 whole.1.final in
     subst (IsVerdict limits log) (sym (final_more limits format rs whole.1.records cut.1 whole.1.fault v whole.0 cut.2 offends final)) whole.1
 
--- its terms are those of the format of any records that it begins with
-pub log_format : (limits : Bounds) → IsInRange limits → (format : Format) (log rest : List ℕ) (rs : List Record) (v : Verdict) → BeginsLog limits format log rs rest → (whole : IsVerdict limits log v) → log_terms limits whole.format ≡ terms_of limits format
-log_format limits sizes format log rest rs v begins whole = ap (log_terms limits) (records_come_first limits sizes log rest format whole.format rs whole.records whole.fault begins whole.is_log).0
-
 -- ---- and one only
 
 pub same_events : (limits : Bounds) → IsInRange limits → (log : List ℕ) (v w : Verdict) → (p : IsVerdict limits log v) → (q : IsVerdict limits log w) → p.final.events ≡ q.final.events
@@ -79,3 +76,8 @@ one_verdict limits sizes log v w p q =
 -- its terms are the same
 pub same_terms : (limits : Bounds) → IsInRange limits → (log : List ℕ) (v w : Verdict) → (p : IsVerdict limits log v) → (q : IsVerdict limits log w) → log_terms limits p.format ≡ log_terms limits q.format
 same_terms limits sizes log v w p q = ap (log_terms limits) (one_log limits sizes log p.format q.format p.records q.records p.fault q.fault p.is_log q.is_log).0
+
+-- the terms of a log whose format is the one known
+pub known_terms : (limits : Bounds) (own : Format) (known format : Option Format) → own ≡ format_or_one known → IsKnown known format → (known ≡ None) ⊎ (log_terms limits format ≡ terms_of limits own)
+known_terms limits own None format is known = inl refl
+known_terms limits own (Some f) format is known = inr (ap (log_terms limits) known ∙ ap (terms_of limits) (sym is))

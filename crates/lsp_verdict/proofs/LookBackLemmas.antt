@@ -36,7 +36,7 @@ or_none_parts a b e = (none_left a b e, none_right a b e)
 pub first_of-none : {A X : Type 0} (f : List A → A → Option X) (xs ys : List A) (x : A) → first_of f (xs ++ x ∷ ys) ≡ None → f xs x ≡ None
 first_of-none f xs ys x e = none_left (f xs x) _ (none_right (first_of f xs) _ (sym (first_of-append f xs (x ∷ ys)) ∙ e))
 
-cons_append : {X : Type 0} (o : Option X) (xs ys : List X) → cons_option o (xs ++ ys) ≡ cons_option o xs ++ ys
+pub cons_append : {X : Type 0} (o : Option X) (xs ys : List X) → cons_option o (xs ++ ys) ≡ cons_option o xs ++ ys
 cons_append None xs ys = refl
 cons_append (Some x) xs ys = refl
 

@@ -1,16 +1,12 @@
 -- The bytes and the events of records, with one more record.
 use Rattle.std.proofs.Common.{◌≡◌, ℕ, List, [], ◌∷◌, ◌++◌, refl, sym, ap, ◌∙◌, append_assoc, append-nil}
-use Rattle.std.specs.Prelude.{ℤ, chars, if◌then◌else◌, Bool, true, false}
-use Rattle.std.specs.List.{AllZip}
+use Rattle.std.specs.Prelude.{ℤ, if◌then◌else◌, Bool, true, false}
 use Rattle.lsp_frame.specs.Bounds.{Bounds}
 use Rattle.lsp_types.specs.declared.side.Side.{Side}
 use Rattle.lsp_types.specs.declared.side.Side.TheVariants.{Editor, Server}
 use Rattle.lsp_session.specs.Sent.{same_side}
 use Rattle.lsp_log.specs.Log.{Record, chunk, shown}
-use Rattle.lsp_verdict.specs.Event.{Event, snapshot}
-use Rattle.lsp_verdict.specs.Placed.{Raw, show, Brings, PlacedAfter, IsSession, Reads, joined}
-use Rattle.lsp_verdict.proofs.OneEvent.{lists_join}
-use Rattle.lsp_verdict.proofs.PlacedLemmas.{placed-snoc}
+use Rattle.lsp_verdict.specs.Placed.{Raw, Brings, PlacedAfter, joined}
 
 -- ---- the bytes of a side, with one more record
 
@@ -43,12 +39,3 @@ joined_shown side rs n uri t = joined-snoc side rs (shown n uri t) ∙ append-ni
 pub placed_one : (limits : Bounds) (side : Side) (rs : List Record) (b : List ℕ) (now : List Raw) → Brings limits side (joined side rs) b now → PlacedAfter limits (joined Editor rs) (joined Server rs) (chunk side b ∷ []) now
 placed_one limits Editor rs b now brings = (now, [], sym (append-nil now), brings, refl)
 placed_one limits Server rs b now brings = (now, [], sym (append-nil now), brings, refl)
-
-pub session_bytes : (limits : Bounds) (side : Side) (rs : List Record) (b : List ℕ) (events later : List Event) (now : List Raw) → IsSession limits rs events → Brings limits side (joined side rs) b now → AllZip Reads now later
-    → IsSession limits (rs ++ chunk side b ∷ []) (events ++ later)
-session_bytes limits side rs b events later now session brings reads =
-    (session.0 ++ now, placed-snoc limits [] [] rs (chunk side b) session.0 now session.1 (placed_one limits side rs b now brings), lists_join session.0 now events later session.2 reads)
-
-pub session_shown : (limits : Bounds) (rs : List Record) (n : ℤ) (uri t : List ℕ) (events : List Event) → IsSession limits rs events → IsSession limits (rs ++ shown n uri t ∷ []) (events ++ snapshot uri n (chars t) ∷ [])
-session_shown limits rs n uri t events session =
-    (session.0 ++ show n uri t ∷ [], placed-snoc limits [] [] rs (shown n uri t) session.0 (show n uri t ∷ []) session.1 ([], refl, refl), lists_join session.0 (show n uri t ∷ []) events (snapshot uri n (chars t) ∷ []) session.2 (refl, tt))

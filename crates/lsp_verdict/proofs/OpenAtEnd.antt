@@ -2,6 +2,7 @@
 use Rattle.std.proofs.Common.{◌≡◌, ℕ, ◌+◌, Bool, true, false, not, ◌&&◌, ◌||◌, true≢false, List, [], ◌∷◌, ◌++◌, length, Option, Some, None, is_some, refl, sym, ap, ◌∙◌}
 use Rattle.std.specs.Prelude.{if◌then◌else◌}
 use Rattle.std.proofs.lemmas.Bool.{and_parts}
+use Rattle.std.proofs.Math.Bool.{or-true}
 use Rattle.lsp_rpc.specs.Ident.{Ident}
 use Rattle.lsp_rpc.specs.Act.{Act, initialize, initialized, shutdown, exit, did_open, did_change, did_close, did_save, cancel, progress, early, register, other}
 use Rattle.lsp_types.specs.declared.side.Side.{Side}
@@ -11,8 +12,8 @@ use Rattle.lsp_session.specs.Handshake.{was_sent}
 use Rattle.lsp_session.specs.Requests.{names, is_answered, open_entry, open_requests, answers, answers_request}
 use Rattle.lsp_session.specs.Sent.{Sent, same_side, request_of, request_by, answered_id, is_exit, sends}
 use Rattle.lsp_verdict.specs.BroughtToEnd.{AllAnswered, HasUnanswered, HasExit}
-use Rattle.lsp_verdict.proofs.Below.{or_true}
 use Rattle.lsp_verdict.proofs.Finding.{same_split}
+use Rattle.lsp_verdict.proofs.Lists.{first_nil, rest_nil}
 
 -- ---- an answer among later messages
 
@@ -44,7 +45,7 @@ first_answer id (m ∷ later) e = by_here (first_answer id later) (names (answer
 
 answered_by : (id : Ident) (between : List Sent) (reply : Sent) (after : List Sent) → names (answered_id Editor reply) id ≡ true → is_answered Editor id (between ++ reply ∷ after) ≡ true
 answered_by id [] reply after named = ap (λ b. b || is_answered Editor id after) named
-answered_by id (m ∷ between) reply after named = ap (λ b. names (answered_id Editor m) id || b) (answered_by id between reply after named) ∙ or_true (names (answered_id Editor m) id)
+answered_by id (m ∷ between) reply after named = ap (λ b. names (answered_id Editor m) id || b) (answered_by id between reply after named) ∙ or-true (names (answered_id Editor m) id)
 
 -- ---- a request of the editor's
 
@@ -60,19 +61,11 @@ answers_is : (asked reply : Sent) (between : List Sent) (call : Ident × List �
     → answers asked between reply ≡ (names (answered_id Editor reply) call.0 && not (is_answered Editor call.0 between))
 answers_is asked reply between call by asks = ap (λ s. answers_request s (request_of asked.message) between reply) by ∙ ap (λ o. answers_request Editor o between reply) asks
 
-nil_left : {A : Type 0} (xs ys : List A) → xs ++ ys ≡ [] → xs ≡ []
-nil_left [] ys e = refl
-nil_left (x ∷ xs) ys e = absurd cc
-
-nil_right : {A : Type 0} (xs ys : List A) → xs ++ ys ≡ [] → ys ≡ []
-nil_right [] ys e = e
-nil_right (x ∷ xs) ys e = absurd cc
-
 -- ---- none is open
 
 open_behind : (before : List Sent) (m : Sent) (after : List Sent) → open_requests Editor (before ++ m ∷ after) ≡ [] → open_entry Editor (request_by Editor m) after ≡ []
-open_behind [] m after e = nil_left (open_entry Editor (request_by Editor m) after) (open_requests Editor after) e
-open_behind (x ∷ before) m after e = open_behind before m after (nil_right (open_entry Editor (request_by Editor x) (before ++ m ∷ after)) (open_requests Editor (before ++ m ∷ after)) e)
+open_behind [] m after e = first_nil (open_entry Editor (request_by Editor m) after) (open_requests Editor after) e
+open_behind (x ∷ before) m after e = open_behind before m after (rest_nil (open_entry Editor (request_by Editor x) (before ++ m ∷ after)) (open_requests Editor (before ++ m ∷ after)) e)
 
 closed_entry : (call : Ident × List ℕ) (later : List Sent) → is_answered Editor call.0 later ≡ true → open_entry Editor (Some call) later ≡ []
 closed_entry call later closed = rw closed refl
@@ -183,17 +176,13 @@ is_it early e = absurd (true≢false (sym e))
 is_it (register methods) e = absurd (true≢false (sym e))
 is_it other e = absurd (true≢false (sym e))
 
-sent_parts : (side act : Bool) → (side && act) ≡ true → (side ≡ true) × (act ≡ true)
-sent_parts true act e = (refl, e)
-sent_parts false act e = absurd (true≢false (sym e))
-
 pub exit_sent : (messages : List Sent) → was_sent is_exit messages ≡ true → HasExit messages
 exit_sent [] e = absurd (true≢false (sym e))
 exit_sent (m ∷ later) e = by_here (exit_sent later) (sends is_exit m) refl e
   where
     by_here : (was_sent is_exit later ≡ true → HasExit later) → (b : Bool) → sends is_exit m ≡ b → (b || was_sent is_exit later) ≡ true → HasExit (m ∷ later)
     by_here next true is e =
-        let parts = sent_parts (same_side Editor m.side) (is_exit m.act) is in
+        let parts = and_parts (same_side Editor m.side) (is_exit m.act) is in
         record { before = []; sent = m; after = later; whole = refl; by = is_editor m.side parts.0; exits = is_it m.act parts.1 }
     by_here next false is e =
         let rest = next e in
@@ -204,7 +193,7 @@ sends_exit m by exits = ap (λ s. same_side Editor s && is_exit m.act) by ∙ ap
 
 exit_at : (before : List Sent) (m : Sent) (after : List Sent) → sends is_exit m ≡ true → was_sent is_exit (before ++ m ∷ after) ≡ true
 exit_at [] m after e = ap (λ b. b || was_sent is_exit after) e
-exit_at (x ∷ before) m after e = ap (λ b. sends is_exit x || b) (exit_at before m after e) ∙ or_true (sends is_exit x)
+exit_at (x ∷ before) m after e = ap (λ b. sends is_exit x || b) (exit_at before m after e) ∙ or-true (sends is_exit x)
 
 pub exit_found : (messages : List Sent) → HasExit messages → was_sent is_exit messages ≡ true
 exit_found messages has = ap (was_sent is_exit) has.whole ∙ exit_at has.before has.sent has.after (sends_exit has.sent has.by has.exits)

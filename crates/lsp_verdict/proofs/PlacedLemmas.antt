@@ -10,9 +10,7 @@ use Rattle.lsp_log.specs.Log.{Record, chunk, shown}
 use Rattle.lsp_verdict.specs.Placed.{Raw, content, broken, show, Brings, new_fault, PlacedAfter, Placed, joined}
 use Rattle.lsp_verdict.specs.Laws.{merged, put}
 use Rattle.lsp_verdict.proofs.Below.{one_stream, faulty_more}
-
-cancel_all : {A : Type 0} (xs ys : List A) → xs ++ ys ≡ xs → ys ≡ []
-cancel_all xs ys e = append_cancel_left xs ys [] (e ∙ sym (append-nil xs))
+use Rattle.lsp_verdict.proofs.Lists.{cancel_all}
 
 -- the parts of what two pieces bring
 brought_twice : (side : Side) (n1 n2 : List (List ℕ)) (f0 f1 f2 : Option ℕ) → ((rule : ℕ) → f1 ≡ Some rule → (n2 ≡ []) × (f2 ≡ f1)) → ((rule : ℕ) → f0 ≡ Some rule → f1 ≡ f0)
@@ -157,3 +155,11 @@ placed-snoc limits editor server (chunk Server b ∷ rs) r raws now p q = (
 )
 placed-snoc limits editor server (shown v uri t ∷ rs) r raws now p q =
     (p.0 ++ now, ap (λ w. w ++ now) p.1, placed-snoc limits editor server rs r p.0 now p.2 q)
+
+-- ---- the events that a record brings, heard one by one
+
+pub placed_whole : (limits : Bounds) (rs : List Record) (past due : List Raw) → due ≡ [] → Placed limits rs (past ++ due) → Placed limits rs past
+placed_whole limits rs past due none placed = subst (Placed limits rs) (ap (λ w. past ++ w) none ∙ append-nil past) placed
+
+pub placed_next : (limits : Bounds) (rs : List Record) (past due later : List Raw) (raw : Raw) → due ≡ raw ∷ later → Placed limits rs (past ++ due) → Placed limits rs ((past ++ raw ∷ []) ++ later)
+placed_next limits rs past due later raw e placed = subst (Placed limits rs) (ap (λ w. past ++ w) e ∙ sym (append_assoc past (raw ∷ []) later)) placed

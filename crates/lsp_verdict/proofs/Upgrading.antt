@@ -23,7 +23,7 @@ use Rattle.lsp_verdict.proofs.LookBackLemmas.{first_of-more}
 
 -- ---- the accepted records
 
-accepted_none : (limits : Bounds) (format : Format) → AreAccepted limits format []
+pub accepted_none : (limits : Bounds) (format : Format) → AreAccepted limits format []
 accepted_none limits format = record { events = []; session = ([], refl, tt); clean = nothing_offends (terms_of limits format) [] refl }
 
 -- the next record brings an event that offends, or is accepted too

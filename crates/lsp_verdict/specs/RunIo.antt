@@ -79,3 +79,9 @@ sink_failures (Err faults.Write) before = after_failure before
 sink_failures (Err faults.Read) before = before
 sink_failures (Err faults.Memory) before = before
 sink_failures (Ok outcome) before = before
+
+-- reading broke off, before anything was written: the source gave no more than it may, and it alone may have failed
+pub record BreaksOff (limits : Bounds) (start now : Told) (fault : RunFault) : Type 0 where
+  pub of_read : OfRead limits start now (λ log. Unit {0})
+  pub failures : now.failures ≡ failures_after fault start.failures
+  pub unwritten : fault ≡ faults.Write → ⊥

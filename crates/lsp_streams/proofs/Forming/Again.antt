@@ -1,16 +1,14 @@
 -- The normal form is a log of its own, with the events of the log.
-use Rattle.std.specs.Prelude.{map, nat_le, IsTrue, ◌&&◌, if◌then◌else◌}
+use Rattle.std.specs.Prelude.{map, nat_le, IsTrue, ◌&&◌}
 use Rattle.std.specs.List.{flat_map, AllByRecursion}
 use Rattle.std.specs.Option.{option_or}
-use Rattle.std.proofs.Common.{◌≡◌, ℕ, zero, suc, ◌≤◌, List, [], ◌∷◌, ◌++◌, length, take, drop, Bool, true, false, Option, Some, None, Result, Ok, Err, inl, inr, refl, sym, ap, subst, ◌∙◌, append_assoc, append-nil, arith}
+use Rattle.std.proofs.Common.{◌≡◌, ℕ, zero, suc, ◌≤◌, List, [], ◌∷◌, ◌++◌, length, take, drop, true, Option, Some, None, refl, sym, ap, subst, ◌∙◌, append_assoc, append-nil, arith}
 use Rattle.std.proofs.lemmas.Bool.{and_from}
 use Rattle.std.proofs.lemmas.Bool.Decides.{nat_tests}
 use Rattle.std.proofs.lemmas.List.{length-take, length-drop, take-append-drop}
 use Rattle.lsp_frame.specs.Bounds.{Bounds, IsInRange}
 use Rattle.lsp_frame.specs.declared.format.Format.{Format}
-use Rattle.lsp_frame.specs.Frame.{Frames, Begins, Breaks, HasFault, IsStream}
-use Rattle.lsp_frame.specs.Header.{is_number, lengths, content_length, fits_charsets, length_and_charset, Says}
-use Rattle.std.specs.Str.Parse.{digits_value}
+use Rattle.lsp_frame.specs.Frame.{Frames, Begins, HasFault, IsStream}
 use Rattle.lsp_frame.specs.Sink.{canonical}
 use Rattle.lsp_frame.proofs.Canonical.{canonical_frame}
 use Rattle.lsp_frame.proofs.Frames.{frames_more, frames_push}
@@ -32,6 +30,7 @@ use Rattle.lsp_verdict.proofs.Outcomes.{cut_joined}
 use Rattle.lsp_verdict.proofs.PlacedLemmas.{cuts_dont_matter, one_placed}
 use Rattle.lsp_verdict.proofs.Sessions.{some_placed}
 use Rattle.lsp_frame.proofs.Readings.{says_within}
+use Rattle.lsp_frame.proofs.FrameRules.{breaks_rule}
 use Rattle.lsp_verdict.proofs.Streams.{no_stream}
 
 -- ---- lists
@@ -41,9 +40,6 @@ all_append P [] ys p q = q
 all_append P (x ∷ xs) ys p q = (p.0, all_append P xs ys p.1 q)
 
 -- ---- events within the limits
-
-abbrev err_of : ℕ → Result ℕ ℕ
-err_of rule = Err rule
 
 abbrev pub IsSane : Bounds → Raw → Type 0
 IsSane limits (content side bytes) = length bytes ≤ limits.content
@@ -55,39 +51,9 @@ frames_within limits side bytes rest (c ∷ old) new p = frames_within limits si
 frames_within limits side bytes rest [] [] p = tt
 frames_within limits side bytes rest [] (c ∷ new) p = (says_within limits p.1.2.header (length c) p.1.2.says, frames_within limits side p.0 rest [] new p.2)
 
-same_rule : (n rule : ℕ) → n ≡ rule → is_frame_rule n ≡ true → is_frame_rule rule ≡ true
-same_rule n rule e is = sym (ap is_frame_rule e) ∙ is
-
-number_rule : (a b : Bool) (k rule : ℕ) → (if a then (if b then Ok k else Err 105) else Err 104) ≡ err_of rule → is_frame_rule rule ≡ true
-number_rule false b k rule e = same_rule 104 rule (cc e) refl
-number_rule true false k rule e = same_rule 105 rule (cc e) refl
-number_rule true true k rule e = absurd (cc e)
-
-length_rule : (limits : Bounds) (values : List (List ℕ)) (rule : ℕ) → content_length limits values ≡ err_of rule → is_frame_rule rule ≡ true
-length_rule limits [] rule e = same_rule 103 rule (cc e) refl
-length_rule limits (v ∷ []) rule e = number_rule (is_number v) (nat_le (digits_value 10 v) limits.content) (digits_value 10 v) rule e
-length_rule limits (v ∷ w ∷ vs) rule e = same_rule 103 rule (cc e) refl
-
-charset_rule : (fits : Bool) (said : Result ℕ ℕ) (rule : ℕ) → (said ≡ err_of rule → is_frame_rule rule ≡ true) → length_and_charset fits said ≡ err_of rule → is_frame_rule rule ≡ true
-charset_rule true said rule is e = is e
-charset_rule false (Ok n) rule is e = same_rule 106 rule (cc e) refl
-charset_rule false (Err r) rule is e = is e
-
--- the fault of a header part is 102 to 106
-says_rule : (limits : Bounds) (header : List ℕ) (rule : ℕ) → Says limits header (Err rule) → is_frame_rule rule ≡ true
-says_rule limits header rule (inl s) = charset_rule (fits_charsets s.0) (content_length limits (lengths s.0)) rule (length_rule limits (lengths s.0) rule) s.2
-says_rule limits header rule (inr none) = same_rule 102 rule (wrong_line (sym none.1)) refl
-  where
-    wrong_line : {n : ℕ} → err_of 102 ≡ err_of n → 102 ≡ n
-    wrong_line e = cc e
-
-breaks_rule : (limits : Bounds) (bytes : List ℕ) (rule : ℕ) → Breaks limits bytes rule → is_frame_rule rule ≡ true
-breaks_rule limits bytes rule (inl long) = ap is_frame_rule long.0
-breaks_rule limits bytes rule (inr bad) = says_rule limits bad.header rule bad.says
-
 fault_sane : (limits : Bounds) (side : Side) (bytes : List ℕ) (old new : Option ℕ) → HasFault limits bytes new → AllByRecursion (IsSane limits) (new_fault side old new)
 fault_sane limits side bytes None None h = tt
-fault_sane limits side bytes None (Some rule) h = (breaks_rule limits bytes rule h, tt)
+fault_sane limits side bytes None (Some rule) h = (breaks_rule (λ (r : ℕ). is_frame_rule r ≡ true) (refl, (refl, (refl, (refl, (refl, (refl, tt)))))) limits bytes rule h, tt)
 fault_sane limits side bytes (Some rule) new h = tt
 
 brought_sane : (limits : Bounds) (side : Side) (before more : List ℕ) (now : List Raw) → Brings limits side before more now → AllByRecursion (IsSane limits) now

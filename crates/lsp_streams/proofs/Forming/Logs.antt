@@ -35,14 +35,11 @@ use Rattle.lsp_verdict.specs.declared.verdict.Verdict.TheVariants as given
 use Rattle.lsp_verdict.proofs.Below.{one_log, some_stream}
 use Rattle.lsp_verdict.proofs.Entries.{is_first, at_start, record_fits}
 use Rattle.lsp_verdict.proofs.RunReading.{read_map}
+use Rattle.lsp_verdict.proofs.Lists.{not_nil}
 use Rattle.lsp_streams.proofs.Forming.Counts.{end_exact, carries_exact}
 use Rattle.lsp_streams.proofs.Forming.OneForm.{broken_normal, due_first}
 
 -- ---- the format
-
-not_nil : (rs : List Record) (r : Record) → rs ++ r ∷ [] ≡ [] → ⊥
-not_nil [] r e = absurd cc
-not_nil (x ∷ rs) r e = absurd cc
 
 -- once a record was read, so was the format
 pub known_at : (r : reader.State) (start now : Told) (rs : List Record) (next : Record) → IsAt r start now (rs ++ next ∷ []) → (format : Format) × (r.format ≡ Some format)

@@ -10,13 +10,13 @@ use Rattle.lsp_log.specs.Reader as reader
 use Rattle.lsp_log.specs.Reader.{StandsFor}
 use Rattle.lsp_log.specs.declared.fault.LogCode.{LogCode}
 use Rattle.lsp_streams.specs.Event.{content_at, outcome_of, outcome_at, without, event_at, IsEvent, BeginsEvent}
-use Rattle.lsp_streams.specs.EventSteps.{HasPassed, HasFound, SeeksRecord, SoFar, Found, BrokeOff, SeeksEntry}
+use Rattle.lsp_streams.specs.EventSteps.{HasPassed, HasFound, SeeksRecord, SoFar, Found, SeeksEntry}
 use Rattle.lsp_streams.specs.declared.event.Answer.{Answer}
 use Rattle.lsp_streams.specs.declared.event.Search.{Search}
 use Rattle.lsp_verdict.specs.Entries as entries
 use Rattle.lsp_verdict.specs.Entries.{IsAt, HasRecords, HasFirst, EntryIs}
 use Rattle.lsp_verdict.specs.Placed.{Raw, content, broken, show}
-use Rattle.lsp_verdict.specs.RunIo.{OfRead, failures_after}
+use Rattle.lsp_verdict.specs.RunIo.{OfRead, failures_after, BreaksOff}
 use Rattle.lsp_verdict.specs.declared.outcome.Outcome.{Outcome}
 use Rattle.lsp_verdict.specs.declared.outcome.Outcome.TheVariants.{Judged, FewerEvents}
 use Rattle.lsp_verdict.specs.declared.outcome.RunFault.{RunFault}
@@ -106,7 +106,7 @@ bad_answers limits r s start now n rs answer number code passed has is = record 
 }
 
 -- the reader of the log gave none
-pub broke_answers : (limits : Bounds) (start now : Told) (known : Option Format) (rs : List Record) (fault : RunFault) → entries.BrokeOff limits start now known rs fault → BrokeOff limits start now fault
+pub broke_answers : (limits : Bounds) (start now : Told) (known : Option Format) (rs : List Record) (fault : RunFault) → entries.BrokeOff limits start now known rs fault → BreaksOff limits start now fault
 broke_answers limits start now known rs fault broke = record {
   of_read = read_map limits start now (HasFirst limits known rs) (λ log. Unit {0}) (λ log has. tt) broke.of_read;
   failures = broke.failures;
@@ -124,7 +124,7 @@ start_passed limits r s start n new stands passed = record {
 }
 
 -- what was written before a fault begins what is due
-pub none_written : (limits : Bounds) (start now : Told) (n : ℕ) (fault : RunFault) → BrokeOff limits start now fault → OfRead limits start now (λ log. BeginsEvent limits log n [])
+pub none_written : (limits : Bounds) (start now : Told) (n : ℕ) (fault : RunFault) → BreaksOff limits start now fault → OfRead limits start now (λ log. BeginsEvent limits log n [])
 none_written limits start now n fault broke = read_map limits start now (λ log. Unit {0}) (λ log. BeginsEvent limits log n []) (λ log u. let due = some_event limits log n in (due.1, due.0, due.2)) broke.of_read
 
 pub front_written : (limits : Bounds) (start now : Told) (n : ℕ) (answer : Answer) (front back : List ℕ) → Found limits n start now answer → answer.content.items ≡ front ++ back → OfRead limits start now (λ log. BeginsEvent limits log n front)

@@ -13,6 +13,7 @@ use Rattle.lsp_session.specs.Sent.{Sent, same_side}
 use Rattle.lsp_verdict.specs.Event.{Event, message, fault, snapshot, sent_of, sent_in}
 use Rattle.lsp_verdict.specs.Interleaving.{order_of, is_own, own, AreInterleavings, IsRead, SessionsAreRead, result_by, first_result}
 use Rattle.lsp_verdict.specs.Placed.{Raw, content, broken, show, Reads}
+use Rattle.lsp_verdict.proofs.Lists.{not_empty}
 
 -- ---- an element that passes a test, found by its place among those that do
 
@@ -21,10 +22,6 @@ pub record Place {A : Type 0} (test : A → Bool) (xs front : List A) (x : A) : 
   pub after : List A
   pub whole : xs ≡ before ++ x ∷ after
   pub same : filter test before ≡ front
-
-not_empty : {A X : Type 0} (front : List A) (x : A) (back : List A) → [] ≡ front ++ x ∷ back → X
-not_empty [] x back e = cc
-not_empty (f ∷ front) x back e = cc
 
 pub place : {A : Type 0} (test : A → Bool) (xs front : List A) (x : A) (back : List A) → filter test xs ≡ front ++ x ∷ back → Place test xs front x
 place test [] front x back e = not_empty front x back e

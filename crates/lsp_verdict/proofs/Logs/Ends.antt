@@ -8,8 +8,8 @@ use Rattle.std.proofs.lemmas.List.{take_all}
 use Rattle.lsp_frame.specs.Bounds.{Bounds, IsInRange}
 use Rattle.lsp_frame.specs.Told.{Told}
 use Rattle.lsp_frame.specs.declared.format.Format.{Format}
-use Rattle.lsp_frame.specs.declared.format.Format.TheVariants.{One, Two}
 use Rattle.lsp_log.specs.Log.{Record, chunk, shown, Flaw, bad_line, bad_number, cut_short, bad_end, not_utf8, code_of, with_feed, head_line, head_of, parts_of, spelling, first_line, EndsWith, BeginsLog, IsLog}
+use Rattle.lsp_log.proofs.LogLemmas.{first_len}
 use Rattle.lsp_verdict.specs.Outcome.{IsVerdict}
 use Rattle.lsp_verdict.specs.RunIo.{OfRead}
 use Rattle.lsp_verdict.specs.Verdict.{Summary, yes}
@@ -57,10 +57,6 @@ not_one : (records : List Record) → length (flat_map spelling records) ≡ 1 �
 not_one [] e = absurd (omega (arith, e))
 not_one (r ∷ records) e = absurd (omega (arith, e, spelling_two r, length-append (spelling r) (flat_map spelling records)))
 
-pub head_long : (format : Format) → length (first_line format) ≡ 14
-head_long One = refl
-head_long Two = refl
-
 -- one byte behind a log without a fault makes a fault
 one_more : (limits : Bounds) → IsInRange limits → (log : List ℕ) (format other : Option Format) (records others : List Record) → IsLog limits log format records None → IsLog limits (log ++ 0 ∷ []) other others None → ⊥
 one_more limits sizes log format other records others p q =
@@ -75,8 +71,8 @@ one_more limits sizes log format other records others p q =
       ap length b.bytes,
       ap length spelled,
       length-append log (0 ∷ []),
-      head_long f,
-      head_long g,
+      first_len f,
+      first_len g,
       length-append (first_line f) (flat_map spelling records),
       length-append (first_line g) (flat_map spelling others),
       length-append (flat_map spelling records) (flat_map spelling cut.1),

@@ -5,6 +5,7 @@ use Rattle.std.specs.Option.{option_or}
 use Rattle.std.specs.Str.{bytes_eq}
 use Rattle.std.proofs.Common.{◌≡◌, ℕ, Bool, true, false, List, [], ◌∷◌, ◌++◌, Option, Some, None, refl, sym, ap, ◌∙◌, append_assoc, append-nil}
 use Rattle.std.proofs.lemmas.List.{map-append}
+use Rattle.std.proofs.Math.Bool.{and-false}
 use Rattle.lsp_docs.specs.Calls.{Call, uri_of}
 use Rattle.lsp_docs.specs.Terms.{Terms}
 use Rattle.lsp_session.specs.Handshake.{is_done}
@@ -15,6 +16,7 @@ use Rattle.lsp_verdict.specs.Offences.{Noted, Offence, events_of, kept_after, ke
 use Rattle.lsp_verdict.specs.Verdict.{Verdict, offence, no_by, no_at, first_no}
 use Rattle.lsp_verdict.proofs.Finding.{nothing_from, nothing_at, map_none}
 use Rattle.lsp_verdict.proofs.LookBackLemmas.{first_of-snoc, first_of-append, each_from-append, each_of-snoc, or_none_parts}
+use Rattle.lsp_verdict.proofs.Lists.{not_empty}
 
 -- ---- the events that are kept
 
@@ -90,12 +92,8 @@ pub record GivenBy {A X : Type 0} (f : List A → A → Option X) (front xs : Li
   pub whole : front ++ xs ≡ before ++ here ∷ after
   pub gives : f before here ≡ Some v
 
-nil_some : {X Y : Type 0} (front : List X) (v : X) (back : List X) → [] ≡ front ++ v ∷ back → Y
-nil_some [] v back e = absurd cc
-nil_some (w ∷ front) v back e = absurd cc
-
 given_by : {A X : Type 0} (f : List A → A → Option X) (front xs : List A) (first : List X) (v : X) (back : List X) → each_from f front xs ≡ first ++ v ∷ back → GivenBy f front xs v
-given_by f front [] first v back e = nil_some first v back e
+given_by f front [] first v back e = not_empty first v back e
 given_by {A} {X} f front (x ∷ xs) first v back e = by_given (λ given rest. given_by f (front ++ x ∷ []) xs given v back rest) (f front x) refl first e
   where
     behind : GivenBy f (front ++ x ∷ []) xs v → GivenBy f front (x ∷ xs) v
@@ -189,16 +187,12 @@ none_on_lost : (terms : Terms) (before : List Event) (o : Option Call) → first
 none_on_lost terms before None clean = refl
 none_on_lost terms before (Some call) clean = document_stands terms (uri_of call) before clean
 
-and_false : (b : Bool) → (b && false) ≡ false
-and_false true = refl
-and_false false = refl
-
 follows_none : (terms : Terms) (before : List Noted) (n : Noted) (rule : ℕ) → IsClean terms before → follows terms before n rule ≡ false
 follows_none terms before n rule clean =
     ap (λ (b : Bool). (wants_handshake rule && b) || (wants_text rule && is_on_lost terms (events_of before) (said_at terms (events_of before) n.event))) (handshake_stands terms before clean)
-    ∙ ap (λ (b : Bool). b || (wants_text rule && is_on_lost terms (events_of before) (said_at terms (events_of before) n.event))) (and_false (wants_handshake rule))
+    ∙ ap (λ (b : Bool). b || (wants_text rule && is_on_lost terms (events_of before) (said_at terms (events_of before) n.event))) (and-false (wants_handshake rule))
     ∙ ap (λ (b : Bool). wants_text rule && b) (none_on_lost terms (events_of before) (said_at terms (events_of before) n.event) clean)
-    ∙ and_false (wants_text rule)
+    ∙ and-false (wants_text rule)
 
 -- ---- the first that is listed
 
@@ -252,7 +246,7 @@ nothing_listed terms notes = (to, from)
       where
         by_first : (o : Option Verdict) → first_no terms (events_of notes) ≡ o → first_no terms (events_of notes) ≡ None
         by_first None is = is
-        by_first (Some v) is = let listed = first_listed terms notes v is in nil_some [] (record { no = v; follows = false }) listed.0 (sym none ∙ listed.1)
+        by_first (Some v) is = let listed = first_listed terms notes v is in not_empty [] (record { no = v; follows = false }) listed.0 (sym none ∙ listed.1)
 
     from : first_no terms (events_of notes) ≡ None → offences terms notes ≡ []
     from clean = none_given (offence_at terms) [] notes (λ before after n cut.

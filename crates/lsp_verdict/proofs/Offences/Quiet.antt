@@ -4,6 +4,7 @@ use Rattle.std.specs.Option.{option_or}
 use Rattle.std.specs.Str.{bytes_eq}
 use Rattle.std.proofs.Common.{◌≡◌, ℕ, Bool, true, false, List, [], ◌∷◌, ◌++◌, Option, Some, None, codes, refl, sym, ap, subst, ◌∙◌}
 use Rattle.serde_json.specs.Data.{Data}
+use Rattle.std.proofs.Math.Bool.{or-false}
 use Rattle.lsp_rpc.specs.Act.{Act, Offer, initialize, initialized, shutdown, exit, did_open, did_change, did_close, did_save, cancel, progress, early, register, other}
 use Rattle.lsp_rpc.specs.Message.{Message, request, notification, response}
 use Rattle.lsp_rpc.specs.Params.{Row, act_by, requests, act_at, initialize_at, register_at}
@@ -16,7 +17,6 @@ use Rattle.lsp_session.specs.Laws.{sent_by}
 use Rattle.lsp_session.specs.Sent.{Sent, cancel_of, is_initialized, is_shutdown, is_exit}
 use Rattle.lsp_session.specs.State.{State, agreed_in, next, state_of}
 use Rattle.lsp_session.specs.declared.negotiation.Agreed.{Agreed}
-use Rattle.lsp_session.proofs.Bools.{or_false}
 use Rattle.lsp_session.proofs.Steps.{option_or-none, state_of-push}
 use Rattle.lsp_docs.specs.Calls.{Call}
 use Rattle.lsp_verdict.specs.Calls.{call_of}
@@ -89,9 +89,9 @@ keeps_none (Some offer) agreed = option_or-none agreed
 
 quiet_next : (s : State) (side : Side) (act : Act) (method : List ℕ) (params : Option Data) → IsQuiet act → next s (sent_by side act (notification method params)) ≡ s
 quiet_next s Editor act method params q =
-    rw (q.no_cancel, q.no_initialized, q.no_shutdown, q.no_exit, or_false s.initialized, or_false s.shutdown, or_false s.exit, keeps_none _ s.agreed) refl
+    rw (q.no_cancel, q.no_initialized, q.no_shutdown, q.no_exit, or-false s.initialized, or-false s.shutdown, or-false s.exit, keeps_none _ s.agreed) refl
 quiet_next s Server act method params q =
-    rw (q.no_cancel, or_false s.initialized, or_false s.shutdown, or_false s.exit, keeps_none _ s.agreed) refl
+    rw (q.no_cancel, or-false s.initialized, or-false s.shutdown, or-false s.exit, keeps_none _ s.agreed) refl
 
 quiet_act : (act : Act) (enc : Encoding) (kind : SyncKind) (call : Call) → call_of enc kind act ≡ Some call → IsQuiet act
 quiet_act (did_open uri number text) enc kind call says = record { no_cancel = refl; no_initialized = refl; no_shutdown = refl; no_exit = refl }

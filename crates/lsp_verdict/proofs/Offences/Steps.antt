@@ -23,7 +23,7 @@ kept-push terms events e is = kept_more terms [] events e ∙ ap (λ (o : Option
 pub offences-push : (terms : Terms) (notes : List Noted) (n : Noted) → offences terms (notes ++ n ∷ []) ≡ offences terms notes ++ cons_option (offence_at terms notes n) []
 offences-push terms notes n = each_of-snoc (offence_at terms) notes n
 
-last_behind : {A : Type 0} (none : A) (xs : List A) (o : Option A) → last_or none (xs ++ cons_option o []) ≡ unwrap_or o (last_or none xs)
+pub last_behind : {A : Type 0} (none : A) (xs : List A) (o : Option A) → last_or none (xs ++ cons_option o []) ≡ unwrap_or o (last_or none xs)
 last_behind none [] None = refl
 last_behind none [] (Some x) = refl
 last_behind none (y ∷ xs) o = last_behind y xs o

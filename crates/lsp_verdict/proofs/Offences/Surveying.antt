@@ -3,6 +3,7 @@ use Rattle.std.specs.Prelude.{map, ◌&&◌, not, option_map, option_to_list, un
 use Rattle.std.specs.List.{AllZip, list_any}
 use Rattle.std.specs.Option.{option_or}
 use Rattle.std.proofs.Common.{◌≡◌, ◌⊎◌, ℕ, Bool, true, false, List, [], ◌∷◌, ◌++◌, Option, Some, None, inl, inr, refl, sym, ap, subst, ◌∙◌}
+use Rattle.std.proofs.Math.Bool.{and-true}
 use Rattle.lsp_frame.specs.Bounds.{Bounds, IsInRange}
 use Rattle.lsp_rpc.specs.Message.{Message}
 use Rattle.lsp_rpc.specs.Reading as reading
@@ -55,13 +56,9 @@ no_frame_fault terms side before (message m ∷ events) none = no_frame_fault te
 no_frame_fault terms side before (snapshot uri n t ∷ events) none = no_frame_fault terms side (before ++ snapshot uri n t ∷ []) events (or_none_parts (no_at terms before (snapshot uri n t)) _ none).1
 no_frame_fault terms side before (fault by rule ∷ events) none = absurd (cc (or_none_parts (no_at terms before (fault by rule)) (first_from (no_at terms) (before ++ fault by rule ∷ []) events) none).0)
 
-and_true : (b : Bool) → (b && true) ≡ b
-and_true true = refl
-and_true false = refl
-
 -- so a side's rest stands as it is
 rest_stands : (terms : Terms) (side : Side) (events : List Event) (rest : Bool) → first_no terms events ≡ None → ends_inside side events rest ≡ rest
-rest_stands terms side events rest none = ap (λ (b : Bool). rest && not b) (no_frame_fault terms side [] events none) ∙ and_true rest
+rest_stands terms side events rest none = ap (λ (b : Bool). rest && not b) (no_frame_fault terms side [] events none) ∙ and-true rest
 
 lack_first : (o : Option Verdict) (s : Summary) → first_verdict (map by_itself (option_to_list o)) None s ≡ unwrap_or o (yes s)
 lack_first None s = refl
@@ -187,7 +184,7 @@ one_asks (content Server bytes) a b p q = p ∙ sym q
 one_asks (broken side rule) a b p q = p ∙ sym q
 one_asks (show n uri t) a b p q = p ∙ sym q
 
-some_notes : (raws : List Raw) → (notes : List Noted) × AllZip IsNoted raws notes
+pub some_notes : (raws : List Raw) → (notes : List Noted) × AllZip IsNoted raws notes
 some_notes [] = ([], tt)
 some_notes (raw ∷ raws) =
     let read = some_read raw in

@@ -15,6 +15,7 @@ use Rattle.lsp_docs.specs.Terms.{Terms, terms_of}
 use Rattle.lsp_log.specs.Log.{Record, Fits, spelling, first_line, IsLog}
 use Rattle.lsp_log.specs.declared.fault.LogCode.{LogCode}
 use Rattle.lsp_log.proofs.OneLog.{written_is_read}
+use Rattle.lsp_log.proofs.LogLemmas.{first_len}
 use Rattle.lsp_verdict.specs.Calls.{call_at, calls}
 use Rattle.lsp_verdict.specs.Event.{Event, message, fault, snapshot}
 use Rattle.lsp_verdict.specs.LookBack.{first_from, each_from}
@@ -23,7 +24,6 @@ use Rattle.lsp_verdict.specs.Upgraded.{upgraded, AreAccepted, IsUpgraded, Upgrad
 use Rattle.lsp_verdict.specs.Verdict.{Summary, Ending, yes, offence, document_rule, document_of, no_by, no_at, first_no, summary, verdict}
 use Rattle.lsp_verdict.proofs.CallsMade.{calls_accepted}
 use Rattle.lsp_verdict.proofs.Finding.{map_none}
-use Rattle.lsp_verdict.proofs.Logs.Ends.{head_long}
 use Rattle.lsp_verdict.proofs.Logs.{some_final}
 use Rattle.lsp_verdict.proofs.LookBackLemmas.{each_of-snoc, or_none_parts}
 use Rattle.lsp_verdict.proofs.Meanings.{are_kept}
@@ -101,8 +101,8 @@ log_short limits sizes log (Some format) accepted later flaw (code, has, is) = r
   fits = fits_front limits accepted later has.begins.fits;
   within = omega (
     arith,
-    head_long Two,
-    head_long format,
+    first_len Two,
+    first_len format,
     ap length has.begins.whole,
     length-take limits.log log,
     length-append (first_line Two) (flat_map spelling accepted),
@@ -115,7 +115,7 @@ log_short limits sizes log (Some format) accepted later flaw (code, has, is) = r
 log_short limits sizes log None accepted later flaw (none, flawed, missing) = by_none accepted none
   where
     by_none : (rs : List Record) → rs ++ later ≡ [] → IsShort limits rs
-    by_none [] e = record { fits = tt; within = omega (arith, head_long Two, sizes.log_low, length-append (first_line Two) []) }
+    by_none [] e = record { fits = tt; within = omega (arith, first_len Two, sizes.log_low, length-append (first_line Two) []) }
     by_none (r ∷ rs) e = absurd cc
 
 upgraded_log : (limits : Bounds) (records : List Record) → IsShort limits records → IsLog limits (upgraded records) (Some Two) records None

@@ -1,11 +1,13 @@
 -- Calls that are accepted with no versions kept are accepted where some are, and come to the same.
-use Rattle.std.proofs.Common.{◌≡◌, ◌+◌, Bool, true, false, not, List, [], ◌∷◌, ◌++◌, Option, Some, None, refl, sym, ap, subst, ◌∙◌, append_assoc, append-nil, arith}
+use Rattle.std.proofs.Common.{◌≡◌, ◌+◌, Bool, true, false, not, List, [], ◌∷◌, ◌++◌, Option, Some, None, refl, sym, ap, ◌∙◌, arith}
 use Rattle.std.specs.Prelude.{ℤ, int_lt, nat_lt, is_some, ◌&&◌, ◌||◌, if◌then◌else◌, option_to_list}
 use Rattle.std.specs.List.{list_any, list_all}
 use Rattle.std.specs.Option.{option_or}
 use Rattle.std.specs.Ordering.{int_eq}
 use Rattle.std.specs.Str.{bytes_eq}
 use Rattle.std.proofs.lemmas.Int.{ints}
+use Rattle.std.proofs.lemmas.Bool.{and_parts, or_parts}
+use Rattle.std.proofs.Math.Bool.{and-false}
 use Rattle.lsp_types.specs.declared.position.Encoding.{Encoding}
 use Rattle.lsp_types.specs.declared.change.SyncKind.{SyncKind}
 use Rattle.lsp_text.specs.Edits.{Edit, applied}
@@ -19,7 +21,7 @@ use Rattle.lsp_docs.specs.Terms.{Terms}
 use Rattle.lsp_docs.specs.Texts.{Text, byte_len}
 use Rattle.lsp_docs.proofs.Past.{nothing-past, kept-rises, rule-none_kept, compared-none_kept}
 use Rattle.lsp_docs.proofs.Rising.{last-empty}
-use Rattle.lsp_docs.proofs.Words.{both_parts}
+use Rattle.lsp_docs.proofs.Standing.{accepted_from-push}
 
 module _ (t u : Terms) (same : t.limit ≡ u.limit) where
   -- ---- what is held doesn't depend on how many are kept
@@ -77,24 +79,20 @@ behind : (w v n : ℤ) → int_lt w v ≡ true → int_lt n v ≡ false → int_
 behind w v n less late = grind (arith, ints)
 
 last_after : (m : ℤ) (xs : List Version) (x : Version) → list_all (is_after m) (xs ++ x ∷ []) ≡ true → int_lt m x.number ≡ true
-last_after m [] x e = (both_parts (int_lt m x.number) true e).0
-last_after m (y ∷ xs) x e = last_after m xs x (both_parts (int_lt m y.number) (list_all (is_after m) (xs ++ x ∷ [])) e).1
+last_after m [] x e = (and_parts (int_lt m x.number) true e).0
+last_after m (y ∷ xs) x e = last_after m xs x (and_parts (int_lt m y.number) (list_all (is_after m) (xs ++ x ∷ [])) e).1
 
 none_at : (ks : List Version) (v : Version) (n : ℤ) → rises (ks ++ v ∷ []) ≡ true → int_lt n v.number ≡ false → list_any (is_at n) ks ≡ false
 none_at [] v n up late = refl
 none_at (k ∷ ks) v n up late =
-    let parts = both_parts (list_all (is_after k.number) (ks ++ v ∷ [])) (rises (ks ++ v ∷ [])) up in
+    let parts = and_parts (list_all (is_after k.number) (ks ++ v ∷ [])) (rises (ks ++ v ∷ [])) up in
     let first = behind k.number v.number n (last_after k.number ks v parts.0) late in
     ap (λ b. b || list_any (is_at n) ks) first ∙ none_at ks v n parts.1 late
-
-neither : (a b : Bool) → (a || b) ≡ false → (a ≡ false) × (b ≡ false)
-neither true b e = absurd cc
-neither false b e = (refl, e)
 
 none_differs : (ks : List Version) (n : ℤ) (text : Text) → list_any (is_at n) ks ≡ false → list_any (λ w. differs w (versioned n text)) ks ≡ false
 none_differs [] n text none = refl
 none_differs (k ∷ ks) n text none =
-    let parts = neither (int_eq k.number n) (list_any (is_at n) ks) none in
+    let parts = or_parts (int_eq k.number n) (list_any (is_at n) ks) none in
     ap (λ b. (b && not (bytes_eq k.text text)) || list_any (λ w. differs w (versioned n text)) ks) parts.0 ∙ none_differs ks n text parts.1
 
 rows_pass : (a b : Bool) → first_row ((a, Some 701) ∷ (b, Some 702) ∷ []) ≡ None → (a ≡ false) × (b ≡ false)
@@ -102,16 +100,12 @@ rows_pass true b e = absurd cc
 rows_pass false true e = absurd cc
 rows_pass false false e = (refl, refl)
 
-and_false : (a : Bool) → (a && false) ≡ false
-and_false true = refl
-and_false false = refl
-
 -- a snapshot that the held version alone lets pass
 shown_passes : (n : ℤ) (text : Text) (ks : List Version) (h : Option Version) → rises (ks ++ option_to_list h) ≡ true → held_rule n text h ≡ None → show_rule n text ks h ≡ None
 shown_passes n text ks None up none = refl
 shown_passes n text ks (Some v) up none =
     let rows = rows_pass (int_lt n v.number) (differs v (versioned n text)) none in
-    let late : (list_all (is_after n) ks && int_lt n v.number) ≡ false = ap (λ b. list_all (is_after n) ks && b) rows.0 ∙ and_false (list_all (is_after n) ks) in
+    let late : (list_all (is_after n) ks && int_lt n v.number) ≡ false = ap (λ b. list_all (is_after n) ks && b) rows.0 ∙ and-false (list_all (is_after n) ks) in
     let other : (list_any (λ w. differs w (versioned n text)) ks || differs v (versioned n text)) ≡ false =
     ap (λ b. b || differs v (versioned n text)) (none_differs ks n text (none_at ks v n up rows.0)) ∙ rows.1 in
     ap (λ b. first_row ((b, Some 701) ∷ (list_any (λ w. differs w (versioned n text)) ks || differs v (versioned n text), Some 702) ∷ [])) late
@@ -123,11 +117,6 @@ shown_at n text ks None up empty none = ap (λ vs. list_any (is_at n) vs || fals
 shown_at n text ks (Some v) up empty none =
     let rows = rows_pass (int_lt n v.number) (differs v (versioned n text)) none in
     ap (λ b. b || int_eq v.number n) (none_at ks v n up rows.0)
-
-accepted_more : (u : Terms) (done before : List Call) (c : Call) → AreAcceptedFrom u done before → call_rule u (done ++ before) c ≡ None → AreAcceptedFrom u done (before ++ c ∷ [])
-accepted_more u done [] c accepted one = (subst (λ w. call_rule u w c ≡ None) (append-nil done) one, tt)
-accepted_more u done (x ∷ before) c accepted one =
-    (accepted.0, accepted_more u (done ++ x ∷ []) before c accepted.1 (subst (λ w. call_rule u w c ≡ None) (sym (append_assoc done (x ∷ []) before)) one))
 
 -- ---- with nothing kept, and with more
 
@@ -165,7 +154,7 @@ module _ (t u : Terms) (same : t.limit ≡ u.limit) (none_kept : t.kept ≡ 0) w
   calls_pass before [] accepted from = tt
   calls_pass before (c ∷ after) accepted from =
       let one = call_passes before c accepted from.0 in
-      (one, calls_pass (before ++ c ∷ []) after (accepted_more u [] before c accepted one) from.1)
+      (one, calls_pass (before ++ c ∷ []) after (accepted_from-push u [] before c accepted one) from.1)
 
   none_past : (uri : Bytes) (before : List Call) → held u uri before ≡ None → kept u uri before ≡ []
   none_past uri before none = ap (last_of u.kept) (nothing-past u uri before none) ∙ last-empty u.kept
@@ -189,7 +178,7 @@ module _ (t u : Terms) (same : t.limit ≡ u.limit) (none_kept : t.kept ≡ 0) w
   unmatched_from before (c ∷ after) accepted from =
       let one = call_passes before c accepted from.0 in
       ap (λ n. n + unmatched_in t (before ++ c ∷ []) after) (entry_same before c after accepted from.0)
-      ∙ ap (λ n. unmatched_entry u before c after + n) (unmatched_from (before ++ c ∷ []) after (accepted_more u [] before c accepted one) from.1)
+      ∙ ap (λ n. unmatched_entry u before c after + n) (unmatched_from (before ++ c ∷ []) after (accepted_from-push u [] before c accepted one) from.1)
 
   pub unmatched_same : (calls : List Call) → AreAccepted t calls → unmatched t calls ≡ unmatched u calls
   unmatched_same calls accepted = unmatched_from [] calls tt accepted

@@ -11,7 +11,8 @@ use Rattle.serde_json.specs.Read.{number_of}
 use Rattle.lsp_verdict.specs.Event.{Event}
 use Rattle.lsp_verdict.specs.Verdict.{verdict, no}
 use Rattle.lsp_verdict.specs.declared.verdict.Who.TheVariants as who
-use Rattle.lsp_verdict.proofs.Worked.Templates.{clean, limited, judged, Kept, kept_of, kept, I1, IE, A, N1, START, OPEN, CHG, REP, FULL, CLOSE, SAVE, T}
+use Rattle.lsp_verdict.proofs.Worked.Templates.{limited, judged, Kept, kept_of, kept, I1, IE, A, N1, START, OPEN, CHG, REP, FULL, CLOSE, SAVE, T}
+use Rattle.lsp_verdict.specs.Interleaving.{complete}
 use Rattle.lsp_types.specs.declared.position.Encoding.{Encoding}
 use Rattle.lsp_types.specs.declared.position.Encoding.TheVariants.{Utf8, Utf32}
 use Rattle.lsp_types.specs.declared.change.SyncKind.TheVariants.{Incremental}
@@ -147,12 +148,12 @@ closed_unopened : judged (START ++ CLOSE ∷ [])
 unfolding value punctuate lex content word after_number number_of scan_numeral chars
 closed_unopened = refl
 
-opened_over_the_limit : verdict (limited 4) (START ++ OPEN (codes "1") (codes "abcde") ∷ []) clean
+opened_over_the_limit : verdict (limited 4) (START ++ OPEN (codes "1") (codes "abcde") ∷ []) complete
     ≡ no 607 who.Editor 3 4
 unfolding value punctuate lex content word after_number number_of scan_numeral chars
 opened_over_the_limit = refl
 
-changed_over_the_limit : verdict (limited 4) (START ++ OPEN (codes "1") (codes "abcd") ∷ CHG (codes "2") (REP (codes "0") (codes "0") (codes "0") (codes "0") (codes "x")) ∷ []) clean
+changed_over_the_limit : verdict (limited 4) (START ++ OPEN (codes "1") (codes "abcd") ∷ CHG (codes "2") (REP (codes "0") (codes "0") (codes "0") (codes "0") (codes "x")) ∷ []) complete
     ≡ no 607 who.Editor 4 5
 unfolding value punctuate lex content word after_number number_of scan_numeral chars
 changed_over_the_limit = refl

@@ -16,8 +16,9 @@ use Rattle.lsp_verdict.specs.Verdict.{no, bad_log}
 use Rattle.lsp_verdict.specs.declared.verdict.Who.TheVariants as who
 use Rattle.lsp_verdict.specs.Report.{report}
 use Rattle.lsp_verdict.specs.Shown.{show_of, text_is, no_document, too_few, refused}
-use Rattle.lsp_verdict.proofs.Worked.Templates.{terms, clean, judged, START, REQ, CANCEL, text_after}
+use Rattle.lsp_verdict.proofs.Worked.Templates.{terms, judged, START, REQ, CANCEL, text_after}
 use Rattle.lsp_verdict.proofs.Worked.Sessions.{whole}
+use Rattle.lsp_verdict.specs.Interleaving.{complete}
 
 whole_report : report (judged whole)
     ≡ codes "yes\nmessages 5 2\nsnapshots 1 unmatched 0\nencoding utf-16 sync incremental\ndocument 1 2 \"file:///a\"\n"
@@ -46,18 +47,18 @@ whole_shown : show_of Short (judged whole) whole
 unfolding value punctuate lex content word after_number number_of scan_numeral chars digits escape_byte
 whole_shown = refl
 
-text_after_opening : text_after terms 3 (codes "file:///a") whole clean ≡ text_is (codes "ab")
+text_after_opening : text_after terms 3 (codes "file:///a") whole complete ≡ text_is (codes "ab")
 unfolding value punctuate lex content word after_number number_of scan_numeral chars digits escape_byte
 text_after_opening = refl
 
-text_before_opening : text_after terms 2 (codes "file:///a") whole clean ≡ no_document
+text_before_opening : text_after terms 2 (codes "file:///a") whole complete ≡ no_document
 unfolding value punctuate lex content word after_number number_of scan_numeral chars digits escape_byte
 text_before_opening = refl
 
-text_past_the_end : text_after terms 6 (codes "file:///a") whole clean ≡ too_few
+text_past_the_end : text_after terms 6 (codes "file:///a") whole complete ≡ too_few
 unfolding value punctuate lex content word after_number number_of scan_numeral chars digits escape_byte
 text_past_the_end = refl
 
-text_after_an_offence : text_after terms 1 (codes "file:///a") (REQ ∷ []) clean ≡ refused (no 401 who.Editor 1 1)
+text_after_an_offence : text_after terms 1 (codes "file:///a") (REQ ∷ []) complete ≡ refused (no 401 who.Editor 1 1)
 unfolding value punctuate lex content word after_number number_of scan_numeral chars digits escape_byte
 text_after_an_offence = refl

@@ -1,6 +1,6 @@
 -- The contents of the worked sessions, as JSON text, and the events that they are read as.
 use Rattle.std.proofs.Common.{ℕ, ◌∷◌, [], List, ◌++◌}
-use Rattle.std.specs.Prelude.{ℤ, pos, codes, Option, Some, None, Bool, false, map}
+use Rattle.std.specs.Prelude.{ℤ, pos, codes, Option, Some, None, Bool, map}
 use Rattle.serde_json.specs.Data.{Data}
 use Rattle.serde_json.specs.Read.{read}
 use Rattle.lsp_rpc.specs.Ident.{Ident}
@@ -18,6 +18,7 @@ use Rattle.lsp_types.specs.declared.change.SyncKind.TheVariants.{Incremental}
 use Rattle.lsp_docs.specs.Terms.{Terms}
 use Rattle.lsp_verdict.specs.Shown.{TextAnswer, text_answer, up_to_editor}
 use Rattle.lsp_verdict.specs.Verdict.{Ending, Verdict, verdict, yes}
+use Rattle.lsp_verdict.specs.Interleaving.{complete}
 
 abbrev with_act : Side → Message → Option Act → Event
 with_act side m None = fault side 209
@@ -137,11 +138,8 @@ limited limit = record { limit = limit; kept = 0 }
 abbrev pub terms : Terms
 terms = limited 16777216
 
-abbrev pub clean : Ending
-clean = record { log_fault = None; editor_rest = false; server_rest = false }
-
 abbrev pub judged : List Event → Verdict
-judged events = verdict terms events clean
+judged events = verdict terms events complete
 
 -- what is said of a session that keeps the rules: counts, what was agreed, documents by version and bytes, and open requests with whether they are cancelled
 pub record Kept : Type 0 where

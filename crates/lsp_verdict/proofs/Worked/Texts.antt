@@ -13,21 +13,22 @@ use Rattle.lsp_verdict.specs.Event.{Event}
 use Rattle.lsp_verdict.specs.Shown.{text_is, too_few, refused}
 use Rattle.lsp_verdict.specs.Verdict.{Ending, no, bad_log}
 use Rattle.lsp_verdict.specs.declared.verdict.Who.TheVariants as who
-use Rattle.lsp_verdict.proofs.Worked.Templates.{terms, clean, text_after, START, OPEN}
+use Rattle.lsp_verdict.proofs.Worked.Templates.{terms, text_after, START, OPEN}
+use Rattle.lsp_verdict.specs.Interleaving.{complete}
 
 -- a document is opened twice, by the editor's messages 3 and 4
 abbrev twice : List Event
 twice = START ++ OPEN (codes "1") (codes "ab") ∷ OPEN (codes "2") (codes "c") ∷ []
 
-before_an_offence : text_after terms 3 (codes "file:///a") twice clean ≡ text_is (codes "ab")
+before_an_offence : text_after terms 3 (codes "file:///a") twice complete ≡ text_is (codes "ab")
 unfolding value punctuate lex content word after_number number_of scan_numeral chars
 before_an_offence = refl
 
-at_an_offence : text_after terms 4 (codes "file:///a") twice clean ≡ refused (no 601 who.Editor 4 5)
+at_an_offence : text_after terms 4 (codes "file:///a") twice complete ≡ refused (no 601 who.Editor 4 5)
 unfolding value punctuate lex content word after_number number_of scan_numeral chars
 at_an_offence = refl
 
-behind_an_offence : text_after terms 5 (codes "file:///a") twice clean ≡ refused (no 601 who.Editor 4 5)
+behind_an_offence : text_after terms 5 (codes "file:///a") twice complete ≡ refused (no 601 who.Editor 4 5)
 unfolding value punctuate lex content word after_number number_of scan_numeral chars
 behind_an_offence = refl
 

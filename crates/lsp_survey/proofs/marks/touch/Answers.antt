@@ -2,8 +2,8 @@ use Rattle.std.proofs.Common.{Some, refl, sym, ap, subst, w32, option_map}
 use Rattle.std.specs.Prelude.{IsSome}
 use Rattle.std.proofs.lemmas.Int.{to_z-of_z}
 use mir.Val.{SFits}
+use Rattle.std.proofs.lemmas.Result.{on_ok_weaker}
 use Rattle.lsp_docs.proofs.Entries.{puts}
-use Rattle.lsp_docs.proofs.Faults.{on_ok}
 use Rattle.lsp_survey.specs.Marking.{touches}
 use Rattle.lsp_survey.specs.Marks.{mark_view}
 use Rattle.lsp_survey.proofs.MarkSteps.{step_there}
@@ -20,4 +20,4 @@ returns c =
     let updates = (c.get_mut.follows.holds now).3 (subst (λ o. IsSome o) c.in-Some.ensures.value refl) in
     let put = puts mark_view uri (Some now) old _ updates.1 updates.3 in
     let made = simp to_z-of_z at c.touch.ensures in
-    on_ok c.touch.result (λ is. step_there uri step was now old _ (ap (option_map mark_view) (sym c.in-Some.ensures.value)) is put) made
+    on_ok_weaker c.touch.result (λ is. step_there uri step was now old _ (ap (option_map mark_view) (sym c.in-Some.ensures.value)) is put) made

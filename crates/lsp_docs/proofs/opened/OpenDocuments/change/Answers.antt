@@ -2,6 +2,7 @@ use Rattle.std.proofs.Common.{◌≡◌, ◌∷◌, [], Some, is_some, map, opti
 use Rattle.std.specs.Prelude.{IsSome}
 use Rattle.std.proofs.lemmas.Int.{to_z-of_z}
 use mir.Val.{SFits}
+use Rattle.std.proofs.lemmas.Result.{on_err_weaker, IfErr-weaker}
 use Rattle.lsp_text.specs.Changes.{edit_of}
 use Rattle.lsp_text.specs.Edits.{applied}
 use Rattle.lsp_docs.specs.Opened.{held_by, kept_of, listed}
@@ -9,7 +10,7 @@ use Rattle.lsp_docs.specs.Documents.{versioned}
 use Rattle.lsp_docs.specs.Fault.{Breaks}
 use Rattle.lsp_docs.specs.State.{held_in, set_in, text_in}
 use Rattle.lsp_docs.proofs.Entries.{AreHeld-set, held_in-kept, listed-set, puts, puts-same}
-use Rattle.lsp_docs.proofs.Faults.{if_err, on_err, on_ok_two}
+use Rattle.lsp_docs.proofs.Faults.{on_ok_two}
 use Rattle.lsp_docs.proofs.opened.OpenDocuments.change.Goals as goal
 
 pub returns-in_default-clause-ok : goal.returns-in_default-clause-ok
@@ -60,7 +61,7 @@ returns-clause-fault g c =
     let cs = edit_of c.args.change.now ∷ [] in
     let text = ap (λ s. text_in (held_in uri s.held)) (sym c.self.view_is)
     ∙ (ap text_in (held_in-kept uri uris held c.self.invariant) ∙ ap (λ o. text_in (option_map (λ d. versioned d.held.version (g.S.TextStore.content d.held.store)) o)) (sym c.in-Some.ensures.value)) in
-    if_err c.change.result (λ e h. subst (λ t. Breaks (applied c.args.limit c.args.encoding t cs) e) (sym text) h) c.change.ensures.fault
+    IfErr-weaker c.change.result _ _ (λ e h. subst (λ t. Breaks (applied c.args.limit c.args.encoding t cs) e) (sym text) h) c.change.ensures.fault
 
 pub returns-clause-kept : goal.returns-clause-kept
 returns-clause-kept g c =
@@ -82,7 +83,7 @@ returns-clause-err g c =
     let put = puts (λ d. versioned d.held.version (g.S.TextStore.content d.held.store)) uri _ es _ updates.1 updates.3 in
     let d = c.in-Some.document.now.held in
     let there = ap (option_map (λ d. versioned d.held.version (g.S.TextStore.content d.held.store))) (sym c.in-Some.ensures.value) in
-    on_err c.change.result (λ p.
+    on_err_weaker c.change.result (λ p.
     let same : versioned x.version (g.S.TextStore.content x.store) ≡ versioned d.version (g.S.TextStore.content d.store) = λ i. versioned (p.0 i) (p.1 i) in
     let same_held = ap (listed uris) (puts-same uri _ held _ (there ∙ ap (λ v. Some v) (sym same)) put) ∙ ap (λ s. s.held) c.self.view_is in
     λ i. record { held = same_held i; kept = returns-clause-kept g c i })

@@ -3,11 +3,12 @@ use Rattle.std.proofs.lemmas.Int.{to_z-of_z}
 use Rattle.std.specs.List.{list_any}
 use Rattle.std.specs.Str.{bytes_eq}
 use mir.Val.{SFits}
+use Rattle.std.proofs.lemmas.List.{map-append}
 use Rattle.lsp_docs.specs.Opened.{AreHeld, held_by, kept_of, or_nothing, listed}
 use Rattle.lsp_docs.specs.Documents.{versioned}
 use Rattle.lsp_docs.specs.State.{held_in, kept_in}
 use Rattle.lsp_docs.proofs.Entries.{AreHeld-push, held_in-kept, kept-absent, keeps-same, listed-push, not_among, puts, puts-key, puts-undone}
-use Rattle.lsp_docs.proofs.Words.{any-map, map-append}
+use Rattle.lsp_docs.proofs.Words.{any-map}
 use Rattle.lsp_docs.proofs.opened.OpenDocuments.insert.Goals as goal
 
 pub push-requires-clause-new : goal.push-requires-clause-new

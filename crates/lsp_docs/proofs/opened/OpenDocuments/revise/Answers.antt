@@ -3,12 +3,13 @@ use Rattle.std.specs.Prelude.{IsSome, if◌then◌else◌, option_to_list}
 use Rattle.std.specs.Str.{bytes_eq}
 use Rattle.std.proofs.lemmas.Int.{to_z-of_z}
 use mir.Val.{SFits}
+use Rattle.std.proofs.lemmas.Result.{on_ok_weaker, on_err_weaker}
 use Rattle.lsp_docs.specs.Opened.{held_by, kept_of, or_nothing, listed}
 use Rattle.lsp_docs.specs.Documents.{versioned}
 use Rattle.lsp_docs.specs.Kept.{last_of}
 use Rattle.lsp_docs.specs.State.{held_in, kept_in, set_in}
 use Rattle.lsp_docs.proofs.Entries.{AreHeld-set, held_in-kept, keeps-on, listed-set, puts, puts-same}
-use Rattle.lsp_docs.proofs.Faults.{on_ok, on_ok_two, on_err}
+use Rattle.lsp_docs.proofs.Faults.{on_ok_two}
 use Rattle.lsp_docs.proofs.opened.OpenDocuments.revise.Goals as goal
 
 pub returns-in_default-clause-held : goal.returns-in_default-clause-held
@@ -65,7 +66,7 @@ returns-clause-kept g c =
     let put = puts (λ d. d.kept) uri _ es _ updates.1 updates.3 in
     let is = ap (λ s. held_in uri s.held) (sym c.self.view_is) ∙ (held_in-kept uri uris held c.self.invariant ∙ ap (option_map (λ d. versioned d.held.version (g.S.TextStore.content d.held.store))) (sym c.in-Some.ensures.value)) in
     let old = ap (λ o. or_nothing (option_map (λ d. d.kept) o)) (sym c.in-Some.ensures.value) in
-    on_ok c.revise.result (λ k.
+    on_ok_weaker c.revise.result (λ k.
     let on = keeps-on (λ d. versioned d.held.version (g.S.TextStore.content d.held.store)) (λ d. d.kept) uri es _ uris uris c.self.invariant (invariant_of-self-2 g c) most h v c.revise.new.self.kept put is
     (λ few. k (subst (λ l. length l ≤ most) old few) ∙ ap (λ l. last_of most (l ++ v ∷ [])) (sym old)) in
     λ few u. on (subst (λ s. length (kept_in uri s.kept) ≤ most) (sym c.self.view_is) few) u
@@ -83,7 +84,7 @@ returns-clause-err g c =
     let put_kept = puts (λ d. d.kept) uri _ es _ updates.1 updates.3 in
     let there = ap (option_map (λ d. versioned d.held.version (g.S.TextStore.content d.held.store))) (sym c.in-Some.ensures.value) in
     let there_kept = ap (option_map (λ d. d.kept)) (sym c.in-Some.ensures.value) in
-    on_err c.revise.result (λ e.
+    on_err_weaker c.revise.result (λ e.
     let same_held = ap (listed uris) (puts-same uri _ held _ (there ∙ ap (λ d. Some (versioned d.held.version (g.S.TextStore.content d.held.store))) (sym e)) put) in
     let same_kept = ap (kept_of uris) (puts-same uri _ (held_by (λ d. d.kept) es) _ (there_kept ∙ ap (λ d. Some d.kept) (sym e)) put_kept) in
     (λ i. record { held = same_held i; kept = same_kept i }) ∙ c.self.view_is)

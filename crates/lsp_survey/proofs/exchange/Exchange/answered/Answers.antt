@@ -1,7 +1,7 @@
 use Rattle.std.proofs.Common.{sym, ap, ◌∙◌, map}
 use Rattle.std.specs.Option.{option_or}
+use Rattle.std.proofs.lemmas.List.{map-append}
 use Rattle.lsp_rpc.specs.Ident.{id_view}
-use Rattle.lsp_docs.proofs.Words.{map-append}
 use Rattle.lsp_survey.specs.Asking.{last_reply}
 use Rattle.lsp_survey.specs.SessionNoting.{given_view}
 use Rattle.lsp_survey.proofs.Exchanging.{last_reply-append}

@@ -1,9 +1,9 @@
 use Rattle.std.proofs.Common.{Some, sym, ap, ◌∙◌}
 use Rattle.lsp_types.specs.declared.side.Side.{Side}
-use Rattle.lsp_survey.proofs.Tails.{if_ok_both}
 use Rattle.lsp_types.specs.declared.side.Side.TheVariants.{Editor, Server}
 use Rattle.lsp_survey.proofs.Taking.{editor_heard, server_heard, idle_after}
 use Rattle.lsp_survey.proofs.survey.Survey.hear.Goals as goal
+use Rattle.lsp_docs.proofs.Faults.{if_ok_both}
 
 pub returns-in-Editor-clause-answer : goal.returns-in-Editor-clause-answer
 returns-in-Editor-clause-answer c =

@@ -4,15 +4,15 @@ use Rattle.lsp_rpc.specs.View.{message_view}
 use Rattle.lsp_types.specs.declared.side.Side.TheVariants.{Editor, Server}
 use Rattle.lsp_survey.specs.Asking.{leads}
 use Rattle.lsp_survey.specs.SessionNoting.{Exchanges}
-use Rattle.lsp_survey.proofs.OkParts.{on_ok_both}
 use Rattle.lsp_survey.proofs.walk.Walk.note.Goals as goal
+use Rattle.lsp_docs.proofs.Faults.{on_ok_two}
 
 pub returns-clause-said : goal.returns-clause-said
 returns-clause-said c =
     let old = c.args.self.now.said in
     let new = c.keep.new.self in
     let said = message_view c.args.spoken.now.message in
-    on_ok_both c.keep.result _ _ _
+    on_ok_two c.keep.result
     (λ editor server events sents counts stands.
     let number = c.number_next-number.ensures events counts in
     let behind = c.phase-phase.ensures sents stands in
