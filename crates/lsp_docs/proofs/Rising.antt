@@ -89,6 +89,7 @@ pub among-any : (p : Version → Bool) (v : Version) (xs : List Version) → Amo
 among-any p v [] m h = absurd m
 among-any p v (x ∷ xs) (inl e) h = rw (ap p (sym e) ∙ h) refl
 among-any p v (x ∷ xs) (inr m) h = rw (among-any p v xs m h) (or-true (p x))
+
 pub among-none : (p : Version → Bool) (v : Version) (xs : List Version) → list_any p xs ≡ false → Among v xs → p v ≡ false
 among-none p v [] h m = absurd m
 among-none p v (x ∷ xs) h (inl e) = ap p e ∙ (or_parts (p x) (list_any p xs) h).0

@@ -31,7 +31,6 @@ same_limits old new content next =
 -- ---- the next content
 
 module _ (side : Side) (bytes : List ℕ) (contents : List (List ℕ)) (events : List Event) where
-
   -- it is heard
   pub one_next : (old new : decoder.State) (m : session.State) (documents : docs.State) (c : Counts) (content : List ℕ) (said : Message) (act : Act) → decoder.StandsFor old bytes contents → decoder.Next old new (Ok (Some content))
       → HeardAs side content said act m documents c events → HeardOne side new m documents c bytes contents events said act

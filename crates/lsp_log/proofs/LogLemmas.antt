@@ -207,10 +207,12 @@ spelling_one r u xs ys p q e =
 pub holds_cut : (line after : List ℕ) → holds 10 (with_feed line ++ after) ≡ true
 holds_cut [] after = refl
 holds_cut (b ∷ line) after = or_right (b == 10) (holds 10 (with_feed line ++ after)) (holds_cut line after)
+
 pub holds_near : (n : ℕ) (line after : List ℕ) → length line < n → holds 10 (take n (with_feed line ++ after)) ≡ true
 holds_near zero line after short = absurd (omega arith)
 holds_near (suc n) [] after short = refl
 holds_near (suc n) (b ∷ line) after short = or_right (b == 10) (holds 10 (take n (with_feed line ++ after))) (holds_near n line after (omega arith))
+
 decimal_short : (n : ℕ) → n < 10 ^ 10 → length (decimal n) ≤ 10
 decimal_short n small = length-decimal-le_wide 10 n (lit≤ tt) small (omega (arith, lit≤ {m = 10 ^ 10} {n = 10 ^ 64} tt))
 

@@ -1,10 +1,9 @@
+use Rattle.std.proofs.lemmas.Result.{IfOk-weaker}
 use Rattle.lsp_judge.proofs.Answering.{ok_at, no_yes, records_complete, records_short, records_ended}
 use Rattle.lsp_judge.proofs.Finals.{lack_final, plain_final, ungiven_by}
 use Rattle.lsp_judge.proofs.judge.Judge.finish_complete.Goals as goal
 
 -- something lacks
-use Rattle.std.proofs.lemmas.Result.{IfOk-weaker}
-
 pub returns-in-Some-clause-verdict : goal.returns-in-Some-clause-verdict
 returns-in-Some-clause-verdict g c =
     let given = ungiven_by _ c.in-Some.ruling c.in-Some.ensures.given in
