@@ -7,6 +7,8 @@ use Rattle.std.specs.Ordering.{int_eq}
 use Rattle.std.specs.Str.{bytes_eq}
 use Rattle.std.proofs.lemmas.Slice.Eq.{bytes_eq-Decides}
 use Rattle.std.proofs.lemmas.List.Folds.{list_any-append}
+use Rattle.std.proofs.lemmas.Bool.{cases_Bool, and_parts}
+use Rattle.std.proofs.Math.Bool.{or-false}
 use Rattle.lsp_types.specs.declared.position.Encoding.{Encoding}
 use Rattle.lsp_types.specs.declared.change.SyncKind.{SyncKind}
 use Rattle.lsp_text.specs.Edits.{Edit, changed, applied}
@@ -20,7 +22,6 @@ use Rattle.lsp_verdict.specs.Calls.{edit_of}
 use Rattle.lsp_docs.specs.Documents.{Version, versioned, is_after}
 use Rattle.lsp_docs.specs.Rules.{differs, text_rule, fits_kind, change_rule, show_rule, call_rule}
 use Rattle.lsp_docs.specs.Others.{is_other, differs_from, other_than}
-use Rattle.lsp_docs.proofs.Words.{true_or_false, both_parts}
 use Rattle.lsp_facts.specs.Fact.{Fact}
 use Rattle.lsp_facts.specs.DocumentFacts.{IsRefused, IsRefuted, AreApart, AreOfChange, AreOfSnapshot, AreDocumentFacts}
 use Rattle.lsp_facts.specs.Fact.{recorded_line}
@@ -35,7 +36,7 @@ same_number a b h = cc
 find_passes : {X : Type 0} (p : X → Bool) (xs : List X) (x : X) → find p xs ≡ Some x → p x ≡ true
 find_passes p [] x h = absurd (cc)
 find_passes p (y ∷ ys) x h =
-    elim (true_or_false (p y)) [
+    elim (cases_Bool (p y)) [
       | inl e ↦ (let at : cond (p y) (Some y) (find p ys) ≡ Some y = rw e refl in let same : y ≡ x = (let k : Some y ≡ Some x = sym at ∙ h in cc) in ap p (sym same) ∙ e)
       | inr e ↦ (let at : cond (p y) (Some y) (find p ys) ≡ find p ys = rw e refl in find_passes p ys x (sym at ∙ h))
     ]
@@ -43,14 +44,14 @@ find_passes p (y ∷ ys) x h =
 find_some : {X : Type 0} (p : X → Bool) (xs : List X) → list_any p xs ≡ true → (x : X) × (find p xs ≡ Some x)
 find_some p [] h = absurd (true≢false (sym h))
 find_some p (y ∷ ys) h =
-    elim (true_or_false (p y)) [
+    elim (cases_Bool (p y)) [
       | inl e ↦ (y, rw e refl)
       | inr e ↦ (let more : list_any p ys ≡ true = rw e at h in let r = find_some p ys more in (r.0, rw e r.1))
     ]
 
 differ_apart : (v s : Version) → differs v s ≡ true → v.text ≢ s.text
 differ_apart v s h = λ e.
-    let no_same : not (bytes_eq v.text s.text) ≡ true = (both_parts (int_eq v.number s.number) (not (bytes_eq v.text s.text)) h).1 in
+    let no_same : not (bytes_eq v.text s.text) ≡ true = (and_parts (int_eq v.number s.number) (not (bytes_eq v.text s.text)) h).1 in
     let same : bytes_eq v.text s.text ≡ true = (bytes_eq-Decides v.text s.text).1 e in
     true≢false (sym no_same ∙ ap not same)
 
@@ -69,7 +70,7 @@ pub waiting_apart : (v : Version) (t : Text) (ws : List Version) → list_any (i
 waiting_apart v t ws h = λ e.
     let found = find_some (is_other v t) ws h in
     let s = found.0 in
-    let is = both_parts (differs v s) (bytes_eq s.text t) (find_passes (is_other v t) ws s found.1) in
+    let is = and_parts (differs v s) (bytes_eq s.text t) (find_passes (is_other v t) ws s found.1) in
     differ_apart v s is.0 (e ∙ sym ((bytes_eq-Decides s.text t).0 is.1))
 
 -- ---- snapshots
@@ -78,10 +79,6 @@ row_breaks : (b c : Bool) (rule : ℕ) → (if b then Some 701 else (if c then S
 row_breaks true c rule h = inl (sym (same_number 701 rule h))
 row_breaks false true rule h = inr (sym (same_number 702 rule h), refl)
 row_breaks false false rule h = absurd (cc)
-
-or_false : (b : Bool) → (b || false) ≡ b
-or_false true = refl
-or_false false = refl
 
 some_text : (o : Option Version) (v : Version) → o ≡ Some v → option_map (λ (w : Version). w.text) o ≡ Some v.text
 some_text o v h = ap (option_map (λ (w : Version). w.text)) h
@@ -96,7 +93,7 @@ show_breaks number t ks (Some v) rule e =
       | inl is ↦ inl is
       | inr is ↦ (
           let some : list_any (differs_from s) (ks ++ v ∷ []) ≡ true =
-          list_any-append (differs_from s) ks (v ∷ []) ∙ (ap (λ b. list_any (differs_from s) ks || b) (or_false (differs v s)) ∙ is.1) in
+          list_any-append (differs_from s) ks (v ∷ []) ∙ (ap (λ b. list_any (differs_from s) ks || b) (or-false (differs v s)) ∙ is.1) in
           let found = find_some (differs_from s) (ks ++ v ∷ []) some in
           inr (is.0, found.0.text, some_text (find (differs_from s) (ks ++ v ∷ [])) found.0 found.1)
           )

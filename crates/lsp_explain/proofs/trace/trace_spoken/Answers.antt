@@ -1,7 +1,7 @@
 use Rattle.std.specs.Prelude.{if◌then◌else◌}
 use Rattle.std.proofs.Common.{◌≡◌, ◌<◌, ◌++◌, ℕ, Bool, true, nat_lt, sym, ap, ◌∙◌, arith}
 use Rattle.std.proofs.lemmas.Bool.Decides.{nat_tests}
-use Rattle.lsp_docs.proofs.Faults.{on_ok}
+use Rattle.std.proofs.lemmas.Result.{on_ok_weaker}
 use Rattle.lsp_rpc.specs.View.{act_view, message_view}
 use Rattle.lsp_verdict.specs.Calls.{call_of}
 use Rattle.lsp_survey.specs.Asking.{numbered}
@@ -17,7 +17,7 @@ pub returns-then-rule-lt-FIRST_ON_DOCUMENTS : goal.returns-then-rule-lt-FIRST_ON
 returns-then-rule-lt-FIRST_ON_DOCUMENTS c =
     let plain = facts_view c.args.facts.now.items in
     let rule = c.args.rule in
-    on_ok c.trace_message.result
+    on_ok_weaker c.trace_message.result
     (λ says enc kind terms before marks notes.
     says terms before notes
     ∙ sym (ap (λ (b : Bool). if b then plain ++ session_trace rule (numbered terms before) c.args.side (id_in (message_view c.args.spoken.now.message)) else call_traced terms before rule (call_of enc kind (act_view c.args.spoken.now.act)) plain) (below rule 601 c.if-rule-lt-FIRST_ON_DOCUMENTS.true)))
