@@ -18,7 +18,7 @@ use Rattle.lsp_streams.specs.StreamRun.{IsRun, BeginsRun}
 use Rattle.lsp_explain.specs.AllExplained.{IsAllExplained, BeginsAllExplained}
 use Rattle.lsp_explain.specs.Explained.{IsExplanation, BeginsExplanation}
 use Rattle.lsp_survey.specs.Reported.{IsReported, BeginsReported}
-use Rattle.lsp_survey.specs.declared.listing.Listing.{Listing}
+use Rattle.lsp_verdict.specs.declared.listing.Listing.{Listing}
 use Rattle.lsp_verdict.specs.TextAfter.{AnswersText}
 use Rattle.lsp_verdict.specs.Upgraded.{IsUpgraded, BeginsUpgraded}
 use Rattle.lsp_verdict.specs.declared.completeness.Completeness.{Completeness}

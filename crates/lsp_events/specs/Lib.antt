@@ -1,3 +1,4 @@
 pub mod Apart
 pub mod Faults
 pub mod Standing
+pub mod Lines

@@ -8,8 +8,12 @@
 
 mod events;
 mod fault;
+mod heard;
+mod lines;
 mod summary;
 
 pub use events::Events;
 pub use fault::Refused;
+pub use heard::{Heard, Place};
+pub use lines::write_event_line;
 pub use summary::summary_of;

@@ -14,23 +14,24 @@ use Rattle.lsp_session.specs.State as session
 use Rattle.lsp_docs.specs.State as docs
 use Rattle.lsp_docs.specs.Terms.{Terms, terms_of}
 use Rattle.lsp_log.specs.Log.{Record, chunk, shown}
-use Rattle.lsp_verdict.specs.Drained.{IsDrained}
+use Rattle.lsp_verdict.specs.Drained.{HasDue, IsDrained}
 use Rattle.lsp_verdict.specs.Event.{Event, message, snapshot}
 use Rattle.lsp_verdict.specs.Placed.{Raw, content, broken, show, new_fault, Brings, Placed, Reads, IsSession, joined}
 use Rattle.lsp_verdict.specs.Verdict.{first_no, no_at}
 use Rattle.lsp_verdict.specs.declared.counts.Counts.{Counts}
-use Rattle.lsp_judge.specs.Hearing.{HasDue, Awaits, IsHearing, HearsNext, Stops}
+use Rattle.lsp_judge.specs.Hearing.{Awaits, IsHearing, HearsNext, Stops}
 use Rattle.lsp_judge.specs.Next.{HeardNone, HeardNext, IsNext, StoppedNext, HeardSnapshot, turn_after}
 use Rattle.lsp_judge.specs.Rulings.{IsNoAt}
 use Rattle.lsp_events.specs.Standing.{Follows}
 use Rattle.lsp_judge.specs.Standing.{State, IsOpen, AreLimits, Rules}
-use Rattle.lsp_judge.specs.declared.heard.Heard.{Heard}
-use Rattle.lsp_judge.specs.declared.heard.Heard.TheVariants.{Message, Snapshot}
+use Rattle.lsp_events.specs.declared.heard.Heard.{Heard}
+use Rattle.lsp_events.specs.declared.heard.Heard.TheVariants.{Message, Snapshot}
 use Rattle.lsp_judge.specs.declared.heard.Turn.{Turn}
 use Rattle.lsp_judge.specs.declared.heard.Turn.TheVariants as turn
 use Rattle.lsp_judge.specs.declared.ruling.Ruling.{Ruling}
 use Rattle.lsp_judge.specs.declared.ruling.Ruling.TheVariants.{No, BadLog, Memory}
 use Rattle.lsp_verdict.proofs.Below.{one_stream, frames_first, some_stream}
+use Rattle.lsp_verdict.proofs.Streams.Due.{due_end, due_next, due_given}
 use Rattle.lsp_verdict.proofs.OneEvent.{some_list, lists_join}
 use Rattle.lsp_verdict.proofs.OneRecord.{joined_own, joined_server, joined_editor, joined_shown, placed_one}
 use Rattle.lsp_verdict.proofs.PlacedLemmas.{placed-snoc, placed_whole, placed_next}
@@ -38,41 +39,6 @@ use Rattle.lsp_verdict.proofs.Verdicts.{no_found}
 use Rattle.lsp_verdict.proofs.Lists.{cancel_all}
 
 -- ---- what a side's decoder has still to give
-
-module _ (side : Side) (d : decoder.State) (bytes : List ℕ) (due : List Raw) (h : HasDue side d bytes due) where
-  due_with : (left : List (List ℕ)) (breaks : Option ℕ) → h.left ≡ left → h.breaks ≡ breaks → due ≡ map (content side) left ++ new_fault side None breaks
-  due_with left breaks e f = h.are ∙ ap (λ w. map (content side) w ++ new_fault side None h.breaks) e ∙ ap (λ o. map (content side) left ++ new_fault side None o) f
-
-  -- the stream has no more
-  pub due_end : (rest : List ℕ) (breaks : Option ℕ) → IsStream d.limits bytes h.given rest breaks → due ≡ new_fault side None breaks
-  due_end rest breaks stream =
-      let one = one_stream d.limits bytes h.given (h.given ++ h.left) rest h.rest breaks h.breaks stream h.stream in
-      due_with [] breaks (cancel_all h.given h.left (sym one.contents)) (sym one.fault)
-
-  -- the stream has this content next
-  pub due_next : (c : List ℕ) (rest : List ℕ) → Frames d.limits bytes (h.given ++ c ∷ []) rest → (left : List (List ℕ)) × (h.given ++ h.left ≡ (h.given ++ c ∷ []) ++ left) × (due ≡ content side c ∷ (map (content side) left ++ new_fault side None h.breaks))
-  due_next c rest frames =
-      let cut = frames_first d.limits bytes (h.given ++ c ∷ []) rest (h.given ++ h.left) h.rest h.breaks frames h.stream in
-      let left = append_cancel_left h.given h.left (c ∷ cut.0) (cut.1 ∙ append_assoc h.given (c ∷ []) cut.0) in
-      (cut.0, cut.1, due_with (c ∷ cut.0) h.breaks left refl)
-
-  -- and it was given
-  pub due_given : (new : decoder.State) (c : List ℕ) → new.limits ≡ d.limits → decoder.StandsFor new bytes (h.given ++ c ∷ []) → (later : List Raw) × (due ≡ content side c ∷ later) × HasDue side new bytes later
-  due_given new c same stands =
-      let next = due_next c stands.rest (subst (λ (w : Bounds). Frames w bytes (h.given ++ c ∷ []) stands.rest) same stands.frames) in (
-        map (content side) next.0 ++ new_fault side None h.breaks,
-        next.2,
-        record {
-          given = h.given ++ c ∷ [];
-          left = next.0;
-          rest = h.rest;
-          breaks = h.breaks;
-          stands = stands;
-          stream = subst (λ (w : Bounds). IsStream w bytes ((h.given ++ c ∷ []) ++ next.0) h.rest h.breaks) (sym same)
-              (subst (λ (w : List (List ℕ)). IsStream d.limits bytes w h.rest h.breaks) next.1 h.stream);
-          are = refl;
-        },
-      )
 
 -- what more bytes bring is due
 pub pushed_due : (side : Side) (d new : decoder.State) (before bytes : List ℕ) → (drained : IsDrained d before) → new.limits ≡ d.limits → decoder.StandsFor new (before ++ bytes) drained.contents

@@ -30,10 +30,11 @@ use Rattle.lsp_verdict.proofs.EventCounts.{count_few}
 use Rattle.lsp_verdict.proofs.Logs.{same_events, one_verdict}
 use Rattle.lsp_verdict.proofs.LookBackLemmas.{each_from-append, each_of-snoc}
 use Rattle.lsp_verdict.proofs.RunReading.{read_map}
-use Rattle.lsp_verdict.proofs.UpTo.{count-append}
+use Rattle.lsp_verdict.proofs.Logs.UpTo.{count-append}
 use Rattle.lsp_judge.specs.LogEvents.{EndsAt, EndsBy, BeginsWith, SoFar, Found, BrokeOff}
-use Rattle.lsp_judge.specs.ShownLog.{IsShown, BeginsShown, OneShown, ShowedAll, ShowedPart, IsPlace, line_of}
-use Rattle.lsp_judge.specs.declared.heard.Place.{Place}
+use Rattle.lsp_judge.specs.ShownLog.{IsShown, BeginsShown, OneShown, ShowedAll, ShowedPart, IsPlace}
+use Rattle.lsp_events.specs.Lines.{line_of}
+use Rattle.lsp_events.specs.declared.heard.Place.{Place}
 use Rattle.lsp_judge.specs.declared.event_reader.EventReader.{EventReader}
 use Rattle.lsp_judge.proofs.Answering.{judged_as}
 use Rattle.lsp_judge.proofs.LogEvents.{so_far_begins, so_far_few, so_far_range}

@@ -11,41 +11,21 @@ use Rattle.lsp_types.specs.declared.side.Side.{Side}
 use Rattle.lsp_types.specs.declared.side.Side.TheVariants.{Editor, Server}
 use Rattle.lsp_docs.specs.Terms.{terms_of}
 use Rattle.lsp_log.specs.Log.{Record}
-use Rattle.lsp_verdict.specs.Drained.{IsDrained}
+use Rattle.lsp_verdict.specs.Drained.{HasDue, IsDrained}
 use Rattle.lsp_verdict.specs.Event.{Event, message, fault, snapshot}
 use Rattle.lsp_verdict.specs.Given.{as_given}
 use Rattle.lsp_verdict.specs.Placed.{Raw, content, show, new_fault, Placed, Reads, IsSession, joined}
 use Rattle.lsp_verdict.specs.Verdict.{Verdict, no, first_no, no_at}
+use Rattle.lsp_events.specs.Lines.{IsHeard}
 use Rattle.lsp_events.specs.Standing.{Follows}
+use Rattle.lsp_events.specs.declared.heard.Heard.{Heard}
 use Rattle.lsp_judge.specs.Standing.{State, AreLimits}
-use Rattle.lsp_judge.specs.declared.heard.Heard.{Heard}
-use Rattle.lsp_judge.specs.declared.heard.Heard.TheVariants as heard
 use Rattle.lsp_judge.specs.declared.heard.Turn.{Turn}
 use Rattle.lsp_judge.specs.declared.heard.Turn.TheVariants as turn
 use Rattle.lsp_judge.specs.declared.ruling.Ruling.{Ruling}
 use Rattle.lsp_judge.specs.declared.ruling.Ruling.TheVariants.{No, BadLog, Memory}
 
--- ---- one event
-
--- the event was heard as this: a message but for its params and the value of a result, with what it means, or a snapshot
-abbrev pub IsHeard : Event → Heard → Type 0
-IsHeard (message sent) (heard.Message side spoken) = (sent.side ≡ side) × (outline sent.message ≡ outline (message_view spoken.message)) × (sent.act ≡ act_view spoken.act)
-IsHeard (message sent) (heard.Snapshot version uri text) = ⊥
-IsHeard (fault side rule) given = ⊥
-IsHeard (snapshot uri number text) (heard.Message side spoken) = ⊥
-IsHeard (snapshot uri number text) (heard.Snapshot version name shown) = (uri ≡ string_bytes name) × (number ≡ version) × (text ≡ chars (string_bytes shown))
-
 -- ---- what is still to be heard
-
--- the side's decoder has still to give, of its bytes, the contents that are due and a fault behind them
-pub record HasDue (side : Side) (d : decoder.State) (bytes : List ℕ) (due : List Raw) : Type 0 where
-  pub given : List (List ℕ)
-  pub left : List (List ℕ)
-  pub rest : List ℕ
-  pub breaks : Option ℕ
-  pub stands : decoder.StandsFor d bytes given
-  pub stream : IsStream d.limits bytes (given ++ left) rest breaks
-  pub are : due ≡ map (content side) left ++ new_fault side None breaks
 
 -- of the records these events are due: what the side whose turn it is brings, or a snapshot, or none
 abbrev pub Awaits : Option Turn → State → List Record → List Raw → Type 0

@@ -5,6 +5,5 @@ pub mod Next
 pub mod Hearing
 pub mod TextAnswers
 pub mod LogEvents
-pub mod LineWords
 pub mod ShownLog
 pub mod UpgradedLog

@@ -20,7 +20,8 @@ use Rattle.lsp_verdict.specs.declared.outcome.RunFault.TheVariants as faults
 use Rattle.lsp_verdict.specs.TextAfter.{AnswersText}
 use Rattle.lsp_judge.specs.TextAnswers.{answer_view}
 use Rattle.lsp_judge.specs.declared.text_answer.TextAnswer.{TextAnswer}
-use Rattle.lsp_judge.specs.Hearing.{IsHeard, IsHearing}
+use Rattle.lsp_events.specs.Lines.{IsHeard}
+use Rattle.lsp_judge.specs.Hearing.{IsHearing}
 use Rattle.lsp_judge.specs.Standing.{State}
 use Rattle.lsp_judge.specs.declared.event_reader.EventReader.{EventReader}
 use Rattle.lsp_judge.specs.declared.event_reader.Next.{Next}

@@ -14,8 +14,8 @@ use Rattle.lsp_session.specs.State as session
 use Rattle.lsp_docs.specs.State as docs
 use Rattle.lsp_docs.specs.Terms.{Terms}
 use Rattle.lsp_verdict.specs.declared.counts.Counts.{Counts}
-use Rattle.lsp_judge.specs.declared.heard.Heard.{Heard}
-use Rattle.lsp_judge.specs.declared.heard.Heard.TheVariants.{Message, Snapshot}
+use Rattle.lsp_events.specs.declared.heard.Heard.{Heard}
+use Rattle.lsp_events.specs.declared.heard.Heard.TheVariants.{Message, Snapshot}
 use Rattle.lsp_judge.specs.declared.heard.Turn.{Turn}
 use Rattle.lsp_judge.specs.declared.heard.Turn.TheVariants.{Bytes}
 use Rattle.lsp_judge.specs.declared.ruling.Ruling.{Ruling}

@@ -1,5 +1,5 @@
 -- What is written where a log is shown: a line for each event before the verdict's place, and the report.
-use Rattle.std.specs.Prelude.{◌≡◌, ℕ, List, [], ◌∷◌, ◌++◌, length, Result, Ok, Err, unwrap_or}
+use Rattle.std.specs.Prelude.{◌≡◌, ℕ, List, [], ◌∷◌, ◌++◌, length, Result, Ok, Err}
 use Rattle.lsp_frame.specs.Bounds.{Bounds, IsInRange}
 use Rattle.lsp_frame.specs.Sink.{Wrote}
 use Rattle.lsp_frame.specs.Told.{Told, Took}
@@ -12,9 +12,9 @@ use Rattle.lsp_verdict.specs.Given.{verdict_view}
 use Rattle.lsp_verdict.specs.Outcome.{IsVerdict}
 use Rattle.lsp_verdict.specs.Report.{report}
 use Rattle.lsp_verdict.specs.RunIo.{OfRead, source_failures, sink_failures}
-use Rattle.lsp_verdict.specs.Shown.{show_of, event_line}
+use Rattle.lsp_verdict.specs.Shown.{show_of}
 use Rattle.lsp_verdict.specs.Verdict.{Verdict, belongs_to, count_of, whose}
-use Rattle.lsp_judge.specs.declared.heard.Place.{Place}
+use Rattle.lsp_events.specs.declared.heard.Place.{Place}
 
 -- ---- a log
 
@@ -46,10 +46,6 @@ pub record ShowedPart (lines : Lines) (limits : Bounds) (start now old new : Tol
   pub due : OfRead limits start now (λ log. BeginsShown lines limits log out)
   pub source : now.failures ≡ source_failures (Err fault) start.failures
   pub sink : new.failures ≡ sink_failures (Err fault) old.failures
-
--- the line of the event at this place, empty for a fault
-abbrev pub line_of : Lines → Place → Event → List ℕ
-line_of lines place event = unwrap_or (event_line lines place.event place.number event) []
 
 -- the place of the event that comes behind these, as it is counted
 pub record IsPlace (before : List Event) (event : Event) (place : Place) : Type 0 where

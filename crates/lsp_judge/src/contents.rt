@@ -10,7 +10,7 @@ ghost use Rattle.lsp_events.specs.Standing.{Follows, Refuses};
 ghost use Rattle.lsp_judge.specs.Rulings.{IsNoAt, IsNoAtSome};
 ghost use Rattle.lsp_judge.specs.Next.{HeardAs, HeardNext, StoppedNext, HeardSnapshot, turn_after};
 
-use crate::heard::{Heard, Turn};
+use crate::heard::Turn;
 use crate::ruling::Ruling;
 use lsp_docs::DocFault;
 use lsp_events::{Events, Refused};

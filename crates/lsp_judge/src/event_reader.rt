@@ -10,14 +10,13 @@ ghost use Rattle.lsp_verdict.specs.Counting.{AreCounts};
 ghost use Rattle.lsp_verdict.specs.Event.{Event};
 ghost use Rattle.lsp_verdict.specs.Given.{verdict_view, as_given};
 ghost use Rattle.lsp_verdict.specs.Verdict as spec;
-ghost use Rattle.lsp_judge.specs.Hearing.{IsHeard};
+ghost use Rattle.lsp_events.specs.Lines.{IsHeard};
 ghost use Rattle.lsp_judge.specs.LogEvents.{SoFar, IsFresh, IsIdle, Pulls, PullsHere, TakesEntry, GivesVerdict};
 ghost use Rattle.lsp_judge.specs.ShownLog.{IsPlace};
 ghost use Rattle.lsp_judge.specs.Standing.{IsRefitted, Stands};
 ghost use Rattle.lsp_judge.specs.TextAnswers.{AnswersHeld};
 ghost use Rattle.lsp_judge.specs.UpgradedLog.{HasTaken, Accepts, IfAccepted};
 
-use crate::heard::{Heard, Place};
 use crate::judge::Judge;
 use crate::text_answer::TextAnswer;
 use lsp_frame::{Limits, Source};

@@ -1,30 +1,5 @@
-//! Events that were heard, and what is still to be heard of a record.
-use lsp_rpc::{Side, Spoken};
-
-/// An event that was heard and doesn't offend.
-#[derive(Drop)]
-pub(crate) enum Heard {
-    /// A message, without its params and the value of a result, with what it means.
-    Message {
-        side: Side,
-        spoken: Spoken,
-    },
-    /// A text that the editor showed.
-    Snapshot {
-        version: i32,
-        uri: String,
-        text: String,
-    },
-}
-
-/// Where an event stands.
-#[derive(Clone, Copy, Debug, PartialEq, Eq)]
-pub(crate) struct Place {
-    /// Its number among those of its side, or of a snapshot among the snapshots, from 1.
-    pub number: u64,
-    /// Its number among all events, from 1.
-    pub event: u64,
-}
+//! What is still to be heard of a record.
+use lsp_rpc::Side;
 
 /// What a record brings that was not heard yet.
 #[derive(Drop)]

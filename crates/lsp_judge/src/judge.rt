@@ -12,7 +12,8 @@ ghost use Rattle.lsp_verdict.specs.Given.{verdict_view, as_given};
 ghost use Rattle.lsp_verdict.specs.Kept.{AreKept};
 ghost use Rattle.lsp_verdict.specs.Outcome.{IsFinal, is_rest};
 ghost use Rattle.lsp_verdict.specs.Placed.{IsSession};
-ghost use Rattle.lsp_judge.specs.Hearing.{IsHeard, IsHearing, HearsNext, Stops, unheard};
+ghost use Rattle.lsp_events.specs.Lines.{IsHeard};
+ghost use Rattle.lsp_judge.specs.Hearing.{IsHearing, HearsNext, Stops, unheard};
 ghost use Rattle.lsp_judge.specs.Rulings.{RestIs, IfRefused, if_none};
 ghost use Rattle.lsp_events.specs.Standing.{Follows};
 ghost use Rattle.lsp_judge.specs.Standing.{IsFitted, IsOpen, AreLimits, Keeps, Rules, Stands, WasRefused, is_given};
@@ -22,7 +23,7 @@ ghost use Rattle.lsp_verdict.specs.Counting.{AreCounts};
 ghost use Rattle.lsp_verdict.specs.Verdict as spec;
 
 use crate::contents::{next_message, next_snapshot};
-use crate::heard::{Heard, Place, Turn};
+use crate::heard::Turn;
 use crate::ruling::Ruling;
 use crate::text_answer::TextAnswer;
 use lsp_events::{Events, summary_of};

@@ -14,7 +14,6 @@ mod contents;
 mod event_reader;
 mod heard;
 mod judge;
-mod lines;
 mod ruling;
 mod show;
 mod show_laws;

@@ -83,21 +83,6 @@ module _ (events : List Event) (small : length events + 1 < 2 ^ 64) where
   ends_exact completeness terms end =
       ends_by_fault end.log_fault (ends_inside Editor events end.editor_rest) (ends_inside Server events end.server_rest) (lacks_listed completeness events (kept_of terms events)) (lacks_exact completeness (kept_of terms events))
 
-sum_exact : (s : Summary) → capped s.editor ≡ s.editor → capped s.server ≡ s.server → capped s.snapshots ≡ s.snapshots → capped s.unmatched ≡ s.unmatched → as_given (yes s) ≡ yes s
-sum_exact s e f g h =
-    ap (λ n. yes (record s { editor = n; server = capped s.server; snapshots = capped s.snapshots; unmatched = capped s.unmatched })) e
-    ∙ ap (λ n. yes (record s { server = n; snapshots = capped s.snapshots; unmatched = capped s.unmatched })) f
-    ∙ ap (λ n. yes (record s { snapshots = n; unmatched = capped s.unmatched })) g
-    ∙ ap (λ n. yes (record s { unmatched = n })) h
-
-yes_exact : (terms : Terms) (events : List Event) → length events + 1 < 2 ^ 64 → as_given (yes (summary terms events)) ≡ yes (summary terms events)
-yes_exact terms events small =
-    sum_exact (summary terms events)
-    (capped_is (count_of (is_of Editor) events) (omega (arith, small, count_few (is_of Editor) events)))
-    (capped_is (count_of (is_of Server) events) (omega (arith, small, count_few (is_of Server) events)))
-    (capped_is (count_of is_snapshot events) (omega (arith, small, count_few is_snapshot events)))
-    (capped_is (unmatched terms (calls events)) (omega (arith, small, unmatched_events terms call_at events)))
-
 -- ---- few
 
 given_few : {A X : Type 0} (f : List A → A → Option X) (before xs : List A) → length (each_from f before xs) ≤ length xs
@@ -216,7 +201,7 @@ module _ (completeness : Completeness) (limits : Bounds) (e : SurveyReader) (sta
       ends_few flaw (events_of notes) (kept_of own (events_of notes)) (ends_inside Editor (events_of notes) (ending flaw editor server).editor_rest) (ends_inside Server (events_of notes) (ending flaw editor server).server_rest) completeness,
     );
     follows = at_end;
-    exact = yes_exact own (events_of notes) small;
+    exact = yes_exact own (events_of notes) (omega (arith, small));
   }
 
   -- these are all its records

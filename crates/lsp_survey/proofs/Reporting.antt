@@ -12,8 +12,8 @@ use Rattle.lsp_frame.proofs.Telling.{took_then}
 use Rattle.lsp_frame.proofs.Writing.{stopped_before, stopped_then, wrote_then}
 use Rattle.lsp_survey.specs.Reads.{BeginsSurvey, SoFar, BrokeOff}
 use Rattle.lsp_survey.specs.Reported.{is_every, IsReported, BeginsReported, lines_of, closing, IsYes, sink_after, IsTally, AllReported, PartReported, Listed}
-use Rattle.lsp_survey.specs.declared.listing.Listing.{Listing}
-use Rattle.lsp_survey.specs.declared.listing.Listing.TheVariants.{Causes, Every}
+use Rattle.lsp_verdict.specs.declared.listing.Listing.{Listing}
+use Rattle.lsp_verdict.specs.declared.listing.Listing.TheVariants.{Causes, Every}
 use Rattle.lsp_survey.specs.declared.survey_reader.End.{End}
 use Rattle.lsp_survey.specs.declared.survey_reader.SurveyReader.{SurveyReader}
 use Rattle.lsp_survey.specs.declared.tally.Tally.{Tally}

@@ -7,14 +7,14 @@ use Rattle.lsp_frame.specs.Bounds.{Bounds}
 use Rattle.lsp_frame.specs.Decoder as decoder
 use Rattle.lsp_frame.specs.Frame.{Frames, IsStream}
 use Rattle.lsp_types.specs.declared.side.Side.{Side}
-use Rattle.lsp_survey.specs.Surveys.{HasDue, AreBroken, IsSpent, IsDue, Pushes, HearsNext}
+use Rattle.lsp_survey.specs.Surveys.{AreBroken, IsSpent, IsDue, Pushes, HearsNext}
 use Rattle.lsp_survey.specs.Walking.{Walks, Hears}
 use Rattle.lsp_survey.specs.declared.offending.Heard.{Heard}
 use Rattle.lsp_survey.specs.declared.walk.Walk.{Walk}
 use Rattle.lsp_verdict.specs.Offences.{Noted}
 use Rattle.lsp_verdict.specs.Placed.{Raw, content, broken, new_fault}
 use Rattle.lsp_verdict.proofs.Below.{frames_first, one_stream, some_stream}
-use Rattle.lsp_verdict.proofs.Lists.{cancel_all}
+use Rattle.lsp_verdict.proofs.Streams.Due.{due_end, due_given}
 use Rattle.lsp_survey.proofs.FrameRules.{breaks_low}
 use Rattle.lsp_survey.proofs.Rests.{broken_more, held_broken}
 
@@ -77,36 +77,6 @@ pushed_due limits side d new sent more (own, drained) same_d stands_all =
     )
 
 -- ---- the next event
-
-module _ (side : Side) (d : decoder.State) (bytes : List ℕ) (due : List Raw) (h : HasDue side d bytes due) where
-  due_with : (left : List (List ℕ)) (breaks : Option ℕ) → h.left ≡ left → h.breaks ≡ breaks → due ≡ map (content side) left ++ new_fault side None breaks
-  due_with left breaks e f = h.are ∙ ap (λ w. map (content side) w ++ new_fault side None h.breaks) e ∙ ap (λ o. map (content side) left ++ new_fault side None o) f
-
-  -- the stream has no more
-  due_end : (rest : List ℕ) (breaks : Option ℕ) → IsStream d.limits bytes h.given rest breaks → due ≡ new_fault side None breaks
-  due_end rest breaks stream =
-      let one = one_stream d.limits bytes h.given (h.given ++ h.left) rest h.rest breaks h.breaks stream h.stream in
-      due_with [] breaks (cancel_all h.given h.left (sym one.contents)) (sym one.fault)
-
-  -- the stream has this content next, and it was given
-  due_given : (new : decoder.State) (c : List ℕ) → new.limits ≡ d.limits → decoder.StandsFor new bytes (h.given ++ c ∷ []) → (later : List Raw) × (due ≡ content side c ∷ later) × HasDue side new bytes later
-  due_given new c same stands =
-      let frames = subst (λ (w : Bounds). Frames w bytes (h.given ++ c ∷ []) stands.rest) same stands.frames in
-      let cut = frames_first d.limits bytes (h.given ++ c ∷ []) stands.rest (h.given ++ h.left) h.rest h.breaks frames h.stream in
-      let left = append_cancel_left h.given h.left (c ∷ cut.0) (cut.1 ∙ append_assoc h.given (c ∷ []) cut.0) in (
-        map (content side) cut.0 ++ new_fault side None h.breaks,
-        due_with (c ∷ cut.0) h.breaks left refl,
-        record {
-          given = h.given ++ c ∷ [];
-          left = cut.0;
-          rest = h.rest;
-          breaks = h.breaks;
-          stands = stands;
-          stream = subst (λ (w : Bounds). IsStream w bytes ((h.given ++ c ∷ []) ++ cut.0) h.rest h.breaks) (sym same)
-              (subst (λ (w : List (List ℕ)). IsStream d.limits bytes w h.rest h.breaks) cut.1 h.stream);
-          are = refl;
-        },
-      )
 
 same_by_frame : (old new : decoder.State) (c : List ℕ) → decoder.GivesFrame old new c → new.limits ≡ old.limits
 same_by_frame old new c gives = ap (λ (s : decoder.State). s.limits) gives.same

@@ -16,7 +16,7 @@ use Rattle.lsp_survey.specs.declared.survey.Survey.{Survey}
 use Rattle.lsp_survey.specs.declared.walk.Walk.{Walk}
 use Rattle.lsp_types.specs.declared.side.Side.{Side}
 use Rattle.lsp_types.specs.declared.side.Side.TheVariants.{Editor, Server}
-use Rattle.lsp_verdict.specs.Drained.{IsDrained}
+use Rattle.lsp_verdict.specs.Drained.{HasDue, IsDrained}
 use Rattle.lsp_verdict.specs.Event.{Event, sent_in}
 use Rattle.lsp_verdict.specs.Offences.{Noted, IsNoted, events_of}
 use Rattle.lsp_verdict.specs.Outcome.{HasRest}
@@ -26,16 +26,6 @@ use Rattle.lsp_verdict.specs.declared.completeness.Completeness.{Completeness}
 use Rattle.lsp_verdict.specs.declared.completeness.Completeness.TheVariants.{Ignored, Required}
 
 -- ---- the stream of one side
-
--- the decoder has still to give, of the side's bytes, the contents that are due and a fault behind them
-pub record HasDue (side : Side) (d : decoder.State) (bytes : List ℕ) (due : List Raw) : Type 0 where
-  pub given : List (List ℕ)
-  pub left : List (List ℕ)
-  pub rest : List ℕ
-  pub breaks : Option ℕ
-  pub stands : decoder.StandsFor d bytes given
-  pub stream : IsStream d.limits bytes (given ++ left) rest breaks
-  pub are : due ≡ map (content side) left ++ new_fault side None breaks
 
 -- the frames of these bytes have a fault, and what the decoder holds behind the last whole one goes at least as far as that is seen
 pub record AreBroken (limits : Bounds) (d : decoder.State) (bytes : List ℕ) : Type 0 where

@@ -8,7 +8,6 @@
 
 mod asks;
 mod exchange;
-mod listing;
 mod mark;
 mod marks;
 mod note;
@@ -22,7 +21,7 @@ mod survey_reader;
 mod tally;
 mod walk;
 
-pub use listing::Listing;
+pub use lsp_verdict::Listing;
 pub use mark::Shown;
 pub use marks::Marks;
 pub use offending::{Found, Heard, Offending};

@@ -14,7 +14,6 @@ ghost use Rattle.lsp_verdict.specs.RunIo.{OfRead, GaveAtMost, Tells, TellsSome, 
 ghost use Rattle.lsp_verdict.specs.Survey.{bad_lines, first_verdict};
 ghost use Rattle.lsp_verdict.specs.Verdict.{summary, yes};
 
-use crate::listing::Listing;
 use crate::offending::Heard;
 use crate::survey_reader::{End, Next, SurveyReader};
 use crate::tally::Tally;

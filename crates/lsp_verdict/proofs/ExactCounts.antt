@@ -77,7 +77,8 @@ sum_exact s e f g h =
     ∙ ap (λ n. yes (record s { snapshots = n; unmatched = capped s.unmatched })) g
     ∙ ap (λ n. yes (record s { unmatched = n })) h
 
-yes_exact : (terms : Terms) (events : List Event) → length events < 2 ^ 64 → as_given (yes (summary terms events)) ≡ yes (summary terms events)
+-- a yes on few events is given as it is
+pub yes_exact : (terms : Terms) (events : List Event) → length events < 2 ^ 64 → as_given (yes (summary terms events)) ≡ yes (summary terms events)
 yes_exact terms events small =
     sum_exact (summary terms events)
     (capped_is (count_of (is_of Editor) events) (omega (arith, small, count_few (is_of Editor) events)))

@@ -15,7 +15,6 @@ pub mod Logs
 pub mod Listing
 pub mod EventCounts
 pub mod ExactCounts
-pub mod UpTo
 pub mod Interleaving
 pub mod Worked
 pub mod OneRecord

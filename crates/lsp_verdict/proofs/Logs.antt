@@ -1,6 +1,7 @@
 -- A log has a verdict, and one only.
 pub mod Text
 pub mod Ends
+pub mod UpTo
 use Rattle.std.proofs.Common.{◌≡◌, ℕ, List, ◌++◌, Option, refl, sym, ap, subst, Some, None, ◌⊎◌, inl, inr, ◌∙◌}
 use Rattle.lsp_frame.specs.Bounds.{Bounds, IsInRange}
 use Rattle.lsp_frame.specs.declared.format.Format.{Format}

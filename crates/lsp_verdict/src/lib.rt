@@ -13,6 +13,7 @@ mod entry;
 mod interleaving_laws;
 mod laws;
 mod lines;
+mod listing;
 mod names;
 mod offence;
 mod offence_laws;
@@ -38,6 +39,7 @@ pub use laws::{
     upgrade_stays, yes_means_kept,
 };
 pub use lines::Lines;
+pub use listing::Listing;
 pub use names::{kind_name, side_name};
 pub use offence::{Offence, found_report, offence_report};
 pub use offence_laws::{

@@ -11,8 +11,8 @@ use Rattle.lsp_verdict.specs.declared.lines.Lines.{Lines}
 use Rattle.lsp_verdict.specs.declared.lines.Lines.TheVariants.{Short, Long}
 use Rattle.lsp_verdict.specs.declared.outcome.Mode.{Mode}
 use Rattle.lsp_verdict.specs.declared.outcome.Mode.TheVariants.{Lengths, Canonical, Kinds}
-use Rattle.lsp_survey.specs.declared.listing.Listing.{Listing}
-use Rattle.lsp_survey.specs.declared.listing.Listing.TheVariants.{Causes, Every}
+use Rattle.lsp_verdict.specs.declared.listing.Listing.{Listing}
+use Rattle.lsp_verdict.specs.declared.listing.Listing.TheVariants.{Causes, Every}
 use Rattle.lsp_words.specs.declared.task.Request.{Request}
 use Rattle.lsp_words.specs.declared.task.Task.{Task}
 use Rattle.lsp_words.specs.declared.task.Task.TheVariants as tasks

@@ -1,6 +1,5 @@
 //! What a command line can ask for.
-use lsp_survey::Listing;
-use lsp_verdict::{Completeness, Lines, Mode};
+use lsp_verdict::{Completeness, Lines, Listing, Mode};
 use std::num::NonZeroU64;
 
 /// What to do with what is read.

@@ -8,8 +8,7 @@ use crate::commands::command_line;
 use crate::task::{Request, Task};
 use clap::error::ErrorKind;
 use clap::{ArgMatches, Error};
-use lsp_survey::Listing;
-use lsp_verdict::{Completeness, Lines, Mode};
+use lsp_verdict::{Completeness, Lines, Listing, Mode};
 use std::alloc::Global;
 use std::num::NonZeroU64;
 

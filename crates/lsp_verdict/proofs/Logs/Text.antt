@@ -7,7 +7,7 @@ use Rattle.lsp_verdict.specs.Shown.{up_to_editor, missing_answer, text_answer}
 use Rattle.lsp_verdict.specs.TextAfter.{AnswersText, OneText}
 use Rattle.lsp_verdict.specs.Verdict.{Verdict, is_of, count_of}
 use Rattle.lsp_verdict.proofs.Logs.{same_events, same_terms, one_verdict}
-use Rattle.lsp_verdict.proofs.UpTo.{none_yet}
+use Rattle.lsp_verdict.proofs.Logs.UpTo.{none_yet}
 
 -- the log has fewer messages of the editor's
 pub text_missing : (limits : Bounds) (log : List ℕ) (n : ℕ) (uri : List ℕ) (v : Verdict) → (whole : IsVerdict limits log v) → count_of (is_of Editor) whole.final.events < n → AnswersText limits log n uri (missing_answer v)

@@ -9,9 +9,7 @@ ghost use Rattle.lsp_verdict.specs.Event.{Event};
 ghost use Rattle.lsp_verdict.specs.Report.{line};
 ghost use Rattle.lsp_verdict.specs.RunIo.{Tells};
 ghost use Rattle.lsp_verdict.specs.Shown.{document_words, message_words, snapshot_words, words_behind};
-ghost use Rattle.lsp_judge.specs.Hearing.{IsHeard};
-ghost use Rattle.lsp_judge.specs.LineWords.{row, spaced};
-ghost use Rattle.lsp_judge.specs.ShownLog.{line_of};
+ghost use Rattle.lsp_events.specs.Lines.{IsHeard, line_of, row, spaced};
 
 use crate::heard::{Heard, Place};
 use lsp_frame::{Sink, put_all};
@@ -224,8 +222,12 @@ fn write_line<W: Sink>(
     Ok(put_all(writer, text.as_bytes())?)
 }
 
-/// Writes the line of an event, and lets the event go. The text is used to make it.
-pub(crate) fn write_event_line<W: Sink>(
+/// Writes the line of an event, short or long, and lets the event go. The text is used to make it.
+///
+/// # Errors
+/// `Write` is answered where the sink failed, and `Memory` where memory was refused: what was written
+/// then begins the line.
+pub fn write_event_line<W: Sink>(
     alloc: Global,
     writer: &mut W,
     text: &mut String,
