@@ -35,6 +35,7 @@ use Rattle.lsp_facts.specs.FlawFacts.{Rests}
 use Rattle.lsp_explain.specs.RunSteps.{RestsBehind}
 use Rattle.lsp_explain.proofs.AllCauses.{causes-push, nothing_heard, said_behind, said_terms, said_under, zip_append}
 use Rattle.lsp_explain.proofs.Explaining.{raws-append, notes-append, noted-append}
+use Rattle.lsp_survey.proofs.Reporting.{by_sink}
 
 abbrev pub lines : List Explained → List ℕ
 lines said = flat_map cause_lines said
@@ -111,11 +112,6 @@ module _ (limits : Bounds) (hs : List Heard) (noted : AllZip IsNoted (raws_of hs
       read_map limits start now (HasHeard limits known records (raws_of hs)) (λ log. BeginsAllExplained completeness limits log front) (λ log h. inl (said, first_said log h, left, whole)) has
 
 -- ---- faults
-
-by_sink : (old mid : Told) (f : RunFault) → mid.failures ≡ old.failures → (f ≡ faults.Write → ⊥) → mid.failures ≡ sink_after f old.failures
-by_sink old mid faults.Read e unwritten = e
-by_sink old mid faults.Write e unwritten = absurd (unwritten refl)
-by_sink old mid faults.Memory e unwritten = e
 
 -- the log was not read to its end
 pub broke_telling : (completeness : Completeness) (limits : Bounds) (e : SurveyReader) (t : Tally) (start mid now old new : Told) (fault : RunFault) → (inv : IsTelling completeness limits e t start mid old new) → (k : Completeness) → BrokeOff k limits start now inv.found fault

@@ -15,18 +15,13 @@ use Rattle.lsp_verdict.specs.Report.{line, side_name}
 use Rattle.lsp_facts.specs.Fact.{Fact, has_id, in_phase}
 use Rattle.lsp_facts.specs.Lines.{message_event}
 use Rattle.lsp_facts.specs.MessageFacts.{id_in, session_facts, settled_facts, register_facts}
+use Rattle.lsp_rpc.proofs.Outlining.{words_by_outline}
 
-id_in-outline : (m : Message) → id_in m ≡ id_in (outline m)
+pub id_in-outline : (m : Message) → id_in m ≡ id_in (outline m)
 id_in-outline (request id method params) = refl
 id_in-outline (notification method params) = refl
 id_in-outline (response id (result value)) = refl
 id_in-outline (response id (error code)) = refl
-
-words_of-outline : (m : Message) → words_of m ≡ words_of (outline m)
-words_of-outline (request id method params) = refl
-words_of-outline (notification method params) = refl
-words_of-outline (response id (result value)) = refl
-words_of-outline (response id (error code)) = refl
 
 settled-without_params : (open_ones : List Initialize) (side : Side) (m : Message) → settled_among open_ones side m ≡ settled_among open_ones side (without_params m)
 settled-without_params open_ones side (request id method params) = refl
@@ -69,4 +64,4 @@ module _ (before : List Sent) (m : Sent) (side : Side) (said : Message) (act : A
   pub same_line : (number : ℕ) → message_event number m.side m.message ≡ message_event number side said
   same_line number =
       ap (λ s. message_event number s m.message) by
-      ∙ ap (λ words. message_event_of number side words) (words_of-outline m.message ∙ ap words_of same ∙ sym (words_of-outline said))
+      ∙ ap (λ words. message_event_of number side words) (words_by_outline m.message ∙ ap words_of same ∙ sym (words_by_outline said))

@@ -29,19 +29,17 @@ use Rattle.lsp_verdict.proofs.Offences.Surveying.{some_asks}
 use Rattle.lsp_verdict.proofs.OneEvent.{some_read}
 use Rattle.lsp_verdict.proofs.RunReading.{read_map}
 use Rattle.lsp_explain.specs.Explained.{Heard, Explains, raws_of, notes_of, breach, breaches, said_of, IsExplanation}
-use Rattle.lsp_explain.specs.RunSteps.{Tells, TellsEnd, EndsWhole, IsFollowing, IsExplainedBy, BreaksOff}
+use Rattle.lsp_explain.specs.RunSteps.{Tells, TellsEnd, EndsWhole, IsFollowing, IsExplainedBy}
 use Rattle.lsp_explain.specs.declared.run.Explanation.{Explanation}
 use Rattle.lsp_explain.proofs.EndOfLog.{no_breach}
 use Rattle.lsp_explain.proofs.Explaining.{offence_of, raws-append, notes-append, noted-append}
 use Rattle.lsp_explain.proofs.FirstOffence.{IsFirst, first_explained}
+use Rattle.lsp_verdict.proofs.Logs.{known_terms}
+use Rattle.lsp_verdict.specs.RunIo.{BreaksOff}
 
 -- each raw event is noted as one
 note : (raw : Raw) → (n : Noted) × IsNoted raw n
 note raw = let read = some_read raw in let asks = some_asks raw in (record { event = read.0; asks = asks.0 }, (read.1, asks.1))
-
-known_terms : (limits : Bounds) (own : Format) (known format : Option Format) → own ≡ format_or_one known → IsKnown known format → (known ≡ None) ⊎ (log_terms limits format ≡ terms_of limits own)
-known_terms limits own None format is known = inl refl
-known_terms limits own (Some f) format is known = inr (ap (log_terms limits) known ∙ ap (terms_of limits) (sym is))
 
 nothing_before : {A : Type 0} (xs : List A) (y z : A) (ys : List A) → ys ≡ y ∷ [] → xs ++ ys ≡ z ∷ [] → xs ≡ []
 nothing_before [] y z ys is e = refl

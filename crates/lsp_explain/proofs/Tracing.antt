@@ -17,12 +17,7 @@ use Rattle.lsp_survey.specs.Asking.{numbered}
 use Rattle.lsp_facts.specs.Fact.{Fact}
 use Rattle.lsp_facts.specs.MessageFacts.{id_in}
 use Rattle.lsp_explain.specs.Traced.{call_traced, session_trace, traced}
-
-outline_id : (m : Message) → id_in m ≡ id_in (outline m)
-outline_id (request id method params) = refl
-outline_id (notification method params) = refl
-outline_id (response id (result value)) = refl
-outline_id (response id (error code)) = refl
+use Rattle.lsp_explain.proofs.Spoken.{id_in-outline}
 
 pub same_traced : (terms : Terms) (before : List Event) (m : Sent) (side : Side) (said : Message) (act : Act) (rule : ℕ) (plain : List Fact) → m.side ≡ side → outline m.message ≡ outline said → m.act ≡ act
     → (if nat_lt rule 601 then plain ++ session_trace rule (numbered terms before) side (id_in said)
@@ -32,7 +27,7 @@ same_traced terms before m side said act rule plain by same means =
     by_test (nat_lt rule 601)
   where
     ids : id_in said ≡ id_in m.message
-    ids = outline_id said ∙ sym (ap id_in same) ∙ sym (outline_id m.message)
+    ids = id_in-outline said ∙ sym (ap id_in same) ∙ sym (id_in-outline m.message)
 
     by_test : (b : Bool)
         → (if b then plain ++ session_trace rule (numbered terms before) side (id_in said)

@@ -22,7 +22,7 @@ use Rattle.lsp_verdict.specs.Offences.{Noted, Offence, events_of, rule_at}
 use Rattle.lsp_verdict.specs.Outcome.{HasRest}
 use Rattle.lsp_verdict.specs.Placed.{joined}
 use Rattle.lsp_verdict.specs.Report.{report}
-use Rattle.lsp_verdict.specs.RunIo.{OfRead, failures_after}
+use Rattle.lsp_verdict.specs.RunIo.{OfRead, failures_after, BreaksOff}
 use Rattle.lsp_verdict.specs.Verdict.{Verdict, Summary, summary, yes, bad_log, no_by}
 use Rattle.lsp_verdict.specs.declared.completeness.Completeness.{Completeness}
 use Rattle.lsp_verdict.specs.declared.outcome.RunFault.{RunFault}
@@ -115,12 +115,6 @@ pub record IsExplainedBy (completeness : Completeness) (limits : Bounds) (start 
   pub of_read : OfRead limits start now (λ log. IsExplanation completeness limits log (verdict_view x.verdict) x.text.items)
   pub failures : now.failures ≡ start.failures
   pub ended : (s : code.Summary) → x.verdict ≡ verdicts.Yes s → IsAtEnd now.bytes
-
--- reading broke off
-pub record BreaksOff (limits : Bounds) (start now : Told) (fault : RunFault) : Type 0 where
-  pub of_read : OfRead limits start now (λ log. Unit {0})
-  pub failures : now.failures ≡ failures_after fault start.failures
-  pub unwritten : fault ≡ faults.Write → ⊥
 
 abbrev pub ExplainsLog : Completeness → Bounds → Told → Told → Result Explanation RunFault → Type 0
 ExplainsLog completeness limits start now (Ok x) = IsExplainedBy completeness limits start now x

@@ -3,21 +3,16 @@ use Rattle.std.proofs.Common.{◌≡◌, ℕ, List, [], ◌∷◌, ap, sym, ◌�
 use Rattle.lsp_types.specs.declared.position.Encoding.{Encoding}
 use Rattle.lsp_types.specs.declared.position.Position.{Position}
 use Rattle.lsp_text.specs.Difference.{IsFirstDifference, IsOnlyDifference, DifferFirst, position_at, line_around}
-use Rattle.lsp_text.proofs.Differing.Differences.{one_difference}
+use Rattle.lsp_text.proofs.Differing.Differences.{one_difference, one_place}
 use Rattle.lsp_docs.specs.Texts.{Text}
 use Rattle.lsp_facts.specs.Fact.{Fact, differs_at, held_line}
 use Rattle.lsp_facts.specs.DocumentFacts.{AreApart}
-
--- two texts first differ at one place
-same_place : (a b : List ℕ) (m n : ℕ) → IsFirstDifference a b m → IsFirstDifference a b n → m ≡ n
-same_place a b m n h k =
-    ⊎_elim (λ e. absurd (e.1 m h)) (λ d. let only : IsOnlyDifference a b d.0 = d.1 in only.only m h ∙ sym (only.only n k)) (one_difference a b)
 
 -- the facts on two texts that differ, each found by itself
 pub are_apart : (enc : Encoding) (a b : Text) (line : Text → Fact) (at : Position) (x y : Text) → DifferFirst a b (λ n. at ≡ position_at enc a n) → DifferFirst a b (λ n. x ≡ line_around a n)
     → DifferFirst a b (λ n. y ≡ line_around b n) → AreApart enc a b line (differs_at at ∷ held_line x ∷ line y ∷ [])
 are_apart enc a b line at x y h k l =
     let n = h.0 in
-    let held : x ≡ line_around a n = k.2 ∙ ap (line_around a) (same_place a b k.0 n k.1 h.1) in
-    let other : y ≡ line_around b n = l.2 ∙ ap (line_around b) (same_place a b l.0 n l.1 h.1) in
+    let held : x ≡ line_around a n = k.2 ∙ ap (line_around a) (one_place a b k.0 n k.1 h.1) in
+    let other : y ≡ line_around b n = l.2 ∙ ap (line_around b) (one_place a b l.0 n l.1 h.1) in
     (n, h.1, ap (λ p. differs_at p ∷ held_line x ∷ line y ∷ []) h.2 ∙ (ap (λ t. differs_at (position_at enc a n) ∷ held_line t ∷ line y ∷ []) held ∙ ap (λ t. differs_at (position_at enc a n) ∷ held_line (line_around a n) ∷ line t ∷ []) other))

@@ -181,16 +181,3 @@ pub explains : (terms : Terms) (enc : Encoding) (calls : List Call) (made : Call
 explains terms enc calls made rule facts told call is e =
     let same : made ≡ call = cc in
     subst (λ (x : Call). AreDocumentFacts terms enc calls x rule facts) same (told (ap (λ (x : Call). call_rule terms calls x) same ∙ e))
-
--- a save without a text breaks no rule
-pub save_explained : (terms : Terms) (enc : Encoding) (calls : List Call) (uri : List ℕ) (rule : ℕ) (facts : List Fact) (call : Call) → (let o : Option Call = Some (saves uri None) in o) ≡ Some call
-    → call_rule terms calls call ≡ Some rule → AreDocumentFacts terms enc calls call rule facts
-save_explained terms enc calls uri rule facts call is e =
-    let same : saves uri None ≡ call = cc in
-    let k : None ≡ Some rule = ap (λ (x : Call). call_rule terms calls x) same ∙ e in
-    absurd (cc)
-
--- the changes of an act, as the definitions of texts see them
-pub edits_seen : (cs : List Change) → changes.edits_of cs ≡ map edit_of (changes_view cs)
-edits_seen [] = refl
-edits_seen (c ∷ cs) = ap (λ es. changes.edit_of c ∷ es) (edits_seen cs)

@@ -17,7 +17,7 @@ use Rattle.lsp_facts.specs.Fact.{Fact, fails}
 use Rattle.lsp_facts.specs.DocumentFacts.{fits, fitting, made_length, first_length, misfit_facts}
 use Rattle.lsp_facts.specs.Making.{IsRejected, IsMade}
 
-seen_length : (cs : List Change) → length (edits_of cs) ≡ length cs
+pub seen_length : (cs : List Change) → length (edits_of cs) ≡ length cs
 seen_length [] = refl
 seen_length (c ∷ cs) = ap suc (seen_length cs)
 
@@ -122,6 +122,3 @@ here_at cs n c lt is = slice_get-map edit_of cs n ∙ ap (option_map edit_of) (s
 
 pub all_seen : (cs : List Change) (n : ℕ) → length cs ≤ n → length (edits_of cs) ≤ n
 all_seen cs n le = omega (arith, seen_length cs)
-
-pub as_many : (cs : List Change) → length (edits_of cs) ≡ length cs
-as_many cs = seen_length cs

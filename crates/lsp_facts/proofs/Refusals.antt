@@ -82,22 +82,3 @@ second_stray enc t span h = sym (ap (λ b. if b then span.second else span.first
 
 same_span : (a b : Span) → (let o : Option Span = Some a in o) ≡ Some b → a ≡ b
 same_span a b h = cc
-
-pub no_stray : (enc : Encoding) (t : Text) (span : Option Span) → span ≡ None → HasStray enc t span → ⊥
-no_stray enc t span none h = (let e : None ≡ Some h.of = sym none ∙ h.there in absurd (cc))
-
--- a position that denotes a place is no stray one
-pub not_stray : (enc : Encoding) (t : Text) (of : Span) (p : Position) → p ≡ stray enc t of → is_some (place_of enc t p) ≡ true → HasStray enc t (Some of) → ⊥
-not_stray enc t of p is some h =
-    let nowhere : place_of enc t p ≡ None = ap (place_of enc t) (is ∙ ap (stray enc t) (same_span of h.of h.there)) ∙ h.nowhere in
-    true≢false (sym some ∙ ap is_some nowhere)
-
-pub stray_facts : (enc : Encoding) (t : Text) (of : Span) (p : Position) (char : ℕ) → p ≡ stray enc t of → LiesInside enc t p char → IsStray enc t (Some of) (line_length enc t p ++ falls_inside (char ∷ []) ∷ [])
-stray_facts enc t of p char is lies =
-    record {
-      of = of;
-      there = refl;
-      char = char;
-      lies = subst (λ x. LiesInside enc t x char) is lies;
-      are = ap (λ x. line_length enc t x ++ falls_inside (char ∷ []) ∷ []) is;
-    }

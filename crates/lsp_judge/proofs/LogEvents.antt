@@ -197,20 +197,20 @@ session_of s rs heard h =
     (extra.0, (h.past ++ h.due, h.placed, lists_join h.past h.due heard extra.0 h.read extra.1))
 
 module _ (limits : Bounds) (e : EventReader) (start now : Told) (heard : List Event) (s : SoFar limits e start now heard) where
-  range : IsInRange limits
-  range = subst IsInRange s.alike s.hears.limits.range
+  pub so_far_range : IsInRange limits
+  so_far_range = subst IsInRange s.alike s.hears.limits.range
 
   abbrev own : Format
   own = e.judge.format
 
-  clean : first_no (terms_of limits own) heard ≡ None
-  clean = subst (λ (t : Terms). first_no t heard ≡ None) (s.hears.limits.documents ∙ ap (λ (b : Bounds). terms_of b own) s.alike) s.hears.follows.clean
+  pub so_far_clean : first_no (terms_of limits e.judge.format) heard ≡ None
+  so_far_clean = subst (λ (t : Terms). first_no t heard ≡ None) (s.hears.limits.documents ∙ ap (λ (b : Bounds). terms_of b own) s.alike) s.hears.follows.clean
 
-  none_early : e.log.format ≡ None → heard ≡ []
-  none_early none = hearing_none e.judge s.records heard (s.at.early none) s.hears
+  pub so_far_none : e.log.format ≡ None → heard ≡ []
+  so_far_none none = hearing_none e.judge s.records heard (s.at.early none) s.hears
 
   clean_by : (log : List ℕ) → (has : HasFirst limits e.log.format s.records log) → first_no (log_terms limits has.format) heard ≡ None
-  clean_by log has = clean_known limits own e.log.format has.format heard s.format has.is_known none_early clean
+  clean_by log has = clean_known limits own e.log.format has.format heard s.format has.is_known so_far_none so_far_clean
 
   session : (extra : List Event) × IsSession limits s.records (heard ++ extra)
   session =
@@ -224,27 +224,18 @@ module _ (limits : Bounds) (e : EventReader) (start now : Told) (heard : List Ev
   pub so_far_by : OfRead limits start now (BeginsBy limits e.log.format heard)
   so_far_by =
       read_map limits start now (HasFirst limits e.log.format s.records) (BeginsBy limits e.log.format heard)
-      (λ log has. begins_by limits range log has.format s.records has.more has.fault has.is_log e.log.format has.is_known heard session.0 (clean_by log has) session.1) first
+      (λ log has. begins_by limits so_far_range log has.format s.records has.more has.fault has.is_log e.log.format has.is_known heard session.0 (clean_by log has) session.1) first
 
   pub so_far_begins : OfRead limits start now (BeginsWith limits heard)
   so_far_begins = read_map limits start now (BeginsBy limits e.log.format heard) (BeginsWith limits heard) (by_any limits e.log.format heard) so_far_by
 
-  pub so_far_clean : first_no (terms_of limits e.judge.format) heard ≡ None
-  so_far_clean = clean
-
-  pub so_far_none : e.log.format ≡ None → heard ≡ []
-  so_far_none = none_early
-
   pub so_far_few : length heard ≤ limits.log
   so_far_few =
       let has = first.holds first.bytes ([], sym (append-nil first.bytes), λ end. refl) in
-      heard_few limits range first.bytes has.format s.records has.more has.fault has.is_log heard session.0 session.1
-
-  pub so_far_range : IsInRange limits
-  so_far_range = range
+      heard_few limits so_far_range first.bytes has.format s.records has.more has.fault has.is_log heard session.0 session.1
 
   pub so_far_counts : (e.judge.counts.all ≡ length heard)
-  so_far_counts = omega (arith, s.hears.follows.counted.all, so_far_few, range.log_high)
+  so_far_counts = omega (arith, s.hears.follows.counted.all, so_far_few, so_far_range.log_high)
 
   -- ---- the next event offends
 
@@ -252,7 +243,7 @@ module _ (limits : Bounds) (e : EventReader) (start now : Told) (heard : List Ev
   found_no completeness rule by number event o = record {
     of_read = read_map limits start now (HasFirst limits e.log.format s.records) (λ log. EndsBy completeness limits log heard (no rule by number event))
         (λ log has. ends_by completeness limits log heard (no rule by number event) (λ t e. absurd cc)
-        (ends_no limits range log has.format s.records has.more has.fault has.is_log heard (no rule by number event) (offends_known limits own e.log.format has.format s.records heard (no rule by number event) s.format has.is_known s.at.early o)))
+        (ends_no limits so_far_range log has.format s.records has.more has.fault has.is_log heard (no rule by number event) (offends_known limits own e.log.format has.format s.records heard (no rule by number event) s.format has.is_known s.at.early o)))
         first;
     failures = s.at.failures;
   }

@@ -13,7 +13,7 @@ use Rattle.lsp_lined.specs.Rewriting.{rewritten, with_text, line_utf8, line_afte
 use Rattle.lsp_text.proofs.Cuts.{HasFirst, IsCut-lines_of, lines_of-ended, lines_of-line, lines_of-no_end, text_of-append, whole_parts}
 use Rattle.lsp_text.proofs.Counting.{scalars-parts, units-append, units-utf8, units-utf8_text}
 use Rattle.lsp_lined.proofs.Recut.{AreLines, AreLines-lines_of, lines_apart}
-use Rattle.lsp_text.proofs.Splices.{chars-cut, units_some}
+use Rattle.lsp_text.proofs.Splices.{chars-cut, units_some, IsUtf8-replace_range}
 use Rattle.memchr.specs.Find.{is_byte2, IsFirstByte}
 use Rattle.lsp_text.proofs.LineEnds.{AreWhole, are_whole_lines}
 use Rattle.lsp_text.proofs.LineBytes.{ends, has_no_line_end-text}
@@ -58,9 +58,6 @@ chars_replaced bs s i j u us b =
     let front = IsUtf8-take bs i u b in
     chars-append (take i bs ++ s) (drop j bs) (IsUtf8-append (take i bs) s front us) ∙ ap (λ (x : List ℕ). x ++ chars (drop j bs)) (chars-append (take i bs) s front)
 
-pub utf8_replaced : (bs s : List ℕ) (i j : ℕ) → IsUtf8 bs → IsUtf8 s → IsCharBoundary bs i → IsCharBoundary bs j → IsUtf8 (replace_range bs i j s)
-utf8_replaced bs s i j u us bi bj = IsUtf8-append (take i bs ++ s) (drop j bs) (IsUtf8-append (take i bs) s (IsUtf8-take bs i u bi) us) (IsUtf8-drop bs j u bj)
-
 -- a line's characters, in three parts
 chars_parts : (bs : List ℕ) (i j : ℕ) → IsUtf8 bs → IsCharBoundary bs i → IsCharBoundary bs j → i ≤ j →
     chars bs ≡ (chars (take i bs) ++ chars (drop i (take j bs))) ++ chars (drop j bs)
@@ -97,7 +94,7 @@ is_replaced bs s between body i j now u us b le bi bj is at =
     let parts : chars line ≡ (chars (take i line) ++ chars between) ++ chars (drop j line) =
     chars_parts line i j ul bi bj le ∙ ap (λ (x : List ℕ). (chars (take i line) ++ chars x) ++ chars (drop j line)) (sym gone) in
     let new = chars_replaced line s i j ul us bi in
-    let ur = utf8_replaced line s i j ul us bi bj in
+    let ur = IsUtf8-replace_range line s i j ul us bi bj in
     record {
       front = ap (take now) whole ∙ take_at (replace_range line i j s) end now n;
       back = ap (drop now) whole ∙ drop_at (replace_range line i j s) end now n;
@@ -239,7 +236,7 @@ is_line_edit t i j k s new us stays made =
     let bj : IsCharBoundary body j = subst (λ (x : List ℕ). IsCharBoundary x j) front (boundary_in_front bs n j u b stays.from_boundary (omega arith)) in
     let bk : IsCharBoundary body k = subst (λ (x : List ℕ). IsCharBoundary x k) front (boundary_in_front bs n k u b stays.to_boundary (omega arith)) in
     let replaced = replace_range body j k s in
-    let ur : IsUtf8 replaced = utf8_replaced body s j k ub us bj bk in
+    let ur : IsUtf8 replaced = IsUtf8-replace_range body s j k ub us bj bk in
     let text : new.text ≡ chars replaced = ap (λ (x : Line). x.text) made in
     let same : new.end ≡ l.end = ap (λ (x : Line). x.end) made in
     let after : line_after t i j k s ≡ spelled new =

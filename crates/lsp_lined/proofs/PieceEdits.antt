@@ -14,14 +14,10 @@ use Rattle.lsp_lined.specs.Pieces.{bodies, piece_at, IsFound, IsReplacedIn}
 use Rattle.lsp_lined.specs.declared.pieces.Found.{Found}
 use Rattle.lsp_text.proofs.Counting.{units-append, units-utf8, units-utf8_text, scalars-parts}
 use Rattle.lsp_lined.proofs.HeldText.{same_front}
-use Rattle.lsp_lined.proofs.LineEdits.{replace_before, utf8_replaced, boundary_in_all}
+use Rattle.lsp_lined.proofs.LineEdits.{replace_before, boundary_in_all}
 use Rattle.lsp_lined.proofs.PiecePlaces.{bodies-append, IsHere, IsInPiece, line_pieces, is_here, are_text, boundary_in_part, replaced_in_part, parts_inside}
-
-pub scalars_both : (xs ys : List ℕ) → scalars xs ≡ true → scalars ys ≡ true → scalars (xs ++ ys) ≡ true
-scalars_both [] ys h k = k
-scalars_both (x ∷ xs) ys h k =
-    let p : (scalar x ≡ true) × (scalars xs ≡ true) = and_parts (scalar x) (scalars xs) h in
-    and_from (scalar x) (scalars (xs ++ ys)) p.0 (scalars_both xs ys p.1 k)
+use Rattle.lsp_text.proofs.Splices.{IsUtf8-replace_range}
+use Rattle.lsp_lined.proofs.Tables.{scalars-both}
 
 -- the bytes of a replacement
 pub length_replaced : (bs s : List ℕ) (i j : ℕ) → i ≤ j → j ≤ length bs → length (replace_range bs i j s) + (j - i) ≡ length bs + length s
@@ -67,11 +63,11 @@ is_piece_edit ps qs rs last p line from to f s view scalar first found second is
       to_boundary = be;
       parts = part.parts;
       text = made;
-      scalar = scalars_both (chars (replace_range (encodes line.text) from to s)) line.end (scalars-chars (replace_range (encodes line.text) from to s) (utf8_replaced (encodes line.text) s from to u us bi bj)) ends;
+      scalar = scalars-both (chars (replace_range (encodes line.text) from to s)) line.end (scalars-chars (replace_range (encodes line.text) from to s) (IsUtf8-replace_range (encodes line.text) s from to u us bi bj)) ends;
       bytes =
           omega (
             arith,
-            units-utf8_text (replace_range (encodes x) f.left (f.left + n) s) (utf8_replaced (encodes x) s f.left (f.left + n) t.x_utf8 us bs be),
+            units-utf8_text (replace_range (encodes x) f.left (f.left + n) s) (IsUtf8-replace_range (encodes x) s f.left (f.left + n) t.x_utf8 us bs be),
             length_replaced (encodes x) s f.left (f.left + n) (omega arith) be.0,
             units-utf8 x,
           );

@@ -19,9 +19,9 @@ use Rattle.lsp_lined.specs.Pieces.{bodies, piece_at, BeginsOtherwise, IsFound}
 use Rattle.lsp_lined.specs.declared.pieces.Found.{Found}
 use Rattle.lsp_text.proofs.Counting.{units-append, units-utf8, is_offset, scalars-parts}
 use Rattle.lsp_text.proofs.Denoting.{past}
-use Rattle.lsp_lined.proofs.LineEdits.{boundary_in_front, replace_before, utf8_replaced}
+use Rattle.lsp_lined.proofs.LineEdits.{boundary_in_front, replace_before}
 use Rattle.lsp_lined.proofs.HeldText.{same_front, length_le_units}
-use Rattle.lsp_text.proofs.Splices.{chars-cut}
+use Rattle.lsp_text.proofs.Splices.{chars-cut, IsUtf8-replace_range}
 use Rattle.lsp_text.proofs.Widths.{place_in_line-append, is_front, IsFront}
 
 pub bodies-append : (ps qs : List Line) → bodies (ps ++ qs) ≡ bodies ps ++ bodies qs
@@ -43,9 +43,6 @@ bodies_cut ps i = ap bodies (sym (take-append-drop i ps)) ∙ bodies-append (tak
 -- the parts of a text have no more units than it
 pub units_to_le : (enc : Encoding) (ps : List Line) (i : ℕ) → units enc (bodies (take i ps)) ≤ units enc (bodies ps)
 units_to_le enc ps i = omega (arith, ap (units enc) (bodies_cut ps i), units-append enc (bodies (take i ps)) (bodies (drop i ps)))
-
-pub length_to_le : (ps : List Line) (i : ℕ) → length (bodies (take i ps)) ≤ length (bodies ps)
-length_to_le ps i = omega (arith, ap length (bodies_cut ps i), length-append (bodies (take i ps)) (bodies (drop i ps)))
 
 -- a column that is not past the first part
 place_in_front : (enc : Encoding) (xs ys : List ℕ) (column : ℕ) → column ≤ units enc xs → place_in_line enc (xs ++ ys) column ≡ place_in_line enc xs column
@@ -146,7 +143,7 @@ replaced_in_part text pre x post s bytes i j scalar parts us is bi bj =
     ap chars (ap (λ (n : ℕ). replace_range (encodes text) (n + i) (n + j) s) len ∙ ap (λ (y : List ℕ). replace_range y (length (encodes pre) + i) (length (encodes pre) + j) s) t.bytes ∙ replaced_bytes (encodes pre) (encodes x) (encodes post) s i j bi.0 bj.0)
     ∙ chars-append (encodes pre) (new ++ encodes post) t.pre_utf8
     ∙ ap (λ (y : List ℕ). y ++ chars (new ++ encodes post)) (chars-encodes pre t.pre_scalar)
-    ∙ ap (λ (y : List ℕ). pre ++ y) (chars-append new (encodes post) (utf8_replaced (encodes x) s i j t.x_utf8 us bi bj) ∙ ap (λ (y : List ℕ). chars new ++ y) (chars-encodes post t.post_scalar))
+    ∙ ap (λ (y : List ℕ). pre ++ y) (chars-append new (encodes post) (IsUtf8-replace_range (encodes x) s i j t.x_utf8 us bi bj) ∙ ap (λ (y : List ℕ). chars new ++ y) (chars-encodes post t.post_scalar))
 
 pub boundary_in_part : (text pre x post : List ℕ) (bytes i : ℕ) → scalars text ≡ true → text ≡ pre ++ (x ++ post) → bytes ≡ units Utf8 pre → IsCharBoundary (encodes text) (bytes + i) → i ≤ units Utf8 x → IsCharBoundary (encodes x) i
 boundary_in_part text pre x post bytes i scalar parts is b le =

@@ -54,17 +54,6 @@ joined_set rs i at l p =
     (ap (λ (x : List Line). set x i l) (joined_at rs at.run p.run) ∙ set-append_right front (run ++ rest) (length front) i l refl (omega (arith, p.number))
     ∙ ap (λ n. front ++ set (run ++ rest) n l) left ∙ ap (λ x. front ++ x) (set-append_left run rest at.line l p.line))
 
-pub line_within : (rs : List (List Line)) (i : ℕ) (at : InRuns) → IsPlaceInRuns rs i at → i < length (joined_runs rs)
-line_within rs i at p =
-    omega (
-      arith,
-      p.number,
-      p.line,
-      ap length (joined_at rs at.run p.run),
-      length-append (joined_runs (take at.run rs)) (get_or rs at.run [] ++ joined_runs (drop (at.run + 1) rs)),
-      length-append (get_or rs at.run []) (joined_runs (drop (at.run + 1) rs)),
-    )
-
 -- a run that was found there, and the line in it
 pub run_at : (rs : List (List Line)) (i : ℕ) (at : InRuns) (run : List Line) → IsPlaceInRuns rs i at → run ≡ get_or rs at.run run → run ≡ get_or rs at.run []
 run_at rs i at run p is = is ∙ get_or_default rs at.run run [] p.run

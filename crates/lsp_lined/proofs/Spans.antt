@@ -120,10 +120,6 @@ abbrev pub left_len : Option (Bor (List ℕ)) → ℕ
 left_len None = 0
 left_len (Some rest) = length rest.now + 1
 
-pub left_shorter : (text : List ℕ) (left : Option (Bor (List ℕ))) → IsLeft text left → left_len left < length text + 1
-left_shorter text None h = omega arith
-left_shorter text (Some rest) h = let lt = h.1 in omega arith
-
 -- one run more
 pub cut_more : (followed : Bool) (was now : List (List Line)) (all : List Line) (text : List ℕ) (c : CutOff) → was ++ c.run ∷ [] ≡ now → IsCutOff followed text c →
     joined_runs was ++ lines_before followed (chars text) ≡ all → joined_runs now ++ lines_left followed c.rest ≡ all

@@ -17,8 +17,9 @@ use Rattle.lsp_text.proofs.Counting.{units-append, units-utf8, units-utf8_text, 
 use Rattle.lsp_text.proofs.Cuts.{text_of-append}
 use Rattle.lsp_text.proofs.Positions.{text_of-lines_of}
 use Rattle.lsp_lined.proofs.PiecePlaces.{are_text, replaced_bytes}
-use Rattle.lsp_lined.proofs.LineEdits.{CanReplace, can_replace, is_replaced, replace_before, utf8_replaced}
+use Rattle.lsp_lined.proofs.LineEdits.{CanReplace, can_replace, is_replaced, replace_before}
 use Rattle.lsp_text.proofs.Widths.{units-utf32}
+use Rattle.lsp_text.proofs.Splices.{IsUtf8-replace_range}
 
 line_in_of : (l : Line) (bs : List ℕ) → scalars (spelled l) ≡ true → bs ≡ encodes (spelled l) → line_in (counts_of l) bs ≡ l
 line_in_of l bs s is =
@@ -145,7 +146,7 @@ is_edited l x s between i j scalar is us le bi bj gone =
     let seam : IsCharBoundary x body = subst (λ (k : ℕ). IsCharBoundary x k) (sym b) (IsCharBoundary-at_seam x (encodes l.text) (encodes l.end) both ue) in
     let can = can_replace x l body i j ux seam (ap chars front ∙ chars-encodes l.text p.0) le bi bj in
     let new = replace_range (encodes l.text) i j s in
-    let un = utf8_replaced (encodes l.text) s i j ut us bi bj in
+    let un = IsUtf8-replace_range (encodes l.text) s i j ut us bi bj in
     let r = is_replaced x s between body i j (length (replace_range x i j s) - (length x - body)) ux us seam le can.from_line can.to_line gone refl in
     let ub : IsUtf8 between = subst (λ (y : List ℕ). IsUtf8 y) (sym gone) (IsUtf8-drop (take j x) i (IsUtf8-take x j ux can.to_all) can.from_front) in
     let held : chars (take body x) ≡ l.text = ap chars front ∙ chars-encodes l.text p.0 in
@@ -207,16 +208,6 @@ pub counts_from : (text end : List ℕ) (c : LineCounts) → IsUtf8 text → uni
     c ≡ counts_of (record { text = chars text; end = chars end })
 counts_from text end c u e len body chars_are utf16 =
     same_counts _ _ (omega (arith, len, units-append Utf8 (chars text) (chars end), units-utf8_text text u, e)) body chars_are utf16
-
-pub pushed_counts : (was now more rest all : List LineCounts) (c : LineCounts) → now ≡ was ++ c ∷ [] → more ≡ c ∷ rest → was ++ more ≡ all → now ++ rest ≡ all
-pushed_counts was now more rest all c pushed first h =
-    ap (λ x. x ++ rest) pushed ∙ append_assoc was (c ∷ []) rest ∙ ap (λ x. was ++ x) (sym first) ∙ h
-
--- the text and the table of its lines
-pub is_table_of : (cs : List LineCounts) (bs : List ℕ) → IsUtf8 bs → cs ≡ map counts_of (lines_of (chars bs)) → IsTable cs bs (lines_of (chars bs))
-is_table_of cs bs u is =
-    let text : text_of (lines_of (chars bs)) ≡ chars bs = text_of-lines_of (chars bs) in
-    record { counts = is; bytes = sym (ap encodes text ∙ encodes-chars bs u); scalar = ap scalars text ∙ scalars-chars bs u }
 
 -- lines cut in two, with their table and their bytes
 pub record AreSplit (cs : List LineCounts) (bs : List ℕ) (ls : List Line) (n start : ℕ) : Type 0 where

@@ -29,7 +29,7 @@ chars-replace_range bs s i j u us bi bj =
     ∙ ap (λ x. x ++ chars (drop j bs)) (chars-append (take i bs) s front)
     ∙ ap (λ x. (x ++ chars s) ++ chars (drop j bs)) first ∙ ap (λ x. (take (length (chars (take i bs))) (chars bs) ++ chars s) ++ x) last
 
-IsUtf8-replace_range : (bs s : List ℕ) (i j : ℕ) → IsUtf8 bs → IsUtf8 s → IsCharBoundary bs i → IsCharBoundary bs j → IsUtf8 (replace_range bs i j s)
+pub IsUtf8-replace_range : (bs s : List ℕ) (i j : ℕ) → IsUtf8 bs → IsUtf8 s → IsCharBoundary bs i → IsCharBoundary bs j → IsUtf8 (replace_range bs i j s)
 IsUtf8-replace_range bs s i j u us bi bj =
     IsUtf8-append (take i bs ++ s) (drop j bs) (IsUtf8-append (take i bs) s (IsUtf8-take bs i u bi) us) (IsUtf8-drop bs j u bj)
 

@@ -106,16 +106,6 @@ rewritten_by t m first last false fresh le lt apart more less is =
     let long : length (lines_of t) ≤ last + 1 = less refl in
     rewritten_last t m first last fresh le (omega arith) apart (sym is)
 
-pub units-middle_le : (t : List ℕ) (first last : ℕ) → first ≤ last → units Utf8 (text_of (take (last + 1 - first) (drop first (lines_of t)))) ≤ units Utf8 t
-units-middle_le t first last le =
-    let ls = lines_of t in
-    let ps = take first ls in
-    let js = take (last + 1 - first) (drop first ls) in
-    let ns = drop (last + 1) ls in
-    let all : text_of ps ++ (text_of js ++ text_of ns) ≡ t =
-    ap (λ x. text_of ps ++ x) (sym (text_of-append js ns)) ∙ sym (text_of-append ps (js ++ ns)) ∙ ap text_of (sym (whole ls first last le)) ∙ text_of-lines_of t in
-    omega (arith, ap (units Utf8) all, units-append Utf8 (text_of ps) (text_of js ++ text_of ns), units-append Utf8 (text_of js) (text_of ns))
-
 -- the lines after a rewrite of kept ones
 pub record IsKept (t m : List ℕ) (first last : ℕ) (items : List Line) : Type 0 where
   pub lines : lines_of (text_of items) ≡ items
@@ -125,10 +115,6 @@ pub kept_after : (t m : List ℕ) (first last : ℕ) (old now fresh : List Line)
 kept_after t m first last old now fresh w held put =
     let e : now ≡ splice (lines_of t) first (last + 1) fresh = put ∙ ap (λ (x : List Line). splice x first (last + 1) fresh) (sym held) in
     record { lines = ap (λ (x : List Line). lines_of (text_of x)) e ∙ ap lines_of w.text ∙ w.lines ∙ sym e; text = ap text_of e ∙ w.text }
-
--- a line of kept ones, by its bytes
-pub line_of_kept : (t : List ℕ) (items : List Line) (i : ℕ) (l : Line) → lines_of t ≡ items → i < length items → l ≡ get_or items i l → l ≡ get_or (lines_of t) i (open_line [])
-line_of_kept t items i l e lt is = is ∙ get_or_default items i l (open_line []) lt ∙ ap (λ (x : List Line). get_or x i (open_line [])) (sym e)
 
 -- the bytes of a text, about the lines from `first` to `last`
 pub units-parts : (t : List ℕ) (first last : ℕ) → first ≤ last →

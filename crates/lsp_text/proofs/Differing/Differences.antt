@@ -26,7 +26,7 @@ same_at : (a b : List ℕ) (n i : ℕ) → take n a ≡ take n b → i < n → s
 same_at a b n i same lt = sym (slice_get-take a n i lt) ∙ ap (λ x. slice_get x i) same ∙ slice_get-take b n i lt
 
 -- no place comes before a first difference
-one_place : (a b : List ℕ) (m n : ℕ) → IsFirstDifference a b m → IsFirstDifference a b n → m ≡ n
+pub one_place : (a b : List ℕ) (m n : ℕ) → IsFirstDifference a b m → IsFirstDifference a b n → m ≡ n
 one_place a b m n h k =
     ⊎_elim (λ lt. absurd (h.here (same_at a b n m k.before lt)))
     (λ le. ⊎_elim (λ lt. absurd (k.here (same_at a b m n h.before lt))) (λ ge. let e : m ≡ n = omega arith in e) (cases_lt n m))

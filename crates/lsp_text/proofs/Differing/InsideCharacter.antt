@@ -94,20 +94,6 @@ positions_lie_inside =
 
 -- ---- as it is looked for
 
-some_added : (n : ℕ) (o : Option ℕ) → is_some o ≡ true → is_some (option_map (λ (k : ℕ). n + k) o) ≡ true
-some_added n None h = absurd (cc)
-some_added n (Some k) h = refl
-
--- past the last line each position denotes the text's end
-pub no_line : (enc : Encoding) (t : List ℕ) (p : Position) → slice_get (lines_of t) p.line ≡ None → is_some (place_of enc t p) ≡ true
-no_line enc t p h = ap (λ o. is_some (place_at enc (lines_of t) p o)) h
-
--- a place of the line is one of the text
-pub in_its_line : (enc : Encoding) (t : List ℕ) (p : Position) (line : Line) → slice_get (lines_of t) p.line ≡ Some line → is_some (place_in_line enc line.text p.column) ≡ true →
-    is_some (place_of enc t p) ≡ true
-in_its_line enc t p line there h =
-    ap (λ o. is_some (place_at enc (lines_of t) p o)) there ∙ some_added (length (text_of (take p.line (lines_of t)))) (place_in_line enc line.text p.column) h
-
 -- a column at an edge of a character
 pub at_edge : (enc : Encoding) (cs : List ℕ) (column n : ℕ) → n ≤ length cs → units enc (take n cs) ≡ column → is_some (place_in_line enc cs column) ≡ true
 at_edge enc cs column n le e = ap is_some (place_in_line-complete enc cs column n (record { within = le; column_is = inr e }))

@@ -11,6 +11,7 @@ use Rattle.lsp_text.specs.Parting.{IsLineStart}
 use Rattle.lsp_text.proofs.Cuts.{lines_of-no_end}
 use Rattle.lsp_text.proofs.Positions.{lines_of-first, text_of-lines_of}
 use Rattle.lsp_text.proofs.JoinedLines.{text_of-open}
+use Rattle.lsp_text.proofs.Splices.{chars-cut}
 
 -- a text, its lines and a place of it, cut where the place's line begins
 record IsPlaced (bs : List ℕ) (offset start : ℕ) : Type 0 where
@@ -21,9 +22,6 @@ record IsPlaced (bs : List ℕ) (offset start : ℕ) : Type 0 where
   back : drop (length (chars (take offset bs))) (chars bs) ≡ chars (drop offset bs)
   before : take (length (chars (take offset bs))) (chars bs) ≡ chars (take start bs) ++ chars (take (offset - start) (drop start bs))
 
-cut_chars : (bs : List ℕ) (i : ℕ) → IsUtf8 bs → IsCharBoundary bs i → chars bs ≡ chars (take i bs) ++ chars (drop i bs)
-cut_chars bs i u cut = ap chars (sym (take-append-drop i bs)) ∙ chars-append (take i bs) (drop i bs) (IsUtf8-take bs i u cut)
-
 take_between : (bs : List ℕ) (i j : ℕ) → i ≤ j → take j bs ≡ take i bs ++ take (j - i) (drop i bs)
 take_between bs i j le = ap (λ n. take n bs) (let e : j ≡ i + (j - i) = omega arith in e) ∙ take-add i (j - i) bs
 
@@ -32,11 +30,11 @@ placed bs offset start u cut h =
     let f = h.lines.front in
     let t = chars (take start bs) in
     let x = chars (take offset bs) in
-    let both = cut_chars bs offset u cut in
+    let both = chars-cut bs offset u cut in
     record {
       front = f;
       count = ap length h.lines.first ∙ length_push f (open_line []);
-      lines = ap lines_of (cut_chars bs start u h.boundary) ∙ h.lines.both;
+      lines = ap lines_of (chars-cut bs start u h.boundary) ∙ h.lines.both;
       text = sym (append-nil (text_of f)) ∙ sym (text_of-open f []) ∙ ap text_of (sym h.lines.first) ∙ text_of-lines_of t;
       back = ap (drop (length x)) both ∙ drop_at x (chars (drop offset bs)) (length x) refl;
       before =

@@ -9,7 +9,7 @@ use Rattle.memchr.specs.Find.{is_byte2, Passes, Nowhere, NoneAfter}
 use Rattle.lsp_text.specs.Lines.{Line, lines_of, before_line, starts_with_feed, has_no_line_end, is_feed, is_return, AreJoined}
 use Rattle.lsp_text.specs.Parting.{IsInsideEnd, IsSearchEnd, IsLineStart}
 use Rattle.lsp_text.proofs.Cuts.{HasFirst, lines_of-HasFirst, lines_of-whole}
-use Rattle.lsp_text.proofs.LineBytes.{ends, ascii_from_end, starts_with_feed-text, has_no_line_end-text}
+use Rattle.lsp_text.proofs.LineBytes.{ends, ascii_from_end, starts_with_feed-text, has_no_line_end-text, starts_at}
 use Rattle.lsp_text.proofs.JoinedLines.{lines_are_joined}
 
 -- ---- how many lines a text has
@@ -66,10 +66,6 @@ end_utf8 b h = elim h [ inl e ↦ rw e (13 ∷ [], (refl, refl)) | inr e ↦ rw 
 end_byte : (b : ℕ) → ends b ≡ true → (b ≡ 13) ⊎ (b ≡ 10)
 end_byte b h = ⊎_elim (λ r. inl (eqb-true b 13 r)) (λ f. inr (eqb-true b 10 f)) (or_cases (is_return b) (is_feed b) h)
 
-first_is_feed : (bs : List ℕ) → starts_with_feed bs ≡ true → (0 < length bs) × (get_or bs 0 0 ≡ 10)
-first_is_feed [] h = absurd (false≢true h)
-first_is_feed (b ∷ bs) h = (omega arith, eqb-true b 10 h)
-
 -- the text before a line that begins behind a line end
 joined_behind : (bs : List ℕ) (offset end k : ℕ) → IsFound bs offset end (k + 1) → ends (get_or bs k 0) ≡ true → k < length bs → IsCharBoundary bs (k + 1) →
     AreJoined (chars (take (k + 1) bs)) (chars (drop (k + 1) bs))
@@ -87,7 +83,7 @@ joined_behind bs offset end k h is lt cut =
     ])
     (λ r. starts_with_feed-text (drop (k + 1) bs) rest ∙ false_from_ne_true _ (λ f.
     let return : b ≡ 13 = (same_from_push x r.before b 13 (sym t ∙ r.text)).1 in
-    let p = first_is_feed (drop (k + 1) bs) f in
+    let p = starts_at (drop (k + 1) bs) f in
     let more : k + 1 < length bs = omega (arith, p.0, length-drop (k + 1) bs) in
     let feed : get_or bs (k + 1) 0 ≡ 10 = ap (λ n. get_or bs n 0) (let e : k + 1 ≡ (k + 1) + 0 = omega arith in e) ∙ sym (get_or-drop (k + 1) bs 0 0) ∙ p.1 in
     ⊎_elim (λ before. h.none (k + 1) (omega arith) before (ap ends feed))

@@ -8,8 +8,9 @@ use Rattle.lsp_text.specs.Changes.{edits_of}
 use Rattle.lsp_docs.specs.Calls.{changes}
 use Rattle.lsp_verdict.specs.Calls.{call_of}
 use Rattle.lsp_facts.specs.Fact.{facts_view}
-use Rattle.lsp_facts.proofs.DocumentRules.{explains, edits_seen}
+use Rattle.lsp_facts.proofs.DocumentRules.{explains}
 use Rattle.lsp_facts.proofs.documents.act_facts.Goals as goal
+use Rattle.lsp_events.proofs.Edits.{edits_seen}
 
 pub returns-in_ok-facts-in-DidChange : goal.returns-in_ok-facts-in-DidChange
 returns-in_ok-facts-in-DidChange g c = λ calls call h e k.

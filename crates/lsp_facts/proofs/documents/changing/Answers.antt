@@ -6,7 +6,7 @@ use Rattle.lsp_text.specs.Changes.{edits_of}
 use Rattle.lsp_docs.specs.Documents.{held}
 use Rattle.lsp_facts.specs.Fact.{of_uri, sends, has_changes}
 use Rattle.lsp_facts.specs.DocumentFacts.{held_fact}
-use Rattle.lsp_facts.proofs.MadeChanges.{as_many}
+use Rattle.lsp_facts.proofs.MadeChanges.{seen_length}
 use Rattle.lsp_facts.proofs.documents.changing.Goals as goal
 
 pub returns : goal.returns
@@ -20,7 +20,7 @@ returns g c = λ calls h e.
     let head : c.push-2.new.self ≡ front ++ sends c.args.version ∷ has_changes (length (edits_of cs)) ∷ [] =
     c.in_ok-push-2.ensures
     ∙ (ap (λ l. l ++ has_changes (length cs) ∷ []) (sent ∙ ap (λ l. l ++ sends c.args.version ∷ []) (c.in_ok-facts.ensures calls h))
-    ∙ (append_assoc front (sends c.args.version ∷ []) (has_changes (length cs) ∷ []) ∙ ap (λ n. front ++ sends c.args.version ∷ has_changes n ∷ []) (sym (as_many cs))))
+    ∙ (append_assoc front (sends c.args.version ∷ []) (has_changes (length cs) ∷ []) ∙ ap (λ n. front ++ sends c.args.version ∷ has_changes n ∷ []) (sym (seen_length cs))))
     in
     record {
       details = details;

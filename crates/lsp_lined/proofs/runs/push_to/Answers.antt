@@ -2,7 +2,7 @@ use Rattle.std.proofs.Common.{take, ap, ◌∙◌}
 use Rattle.std.specs.String.{string_bytes}
 use lib.Utf8.{scalars}
 use Rattle.lsp_text.specs.Lines.{text_of}
-use Rattle.lsp_lined.proofs.PieceEdits.{scalars_both}
+use Rattle.lsp_lined.proofs.Tables.{scalars-both}
 use Rattle.lsp_lined.proofs.HeldText.{text_in, text_to, pushed_more}
 use Rattle.lsp_lined.proofs.runs.push_to.Goals as goal
 
@@ -13,6 +13,6 @@ loop-run-preserved c =
     let r = c.run-item.result in
     let h = c.loop-run.invariant in
     record {
-      scalar = ap scalars (text_to rs i r c.loop-run-test.true c.run-item.is) ∙ scalars_both (text_in (take i rs)) (text_of r) h.scalar c.in_ok-push_to.ensures.scalar;
+      scalar = ap scalars (text_to rs i r c.loop-run-test.true c.run-item.is) ∙ scalars-both (text_in (take i rs)) (text_of r) h.scalar c.in_ok-push_to.ensures.scalar;
       bytes = pushed_more rs i r (string_bytes c.args.out.now) (string_bytes c.loop-run.out) (string_bytes c.push_to.new.out) c.loop-run-test.true c.run-item.is h.bytes c.in_ok-push_to.ensures.bytes;
     }
