@@ -12,7 +12,7 @@ use Rattle.lsp_frame.proofs.Writing.{wrote_nothing, wrote_then}
 use Rattle.lsp_log.specs.Log.{Record}
 use Rattle.lsp_log.specs.Reader.{KeepsFormat}
 use Rattle.lsp_survey.specs.Reads.{HasHeard, SoFar, GaveBehind, BrokeOff, found_in}
-use Rattle.lsp_survey.specs.Reported.{IsTally, sink_after}
+use Rattle.lsp_survey.specs.Reported.{IsTally}
 use Rattle.lsp_survey.specs.declared.offending.Heard as code_heard
 use Rattle.lsp_survey.specs.declared.survey_reader.SurveyReader.{SurveyReader}
 use Rattle.lsp_survey.specs.declared.tally.Tally.{Tally}

@@ -1,9 +1,9 @@
 -- The facts on a message that was heard, with the events that brought it, are those on the message.
 use Rattle.std.specs.Prelude.{nat_lt, unwrap_or, if◌then◌else◌}
-use Rattle.std.proofs.Common.{◌≡◌, ℕ, Bool, true, false, List, ◌++◌, refl, sym, ap, ◌∙◌}
+use Rattle.std.proofs.Common.{◌≡◌, ℕ, Bool, true, false, List, ◌++◌, sym, ap, ◌∙◌}
 use Rattle.lsp_docs.specs.Terms.{Terms}
 use Rattle.lsp_rpc.specs.Act.{Act}
-use Rattle.lsp_rpc.specs.Message.{Message, request, notification, response, result, error}
+use Rattle.lsp_rpc.specs.Message.{Message}
 use Rattle.lsp_rpc.specs.Outline.{outline}
 use Rattle.lsp_session.specs.Negotiation.{encoding, sync_kind}
 use Rattle.lsp_session.specs.Sent.{Sent}

@@ -22,7 +22,7 @@ use Rattle.lsp_verdict.specs.Offences.{Noted, Offence, events_of, rule_at}
 use Rattle.lsp_verdict.specs.Outcome.{HasRest}
 use Rattle.lsp_verdict.specs.Placed.{joined}
 use Rattle.lsp_verdict.specs.Report.{report}
-use Rattle.lsp_verdict.specs.RunIo.{OfRead, failures_after, BreaksOff}
+use Rattle.lsp_verdict.specs.RunIo.{OfRead, BreaksOff}
 use Rattle.lsp_verdict.specs.Verdict.{Verdict, Summary, summary, yes, bad_log, no_by}
 use Rattle.lsp_verdict.specs.declared.completeness.Completeness.{Completeness}
 use Rattle.lsp_verdict.specs.declared.outcome.RunFault.{RunFault}

@@ -1,9 +1,9 @@
 -- Where two texts first differ, said once of several things.
-use Rattle.std.proofs.Common.{◌≡◌, ℕ, List, [], ◌∷◌, ap, sym, ◌∙◌, ⊎_elim}
+use Rattle.std.proofs.Common.{◌≡◌, [], ◌∷◌, ap, ◌∙◌}
 use Rattle.lsp_types.specs.declared.position.Encoding.{Encoding}
 use Rattle.lsp_types.specs.declared.position.Position.{Position}
-use Rattle.lsp_text.specs.Difference.{IsFirstDifference, IsOnlyDifference, DifferFirst, position_at, line_around}
-use Rattle.lsp_text.proofs.Differing.Differences.{one_difference, one_place}
+use Rattle.lsp_text.specs.Difference.{DifferFirst, position_at, line_around}
+use Rattle.lsp_text.proofs.Differing.Differences.{one_place}
 use Rattle.lsp_docs.specs.Texts.{Text}
 use Rattle.lsp_facts.specs.Fact.{Fact, differs_at, held_line}
 use Rattle.lsp_facts.specs.DocumentFacts.{AreApart}

@@ -1,6 +1,6 @@
 -- What a call breaks, as the facts on it are gathered.
 use Rattle.std.proofs.Common.{◌≡◌, ◌≢◌, ◌⊎◌, ◌≤◌, ℕ, Bool, true, false, cond, ◌&&◌, ◌||◌, List, [], ◌∷◌, ◌++◌, length, Option, Some, None, Result, Ok, Err, refl, sym, ap, subst, ◌∙◌, inl, inr, true≢false}
-use Rattle.std.specs.Prelude.{map, ℤ, int_lt, not, if◌then◌else◌, slice_get, option_to_list}
+use Rattle.std.specs.Prelude.{ℤ, int_lt, not, if◌then◌else◌, slice_get, option_to_list}
 use Rattle.std.specs.List.{find, list_any, list_all}
 use Rattle.std.specs.Option.{option_map}
 use Rattle.std.specs.Ordering.{int_eq}
@@ -14,11 +14,8 @@ use Rattle.lsp_types.specs.declared.change.SyncKind.{SyncKind}
 use Rattle.lsp_text.specs.Edits.{Edit, changed, applied}
 use Rattle.lsp_docs.specs.Texts.{Text}
 use Rattle.lsp_docs.specs.Terms.{Terms}
-use Rattle.lsp_docs.specs.Calls.{Call, saves}
-use Rattle.lsp_rpc.specs.View.{changes_view}
-use Rattle.lsp_types.specs.declared.change.Change.{Change}
+use Rattle.lsp_docs.specs.Calls.{Call}
 use Rattle.lsp_text.specs.Changes as changes
-use Rattle.lsp_verdict.specs.Calls.{edit_of}
 use Rattle.lsp_docs.specs.Documents.{Version, versioned, is_after}
 use Rattle.lsp_docs.specs.Rules.{differs, text_rule, fits_kind, change_rule, show_rule, call_rule}
 use Rattle.lsp_docs.specs.Others.{is_other, differs_from, other_than}

@@ -1,8 +1,7 @@
 -- Why a change is refused.
-use Rattle.std.proofs.Common.{◌≡◌, ◌⊎◌, ℕ, Bool, true, false, cond, [], ◌∷◌, ◌++◌, Option, Some, None, Result, Ok, Err, refl, sym, ap, subst, ◌∙◌, inl, inr, arith, true≢false}
+use Rattle.std.proofs.Common.{◌≡◌, ◌⊎◌, ℕ, Bool, true, false, cond, [], ◌∷◌, Option, Some, None, Result, Ok, Err, refl, sym, ap, ◌∙◌, inl, inr, arith}
 use Rattle.std.specs.Prelude.{nat_lt, is_some, if◌then◌else◌}
 use Rattle.lsp_types.specs.declared.position.Encoding.{Encoding}
-use Rattle.lsp_types.specs.declared.position.Position.{Position}
 use Rattle.lsp_types.specs.declared.position.Span.{Span}
 use Rattle.lsp_text.specs.Places.{place_of}
 use Rattle.lsp_text.specs.Edits.{limited, splice, spliced, changed}
@@ -10,8 +9,7 @@ use Rattle.lsp_text.specs.InsideCharacter.{LiesInside}
 use Rattle.lsp_text.specs.Sizes.{IsNeverMade}
 use Rattle.lsp_text.proofs.Differing.InsideCharacter.{positions_lie_inside}
 use Rattle.lsp_docs.specs.Texts.{Text}
-use Rattle.lsp_facts.specs.Fact.{falls_inside}
-use Rattle.lsp_facts.specs.DocumentFacts.{line_length, stray, IsStray}
+use Rattle.lsp_facts.specs.DocumentFacts.{stray}
 use Rattle.lsp_facts.specs.Making.{HasStray}
 
 -- the rules of a change

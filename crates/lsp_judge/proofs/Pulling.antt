@@ -1,8 +1,7 @@
 -- The events of records, heard one by one.
-use Rattle.std.proofs.Common.{◌≡◌, ℕ, List, [], ◌∷◌, ◌++◌, Option, Some, None, inl, inr, refl, sym, ap, subst, ◌∙◌, append_assoc, append-nil}
+use Rattle.std.proofs.Common.{◌≡◌, ℕ, List, [], ◌∷◌, ◌++◌, Option, Some, None, inl, inr, refl, sym, ap, subst, ◌∙◌, append-nil}
 use Rattle.std.specs.Prelude.{map, ℤ, String, string_bytes, chars}
 use Rattle.std.specs.List.{AllZip}
-use Rattle.std.proofs.lemmas.List.{append_cancel_left}
 use Rattle.std.specs.Global.{Global}
 use Rattle.lsp_frame.specs.Bounds.{Bounds}
 use Rattle.lsp_frame.specs.Decoder as decoder
@@ -30,13 +29,12 @@ use Rattle.lsp_judge.specs.declared.heard.Turn.{Turn}
 use Rattle.lsp_judge.specs.declared.heard.Turn.TheVariants as turn
 use Rattle.lsp_judge.specs.declared.ruling.Ruling.{Ruling}
 use Rattle.lsp_judge.specs.declared.ruling.Ruling.TheVariants.{No, BadLog, Memory}
-use Rattle.lsp_verdict.proofs.Below.{one_stream, frames_first, some_stream}
+use Rattle.lsp_verdict.proofs.Below.{frames_first, some_stream}
 use Rattle.lsp_verdict.proofs.Streams.Due.{due_end, due_next, due_given}
 use Rattle.lsp_verdict.proofs.OneEvent.{some_list, lists_join}
 use Rattle.lsp_verdict.proofs.OneRecord.{joined_own, joined_server, joined_editor, joined_shown, placed_one}
 use Rattle.lsp_verdict.proofs.PlacedLemmas.{placed-snoc, placed_whole, placed_next}
 use Rattle.lsp_verdict.proofs.Verdicts.{no_found}
-use Rattle.lsp_verdict.proofs.Lists.{cancel_all}
 
 -- ---- what a side's decoder has still to give
 

@@ -1,20 +1,16 @@
 -- The events of records, heard one by one.
-use Rattle.std.specs.Prelude.{◌≡◌, ℕ, ◌+◌, List, [], ◌∷◌, ◌++◌, length, map, Option, Some, None, string_bytes, chars}
+use Rattle.std.specs.Prelude.{◌≡◌, ℕ, ◌+◌, List, [], ◌∷◌, ◌++◌, length, Option, Some, None, string_bytes}
 use Rattle.std.specs.List.{AllZip}
 use Rattle.lsp_frame.specs.Bounds.{Bounds}
 use Rattle.lsp_frame.specs.Decoder as decoder
-use Rattle.lsp_frame.specs.Frame.{IsStream}
 use Rattle.lsp_frame.specs.declared.format.Format.{Format}
-use Rattle.lsp_rpc.specs.Outline.{outline}
-use Rattle.lsp_rpc.specs.View.{act_view, message_view}
-use Rattle.lsp_types.specs.declared.side.Side.{Side}
 use Rattle.lsp_types.specs.declared.side.Side.TheVariants.{Editor, Server}
 use Rattle.lsp_docs.specs.Terms.{terms_of}
 use Rattle.lsp_log.specs.Log.{Record}
 use Rattle.lsp_verdict.specs.Drained.{HasDue, IsDrained}
-use Rattle.lsp_verdict.specs.Event.{Event, message, fault, snapshot}
+use Rattle.lsp_verdict.specs.Event.{Event, snapshot}
 use Rattle.lsp_verdict.specs.Given.{as_given}
-use Rattle.lsp_verdict.specs.Placed.{Raw, content, show, new_fault, Placed, Reads, IsSession, joined}
+use Rattle.lsp_verdict.specs.Placed.{Raw, show, Placed, Reads, IsSession, joined}
 use Rattle.lsp_verdict.specs.Verdict.{Verdict, no, first_no, no_at}
 use Rattle.lsp_events.specs.Lines.{IsHeard}
 use Rattle.lsp_events.specs.Standing.{Follows}

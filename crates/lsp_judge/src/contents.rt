@@ -13,7 +13,7 @@ ghost use Rattle.lsp_judge.specs.Next.{HeardAs, HeardNext, StoppedNext, HeardSna
 use crate::heard::Turn;
 use crate::ruling::Ruling;
 use lsp_docs::DocFault;
-use lsp_events::{Events, Refused};
+use lsp_events::{Events, Heard, Refused};
 use lsp_frame::Decoder;
 use lsp_rpc::{Side, Spoken};
 use lsp_text::TextStore;

@@ -19,6 +19,7 @@ ghost use Rattle.lsp_judge.specs.UpgradedLog.{HasTaken, Accepts, IfAccepted};
 
 use crate::judge::Judge;
 use crate::text_answer::TextAnswer;
+use lsp_events::{Heard, Place};
 use lsp_frame::{Limits, Source};
 use lsp_lined::Lined;
 use lsp_log::{LogReader, Record};

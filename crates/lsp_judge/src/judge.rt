@@ -26,7 +26,7 @@ use crate::contents::{next_message, next_snapshot};
 use crate::heard::Turn;
 use crate::ruling::Ruling;
 use crate::text_answer::TextAnswer;
-use lsp_events::{Events, summary_of};
+use lsp_events::{Events, Heard, Place, summary_of};
 use lsp_frame::{Decoder, Format, Limits};
 use lsp_log::{LogCode, Record};
 use lsp_rpc::{Memory, Side};

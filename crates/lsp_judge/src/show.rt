@@ -10,6 +10,7 @@ ghost use Rattle.lsp_judge.specs.LogEvents.{IsFresh};
 ghost use Rattle.lsp_judge.specs.ShownLog.{Shows, IsShown, BeginsShown};
 
 use crate::event_reader::{EventReader, Next};
+use lsp_events::write_event_line;
 use lsp_frame::{Limits, Sink, Source, put_all};
 use lsp_verdict::{Completeness, Lines, Outcome, RunFault, Summary, Verdict, report_of};
 use std::alloc::Global;

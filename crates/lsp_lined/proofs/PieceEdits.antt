@@ -4,7 +4,6 @@ use Rattle.std.proofs.lemmas.List.{append-nil, take-append-drop, take_at, drop_a
 use Rattle.std.specs.List.{replace_range}
 use Rattle.std.specs.Str.{chars, IsUtf8, IsCharBoundary}
 use Rattle.std.proofs.lemmas.Str.{scalars-chars, chars-encodes, encodes-append, IsUtf8-append, IsCharBoundary-at_seam}
-use Rattle.std.proofs.lemmas.Bool.{and_parts, and_from}
 use lib.Utf8.{encodes, scalar, scalars}
 use Rattle.lsp_types.specs.declared.position.Encoding.TheVariants.{Utf8}
 use Rattle.lsp_text.specs.Lines.{Line, spelled, open_line}

@@ -1,5 +1,5 @@
 -- Lines of a text, cut span by span.
-use Rattle.std.proofs.Common.{◌≡◌, ◌<◌, ◌≤◌, ◌+◌, ◌-◌, ℕ, Bool, true, false, List, [], ◌∷◌, ◌++◌, length, take, Bor, Option, Some, None, suc, refl, sym, ap, subst, ◌∙◌, arith, append_assoc, length-append}
+use Rattle.std.proofs.Common.{◌≡◌, ◌≤◌, ◌+◌, ◌-◌, ℕ, Bool, true, false, List, [], ◌∷◌, ◌++◌, length, take, Bor, Option, Some, None, suc, refl, sym, ap, subst, ◌∙◌, arith, append_assoc, length-append}
 use Rattle.std.proofs.lemmas.List.{append-nil, take_at, map-append, length-map, length-take}
 use Rattle.std.proofs.Math.Seq.{take-append-add}
 use Rattle.std.specs.Option.{is_some}

@@ -8,14 +8,13 @@ use Rattle.std.proofs.lemmas.Str.{encodes-append, chars-encodes, IsCharBoundary-
 use lib.Utf8.{encodes, scalars, scalar}
 use Rattle.std.proofs.lemmas.Bool.{and_parts, and_from}
 use Rattle.lsp_types.specs.declared.position.Encoding.TheVariants.{Utf8, Utf16, Utf32}
-use Rattle.lsp_text.specs.Lines.{Line, open_line, spelled, text_of, lines_of}
+use Rattle.lsp_text.specs.Lines.{Line, open_line, spelled, text_of}
 use Rattle.lsp_text.specs.Places.{units}
 use Rattle.lsp_lined.specs.Rewriting.{with_text}
 use Rattle.lsp_lined.specs.Tables.{counts_of, len_of, counts_after, line_in, cut_by, IsTable}
 use Rattle.lsp_lined.specs.declared.short.LineCounts.{LineCounts}
 use Rattle.lsp_text.proofs.Counting.{units-append, units-utf8, units-utf8_text, scalars-parts}
 use Rattle.lsp_text.proofs.Cuts.{text_of-append}
-use Rattle.lsp_text.proofs.Positions.{text_of-lines_of}
 use Rattle.lsp_lined.proofs.PiecePlaces.{are_text, replaced_bytes}
 use Rattle.lsp_lined.proofs.LineEdits.{CanReplace, can_replace, is_replaced, replace_before}
 use Rattle.lsp_text.proofs.Widths.{units-utf32}

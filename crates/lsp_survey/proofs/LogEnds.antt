@@ -4,8 +4,6 @@ use Rattle.std.specs.Io.KnownBytes.{IsAtEnd}
 use Rattle.std.specs.List.{cons_option}
 use Rattle.std.proofs.Common.{◌≡◌, ℕ, ◌+◌, ◌<◌, ◌≤◌, ◌^◌, Bool, true, false, List, [], ◌∷◌, ◌++◌, length, length-append, Option, Some, None, refl, sym, ap, subst, ◌∙◌, append-nil, append_assoc, arith}
 use Rattle.std.proofs.lemmas.List.{length-map}
-use Rattle.lsp_docs.specs.Snapshots.{unmatched}
-use Rattle.lsp_docs.specs.State.{capped}
 use Rattle.lsp_docs.specs.Terms.{Terms, terms_of}
 use Rattle.lsp_events.specs.Standing.{Follows, Holds}
 use Rattle.lsp_frame.specs.Bounds.{Bounds}
@@ -24,13 +22,12 @@ use Rattle.lsp_survey.specs.declared.survey.Survey.{Survey}
 use Rattle.lsp_survey.specs.declared.survey_reader.End.{End}
 use Rattle.lsp_survey.specs.declared.survey_reader.Next.TheVariants as next
 use Rattle.lsp_survey.specs.declared.survey_reader.SurveyReader.{SurveyReader}
-use Rattle.lsp_verdict.specs.Calls.{call_at, calls}
 use Rattle.lsp_verdict.specs.declared.outcome.RunFault.{RunFault}
 use Rattle.lsp_verdict.specs.declared.verdict.Verdict as verdicts
 use Rattle.lsp_verdict.specs.Entries as entries
 use Rattle.lsp_verdict.specs.Entries.{IsAt, HasRecords, HasFirst, IsKnown, ShowsFault}
 use Rattle.lsp_verdict.specs.Event.{Event, sent_in}
-use Rattle.lsp_verdict.specs.Given.{as_given, offence_view, verdict_view}
+use Rattle.lsp_verdict.specs.Given.{offence_view, verdict_view}
 use Rattle.lsp_verdict.specs.LookBack.{each_from}
 use Rattle.lsp_verdict.specs.Offences.{Noted, Offence, events_of, kept_of, offence_at, offences}
 use Rattle.lsp_verdict.specs.Outcome.{HasRest, ending, log_terms}
@@ -38,7 +35,7 @@ use Rattle.lsp_verdict.specs.Placed.{Raw, Placed, joined}
 use Rattle.lsp_verdict.specs.RunIo.{OfRead}
 use Rattle.lsp_verdict.specs.Survey.{IsSurvey, by_itself, ends_inside, ends_listed, first_ends, lacks_listed, rests_listed}
 use Rattle.lsp_verdict.specs.Survey as survey
-use Rattle.lsp_verdict.specs.Verdict.{Summary, Verdict, Ending, bad_log_of, count_of, is_of, is_snapshot, no_next, summary, yes}
+use Rattle.lsp_verdict.specs.Verdict.{Verdict, Ending, bad_log_of, no_next, summary}
 use Rattle.lsp_verdict.specs.declared.completeness.Completeness.{Completeness}
 use Rattle.lsp_verdict.specs.declared.completeness.Completeness.TheVariants.{Ignored, Required}
 use Rattle.lsp_verdict.specs.declared.outcome.RunFault.TheVariants as faults
@@ -46,8 +43,7 @@ use Rattle.lsp_verdict.specs.declared.verdict.Who.{Who}
 use Rattle.lsp_verdict.specs.declared.verdict.Who.TheVariants as who
 use Rattle.lsp_verdict.proofs.Below.{some_stream}
 use Rattle.lsp_verdict.proofs.Entries.{is_first}
-use Rattle.lsp_verdict.proofs.EventCounts.{count_few, unmatched_events}
-use Rattle.lsp_verdict.proofs.ExactCounts.{capped_is, no_exact}
+use Rattle.lsp_verdict.proofs.ExactCounts.{no_exact, yes_exact}
 use Rattle.lsp_verdict.proofs.Offences.Offending.{all_are_kept, nothing_listed}
 use Rattle.lsp_verdict.proofs.RunReading.{read_map}
 use Rattle.lsp_survey.proofs.Ending.{given_by, rest_held}

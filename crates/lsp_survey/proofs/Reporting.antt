@@ -34,7 +34,7 @@ use Rattle.lsp_verdict.specs.declared.outcome.Outcome.TheVariants.{Judged}
 use Rattle.lsp_verdict.specs.declared.verdict.Verdict as verdicts
 use Rattle.lsp_verdict.proofs.Completing.{some_complete_verdict}
 use Rattle.lsp_verdict.proofs.ExactCounts.{capped_is}
-use Rattle.lsp_verdict.proofs.Listing.{map_one}
+use Rattle.lsp_verdict.proofs.ByIndex.{map_one}
 use Rattle.lsp_verdict.proofs.Logs.{some_verdict}
 use Rattle.lsp_verdict.proofs.Offences.Surveying.{survey_agrees}
 use Rattle.lsp_verdict.specs.declared.completeness.Completeness.{Completeness}

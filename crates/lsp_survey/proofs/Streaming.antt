@@ -1,7 +1,6 @@
 -- The stream of one side: what more bytes bring, and its next event.
 use Rattle.std.specs.Prelude.{map}
-use Rattle.std.proofs.Common.{◌≡◌, ℕ, true, false, List, [], ◌∷◌, ◌++◌, Option, Some, None, Ok, Err, refl, sym, ap, subst, ◌∙◌, append_assoc, append-nil}
-use Rattle.std.proofs.lemmas.List.{append_cancel_left}
+use Rattle.std.proofs.Common.{◌≡◌, ℕ, true, false, List, [], ◌∷◌, ◌++◌, Some, None, Ok, Err, refl, sym, ap, subst, ◌∙◌, append-nil}
 use Rattle.lsp_docs.specs.Terms.{Terms}
 use Rattle.lsp_frame.specs.Bounds.{Bounds}
 use Rattle.lsp_frame.specs.Decoder as decoder
@@ -13,7 +12,7 @@ use Rattle.lsp_survey.specs.declared.offending.Heard.{Heard}
 use Rattle.lsp_survey.specs.declared.walk.Walk.{Walk}
 use Rattle.lsp_verdict.specs.Offences.{Noted}
 use Rattle.lsp_verdict.specs.Placed.{Raw, content, broken, new_fault}
-use Rattle.lsp_verdict.proofs.Below.{frames_first, one_stream, some_stream}
+use Rattle.lsp_verdict.proofs.Below.{frames_first, some_stream}
 use Rattle.lsp_verdict.proofs.Streams.Due.{due_end, due_given}
 use Rattle.lsp_survey.proofs.FrameRules.{breaks_low}
 use Rattle.lsp_survey.proofs.Rests.{broken_more, held_broken}

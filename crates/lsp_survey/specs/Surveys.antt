@@ -1,5 +1,5 @@
 -- For which records of a log, and which events of them, a survey stands.
-use Rattle.std.specs.Prelude.{◌≡◌, ℕ, List, [], ◌∷◌, ◌++◌, map, Bool, true, false, nat_le, Option, Some, None}
+use Rattle.std.specs.Prelude.{◌≡◌, ℕ, List, [], ◌∷◌, ◌++◌, Bool, true, false, nat_le, Option, Some, None}
 use Rattle.std.specs.List.{AllZip, list_any}
 use Rattle.lsp_docs.specs.Terms.{Terms, terms_of}
 use Rattle.lsp_frame.specs.Bounds.{Bounds, IsInRange}
@@ -20,7 +20,7 @@ use Rattle.lsp_verdict.specs.Drained.{HasDue, IsDrained}
 use Rattle.lsp_verdict.specs.Event.{Event, sent_in}
 use Rattle.lsp_verdict.specs.Offences.{Noted, IsNoted, events_of}
 use Rattle.lsp_verdict.specs.Outcome.{HasRest}
-use Rattle.lsp_verdict.specs.Placed.{Raw, content, broken, show, new_fault, Brings, Placed, joined}
+use Rattle.lsp_verdict.specs.Placed.{Raw, content, broken, show, Brings, Placed, joined}
 use Rattle.lsp_verdict.specs.Survey.{is_frame_fault}
 use Rattle.lsp_verdict.specs.declared.completeness.Completeness.{Completeness}
 use Rattle.lsp_verdict.specs.declared.completeness.Completeness.TheVariants.{Ignored, Required}

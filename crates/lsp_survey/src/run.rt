@@ -21,8 +21,8 @@ use lsp_events::summary_of;
 use lsp_frame::{Limits, Sink, Source, put_all};
 use lsp_rpc::Memory;
 use lsp_verdict::{
-    Completeness, Offence, Outcome, RunFault, Summary, Verdict, found_report, offence_report,
-    report_of,
+    Completeness, Listing, Offence, Outcome, RunFault, Summary, Verdict, found_report,
+    offence_report, report_of,
 };
 use std::alloc::Global;
 

@@ -12,7 +12,7 @@ pub mod Messages
 pub mod CallsMade
 pub mod Meanings
 pub mod Logs
-pub mod Listing
+pub mod ByIndex
 pub mod EventCounts
 pub mod ExactCounts
 pub mod Interleaving

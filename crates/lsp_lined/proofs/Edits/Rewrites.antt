@@ -1,6 +1,6 @@
 -- The lines of a text that was rewritten in the middle.
-use Rattle.std.proofs.Common.{◌≡◌, ◌⊎◌, ◌<◌, ◌≤◌, ◌+◌, ◌-◌, ℕ, List, [], ◌∷◌, ◌++◌, length, take, drop, get_or, Bool, true, false, cond, refl, sym, ap, subst, ◌∙◌, inl, inr, arith, length-drop}
-use Rattle.std.proofs.lemmas.List.{append-nil, take-append-drop, drop-drop, drop_all, take_at, length-take-le, length_push, get_or_default}
+use Rattle.std.proofs.Common.{◌≡◌, ◌⊎◌, ◌<◌, ◌≤◌, ◌+◌, ◌-◌, ℕ, List, [], ◌∷◌, ◌++◌, length, take, drop, Bool, true, false, cond, refl, sym, ap, subst, ◌∙◌, inl, inr, arith, length-drop}
+use Rattle.std.proofs.lemmas.List.{append-nil, take-append-drop, drop-drop, drop_all, take_at, length-take-le, length_push}
 use Rattle.std.specs.List.{splice}
 use Rattle.lsp_text.specs.Lines.{Line, open_line, text_of, lines_of, starts_with_feed}
 use Rattle.lsp_lined.specs.Rewriting.{but_last, rewritten, StandsApart}

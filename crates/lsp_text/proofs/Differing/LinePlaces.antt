@@ -1,6 +1,6 @@
 -- The line in which a place lies, from where it begins in the bytes of its text.
 use Rattle.std.proofs.Common.{◌≡◌, ◌≤◌, ◌+◌, ◌-◌, ℕ, true, List, [], ◌++◌, length, get_or, take, drop, take-add, refl, sym, ap, subst, ◌∙◌, arith, length-append}
-use Rattle.std.proofs.lemmas.List.{append-nil, drop_at, get_or-append-add, length_push, take-append-drop, take_at}
+use Rattle.std.proofs.lemmas.List.{append-nil, drop_at, get_or-append-add, length_push, take_at}
 use Rattle.std.specs.Str.{chars, IsUtf8, IsCharBoundary}
 use Rattle.std.proofs.lemmas.Str.{chars-append, IsUtf8-take, IsCharBoundary-at_seam}
 use Rattle.lsp_text.specs.declared.cut.FirstLine.{FirstLine}

@@ -1,12 +1,12 @@
 -- The line in which a place lies, found back from the place in the bytes of its text.
 use Rattle.std.proofs.Common.{◌≡◌, ◌⊎◌, ◌<◌, ◌≤◌, ◌+◌, ◌-◌, ℕ, true, List, [], ◌∷◌, ◌++◌, length, get_or, take, drop, refl, sym, ap, subst, ◌∙◌, inl, inr, ⊎_elim, arith}
 use Rattle.std.proofs.lemmas.List.{drop-drop, drop_more, get_or-drop, get_or-take, length-drop, length-take-le, same_from_push, take-append-drop, take_more}
-use Rattle.std.proofs.lemmas.Bool.{false≢true, false_from_ne_true, cases_lt, eqb-true, or_cases}
+use Rattle.std.proofs.lemmas.Bool.{false_from_ne_true, cases_lt, eqb-true, or_cases}
 use Rattle.std.specs.Str.{chars, IsUtf8, IsCharBoundary}
 use Rattle.std.proofs.lemmas.Str.{chars-append, chars-nil, IsUtf8-take, IsUtf8-drop, IsUtf8-between, IsCharBoundary-start, IsCharBoundary-before_ascii, IsCharBoundary-after_ascii}
 use lib.Utf8.{encode}
 use Rattle.memchr.specs.Find.{is_byte2, Passes, Nowhere, NoneAfter}
-use Rattle.lsp_text.specs.Lines.{Line, lines_of, before_line, starts_with_feed, has_no_line_end, is_feed, is_return, AreJoined}
+use Rattle.lsp_text.specs.Lines.{Line, lines_of, before_line, has_no_line_end, is_feed, is_return, AreJoined}
 use Rattle.lsp_text.specs.Parting.{IsInsideEnd, IsSearchEnd, IsLineStart}
 use Rattle.lsp_text.proofs.Cuts.{HasFirst, lines_of-HasFirst, lines_of-whole}
 use Rattle.lsp_text.proofs.LineBytes.{ends, ascii_from_end, starts_with_feed-text, has_no_line_end-text, starts_at}

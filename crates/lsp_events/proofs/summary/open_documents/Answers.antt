@@ -1,5 +1,5 @@
 use Rattle.std.proofs.Common.{◌<◌, subst}
-use Rattle.lsp_verdict.proofs.Listing.{listed_one}
+use Rattle.lsp_verdict.proofs.ByIndex.{listed_one}
 use Rattle.lsp_events.proofs.summary.open_documents.Goals as goal
 
 pub loop-index-preserved : goal.loop-index-preserved

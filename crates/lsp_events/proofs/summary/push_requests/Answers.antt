@@ -1,6 +1,6 @@
 use Rattle.std.proofs.Common.{ap, sym}
 use Rattle.lsp_session.specs.Entry.{Entry, request_view}
-use Rattle.lsp_verdict.proofs.Listing.{pushed_one}
+use Rattle.lsp_verdict.proofs.ByIndex.{pushed_one}
 use Rattle.lsp_events.proofs.summary.push_requests.Goals as goal
 
 pub loop-index-preserved : goal.loop-index-preserved
