@@ -2,7 +2,7 @@
 use Rattle.std.specs.Prelude.{map, take, slice_get, not, option_map, option_to_list, codes, decimal}
 use Rattle.std.specs.Io.KnownBytes.{IsAtEnd}
 use Rattle.std.specs.List.{AllZip, list_any}
-use Rattle.std.proofs.Common.{◌≡◌, ◌⊎◌, ℕ, ◌+◌, ◌<◌, ◌^◌, length, Bool, true, false, ◌&&◌, List, [], ◌∷◌, ◌++◌, Option, Some, None, inl, inr, refl, sym, ap, ◌∙◌, subst, append_assoc, append-nil}
+use Rattle.std.proofs.Common.{◌≡◌, Result, ◌⊎◌, ℕ, ◌+◌, ◌<◌, ◌^◌, length, Bool, true, false, ◌&&◌, List, [], ◌∷◌, ◌++◌, Option, Some, None, inl, inr, refl, sym, ap, ◌∙◌, subst, append_assoc, append-nil}
 use Rattle.std.proofs.lemmas.List.{append_cancel_left, map-append}
 use Rattle.lsp_docs.specs.Terms.{Terms}
 use Rattle.lsp_frame.specs.Bounds.{Bounds, IsInRange}
@@ -47,7 +47,7 @@ use Rattle.lsp_verdict.proofs.ByIndex.{map_one}
 use Rattle.lsp_verdict.proofs.Offences.Surveying.{survey_agrees}
 use Rattle.lsp_verdict.proofs.RunReading.{read_map}
 use Rattle.lsp_explain.specs.AllExplained.{causes, cause_lines, all_closing, all_explanation, AreAllSaid, IsAllExplained, BeginsAllExplained}
-use Rattle.lsp_explain.specs.AllSteps.{AreSaid, AllTold, PartTold, CausesTold, ends_said}
+use Rattle.lsp_explain.specs.AllSteps.{AreSaid, AllTold, PartTold, CausesTold, TellsAll, ends_said}
 use Rattle.lsp_explain.specs.Explained.{Heard, Explained, Explains, raws_of, notes_of, end_explained, flaw_lines}
 use Rattle.lsp_facts.specs.Fact.{Fact}
 use Rattle.lsp_facts.specs.FlawFacts.{Rests}
@@ -279,13 +279,10 @@ text_more rests sent xs i x at old added new grown is before =
 
 -- ---- the run
 
-pub part_by : (k m : Completeness) (a b : Bounds) (start now old new : Told) (fault : RunFault) → k ≡ m → a ≡ b → PartTold k a start now old new fault → PartTold m b start now old new fault
-part_by k m a b start now old new fault same alike p =
-    subst (λ (c : Completeness). PartTold c b start now old new fault) same (subst (λ (x : Bounds). PartTold k x start now old new fault) alike p)
-
-pub told_by : (k m : Completeness) (a b : Bounds) (e : SurveyReader) (t : Tally) (start now old new : Told) (end : End) → k ≡ m → a ≡ b → CausesTold k a e t start now old new end → CausesTold m b e t start now old new end
-told_by k m a b e t start now old new end same alike p =
-    subst (λ (c : Completeness). CausesTold c b e t start now old new end) same (subst (λ (x : Bounds). CausesTold k x e t start now old new end) alike p)
+-- a run says the same of a reader with these limits
+pub tells_by : (k m : Completeness) (a b : Bounds) (start now old new : Told) (r : Result code_verdict.Verdict RunFault) → k ≡ m → a ≡ b → TellsAll k a start now old new r → TellsAll m b start now old new r
+tells_by k m a b start now old new r same alike p =
+    subst (λ (c : Completeness). TellsAll c b start now old new r) same (subst (λ (x : Bounds). TellsAll k x start now old new r) alike p)
 
 -- the survey that is explained
 pub survey_in_all : (completeness : Completeness) (limits : Bounds) (log : List ℕ) (found : List Offence) (explained : List Explained) (b : Option Verdict) (f : List Fact) (t : Summary) → AreAllSaid completeness limits log found explained b f t → IsSurvey completeness limits log found b t

@@ -82,9 +82,23 @@ fn explain_all<R: Source, W: Sink>(
     ensures tells { TellsAll completeness limits (R.told reader.old) (R.told reader.new) (W.told writer.old) (W.told writer.new) result }
 {
     let mut events = SurveyReader::new(alloc, limits, completeness);
+    explain_log(alloc, &mut events, reader, writer)
+}
+
+/// Explains all that is wrong with a log, of which nothing was read, and gives its verdict.
+fn explain_log<R: Source, W: Sink>(
+    alloc: Global,
+    events: &mut SurveyReader,
+    reader: &mut R,
+    writer: &mut W,
+) -> Result<Verdict, RunFault>
+    requires range { IsInRange events.old.survey.limits }
+    requires fresh { SoFar events.old.survey.limits events.old (R.told reader.old) (R.told reader.old) [] [] [] }
+    ensures { TellsAll events.old.completeness events.old.survey.limits (R.told reader.old) (R.told reader.new) (W.told writer.old) (W.told writer.new) result }
+{
     let mut tally = Tally::new();
-    let end = explain_events(alloc, &mut events, reader, writer, &mut tally)?;
-    close(alloc, &mut events, writer, &mut tally, end)
+    let end = explain_events(alloc, events, reader, writer, &mut tally)?;
+    close(alloc, events, writer, &mut tally, end)
 }
 
 /// Explains the causes among a log's events up to its end.

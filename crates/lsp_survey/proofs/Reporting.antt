@@ -11,7 +11,7 @@ use Rattle.lsp_frame.specs.Told.{Told, Took, after_failure}
 use Rattle.lsp_frame.proofs.Telling.{took_then}
 use Rattle.lsp_frame.proofs.Writing.{stopped_before, stopped_then, wrote_then}
 use Rattle.lsp_survey.specs.Reads.{BeginsSurvey, SoFar, BrokeOff}
-use Rattle.lsp_survey.specs.Reported.{is_every, IsReported, BeginsReported, lines_of, closing, IsYes, sink_after, IsTally, AllReported, PartReported, Listed}
+use Rattle.lsp_survey.specs.Reported.{is_every, IsReported, BeginsReported, lines_of, closing, IsYes, sink_after, IsTally, AllReported, PartReported, Listed, Reports}
 use Rattle.lsp_verdict.specs.declared.listing.Listing.{Listing}
 use Rattle.lsp_verdict.specs.declared.listing.Listing.TheVariants.{Causes, Every}
 use Rattle.lsp_survey.specs.declared.survey_reader.End.{End}
@@ -301,13 +301,10 @@ each_failed listing xs i x old mid new fault at wrote told = by_fault fault told
 
 -- ---- the run
 
-pub part_by : (k m : Completeness) (a b : Bounds) (listing : Listing) (start now old new : Told) (fault : RunFault) → k ≡ m → a ≡ b → PartReported k a listing start now old new fault → PartReported m b listing start now old new fault
-part_by k m a b listing start now old new fault same alike p =
-    subst (λ (c : Completeness). PartReported c b listing start now old new fault) same (subst (λ (x : Bounds). PartReported k x listing start now old new fault) alike p)
-
-pub listed_by : (k m : Completeness) (a b : Bounds) (listing : Listing) (e : SurveyReader) (t : Tally) (start now old new : Told) (end : End) → k ≡ m → a ≡ b → Listed k a listing e t start now old new end → Listed m b listing e t start now old new end
-listed_by k m a b listing e t start now old new end same alike p =
-    subst (λ (c : Completeness). Listed c b listing e t start now old new end) same (subst (λ (x : Bounds). Listed k x listing e t start now old new end) alike p)
+-- a run says the same of a reader with these limits
+pub reports_by : (k m : Completeness) (a b : Bounds) (listing : Listing) (start now old new : Told) (r : Result verdicts.Verdict RunFault) → k ≡ m → a ≡ b → Reports k a listing start now old new r → Reports m b listing start now old new r
+reports_by k m a b listing start now old new r same alike p =
+    subst (λ (c : Completeness). Reports c b listing start now old new r) same (subst (λ (x : Bounds). Reports k x listing start now old new r) alike p)
 
 pub fresh_at : (a b : Bounds) (e : SurveyReader) (start : Told) → a ≡ b → SoFar a e start start [] [] [] → SoFar b e start start [] [] []
 fresh_at a b e start same so = subst (λ (x : Bounds). SoFar x e start start [] [] []) same so

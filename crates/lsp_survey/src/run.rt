@@ -90,9 +90,24 @@ fn report_all<R: Source, W: Sink>(
     ensures reports { Reports completeness limits listing (R.told reader.old) (R.told reader.new) (W.told writer.old) (W.told writer.new) result }
 {
     let mut events = SurveyReader::new(alloc, limits, completeness);
+    report_events(alloc, &mut events, reader, writer, listing)
+}
+
+/// Writes the report of all that is wrong with a log, of which nothing was read, and gives its verdict.
+fn report_events<R: Source, W: Sink>(
+    alloc: Global,
+    events: &mut SurveyReader,
+    reader: &mut R,
+    writer: &mut W,
+    listing: Listing,
+) -> Result<Verdict, RunFault>
+    requires range { IsInRange events.old.survey.limits }
+    requires fresh { SoFar events.old.survey.limits events.old (R.told reader.old) (R.told reader.old) [] [] [] }
+    ensures { Reports events.old.completeness events.old.survey.limits listing (R.told reader.old) (R.told reader.new) (W.told writer.old) (W.told writer.new) result }
+{
     let mut tally = Tally::new();
-    let end = list_events(alloc, &mut events, reader, writer, listing, &mut tally)?;
-    close(alloc, &mut events, writer, listing, &mut tally, end)
+    let end = list_events(alloc, events, reader, writer, listing, &mut tally)?;
+    close(alloc, events, writer, listing, &mut tally, end)
 }
 
 /// Lists the offences of a log's events up to its end.

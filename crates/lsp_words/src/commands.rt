@@ -144,20 +144,36 @@ fn frames<'a>(alloc: Global) -> Result<Command<'a>, AllocError> {
         .arg(file)
 }
 
+/// Adds the commands that judge a session.
+fn with_verdicts<'a>(alloc: Global, command: Command<'a>) -> Result<Command<'a>, AllocError> {
+    command
+        .subcommand(check(alloc)?)?
+        .subcommand(explain(alloc)?)?
+        .subcommand(show(alloc)?)
+}
+
+/// Adds the commands that write a part of a session.
+fn with_parts<'a>(alloc: Global, command: Command<'a>) -> Result<Command<'a>, AllocError> {
+    command.subcommand(text(alloc)?)?.subcommand(event(alloc)?)
+}
+
+/// Adds the commands that write a log again, or read one raw stream.
+fn with_forms<'a>(alloc: Global, command: Command<'a>) -> Result<Command<'a>, AllocError> {
+    command
+        .subcommand(normal(alloc)?)?
+        .subcommand(upgrade(alloc)?)?
+        .subcommand(frames(alloc)?)
+}
+
 /// All of the command line.
 pub(crate) fn command_line<'a>(alloc: Global) -> Result<Command<'a>, AllocError> {
-    Command::new(alloc, "lspcheck")
+    let program = Command::new(alloc, "lspcheck")
         .about("Judges recorded sessions between an editor and a language server")
         .version(VERSION)
         .after_help(MORE)
         .subcommand_required(true)
-        .arg_required_else_help(true)
-        .subcommand(check(alloc)?)?
-        .subcommand(explain(alloc)?)?
-        .subcommand(show(alloc)?)?
-        .subcommand(text(alloc)?)?
-        .subcommand(event(alloc)?)?
-        .subcommand(normal(alloc)?)?
-        .subcommand(upgrade(alloc)?)?
-        .subcommand(frames(alloc)?)
+        .arg_required_else_help(true);
+    let program = with_verdicts(alloc, program)?;
+    let program = with_parts(alloc, program)?;
+    with_forms(alloc, program)
 }

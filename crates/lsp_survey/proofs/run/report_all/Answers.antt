@@ -1,21 +1,13 @@
 use Rattle.std.proofs.Common.{sym}
-use Rattle.std.proofs.lemmas.Result.{err_from_is_err_and}
-use Rattle.lsp_survey.proofs.Reporting.{fresh_at, listed_by, part_by}
+use Rattle.lsp_survey.proofs.Reporting.{fresh_at, reports_by}
 use Rattle.lsp_survey.proofs.run.report_all.Goals as goal
 
-pub list_events-requires-clause-fresh : goal.list_events-requires-clause-fresh
-list_events-requires-clause-fresh g c =
+pub report_events-requires-clause-fresh : goal.report_events-requires-clause-fresh
+report_events-requires-clause-fresh g c =
     let so = c.new-events.ensures.fresh (g.R.Source.told c.args.reader.now) in
     fresh_at c.args.limits _ _ _ (sym so.surveys.same) so
-
-pub returns-in_err-end-clause-reports : goal.returns-in_err-end-clause-reports
-returns-in_err-end-clause-reports g c =
-    let p = err_from_is_err_and c.from_residual.result c.from_residual.ensures.1 in
-    let so = c.new-events.ensures.fresh (g.R.Source.told c.args.reader.now) in
-    rw (p.1, p.2) (part_by _ c.args.completeness _ c.args.limits c.args.listing _ _ _ _ _ c.new-events.ensures.completeness so.surveys.same c.in_err-end.ensures)
 
 pub returns-clause-reports : goal.returns-clause-reports
 returns-clause-reports g c =
     let so = c.new-events.ensures.fresh (g.R.Source.told c.args.reader.now) in
-    c.close.ensures c.args.completeness c.args.limits (g.R.Source.told c.args.reader.now) (g.R.Source.told c.list_events.new.reader) (g.W.Sink.told c.args.writer.now)
-    (listed_by _ c.args.completeness _ c.args.limits c.args.listing _ _ _ _ _ _ _ c.new-events.ensures.completeness so.surveys.same c.in_ok-end.ensures)
+    reports_by _ c.args.completeness _ c.args.limits c.args.listing _ _ _ _ _ c.new-events.ensures.completeness so.surveys.same c.report_events.ensures
