@@ -26,7 +26,6 @@ use Rattle.lsp_verdict.specs.RunIo.{OfRead, BreaksOff}
 use Rattle.lsp_verdict.specs.Verdict.{Verdict, Summary, summary, yes, bad_log, no_by}
 use Rattle.lsp_verdict.specs.declared.completeness.Completeness.{Completeness}
 use Rattle.lsp_verdict.specs.declared.outcome.RunFault.{RunFault}
-use Rattle.lsp_verdict.specs.declared.outcome.RunFault.TheVariants as faults
 use Rattle.lsp_verdict.specs.declared.verdict.Summary as code
 use Rattle.lsp_verdict.specs.declared.verdict.Verdict.TheVariants as verdicts
 use Rattle.lsp_explain.specs.Explained.{Heard, Explained, Explains, breach, raws_of, notes_of, said_of, IsExplanation}

@@ -15,7 +15,6 @@ use Rattle.lsp_text.specs.Edits.{Edit, changed, applied}
 use Rattle.lsp_docs.specs.Texts.{Text}
 use Rattle.lsp_docs.specs.Terms.{Terms}
 use Rattle.lsp_docs.specs.Calls.{Call}
-use Rattle.lsp_text.specs.Changes as changes
 use Rattle.lsp_docs.specs.Documents.{Version, versioned, is_after}
 use Rattle.lsp_docs.specs.Rules.{differs, text_rule, fits_kind, change_rule, show_rule, call_rule}
 use Rattle.lsp_docs.specs.Others.{is_other, differs_from, other_than}
