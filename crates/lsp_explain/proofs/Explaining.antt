@@ -1,13 +1,13 @@
 -- The events of a log that offend, and what is explained of them.
 use Rattle.std.specs.Prelude.{map, option_map}
 use Rattle.std.specs.List.{AllZip, cons_option}
-use Rattle.std.proofs.Common.{◌≡◌, ℕ, List, [], ◌∷◌, ◌++◌, Option, Some, None, refl, sym, ap, ◌∙◌, append-nil}
+use Rattle.std.proofs.Common.{◌≡◌, ℕ, List, [], ◌∷◌, ◌++◌, Option, Some, None, refl, sym, ap, ◌∙◌}
 use Rattle.std.proofs.lemmas.List.{map-append}
 use Rattle.lsp_docs.specs.Terms.{Terms}
 use Rattle.lsp_verdict.specs.LookBack.{each_from}
 use Rattle.lsp_verdict.specs.Offences.{Noted, Offence, IsNoted, events_of, rule_at, offence_by, offence_at, offences}
 use Rattle.lsp_verdict.specs.Placed.{Raw}
-use Rattle.lsp_verdict.proofs.LookBackLemmas.{each_from-append, each_of-snoc}
+use Rattle.lsp_verdict.proofs.LookBackLemmas.{each_from-append}
 use Rattle.lsp_explain.specs.Explained.{Heard, Breach, raws_of, notes_of, breach, breach_at, breaches}
 
 -- ---- events with what they were before they were read
@@ -17,9 +17,6 @@ raws-append hs more = map-append (λ (h : Heard). h.raw) hs more
 
 pub notes-append : (hs more : List Heard) → notes_of (hs ++ more) ≡ notes_of hs ++ notes_of more
 notes-append hs more = map-append (λ (h : Heard). h.note) hs more
-
-AreNoted : List Heard → Type 0
-AreNoted hs = AllZip IsNoted (raws_of hs) (notes_of hs)
 
 pub noted-append : (hs more : List Heard) → AllZip IsNoted (raws_of hs) (notes_of hs) → AllZip IsNoted (raws_of more) (notes_of more) → AllZip IsNoted (raws_of (hs ++ more)) (notes_of (hs ++ more))
 noted-append [] more p q = q
@@ -62,16 +59,6 @@ offences_from terms before (h ∷ hs) =
 -- the offences are theirs
 pub offences_are : (terms : Terms) (hs : List Heard) → offences terms (notes_of hs) ≡ map (offence_of terms) (breaches terms hs)
 offences_are terms hs = offences_from terms [] hs
-
--- one event more, which is kept
-pub breaches-kept : (terms : Terms) (hs : List Heard) (h : Heard) → rule_at terms (events_of (notes_of hs)) h.note.event ≡ None → breaches terms (hs ++ h ∷ []) ≡ breaches terms hs
-breaches-kept terms hs h is =
-    each_of-snoc (breach_at terms) hs h ∙ ap (λ (o : Option ℕ). breaches terms hs ++ cons_option (option_map (breach hs h) o) []) is ∙ append-nil (breaches terms hs)
-
--- or which offends
-pub breaches-push : (terms : Terms) (hs : List Heard) (h : Heard) (rule : ℕ) → rule_at terms (events_of (notes_of hs)) h.note.event ≡ Some rule → breaches terms (hs ++ h ∷ []) ≡ breaches terms hs ++ breach hs h rule ∷ []
-breaches-push terms hs h rule is =
-    each_of-snoc (breach_at terms) hs h ∙ ap (λ (o : Option ℕ). breaches terms hs ++ cons_option (option_map (breach hs h) o) []) is
 
 -- the first that offends stays so, whatever comes behind it
 pub breaches-first : (terms : Terms) (hs later : List Heard) (h : Heard) (rule : ℕ) → breaches terms hs ≡ [] → rule_at terms (events_of (notes_of hs)) h.note.event ≡ Some rule

@@ -9,7 +9,7 @@ use Rattle.lsp_survey.specs.Walking.{IsOffending}
 use Rattle.lsp_survey.specs.declared.offending.Offending.{Offending}
 use Rattle.lsp_survey.specs.declared.offending.Offending.TheVariants as what
 use Rattle.lsp_verdict.specs.Contents.{IsSent}
-use Rattle.lsp_verdict.specs.Event.{Event, message, fault, snapshot, sent_in}
+use Rattle.lsp_verdict.specs.Event.{Event, message, fault, snapshot}
 use Rattle.lsp_verdict.specs.Offences.{kept_of, rule_at}
 use Rattle.lsp_verdict.specs.Placed.{Raw, content, broken, show, Reads}
 use Rattle.lsp_verdict.proofs.OneEvent.{one_event}
@@ -85,7 +85,7 @@ module _ (terms : Terms) (kept : List Event) (rule : ℕ) where
   line_said number (content side bytes) event (what.Message by spoken) reads is =
       let refused = is.1 in
       let same : event ≡ message refused.sent = one_event side bytes event (message refused.sent) reads refused.reads in
-      sym (same_line (sent_in kept) refused.sent by (message_view spoken.message) (act_view spoken.act) (refused.reads.by ∙ sym is.0) refused.says refused.means refused.whole number) ∙ sym (ap (event_line number) same)
+      sym (same_line refused.sent by (message_view spoken.message) number (refused.reads.by ∙ sym is.0) refused.says) ∙ sym (ap (event_line number) same)
   line_said number (show n uri text) event (what.Snapshot version name shown) reads is =
       ap (λ u. snapshot_event number u version (chars (string_bytes shown))) is.1 ∙ ap (λ v. snapshot_event number uri v (chars (string_bytes shown))) is.0 ∙ ap (λ t. snapshot_event number uri n (chars t)) is.2
       ∙ sym (ap (event_line number) reads)

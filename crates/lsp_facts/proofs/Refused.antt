@@ -1,5 +1,5 @@
 -- What is said of a document by a message that breaks a rule on documents.
-use Rattle.std.proofs.Common.{◌≡◌, ◌≤◌, ◌<◌, ℕ, List, Option, Some, None, true, false, refl, sym, ap, ◌∙◌, subst, arith}
+use Rattle.std.proofs.Common.{◌≡◌, ◌≤◌, ℕ, List, Option, Some, None, false, refl, sym, ap, ◌∙◌, subst, arith}
 use Rattle.std.specs.Prelude.{nat_lt, option_and_then, unwrap_or}
 use Rattle.std.specs.Option.{option_or}
 use Rattle.std.proofs.lemmas.Bool.Decides.{nat_tests}
@@ -22,7 +22,6 @@ use Rattle.lsp_verdict.specs.Verdict.{document_rule, offence}
 use Rattle.lsp_facts.specs.DocumentFacts.{AreDocumentFacts}
 use Rattle.lsp_facts.specs.EventFacts.{AreCallFacts, AreFactsBy, AreMessageFacts}
 use Rattle.lsp_facts.specs.Fact.{Fact}
-use Rattle.lsp_facts.specs.MessageFacts.{session_facts}
 
 -- the message says something of a document that breaks the rule
 pub record BreaksCall (terms : Terms) (kept : List Event) (m : Sent) (rule : ℕ) : Type 0 where
@@ -59,9 +58,3 @@ on_document terms kept m act rule facts enc kind least offends means agreed sent
     subst (λ e. AreDocumentFacts terms e (calls kept) b.call rule facts) agreed (says b.call said b.breaks) in
     let is : nat_lt rule 601 ≡ false = grind (arith, nat_tests) in
     subst (λ t. AreFactsBy t terms kept m rule facts) (sym is) (subst (λ c. AreCallFacts terms kept rule c facts) (sym b.says) there)
-
--- one that breaks a rule of the session: they are those on the message
-pub on_message : (terms : Terms) (kept : List Event) (m : Sent) (rule : ℕ) (facts : List Fact) → rule < 601 → facts ≡ session_facts rule (sent_in kept) m → AreMessageFacts terms kept m rule facts
-on_message terms kept m rule facts less are =
-    let is : nat_lt rule 601 ≡ true = grind (arith, nat_tests) in
-    subst (λ t. AreFactsBy t terms kept m rule facts) (sym is) are

@@ -10,12 +10,9 @@ use Rattle.lsp_session.specs.Negotiation.{is_synchronisation}
 use Rattle.lsp_session.specs.Sent.{Sent}
 use Rattle.lsp_verdict.specs.Offences.{is_within}
 use Rattle.lsp_facts.specs.Fact.{Fact, has_id, in_phase, offers, picks, registers, begins}
+use Rattle.lsp_frame.specs.Front.{shown_bytes}
 
 -- ---- contents that are no message: 201 to 209
-
--- how many bytes of a content are looked at
-abbrev pub shown_bytes : ℕ
-shown_bytes = 64
 
 -- the longest front of some bytes that is UTF-8
 abbrev pub text_front : List ℕ → List ℕ
