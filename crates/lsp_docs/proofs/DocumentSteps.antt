@@ -17,6 +17,7 @@ use Rattle.lsp_docs.specs.Documents.{Version, versioned, revised, held_since, he
 use Rattle.lsp_docs.specs.State.{held_in, set_in, without}
 use Rattle.lsp_docs.proofs.Words.{uri_is, uri_flip}
 use Rattle.lsp_docs.proofs.HeldSteps.{since, held_since-snoc}
+use Rattle.lsp_docs.proofs.WaitingSteps.{none_row}
 
 abbrev pub stays : Call → Held → Bool
 stays c h = not (is_close h.uri c)
@@ -91,10 +92,6 @@ pub all_shown : (terms : Terms) (u : Bytes) (n : ℤ) (t : Text) (hs : List Held
 all_shown terms u n t [] = refl
 all_shown terms u n t (h ∷ hs) = ap (λ l. h ∷ l) (all_shown terms u n t hs)
 
-pub not_here : (b : Bool) (v : Version) (rest : Option Version) → (if b then Some v else rest) ≡ None → (b ≡ false) × (rest ≡ None)
-not_here true v rest h = absurd (none-some v (sym h))
-not_here false v rest h = (refl, h)
-
 pub here : {A : Type 0} (b : Bool) (x y : A) (rest : Option A) → (if b then Some x else rest) ≡ Some y → b ≡ true → x ≡ y
 here true x y rest h p = same_Some x y h
 here false x y rest h p = absurd (true≢false (sym p))
@@ -106,7 +103,7 @@ there false x y rest h p = h
 pub closed_none : (terms : Terms) (u : Bytes) (hs : List Held) → held_in u hs ≡ None → after_call terms (closes u) hs ≡ hs
 closed_none terms u [] e = refl
 closed_none terms u (h ∷ hs) e =
-    let parts = not_here (bytes_eq u h.uri) h.version (held_in u hs) e in
+    let parts = none_row (bytes_eq u h.uri) h.version (held_in u hs) e in
     rw (uri_flip h.uri u ∙ parts.0) (ap (λ l. h ∷ l) (closed_none terms u hs parts.1))
 
 pub closed_is : (terms : Terms) (u : Bytes) (hs : List Held) → IsDistinct hs → after_call terms (closes u) hs ≡ without u hs
@@ -121,7 +118,7 @@ module _ (terms : Terms) (enc : Encoding) (k : SyncKind) (u : Bytes) (n : ℤ) (
   pub changed_none : (hs : List Held) → held_in u hs ≡ None → after_call terms (changes enc k u n cs) hs ≡ hs
   changed_none [] e = refl
   changed_none (h ∷ hs) e =
-      let parts = not_here (bytes_eq u h.uri) h.version (held_in u hs) e in
+      let parts = none_row (bytes_eq u h.uri) h.version (held_in u hs) e in
       rw (uri_flip h.uri u ∙ parts.0) (ap (λ l. h ∷ l) (changed_none hs parts.1))
 
   pub changed_is : (v : Version) (t : Text) → applied terms.limit enc v.text cs ≡ Ok t → (hs : List Held) → IsDistinct hs → held_in u hs ≡ Some v

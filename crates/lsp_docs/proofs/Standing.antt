@@ -16,7 +16,7 @@ use Rattle.lsp_docs.specs.Rules.{call_rule, AreAcceptedFrom, AreAccepted}
 use Rattle.lsp_docs.specs.Missed.{ends_waiting, missed_at, missed}
 use Rattle.lsp_docs.specs.State.{Queue, Waits, held_in, queue_of, keep_in, total, capped, reached, missed_one, SameVersions, IsAdded, IsReleased, AreWaits}
 use Rattle.lsp_docs.proofs.Words.{filter-none, filter-all, capped-add, uri_is, uri_same, uri_flip, and_first}
-use Rattle.lsp_docs.proofs.DocumentSteps.{after_call, stays, documents-push, held-documents, IsDistinct, all_stay, not_here}
+use Rattle.lsp_docs.proofs.DocumentSteps.{after_call, stays, documents-push, held-documents, IsDistinct, all_stay}
 use Rattle.lsp_docs.proofs.WaitingSteps.{still, waiting-push, missed-push, missed-quiet, versions-kept, count-kept, count-ended, versions_of-append, none_row}
 use Rattle.lsp_docs.proofs.QueueSteps.{queue-kept, queue-others, total-kept}
 use Rattle.lsp_docs.proofs.SameVersions.{same-of, same-then, same-length, same-behind, same-filtered}
@@ -37,7 +37,7 @@ accepted-push terms calls c h e = accepted_from-push terms [] calls c h e
 none-after : (terms : Terms) (c : Call) (x : Bytes) (hs : List Held) → held_in x hs ≡ None → held_in x (after_call terms c hs) ≡ None
 none-after terms c x [] e = refl
 none-after terms c x (h ∷ hs) e =
-    let parts = not_here (bytes_eq x h.uri) h.version (held_in x hs) e in
+    let parts = none_row (bytes_eq x h.uri) h.version (held_in x hs) e in
     let rest = none-after terms c x hs parts.1 in
     elim (cases_Bool (stays c h)) [ inl p ↦ rw (p, parts.0) rest | inr p ↦ rw p rest ]
 
@@ -50,13 +50,13 @@ distinct-after terms c (h ∷ hs) d =
 none-last : (x : Bytes) (hs : List Held) (h : Held) → held_in x hs ≡ None → bytes_eq x h.uri ≡ false → held_in x (hs ++ h ∷ []) ≡ None
 none-last x [] h e p = rw p refl
 none-last x (g ∷ hs) h e p =
-    let parts = not_here (bytes_eq x g.uri) g.version (held_in x hs) e in
+    let parts = none_row (bytes_eq x g.uri) g.version (held_in x hs) e in
     rw parts.0 (none-last x hs h parts.1 p)
 
 distinct-last : (hs : List Held) (h : Held) → IsDistinct hs → held_in h.uri hs ≡ None → IsDistinct (hs ++ h ∷ [])
 distinct-last [] h d e = (refl, tt)
 distinct-last (g ∷ hs) h d e =
-    let parts = not_here (bytes_eq h.uri g.uri) g.version (held_in h.uri hs) e in
+    let parts = none_row (bytes_eq h.uri g.uri) g.version (held_in h.uri hs) e in
     (none-last g.uri hs h d.0 (uri_flip g.uri h.uri ∙ parts.0), distinct-last hs h d.1 parts.1)
 
 distinct-push : (terms : Terms) (calls : List Call) (c : Call) → call_rule terms calls c ≡ None → IsDistinct (documents terms calls) → IsDistinct (documents terms (calls ++ c ∷ []))

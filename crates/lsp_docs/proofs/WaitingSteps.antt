@@ -37,9 +37,9 @@ still c s = still_at c s.uri s.version.number
 
 -- ---- what a rule that does not apply says
 
-pub none_row : (b : Bool) (n : ℕ) (rest : Option ℕ) → (if b then Some n else rest) ≡ None → (b ≡ false) × (rest ≡ None)
-none_row true n rest h = absurd (none-some n (sym h))
-none_row false n rest h = (refl, h)
+pub none_row : {A : Type 0} (b : Bool) (x : A) (rest : Option A) → (if b then Some x else rest) ≡ None → (b ≡ false) × (rest ≡ None)
+none_row true x rest h = absurd (none-some x (sym h))
+none_row false x rest h = (refl, h)
 
 -- what an accepted change says
 pub record Changes (terms : Terms) (ws : List Version) (enc : Encoding) (m : ℤ) (cs : List Edit) (h : Option Version) : Type 0 where

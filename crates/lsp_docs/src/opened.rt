@@ -134,9 +134,7 @@ impl<S: TextStore> OpenDocuments<S> {
         ensures kept { OnOk result (KeepsOn most uri.now (held_in uri.now self.old.held) self.old.kept self.new.kept) }
         ensures err { OnErr result (self.new ≡ self.old) }
     {
-        let Some(document) = self.documents.get_mut(uri) else {
-            return Ok(());
-        };
+        let document = self.documents.get_mut(uri).unwrap();
         document.revise(most, version, store)
     }
 
@@ -156,9 +154,7 @@ impl<S: TextStore> OpenDocuments<S> {
         ensures fault { IfErr result (Breaks (applied limit encoding (text_in (held_in uri.now self.old.held)) (edit_of change.now ∷ []))) }
         ensures err { OnErr result (self.new ≡ self.old) }
     {
-        let Some(document) = self.documents.get_mut(uri) else {
-            return Ok(());
-        };
+        let document = self.documents.get_mut(uri).unwrap();
         document.held.change(limit, encoding, version, change)
     }
 }

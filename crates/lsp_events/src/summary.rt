@@ -119,9 +119,7 @@ fn push_requests(
     ensures { OnOk result (requests_view found.new.items ≡ requests_view found.old.items ++ map (λ r. (side, r)) pending.now) }
 {
     for index in 0..pending.len() {
-        let Some(request) = pending.at(index) else {
-            return Ok(());
-        };
+        let request = pending.at(index).unwrap();
         found.push((side, copy_request(request)?))?;
     }
     Ok(())

@@ -318,9 +318,7 @@ fn requests(alloc: Global, pending: &Pending, said: &SessionNotes) -> Result<Vec
 {
     let mut facts = Vec::new(alloc);
     for index in 0..pending.len() {
-        let Some(request) = pending.at(index) else {
-            return Ok(facts);
-        };
+        let request = pending.at(index).unwrap();
         facts.push(request_by(alloc, request, said)?)?;
     }
     Ok(facts)

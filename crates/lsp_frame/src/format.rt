@@ -1,3 +1,5 @@
+//! The two formats of a log.
+
 /// The format of a log, which its first line names.
 #[derive(Clone, Copy, Debug, PartialEq, Eq)]
 pub enum Format {

@@ -69,7 +69,7 @@ impl Model for Chunk {
 }
 
 impl Chunk {
-    // A chunk of some runs, if a number can tell how many lines they have.
+    /// A chunk of some runs, if a number can tell how many lines they have.
     fn of(alloc: Global, runs: Vec<SharedRun>) -> Result<Chunk, AllocError>
         ensures { IfOk result (λ chunk. chunk ≡ joined_runs runs.items) }
     {
@@ -100,7 +100,7 @@ impl Chunk {
         self.lines
     }
 
-    // Its runs.
+    /// Its runs.
     fn runs(&self) -> &[SharedRun]
         ensures { joined_runs result.now ≡ self.now }
     {
@@ -179,7 +179,7 @@ impl Chunk {
     }
 }
 
-// The runs that others may hold too.
+/// The runs that others may hold too.
 fn held(shared: &Rc<Runs>) -> &[SharedRun]
     ensures { result.now ≡ shared.now.value.items.items }
 {
@@ -187,7 +187,7 @@ fn held(shared: &Rc<Runs>) -> &[SharedRun]
     &runs.items
 }
 
-// Puts a text in the place of some bytes of a line of runs that others may hold too, in runs of its own.
+/// Puts a text in the place of some bytes of a line of runs that others may hold too, in runs of its own.
 fn replace_shared(
     shared: &mut Rc<Runs>,
     i: usize,
@@ -208,7 +208,7 @@ fn replace_shared(
     replace_in(&mut own.items, i, from, to, text)
 }
 
-// Puts a text in the place of some bytes of a line of runs.
+/// Puts a text in the place of some bytes of a line of runs.
 fn replace_in(
     runs: &mut Vec<SharedRun>,
     i: usize,

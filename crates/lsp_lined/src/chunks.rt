@@ -66,7 +66,7 @@ pub(crate) fn bytes_between(chunks: &[Chunk], first: usize, end: usize) -> u64
     bytes_of(&chunks[first..end])
 }
 
-// The bytes of chunks.
+/// The bytes of chunks.
 fn bytes_of(chunks: &[Chunk]) -> u64
     requires { units Encoding.Utf8 (text_of (joined_runs chunks.now)) < 2 ^ 64 }
     ensures { result ≡ units Encoding.Utf8 (text_of (joined_runs chunks.now)) }
@@ -146,7 +146,7 @@ pub(crate) fn put(
     Ok(())
 }
 
-// Puts chunks in the place of as many from `first` on.
+/// Puts chunks in the place of as many from `first` on.
 fn assign(chunks: &mut Vec<Chunk>, first: usize, fresh: Vec<Chunk>)
     requires { first + length fresh.items ≤ length chunks.old.items }
     ensures { chunks.new.items ≡ splice chunks.old.items first (first + length fresh.items) fresh.items }

@@ -187,7 +187,7 @@ pub(crate) fn roomy_copy(alloc: Global, text: &str) -> Result<String, AllocError
     Ok(copy)
 }
 
-// A text that others may hold too.
+/// A text that others may hold too.
 fn shared_str(shared: &Rc<RoomyText>) -> &str
     ensures value { result.now ≡ string_bytes shared.now.value.text }
 {
@@ -195,7 +195,7 @@ fn shared_str(shared: &Rc<RoomyText>) -> &str
     held.text.as_str()
 }
 
-// Puts a text in the place of some bytes of a text that others may hold too, in one of its own.
+/// Puts a text in the place of some bytes of a text that others may hold too, in one of its own.
 fn replace_shared(
     shared: &mut Rc<RoomyText>,
     from: usize,

@@ -44,7 +44,7 @@ pub(crate) fn cut_into(
     Ok(())
 }
 
-// The first run of a text: a long line, or short ones.
+/// The first run of a text: a long line, or short ones.
 fn cut_off<'a>(alloc: Global, text: &'a str, followed: bool) -> Result<CutOff<'a>, AllocError>
     ensures { IfOk result (IsCutOff followed text.now) }
 {
@@ -61,7 +61,7 @@ fn cut_off<'a>(alloc: Global, text: &'a str, followed: bool) -> Result<CutOff<'a
     })
 }
 
-// The run of a text without line ends.
+/// The run of a text without line ends.
 fn cut_last<'a>(alloc: Global, text: &'a str, followed: bool) -> Result<CutOff<'a>, AllocError>
     requires { has_no_line_end (chars text.now) ≡ true }
     ensures { IfOk result (IsCutOff followed text.now) }
@@ -76,7 +76,7 @@ fn cut_last<'a>(alloc: Global, text: &'a str, followed: bool) -> Result<CutOff<'
     })
 }
 
-// The run of the short lines that a text begins with.
+/// The run of the short lines that a text begins with.
 fn cut_short<'a>(alloc: Global, text: &'a str, followed: bool) -> Result<CutOff<'a>, AllocError>
     ensures { IfOk result (IsCutOff followed text.now) }
 {
@@ -115,7 +115,7 @@ pub(crate) fn between(
     Ok(())
 }
 
-// The same in one run, where that is short.
+/// The same in one run, where that is short.
 fn in_one(
     alloc: Global,
     first: &SharedRun,
@@ -153,13 +153,13 @@ fn in_one(
     Ok(Some(SharedRun::of_short(alloc, lines, count)?))
 }
 
-// Whether lines and a text between them are too long for one run.
+/// Whether lines and a text between them are too long for one run.
 fn is_over(head: &LentLines<'_>, text: &str, tail: &LentLines<'_>) -> bool {
     let bytes = head.text.len().saturating_add(text.len());
     bytes.saturating_add(tail.text.len()) > MOST
 }
 
-// Puts the lines of a run from one up to another behind runs.
+/// Puts the lines of a run from one up to another behind runs.
 fn push_part(
     alloc: Global,
     runs: &mut Vec<SharedRun>,
@@ -207,7 +207,7 @@ pub(crate) fn is_filled(run: &SharedRun, more: usize) -> bool {
     run.len().saturating_add(more) > MOST && run.short().is_some()
 }
 
-// A line in pieces.
+/// A line in pieces.
 fn in_pieces(alloc: Global, line: &LentLine<'_>) -> Result<PiecedLine, AllocError>
     requires { units Encoding.Utf8 line.now.end ≡ length line.now.end }
     ensures { IfOk result (λ pieced. pieced ≡ line.now) }

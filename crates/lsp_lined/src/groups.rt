@@ -132,7 +132,7 @@ impl Group {
     }
 }
 
-// The pieces that others may hold too.
+/// The pieces that others may hold too.
 fn held(shared: &Rc<Pieces>) -> &[CountedLine]
     ensures { result.now ≡ shared.now.value.items.items }
 {
@@ -140,7 +140,7 @@ fn held(shared: &Rc<Pieces>) -> &[CountedLine]
     &pieces.items
 }
 
-// Puts a text in the place of some bytes of one of the pieces that others may hold too, in pieces of its own.
+/// Puts a text in the place of some bytes of one of the pieces that others may hold too, in pieces of its own.
 fn replace_shared(
     shared: &mut Rc<Pieces>,
     i: usize,
@@ -160,7 +160,7 @@ fn replace_shared(
     own.items[i].replace(from, to, text)
 }
 
-// The units of pieces in each encoding.
+/// The units of pieces in each encoding.
 fn widths_in(pieces: &[CountedLine]) -> Widths
     requires { units Encoding.Utf8 (bodies pieces.now) < 2 ^ 64 }
     ensures { result ≡ widths_of (bodies pieces.now) }
@@ -197,7 +197,7 @@ pub(crate) fn locate(groups: &[Group], encoding: Encoding, column: u64) -> InGro
     }
 }
 
-// The group in which a column falls, or the one behind these.
+/// The group in which a column falls, or the one behind these.
 fn find_group(groups: &[Group], encoding: Encoding, column: u64) -> Found
     requires { units Encoding.Utf8 (bodies (joined_runs groups.now)) < 2 ^ 64 }
     ensures { IsFoundGroup groups.now encoding column result }
@@ -235,7 +235,7 @@ pub(crate) fn piece<'a>(groups: &'a [Group], last: &'a CountedLine, at: InGroups
     piece_in(pieces_of(groups, at.group), last, at.piece)
 }
 
-// The piece of that number, or the last.
+/// The piece of that number, or the last.
 fn piece_in<'a>(pieces: &'a [CountedLine], last: &'a CountedLine, index: usize) -> &'a CountedLine
     ensures { result.now ≡ piece_at pieces.now last.now index }
 {

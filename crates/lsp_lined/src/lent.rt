@@ -224,7 +224,7 @@ impl<'a> LentLine<'a> {
     }
 }
 
-// The piece at a place, or the last.
+/// The piece at a place, or the last.
 fn piece<'a>(groups: &'a [Group], last: &LentPiece<'a>, at: InGroups) -> LentPiece<'a>
     requires { IsInGroups groups.now at }
     ensures { result ≡ piece_at (joined_runs groups.now) last.now (index_of groups.now at) }
@@ -232,7 +232,7 @@ fn piece<'a>(groups: &'a [Group], last: &LentPiece<'a>, at: InGroups) -> LentPie
     piece_in(pieces_of(groups, at.group), last, at.piece)
 }
 
-// The piece of that number, or the last.
+/// The piece of that number, or the last.
 fn piece_in<'a>(pieces: &'a [CountedLine], last: &LentPiece<'a>, index: usize) -> LentPiece<'a>
     ensures { result ≡ piece_at pieces.now last.now index }
 {
@@ -242,9 +242,9 @@ fn piece_in<'a>(pieces: &'a [CountedLine], last: &LentPiece<'a>, index: usize) -
     }
 }
 
-// The bytes of a line before a column, or `None` where the column lies inside a character. The line's
-// units and its characters are counted already: they tell where a column past the line and one among
-// characters of one byte each lie.
+/// The bytes of a line before a column, or `None` where the column lies inside a character. The line's
+/// units and its characters are counted already: they tell where a column past the line and one among
+/// characters of one byte each lie.
 fn offset_in_counted(
     line: &str,
     width: u64,

@@ -162,13 +162,11 @@ impl PiecedLine {
         if found.group == front.len() {
             return self.last.replace(start, end, text);
         }
-        let Some(front) = &mut self.front else {
-            return Ok(());
-        };
+        let front = self.front.as_mut().unwrap();
         replace_in(front, found, start, end, text)
     }
 
-    // The same by cutting the line anew.
+    /// The same by cutting the line anew.
     fn rebuild(
         &mut self,
         alloc: Global,
@@ -197,7 +195,7 @@ impl PiecedLine {
     }
 }
 
-// The groups of a front.
+/// The groups of a front.
 fn groups(front: &Option<Box<Front>>) -> &[Group]
     ensures { result.now ≡ groups_in front.now }
 {
@@ -207,7 +205,7 @@ fn groups(front: &Option<Box<Front>>) -> &[Group]
     }
 }
 
-// The bytes of a front.
+/// The bytes of a front.
 fn bytes(front: &Option<Box<Front>>) -> usize
     ensures { result ≡ bytes_in front.now }
 {
@@ -217,7 +215,7 @@ fn bytes(front: &Option<Box<Front>>) -> usize
     }
 }
 
-// A front of some groups, if there are any.
+/// A front of some groups, if there are any.
 fn front_of(
     alloc: Global,
     groups: Vec<Group>,
@@ -241,7 +239,7 @@ struct CutOff<'a> {
     rest: &'a str,
 }
 
-// A group of pieces of a long text, and what comes after them.
+/// A group of pieces of a long text, and what comes after them.
 fn cut_off<'a>(alloc: Global, text: &'a str) -> Result<CutOff<'a>, AllocError>
     requires { length text.now < 2 ^ 64 }
     ensures { IfOk result (λ cut. IsCutFrom text.now cut.group cut.rest.now) }
@@ -260,7 +258,7 @@ fn cut_off<'a>(alloc: Global, text: &'a str) -> Result<CutOff<'a>, AllocError>
     Ok(CutOff { group, rest })
 }
 
-// Puts a text in the place of some bytes of a piece.
+/// Puts a text in the place of some bytes of a piece.
 fn replace_in(
     front: &mut Front,
     at: InGroups,

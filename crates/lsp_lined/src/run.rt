@@ -155,7 +155,7 @@ impl Run {
     }
 }
 
-// A short line, lent.
+/// A short line, lent.
 fn short_line<'a>(lines: &'a ShortLines, i: usize) -> LentLine<'a>
     requires { i < length lines.now }
     ensures { result ≡ slice_index_or lines.now i (open_line []) }

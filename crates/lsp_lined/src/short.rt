@@ -189,7 +189,7 @@ impl ShortLines {
         start_of(&self.table, i)
     }
 
-    // One of the lines, and where it begins.
+    /// One of the lines, and where it begins.
     fn get(&self, i: usize) -> ShortLine<'_>
         requires { i < length self.now }
         ensures start { result.start ≡ units Encoding.Utf8 (text_of (take i self.now)) }
@@ -263,7 +263,7 @@ pub(crate) fn count(text: &str, end: usize, plain: bool) -> LineCounts
     }
 }
 
-// The characters and the units of UTF-16 of a text.
+/// The characters and the units of UTF-16 of a text.
 fn count_text(text: &str, plain: bool) -> Counts
     requires { IsTrue plain → length (chars text.now) ≡ length text.now }
     ensures chars { result.chars ≡ length (chars text.now) }
@@ -279,7 +279,7 @@ fn count_text(text: &str, plain: bool) -> Counts
     measure(text)
 }
 
-// Where line `i` begins.
+/// Where line `i` begins.
 fn start_of(table: &[LineCounts], i: usize) -> usize
     requires within { i ≤ length table.now }
     requires fits { sum_by len_of table.now < 2 ^ 64 }
@@ -292,7 +292,7 @@ fn start_of(table: &[LineCounts], i: usize) -> usize
     start
 }
 
-// The counts of a line where a text takes the place of another before its end.
+/// The counts of a line where a text takes the place of another before its end.
 fn recount(old: LineCounts, removed: &str, inserted: &str) -> LineCounts
     requires len { length removed.now ≤ old.len }
     requires body { length removed.now ≤ old.body }

@@ -58,14 +58,14 @@ pub(crate) fn first_span<'a>(
     })
 }
 
-// Whether all characters of a text have one byte.
+/// Whether all characters of a text have one byte.
 fn is_plain(text: &str) -> bool
     ensures { IsTrue result → length (chars text.now) ≡ length text.now }
 {
     measure(text).chars == text.len() as u64
 }
 
-// Whether bytes are plain that end within those near the front.
+/// Whether bytes are plain that end within those near the front.
 fn is_near(plain: bool, end: usize, near: usize) -> bool
     ensures plain { IsTrue result → IsTrue plain }
     ensures near { IsTrue result → end ≤ near }
@@ -73,7 +73,7 @@ fn is_near(plain: bool, end: usize, near: usize) -> bool
     plain && end <= near
 }
 
-// The span that ends with the last line of a text, which is left for another span where it is long.
+/// The span that ends with the last line of a text, which is left for another span where it is long.
 fn last_span<'a>(
     table: Vec<LineCounts>,
     text: &'a str,

@@ -13,7 +13,7 @@ use Rattle.lsp_log.specs.Room.{AwaitsPart}
 use Rattle.lsp_log.specs.Stops.{Ends, Refused, StopAnswer, IsPartStop, PartsLack, PartsBreak, HasParts, TwoParts, TwoPartsAnswer, TextAnswer, PartsAnswer, FoundAnswer, is_flaw}
 use Rattle.lsp_log.specs.declared.record.Record.{Record}
 use Rattle.lsp_log.specs.declared.stop.Stop.{Stop}
-use Rattle.lsp_log.specs.declared.stop.Stop.TheVariants.{Short, End, Text, Read, Memory}
+use Rattle.lsp_log.specs.declared.stop.Stop.TheVariants.{Text}
 use Rattle.lsp_log.specs.declared.tape.PartFault.{PartFault}
 use Rattle.lsp_log.specs.declared.tape.PartFault.TheVariants as faults
 use Rattle.lsp_log.proofs.LogLemmas.{one_part}

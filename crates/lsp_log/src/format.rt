@@ -5,10 +5,10 @@ ghost use Rattle.lsp_log.specs.Log.{first_line, NoFirstLine};
 use lsp_frame::Format;
 
 /// How many bytes a first line has.
-pub const LINE_LEN: usize = 14;
+pub(crate) const LINE_LEN: usize = 14;
 
 /// The first line of a log of this format.
-pub fn first_line(format: Format) -> &'static [u8]
+pub(crate) fn first_line(format: Format) -> &'static [u8]
     ensures { result.now ≡ first_line format }
 {
     match format {
@@ -18,7 +18,7 @@ pub fn first_line(format: Format) -> &'static [u8]
 }
 
 /// The format whose first line the bytes begin with.
-pub fn format_of(bytes: &[u8]) -> Option<Format>
+pub(crate) fn format_of(bytes: &[u8]) -> Option<Format>
     ensures { MatchOption result (NoFirstLine bytes.now)
         (λ format. bytes.now ≡ first_line format ++ drop 14 bytes.now) }
 {

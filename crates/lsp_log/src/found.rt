@@ -23,7 +23,7 @@ fn text_of(bytes: Vec<u8>) -> Result<String, Stop>
 }
 
 /// Goes past the first line, and gives the format that it names.
-pub fn first_line<R: Source>(tape: &mut Tape, reader: &mut R) -> Result<Format, Stop>
+pub(crate) fn first_line<R: Source>(tape: &mut Tape, reader: &mut R) -> Result<Format, Stop>
     ensures { FirstAnswer tape.old tape.new (R.told reader.old) (R.told reader.new) result }
 {
     tape.reach(reader, LINE_LEN)?;
@@ -129,7 +129,7 @@ fn record_behind<R: Source>(
 
 /// The next record. Where the log has its fault instead, the tape holds the first line of what
 /// stands there.
-pub fn record<R: Source>(
+pub(crate) fn record<R: Source>(
     alloc: Global,
     limits: &Limits,
     tape: &mut Tape,

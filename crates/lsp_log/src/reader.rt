@@ -18,7 +18,7 @@ use std::marker::Model;
 
 /// How far a log was read.
 #[derive(Clone, Copy)]
-pub enum Progress {
+pub(crate) enum Progress {
     FirstLine,
     Records,
     /// The answer that is given from now on.

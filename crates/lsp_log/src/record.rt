@@ -7,7 +7,7 @@ use lsp_frame::Limits;
 use lsp_types::Side;
 
 /// The longest URI of a snapshot, in bytes.
-pub const MAX_URI: u64 = 8192;
+pub(crate) const MAX_URI: u64 = 8192;
 
 /// One record of a log.
 #[derive(Debug, Drop, PartialEq, Eq)]

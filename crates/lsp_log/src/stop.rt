@@ -5,7 +5,7 @@ use lsp_frame::Failed;
 
 /// Why no record was found where one may stand.
 #[derive(Clone, Copy)]
-pub enum Stop {
+pub(crate) enum Stop {
     /// The log doesn't begin with its first line.
     FirstLine,
     /// No byte is left.

@@ -8,11 +8,11 @@ use std::alloc::{AllocError, Global};
 use std::marker::Model;
 
 /// How many bytes are looked at before they are given.
-pub const WINDOW: usize = 64;
+pub(crate) const WINDOW: usize = 64;
 
 /// Why no part stands where one is due.
 #[derive(Clone, Copy)]
-pub enum PartFault {
+pub(crate) enum PartFault {
     Short,
     End,
     Read,
@@ -43,7 +43,7 @@ impl From<Failed> for PartFault {
 
 /// The bytes that were read and not given, at most a window of them. They move to the window's front where more is read.
 #[derive(Drop)]
-pub struct Tape {
+pub(crate) struct Tape {
     near: [u8; WINDOW],
     /// Where the bytes begin that were not given.
     start: usize,
@@ -115,7 +115,7 @@ fn to_front(near: &mut [u8; WINDOW], start: usize, end: usize)
 
 impl Tape {
     /// A tape of which nothing was read.
-    pub fn new(left: u64) -> Tape
+    pub(crate) fn new(left: u64) -> Tape
         ensures { result ≡ record { rest = []; left = left } }
     {
         Tape {
@@ -127,7 +127,7 @@ impl Tape {
     }
 
     /// The bytes that were read and not given.
-    pub fn near(&self) -> &[u8]
+    pub(crate) fn near(&self) -> &[u8]
         ensures value { result.now ≡ self.now.rest }
         ensures short { length result.now ≤ 64 }
     {
@@ -135,7 +135,7 @@ impl Tape {
     }
 
     /// Gives bytes that were read.
-    pub fn skip(&mut self, count: usize)
+    pub(crate) fn skip(&mut self, count: usize)
         requires { count ≤ length self.old.rest }
         ensures { self.new ≡ record self.old { rest = drop count self.old.rest } }
     {
@@ -143,14 +143,14 @@ impl Tape {
     }
 
     /// How many bytes more may be read.
-    pub fn left(&self) -> u64
+    pub(crate) fn left(&self) -> u64
         ensures { result ≡ self.now.left }
     {
         self.left
     }
 
     /// Puts these bytes in the place of those that were read and not given.
-    pub fn put_back(&mut self, bytes: &[u8])
+    pub(crate) fn put_back(&mut self, bytes: &[u8])
         requires { length bytes.now ≤ 64 }
         ensures { self.new ≡ record self.old { rest = bytes.now } }
     {
@@ -173,7 +173,7 @@ impl Tape {
     }
 
     /// Reads until this many bytes are in the window, or no more can be read.
-    pub fn reach<R: Source>(&mut self, reader: &mut R, count: usize) -> Result<(), Failed>
+    pub(crate) fn reach<R: Source>(&mut self, reader: &mut R, count: usize) -> Result<(), Failed>
         requires { count ≤ 64 }
         ensures short { length self.new.rest ≤ 64 }
         ensures answer { ReachAnswer self.old self.new (R.told reader.old) (R.told reader.new) count result }
@@ -187,7 +187,7 @@ impl Tape {
     }
 
     /// Reads until a line end is in the window, and gives its place.
-    pub fn line<R: Source>(&mut self, reader: &mut R) -> Result<Option<usize>, Failed>
+    pub(crate) fn line<R: Source>(&mut self, reader: &mut R) -> Result<Option<usize>, Failed>
         ensures short { length self.new.rest ≤ 64 }
         ensures answer { LineAnswer self.old self.new (R.told reader.old) (R.told reader.new) result }
     {
@@ -228,7 +228,7 @@ impl Tape {
     }
 
     /// Takes this many bytes and the line end behind them.
-    pub fn part<R: Source>(
+    pub(crate) fn part<R: Source>(
         &mut self,
         alloc: Global,
         reader: &mut R,
@@ -251,7 +251,7 @@ impl Tape {
     }
 
     /// Whether a byte stands behind all that may be read. It reads that byte, where no other may be read.
-    pub fn is_cut<R: Source>(&self, reader: &mut R) -> Result<bool, Failed>
+    pub(crate) fn is_cut<R: Source>(&self, reader: &mut R) -> Result<bool, Failed>
         ensures { CutAnswer self.now.left (R.told reader.old) (R.told reader.new) result }
     {
         if self.left > 0 {

@@ -4,7 +4,7 @@ use std::alloc::{AllocError, Global};
 use std::process::Abort;
 
 /// What was told of a content has to be this.
-pub(super) fn check_row(
+pub(crate) fn check_row(
     rt: &impl Abort,
     content: &str,
     told: Result<String, AllocError>,
@@ -16,7 +16,7 @@ pub(super) fn check_row(
 }
 
 /// The words of a message.
-pub(super) fn words(alloc: Global, message: &Message) -> Result<String, AllocError> {
+pub(crate) fn words(alloc: Global, message: &Message) -> Result<String, AllocError> {
     match words_of(alloc, message) {
         Ok(words) => Ok(words),
         Err(_) => Err(AllocError),

@@ -9,7 +9,7 @@ use crate::lanes::units_in;
 use lsp_types::Encoding;
 use std::simd::u8x32;
 
-// The bytes of a line that a column leaves behind it, and the column in what is left.
+/// The bytes of a line that a column leaves behind it, and the column in what is left.
 #[derive(Clone, Copy)]
 struct Skipped {
     bytes: usize,
@@ -26,7 +26,7 @@ pub fn offset_in_line(line: &str, encoding: Encoding, column: u32) -> Option<usi
     }
 }
 
-// The same under UTF-8, where a column counts bytes.
+/// The same under UTF-8, where a column counts bytes.
 fn offset_of_byte(line: &str, column: u32) -> Option<usize>
     ensures { MatchOption result (place_in_line Encoding.Utf8 (chars line.now) column ≡ None) (IsOffset Encoding.Utf8 line.now column) }
 {
@@ -38,7 +38,7 @@ fn offset_of_byte(line: &str, column: u32) -> Option<usize>
     }
 }
 
-// The same by whole blocks, and then by characters.
+/// The same by whole blocks, and then by characters.
 fn offset_past_blocks(line: &str, encoding: Encoding, column: u32) -> Option<usize>
     requires { encoding ≢ Encoding.Utf8 }
     ensures { MatchOption result (place_in_line encoding (chars line.now) column ≡ None) (IsOffset encoding line.now column) }
@@ -49,7 +49,7 @@ fn offset_past_blocks(line: &str, encoding: Encoding, column: u32) -> Option<usi
     Some(skipped.bytes + offset)
 }
 
-// Whole blocks before a column, and the rest of the character in which they end.
+/// Whole blocks before a column, and the rest of the character in which they end.
 fn skip_blocks(line: &str, encoding: Encoding, column: u32) -> Skipped
     requires { encoding ≢ Encoding.Utf8 }
     ensures { IsSkipped encoding line.now column result.bytes result.left }
@@ -66,14 +66,14 @@ fn skip_blocks(line: &str, encoding: Encoding, column: u32) -> Skipped
     }
 }
 
-// Whether a byte goes on with a character.
+/// Whether a byte goes on with a character.
 fn is_continuation(byte: u8) -> bool
     ensures { IsTrue result ↔ ((128 ≤ byte) × (byte < 192)) }
 {
     (0x80..0xC0).contains(&byte)
 }
 
-// Whole blocks before a column.
+/// Whole blocks before a column.
 fn pass_blocks(bytes: &[u8], encoding: Encoding, column: u32) -> Skipped
     ensures { IsPassed encoding bytes.now column result.bytes result.left }
 {
@@ -101,7 +101,7 @@ pub(crate) fn units_of(c: char, encoding: Encoding) -> u32
     }
 }
 
-// The bytes of a text before a column, character by character.
+/// The bytes of a text before a column, character by character.
 fn offset_by_chars(text: &str, encoding: Encoding, column: u32) -> Option<usize>
     ensures { MatchOption result (place_in_line encoding (chars text.now) column ≡ None) (IsOffset encoding text.now column) }
 {

@@ -51,7 +51,7 @@ pub fn first_difference<'a, 'b>(
     })
 }
 
-// The bytes before the first character at which two texts differ.
+/// The bytes before the first character at which two texts differ.
 fn parting(held: &str, other: &str) -> Option<usize>
     ensures { MatchOption result (chars held.now ≡ chars other.now) (IsParting held.now other.now) }
 {
@@ -59,7 +59,7 @@ fn parting(held: &str, other: &str) -> Option<usize>
     Some(held.floor_char_boundary(at))
 }
 
-// The first byte at which two slices differ.
+/// The first byte at which two slices differ.
 fn differing_byte(a: &[u8], b: &[u8]) -> Option<usize>
     ensures { MatchOption result (a.now ≡ b.now) (IsFirstDifference a.now b.now) }
 {
@@ -75,7 +75,7 @@ fn differing_byte(a: &[u8], b: &[u8]) -> Option<usize>
     }
 }
 
-// The bytes of the blocks from the front that are the same in two slices.
+/// The bytes of the blocks from the front that are the same in two slices.
 fn same_blocks(a: &[u8], b: &[u8]) -> usize
     ensures { AreSameTo a.now b.now result }
 {
@@ -87,7 +87,7 @@ fn same_blocks(a: &[u8], b: &[u8]) -> usize
     at
 }
 
-// Whether the blocks at an offset are the same.
+/// Whether the blocks at an offset are the same.
 fn is_same_block(a: &[u8], b: &[u8], at: usize) -> bool
     requires a { at + BLOCK ≤ length a.now }
     requires b { at + BLOCK ≤ length b.now }
@@ -96,7 +96,7 @@ fn is_same_block(a: &[u8], b: &[u8], at: usize) -> bool
     &a[at..at + BLOCK] == &b[at..at + BLOCK]
 }
 
-// Where the place behind so many bytes lies, in lines and in units of the encoding.
+/// Where the place behind so many bytes lies, in lines and in units of the encoding.
 fn position_of(text: &str, offset: usize, encoding: Encoding) -> Position
     requires { IsCharBoundary text.now offset }
     ensures { result ≡ position_at encoding (chars text.now) (length (chars (take offset text.now))) }
@@ -110,14 +110,14 @@ fn position_of(text: &str, offset: usize, encoding: Encoding) -> Position
     }
 }
 
-// A number of 32 bits, or the greatest of these.
+/// A number of 32 bits, or the greatest of these.
 fn capped(n: u64) -> u32
     ensures { result ≡ min n (2 ^ 32 - 1) }
 {
     n.min(u32::MAX as u64) as u32
 }
 
-// The line in which the place behind so many bytes lies, with its line end.
+/// The line in which the place behind so many bytes lies, with its line end.
 fn line_of(text: &str, offset: usize) -> &str
     requires { IsCharBoundary text.now offset }
     ensures { chars result.now ≡ line_around (chars text.now) (length (chars (take offset text.now))) }
@@ -126,7 +126,7 @@ fn line_of(text: &str, offset: usize) -> &str
     first_line(line)
 }
 
-// The first line of a text, with its line end.
+/// The first line of a text, with its line end.
 fn first_line(text: &str) -> &str
     ensures { chars result.now ≡ spelled (line_at 0 (chars text.now)) }
 {
@@ -137,7 +137,7 @@ fn first_line(text: &str) -> &str
     whole
 }
 
-// The bytes before the line in which the place behind so many bytes lies.
+/// The bytes before the line in which the place behind so many bytes lies.
 fn line_start(text: &str, offset: usize) -> usize
     requires { IsCharBoundary text.now offset }
     ensures { IsLineStart text.now offset result }
@@ -149,7 +149,7 @@ fn line_start(text: &str, offset: usize) -> usize
     }
 }
 
-// The bytes before a place in which a line end is looked for: not its own CR where it lies before a LF.
+/// The bytes before a place in which a line end is looked for: not its own CR where it lies before a LF.
 fn search_end(bytes: &[u8], offset: usize) -> usize
     requires { offset ≤ length bytes.now }
     ensures { IsSearchEnd bytes.now offset result }
@@ -161,7 +161,7 @@ fn search_end(bytes: &[u8], offset: usize) -> usize
     }
 }
 
-// Whether a place lies between a CR and a LF.
+/// Whether a place lies between a CR and a LF.
 fn is_inside_end(bytes: &[u8], offset: usize) -> bool
     ensures { IsTrue result ↔ IsInsideEnd bytes.now offset }
 {

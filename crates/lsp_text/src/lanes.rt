@@ -68,7 +68,7 @@ pub(crate) fn units_in(block: u8x32, encoding: Encoding) -> u32
     }
 }
 
-// How many of 32 bytes lie at a bound or above it.
+/// How many of 32 bytes lie at a bound or above it.
 fn count_in_from(block: u8x32, bound: u8) -> u32
     requires { length block ≡ 32 }
     ensures { result + count_by (λ x. nat_lt x bound) block ≡ 32 }
@@ -76,7 +76,7 @@ fn count_in_from(block: u8x32, bound: u8) -> u32
     32 - count_in(block, bound)
 }
 
-// How many of 32 bytes lie below a bound.
+/// How many of 32 bytes lie below a bound.
 fn count_in(block: u8x32, bound: u8) -> u32
     requires { length block ≡ 32 }
     ensures { result ≡ count_by (λ x. nat_lt x bound) block }

@@ -54,7 +54,7 @@ pub fn char_inside(text: &str, encoding: Encoding, position: Position) -> Option
     char_in_line(line, encoding, position.column)
 }
 
-// The same in a line.
+/// The same in a line.
 fn char_in_line(line: &str, encoding: Encoding, column: u32) -> Option<char>
     ensures { MatchOption result (is_some (place_in_line encoding (chars line.now) column) ≡ true) (FallsInside encoding (chars line.now) column) }
 {
@@ -84,7 +84,7 @@ pub fn size_with(text: &str, encoding: Encoding, span: Option<Span>, insertion: 
     }
 }
 
-// The same with an insertion in the place of a span.
+/// The same with an insertion in the place of a span.
 fn size_between(text: &str, encoding: Encoding, span: Span, insertion: &str) -> Option<u64>
     ensures { MatchOption result (IsNeverMade encoding (chars text.now) (Some span) (chars insertion.now)) (IsSizeWith encoding (chars text.now) (Some span) (chars insertion.now)) }
 {

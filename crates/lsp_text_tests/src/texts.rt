@@ -7,13 +7,13 @@ use std::alloc::Global;
 use std::process::Abort;
 use std::test::Fail;
 
-pub(super) const ENCODINGS: [Encoding; 3] = [Encoding::Utf8, Encoding::Utf16, Encoding::Utf32];
+pub(crate) const ENCODINGS: [Encoding; 3] = [Encoding::Utf8, Encoding::Utf16, Encoding::Utf32];
 
-pub(super) fn at(line: u32, column: u32) -> Position {
+pub(crate) fn at(line: u32, column: u32) -> Position {
     Position { line, column }
 }
 
-pub(super) fn span(first: (u32, u32), second: (u32, u32)) -> Span {
+pub(crate) fn span(first: (u32, u32), second: (u32, u32)) -> Span {
     Span {
         first: at(first.0, first.1),
         second: at(second.0, second.1),
@@ -109,7 +109,7 @@ fn told_after<S: TextStore>(
     format!(in alloc; "{answer:?} {}", told.as_str()).ok()
 }
 
-pub(super) fn check_told(rt: &impl Abort, told: Option<String>, wanted: &str) {
+pub(crate) fn check_told(rt: &impl Abort, told: Option<String>, wanted: &str) {
     assert_eq!(rt; told.as_deref(), Some(wanted));
 }
 
@@ -122,7 +122,7 @@ type Edit = (
     &'static str,
 );
 
-pub(super) const EDITS: [Edit; 9] = [
+pub(crate) const EDITS: [Edit; 9] = [
     ("a\rb\n", (1, 0), (1, 1), "", r#"Ok(()) 2 3 "a\r\n" true"#),
     ("a\r", (1, 0), (1, 0), "\n", r#"Ok(()) 2 3 "a\r\n" true"#),
     ("a\r\nb", (0, 1), (1, 0), "", r#"Ok(()) 1 2 "ab" true"#),

@@ -144,7 +144,7 @@ fn check_due(task: Task<'_>, due: &Told, wanted: &[u8]) -> Result<(), Fail> {
 }
 
 /// Fails each call of the reader in turn, and each of the writer, where a run has to tell this.
-pub(super) fn check_faults(
+pub(crate) fn check_faults(
     alloc: Global,
     limits: Limits,
     task: Task<'_>,

@@ -14,25 +14,10 @@ pub record Text : Type 0 where
 abbrev pub rule : ℕ → List ℕ → Text
 rule number text = record { number = number; text = text }
 
-abbrev pub texts : List Text
-texts =
-    rule 101 (codes "header part too long")
-    ∷ rule 102 (codes "bad header line")
-    ∷ rule 103 (codes "not exactly one Content-Length")
-    ∷ rule 104 (codes "bad Content-Length number")
-    ∷ rule 105 (codes "content too long")
-    ∷ rule 106 (codes "charset is not utf-8")
-    ∷ rule 107 (codes "stream ends inside a frame")
-    ∷ rule 201 (codes "content is not JSON")
-    ∷ rule 202 (codes "message is not an object")
-    ∷ rule 203 (codes "jsonrpc is not \"2.0\"")
-    ∷ rule 204 (codes "method is not a string")
-    ∷ rule 205 (codes "bad id")
-    ∷ rule 206 (codes "bad params")
-    ∷ rule 207 (codes "not a request, notification or response")
-    ∷ rule 208 (codes "bad error object")
-    ∷ rule 209 (codes "bad params of an interpreted method")
-    ∷ rule 301 (codes "response to no open request")
+-- the rules on what a message says behind those before it
+abbrev pub session_texts : List Text
+session_texts =
+    rule 301 (codes "response to no open request")
     ∷ rule 302 (codes "id is already open")
     ∷ rule 303 (codes "request is not answered")
     ∷ rule 401 (codes "editor message before initialize")
@@ -59,6 +44,26 @@ texts =
     ∷ rule 701 (codes "late snapshot")
     ∷ rule 702 (codes "snapshot differs")
     ∷ []
+
+abbrev pub texts : List Text
+texts =
+    rule 101 (codes "header part too long")
+    ∷ rule 102 (codes "bad header line")
+    ∷ rule 103 (codes "not exactly one Content-Length")
+    ∷ rule 104 (codes "bad Content-Length number")
+    ∷ rule 105 (codes "content too long")
+    ∷ rule 106 (codes "charset is not utf-8")
+    ∷ rule 107 (codes "stream ends inside a frame")
+    ∷ rule 201 (codes "content is not JSON")
+    ∷ rule 202 (codes "message is not an object")
+    ∷ rule 203 (codes "jsonrpc is not \"2.0\"")
+    ∷ rule 204 (codes "method is not a string")
+    ∷ rule 205 (codes "bad id")
+    ∷ rule 206 (codes "bad params")
+    ∷ rule 207 (codes "not a request, notification or response")
+    ∷ rule 208 (codes "bad error object")
+    ∷ rule 209 (codes "bad params of an interpreted method")
+    ∷ session_texts
 
 -- the text of the rule of this number among these, empty where it has none
 abbrev pub text_among : List Text → ℕ → List ℕ

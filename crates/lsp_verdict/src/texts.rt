@@ -1,6 +1,6 @@
 //! The fixed texts of the rules, and of the faults of a log.
 ghost use Rattle.std.specs.Prelude.{◌≡◌};
-ghost use Rattle.lsp_verdict.specs.Texts.{text_of, code_name, code_text};
+ghost use Rattle.lsp_verdict.specs.Texts.{session_texts, text_among, text_of, code_name, code_text};
 
 use lsp_log::LogCode;
 
@@ -25,6 +25,15 @@ pub(crate) fn text_of(rule: u16) -> &'static str
         207 => "not a request, notification or response",
         208 => "bad error object",
         209 => "bad params of an interpreted method",
+        _ => session_text(rule),
+    }
+}
+
+/// The text of a rule on what a message says behind those before it.
+fn session_text(rule: u16) -> &'static str
+    ensures { result.now ≡ text_among session_texts rule }
+{
+    match rule {
         301 => "response to no open request",
         302 => "id is already open",
         303 => "request is not answered",

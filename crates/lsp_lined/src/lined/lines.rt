@@ -215,7 +215,7 @@ impl Lines {
         self.edit_run(i, from, to, text, bytes)
     }
 
-    // The same in the chunk that the line is in.
+    /// The same in the chunk that the line is in.
     fn edit_run(
         &mut self,
         i: usize,
@@ -235,7 +235,7 @@ impl Lines {
         Ok(())
     }
 
-    // Gives a line a run of its own, in pieces, where so many bytes more would fill its run of short lines.
+    /// Gives a line a run of its own, in pieces, where so many bytes more would fill its run of short lines.
     fn make_room(&mut self, i: usize, more: usize) -> Result<(), AllocError>
         requires { i < length (lines_of self.old) }
         ensures { self.new ≡ self.old }
@@ -278,7 +278,7 @@ impl Drop for Steps {
 
 impl Steps {
     /// No steps yet.
-    pub(in crate::lined) fn none() -> Steps
+    pub(super) fn none() -> Steps
         ensures { result ≡ 0 }
     {
         Steps { bytes: 0 }

@@ -1,4 +1,4 @@
-use Rattle.std.proofs.Common.{ℕ, take, min, length, ◌≡◌, ◌∙◌, ap, sym, arith}
+use Rattle.std.proofs.Common.{ℕ, take, min, length, ◌≡◌, ◌∙◌, ap, arith}
 use Rattle.std.proofs.lemmas.List.{take_min}
 use Rattle.lsp_frame.specs.Front.{header_of}
 use Rattle.lsp_frame.proofs.Fronts.{found_near, not_found_near}

@@ -1,4 +1,4 @@
-use Rattle.std.proofs.Common.{◌≡◌, ◌≤◌, ◌<◌, ◌+◌, ◌-◌, ◌^◌, ◌++◌, true, List, [], ℕ, length, get_or, set, arith, refl, ap, sym, subst, ◌∙◌}
+use Rattle.std.proofs.Common.{◌≡◌, ◌≤◌, ◌<◌, ◌+◌, ◌-◌, ◌^◌, ◌++◌, true, List, Some, option_map, [], ℕ, length, get_or, set, arith, refl, ap, sym, subst, ◌∙◌}
 use Rattle.std.proofs.lemmas.List.{get_or_past}
 use Rattle.std.specs.Str.{IsCharBoundary}
 use lib.Utf8.{encodes, scalars}
@@ -94,11 +94,14 @@ inside c = in_all (groups_in c.self.inside.front) c.locate-found.result (found c
 here : (c : After-deref_mut) → c.piece.result.now ≡ piece_at (joined_runs (groups_in c.self.inside.front)) c.self.inside.last (index_of (groups_in c.self.inside.front) c.locate-found.result)
 here c = c.piece.ensures ∙ ap (λ (x : List (List Line)). piece_at (joined_runs x) c.self.inside.last (index_of x c.locate-found.result)) c.groups-front.ensures
 
+front_is : (c : After-deref_mut) → c.self.inside.front ≡ Some c.unwrap-front.result.now
+front_is c = sym c.as_mut.ensures.value ∙ ap (option_map (λ x. x.now)) c.unwrap-front.ensures
+
 groups_are : (c : After-deref_mut) → c.deref_mut.result.now.groups.items ≡ groups_in c.self.inside.front
-groups_are c = ap (λ (f : Front). f.groups.items) c.deref_mut.ensures.value ∙ sym (ap groups_in c.in-Some.is)
+groups_are c = ap (λ (f : Front). f.groups.items) c.deref_mut.ensures.value ∙ sym (ap groups_in (front_is c))
 
 bytes_are : (c : After-deref_mut) → c.deref_mut.result.now.bytes ≡ units Utf8 (bodies (joined_runs (groups_in c.self.inside.front)))
-bytes_are c = ap (λ (f : Front). f.bytes) c.deref_mut.ensures.value ∙ sym (ap bytes_in c.in-Some.is) ∙ c.self.invariant.bytes_are
+bytes_are c = ap (λ (f : Front). f.bytes) c.deref_mut.ensures.value ∙ sym (ap bytes_in (front_is c)) ∙ c.self.invariant.bytes_are
 
 within : (c : After-deref_mut) → c.locate-found.result.left + (c.args.to - c.args.from) ≤ units Utf8 c.piece.result.now.text
 within c = omega (arith, c.body_len-len.ensures, c.if-end-len.false)
