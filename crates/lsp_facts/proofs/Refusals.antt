@@ -1,5 +1,5 @@
 -- The first position of a change that denotes no place.
-use Rattle.std.proofs.Common.{◌≡◌, ℕ, true, None, sym, ap, arith}
+use Rattle.std.proofs.Common.{◌≡◌, ℕ, true, None, sym, ap}
 use Rattle.std.specs.Prelude.{is_some, if◌then◌else◌}
 use Rattle.lsp_types.specs.declared.position.Encoding.{Encoding}
 use Rattle.lsp_types.specs.declared.position.Span.{Span}

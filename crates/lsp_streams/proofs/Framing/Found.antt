@@ -1,12 +1,9 @@
 -- Writing the parts of the frames that a decoder holds, one after another.
-use Rattle.std.specs.Prelude.{nat_le, if◌then◌else◌}
-use Rattle.std.specs.Str.Parse.{digits_value}
-use Rattle.std.proofs.Common.{Bool, true, false, ◌≡◌, ℕ, ◌+◌, ◌≤◌, ◌<◌, List, [], ◌∷◌, ◌++◌, length, Some, None, Result, Ok, Err, refl, sym, ap, subst, ◌∙◌, append_assoc, arith, inl, inr}
+use Rattle.std.proofs.Common.{◌≡◌, ℕ, ◌+◌, ◌≤◌, ◌<◌, List, [], ◌∷◌, ◌++◌, length, Some, None, Ok, Err, sym, ap, subst, ◌∙◌, append_assoc, arith, inl, inr}
 use Rattle.std.proofs.lemmas.List.{length-append, length_push, append-nil}
-use Rattle.std.proofs.lemmas.Bool.{leb-true}
 use Rattle.lsp_frame.specs.Bounds.{Bounds}
 use Rattle.lsp_frame.specs.Frame.{IsFrame}
-use Rattle.lsp_frame.specs.Header.{blank_line, is_number, lengths, content_length, fits_charsets, length_and_charset, Says}
+use Rattle.lsp_frame.specs.Header.{blank_line}
 use Rattle.lsp_frame.specs.Sink.{Wrote, Stopped}
 use Rattle.lsp_frame.specs.Told.{Told, Took}
 use Rattle.lsp_frame.specs.Decoder.{State, StandsFor, GivesFrame, Next}

@@ -1,18 +1,17 @@
 -- A content that was let go past the decoder, of which only the length is written.
-use Rattle.std.proofs.Common.{◌≡◌, ℕ, ◌+◌, ◌-◌, ◌≤◌, ◌<◌, List, [], ◌∷◌, ◌++◌, length, Bool, false, None, Result, Err, refl, sym, ap, subst, ◌∙◌, append_assoc, append-nil, arith}
-use Rattle.std.specs.Io.KnownBytes.{IsAtEnd}
+use Rattle.std.proofs.Common.{◌≡◌, ℕ, ◌+◌, ◌-◌, ◌≤◌, ◌<◌, List, [], ◌∷◌, ◌++◌, length, Bool, false, None, Result, Err, refl, sym, ap, subst, ◌∙◌, append-nil, arith}
 use Rattle.std.proofs.lemmas.List.{length-append, length_push}
 use Rattle.lsp_frame.specs.Bounds.{Bounds}
 use Rattle.lsp_frame.specs.Sink.{Wrote, Stopped}
 use Rattle.lsp_frame.specs.Frame.{Frames}
-use Rattle.lsp_frame.specs.Told.{Told, Gave, after_failure}
-use Rattle.lsp_frame.specs.Decoder.{State, StandsFor, EndsWith, pushed}
+use Rattle.lsp_frame.specs.Told.{Told, after_failure}
+use Rattle.lsp_frame.specs.Decoder.{State, EndsWith, pushed}
 use Rattle.lsp_frame.specs.Pulling.{Misses, GavePast, FailsPast, PassesAll, EndsBefore, Passes}
 use Rattle.lsp_frame.specs.declared.decoder.Missing.{Missing}
 use Rattle.lsp_frame.proofs.Frames.{frames_more}
 use Rattle.lsp_frame.proofs.Steps.{open_rest, push_stands}
 use Rattle.lsp_frame.proofs.Telling.{gave_nothing, gave_then}
-use Rattle.lsp_frame.proofs.Writing.{wrote_then, stopped_then}
+use Rattle.lsp_frame.proofs.Writing.{wrote_then}
 use Rattle.lsp_frame.specs.declared.decoder.PullFault.{PullFault}
 use Rattle.lsp_frame.specs.declared.decoder.PullFault.TheVariants as pulls
 use Rattle.lsp_verdict.specs.RunIo.{of_pull}

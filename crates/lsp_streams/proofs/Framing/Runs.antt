@@ -6,9 +6,8 @@ use Rattle.std.proofs.lemmas.Bool.{false≢true, lt-ltb, le-ltb}
 use Rattle.std.proofs.lemmas.List.{append-nil, length-append, nil_from_length, take_all, take_at}
 use Rattle.lsp_frame.specs.Bounds.{Bounds}
 use Rattle.lsp_frame.specs.Frame.{Frames, IsStream}
-use Rattle.lsp_frame.specs.Sink.{Wrote}
 use Rattle.lsp_frame.specs.Told.{Told, Gave, KeepsBytes, after_failure}
-use Rattle.lsp_frame.specs.Decoder.{State, StandsFor, EndsWith, empty, pushed, pushed_at}
+use Rattle.lsp_frame.specs.Decoder.{State, StandsFor, empty, pushed, pushed_at}
 use Rattle.lsp_frame.specs.Pulling.{Pulls, PullFails}
 use Rattle.lsp_frame.specs.declared.decoder.PullFault.{PullFault}
 use Rattle.lsp_frame.specs.declared.decoder.PullFault.TheVariants as pulls
