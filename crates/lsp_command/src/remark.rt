@@ -1,5 +1,5 @@
 //! What is said on standard error of how a run ended.
-ghost use Rattle.std.specs.Prelude.{◌≡◌, IfOk, IfErr, option_map};
+ghost use Rattle.std.specs.Prelude.{◌≡◌, IfOk, IfErr, option_map, string_bytes};
 ghost use Rattle.lsp_verdict.specs.declared.outcome.RunFault.TheVariants as faults;
 ghost use Rattle.lsp_command.specs.Remarks.{remark_of, report_apart};
 
@@ -33,8 +33,8 @@ pub fn report_apart(
     alloc: Global,
     task: Task<'_>,
     outcome: &Outcome,
-) -> Result<Option<Vec<u8>>, RunFault>
-    ensures report { IfOk result (λ written. option_map (λ bytes. bytes.items) written ≡ report_apart task.entry outcome.now) }
+) -> Result<Option<String>, RunFault>
+    ensures report { IfOk result (λ written. option_map (λ report. string_bytes report) written ≡ report_apart task.entry outcome.now) }
     ensures fault { IfErr result (λ fault. fault ≡ faults.Memory) }
 {
     match (outcome, task) {

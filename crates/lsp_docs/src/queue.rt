@@ -1,6 +1,6 @@
 //! The snapshots of one URI that wait for their versions.
 
-ghost use Rattle.std.specs.Prelude.{◌≡◌, [], ◌++◌, ◌∷◌, None, length, filter, int_lt, if◌then◌else◌, IfOk, OnOk, OnErr};
+ghost use Rattle.std.specs.Prelude.{◌≡◌, [], ◌++◌, ◌∷◌, None, true, length, filter, int_lt, if◌then◌else◌, IfOk, OnOk, OnErr};
 ghost use Rattle.std.specs.Str.{chars};
 ghost use Rattle.std.specs.List.{list_any};
 ghost use Rattle.std.specs.Map.{lookup};
@@ -178,13 +178,12 @@ fn is_reached(texts: &TextMap, version: i32) -> bool
 
 /// Drops the texts of the least version, and counts them where it is passed over.
 fn drop_first(texts: &mut TextMap, version: i32) -> u64
+    requires { is_first_within version texts.old.entries ≡ true }
     ensures rest { texts.new.entries ≡ rest_of texts.old.entries }
     ensures missed { result ≡ first_before version texts.old.entries }
 {
-    match texts.pop_first() {
-        Some((least, first)) => passed_over(least, &first, version),
-        None => 0,
-    }
+    let (least, first) = texts.pop_first().unwrap();
+    passed_over(least, &first, version)
 }
 
 /// How many texts there are, if their version is passed over.

@@ -1,5 +1,5 @@
 -- The causes among the events of a log, and what is said of them.
-use Rattle.std.specs.Prelude.{filter, not, option_map, if◌then◌else◌}
+use Rattle.std.specs.Prelude.{filter, not, option_map, if◌then◌else◌, string_bytes}
 use Rattle.std.specs.List.{AllZip, cons_option, flat_map}
 use Rattle.std.proofs.Common.{◌≡◌, ◌⊎◌, ℕ, Bool, true, false, List, [], ◌∷◌, ◌++◌, Option, Some, None, inl, inr, refl, sym, ap, ◌∙◌, subst, append_assoc, append-nil}
 use Rattle.std.proofs.lemmas.List.Elements.{filter-append}
@@ -64,7 +64,7 @@ module _ (terms : Terms) (hs : List Heard) (h : Heard) (found : Found) (f : Find
   cause_follows is = by_following terms hs h f.rule true f.offends (sym follows_as ∙ is)
 
   pub cause_told : (limits : Bounds) (records : List Record) (x : Explanation) → found.offence.follows ≡ false → Tells limits records terms hs h found x
-      → (said : List Explained) × AreSaid limits records terms (cause_at terms hs h) said × (x.text.items ≡ flat_map cause_lines said)
+      → (said : List Explained) × AreSaid limits records terms (cause_at terms hs h) said × (string_bytes x.text ≡ flat_map cause_lines said)
   cause_told limits records x is t =
       let same : t.rule ≡ f.rule = same_Some t.rule f.rule (sym t.offends ∙ f.offends) in
       let one : cause_at terms hs h ≡ breach hs h t.rule ∷ [] = by_following terms hs h t.rule false t.offends (ap (follows terms (notes_of hs) h.note) same ∙ sym follows_as ∙ is) in (

@@ -1,5 +1,5 @@
 -- What a run explains at the end of a log, none of whose events offends.
-use Rattle.std.specs.Prelude.{map, take, option_map, slice_get, Result, Ok, Err, IfOk}
+use Rattle.std.specs.Prelude.{map, take, option_map, slice_get, Result, Ok, Err, IfOk, string_bytes}
 use Rattle.std.specs.Io.KnownBytes.{IsAtEnd}
 use Rattle.std.specs.List.{AllZip, list_any}
 use Rattle.std.proofs.Common.{◌≡◌, ℕ, false, List, [], ◌∷◌, ◌++◌, Option, Some, None, refl, sym, ap, ◌∙◌, subst, append-nil}
@@ -119,14 +119,14 @@ module _ (completeness : Completeness) (limits : Bounds) (e : SurveyReader) (sta
   terms = e.survey.walk.events.docs.terms
 
   abbrev Explained_ : Type 0
-  Explained_ = OfRead limits start now (λ log. IsExplanation completeness limits log (verdict_view x.verdict) x.text.items)
+  Explained_ = OfRead limits start now (λ log. IsExplanation completeness limits log (verdict_view x.verdict) (string_bytes x.text))
 
   by_found : (found : List Offence) → map offence_view end.listed.items ≡ found
       → verdict_view x.verdict ≡ first_verdict found (option_map verdict_view end.bad) (summary_behind e (notes_of hs))
-      → x.text.items ≡ explanation found (take 1 (map (λ (o : Offence). end_explained (rests_held e) (numbered terms (events_of (notes_of hs))) o.no) found)) (option_map verdict_view end.bad) (flaw_held e (option_map verdict_view end.bad)) (summary_behind e (notes_of hs)) → Explained_
+      → string_bytes x.text ≡ explanation found (take 1 (map (λ (o : Offence). end_explained (rests_held e) (numbered terms (events_of (notes_of hs))) o.no) found)) (option_map verdict_view end.bad) (flaw_held e (option_map verdict_view end.bad)) (summary_behind e (notes_of hs)) → Explained_
   by_found found is judges says =
       read_map limits start now (λ log. IsSurveyOf e completeness limits log (map offence_view end.listed.items) (option_map verdict_view end.bad) terms (raws_of hs) (notes_of hs))
-      (λ log. IsExplanation completeness limits log (verdict_view x.verdict) x.text.items)
+      (λ log. IsExplanation completeness limits log (verdict_view x.verdict) (string_bytes x.text))
       (λ log sv. record {
         found = found;
         explained = take 1 (map (λ (o : Offence). end_explained (rests_held e) (numbered terms (events_of (notes_of hs))) o.no) found);
@@ -160,14 +160,14 @@ module _ (completeness : Completeness) (limits : Bounds) (e : SurveyReader) (sta
   -- nothing is listed
   pub ends_sound : end.listed.items ≡ []
       → (IsSound e (notes_of hs) → (verdict_view x.verdict ≡ first_verdict [] (option_map verdict_view end.bad) (summary_behind e (notes_of hs)))
-      × (x.text.items ≡ report (first_verdict [] (option_map verdict_view end.bad) (summary_behind e (notes_of hs))) ++ flaw_lines (option_map verdict_view end.bad) (flaw_held e (option_map verdict_view end.bad)))) → Explained_ × AtEnd
+      × (string_bytes x.text ≡ report (first_verdict [] (option_map verdict_view end.bad) (summary_behind e (notes_of hs))) ++ flaw_lines (option_map verdict_view end.bad) (flaw_held e (option_map verdict_view end.bad)))) → Explained_ × AtEnd
   ends_sound none says =
       let r = says (record { follows = ended.follows refl; exact = ended.exact }) in
       (by_found [] (ap (map offence_view) none) r.0 r.1, sound_end end.bad refl r.0)
 
   -- something is
   pub ends_told : (o : given.Offence) (os : List given.Offence) → end.listed.items ≡ o ∷ os → verdict_view x.verdict ≡ (offence_view o).no
-      → ((before : List Event) → StandsAfter e before → x.text.items ≡ report (offence_view o).no ++ said_of (end_explained (rests_held e) (numbered terms before) (offence_view o).no)) → Explained_ × AtEnd
+      → ((before : List Event) → StandsAfter e before → string_bytes x.text ≡ report (offence_view o).no ++ said_of (end_explained (rests_held e) (numbered terms before) (offence_view o).no)) → Explained_ × AtEnd
   ends_told o os some named says =
       let said = numbered terms (events_of (notes_of hs)) in (
         by_found (offence_view o ∷ map offence_view os) (ap (map offence_view) some) named

@@ -1,5 +1,5 @@
 -- What a run tells of the first offence that it finds.
-use Rattle.std.proofs.Common.{◌≡◌, ℕ, ◌+◌, ◌<◌, ◌^◌, suc, true, List, [], ◌∷◌, ◌++◌, length, Option, Some, refl, sym, ap, ◌∙◌, subst}
+use Rattle.std.proofs.Common.{◌≡◌, ℕ, ◌+◌, ◌<◌, ◌^◌, suc, true, List, [], ◌∷◌, ◌++◌, length, Option, Some, refl, sym, ap, ◌∙◌, subst, string_bytes}
 use Rattle.lsp_docs.specs.Terms.{Terms, terms_of}
 use Rattle.lsp_frame.specs.Bounds.{Bounds}
 use Rattle.lsp_frame.specs.Told.{Told}
@@ -73,7 +73,7 @@ fault_shown limits s records rests rest terms kept rule raw (what.Content by giv
 fault_shown limits s records rests rest terms kept rule raw (what.Message by spoken) is ended seen behind = tt
 fault_shown limits s records rests rest terms kept rule raw (what.Snapshot version uri text) is ended seen behind = tt
 
-module _ (e : SurveyReader) (found : Found) (x : Explanation) (rest said : List ℕ) (text : x.text.items ≡ report (offence_view found.offence).no ++ said) (named : verdict_view x.verdict ≡ (offence_view found.offence).no) (says : SaidOf e found rest said) where
+module _ (e : SurveyReader) (found : Found) (x : Explanation) (rest said : List ℕ) (text : string_bytes x.text ≡ report (offence_view found.offence).no ++ said) (named : verdict_view x.verdict ≡ (offence_view found.offence).no) (says : SaidOf e found rest said) where
   module _ (limits : Bounds) (records : List Record) (hs : List Heard) (h : Heard) (noted : Reads h.raw h.note.event) (few : length (events_of (notes_of hs)) + 1 < 2 ^ 64)
       (shows_fault : (rests : Rests) → RestsBehind limits records rests → ShowsFault rests found.offending rest) where
     abbrev before : List Event

@@ -1,5 +1,5 @@
 -- The first offence that a run finds explains the log.
-use Rattle.std.specs.Prelude.{option_map}
+use Rattle.std.specs.Prelude.{option_map, string_bytes}
 use Rattle.std.specs.List.{AllZip, cons_option}
 use Rattle.std.proofs.Common.{◌≡◌, ℕ, List, [], ◌∷◌, ◌++◌, Option, Some, inl, inr, refl, sym, ap, ◌∙◌, subst, append-nil}
 use Rattle.lsp_docs.specs.Terms.{Terms, terms_of}
@@ -69,7 +69,7 @@ module _ (completeness : Completeness) (limits : Bounds) (e : SurveyReader) (sta
           no_breach own hs (nothing_before (offences own (notes_of hs)) (offence_by own (notes_of hs) given.n t.rule) (offence_view found.offence) (cons_option (offence_at own (notes_of hs) given.n) [])
           (ap (λ (o : Option ℕ). cons_option (option_map (offence_by own (notes_of hs) given.n) o) []) t.offends) listed)
 
-      of_log : (log : List ℕ) → HasFirst limits e.log.format given.so_far.records log → IsExplanation completeness limits log (verdict_view x.verdict) x.text.items
+      of_log : (log : List ℕ) → HasFirst limits e.log.format given.so_far.records log → IsExplanation completeness limits log (verdict_view x.verdict) (string_bytes x.text)
       of_log log first = elim (known_terms limits e.survey.format e.log.format first.format given.so_far.format first.is_known) [
         | inl none ↦ absurd (not_none (raws_of hs) given.raw given.so_far.surveys.due (subst (λ (w : List Record). Placed limits w ((raws_of hs ++ given.raw ∷ []) ++ given.so_far.surveys.due)) (given.so_far.at.early none) given.so_far.surveys.placed))
         | inr same ↦
@@ -94,7 +94,7 @@ module _ (completeness : Completeness) (limits : Bounds) (e : SurveyReader) (sta
 
       pub told_first : IsExplainedBy completeness limits start now x
       told_first = record {
-        of_read = read_map limits start now (HasFirst limits e.log.format given.so_far.records) (λ log. IsExplanation completeness limits log (verdict_view x.verdict) x.text.items) of_log
+        of_read = read_map limits start now (HasFirst limits e.log.format given.so_far.records) (λ log. IsExplanation completeness limits log (verdict_view x.verdict) (string_bytes x.text)) of_log
             (is_first e.log limits start now given.so_far.records given.so_far.same given.so_far.at);
         failures = given.so_far.at.failures;
         ended = λ s yes. let same : verdict_view (verdicts.Yes s) ≡ no_by (events_of (notes_of hs)) given.n.event t.rule = ap verdict_view (sym yes) ∙ t.verdict_is ∙ t.no_is in absurd cc;

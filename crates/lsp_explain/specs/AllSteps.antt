@@ -1,5 +1,5 @@
 -- What the steps of a run that explains all that is wrong with a log answer.
-use Rattle.std.specs.Prelude.{◌≡◌, ℕ, ◌<◌, ◌^◌, List, [], ◌++◌, map, filter, length, Option, option_map, Result, Ok, Err}
+use Rattle.std.specs.Prelude.{◌≡◌, ℕ, ◌<◌, ◌^◌, List, [], ◌++◌, map, filter, length, Option, option_map, Result, Ok, Err, string_bytes}
 use Rattle.std.specs.Io.KnownBytes.{IsAtEnd}
 use Rattle.std.specs.List.{AllZip, cons_option, flat_map}
 use Rattle.lsp_docs.specs.Terms.{Terms, terms_of}
@@ -103,12 +103,12 @@ abbrev pub IsClosing : SurveyReader → Tally → End → Explanation → Type 0
 IsClosing e t end x =
     (found : List Offence) (notes : List Noted) → IsTally t found → (found ≡ [] → IsSound e notes) → StandsAfter e (events_of notes)
     → length (found ++ map offence_view end.listed.items) < 2 ^ 64
-    → (x.text.items ≡ flat_map cause_lines (ends_said (rests_held e) (numbered (terms_in e) (events_of notes)) end.listed.items) ++ all_closing (found ++ map offence_view end.listed.items) (option_map verdict_view end.bad) (flaw_held e (option_map verdict_view end.bad)) (summary_behind e notes))
+    → (string_bytes x.text ≡ flat_map cause_lines (ends_said (rests_held e) (numbered (terms_in e) (events_of notes)) end.listed.items) ++ all_closing (found ++ map offence_view end.listed.items) (option_map verdict_view end.bad) (flaw_held e (option_map verdict_view end.bad)) (summary_behind e notes))
     × (verdict_view x.verdict ≡ first_verdict (found ++ map offence_view end.listed.items) (option_map verdict_view end.bad) (summary_behind e notes))
 
 -- the same where what is listed of the end is already among those found
 abbrev pub IsLast : SurveyReader → Tally → Option code.Verdict → Explanation → Type 0
 IsLast e t bad x =
     (found : List Offence) (notes : List Noted) → IsTally t found → (found ≡ [] → IsSound e notes) → length found < 2 ^ 64
-    → (x.text.items ≡ all_closing found (option_map verdict_view bad) (flaw_held e (option_map verdict_view bad)) (summary_behind e notes))
+    → (string_bytes x.text ≡ all_closing found (option_map verdict_view bad) (flaw_held e (option_map verdict_view bad)) (summary_behind e notes))
     × (verdict_view x.verdict ≡ first_verdict found (option_map verdict_view bad) (summary_behind e notes))

@@ -1,5 +1,5 @@
 -- What the steps of a run that explains a log answer.
-use Rattle.std.specs.Prelude.{◌≡◌, ℕ, List, [], ◌++◌, Option, Some, Result, Ok, Err}
+use Rattle.std.specs.Prelude.{◌≡◌, ℕ, List, [], ◌++◌, Option, Some, Result, Ok, Err, string_bytes}
 use Rattle.std.specs.Io.KnownBytes.{IsAtEnd}
 use Rattle.lsp_frame.specs.Bounds.{Bounds}
 use Rattle.lsp_frame.specs.Front.{header_front}
@@ -75,7 +75,7 @@ pub record Tells (limits : Bounds) (records : List Record) (terms : Terms) (hs :
   pub no_is : told.no ≡ no_by (events_of (notes_of hs)) h.note.event rule
   pub is : told.no ≡ (offence_view found.offence).no
   pub verdict_is : verdict_view x.verdict ≡ told.no
-  pub text_is : x.text.items ≡ report told.no ++ said_of told
+  pub text_is : string_bytes x.text ≡ report told.no ++ said_of told
 
 -- what was found is told, whatever was heard before it
 abbrev pub TellsOf : SurveyReader → Found → Explanation → Type 0
@@ -100,7 +100,7 @@ pub record EndsWhole (completeness : Completeness) (limits : Bounds) (e : Survey
 -- its end is explained
 abbrev pub TellsEnd : Completeness → Bounds → Told → Told → Explanation → Type 0
 TellsEnd completeness limits start now x =
-    OfRead limits start now (λ log. IsExplanation completeness limits log (verdict_view x.verdict) x.text.items)
+    OfRead limits start now (λ log. IsExplanation completeness limits log (verdict_view x.verdict) (string_bytes x.text))
     × ((s : code.Summary) → x.verdict ≡ verdicts.Yes s → IsAtEnd now.bytes)
 
 -- some events of the log were heard, and these offences found
@@ -111,7 +111,7 @@ pub record IsFollowing (completeness : Completeness) (limits : Bounds) (e : Surv
 
 -- the log read is explained
 pub record IsExplainedBy (completeness : Completeness) (limits : Bounds) (start now : Told) (x : Explanation) : Type 0 where
-  pub of_read : OfRead limits start now (λ log. IsExplanation completeness limits log (verdict_view x.verdict) x.text.items)
+  pub of_read : OfRead limits start now (λ log. IsExplanation completeness limits log (verdict_view x.verdict) (string_bytes x.text))
   pub failures : now.failures ≡ start.failures
   pub ended : (s : code.Summary) → x.verdict ≡ verdicts.Yes s → IsAtEnd now.bytes
 

@@ -63,14 +63,14 @@ pub fn run_explain<R: Source, W: Sink>(
     ensures limit { GaveAtMost (limits.log + 1) (R.told reader.old) (R.told reader.new) }
 {
     let explanation = explain(alloc, reader, limits, completeness)?;
-    put_all(writer, explanation.text.as_slice())?;
+    put_all(writer, explanation.text.as_bytes())?;
     Ok(Outcome::Judged(explanation.verdict))
 }
 
 /// What is written of a verdict, and the verdict.
 #[derive(Drop)]
 pub(crate) struct Explanation {
-    pub text: Vec<u8>,
+    pub text: String,
     pub verdict: Verdict,
 }
 
@@ -138,7 +138,7 @@ pub(crate) fn explain_found(
     let mut said = String::new(alloc);
     let rest = events.rest(side_of(&found.offending));
     push_said(alloc, &mut said, events, rest, found)?;
-    text.extend_from_slice(said.as_bytes())?;
+    text.push_str(said.as_str())?;
     Ok(Explanation { text, verdict })
 }
 
@@ -187,13 +187,13 @@ pub(crate) fn explain_listed(
     ensures verdict { IfOk result (λ x. verdict_view x.verdict ≡ (offence_view listed.now).no) }
     ensures text { IfOk result (λ x. (rests : Rests) (before : List Event) → StandsAfter events.now before
         → rest.now ≡ rest_of rests (side_by listed.now.who)
-        → x.text.items ≡ report (offence_view listed.now).no ++ said_of (end_explained rests (numbered (terms_in events.now) before) (offence_view listed.now).no)) }
+        → string_bytes x.text ≡ report (offence_view listed.now).no ++ said_of (end_explained rests (numbered (terms_in events.now) before) (offence_view listed.now).no)) }
 {
     let verdict = listed.verdict();
     let mut text = report_of(alloc, &verdict)?;
     let mut said = String::new(alloc);
     push_end(alloc, &mut said, events, rest, listed)?;
-    text.extend_from_slice(said.as_bytes())?;
+    text.push_str(said.as_str())?;
     Ok(Explanation { text, verdict })
 }
 
@@ -205,12 +205,12 @@ pub(crate) fn explain_sound(
 ) -> Result<Explanation, Memory>
     ensures { IfOk result (λ x. (notes : List Noted) → IsSound events.old notes
         → (verdict_view x.verdict ≡ first_verdict [] (option_map verdict_view bad) (summary_behind events.old notes))
-        × (x.text.items ≡ report (first_verdict [] (option_map verdict_view bad) (summary_behind events.old notes)) ++ flaw_lines (option_map verdict_view bad) (flaw_held events.old (option_map verdict_view bad)))) }
+        × (string_bytes x.text ≡ report (first_verdict [] (option_map verdict_view bad) (summary_behind events.old notes)) ++ flaw_lines (option_map verdict_view bad) (flaw_held events.old (option_map verdict_view bad)))) }
 {
     let flaw = flaw_text(alloc, events, &bad)?;
     let verdict = events.sound(bad)?;
     let mut text = report_of(alloc, &verdict)?;
-    text.extend_from_slice(flaw.as_bytes())?;
+    text.push_str(flaw.as_str())?;
     Ok(Explanation { text, verdict })
 }
 

@@ -1,5 +1,5 @@
 //! Explains all that is wrong with a log.
-ghost use Rattle.std.specs.Prelude.{◌≡◌, ◌+◌, ◌++◌, ◌∷◌, [], List, ℕ, map, codes, decimal, option_map, Ok, IfOk, OnOk, OnErr};
+ghost use Rattle.std.specs.Prelude.{◌≡◌, ◌+◌, ◌++◌, ◌∷◌, [], List, ℕ, string_bytes, map, codes, decimal, option_map, Ok, IfOk, OnOk, OnErr};
 ghost use Rattle.std.specs.Io.KnownBytes.{IsAtEnd};
 ghost use Rattle.std.specs.List.{flat_map};
 ghost use Rattle.lsp_frame.specs.Bounds.{Bounds, IsInRange};
@@ -155,7 +155,7 @@ fn explain_cause<W: Sink>(
         return Ok(());
     }
     let explanation = explain_found(alloc, events, found)?;
-    put_all(writer, explanation.text.as_slice())?;
+    put_all(writer, explanation.text.as_bytes())?;
     Ok(())
 }
 
@@ -171,7 +171,7 @@ fn close<W: Sink>(
         → TellsAll completeness limits start now old (W.told writer.new) result }
 {
     let closing = closing_of(alloc, events, tally, end)?;
-    put_all(writer, closing.text.as_slice())?;
+    put_all(writer, closing.text.as_bytes())?;
     Ok(closing.verdict)
 }
 
@@ -189,7 +189,7 @@ fn closing_of(
     let End { listed, bad } = end;
     let mut text = ends_text(alloc, events, tally, listed.as_slice())?;
     let last = last_of(alloc, events, tally, bad)?;
-    text.extend_from_slice(last.text.as_slice())?;
+    text.push_str(last.text.as_str())?;
     Ok(Explanation {
         text,
         verdict: last.verdict,
@@ -202,17 +202,17 @@ fn ends_text(
     events: &SurveyReader,
     tally: &mut Tally,
     listed: &[Offence],
-) -> Result<Vec<u8>, Memory>
+) -> Result<String, Memory>
     ensures tally { OnOk result ((found : List SpecOffence) → IsTally tally.old found → IsTally tally.new (found ++ map offence_view listed.now)) }
     ensures text { IfOk result (λ text. (before : List Event) → StandsAfter events.now before
-        → text.items ≡ flat_map cause_lines (ends_said (rests_held events.now) (numbered (terms_in events.now) before) listed.now)) }
+        → string_bytes text ≡ flat_map cause_lines (ends_said (rests_held events.now) (numbered (terms_in events.now) before) listed.now)) }
 {
-    let mut text = Vec::new(alloc);
+    let mut text = String::new(alloc);
     for offence in listed {
         tally.add(offence);
         let rest = events.rest(side_by(offence.who));
         let explanation = explain_listed(alloc, events, rest, offence)?;
-        text.extend_from_slice(explanation.text.as_slice())?;
+        text.push_str(explanation.text.as_str())?;
     }
     Ok(text)
 }
@@ -241,8 +241,8 @@ fn last_lines(
     events: &SurveyReader,
     tally: &Tally,
     bad: &Option<Verdict>,
-) -> Result<Vec<u8>, Memory>
-    ensures { IfOk result (λ text. text.items ≡ bad_lines (option_map verdict_view bad.now) ++ flaw_lines (option_map verdict_view bad.now) (flaw_held events.now (option_map verdict_view bad.now))
+) -> Result<String, Memory>
+    ensures { IfOk result (λ text. string_bytes text ≡ bad_lines (option_map verdict_view bad.now) ++ flaw_lines (option_map verdict_view bad.now) (flaw_held events.now (option_map verdict_view bad.now))
         ++ line (codes "offences" ∷ decimal tally.now.found ∷ codes "following" ∷ decimal tally.now.following ∷ [])) }
 {
     let count = found_report(alloc, tally.found, tally.following)?;
@@ -251,7 +251,7 @@ fn last_lines(
     };
     let flaw = flaw_text(alloc, events, bad)?;
     let mut text = report_of(alloc, verdict)?;
-    text.extend_from_slice(flaw.as_bytes())?;
-    text.extend_from_slice(count.as_slice())?;
+    text.push_str(flaw.as_str())?;
+    text.push_str(count.as_str())?;
     Ok(text)
 }

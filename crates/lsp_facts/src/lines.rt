@@ -6,7 +6,7 @@ ghost use Rattle.json.specs.Print.{quoted};
 ghost use Rattle.lsp_rpc.specs.Ident.{id_view};
 ghost use Rattle.lsp_docs.specs.Texts.{byte_len};
 ghost use Rattle.lsp_rpc.specs.View.{message_view, texts_view};
-ghost use Rattle.lsp_verdict.specs.Report.{line, who_name};
+ghost use Rattle.lsp_verdict.specs.Report.{line};
 ghost use Rattle.lsp_facts.specs.Fact.{fact_view, facts_view, has_kind, differs_at, fails, in_phase, has_id, waits, waits_since, agreed_by, keeps, offers};
 ghost use Rattle.lsp_facts.specs.Lines as spec;
 
@@ -14,7 +14,7 @@ use crate::fact::Fact;
 use lsp_rpc::{Id, Memory, Message, push_id, push_quoted, words_of};
 use lsp_session::Phase;
 use lsp_types::{Position, Side, Span, SyncKind};
-use lsp_verdict::{Who, kind_name, side_name};
+use lsp_verdict::{Who, kind_name, side_name, who_name};
 use std::alloc::Global;
 use std::fmt::Write;
 
@@ -300,16 +300,6 @@ pub fn push_snapshot_event(
     write!(lines, "event {number} snapshot {version} {bytes} ")?;
     push_quoted(alloc, lines, uri)?;
     Ok(lines.push_str("\n")?)
-}
-
-fn who_name(who: Who) -> &'static str
-    ensures { result.now ≡ who_name who }
-{
-    match who {
-        Who::Editor => "editor",
-        Who::Server => "server",
-        Who::Snapshot => "snapshot",
-    }
 }
 
 /// Adds the line of a place at which no event stands: its number, from 1, and whose the next one would be.

@@ -160,21 +160,7 @@ impl<S: TextStore> Judge<S> {
         ensures stays { (given : spec.Verdict) → is_given self.old.given ≡ Some given → self.new ≡ self.old }
     {
         match self.given {
-            Some(
-                Ruling::No {
-                    rule,
-                    who,
-                    number,
-                    event,
-                },
-            ) => Verdict::No {
-                rule,
-                who,
-                number,
-                event,
-            },
-            Some(Ruling::BadLog { number, fault }) => Verdict::BadLog { number, fault },
-            Some(Ruling::Memory) => Verdict::BadLog { number, fault },
+            Some(ruling) => ruling.answer().unwrap(),
             None => {
                 self.given = Some(Ruling::BadLog { number, fault });
                 Verdict::BadLog { number, fault }

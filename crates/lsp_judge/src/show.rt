@@ -55,7 +55,7 @@ pub fn run_show<R: Source, W: Sink>(
 {
     let verdict = show_log(alloc, reader, writer, limits, lines)?;
     let report = report_of(alloc, &verdict)?;
-    put_all(writer, report.as_slice())?;
+    put_all(writer, report.as_bytes())?;
     Ok(Outcome::Judged(verdict))
 }
 

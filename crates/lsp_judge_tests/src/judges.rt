@@ -6,13 +6,13 @@ use lsp_rpc::Side;
 use std::alloc::Global;
 use std::process::Abort;
 
-fn tell_verdict(alloc: Global, told: &mut Vec<u8>, verdict: &Verdict) -> Option<()> {
+fn tell_verdict(alloc: Global, told: &mut String, verdict: &Verdict) -> Option<()> {
     let report = report_of(alloc, verdict).ok()?;
-    told.extend_from_slice(report.as_slice()).ok()
+    told.push_str(report.as_str()).ok()
 }
 
 /// Adds the report of the verdict on what the judge took.
-fn tell_finish(alloc: Global, judge: &mut Judge<Lined>, told: &mut Vec<u8>) -> Option<()> {
+fn tell_finish(alloc: Global, judge: &mut Judge<Lined>, told: &mut String) -> Option<()> {
     let verdict = judge.finish().ok()?;
     tell_verdict(alloc, told, &verdict)
 }
@@ -21,7 +21,7 @@ fn tell_finish(alloc: Global, judge: &mut Judge<Lined>, told: &mut Vec<u8>) -> O
 fn tell_take(
     alloc: Global,
     judge: &mut Judge<Lined>,
-    told: &mut Vec<u8>,
+    told: &mut String,
     bytes: &[u8],
 ) -> Option<()> {
     let record = Record::Bytes {
@@ -38,7 +38,7 @@ fn tell_take(
 fn tell_all(
     alloc: Global,
     judge: &mut Judge<Lined>,
-    told: &mut Vec<u8>,
+    told: &mut String,
     records: &[&[u8]],
 ) -> Option<()> {
     tell_finish(alloc, judge, told)?;
@@ -51,17 +51,22 @@ fn tell_all(
     Some(())
 }
 
-/// What a new judge tells so.
-fn told_of(alloc: Global, records: &[&[u8]]) -> Option<Vec<u8>> {
-    let mut told = Vec::new(alloc);
+/// Adds what a new judge tells so.
+fn tell_new(alloc: Global, told: &mut String, records: &[&[u8]]) -> Option<()> {
     let mut judge = Judge::new(alloc, Limits::profile());
-    tell_all(alloc, &mut judge, &mut told, records)?;
+    tell_all(alloc, &mut judge, told, records)
+}
+
+/// What a new judge tells so.
+fn told_of(alloc: Global, records: &[&[u8]]) -> Option<String> {
+    let mut told = String::new(alloc);
+    tell_new(alloc, &mut told, records)?;
     Some(told)
 }
 
-fn check_told(rt: &impl Abort, told: Option<Vec<u8>>, wanted: &str) {
+fn check_told(rt: &impl Abort, told: Option<String>, wanted: &str) {
     let told = told.expect(rt, "memory");
-    assert!(rt; told.as_slice() == wanted.as_bytes(), "{wanted}");
+    assert!(rt; told.as_str() == wanted, "{wanted}");
 }
 
 const INITIALIZE: &[u8] =
@@ -124,7 +129,7 @@ fn a_no_is_given_for_good(rt: HostRuntime) {
 }
 
 /// Adds the report of the verdict, then that of a fault of the log behind it, and that of the verdict again.
-fn tell_fault(alloc: Global, judge: &mut Judge<Lined>, told: &mut Vec<u8>) -> Option<()> {
+fn tell_fault(alloc: Global, judge: &mut Judge<Lined>, told: &mut String) -> Option<()> {
     let Ok(verdict) = judge.finish() else {
         return None;
     };
@@ -134,12 +139,27 @@ fn tell_fault(alloc: Global, judge: &mut Judge<Lined>, told: &mut Vec<u8>) -> Op
     tell_finish(alloc, judge, told)
 }
 
-/// What a new judge tells so that took a record.
-fn told_of_fault(alloc: Global, bytes: &[u8]) -> Option<Vec<u8>> {
-    let mut told = Vec::new(alloc);
+/// Takes a record, and adds what is told so behind it.
+fn tell_fault_behind(
+    alloc: Global,
+    judge: &mut Judge<Lined>,
+    told: &mut String,
+    bytes: &[u8],
+) -> Option<()> {
+    tell_take(alloc, judge, told, bytes)?;
+    tell_fault(alloc, judge, told)
+}
+
+/// Adds what a new judge tells so.
+fn tell_new_fault(alloc: Global, told: &mut String, bytes: &[u8]) -> Option<()> {
     let mut judge = Judge::new(alloc, Limits::profile());
-    tell_take(alloc, &mut judge, &mut told, bytes)?;
-    tell_fault(alloc, &mut judge, &mut told)?;
+    tell_fault_behind(alloc, &mut judge, told, bytes)
+}
+
+/// What a new judge tells so that took a record.
+fn told_of_fault(alloc: Global, bytes: &[u8]) -> Option<String> {
+    let mut told = String::new(alloc);
+    tell_new_fault(alloc, &mut told, bytes)?;
     Some(told)
 }
 

@@ -17,10 +17,10 @@ fn write_normal(
 }
 
 /// The report of the fault that ends a log, if any.
-fn report_on(alloc: Global, outcome: &Outcome) -> Option<Vec<u8>> {
+fn report_on(alloc: Global, outcome: &Outcome) -> Option<String> {
     match outcome {
         Outcome::Judged(verdict) => report_of(alloc, verdict).ok(),
-        _ => Some(Vec::new(alloc)),
+        _ => Some(String::new(alloc)),
     }
 }
 
@@ -33,7 +33,7 @@ fn check_normal(rt: &impl Abort, alloc: Global, limits: Limits, row: &Row) {
     let outcome = write_normal(alloc, limits, log, &mut written).expect(rt, "no fault");
     assert!(rt; written.as_slice() == *normal, "{report}");
     let told = report_on(alloc, &outcome).expect(rt, "memory");
-    assert!(rt; told.as_slice() == report.as_bytes(), "{report}");
+    assert!(rt; told.as_str() == *report, "{report}");
 }
 
 const NORMAL_FORMS: [Row; 9] = [

@@ -23,7 +23,7 @@ fn started(alloc: Global, editor: u64) -> Summary {
 
 fn check_report(rt: &impl Abort, alloc: Global, verdict: &Verdict, wanted: &str) {
     let report = report_of(alloc, verdict).expect(rt, "memory");
-    assert!(rt; report.as_slice() == wanted.as_bytes(), "{wanted}");
+    assert!(rt; report.as_str() == wanted, "{wanted}");
 }
 
 #[test]

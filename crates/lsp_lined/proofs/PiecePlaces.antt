@@ -1,6 +1,6 @@
 -- Pieces of a line: their characters, columns and bytes.
 use Rattle.std.proofs.Math.Seq.{take-append-add, drop-append-add}
-use Rattle.std.proofs.Common.{◌≡◌, ◌⊎◌, ◌<◌, ◌≤◌, ◌+◌, ◌-◌, ℕ, true, List, [], ◌∷◌, ◌++◌, length, take, drop, get_or, Option, Some, None, MatchOption, Result, Ok, Err, OnOk, Bor, refl, sym, ap, subst, ◌∙◌, inl, inr, ⊎_elim, arith, append_assoc, length-append}
+use Rattle.std.proofs.Common.{◌≡◌, ◌⊎◌, ◌<◌, ◌≤◌, ◌+◌, ◌-◌, ℕ, zero, suc, true, List, [], ◌∷◌, ◌++◌, length, take, drop, get_or, Option, Some, None, MatchOption, Result, Ok, Err, OnOk, Bor, refl, sym, ap, subst, ◌∙◌, inl, inr, ⊎_elim, arith, append_assoc, length-append}
 use Rattle.std.proofs.lemmas.List.{append-nil, take-append-drop, at_drop_more, take_more, take_at, take-append-le, drop-append-le, take_all, get_or_default, get_or_past}
 use Rattle.std.proofs.lemmas.Bool.{cond-true, cond-false, lt-ltb, le-ltb, cases_lt}
 use Rattle.std.specs.Bool.{if◌then◌else◌}
@@ -8,8 +8,8 @@ use Rattle.std.specs.Result.{is_ok}
 use Rattle.std.specs.List.{replace_range}
 use Rattle.std.specs.Option.{option_map}
 use Rattle.std.specs.Str.{chars, IsUtf8, IsCharBoundary}
-use Rattle.std.proofs.lemmas.Str.{chars-append, chars-encodes, encodes-append, encodes-chars, IsUtf8-append, IsUtf8-drop, IsCharBoundary-from_drop, IsCharBoundary-at_seam}
-use lib.Utf8.{encodes, scalars}
+use Rattle.std.proofs.lemmas.Str.{chars-append, chars-encodes, encodes-append, encodes-chars, IsUtf8-append, IsUtf8-drop, IsUtf8-past_char, IsCharBoundary-from_drop, IsCharBoundary-at_seam, len_utf8_bounds, length-encode}
+use lib.Utf8.{encode, encodes, scalars}
 use Rattle.lsp_types.specs.declared.position.Encoding.{Encoding}
 use Rattle.lsp_types.specs.declared.position.Encoding.TheVariants.{Utf8}
 use Rattle.lsp_text.specs.Lines.{Line, spelled}
@@ -275,6 +275,18 @@ is_byte_of text end pre x post offset bytes left h le b =
       pre_chars = chars-encodes pre t.pre_scalar;
       pre_utf8 = t.pre_utf8;
     }
+
+-- no text of characters has its first boundary further in than at 4 bytes
+pub boundary_some : (bs : List ℕ) (n k : ℕ) → IsUtf8 bs → 0 < length bs → 4 ≤ n → ((i : ℕ) → k < i → i ≤ n → IsCharBoundary bs i → ⊥) → 0 < k
+boundary_some bs n (suc k) u some far none = omega arith
+boundary_some bs n zero u some far none = by_chars (chars bs) (encodes-chars bs u)
+  where
+    by_chars : (cs : List ℕ) → encodes cs ≡ bs → 0 < 0
+    by_chars [] e = absurd (omega (arith, some, ap length e))
+    by_chars (c ∷ cs) e =
+        let width = len_utf8_bounds c in
+        let long = length-encode c in
+        absurd (none (length (encode c)) (omega (arith, width.0, long)) (omega (arith, width.1, long, far)) (IsCharBoundary-at_seam bs (encode c) (encodes cs) (sym e) (IsUtf8-past_char bs (encodes cs) c u (sym e))))
 
 -- one more piece is cut from the rest of a text
 pub cut_more : (ps qs : List Line) (p : Line) (text rest piece tail : List ℕ) (n : ℕ) → IsUtf8 rest → IsCharBoundary rest n → piece ≡ take n rest → tail ≡ drop n rest → qs ≡ ps ++ p ∷ [] → p.text ≡ chars piece →

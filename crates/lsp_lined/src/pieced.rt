@@ -71,9 +71,6 @@ impl PiecedLine {
         let mut rest = text;
         while rest.len() > PIECE {
             let cut = cut_off(alloc, rest)?;
-            if cut.rest.len() == rest.len() {
-                break;
-            }
             groups.push(cut.group)?;
             rest = cut.rest;
         }
@@ -241,16 +238,15 @@ struct CutOff<'a> {
 
 /// A group of pieces of a long text, and what comes after them.
 fn cut_off<'a>(alloc: Global, text: &'a str) -> Result<CutOff<'a>, AllocError>
-    requires { length text.now < 2 ^ 64 }
-    ensures { IfOk result (λ cut. IsCutFrom text.now cut.group cut.rest.now) }
+    requires fits { length text.now < 2 ^ 64 }
+    requires long { PIECE < length text.now }
+    ensures cut { IfOk result (λ cut. IsCutFrom text.now cut.group cut.rest.now) }
+    ensures shorter { IfOk result (λ cut. length cut.rest.now < length text.now) }
 {
     let mut pieces = Vec::with_capacity(alloc, GROUP.min(text.len() / PIECE + 1))?;
     let mut rest = text;
     while rest.len() > PIECE && pieces.len() < GROUP {
         let (piece, tail) = rest.split_at(rest.floor_char_boundary(PIECE));
-        if piece.is_empty() {
-            break;
-        }
         pieces.push(CountedLine::new(alloc, piece, "")?)?;
         rest = tail;
     }

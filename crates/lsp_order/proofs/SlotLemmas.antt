@@ -7,7 +7,7 @@ use Rattle.std.specs.Map.{lookup}
 use Rattle.std.specs.Option.{option_or}
 use Rattle.std.proofs.lemmas.Bool.{cases_Bool, or_parts}
 use Rattle.std.proofs.lemmas.Option.{none-some, same_Some, slice_get_within}
-use Rattle.lsp_order.specs.Slots.{keys_in, key_at, holds, place, renumbered, AllDiffer, ArePlaces, IsKept}
+use Rattle.lsp_order.specs.Slots.{keys_in, key_at, holds, place, AllDiffer, ArePlaces, IsKept}
 
 -- ---- options
 
@@ -21,11 +21,13 @@ pub no_some : {A : Type 0} (o : Option A) → is_some o ≡ false → o ≡ None
 no_some None h = refl
 no_some (Some x) h = absurd (true≢false h)
 
-renumbered-is : (new old : Option ℕ) → is_some new ≡ is_some old → renumbered new old ≡ new
-renumbered-is None None h = refl
-renumbered-is None (Some n) h = absurd (true≢false (sym h))
-renumbered-is (Some m) None h = absurd (true≢false h)
-renumbered-is (Some m) (Some n) h = refl
+first_is : (new old : Option ℕ) → is_some old ≡ is_some new → option_or new old ≡ new
+first_is None old h = no_some old h
+first_is (Some n) old h = refl
+
+some_still : (new old : Option ℕ) → is_some old ≡ true → is_some (option_or new old) ≡ true
+some_still None old h = h
+some_still (Some n) old h = refl
 
 module _ {K : Type 0} where
   -- ---- one slot more
@@ -67,6 +69,12 @@ module _ {K : Type 0} where
   is_some-place test (None ∷ slots) = later (place test slots) false ∙ is_some-place test slots
   is_some-place test (Some key ∷ slots) = later (place test slots) (test key) ∙ ap (λ b. test key || b) (is_some-place test slots)
 
+  pub among : (test : K → Bool) (slots : List (Option K)) (i : ℕ) (held : K) → test held ≡ true → slice_get slots i ≡ Some (Some held) → list_any test (keys_in slots) ≡ true
+  among test [] i held p h = absurd (none-some (Some held) h)
+  among test (slot ∷ slots) zero held p h = ap (λ s. list_any test (keys_in (s ∷ slots))) (same_Some slot (Some held) h) ∙ rw p refl
+  among test (None ∷ slots) (suc i) held p h = among test slots i held p h
+  among test (Some key ∷ slots) (suc i) held p h = elim (cases_Bool (test key)) [ inl q ↦ rw q refl | inr q ↦ rw q (among test slots i held p h) ]
+
   pub no_place : (test : K → Bool) (slots : List (Option K)) → list_any test (keys_in slots) ≡ false → place test slots ≡ None
   no_place test slots h = no_some (place test slots) (is_some-place test slots ∙ h)
 
@@ -76,10 +84,6 @@ module _ {K : Type 0} where
   keys_in-full [] = refl
   keys_in-full (None ∷ slots) = keys_in-full slots
   keys_in-full (Some key ∷ slots) = ap (λ l. key ∷ l) (keys_in-full slots)
-
-  pub places-renumbered : (test : K → Bool) (old new : List (Option K)) → keys_in new ≡ keys_in old → renumbered (place test new) (place test old) ≡ place test new
-  places-renumbered test old new same =
-      renumbered-is (place test new) (place test old) (is_some-place test new ∙ (ap (list_any test) same ∙ sym (is_some-place test old)))
 
   -- ---- all slots are full
 
@@ -183,30 +187,27 @@ module _ {K : Type 0} where
       keys_in-emptied key (Some other ∷ slots) (suc i) held d h p =
           let rest = keys_in-emptied key slots i held d.1 h p in
           elim (cases_Bool (eq key other)) [
-            | inl q ↦ absurd (true≢false (sym (among slots i h) ∙ (ap (λ t. list_any t (keys_in slots)) (same_test key other q) ∙ d.0)))
+            | inl q ↦ absurd (true≢false (sym (among (eq key) slots i held p h) ∙ (ap (λ t. list_any t (keys_in slots)) (same_test key other q) ∙ d.0)))
             | inr q ↦ rw q (ap (λ l. other ∷ l) rest)
           ]
-        where
-          among : (slots : List (Option K)) (i : ℕ) → slice_get slots i ≡ Some (Some held) → list_any (eq key) (keys_in slots) ≡ true
-          among [] i h = absurd (none-some (Some held) h)
-          among (slot ∷ slots) zero h = ap (λ s. list_any (eq key) (keys_in (s ∷ slots))) (same_Some slot (Some held) h) ∙ rw p refl
-          among (None ∷ slots) (suc i) h = among slots i h
-          among (Some x ∷ slots) (suc i) h = elim (cases_Bool (eq key x)) [ inl r ↦ rw r refl | inr r ↦ rw r (among slots i h) ]
 
 -- ---- the places are noted one after another
 
-noted : (i : ℕ) (new old : Option ℕ) → option_map (λ (n : ℕ). i) (renumbered new old) ≡ renumbered (Some i) old
-noted i new None = refl
-noted i new (Some n) = refl
+module _ {K : Type 0} (test : K → Bool) (slots : List (Option K)) (first : Option ℕ) where
+  pub number-step : (i : ℕ) (slot : Option K) (before after : Option ℕ) → slice_get slots i ≡ Some slot → before ≡ option_or (place test (take i slots)) first
+      → after ≡ (if holds test slot then Some i else before) → after ≡ option_or (place test (take (i + 1) slots)) first
+  number-step i slot before after h e f =
+      elim (cases_Bool (holds test slot)) [
+        | inl p ↦ f ∙ rw (p, add-one, place-take test slots i slot h, p) refl
+        | inr p ↦ f ∙ rw (p, e, add-one, place-take test slots i slot h, p) refl
+      ]
 
-pub number-step : {K : Type 0} (test : K → Bool) (slots : List (Option K)) (i : ℕ) (slot : Option K) (first before after : Option ℕ) → slice_get slots i ≡ Some slot
-    → before ≡ renumbered (place test (take i slots)) first → after ≡ (if holds test slot then option_map (λ (n : ℕ). i) before else before)
-    → after ≡ renumbered (place test (take (i + 1) slots)) first
-number-step test slots i slot first before after h e f =
-    elim (cases_Bool (holds test slot)) [
-      | inl p ↦ f ∙ rw (p, e, add-one, place-take test slots i slot h, p) (noted i (place test (take i slots)) first)
-      | inr p ↦ f ∙ rw (p, e, add-one, place-take test slots i slot h, p) refl
-    ]
+  pub number-known : (i : ℕ) (key : K) (now : Option ℕ) → is_some first ≡ list_any test (keys_in slots) → test key ≡ true → slice_get slots i ≡ Some (Some key)
+      → now ≡ option_or (place test (take i slots)) first → is_some now ≡ true
+  number-known i key now h p e is = ap is_some is ∙ some_still (place test (take i slots)) first (h ∙ among test slots i key p e)
+
+  pub number-all : (now : Option ℕ) → is_some first ≡ list_any test (keys_in slots) → now ≡ option_or (place test slots) first → now ≡ place test slots
+  number-all now h is = is ∙ first_is (place test slots) first (h ∙ sym (is_some-place test slots))
 
 module _ {K : Type 0} (eq : K → K → Bool) (laws : IsEquivalence eq) where
   -- ---- a key enters

@@ -1,12 +1,8 @@
 -- Slots that hold a key or are empty, and an index of the keys.
-use Rattle.std.specs.Prelude.{◌≡◌, ℕ, suc, List, [], ◌∷◌, length, Bool, false, if◌then◌else◌, Option, Some, None, slice_get, unwrap_or}
+use Rattle.std.specs.Prelude.{◌≡◌, ℕ, suc, List, [], ◌∷◌, length, Bool, false, if◌then◌else◌, Option, Some, None, slice_get}
 use Rattle.std.specs.List.{list_any}
 use Rattle.std.specs.Map.{lookup}
 use Rattle.std.specs.Option.{option_or, option_map}
-
--- a place that was noted before, with the new place in its stead, if there is one
-abbrev pub renumbered : Option ℕ → Option ℕ → Option ℕ
-renumbered new old = option_map (λ n. unwrap_or new n) old
 
 module _ {K : Type 0} where
   -- the keys in the slots, in order

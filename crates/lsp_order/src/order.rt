@@ -2,9 +2,9 @@
 
 ghost use Rattle.std.specs.Prelude.{◌≡◌, ℕ, [], ◌++◌, ◌∷◌, length, filter, is_some, not, true, false, slice_get, slice_set, vec_len, ◌<◌, OnOk, OnErr, Some, None, if◌then◌else◌};
 ghost use Rattle.std.specs.List.{list_any};
-ghost use Rattle.std.specs.Option.{option_copied, option_map};
+ghost use Rattle.std.specs.Option.{option_copied};
 ghost use Rattle.std.specs.Map.{lookup};
-ghost use Rattle.lsp_order.specs.Slots.{keys_in, key_at, slot_key, renumbered, place, AllDiffer, ArePlaces};
+ghost use Rattle.lsp_order.specs.Slots.{keys_in, key_at, slot_key, AllDiffer, ArePlaces};
 
 use indexmap::IndexMap;
 use std::alloc::{AllocError, Global};
@@ -163,8 +163,8 @@ fn pack<K: Eq + Hash + Drop>(slots: &mut Vec<Option<K>>, places: &mut IndexMap<K
 
 /// Notes for each key in the slots where it stands.
 fn number<K: Eq + Hash>(slots: &[Option<K>], places: &mut IndexMap<K, usize>)
-    ensures { (key : K) → lookup (K.eq key) places.new.entries
-        ≡ renumbered (place (K.eq key) slots.now) (lookup (K.eq key) places.old.entries) }
+    requires { (key : K) → is_some (lookup (K.eq key) places.old.entries) ≡ list_any (K.eq key) (keys_in slots.now) }
+    ensures { ArePlaces K.eq places.new.entries slots.now }
 {
     for (place, slot) in slots.iter().enumerate() {
         if let Some(key) = slot {
@@ -173,14 +173,12 @@ fn number<K: Eq + Hash>(slots: &[Option<K>], places: &mut IndexMap<K, usize>)
     }
 }
 
-/// Notes where a key stands that has a place.
+/// Notes anew where a key stands.
 fn note<K: Eq + Hash>(places: &mut IndexMap<K, usize>, key: &K, place: usize)
+    requires { is_some (lookup (K.eq key.now) places.old.entries) ≡ true }
     ensures { (other : K) → lookup (K.eq other) places.new.entries
-        ≡ (if K.eq other key.now then option_map (λ _. place) (lookup (K.eq other) places.old.entries)
-        else lookup (K.eq other) places.old.entries) }
+        ≡ (if K.eq other key.now then Some place else lookup (K.eq other) places.old.entries) }
 {
-    let Some(held) = places.get_mut(key) else {
-        return;
-    };
+    let held = places.get_mut(key).unwrap();
     *held = place;
 }

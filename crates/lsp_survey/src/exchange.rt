@@ -111,9 +111,7 @@ fn make_room(replies: &mut VecDeque<Given>)
     if replies.len() < MOST_REPLIES {
         return;
     }
-    if let Some(oldest) = replies.pop_front() {
-        drop(oldest);
-    }
+    let _ = replies.pop_front();
 }
 
 /// The event of the last of these answers to a request with this id.

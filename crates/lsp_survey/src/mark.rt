@@ -144,9 +144,7 @@ fn drop_reached(waiting: &mut WaitMap, version: i32)
 fn drop_first(waiting: &mut WaitMap)
     ensures { waiting.new.entries ≡ rest_of waiting.old.entries }
 {
-    if let Some((_, events)) = waiting.pop_first() {
-        drop(events);
-    }
+    let _ = waiting.pop_first();
 }
 
 /// Whether the least version is reached.

@@ -143,7 +143,5 @@ fn touch_first(
 fn close(map: &mut MarkMap, uri: &str)
     ensures { StepsOn uri.now closed map.old.entries map.new.entries }
 {
-    if let Some(mark) = map.swap_remove(uri) {
-        drop(mark);
-    }
+    let _ = map.swap_remove(uri);
 }

@@ -1,5 +1,5 @@
 //! Reports all that is wrong with a log.
-ghost use Rattle.std.specs.Prelude.{◌≡◌, ◌++◌, ◌∷◌, ◌+◌, ◌<◌, ◌^◌, ◌||◌, not, [], ℕ, List, map, length, codes, decimal, option_map, Ok, IfOk, OnOk, OnErr};
+ghost use Rattle.std.specs.Prelude.{◌≡◌, ◌++◌, ◌∷◌, ◌+◌, ◌<◌, ◌^◌, ◌||◌, not, [], ℕ, List, string_bytes, map, length, codes, decimal, option_map, Ok, IfOk, OnOk, OnErr};
 ghost use Rattle.std.specs.Io.KnownBytes.{IsAtEnd};
 ghost use Rattle.lsp_events.specs.Standing.{Follows};
 ghost use Rattle.lsp_frame.specs.Bounds.{Bounds, IsInRange};
@@ -17,7 +17,6 @@ ghost use Rattle.lsp_verdict.specs.Verdict.{summary, yes};
 use crate::offending::Heard;
 use crate::survey_reader::{End, Next, SurveyReader};
 use crate::tally::Tally;
-use lsp_events::summary_of;
 use lsp_frame::{Limits, Sink, Source, put_all};
 use lsp_rpc::Memory;
 use lsp_verdict::{
@@ -73,7 +72,7 @@ pub fn run_survey<R: Source, W: Sink>(
 /// What stands behind the lines of the offences, and the verdict.
 #[derive(Drop)]
 struct Closing {
-    text: Vec<u8>,
+    text: String,
     verdict: Verdict,
 }
 
@@ -169,7 +168,7 @@ fn list<W: Sink>(
         return Ok(());
     }
     let lines = offence_report(alloc, offence)?;
-    put_all(writer, lines.as_slice())?;
+    put_all(writer, lines.as_bytes())?;
     Ok(())
 }
 
@@ -214,7 +213,7 @@ fn close<W: Sink>(
 {
     list_each(alloc, writer, listing, tally, end.listed.as_slice())?;
     let closing = closing_of(alloc, events, tally, end.bad)?;
-    put_all(writer, closing.text.as_slice())?;
+    put_all(writer, closing.text.as_bytes())?;
     Ok(closing.verdict)
 }
 
@@ -228,7 +227,7 @@ fn closing_of(
     ensures { IfOk result (λ closed. (found : List SpecOffence) (notes : List Noted) → IsTally tally.now found
         → (found ≡ [] → Follows events.old.survey.walk.events.session events.old.survey.walk.events.docs events.old.survey.walk.events.counts (events_of notes))
         → length found < 2 ^ 64 → as_given (yes (summary events.old.survey.walk.events.docs.terms (events_of notes))) ≡ yes (summary events.old.survey.walk.events.docs.terms (events_of notes))
-        → (closed.text.items ≡ closing found (option_map verdict_view bad) (summary events.old.survey.walk.events.docs.terms (events_of notes)))
+        → (string_bytes closed.text ≡ closing found (option_map verdict_view bad) (summary events.old.survey.walk.events.docs.terms (events_of notes)))
         × (verdict_view closed.verdict ≡ first_verdict found (option_map verdict_view bad) (summary events.old.survey.walk.events.docs.terms (events_of notes)))) }
 {
     match tally.first {
@@ -237,29 +236,16 @@ fn closing_of(
             verdict: first.verdict(),
         }),
         None => {
-            let verdict = sound(alloc, events, bad)?;
+            let verdict = events.sound(bad)?;
             let text = report_of(alloc, &verdict)?;
             Ok(Closing { text, verdict })
         }
     }
 }
 
-/// The verdict where nothing is listed.
-fn sound(alloc: Global, events: &mut SurveyReader, bad: Option<Verdict>) -> Result<Verdict, Memory>
-    ensures { IfOk result (λ verdict. (notes : List Noted)
-        → Follows events.old.survey.walk.events.session events.old.survey.walk.events.docs events.old.survey.walk.events.counts (events_of notes)
-        → as_given (yes (summary events.old.survey.walk.events.docs.terms (events_of notes))) ≡ yes (summary events.old.survey.walk.events.docs.terms (events_of notes))
-        → verdict_view verdict ≡ first_verdict [] (option_map verdict_view bad) (summary events.old.survey.walk.events.docs.terms (events_of notes))) }
-{
-    match bad {
-        Some(verdict) => Ok(verdict),
-        None => Ok(Verdict::Yes(summary_of(alloc, &mut events.survey.walk.events)?)),
-    }
-}
-
 /// The lines of a fault of the log, and the one that says how many offences were found.
-fn last_lines(alloc: Global, tally: &Tally, bad: &Option<Verdict>) -> Result<Vec<u8>, Memory>
-    ensures { IfOk result (λ text. text.items ≡ bad_lines (option_map verdict_view bad.now)
+fn last_lines(alloc: Global, tally: &Tally, bad: &Option<Verdict>) -> Result<String, Memory>
+    ensures { IfOk result (λ text. string_bytes text ≡ bad_lines (option_map verdict_view bad.now)
         ++ line (codes "offences" ∷ decimal tally.now.found ∷ codes "following" ∷ decimal tally.now.following ∷ [])) }
 {
     let count = found_report(alloc, tally.found, tally.following)?;
@@ -267,6 +253,6 @@ fn last_lines(alloc: Global, tally: &Tally, bad: &Option<Verdict>) -> Result<Vec
         return Ok(count);
     };
     let mut text = report_of(alloc, verdict)?;
-    text.extend_from_slice(count.as_slice())?;
+    text.push_str(count.as_str())?;
     Ok(text)
 }

@@ -66,7 +66,7 @@ fn push_apart(told: &mut Vec<u8>, alloc: Global, task: Task<'_>, ended: &Ended) 
         return Some(());
     };
     match report_apart(alloc, task, outcome).ok()? {
-        Some(report) => push_report(told, report.as_slice()),
+        Some(report) => push_report(told, report.as_bytes()),
         None => Some(()),
     }
 }

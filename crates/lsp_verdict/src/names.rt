@@ -15,7 +15,8 @@ pub fn side_name(side: Side) -> &'static str
     }
 }
 
-pub(crate) fn who_name(who: Who) -> &'static str
+/// The word for whom an event is of.
+pub fn who_name(who: Who) -> &'static str
     ensures { result.now ≡ who_name who }
 {
     match who {

@@ -1,5 +1,5 @@
 //! An offence of a session as it is listed, and what is said of it.
-ghost use Rattle.std.specs.Prelude.{◌≡◌, ◌∷◌, [], List, IfOk, codes, decimal};
+ghost use Rattle.std.specs.Prelude.{◌≡◌, ◌∷◌, [], List, IfOk, string_bytes, codes, decimal};
 ghost use Rattle.lsp_verdict.specs.Counting.{AreCounts};
 ghost use Rattle.lsp_verdict.specs.Event.{Event};
 ghost use Rattle.lsp_verdict.specs.Given.{given_offence, offence_view, verdict_view};
@@ -64,19 +64,19 @@ fn follow_report(
     who: Who,
     number: u64,
     event: u64,
-) -> Result<Vec<u8>, Memory>
-    ensures { IfOk result (λ bytes. bytes.items ≡ no_lines (codes "follows" ∷ []) (no rule who number event)) }
+) -> Result<String, Memory>
+    ensures { IfOk result (λ written. string_bytes written ≡ no_lines (codes "follows" ∷ []) (no rule who number event)) }
 {
     let name = who_name(who);
     let text = text_of(rule);
     let report = format!(in alloc; "no {rule} {name} {number} event {event} follows\n{text}\n")?;
-    Ok(report.into_bytes())
+    Ok(report)
 }
 
 /// The two lines that list an offence: those of its No, and the word `follows` behind the number of
 /// the event where it follows from an earlier one.
-pub fn offence_report(alloc: Global, offence: &Offence) -> Result<Vec<u8>, Memory>
-    ensures { IfOk result (λ bytes. bytes.items ≡ offence_lines (offence_view offence.now)) }
+pub fn offence_report(alloc: Global, offence: &Offence) -> Result<String, Memory>
+    ensures { IfOk result (λ written. string_bytes written ≡ offence_lines (offence_view offence.now)) }
 {
     let Offence {
         rule,
@@ -93,10 +93,10 @@ pub fn offence_report(alloc: Global, offence: &Offence) -> Result<Vec<u8>, Memor
 }
 
 /// The line that says how many offences were found, and how many of them follow from earlier ones.
-pub fn found_report(alloc: Global, found: u64, following: u64) -> Result<Vec<u8>, Memory>
-    ensures { IfOk result (λ bytes. bytes.items
+pub fn found_report(alloc: Global, found: u64, following: u64) -> Result<String, Memory>
+    ensures { IfOk result (λ written. string_bytes written
         ≡ line (codes "offences" ∷ decimal found ∷ codes "following" ∷ decimal following ∷ [])) }
 {
     let report = format!(in alloc; "offences {found} following {following}\n")?;
-    Ok(report.into_bytes())
+    Ok(report)
 }

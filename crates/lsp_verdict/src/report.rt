@@ -18,17 +18,17 @@ use lsp_session::OpenRequest;
 use std::alloc::Global;
 use std::fmt::Write;
 
-fn two_lines(alloc: Global, code: &str, frame: u64, text: &str) -> Result<Vec<u8>, Memory>
-    ensures { IfOk result (λ report. report.items ≡ two_lines code.now frame text.now) }
+fn two_lines(alloc: Global, code: &str, frame: u64, text: &str) -> Result<String, Memory>
+    ensures { IfOk result (λ written. string_bytes written ≡ two_lines code.now frame text.now) }
 {
     let report = format!(in alloc; "fault {code} frame {frame}\n{text}\n")?;
-    Ok(report.into_bytes())
+    Ok(report)
 }
 
 /// The two lines that tell the fault of a frame: its code and the frame's number, and the rule's
 /// fixed text. A rule without a text has an empty second line.
-pub fn stream_report(alloc: Global, frame: u64, fault: StreamFault) -> Result<Vec<u8>, Memory>
-    ensures { IfOk result (λ report. report.items ≡ stream_report frame fault) }
+pub fn stream_report(alloc: Global, frame: u64, fault: StreamFault) -> Result<String, Memory>
+    ensures { IfOk result (λ written. string_bytes written ≡ stream_report frame fault) }
 {
     match fault {
         StreamFault::Rule(rule) => {
@@ -124,14 +124,14 @@ fn push_counts(report: &mut String, summary: &Summary) -> Result<(), Memory>
     Ok(())
 }
 
-fn summary_report(alloc: Global, summary: &Summary) -> Result<Vec<u8>, Memory>
-    ensures { IfOk result (λ bytes. bytes.items ≡ report (yes (summary_view summary.now))) }
+fn summary_report(alloc: Global, summary: &Summary) -> Result<String, Memory>
+    ensures { IfOk result (λ written. string_bytes written ≡ report (yes (summary_view summary.now))) }
 {
     let mut report = String::from_str(alloc, "yes\n")?;
     push_counts(&mut report, summary)?;
     push_documents(alloc, &mut report, summary.documents.as_slice())?;
     push_requests(alloc, &mut report, summary.requests.as_slice())?;
-    Ok(report.into_bytes())
+    Ok(report)
 }
 
 pub(crate) fn no_report(
@@ -140,22 +140,22 @@ pub(crate) fn no_report(
     who: Who,
     number: u64,
     event: u64,
-) -> Result<Vec<u8>, Memory>
-    ensures { IfOk result (λ bytes. bytes.items ≡ report (no rule who number event)) }
+) -> Result<String, Memory>
+    ensures { IfOk result (λ written. string_bytes written ≡ report (no rule who number event)) }
 {
     let name = who_name(who);
     let text = text_of(rule);
     let report = format!(in alloc; "no {rule} {name} {number} event {event}\n{text}\n")?;
-    Ok(report.into_bytes())
+    Ok(report)
 }
 
-fn bad_log_report(alloc: Global, number: u64, fault: LogCode) -> Result<Vec<u8>, Memory>
-    ensures { IfOk result (λ bytes. bytes.items ≡ report (bad_log number fault)) }
+fn bad_log_report(alloc: Global, number: u64, fault: LogCode) -> Result<String, Memory>
+    ensures { IfOk result (λ written. string_bytes written ≡ report (bad_log number fault)) }
 {
     let code = code_name(fault);
     let text = code_text(fault);
     let report = format!(in alloc; "bad log {code} record {number}\n{text}\n")?;
-    Ok(report.into_bytes())
+    Ok(report)
 }
 
 /// The report of a verdict, a line feed behind each line.
@@ -164,8 +164,8 @@ fn bad_log_report(alloc: Global, number: u64, fault: LogCode) -> Result<Vec<u8>,
 /// and one for each open request, the editor's first; URIs, ids and methods are JSON text. Of No:
 /// the rule, whose event it is, its number and that of the event, and the rule's fixed text. Of a
 /// bad log: its code, the number of the record, and the fixed text.
-pub fn report_of(alloc: Global, verdict: &Verdict) -> Result<Vec<u8>, Memory>
-    ensures { IfOk result (λ bytes. bytes.items ≡ report (verdict_view verdict.now)) }
+pub fn report_of(alloc: Global, verdict: &Verdict) -> Result<String, Memory>
+    ensures { IfOk result (λ written. string_bytes written ≡ report (verdict_view verdict.now)) }
 {
     match verdict {
         Verdict::Yes(summary) => summary_report(alloc, summary),

@@ -22,7 +22,7 @@ use std::alloc::Global;
 use std::io::Read;
 use std::process::ExitCode;
 use std::rt::{Env, Files};
-use std::{env, fs, io, str};
+use std::{env, fs, io};
 
 /// What may help a user beyond the fixed words.
 #[derive(Clone, Copy)]
@@ -95,10 +95,8 @@ fn show_report<R: Eprint + AllocGlobal>(
     answer: Result<Outcome, RunFault>,
 ) -> Result<Outcome, RunFault> {
     let outcome = answer?;
-    if let Some(report) = report_apart(rt.alloc(), request.task, &outcome)?
-        && let Ok(text) = str::from_utf8(report.as_slice())
-    {
-        let _ = rt.eprint(text);
+    if let Some(report) = report_apart(rt.alloc(), request.task, &outcome)? {
+        let _ = rt.eprint(report.as_str());
     }
     Ok(outcome)
 }

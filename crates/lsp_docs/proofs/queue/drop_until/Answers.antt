@@ -25,3 +25,6 @@ returns-clause-missed c =
     let kept = simp to_z-of_z at c.loop-texts.invariant in
     let reached = simp to_z-of_z at c.is_reached.ensures in
     dropped_count c.args.version _ c.loop-texts.texts.entries c.loop-texts.missed kept (sym reached ∙ c.loop-texts-test.false)
+
+pub drop_first-requires : goal.drop_first-requires
+drop_first-requires c = sym c.is_reached.ensures ∙ c.loop-texts-test.true

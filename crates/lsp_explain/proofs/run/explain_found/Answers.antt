@@ -10,7 +10,7 @@ returns c =
     let found = c.args.found.now in
     let said = string_bytes c.push_said.new.lines in
     let text =
-    c.in_ok-extend_from_slice.ensures.items ∙ ap (λ w. c.in_ok-text.text.items ++ w) c.as_bytes.ensures.value
+    c.in_ok-push_str.ensures.bytes ∙ ap (λ w. string_bytes c.in_ok-text.text ++ w) c.as_str.ensures.value
     ∙ ap (λ w. w ++ said) (c.in_ok-text.ensures ∙ ap report c.verdict-verdict.ensures) in
     let seen : SeenOf c.args.events.now found c.rest-rest.result.now = λ limits start now past notes prior so ended.
     subst (λ s. ShowsFront limits s so.records c.rest-rest.result.now) c.side_of.ensures

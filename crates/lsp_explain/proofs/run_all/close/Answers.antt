@@ -1,3 +1,4 @@
+use Rattle.std.specs.Prelude.{string_bytes}
 use Rattle.std.proofs.lemmas.Result.{err_from_is_err_and}
 use Rattle.lsp_survey.proofs.Reporting.{yes_met}
 use Rattle.lsp_verdict.specs.Given.{verdict_view}
@@ -15,18 +16,18 @@ pub returns-in_err-put_all : goal.returns-in_err-put_all
 returns-in_err-put_all g c =
     let from = c.from_residual-in_err-put_all in
     let p = err_from_is_err_and from.result from.ensures.1 in
-    let stopped = rw c.as_slice.ensures.value at c.in_err-put_all.ensures in
+    let stopped = rw c.as_bytes.ensures.value at c.in_err-put_all.ensures in
     rw (p.1, p.2) (λ completeness limits start now old told.
     let last = c.in_ok-closing.ensures.closing told.found (notes_of told.hs) told.tally (λ none. record { follows = told.ended.follows none; exact = told.ended.exact }) (stands_after c.args.events.now (notes_of told.hs) told.ended.walks) told.ended.few in
-    close_failed completeness limits c.args.events.now c.args.tally.now start now old (g.W.Sink.told c.args.writer.now) c.args.end told (g.W.Sink.told c.put_all.new.writer) c.in_ok-closing.closing.text.items last.0 stopped)
+    close_failed completeness limits c.args.events.now c.args.tally.now start now old (g.W.Sink.told c.args.writer.now) c.args.end told (g.W.Sink.told c.put_all.new.writer) (string_bytes c.in_ok-closing.closing.text) last.0 stopped)
 
 pub returns : goal.returns
 returns g c =
-    let wrote = rw c.as_slice.ensures.value at c.in_ok-put_all.ensures in
+    let wrote = rw c.as_bytes.ensures.value at c.in_ok-put_all.ensures in
     let e = c.args.events.now in
     let old_writer = g.W.Sink.told c.args.writer.now in
     λ completeness limits start now old told.
     let last = c.in_ok-closing.ensures.closing told.found (notes_of told.hs) told.tally (λ none. record { follows = told.ended.follows none; exact = told.ended.exact }) (stands_after c.args.events.now (notes_of told.hs) told.ended.walks) told.ended.few in
-    closed completeness limits e c.args.tally.now start now old old_writer c.args.end told (g.W.Sink.told c.put_all.new.writer) (verdict_view c.in_ok-closing.closing.verdict) c.in_ok-closing.closing.text.items last.0 last.1
+    closed completeness limits e c.args.tally.now start now old old_writer c.args.end told (g.W.Sink.told c.put_all.new.writer) (verdict_view c.in_ok-closing.closing.verdict) (string_bytes c.in_ok-closing.closing.text) last.0 last.1
     (yes_met completeness limits start now c.closing_of.new.tally (all_found completeness limits e c.args.tally.now start now old old_writer c.args.end told) c.args.end.bad (s completeness limits e c.args.tally.now start now old old_writer c.args.end told) (verdict_view c.in_ok-closing.closing.verdict)
     told.ended.of_read (c.in_ok-closing.ensures.tally told.found told.tally) last.1 told.ended.met) wrote

@@ -1,4 +1,4 @@
-use Rattle.std.specs.Prelude.{option_map}
+use Rattle.std.specs.Prelude.{option_map, string_bytes}
 use Rattle.std.proofs.Common.{◌++◌, map, ap, ◌∙◌}
 use Rattle.lsp_survey.proofs.Reporting.{first_none}
 use Rattle.lsp_survey.specs.Asking.{numbered}
@@ -19,7 +19,7 @@ returns-clause-closing c = λ found notes tally sound stands few.
     let bad = option_map verdict_view c.args.end.bad in
     let counted = rw c.as_slice.ensures.value at (c.in_ok-text.ensures.tally found tally) in
     let last = c.in_ok-last.ensures (found ++ more) notes counted (λ none. sound (first_none found more none)) few in (
-      c.in_ok-extend_from_slice.ensures.items ∙ ap (λ w. c.in_ok-text.text.items ++ w) (c.as_slice-2.ensures.value ∙ last.0)
+      c.in_ok-push_str.ensures.bytes ∙ ap (λ w. string_bytes c.in_ok-text.text ++ w) (c.as_str.ensures.value ∙ last.0)
           ∙ ap (λ w. w ++ all_closing (found ++ more) bad (flaw_held e bad) (summary_behind e notes)) (c.in_ok-text.ensures.text (events_of notes) stands ∙ ap (λ l. lines (ends_said (rests_held e) (numbered (terms_in e) (events_of notes)) l)) c.as_slice.ensures.value),
       last.1,
     )

@@ -1,4 +1,4 @@
-use Rattle.std.specs.Prelude.{take}
+use Rattle.std.specs.Prelude.{take, string_bytes}
 use Rattle.std.proofs.Common.{◌++◌, map, ap, subst, ◌∙◌}
 use Rattle.std.proofs.lemmas.List.{take_all}
 use Rattle.std.proofs.lemmas.Option.{slice_get-get_or}
@@ -25,7 +25,7 @@ loop-offence-preserved c =
       text = λ before stands.
           let said = c.in_ok-explanation.ensures.text (rests_held e) before stands
           (c.rest-rest.ensures.held ∙ ap (λ s. (stream_of e.survey s).decoder.rest) c.side_by.ensures ∙ held_rest e (side_by _)) in
-          text_more (rests_held e) (numbered (terms_in e) before) xs i _ at c.loop-offence.text.items _ _ c.in_ok-extend_from_slice.ensures.items (c.as_slice.ensures.value ∙ said) (c.loop-offence.invariant.text before stands);
+          text_more (rests_held e) (numbered (terms_in e) before) xs i _ at (string_bytes c.loop-offence.text) _ _ c.in_ok-push_str.ensures.bytes (c.as_str.ensures.value ∙ said) (c.loop-offence.invariant.text before stands);
     }
 
 pub returns-clause-tally : goal.returns-clause-tally

@@ -22,11 +22,11 @@ returns-in_err-put_all g c =
     let terms = terms_of limits c.args.events.now.survey.format in
     let told = cause_told terms hs (record { raw = gave.raw; note = gave.n }) c.args.found.now gave.is_heard limits gave.so_far.records c.in_ok-explanation.explanation c.if-found.false
     (c.in_ok-explanation.ensures limits start now hs prior gave) in
-    (told.0, told.1, subst (Stopped (g.W.Sink.told c.args.writer.now) (g.W.Sink.told c.put_all.new.writer)) (c.as_slice.ensures.value ∙ told.2) c.in_err-put_all.ensures))
+    (told.0, told.1, subst (Stopped (g.W.Sink.told c.args.writer.now) (g.W.Sink.told c.put_all.new.writer)) (c.as_bytes.ensures.value ∙ told.2) c.in_err-put_all.ensures))
 
 pub returns : goal.returns
 returns g c = λ limits start now hs prior gave.
     let terms = terms_of limits c.args.events.now.survey.format in
     let told = cause_told terms hs (record { raw = gave.raw; note = gave.n }) c.args.found.now gave.is_heard limits gave.so_far.records c.in_ok-explanation.explanation c.if-found.false
     (c.in_ok-explanation.ensures limits start now hs prior gave) in
-    (told.0, told.1, subst (Wrote (g.W.Sink.told c.args.writer.now) (g.W.Sink.told c.put_all.new.writer)) (c.as_slice.ensures.value ∙ told.2) c.in_ok-put_all.ensures)
+    (told.0, told.1, subst (Wrote (g.W.Sink.told c.args.writer.now) (g.W.Sink.told c.put_all.new.writer)) (c.as_bytes.ensures.value ∙ told.2) c.in_ok-put_all.ensures)

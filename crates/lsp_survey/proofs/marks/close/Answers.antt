@@ -5,8 +5,8 @@ use Rattle.lsp_survey.specs.Marks.{mark_view}
 use Rattle.lsp_survey.proofs.MarkSteps.{steps_on}
 use Rattle.lsp_survey.proofs.marks.close.Goals as goal
 
-pub returns-in-Some : goal.returns-in-Some
-returns-in-Some c =
+pub returns : goal.returns
+returns c =
     let old = c.args.map.now.entries in
     let new = c.swap_remove.new.self.entries in
     let updates = c.swap_remove.ensures.updates in

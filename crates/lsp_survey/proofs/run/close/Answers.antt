@@ -1,4 +1,4 @@
-use Rattle.std.proofs.Common.{◌++◌, map}
+use Rattle.std.proofs.Common.{◌++◌, map, string_bytes}
 use Rattle.std.proofs.lemmas.Result.{err_from_is_err_and}
 use Rattle.lsp_verdict.specs.Given.{offence_view, verdict_view}
 use Rattle.lsp_survey.proofs.Reporting.{close_failed, close_refused, closed, ended_begins, first_none, more_wrote, some_failed, told_by, yes_met}
@@ -35,11 +35,11 @@ returns-in_err-put_all g c =
     let new = g.W.Sink.told c.list_each.new.writer in
     let told = rw c.as_slice.ensures.value at c.in_ok-list_each.ensures.tells in
     let tally = rw c.as_slice.ensures.value at c.in_ok-list_each.ensures.tally in
-    let stopped = rw c.as_slice-2.ensures.value at c.in_err-put_all.ensures in
+    let stopped = rw c.as_bytes.ensures.value at c.in_err-put_all.ensures in
     rw (p.1, p.2) (λ completeness limits start now old l.
     let last = c.in_ok-closing.ensures (l.found ++ more) l.notes (tally l.found l.tally) (λ none. l.ended.follows (first_none l.found more none)) l.ended.few l.ended.exact in
     close_failed completeness limits c.args.listing start now old new (g.W.Sink.told c.put_all.new.writer) (l.found ++ more) _ _ l.ended.of_read l.ended.failures
-    (more_wrote completeness limits c.args.listing start now old mid new l.found l.wrote more told) c.in_ok-closing.closing.text.items last.0 stopped)
+    (more_wrote completeness limits c.args.listing start now old mid new l.found l.wrote more told) (string_bytes c.in_ok-closing.closing.text) last.0 stopped)
 
 pub returns : goal.returns
 returns g c =
@@ -48,9 +48,9 @@ returns g c =
     let new = g.W.Sink.told c.list_each.new.writer in
     let told = rw c.as_slice.ensures.value at c.in_ok-list_each.ensures.tells in
     let tally = rw c.as_slice.ensures.value at c.in_ok-list_each.ensures.tally in
-    let wrote = rw c.as_slice-2.ensures.value at c.in_ok-put_all.ensures in
+    let wrote = rw c.as_bytes.ensures.value at c.in_ok-put_all.ensures in
     λ completeness limits start now old l.
     let last = c.in_ok-closing.ensures (l.found ++ more) l.notes (tally l.found l.tally) (λ none. l.ended.follows (first_none l.found more none)) l.ended.few l.ended.exact in
     closed completeness limits c.args.listing start now old new (g.W.Sink.told c.put_all.new.writer) (l.found ++ more) _ _ l.ended.of_read l.ended.failures
-    (more_wrote completeness limits c.args.listing start now old mid new l.found l.wrote more told) (verdict_view c.in_ok-closing.closing.verdict) c.in_ok-closing.closing.text.items last.0 last.1
+    (more_wrote completeness limits c.args.listing start now old mid new l.found l.wrote more told) (verdict_view c.in_ok-closing.closing.verdict) (string_bytes c.in_ok-closing.closing.text) last.0 last.1
     (yes_met completeness limits start now c.list_each.new.tally (l.found ++ more) c.args.end.bad _ (verdict_view c.in_ok-closing.closing.verdict) l.ended.of_read (tally l.found l.tally) last.1 l.ended.met) wrote

@@ -1,28 +1,27 @@
 use Rattle.std.proofs.Common.{ap, sym, ◌∙◌, Some}
 use Rattle.lsp_verdict.specs.Given.{verdict_view}
-use Rattle.lsp_judge.specs.Rulings.{verdict_in}
 use Rattle.lsp_judge.specs.Standing.{State}
 use Rattle.lsp_verdict.specs.Verdict.{no}
 use Rattle.lsp_judge.proofs.Answering.{given_names, open_none}
 use Rattle.lsp_judge.proofs.Finals.{given_final, log_final}
 use Rattle.lsp_judge.proofs.judge.Judge.bad_log.Goals as goal
 
-pub returns-in-Some-No-clause-verdict : goal.returns-in-Some-No-clause-verdict
-returns-in-Some-No-clause-verdict g c = λ records v stands final.
-    let given = ap (λ (s : State). s.given) (sym c.self.view_is) ∙ c.in-Some-No.is in
-    let value = rw c.in-Some-No.is at c.in-Some-No.field-0-is in
-    given_final c.args.self.now records c.in-Some-No.field-0 _ v _ given (ap verdict_in value) stands final
+pub returns-in-Some-clause-verdict : goal.returns-in-Some-clause-verdict
+returns-in-Some-clause-verdict g c = λ records v stands final.
+    let given = ap (λ (s : State). s.given) (sym c.self.view_is) ∙ c.in-Some.is in
+    let says = rw c.unwrap.ensures at c.answer.ensures.ok in
+    given_final c.args.self.now records c.in-Some.ruling _ v _ given says stands final
 
 pub returns-in-None-clause-verdict : goal.returns-in-None-clause-verdict
 returns-in-None-clause-verdict g c = λ records v stands final.
     let given = ap (λ (s : State). s.given) (sym c.self.view_is) ∙ c.in-None.is in
     log_final c.args.self.now records c.args.number c.args.fault v given c.ranges.number.fits stands final
 
-pub returns-in-Some-No-clause-no : goal.returns-in-Some-No-clause-no
-returns-in-Some-No-clause-no g c = λ records rule count event who stands e.
-    let given = ap (λ (s : State). s.given) (sym c.self.view_is) ∙ c.in-Some-No.is in
-    let value = rw c.in-Some-No.is at c.in-Some-No.field-0-is in
-    given_names c.args.self.now records c.in-Some-No.field-0 (no rule who count event) given (ap verdict_in value ∙ ap (λ a. Some (verdict_view a)) e) stands
+pub returns-in-Some-clause-no : goal.returns-in-Some-clause-no
+returns-in-Some-clause-no g c = λ records rule count event who stands e.
+    let given = ap (λ (s : State). s.given) (sym c.self.view_is) ∙ c.in-Some.is in
+    let says = rw c.unwrap.ensures at c.answer.ensures.ok in
+    given_names c.args.self.now records c.in-Some.ruling (no rule who count event) given (says ∙ ap (λ a. Some (verdict_view a)) e) stands
 
 pub returns-in-None-clause-fault : goal.returns-in-None-clause-fault
 returns-in-None-clause-fault g c = λ records at code stands e.

@@ -16,7 +16,7 @@ pub loop-rest-preserved : goal.loop-rest-preserved
 loop-rest-preserved c =
     let groups = c.loop-rest.groups.items in
     let cut = c.in_ok-cut.cut in
-    cut_next c.args.text.now c.loop-rest.rest.now cut.rest.now (joined_runs groups) cut.group (joined_runs c.push.new.self.items) c.loop-rest.invariant c.in_ok-cut.ensures
+    cut_next c.args.text.now c.loop-rest.rest.now cut.rest.now (joined_runs groups) cut.group (joined_runs c.push.new.self.items) c.loop-rest.invariant c.in_ok-cut.ensures.cut
     (ap joined_runs c.in_ok-push.ensures.items ∙ pushed_run groups cut.group)
 
 pub front_of-requires : goal.front_of-requires
