@@ -1,11 +1,21 @@
-"""The library that fails a call of the program which it is loaded into."""
+"""The program with one of its calls failing: the library that fails it, and a run of the program with that loaded."""
 
+import os
 import shutil
 import subprocess
 import sys
+import tempfile
 from pathlib import Path
 
 SOURCE = Path(__file__).resolve().parent / "faults.c"
+
+# The status of each fault, and what is said of it. A write that takes nothing has failed.
+FAULTS = {
+    "allocation": (4, b"lspcheck: out of memory\n"),
+    "read": (3, b"lspcheck: read fault\n"),
+    "write": (3, b"lspcheck: write fault\n"),
+    "nothing": (3, b"lspcheck: write fault\n"),
+}
 
 
 def library(folder):
@@ -19,3 +29,15 @@ def library(folder):
     if built.returncode != 0:
         sys.exit(f"{sys.argv[0]}: cc did not build {SOURCE.name}:\n{built.stdout}{built.stderr}")
     return str(path)
+
+
+def answer(program, words, preload, kind, most, at=0, given=None):
+    """The status, the output and the errors of one run, and how many calls of the kind it made. Each of its reads or
+    writes takes so many bytes at most, where a number is given."""
+    with tempfile.NamedTemporaryFile() as count:
+        settings = {"LD_PRELOAD": preload, "FAULT_KIND": kind, "FAULT_AT": str(at), "FAULT_COUNT": count.name}
+        if kind != "allocation" and most is not None:
+            settings["FAULT_MOST"] = str(most)
+        how = {"stdin": subprocess.DEVNULL} if given is None else {"input": given}
+        run = subprocess.run([program, *words], capture_output=True, env={**os.environ, **settings}, **how)
+        return (run.returncode, run.stdout, run.stderr), int(Path(count.name).read_text() or 0)

@@ -1,5 +1,5 @@
 /* Fails one call of the program that it is loaded into: its FAULT_AT-th allocation, read or write of
-   standard output, as FAULT_KIND says. Each of these reads or writes takes at most FAULT_MOST bytes.
+   standard output, as FAULT_KIND says, or has that write take nothing. Each of these reads or writes takes at most FAULT_MOST bytes.
    How many calls of the kind there were goes to the file FAULT_COUNT. With FAULT_BETWEEN only those
    count that come after the program writes `ready` and before it writes `done`. */
 #define _GNU_SOURCE
@@ -10,7 +10,7 @@
 #include <string.h>
 #include <unistd.h>
 
-enum kind { NONE, ALLOCATION, READ, WRITE };
+enum kind { NONE, ALLOCATION, READ, WRITE, NOTHING };
 
 static enum kind kind = NONE;
 static long at = 0;
@@ -53,6 +53,7 @@ __attribute__((constructor)) static void start(void)
     if (!strcmp(name, "allocation")) kind = ALLOCATION;
     if (!strcmp(name, "read")) kind = READ;
     if (!strcmp(name, "write")) kind = WRITE;
+    if (!strcmp(name, "nothing")) kind = NOTHING;
 }
 
 __attribute__((destructor)) static void end(void)
@@ -111,5 +112,6 @@ ssize_t write(int file, const void *bytes, size_t size)
     if (file != 1) return real_write(file, bytes, size);
     if (between && size >= 5 && !memcmp(bytes, "ready", 5)) counts = 1;
     if (between && size >= 4 && !memcmp(bytes, "done", 4)) counts = 0;
+    if (fails(NOTHING)) return 0;
     return fails(WRITE) ? failed() : real_write(file, bytes, cut(size));
 }

@@ -1,12 +1,17 @@
-//! Tests of inputs and outputs, of runs over streams, and of the text behind a message, by public names
-//! alone.
+//! Tests of inputs and outputs, of runs at small limits, and of runs over readers without an end, by
+//! public names alone.
 //!
-//! They stand apart from the crate that they try, so that it is proved once.
+//! They stand apart from the crate that they try, so that it is proved once. What the program can be
+//! asked for as it is built stands in the tables of worked sessions.
 #![tactic(auto)]
 
 #[cfg(test)]
+mod endless;
+#[cfg(test)]
+mod limits;
+#[cfg(test)]
 mod ports;
 #[cfg(test)]
-mod streams;
+mod readers;
 #[cfg(test)]
-mod texts;
+mod words;

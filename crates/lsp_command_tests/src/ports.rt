@@ -1,8 +1,9 @@
 //! Inputs and outputs over readers and writers that fail at a chosen call, and what is kept of why.
+use crate::readers::{Pieces, Sparing};
+use crate::words::word_of;
 use lsp_command::{Inlet, Outlet, Task, run_through};
 use lsp_frame::{Sink, Source};
 use lsp_judge::{Completeness, Limits};
-use lsp_trials::{Pieces, Sparing, word_of};
 use std::alloc::Global;
 use std::io;
 use std::process::Abort;

@@ -166,10 +166,21 @@ fn take_all<S: TextStore>(
     }
 }
 
-/// Takes the steps one after another, on the terms of a log of format 1.
-fn follow<S: TextStore>(rt: &impl Abort, alloc: Global, name: &str, rows: &[Row]) {
-    let mut docs: Docs<S> = Docs::new(alloc, Limits::profile());
+/// Takes the steps one after another within these limits, on the terms of a log of format 1.
+fn follow_within<S: TextStore>(
+    rt: &impl Abort,
+    alloc: Global,
+    name: &str,
+    limits: Limits,
+    rows: &[Row],
+) {
+    let mut docs: Docs<S> = Docs::new(alloc, limits);
     take_all(rt, alloc, name, &mut docs, rows);
+}
+
+/// The same within the limits of the program.
+fn follow<S: TextStore>(rt: &impl Abort, alloc: Global, name: &str, rows: &[Row]) {
+    follow_within::<S>(rt, alloc, name, Limits::profile(), rows);
 }
 
 /// Takes the steps one after another, on the terms of a format.
@@ -190,7 +201,7 @@ const B: Held = Some((5, "b"));
 
 const C: Held = Some((4, "c"));
 
-const COMES: [Row; 11] = [
+static COMES: [Row; 11] = [
     (Show(5, "b"), Waits, None, (1, 1)),
     (Open(3, "a"), Done, A, (1, 1)),
     (Whole(5, "c"), Rule(702), A, (1, 1)),
@@ -204,7 +215,7 @@ const COMES: [Row; 11] = [
     (Whole(9, "y"), Done, Some((9, "y")), (0, 1)),
 ];
 
-const PASSED: [Row; 7] = [
+static PASSED: [Row; 7] = [
     (Show(1, "z"), Waits, None, (1, 1)),
     (Show(3, "a"), Waits, None, (2, 2)),
     (Open(3, "b"), Rule(702), None, (2, 2)),
@@ -214,7 +225,7 @@ const PASSED: [Row; 7] = [
     (Whole(6, "b"), Done, Some((6, "b")), (0, 3)),
 ];
 
-const LATER_FIRST: [Row; 10] = [
+static LATER_FIRST: [Row; 10] = [
     (Open(3, "a"), Done, A, (0, 0)),
     (Show(9, "z"), Waits, A, (1, 1)),
     (Show(5, "b"), Waits, A, (2, 2)),
@@ -234,7 +245,7 @@ fn snapshots<S: TextStore>(rt: &impl Abort, alloc: Global) {
 }
 
 /// A snapshot of a version that was held before the present one, and what it comes to in each format.
-const LATE: [(i32, &str, Answer, Answer); 4] = [
+static LATE: [(i32, &str, Answer, Answer); 4] = [
     (3, "a", Rule(701), Equal),
     (3, "x", Rule(701), Rule(702)),
     (2, "a", Rule(701), Rule(701)),
@@ -280,7 +291,7 @@ fn late_snapshots<S: TextStore>(rt: &impl Abort, alloc: Global) {
 const LAST: Held = Some((4, "Xb\n"));
 
 /// Each kept version has the text that it had, until its document is closed.
-const KEPT: [Row; 12] = [
+static KEPT: [Row; 12] = [
     (Show(1, "z"), Waits, None, (1, 1)),
     (Open(2, "ab"), Done, Some((2, "ab")), (0, 1)),
     (Part(3, [0, 0, 0, 1], ""), Done, Some((3, "b")), (0, 1)),
@@ -323,7 +334,7 @@ fn sixteen_are_kept<S: TextStore>(rt: &impl Abort, alloc: Global) {
 
 const FIRST: Held = Some((2, "abX\r\ncd"));
 
-const ENDS: [Row; 4] = [
+static ENDS: [Row; 4] = [
     (Open(1, "ab\r\ncd"), Done, Some((1, "ab\r\ncd")), (0, 0)),
     (Part(2, [0, 99, 0, 99], "X"), Done, FIRST, (0, 0)),
     (Show(2, "abX\r\ncd"), Equal, FIRST, (0, 0)),
@@ -335,7 +346,7 @@ const ENDS: [Row; 4] = [
     ),
 ];
 
-const JOINED: [Row; 3] = [
+static JOINED: [Row; 3] = [
     (Open(1, "a\rb\n"), Done, Some((1, "a\rb\n")), (0, 0)),
     (Part(2, [1, 0, 1, 1], ""), Done, Some((2, "a\r\n")), (0, 0)),
     (
@@ -368,7 +379,7 @@ fn edits<S: TextStore>(rt: &impl Abort, alloc: Global) {
 
 const AB: Held = Some((1, "ab"));
 
-const OPENED: [Row; 12] = [
+static OPENED: [Row; 12] = [
     (Close, Rule(602), None, (0, 0)),
     (Save("x"), Done, None, (0, 0)),
     (Raise(Full, 2), Rule(602), None, (0, 0)),
@@ -390,7 +401,7 @@ const OPENED: [Row; 12] = [
 
 const FOUR: Held = Some((1, "abcd"));
 
-const LIMITED: [Row; 3] = [
+static LIMITED: [Row; 3] = [
     (Open(1, "abcde"), Rule(607), None, (0, 0)),
     (Open(1, "abcd"), Done, FOUR, (0, 0)),
     (Part(2, [0, 0, 0, 0], "x"), Rule(607), FOUR, (0, 0)),
@@ -399,8 +410,7 @@ const LIMITED: [Row; 3] = [
 fn rules<S: TextStore>(rt: &impl Abort, alloc: Global) {
     follow::<S>(rt, alloc, "opening, saving and closing", &OPENED);
     let limits = Limits::new(4096, 67_108_864, 1_048_576, 4, 1 << 40).expect(rt, "limits");
-    let mut docs: Docs<S> = Docs::new(alloc, limits);
-    take_all(rt, alloc, "a limit of four bytes", &mut docs, &LIMITED);
+    follow_within::<S>(rt, alloc, "a limit of four bytes", limits, &LIMITED);
 }
 
 /// The answer to these changes of version 2.
@@ -416,20 +426,23 @@ fn three_changes(alloc: Global) -> Option<[Change; 3]> {
     Some([delete, insert, reversed])
 }
 
-fn changes_in_order<S: TextStore>(rt: &impl Abort, alloc: Global) {
-    let changes = three_changes(alloc).expect(rt, "memory");
+/// Whether the changes are made one after another: with the last none is, since its span is reversed,
+/// and without it both others are.
+fn are_in_order<S: TextStore>(docs: &mut Docs<S>, changes: &[Change; 3]) -> bool {
+    let is_open = docs.did_open(URI, 1, "ab").is_ok();
+    let is_refused = changed_by(docs, changes) == Rule(606) && holds(docs, AB);
+    let is_made = changed_by(docs, &changes[..2]) == Done && holds(docs, Some((2, "bX")));
+    is_open && is_refused && is_made
+}
+
+fn changes_in_order<S: TextStore>(alloc: Global, changes: &[Change; 3]) -> bool {
     let mut docs: Docs<S> = Docs::new(alloc, Limits::profile());
-    take_row(
-        rt,
-        alloc,
-        "changes in order",
-        &mut docs,
-        (Open(1, "ab"), Done, AB, (0, 0)),
-    );
-    let all = changed_by(&mut docs, &changes);
-    assert!(rt; all == Rule(606) && holds(&docs, AB));
-    let two = changed_by(&mut docs, &changes[..2]);
-    assert!(rt; two == Done && holds(&docs, Some((2, "bX"))));
+    are_in_order(&mut docs, changes)
+}
+
+fn check_order<S: TextStore>(rt: &impl Abort, alloc: Global) {
+    let changes = three_changes(alloc).expect(rt, "memory");
+    assert!(rt; changes_in_order::<S>(alloc, &changes));
 }
 
 fn all_sessions<S: TextStore>(rt: &impl Abort, alloc: Global) {
@@ -439,7 +452,7 @@ fn all_sessions<S: TextStore>(rt: &impl Abort, alloc: Global) {
     late_snapshots::<S>(rt, alloc);
     kept_texts::<S>(rt, alloc);
     sixteen_are_kept::<S>(rt, alloc);
-    changes_in_order::<S>(rt, alloc);
+    check_order::<S>(rt, alloc);
 }
 
 #[test]
@@ -452,44 +465,63 @@ fn sessions_over_lined_texts(rt: HostRuntime) {
     all_sessions::<Lined>(&rt, rt.alloc());
 }
 
-fn are_open(docs: &Docs<Plain>, uris: &[&str]) -> bool {
-    for (index, uri) in uris.iter().enumerate() {
-        if docs.at(index) != Some(*uri) {
-            return false;
-        }
-    }
-    docs.len() == uris.len() && docs.at(uris.len()).is_none()
-}
-
 /// Opens these documents, each with its name as its text.
-fn open_all(docs: &mut Docs<Plain>, uris: &[&str], version: i32) -> Option<()> {
+fn open_all<S: TextStore>(docs: &mut Docs<S>, uris: &[&str], version: i32) -> Option<()> {
     for uri in uris {
         docs.did_open(uri, version, uri).ok()?;
     }
     Some(())
 }
 
-fn close_all(docs: &mut Docs<Plain>, uris: &[&str]) -> Option<()> {
+fn close_all<S: TextStore>(docs: &mut Docs<S>, uris: &[&str]) -> Option<()> {
     for uri in uris {
         docs.did_close(uri).ok()?;
     }
     Some(())
 }
 
-/// Four of six are closed, so that more than half of the places are empty.
+/// Adds a line of the documents that are open, in their order.
+fn tell_open<S: TextStore>(docs: &Docs<S>, told: &mut String) -> Option<()> {
+    for index in 0..docs.len() {
+        told.push_str(docs.at(index)?).ok()?;
+    }
+    let end = docs.at(docs.len());
+    writeln!(told, " {end:?}").ok()
+}
+
+/// Opens six documents and closes four, so that more than half of the places are empty, and one again.
+fn tell_order<S: TextStore>(docs: &mut Docs<S>, told: &mut String) -> Option<()> {
+    open_all(docs, &["a", "b", "c", "d", "e", "f"], 1)?;
+    close_all(docs, &["b", "d"])?;
+    tell_open(docs, told)?;
+    close_all(docs, &["a", "c"])?;
+    open_all(docs, &["b"], 2)?;
+    tell_open(docs, told)?;
+    close_all(docs, &["f"])?;
+    docs.pack();
+    tell_open(docs, told)?;
+    let (open, closed) = (docs.version_of("b"), docs.version_of("f"));
+    writeln!(told, "{open:?} {closed:?}").ok()
+}
+
+/// Adds what documents over this store tell so.
+fn tell_new<S: TextStore>(alloc: Global, told: &mut String) -> Option<()> {
+    let mut docs: Docs<S> = Docs::new(alloc, Limits::profile());
+    tell_order(&mut docs, told)
+}
+
+const ORDER: &str = "\
+acef None
+efb None
+eb None
+Some(2) None
+";
+
 #[test]
 fn documents_keep_the_order_of_opening(rt: HostRuntime) {
-    let mut docs: Docs<Plain> = Docs::new(rt.alloc(), Limits::profile());
-    open_all(&mut docs, &["a", "b", "c", "d", "e", "f"], 1).expect(&rt, "opened");
-    close_all(&mut docs, &["b", "d"]).expect(&rt, "closed");
-    assert!(rt; are_open(&docs, &["a", "c", "e", "f"]));
-    close_all(&mut docs, &["a", "c"]).expect(&rt, "closed");
-    open_all(&mut docs, &["b"], 2).expect(&rt, "opened");
-    assert!(rt; are_open(&docs, &["e", "f", "b"]));
-    close_all(&mut docs, &["f"]).expect(&rt, "closed");
-    docs.pack();
-    assert!(rt; are_open(&docs, &["e", "b"]));
-    assert!(rt; docs.version_of("b") == Some(2) && docs.version_of("f").is_none());
+    let mut told = String::new(rt.alloc());
+    let done = tell_new::<Plain>(rt.alloc(), &mut told);
+    assert!(rt; done.is_some() && told.as_str() == ORDER, "{told}");
 }
 
 /// The steps of the store that is held.
@@ -500,16 +532,28 @@ fn steps_of(docs: &Docs<Lined>) -> u64 {
     }
 }
 
+/// Puts a letter at the beginning of each of a hundred lines, and gives the steps of the store then.
+fn change_lines(alloc: Global, docs: &mut Docs<Lined>, text: &str) -> Option<u64> {
+    docs.did_open(URI, 0, text).ok()?;
+    for line in 0..100_u32 {
+        let step = Part(line as i32 + 1, [line, 0, line, 0], "x");
+        if take(alloc, docs, step) != Done {
+            return None;
+        }
+    }
+    Some(steps_of(docs))
+}
+
+fn steps_of_changes(alloc: Global, text: &str) -> Option<u64> {
+    let mut docs: Docs<Lined> = Docs::new(alloc, Limits::profile());
+    change_lines(alloc, &mut docs, text)
+}
+
 /// A copy for each change would begin to count its steps anew.
 #[test]
 fn one_change_is_made_in_the_held_store(rt: HostRuntime) -> Result<(), Fail> {
     let text = "a\n".repeat(rt.alloc(), 100)?;
-    let mut docs: Docs<Lined> = Docs::new(rt.alloc(), Limits::profile());
-    docs.did_open(URI, 0, text.as_str())?;
-    for line in 0..100_u32 {
-        let step = Part(line as i32 + 1, [line, 0, line, 0], "x");
-        assert!(rt; take(rt.alloc(), &mut docs, step) == Done, "line {line}");
-    }
-    assert!(rt; 100 <= steps_of(&docs));
+    let steps = steps_of_changes(rt.alloc(), text.as_str());
+    assert!(rt; steps.is_some_and(|steps| 100 <= steps));
     Ok(())
 }

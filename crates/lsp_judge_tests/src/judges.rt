@@ -3,6 +3,7 @@ use lsp_judge::{Judge, Limits, LogCode, Verdict, report_of};
 use lsp_lined::Lined;
 use lsp_log::Record;
 use lsp_rpc::Side;
+use lsp_text::TextStore;
 use std::alloc::Global;
 use std::process::Abort;
 
@@ -12,15 +13,15 @@ fn tell_verdict(alloc: Global, told: &mut String, verdict: &Verdict) -> Option<(
 }
 
 /// Adds the report of the verdict on what the judge took.
-fn tell_finish(alloc: Global, judge: &mut Judge<Lined>, told: &mut String) -> Option<()> {
+fn tell_finish<S: TextStore>(alloc: Global, judge: &mut Judge<S>, told: &mut String) -> Option<()> {
     let verdict = judge.finish().ok()?;
     tell_verdict(alloc, told, &verdict)
 }
 
 /// Takes bytes of the editor, and adds the report of the answer, if there is one.
-fn tell_take(
+fn tell_take<S: TextStore>(
     alloc: Global,
-    judge: &mut Judge<Lined>,
+    judge: &mut Judge<S>,
     told: &mut String,
     bytes: &[u8],
 ) -> Option<()> {
@@ -35,9 +36,9 @@ fn tell_take(
 }
 
 /// Takes the records, and adds the report of the verdict twice: before the first and behind each.
-fn tell_all(
+fn tell_all<S: TextStore>(
     alloc: Global,
-    judge: &mut Judge<Lined>,
+    judge: &mut Judge<S>,
     told: &mut String,
     records: &[&[u8]],
 ) -> Option<()> {
@@ -51,22 +52,61 @@ fn tell_all(
     Some(())
 }
 
+/// Adds the report of the verdict, then that of a fault of the log behind it, and that of the verdict again.
+fn tell_fault<S: TextStore>(alloc: Global, judge: &mut Judge<S>, told: &mut String) -> Option<()> {
+    let Ok(verdict) = judge.finish() else {
+        return None;
+    };
+    let faulty = judge.bad_log(2, LogCode::L2);
+    tell_verdict(alloc, told, &verdict)?;
+    tell_verdict(alloc, told, &faulty)?;
+    tell_finish(alloc, judge, told)
+}
+
+/// Takes a record, and adds what is told so behind it.
+fn tell_fault_behind<S: TextStore>(
+    alloc: Global,
+    judge: &mut Judge<S>,
+    told: &mut String,
+    bytes: &[u8],
+) -> Option<()> {
+    tell_take(alloc, judge, told, bytes)?;
+    tell_fault(alloc, judge, told)
+}
+
+/// What a judge is asked.
+#[derive(Clone, Copy)]
+enum Asked<'a> {
+    /// For its verdict twice: before these records and behind each.
+    Verdicts(&'a [&'a [u8]]),
+    /// What it makes of a fault of the log behind this record.
+    Fault(&'a [u8]),
+}
+
+/// Adds what a judge tells so.
+fn tell<S: TextStore>(
+    alloc: Global,
+    judge: &mut Judge<S>,
+    told: &mut String,
+    asked: Asked<'_>,
+) -> Option<()> {
+    match asked {
+        Asked::Verdicts(records) => tell_all(alloc, judge, told, records),
+        Asked::Fault(bytes) => tell_fault_behind(alloc, judge, told, bytes),
+    }
+}
+
 /// Adds what a new judge tells so.
-fn tell_new(alloc: Global, told: &mut String, records: &[&[u8]]) -> Option<()> {
-    let mut judge = Judge::new(alloc, Limits::profile());
-    tell_all(alloc, &mut judge, told, records)
+fn tell_new<S: TextStore>(alloc: Global, told: &mut String, asked: Asked<'_>) -> Option<()> {
+    let mut judge: Judge<S> = Judge::new(alloc, Limits::profile());
+    tell(alloc, &mut judge, told, asked)
 }
 
-/// What a new judge tells so.
-fn told_of(alloc: Global, records: &[&[u8]]) -> Option<String> {
+/// Asks a new judge, and looks at what it tells.
+fn check(rt: &impl Abort, alloc: Global, asked: Asked<'_>, wanted: &str) {
     let mut told = String::new(alloc);
-    tell_new(alloc, &mut told, records)?;
-    Some(told)
-}
-
-fn check_told(rt: &impl Abort, told: Option<String>, wanted: &str) {
-    let told = told.expect(rt, "memory");
-    assert!(rt; told.as_str() == wanted, "{wanted}");
+    let done = tell_new::<Lined>(alloc, &mut told, asked);
+    assert!(rt; done.is_some() && told.as_str() == wanted, "{wanted}");
 }
 
 const INITIALIZE: &[u8] =
@@ -96,7 +136,7 @@ request editor 1 \"initialize\"
 
 #[test]
 fn a_judge_is_as_before_after_yes(rt: HostRuntime) {
-    check_told(&rt, told_of(rt.alloc(), &[INITIALIZE]), YES);
+    check(&rt, rt.alloc(), Asked::Verdicts(&[INITIALIZE]), YES);
 }
 
 /// What is said where nothing was taken, and behind three bytes that begin a frame: once it was given, also
@@ -125,42 +165,7 @@ stream ends inside a frame
 #[test]
 fn a_no_is_given_for_good(rt: HostRuntime) {
     let records = [b"Con".as_slice(), b"tent-Length: 0\r\n\r\n"];
-    check_told(&rt, told_of(rt.alloc(), &records), NO);
-}
-
-/// Adds the report of the verdict, then that of a fault of the log behind it, and that of the verdict again.
-fn tell_fault(alloc: Global, judge: &mut Judge<Lined>, told: &mut String) -> Option<()> {
-    let Ok(verdict) = judge.finish() else {
-        return None;
-    };
-    let faulty = judge.bad_log(2, LogCode::L2);
-    tell_verdict(alloc, told, &verdict)?;
-    tell_verdict(alloc, told, &faulty)?;
-    tell_finish(alloc, judge, told)
-}
-
-/// Takes a record, and adds what is told so behind it.
-fn tell_fault_behind(
-    alloc: Global,
-    judge: &mut Judge<Lined>,
-    told: &mut String,
-    bytes: &[u8],
-) -> Option<()> {
-    tell_take(alloc, judge, told, bytes)?;
-    tell_fault(alloc, judge, told)
-}
-
-/// Adds what a new judge tells so.
-fn tell_new_fault(alloc: Global, told: &mut String, bytes: &[u8]) -> Option<()> {
-    let mut judge = Judge::new(alloc, Limits::profile());
-    tell_fault_behind(alloc, &mut judge, told, bytes)
-}
-
-/// What a new judge tells so that took a record.
-fn told_of_fault(alloc: Global, bytes: &[u8]) -> Option<String> {
-    let mut told = String::new(alloc);
-    tell_new_fault(alloc, &mut told, bytes)?;
-    Some(told)
+    check(&rt, rt.alloc(), Asked::Verdicts(&records), NO);
 }
 
 /// What is said behind a request: Yes leaves the judge as it was, and a fault is given for good.
@@ -178,8 +183,7 @@ bad record line
 
 #[test]
 fn a_fault_of_the_log_behind_yes(rt: HostRuntime) {
-    let told = told_of_fault(rt.alloc(), INITIALIZE);
-    check_told(&rt, told, FAULT_BEHIND_YES);
+    check(&rt, rt.alloc(), Asked::Fault(INITIALIZE), FAULT_BEHIND_YES);
 }
 
 /// What is said behind three bytes that begin a frame.
@@ -194,6 +198,5 @@ stream ends inside a frame
 
 #[test]
 fn a_fault_of_the_log_behind_a_no(rt: HostRuntime) {
-    let told = told_of_fault(rt.alloc(), b"Con");
-    check_told(&rt, told, FAULT_BEHIND_NO);
+    check(&rt, rt.alloc(), Asked::Fault(b"Con"), FAULT_BEHIND_NO);
 }

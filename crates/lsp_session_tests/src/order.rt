@@ -48,24 +48,42 @@ fn is_done(pending: &mut Pending, word: &str, number: i32) -> bool {
     }
 }
 
-fn told(alloc: Global, pending: &Pending) -> Option<String> {
-    let mut told = String::new(alloc);
+/// The first step that is not done so.
+fn first_wrong(pending: &mut Pending) -> Option<(&'static str, i32)> {
+    for (word, number, wanted) in &STEPS {
+        if is_done(pending, word, *number) != *wanted {
+            return Some((*word, *number));
+        }
+    }
+    None
+}
+
+fn tell_open(pending: &Pending, told: &mut String) -> Option<()> {
     for index in 0..pending.len() {
         let request = pending.at(index)?;
         writeln!(told, "{:?} {}", request.id, request.cancelled).ok()?;
     }
-    Some(told)
+    Some(())
+}
+
+/// Adds the first wrong step, if there is one, and the requests that are open behind the steps.
+fn tell_steps(pending: &mut Pending, told: &mut String) -> Option<()> {
+    if let Some(wrong) = first_wrong(pending) {
+        return writeln!(told, "{wrong:?}").ok();
+    }
+    tell_open(pending, told)
+}
+
+fn tell_new(alloc: Global, told: &mut String) -> Option<()> {
+    let mut pending = Pending::new(alloc);
+    tell_steps(&mut pending, told)
 }
 
 #[test]
 fn pending_keeps_the_order_of_asking(rt: HostRuntime) {
-    let mut pending = Pending::new(rt.alloc());
-    for (word, number, wanted) in &STEPS {
-        let is_done = is_done(&mut pending, word, *number);
-        assert!(rt; is_done == *wanted, "{word} {number}");
-    }
-    let told = told(rt.alloc(), &pending);
-    assert!(rt; told.as_deref() == Some(OPEN));
+    let mut told = String::new(rt.alloc());
+    let done = tell_new(rt.alloc(), &mut told);
+    assert!(rt; done.is_some() && told.as_str() == OPEN, "{told}");
 }
 
 fn has_at(pending: &Pending, index: usize, key: i32) -> bool {
@@ -115,16 +133,33 @@ fn answers_all(pending: &mut Pending, keys: &[i32]) -> bool {
     true
 }
 
+/// The first of forty rounds in which a request isn't answered, or the open ones have another order.
+fn wrong_round(pending: &mut Pending, keys: &mut Vec<i32>) -> Option<i32> {
+    for round in 0..40_i32 {
+        let answered = play(pending, keys, round.saturating_mul(3));
+        if answered != Some(true) || !holds(pending, keys.as_slice()) {
+            return Some(round);
+        }
+    }
+    None
+}
+
+/// Whether a request that was not asked isn't answered, and all that are left are.
+fn ends(pending: &mut Pending, keys: &[i32]) -> bool {
+    pending.answer(&Id::Number(1000)).is_none() && answers_all(pending, keys) && holds(pending, &[])
+}
+
+/// The first wrong round of a new list; behind the last stands whether it ends as it should.
+fn play_all(alloc: Global, keys: &mut Vec<i32>) -> (Option<i32>, bool) {
+    let mut pending = Pending::new(alloc);
+    let wrong = wrong_round(&mut pending, keys);
+    let ends = ends(&mut pending, keys.as_slice());
+    (wrong, ends)
+}
+
 #[test]
 fn requests_keep_their_order_beside_a_plain_list(rt: HostRuntime) {
-    let mut pending = Pending::new(rt.alloc());
     let mut keys: Vec<i32> = Vec::new(rt.alloc());
-    for round in 0..40_i32 {
-        let answered = play(&mut pending, &mut keys, round.saturating_mul(3));
-        assert!(rt; answered == Some(true), "{round}");
-        assert!(rt; holds(&pending, keys.as_slice()), "{round}");
-    }
-    assert!(rt; pending.answer(&Id::Number(1000)).is_none());
-    assert!(rt; answers_all(&mut pending, keys.as_slice()));
-    assert!(rt; holds(&pending, &[]));
+    let (wrong, ends) = play_all(rt.alloc(), &mut keys);
+    assert!(rt; wrong.is_none() && ends, "round {wrong:?}");
 }

@@ -291,17 +291,10 @@ fn is_in_state(alloc: Global, session: &Session, wanted: &str) -> bool {
     }
 }
 
-/// Begins a new session.
-fn begin(alloc: Global, session: &mut Session) -> bool {
-    *session = Session::new(alloc);
-    true
-}
-
 /// Whether a session keeps what a line says.
 fn keeps(alloc: Global, session: &mut Session, line: &str) -> bool {
     let (word, rest) = split_word(line);
     match word {
-        "session" => begin(alloc, session),
         "is" => is_in_state(alloc, session, rest),
         "lacks" => is_number(rest, session.incomplete().unwrap_or(0)),
         "editor" => keeps_rule(alloc, session, Side::Editor, rest),
@@ -310,11 +303,26 @@ fn keeps(alloc: Global, session: &mut Session, line: &str) -> bool {
     }
 }
 
-fn check_sessions(rt: &impl Abort, alloc: Global, lines: &str) {
+/// The first of these lines that the session doesn't keep.
+fn first_wrong<'a>(alloc: Global, session: &mut Session, lines: &'a str) -> Option<&'a str> {
+    for line in lines.lines() {
+        if !keeps(alloc, session, line) {
+            return Some(line);
+        }
+    }
+    None
+}
+
+/// The same of a new session.
+fn wrong_in<'a>(alloc: Global, lines: &'a str) -> Option<&'a str> {
     let mut session = Session::new(alloc);
-    for (number, line) in lines.lines().enumerate() {
-        let kept = keeps(alloc, &mut session, line);
-        assert!(rt; kept, "line {number}: {line}");
+    first_wrong(alloc, &mut session, lines)
+}
+
+fn check_sessions(rt: &impl Abort, alloc: Global, table: &str) {
+    for lines in table.split("session\n") {
+        let wrong = wrong_in(alloc, lines);
+        assert!(rt; wrong.is_none(), "{wrong:?}");
     }
 }
 

@@ -39,80 +39,83 @@ fn log_file<'a>(alloc: Global) -> Arg<'a> {
         .help("The log; '-', or none, is standard input")
 }
 
+/// An option that is set or not.
+fn flag<'a>(alloc: Global, name: &'static str, help: &'static str) -> Arg<'a> {
+    Arg::new(alloc, name)
+        .long(name)
+        .action(ArgAction::SetTrue)
+        .help(help)
+}
+
+/// The argument that numbers a message or an event, from 1.
+fn number<'a>(alloc: Global, help: &'static str) -> Arg<'a> {
+    Arg::new(alloc, "number")
+        .value_name("N")
+        .required(true)
+        .value_parser(value_parser!(u64).range(1..=MOST_EVENTS))
+        .help(help)
+}
+
 fn check<'a>(alloc: Global) -> Result<Command<'a>, AllocError> {
-    let complete = Arg::new(alloc, "complete")
-        .long("complete")
-        .action(ArgAction::SetTrue)
-        .help("Yes only where each request of the editor is answered and exit was sent");
-    let all = Arg::new(alloc, "all")
-        .long("all")
-        .action(ArgAction::SetTrue)
-        .help("Goes on behind an offence, and lists all that follow from no earlier one");
-    let every = Arg::new(alloc, "every")
-        .long("every")
-        .action(ArgAction::SetTrue)
-        .help("Lists every offence, also those that follow from an earlier one");
     Command::new(alloc, "check")
         .about("Judges a recorded session, and reports the verdict")
-        .arg(complete)?
-        .arg(all)?
-        .arg(every)?
+        .arg(flag(
+            alloc,
+            "complete",
+            "Yes only where each request of the editor is answered and exit was sent",
+        ))?
+        .arg(flag(
+            alloc,
+            "all",
+            "Goes on behind an offence, and lists all that follow from no earlier one",
+        ))?
+        .arg(flag(
+            alloc,
+            "every",
+            "Lists every offence, also those that follow from an earlier one",
+        ))?
         .arg(log_file(alloc))
 }
 
 fn explain<'a>(alloc: Global) -> Result<Command<'a>, AllocError> {
-    let complete = Arg::new(alloc, "complete")
-        .long("complete")
-        .action(ArgAction::SetTrue)
-        .help("A session has to be complete, as for check");
-    let all = Arg::new(alloc, "all")
-        .long("all")
-        .action(ArgAction::SetTrue)
-        .help("Explains all that check --all lists");
     Command::new(alloc, "explain")
         .about("Judges a recorded session, and tells what a no lacks")
-        .arg(complete)?
-        .arg(all)?
+        .arg(flag(
+            alloc,
+            "complete",
+            "A session has to be complete, as for check",
+        ))?
+        .arg(flag(alloc, "all", "Explains all that check --all lists"))?
         .arg(log_file(alloc))
 }
 
 fn show<'a>(alloc: Global) -> Result<Command<'a>, AllocError> {
-    let long = Arg::new(alloc, "long")
-        .long("long")
-        .action(ArgAction::SetTrue)
-        .help("Adds the number among those of the side, and of which document a message speaks");
     Command::new(alloc, "show")
         .about("Lists the events of a recorded session, and reports the verdict")
-        .arg(long)?
+        .arg(flag(
+            alloc,
+            "long",
+            "Adds the number among those of the side, and of which document a message speaks",
+        ))?
         .arg(log_file(alloc))
 }
 
 fn text<'a>(alloc: Global) -> Result<Command<'a>, AllocError> {
-    let number = Arg::new(alloc, "number")
-        .value_name("N")
-        .required(true)
-        .value_parser(value_parser!(u64).range(1..=MOST_EVENTS))
-        .help("The number of a message of the editor, from 1");
     let uri = Arg::new(alloc, "uri")
         .value_name("URI")
         .required(true)
         .help("The document");
     Command::new(alloc, "text")
         .about("Writes the text of a document after a message of the editor")
-        .arg(number)?
+        .arg(number(alloc, "The number of a message of the editor, from 1"))?
         .arg(uri)?
         .arg(log_file(alloc))
 }
 
 fn event<'a>(alloc: Global) -> Result<Command<'a>, AllocError> {
-    let number = Arg::new(alloc, "number")
-        .value_name("N")
-        .required(true)
-        .value_parser(value_parser!(u64).range(1..=MOST_EVENTS))
-        .help("The number of an event, from 1");
     Command::new(alloc, "event")
         .about("Writes the content of one event of a recorded session")
-        .arg(number)?
+        .arg(number(alloc, "The number of an event, from 1"))?
         .arg(log_file(alloc))
 }
 
@@ -144,25 +147,12 @@ fn frames<'a>(alloc: Global) -> Result<Command<'a>, AllocError> {
         .arg(file)
 }
 
-/// Adds the commands that judge a session.
-fn with_verdicts<'a>(alloc: Global, command: Command<'a>) -> Result<Command<'a>, AllocError> {
-    command
-        .subcommand(check(alloc)?)?
-        .subcommand(explain(alloc)?)?
-        .subcommand(show(alloc)?)
-}
-
-/// Adds the commands that write a part of a session.
-fn with_parts<'a>(alloc: Global, command: Command<'a>) -> Result<Command<'a>, AllocError> {
-    command.subcommand(text(alloc)?)?.subcommand(event(alloc)?)
-}
-
-/// Adds the commands that write a log again, or read one raw stream.
-fn with_forms<'a>(alloc: Global, command: Command<'a>) -> Result<Command<'a>, AllocError> {
-    command
-        .subcommand(normal(alloc)?)?
-        .subcommand(upgrade(alloc)?)?
-        .subcommand(frames(alloc)?)
+/// Adds a command, where there was memory for it.
+fn with<'a>(
+    program: Command<'a>,
+    command: Result<Command<'a>, AllocError>,
+) -> Result<Command<'a>, AllocError> {
+    program.subcommand(command?)
 }
 
 /// All of the command line.
@@ -173,7 +163,12 @@ pub(crate) fn command_line<'a>(alloc: Global) -> Result<Command<'a>, AllocError>
         .after_help(MORE)
         .subcommand_required(true)
         .arg_required_else_help(true);
-    let program = with_verdicts(alloc, program)?;
-    let program = with_parts(alloc, program)?;
-    with_forms(alloc, program)
+    let program = with(program, check(alloc))?;
+    let program = with(program, explain(alloc))?;
+    let program = with(program, show(alloc))?;
+    let program = with(program, text(alloc))?;
+    let program = with(program, event(alloc))?;
+    let program = with(program, normal(alloc))?;
+    let program = with(program, upgrade(alloc))?;
+    with(program, frames(alloc))
 }

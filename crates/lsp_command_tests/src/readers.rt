@@ -4,16 +4,16 @@ use std::io::{Read, Write};
 
 /// A reader that gives so many bytes a call at most, and whose calls fail once none is left.
 #[derive(Drop)]
-pub struct Pieces<'a> {
+pub(crate) struct Pieces<'a> {
     rest: &'a [u8],
     most: usize,
     /// How many calls are left before they fail.
-    pub calls_left: u64,
+    pub(crate) calls_left: u64,
 }
 
 impl<'a> Pieces<'a> {
     /// A reader whose calls don't fail.
-    pub fn new(rest: &'a [u8], most: usize) -> Pieces<'a> {
+    pub(crate) fn new(rest: &'a [u8], most: usize) -> Pieces<'a> {
         Pieces {
             rest,
             most,
@@ -37,38 +37,18 @@ impl Read for Pieces<'_> {
     }
 }
 
-/// A reader that gives these bytes and fails in place of its end.
-#[derive(Drop)]
-pub struct Broken<'a> {
-    /// The bytes that are still to be given.
-    pub rest: &'a [u8],
-}
-
-impl Read for Broken<'_> {
-    ghost use Rattle.std.specs.Prelude.{None};
-
-    ghost remaining = { λ _. None };
-
-    fn read(&mut self, buf: &mut [u8]) -> io::Result<usize> {
-        if self.rest.is_empty() {
-            return Err(io::Error::from(io::ErrorKind::Other));
-        }
-        self.rest.read(buf)
-    }
-}
-
 /// A reader without an end: its first bytes, and then others over and over.
 #[derive(Drop)]
-pub struct Endless<'a> {
+pub(crate) struct Endless<'a> {
     rest: &'a [u8],
     again: &'a [u8],
     /// How many bytes were given.
-    pub given: u64,
+    pub(crate) given: u64,
 }
 
 impl<'a> Endless<'a> {
     /// A reader that has given nothing yet.
-    pub fn new(first: &'a [u8], again: &'a [u8]) -> Endless<'a> {
+    pub(crate) fn new(first: &'a [u8], again: &'a [u8]) -> Endless<'a> {
         Endless {
             rest: first,
             again,
@@ -95,15 +75,15 @@ impl Read for Endless<'_> {
 /// A writer that takes so many bytes a call at most, and whose calls fail once none is left, or take
 /// nothing.
 #[derive(Drop)]
-pub struct Sparing {
+pub(crate) struct Sparing {
     /// The bytes that were taken.
-    pub bytes: Vec<u8>,
+    pub(crate) bytes: Vec<u8>,
     /// How many are taken a call at most.
-    pub most: usize,
+    pub(crate) most: usize,
     /// How many calls are left before they fail.
-    pub calls_left: u64,
+    pub(crate) calls_left: u64,
     /// Whether they then take nothing, in place of failing.
-    pub takes_nothing: bool,
+    pub(crate) takes_nothing: bool,
 }
 
 impl Write for Sparing {

@@ -1,10 +1,11 @@
 //! Readers without an end, through each run: none is read further than one byte past the limit.
+use crate::readers::Endless;
+use crate::words::word_of;
 use lsp_command::{Task, run_task};
 use lsp_judge::{
     Completeness, Input, Limits, Lines, LogCode, Mode, Output, TextAnswer, Verdict, text_after,
 };
 use lsp_survey::Listing;
-use lsp_trials::{Endless, word_of};
 use std::alloc::Global;
 use std::num::NonZeroU64;
 use std::process::Abort;

@@ -1,0 +1,243 @@
+"""Logs and streams as lines of text, and the tables of worked sessions in this folder that are written so.
+
+A log is built line by line:
+
+    HEAD      begins one with its first line; HEAD 2 one of format 2
+    START     the same and the handshake; START 2 in format 2
+    EMPTY     begins one without a byte
+    E WORDS   adds a message of the editor, S one of the server, by the name of a template and what fills it
+    E {..}    the same by its content
+    T 1 "ab"  adds a snapshot of file:///a: its version, and its text in quotes
+    F WORDS   adds a frame outside of any record
+    LONG 40   adds a frame whose header part has a field of so many letters
+    + TEXT    adds bytes as they are, where \\r, \\n, \\xff and \\\\ stand for one each
+    CUT 64    from here on a record of bytes has so many bytes at most
+    : 698     says how many bytes there are
+
+Then stands what a run over it gives, and the run with the word for how it ends. The lines behind a run
+add to the same log:
+
+    > LINE    a line on standard output
+    | TEXT    bytes there without a line end
+    KEEP      the bytes of the log as they are now; KEEP 2 with the first line of format 2
+    ! LINE    a line of the report on standard error
+    = yes     the run
+
+An empty line ends a table, and # begins a comment.
+"""
+
+import sys
+from pathlib import Path
+
+FOLDER = Path(__file__).resolve().parent
+sys.path.insert(0, str(FOLDER.parent / "commands"))
+sys.dont_write_bytecode = True
+
+from sessions import HEAD, HEAD_TWO, frame  # noqa: E402
+
+# What contents are made of: `@` stands for the next word behind the name, `*` for the contents that are named behind
+# each ` / `, by commas.
+TEMPLATES = {
+    "I": '{"jsonrpc":"2.0","id":@,"method":"initialize","params":{"capabilities":{}}}',
+    "IT": '{"jsonrpc":"2.0","id":1,"method":"initialize","params":{"workDoneToken":"w","capabilities":{}}}',
+    "IE": '{"jsonrpc":"2.0","id":1,"method":"initialize","params":{"capabilities":{"general":{"positionEncodings":[@]}}}}',
+    "A": '{"jsonrpc":"2.0","id":@,"result":{"capabilities":@}}',
+    "N1": '{"jsonrpc":"2.0","method":"initialized","params":{}}',
+    "OPEN": '{"jsonrpc":"2.0","method":"textDocument/didOpen","params":{"textDocument":'
+    '{"uri":"file:///a","languageId":"x","version":@,"text":@}}}',
+    "CHG": '{"jsonrpc":"2.0","method":"textDocument/didChange","params":{"textDocument":'
+    '{"uri":"file:///a","version":@},"contentChanges":[*]}}',
+    "REP": '{"range":{"start":{"line":@,"character":@},"end":{"line":@,"character":@}},"text":@}',
+    "FULL": '{"text":@}',
+    "CLOSE": '{"jsonrpc":"2.0","method":"textDocument/didClose","params":{"textDocument":{"uri":"file:///a"}}}',
+    "SAVE": '{"jsonrpc":"2.0","method":"textDocument/didSave","params":{"textDocument":{"uri":"file:///a"},"text":@}}',
+    "REQ": '{"jsonrpc":"2.0","id":@,"method":"textDocument/hover","params":{}}',
+    "CANCEL": '{"jsonrpc":"2.0","method":"$/cancelRequest","params":{"id":@}}',
+    "RES": '{"jsonrpc":"2.0","id":@,"result":null}',
+    "ERR": '{"jsonrpc":"2.0","id":@,"error":{"code":@,"message":"c"}}',
+    "LOG": '{"jsonrpc":"2.0","method":"window/logMessage","params":{"type":3,"message":"m"}}',
+    "PROG": '{"jsonrpc":"2.0","method":"$/progress","params":{"token":@,"value":{}}}',
+    "REG": '{"jsonrpc":"2.0","id":1,"method":"client/registerCapability","params":{"registrations":'
+    '[{"id":"r","method":@}]}}',
+    "SH": '{"jsonrpc":"2.0","id":2,"method":"shutdown","params":null}',
+    "EX": '{"jsonrpc":"2.0","method":"exit"}',
+    "EXTRA": '{"jsonrpc":"2.0","method":"exit","extra":@}',
+}
+
+# The handshake that most sessions begin with.
+HANDSHAKE = [("E", "I 1"), ("S", 'A 1 {"textDocumentSync":2}'), ("E", "N1")]
+
+ESCAPES = [(b"\\\\", b"\\"), (b"\\r", b"\r"), (b"\\n", b"\n"), (b"\\xff", b"\xff")]
+
+
+def filled(words):
+    """The template of the first word with the others in the places of its `@`."""
+    name, *given = words.split()
+    pieces = TEMPLATES[name].split("@")
+    if len(pieces) != len(given) + 1:
+        raise ValueError(f"{name} takes {len(pieces) - 1} words: {words}")
+    return "".join(piece + word for piece, word in zip(pieces, [*given, ""]))
+
+
+def content_of(words):
+    """The content that these words name, or are."""
+    if words.startswith("{"):
+        return words
+    first, *others = words.split(" / ")
+    return filled(first).replace("*", ",".join(map(filled, others)))
+
+
+def unescaped(text):
+    """The bytes of a text in which a backslash begins the name of one."""
+    given, made = text.encode(), b""
+    while given:
+        name, byte = next((it for it in ESCAPES if given.startswith(it[0])), (given[:1], given[:1]))
+        made, given = made + byte, given[len(name):]
+    return made
+
+
+class Log:
+    """A log that is built line by line."""
+
+    def __init__(self):
+        self.bytes, self.most = b"", sys.maxsize
+
+    def record(self, side, whole):
+        """Bytes of a side, in records of so many at most."""
+        for at in range(0, len(whole), self.most):
+            piece = whole[at : at + self.most]
+            self.bytes += b"%s %d\n%s\n" % (side.encode(), len(piece), piece)
+
+    def begin(self, word, rest):
+        self.bytes = b"" if word == "EMPTY" else HEAD_TWO if rest == "2" else HEAD
+        for side, words in HANDSHAKE if word == "START" else []:
+            self.record(side, frame(content_of(words)))
+
+    def snapshot(self, words):
+        version, _, text = words.partition(" ")
+        text = unescaped(text.strip('"'))
+        self.bytes += b"T %d 9 %d\nfile:///a\n%s\n" % (int(version), len(text), text)
+
+    def add(self, word, rest):
+        """Adds what a line says."""
+        if word in ("EMPTY", "HEAD", "START"):
+            self.begin(word, rest)
+        elif word in ("E", "S"):
+            self.record(word, frame(content_of(rest)))
+        elif word == "T":
+            self.snapshot(rest)
+        elif word == "F":
+            self.bytes += frame(content_of(rest))
+        elif word == "LONG":
+            self.bytes += b"Content-Length: 2\r\nX: " + b"a" * int(rest) + b"\r\n\r\n{}"
+        elif word == "+":
+            self.bytes += unescaped(rest)
+        elif word == "CUT":
+            self.most = int(rest)
+        elif word != ":" or int(rest) != len(self.bytes):
+            raise ValueError(f"no line: {word} {rest} behind {len(self.bytes)} bytes")
+
+
+def log_of(lines, most=sys.maxsize):
+    """The log that these lines build, whose records of bytes have so many bytes at most."""
+    log = Log()
+    log.most = most
+    for line in lines.splitlines():
+        word, _, rest = line.partition(" ")
+        log.add(word, rest)
+    return log.bytes
+
+
+# The words of each run, but for a text, an event and a mode.
+RUNS = {
+    "=": ["check"],
+    "complete": ["check", "--complete"],
+    "all": ["check", "--all"],
+    "every": ["check", "--every"],
+    "all-complete": ["check", "--all", "--complete"],
+    "show": ["show"],
+    "long": ["show", "--long"],
+    "explain": ["explain"],
+    "explain-complete": ["explain", "--complete"],
+    "explain-all": ["explain", "--all"],
+    "explain-all-complete": ["explain", "--all", "--complete"],
+    "normal": ["normal"],
+    "upgrade": ["upgrade"],
+    **{mode: ["frames", "--as", mode] for mode in ["lengths", "kinds", "canonical"]},
+}
+
+# How many words of their own these take.
+TAKES = {"text": 2, "event": 1}
+
+# The status of each word for how a run ends, and what is said of it where there is nothing to give.
+ENDS = {
+    "yes": (0, b""),
+    "done": (0, b""),
+    "no": (1, b""),
+    "bad-log": (2, b""),
+    "fault": (2, b""),
+    "no-document": (5, b"no such document\n"),
+    "too-few": (5, b"fewer editor messages\n"),
+    "no-content": (5, b"no content\n"),
+    "fewer-events": (5, b"fewer events\n"),
+}
+
+
+class Row:
+    """A run: its words and input, and what it has to give."""
+
+    def __init__(self, name, words, given, out, err, end):
+        self.name, self.words, self.given, self.out = name, words, given, out
+        self.status, remark = ENDS[end]
+        self.err = err + remark
+
+
+def run_of(word, rest):
+    """The words of the run that a line asks for and the word for how it ends, or None."""
+    if word in RUNS:
+        return RUNS[word], rest
+    if word in TAKES:
+        *given, end = rest.split()
+        return ([word, *given], end) if len(given) == TAKES[word] else None
+    return None
+
+
+def rows_of(name, table):
+    """The runs of a table."""
+    log, out, err = Log(), b"", b""
+    for number, line in table:
+        word, _, rest = line.partition(" ")
+        run = run_of(word, rest)
+        if run:
+            yield Row(f"{name}:{number}", run[0], log.bytes, out, err, run[1])
+            out = err = b""
+        elif word == ">":
+            out += rest.encode() + b"\n"
+        elif word == "|":
+            out += rest.encode()
+        elif word == "!":
+            err += rest.encode() + b"\n"
+        elif word == "KEEP":
+            out += HEAD_TWO + log.bytes.removeprefix(HEAD) if rest == "2" else log.bytes
+        else:
+            log.add(word, rest)
+    if out or err:
+        raise ValueError(f"{name}: lines behind the last run")
+
+
+def tables_of(path):
+    """The tables of a file: their lines, each with its number."""
+    table = []
+    for number, line in enumerate([*path.read_text().split("\n"), ""], 1):
+        if line and not line.startswith("#"):
+            table.append((number, line))
+        elif not line and table:
+            yield table
+            table = []
+
+
+def rows():
+    """The runs of every table in this folder."""
+    for path in sorted(FOLDER.glob("*.txt")):
+        for table in tables_of(path):
+            yield from rows_of(path.name, table)
