@@ -69,9 +69,9 @@ def verdicts(records):
 
 
 def cuts():
-    """Logs that are cut, with the verdict on each, and how many bytes a read takes of it."""
+    """Logs that are cut, with the verdict on each, and how many bytes a read takes of it at most, if that is limited."""
     log, of_one_byte = log_of(SESSION), log_of(SESSION, 1)
-    for records, whole, reads in [(RECORDS, log, [1, 7, 4096]), (RECORDS_OF_ONE_BYTE, of_one_byte, [7])]:
+    for records, whole, reads in [(RECORDS, log, [1, 7, None]), (RECORDS_OF_ONE_BYTE, of_one_byte, [7])]:
         wanted = [*verdicts(records)]
         if len(wanted) != len(whole):
             raise ValueError(f"a log of {len(whole)} bytes for {len(wanted)} verdicts")
