@@ -228,7 +228,7 @@ def rows_of(name, table):
 def tables_of(path):
     """The tables of a file: their lines, each with its number."""
     table = []
-    for number, line in enumerate([*path.read_text().split("\n"), ""], 1):
+    for number, line in enumerate([*path.read_text(encoding="utf-8").split("\n"), ""], 1):
         if line and not line.startswith("#"):
             table.append((number, line))
         elif not line and table:
