@@ -28,12 +28,22 @@ use lsp_verdict::{Completeness, Entry, Offence, RunFault, Verdict, next_entry};
 use std::alloc::Global;
 
 /// Reads the events of a log one by one, past each that offends, up to its end.
-#[derive(Drop)]
 pub struct SurveyReader {
     alloc: Global,
     log: LogReader,
     pub(crate) survey: Survey,
     completeness: Completeness,
+}
+
+impl Drop for SurveyReader {
+    fn drop(self) {
+        let SurveyReader {
+            alloc: _,
+            log: _,
+            survey: _,
+            completeness: _,
+        } = self;
+    }
 }
 
 /// What a log has next.
