@@ -5,7 +5,7 @@ use std::alloc::{AllocError, Global};
 static MODES: [&str; 3] = ["lengths", "canonical", "kinds"];
 
 /// The version of the program, and the kit that proved it, as `rt version` names it.
-const VERSION: &str = "1.0.0 (rattle-kit-13b logic dac8208d650f15bf)";
+const VERSION: &str = "1.0.0 (rattle-kit-13f logic dac8208d650f15bf)";
 
 /// What the help of the program ends with.
 const MORE: &str = "\
