@@ -1,10 +1,12 @@
-//! The lines of a text with their counts, kept so that copies of the text share them and an edit moves few bytes.
+//! The lines of a text with their counts, kept so that copies of the text share them and an edit
+//! moves few bytes.
 //!
-//! Short lines stand in runs, one text with a table of its lines' counts. A long line is a run by itself, in pieces,
-//! and these stand in groups. Runs stand in a [`Chunk`], and the chunks of a text one after another are its lines:
-//! [`cut_into`] and [`chunks_of`] make them of a text, [`locate`] finds a line in them, and [`between`], [`apart`] and
-//! [`put`] change them. A line is lent as a [`LentLine`]. What a text is, where its lines end, and what a position in it
-//! denotes is not said here.
+//! Short lines stand in runs: one text with a table of its lines' counts. A long line is a run by
+//! itself, in pieces, and these stand in groups. Runs stand in a [`Chunk`], and the chunks of a text,
+//! one after another, are its lines: [`cut_into`] and [`chunks_of`] make them of a text, [`locate`]
+//! finds a line in them, and [`between`], [`apart`] and [`put`] change them. A line is lent as a
+//! [`LentLine`]. What a position in a text denotes, and what an edit looks at, is the matter of
+//! `lsp_lined`, which stands on this.
 #![tactic(auto)]
 
 mod chunk;
