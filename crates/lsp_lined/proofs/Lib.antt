@@ -1,13 +1,3 @@
 pub mod Recut
 pub mod LineEdits
-pub mod HeldText
-pub mod LineWidths
-pub mod RunPlaces
-pub mod PiecePlaces
-pub mod PieceEdits
-pub mod Stripping
-pub mod GroupPlaces
-pub mod Tables
-pub mod Spans
 pub mod Edits
-pub mod ManyLines

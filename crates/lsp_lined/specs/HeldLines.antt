@@ -3,7 +3,7 @@ use Rattle.std.specs.Prelude.{◌≡◌, ◌<◌, ◌^◌, length}
 use Rattle.lsp_types.specs.declared.position.Encoding.TheVariants.{Utf8}
 use Rattle.lsp_text.specs.Lines.{lines_of, text_of}
 use Rattle.lsp_text.specs.Places.{units}
-use Rattle.lsp_lined.specs.Runs.{joined_runs}
+use Rattle.lsp_lines.specs.Runs.{joined_runs}
 use Rattle.lsp_lined.specs.declared.lined.lines.Lines.TheInside.{Inside}
 
 -- the chunks are the lines of their text, and these and its bytes are counted

@@ -4,16 +4,8 @@ use Rattle.std.specs.List.{replace_range}
 use Rattle.std.specs.Str.{chars, IsCharBoundary}
 use lib.Utf8.{encodes, scalars}
 use Rattle.lsp_types.specs.declared.position.Encoding.TheVariants.{Utf8}
-use Rattle.lsp_text.specs.Lines.{Line, lines_of, text_of, spelled, starts_with_feed, has_no_line_end, IsEndBefore, line_at}
+use Rattle.lsp_text.specs.Lines.{lines_of, text_of, spelled, starts_with_feed, has_no_line_end, IsEndBefore, line_at}
 use Rattle.lsp_text.specs.Places.{units}
-
--- lines without the last
-abbrev pub but_last : List Line → List Line
-but_last ls = take (length ls - 1) ls
-
--- a line with another text before its end
-abbrev pub with_text : Line → List ℕ → Line
-with_text l text = record { text = text; end = l.end }
 
 -- the text, where `m` stands in the place of the lines from `first` to `last`
 abbrev pub rewritten : List ℕ → ℕ → ℕ → List ℕ → List ℕ

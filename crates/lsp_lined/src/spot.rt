@@ -5,8 +5,8 @@ ghost use Rattle.lsp_text.specs.Places.{place_of};
 ghost use Rattle.lsp_text.specs.Lines.{line_at};
 ghost use Rattle.lsp_lined.specs.Steps.{line_number};
 
-use crate::lent::LentLine;
 use crate::lined::lines::Lines;
+use lsp_lines::LentLine;
 use lsp_types::{Encoding, Position};
 
 /// A place in a line that is lent: how many of its bytes stand before it.

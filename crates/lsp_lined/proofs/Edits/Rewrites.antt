@@ -3,7 +3,8 @@ use Rattle.std.proofs.Common.{◌≡◌, ◌⊎◌, ◌<◌, ◌≤◌, ◌+◌,
 use Rattle.std.proofs.lemmas.List.{append-nil, take-append-drop, drop-drop, drop_all, take_at, length-take-le, length_push}
 use Rattle.std.specs.List.{splice}
 use Rattle.lsp_text.specs.Lines.{Line, open_line, text_of, lines_of, starts_with_feed}
-use Rattle.lsp_lined.specs.Rewriting.{but_last, rewritten, StandsApart}
+use Rattle.lsp_lines.specs.Lines.{but_last}
+use Rattle.lsp_lined.specs.Rewriting.{rewritten, StandsApart}
 use Rattle.lsp_text.proofs.Cuts.{HasFirst, text_of-append}
 use Rattle.lsp_text.proofs.Positions.{text_of-lines_of}
 use Rattle.lsp_types.specs.declared.position.Encoding.TheVariants.{Utf8}

@@ -20,7 +20,7 @@ use Rattle.lsp_text.proofs.Cuts.{lines_of-HasFirst, IsCut-lines_of}
 use Rattle.lsp_text.proofs.Counting.{scalars-parts, units-utf8}
 use Rattle.lsp_text.proofs.Positions.{slice_get-drop, slice_get-past, text_of-lines_of}
 use Rattle.lsp_text.proofs.Splices.{chars-cut}
-use Rattle.lsp_lined.proofs.LineEdits.{boundary_in_all}
+use Rattle.lsp_lines.proofs.Replacing.{boundary_in_all}
 use Rattle.lsp_text.proofs.Widths.{is_front}
 use Rattle.lsp_lined.proofs.Edits.Splicing.{text_about}
 

@@ -8,12 +8,10 @@ ghost use Rattle.lsp_text.specs.Places.{units};
 ghost use Rattle.lsp_lined.specs.Steps.{raised, line_bytes, line_number};
 ghost use Rattle.lsp_lined.specs.Rewriting.{rewritten, line_after, StandsApart, StaysInLine};
 
-use crate::chunk::{Chunk, apart, between, chunks_of};
-use crate::chunks::{
-    bytes_between, chars_of, count_after, count_in, joined, locate, put, share_all, spell,
+use lsp_lines::{
+    Chunk, LentLine, apart, between, bytes_between, chars_of, chunks_of, count_after, count_in,
+    cut_into, joined, locate, put, share_all, spell,
 };
-use crate::fresh::cut_into;
-use crate::lent::LentLine;
 use lsp_types::{Encoding, Position};
 use std::alloc::{AllocError, Global};
 use std::marker::Model;
@@ -33,7 +31,7 @@ impl Model for Lines {
 
     ghost use Rattle.lsp_lined.specs.HeldLines.{AreHeld};
     ghost use Rattle.lsp_text.specs.Lines.{text_of};
-    ghost use Rattle.lsp_lined.specs.Runs.{joined_runs};
+    ghost use Rattle.lsp_lines.specs.Runs.{joined_runs};
 
     ghost view = { λ a. text_of (joined_runs a.chunks.items) };
 

@@ -2,9 +2,9 @@ use Rattle.std.proofs.Common.{◌≡◌, ◌+◌, ◌-◌, ◌≤◌, [], List, 
 use Rattle.lsp_types.specs.declared.position.Encoding.TheVariants.{Utf8}
 use Rattle.lsp_text.specs.Lines.{Line, lines_of, text_of}
 use Rattle.lsp_text.specs.Places.{units}
-use Rattle.lsp_lined.specs.Runs.{joined_runs, IsPlaceInRuns}
-use Rattle.lsp_lined.proofs.HeldText.{run_bytes_le}
-use Rattle.lsp_lined.proofs.RunPlaces.{run_at, runs_ordered, bytes_between, bytes_through_le, bytes_slice_le}
+use Rattle.lsp_lines.specs.Runs.{joined_runs, IsPlaceInRuns}
+use Rattle.lsp_lines.proofs.HeldText.{run_bytes_le}
+use Rattle.lsp_lines.proofs.RunPlaces.{run_at, runs_ordered, bytes_between, bytes_through_le, bytes_slice_le}
 use Rattle.lsp_lined.proofs.lined.lines.Lines.bytes_in.Goals as goal
 use Rattle.lsp_lined.proofs.lined.lines.Lines.bytes_in.Goals.{After-locate-b, After-bytes_between}
 

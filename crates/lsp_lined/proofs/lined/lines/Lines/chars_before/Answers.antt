@@ -1,8 +1,8 @@
 use Rattle.std.proofs.Common.{◌≡◌, ◌+◌, List, length, take, arith, ap, sym, subst, ◌∙◌}
 use Rattle.lsp_text.specs.Lines.{Line, lines_of, text_of}
-use Rattle.lsp_lined.specs.Runs.{joined_runs, IsPlaceInRuns}
-use Rattle.lsp_lined.proofs.HeldText.{length_le_units, chars_to_le, lines_to_le, run_bytes_le}
-use Rattle.lsp_lined.proofs.RunPlaces.{run_at, chars_to}
+use Rattle.lsp_lines.specs.Runs.{joined_runs, IsPlaceInRuns}
+use Rattle.lsp_lines.proofs.HeldText.{length_le_units, chars_to_le, lines_to_le, run_bytes_le}
+use Rattle.lsp_lines.proofs.RunPlaces.{run_at, chars_to}
 use Rattle.lsp_lined.proofs.lined.lines.Lines.chars_before.Goals as goal
 use Rattle.lsp_lined.proofs.lined.lines.Lines.chars_before.Goals.{After-chars_before}
 

@@ -6,9 +6,9 @@ use lib.Utf8.{encodes}
 use Rattle.lsp_types.specs.declared.position.Encoding.TheVariants.{Utf8}
 use Rattle.lsp_text.specs.Lines.{Line, open_line, spelled, lines_of, text_of, line_at}
 use Rattle.lsp_text.specs.Places.{units}
-use Rattle.lsp_lined.specs.Runs.{joined_runs, IsPlaceInRuns}
-use Rattle.lsp_lined.specs.Rewriting.{with_text}
-use Rattle.lsp_lined.proofs.RunPlaces.{line_there, set_there}
+use Rattle.lsp_lines.specs.Runs.{joined_runs, IsPlaceInRuns}
+use Rattle.lsp_lines.specs.Lines.{with_text}
+use Rattle.lsp_lines.proofs.RunPlaces.{line_there, set_there}
 use Rattle.lsp_lined.proofs.LineEdits.{IsLineEdit, is_line_edit, line_units_le}
 use Rattle.lsp_lined.proofs.lined.lines.Lines.edit_run.Goals as goal
 use Rattle.lsp_lined.proofs.lined.lines.Lines.edit_run.Goals.{After-index_mut, In_ok-replace}

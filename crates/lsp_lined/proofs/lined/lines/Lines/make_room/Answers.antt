@@ -2,9 +2,9 @@ use Rattle.std.proofs.Common.{◌≡◌, [], List, length, get_or, ap, sym, subs
 use Rattle.lsp_types.specs.declared.position.Encoding.TheVariants.{Utf8}
 use Rattle.lsp_text.specs.Lines.{Line, open_line, lines_of, text_of, line_at}
 use Rattle.lsp_text.specs.Places.{units}
-use Rattle.lsp_lined.specs.Runs.{joined_runs, IsPlaceInRuns}
+use Rattle.lsp_lines.specs.Runs.{joined_runs, IsPlaceInRuns}
 use Rattle.lsp_lined.proofs.LineEdits.{end_bytes_of}
-use Rattle.lsp_lined.proofs.RunPlaces.{line_there, run_at, joined_same}
+use Rattle.lsp_lines.proofs.RunPlaces.{line_there, run_at, joined_same}
 use Rattle.lsp_lined.proofs.lined.lines.Lines.make_room.Goals as goal
 use Rattle.lsp_lined.proofs.lined.lines.Lines.make_room.Goals.{After-locate-at, In_ok-put}
 

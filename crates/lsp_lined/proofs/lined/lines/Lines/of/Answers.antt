@@ -3,7 +3,7 @@ use Rattle.std.specs.Str.{chars}
 use Rattle.lsp_types.specs.declared.position.Encoding.TheVariants.{Utf8}
 use Rattle.lsp_text.specs.Lines.{Line, lines_of, text_of}
 use Rattle.lsp_text.specs.Places.{units}
-use Rattle.lsp_lined.specs.Runs.{joined_runs}
+use Rattle.lsp_lines.specs.Runs.{joined_runs}
 use Rattle.lsp_text.proofs.Counting.{units-utf8_text}
 use Rattle.lsp_text.proofs.Positions.{text_of-lines_of}
 use Rattle.lsp_lined.proofs.lined.lines.Lines.of.Goals as goal

@@ -1,7 +1,7 @@
 use Rattle.std.proofs.Common.{◌≡◌, [], List, ap, sym, subst, ◌∙◌, get_or}
 use Rattle.lsp_text.specs.Lines.{Line, open_line, lines_of}
-use Rattle.lsp_lined.specs.Runs.{joined_runs, IsPlaceInRuns}
-use Rattle.lsp_lined.proofs.RunPlaces.{line_there}
+use Rattle.lsp_lines.specs.Runs.{joined_runs, IsPlaceInRuns}
+use Rattle.lsp_lines.proofs.RunPlaces.{line_there}
 use Rattle.lsp_lined.proofs.lined.lines.Lines.peek.Goals as goal
 
 pub returns : goal.returns

@@ -2,9 +2,9 @@ use Rattle.std.proofs.Common.{◌≡◌, [], List, get_or, ap, sym, subst, ◌�
 use Rattle.lsp_types.specs.declared.position.Encoding.TheVariants.{Utf8}
 use Rattle.lsp_text.specs.Lines.{Line, open_line, lines_of, spelled, line_at}
 use Rattle.lsp_text.specs.Places.{units}
-use Rattle.lsp_lined.specs.Runs.{joined_runs, IsPlaceInRuns}
+use Rattle.lsp_lines.specs.Runs.{joined_runs, IsPlaceInRuns}
 use Rattle.lsp_lined.specs.Steps.{raised}
-use Rattle.lsp_lined.proofs.RunPlaces.{line_there}
+use Rattle.lsp_lines.proofs.RunPlaces.{line_there}
 use Rattle.lsp_lined.proofs.lined.lines.Lines.read.Goals as goal
 use Rattle.lsp_lined.proofs.lined.lines.Lines.read.Goals.{After-line-line}
 

@@ -5,9 +5,9 @@ use Rattle.std.specs.Str.{chars}
 use Rattle.lsp_types.specs.declared.position.Encoding.TheVariants.{Utf8}
 use Rattle.lsp_text.specs.Lines.{Line, lines_of}
 use Rattle.lsp_text.specs.Places.{units}
-use Rattle.lsp_lined.specs.Runs.{joined_runs, IsPlaceInRuns}
-use Rattle.lsp_lined.specs.Spans.{lines_before}
-use Rattle.lsp_lined.proofs.RunPlaces.{run_at, runs_ordered, joined_splice}
+use Rattle.lsp_lines.specs.Runs.{joined_runs, IsPlaceInRuns}
+use Rattle.lsp_lines.specs.Spans.{lines_before}
+use Rattle.lsp_lines.proofs.RunPlaces.{run_at, runs_ordered, joined_splice}
 use Rattle.lsp_lined.proofs.Edits.Rewrites.{IsRewritten, IsKept, rewritten_by, kept_after}
 use Rattle.lsp_lined.proofs.lined.lines.Lines.rewrite.Goals as goal
 use Rattle.lsp_lined.proofs.lined.lines.Lines.rewrite.Goals.{After-locate-b, In_ok-put}

@@ -1,0 +1,11 @@
+pub mod Replacing
+pub mod HeldText
+pub mod LineWidths
+pub mod RunPlaces
+pub mod PiecePlaces
+pub mod PieceEdits
+pub mod Stripping
+pub mod GroupPlaces
+pub mod Tables
+pub mod Spans
+pub mod ManyLines

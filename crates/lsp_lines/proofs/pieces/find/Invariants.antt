@@ -1,0 +1,16 @@
+use Rattle.std.proofs.Common.{◌≡◌, ◌≤◌, ◌+◌, ◌-◌, length, take}
+use Rattle.lsp_types.specs.declared.position.Encoding.TheVariants.{Utf8}
+use Rattle.lsp_text.specs.Places.{units}
+use Rattle.lsp_lines.specs.Pieces.{bodies}
+use Rattle.lsp_lines.proofs.pieces.find.Given as goal
+
+abbrev pub invariant-loop-index : goal.invariant-loop-index
+invariant-loop-index l =
+    record {
+      within : l.index ≤ length l.pieces;
+      bytes_are : l.bytes ≡ units Utf8 (bodies (take l.index l.pieces));
+      left_is : units l.encoding (bodies (take l.index l.pieces)) + l.left ≡ l.column;
+    }
+
+abbrev pub decreases-loop-index : goal.decreases-loop-index
+decreases-loop-index l = length l.pieces - l.index

@@ -1,0 +1,15 @@
+pub mod Lines
+pub mod CountedLine
+pub mod Pieces
+pub mod Groups
+pub mod Group
+pub mod Fronts
+pub mod PiecedLine
+pub mod LentPiece
+pub mod LentLine
+pub mod Runs
+pub mod Tables
+pub mod Tabled
+pub mod LentLines
+pub mod Spans
+pub mod Held
