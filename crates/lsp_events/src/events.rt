@@ -19,9 +19,7 @@ use crate::fault::{Fault, Refused};
 use lsp_docs::{DocFault, Docs};
 use lsp_frame::{Format, Limits};
 use lsp_outline::OutlineReader;
-use lsp_rpc::{
-    Act, Change, Encoding, Message, RpcFault, Side, Spoken, SyncKind, read, take_act,
-};
+use lsp_rpc::{Act, Change, Encoding, Message, RpcFault, Side, Spoken, SyncKind, read, take_act};
 use lsp_session::Session;
 use lsp_text::TextStore;
 use lsp_verdict::Counts;
