@@ -18,9 +18,8 @@ ghost use Rattle.lsp_events.specs.Standing.{Follows, Holds, Hears, Refuses, Refu
 use crate::fault::{Fault, Refused};
 use lsp_docs::{DocFault, Docs};
 use lsp_frame::{Format, Limits};
-use lsp_rpc::{
-    Act, Change, Encoding, Message, OutlineReader, RpcFault, Side, Spoken, SyncKind, read, take_act,
-};
+use lsp_outline::OutlineReader;
+use lsp_rpc::{Act, Change, Encoding, Message, RpcFault, Side, Spoken, SyncKind, read, take_act};
 use lsp_session::Session;
 use lsp_text::TextStore;
 use lsp_verdict::Counts;

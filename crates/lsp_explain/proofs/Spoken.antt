@@ -9,7 +9,7 @@ use Rattle.lsp_session.specs.Sent.{Sent}
 use Rattle.lsp_verdict.specs.Report.{line, side_name}
 use Rattle.lsp_facts.specs.Lines.{message_event}
 use Rattle.lsp_facts.specs.MessageFacts.{id_in}
-use Rattle.lsp_rpc.proofs.Outlining.{words_by_outline}
+use Rattle.lsp_rpc.proofs.OutlineWords.{words_by_outline}
 
 pub id_in-outline : (m : Message) → id_in m ≡ id_in (outline m)
 id_in-outline (request id method params) = refl

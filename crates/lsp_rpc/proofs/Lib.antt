@@ -1,8 +1,3 @@
 pub mod IdLemmas
 pub mod Readings
-pub mod Skipping
-pub mod Outlining
-pub mod Editing
-pub mod Noticing
-pub mod Calls
-pub mod ShortNumerals
+pub mod OutlineWords

@@ -10,4 +10,3 @@ pub mod View
 pub mod Fault
 pub mod Laws
 pub mod Outline
-pub mod Notice

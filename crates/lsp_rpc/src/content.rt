@@ -176,7 +176,7 @@ fn versioned_method(
 }
 
 /// The message that the parts make. The refusal is the least rule that they break.
-pub(crate) fn assemble(parts: Parts) -> Result<Message, BrokenRule>
+pub fn assemble(parts: Parts) -> Result<Message, BrokenRule>
     ensures ok { IfOk result (λ message.
         reading.message_in (parts_view parts) ≡ Some (message_view message)) }
     ensures rule { IsLeast (least_broken (reading.rules_on (parts_view parts))) result }

@@ -16,7 +16,7 @@ pub enum RpcFault {
 
 /// The least rule that a content breaks, by its number.
 #[derive(Clone, Copy, Drop)]
-pub(crate) struct BrokenRule(pub(crate) u16);
+pub struct BrokenRule(pub(crate) u16);
 
 impl From<BrokenRule> for RpcFault {
     ghost from_gives = { λ broken e. e ≡ Rule broken.0 };

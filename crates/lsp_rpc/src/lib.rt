@@ -3,34 +3,29 @@
 //!
 //! `read` gives the message of a content, `act_of` and `take_act` what a message means on its side,
 //! `picked_of` what the result of an `initialize` picks, and `words_of` the words that name a
-//! message. An `OutlineReader` reads contents without building what is not asked for.
+//! message. For who finds the members of a message by himself, `assemble` makes the message of its
+//! `Parts`.
 #![tactic(auto)]
 
 mod act;
 mod changes;
 mod content;
 mod documents;
-mod edits;
 mod fault;
 mod ids;
 mod initialize;
 mod laws;
-mod members;
 mod message;
 mod methods;
-mod notices;
-mod numbers;
-mod outline;
 mod params;
 mod parts;
 mod results;
 mod shape;
-mod skip;
 mod words;
 
 pub use act::{Act, Offer, Picked, Spoken};
-pub use content::read;
-pub use fault::RpcFault;
+pub use content::{assemble, read};
+pub use fault::{BrokenRule, RpcFault};
 pub use ids::{copy_id, same_id};
 pub use laws::{
     message_breaks_no_rule, message_or_rule, one_message, one_rule, same_id_is_equality,
@@ -38,6 +33,6 @@ pub use laws::{
 pub use lsp_types::{Change, Encoding, Memory, Position, Side, Span, SyncKind};
 pub use message::{Answer, Id, Message};
 pub use methods::{act_of, take_act};
-pub use outline::OutlineReader;
+pub use parts::Parts;
 pub use results::picked_of;
 pub use words::{push_id, push_quoted, words_of};

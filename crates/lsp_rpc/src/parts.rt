@@ -14,17 +14,18 @@ use serde_json::{Map, Value};
 
 /// The members that a message is made of; `None` is a member that is missing.
 #[derive(Drop)]
-pub(crate) struct Parts {
-    pub(crate) version: Option<Value>,
-    pub(crate) method: Option<Value>,
-    pub(crate) id: Option<Value>,
-    pub(crate) params: Option<Value>,
-    pub(crate) result: Option<Value>,
-    pub(crate) error: Option<Value>,
+pub struct Parts {
+    pub version: Option<Value>,
+    pub method: Option<Value>,
+    pub id: Option<Value>,
+    pub params: Option<Value>,
+    pub result: Option<Value>,
+    pub error: Option<Value>,
 }
 
 impl Parts {
-    pub(crate) fn none() -> Parts
+    /// The parts of an object that has none of these members.
+    pub fn none() -> Parts
         ensures { parts_view result ≡ reading.parts_of null }
     {
         Parts {

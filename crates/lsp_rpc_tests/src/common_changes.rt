@@ -1,7 +1,8 @@
 //! Messages that change documents, as they are mostly sent, read from their tokens, and others, which
 //! are read whole.
 use crate::rows::check_row;
-use lsp_rpc::{Act, Message, OutlineReader, RpcFault, Side, Spoken, act_of, read};
+use lsp_outline::OutlineReader;
+use lsp_rpc::{Act, Message, RpcFault, Side, Spoken, act_of, read};
 use std::alloc::{AllocError, Global};
 use std::process::Abort;
 

@@ -1,6 +1,7 @@
 //! Contents read by their outline.
 use crate::rows::{check_row, words};
-use lsp_rpc::{Answer, Message, OutlineReader, RpcFault, Side, Spoken};
+use lsp_outline::OutlineReader;
+use lsp_rpc::{Answer, Message, RpcFault, Side, Spoken};
 use serde_json::Value;
 use std::alloc::{AllocError, Global};
 use std::process::Abort;

@@ -15,7 +15,8 @@ ghost use Rattle.lsp_verdict.specs.declared.outcome.Mode.TheVariants.{Lengths};
 
 use itoa::write_digits;
 use lsp_frame::{Decoder, Limits, Missing, Sink, Source, WriteFault, put_all, write_frame};
-use lsp_rpc::{OutlineReader, RpcFault};
+use lsp_outline::OutlineReader;
+use lsp_rpc::RpcFault;
 use lsp_verdict::{Mode, Outcome, RunFault, StreamFault, stream_report};
 use std::alloc::Global;
 

@@ -1,8 +1,0 @@
-use Rattle.std.proofs.Common.{◌∙◌}
-use Rattle.lsp_rpc.proofs.Outlining.{same_words}
-use Rattle.lsp_rpc.proofs.outline.OutlineReader.words.Goals as goal
-
-pub returns-in-Ok-clause-ok : goal.returns-in-Ok-clause-ok
-returns-in-Ok-clause-ok c =
-    let whole = c.in_ok-message.ensures.ok in
-    (whole.0, whole.1, c.in-Ok.ensures ∙ same_words _ whole.0 whole.2)
