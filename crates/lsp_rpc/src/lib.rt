@@ -3,8 +3,7 @@
 //!
 //! `read` gives the message of a content, `act_of` and `take_act` what a message means on its side,
 //! `picked_of` what the result of an `initialize` picks, and `words_of` the words that name a
-//! message. For who finds the members of a message by himself, `assemble` makes the message of its
-//! `Parts`.
+//! message. `assemble` makes a message of its `Parts`, for a caller that has read these by itself.
 #![tactic(auto)]
 
 mod act;
