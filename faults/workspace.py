@@ -1,0 +1,37 @@
+"""A workspace of copies of the crates and of one crate more, whose files have the ending `.rattle` where they are kept,
+since the gate takes each `.rt` file for a part of a crate that it proves."""
+
+import shutil
+from pathlib import Path
+
+TOP = Path(__file__).resolve().parent.parent
+
+
+def crates():
+    """What each crate of crates.txt stands on."""
+    return dict(line.split(": ") for line in (TOP / "crates.txt").read_text().splitlines() if ": " in line)
+
+
+def below(crate):
+    """The same of a crate and of those that it stands on."""
+    uses, found = crates(), [crate]
+    for name in found:
+        found += [other for other in uses[name].split() if other in uses and other not in found]
+    return {name: uses[name] for name in found}
+
+
+def lay_out(folder, copied, name, stands_on, files, left_out):
+    """Copies these crates without what is left out of them, makes a crate of these files, and gives its folder."""
+    for other in copied:
+        copy = folder / "crates" / other
+        shutil.rmtree(copy, ignore_errors=True)
+        shutil.copytree(TOP / "crates" / other, copy, ignore=shutil.ignore_patterns(*left_out))
+    shutil.copy(TOP / "HANDLES", folder)
+    lines = {**copied, name: stands_on}
+    (folder / "crates.txt").write_text("".join(f"{crate}: {uses}\n" for crate, uses in lines.items()))
+    source = folder / "crates" / name / "src"
+    shutil.rmtree(source, ignore_errors=True)
+    source.mkdir(parents=True)
+    for file in files:
+        shutil.copy(file, source / f"{file.stem}.rt")
+    return source.parent
