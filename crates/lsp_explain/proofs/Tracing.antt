@@ -13,7 +13,7 @@ use Rattle.lsp_types.specs.declared.side.Side.{Side}
 use Rattle.lsp_verdict.specs.Calls.{call_of}
 use Rattle.lsp_verdict.specs.Event.{Event, message, sent_in}
 use Rattle.lsp_verdict.specs.Offences.{kept_of}
-use Rattle.lsp_survey.specs.Asking.{numbered}
+use Rattle.lsp_notes.specs.Asking.{numbered}
 use Rattle.lsp_facts.specs.Fact.{Fact}
 use Rattle.lsp_facts.specs.MessageFacts.{id_in}
 use Rattle.lsp_explain.specs.Traced.{call_traced, session_trace, traced}

@@ -1,13 +1,6 @@
-pub mod Noting
 pub mod Passing
 pub mod Hearing
-pub mod Exchanging
-pub mod Marking
-pub mod MarkSteps
-pub mod MarksWorked
 pub mod OkParts
-pub mod SessionSteps
-pub mod Waiting
 pub mod FrameRules
 pub mod Rests
 pub mod Streaming

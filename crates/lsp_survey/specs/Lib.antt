@@ -1,9 +1,4 @@
-pub mod Notes
 pub mod Walking
 pub mod Surveys
-pub mod Asking
-pub mod Marking
-pub mod Marks
-pub mod SessionNoting
 pub mod Reads
 pub mod Reported

@@ -3,11 +3,10 @@ use Rattle.std.specs.Prelude.{◌≡◌, ℕ, List, [], ◌∷◌, ◌++◌, Boo
 use Rattle.lsp_docs.specs.Calls.{Call}
 use Rattle.lsp_docs.specs.Terms.{Terms}
 use Rattle.lsp_events.specs.Standing.{Holds, RefusesMessage}
-use Rattle.lsp_rpc.specs.Message.{Message}
 use Rattle.lsp_rpc.specs.View.{act_view, message_view}
-use Rattle.lsp_survey.specs.Marks.{AreMarks}
-use Rattle.lsp_survey.specs.SessionNoting.{AreNotes}
-use Rattle.lsp_survey.specs.Notes.{note_in, note_of, AreAfter, is_noted_lost}
+use Rattle.lsp_notes.specs.Marks.{AreMarks}
+use Rattle.lsp_notes.specs.SessionNoting.{AreNotes}
+use Rattle.lsp_notes.specs.Notes.{note_in, note_of, AreAfter, is_noted_lost}
 use Rattle.lsp_survey.specs.declared.offending.Found.{Found}
 use Rattle.lsp_survey.specs.declared.offending.Heard.{Heard}
 use Rattle.lsp_survey.specs.declared.offending.Heard.TheVariants as heard
@@ -17,13 +16,12 @@ use Rattle.lsp_survey.specs.declared.walk.Walk.{Walk}
 use Rattle.lsp_types.specs.declared.change.SyncKind.{SyncKind}
 use Rattle.lsp_types.specs.declared.position.Encoding.{Encoding}
 use Rattle.lsp_types.specs.declared.side.Side.{Side}
-use Rattle.lsp_types.specs.declared.side.Side.TheVariants.{Editor, Server}
 use Rattle.lsp_verdict.specs.Counting.{AreCounts}
 use Rattle.lsp_verdict.specs.Contents.{ReadsAs}
 use Rattle.lsp_verdict.specs.Event.{Event, fault}
 use Rattle.lsp_verdict.specs.Given.{given_offence, offence_view}
 use Rattle.lsp_verdict.specs.LookBack.{first_of}
-use Rattle.lsp_verdict.specs.Offences.{Noted, Offence, IsNoted, asks_handshake, breaks_handshake, broken_by, events_of, is_handshake_lost, kept_of, offence_by, rule_at, wants_handshake, wants_text}
+use Rattle.lsp_verdict.specs.Offences.{Noted, Offence, IsNoted, breaks_handshake, broken_by, events_of, is_handshake_lost, kept_of, offence_by, rule_at, wants_handshake, wants_text}
 use Rattle.lsp_verdict.specs.Placed.{Raw, content, broken, show}
 use Rattle.lsp_verdict.specs.Verdict.{no_next, whose}
 use Rattle.lsp_verdict.specs.declared.verdict.Who.{Who}
@@ -44,11 +42,6 @@ abbrev pub Walks : Walk → List Noted → Type 0
 Walks w notes = WalksBy w.events.docs.terms w notes
 
 -- ---- one more event
-
--- a message of the side is a request `initialize` of the editor's
-abbrev pub asks_of : Side → Message → Bool
-asks_of Editor m = asks_handshake m
-asks_of Server m = false
 
 -- an event that offends by this rule, or is kept, breaks the handshake
 abbrev pub breaks_by : Option ℕ → Bool → Bool

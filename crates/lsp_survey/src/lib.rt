@@ -4,28 +4,21 @@
 //! `run_survey` reads a log and writes a report of all its offences. An offence may follow from an
 //! earlier one that left a document, or the handshake, apart on the two sides; what is an offence,
 //! and what follows, is defined in `lsp_verdict`.
+//!
+//! What is noted of the events on the way, as which one brought a version of a document, stands in
+//! `lsp_notes`, whose public names for it are given on here: [`Marks`], [`Shown`] and [`SessionNotes`].
 #![tactic(auto)]
 
-mod asks;
-mod exchange;
-mod mark;
-mod marks;
-mod note;
 mod offending;
-mod rules;
 mod run;
-mod said;
-mod session_notes;
 mod survey;
 mod survey_reader;
 mod tally;
 mod walk;
 
+pub use lsp_notes::{Marks, SessionNotes, Shown};
 pub use lsp_verdict::Listing;
-pub use mark::Shown;
-pub use marks::Marks;
 pub use offending::{Found, Heard, Offending};
 pub use run::run_survey;
-pub use session_notes::SessionNotes;
 pub use survey_reader::{End, Next, SurveyReader};
 pub use tally::Tally;

@@ -13,15 +13,14 @@ ghost use Rattle.lsp_verdict.specs.Verdict.{summary, yes};
 ghost use Rattle.lsp_survey.specs.Reads.{GivesBehind, HasHeard, HearsBehind, Pulls, PullsHere, SoFar, TakesBehind, TakesEntry};
 ghost use Rattle.lsp_survey.specs.Surveys.{IsRefitted, ShowsFront, stream_of};
 
-use crate::marks::Marks;
 use crate::offending::Heard;
-use crate::session_notes::SessionNotes;
 use crate::survey::Survey;
 use lsp_docs::Docs;
 use lsp_events::summary_of;
 use lsp_frame::{Format, Limits, Source};
 use lsp_lined::Lined;
 use lsp_log::LogReader;
+use lsp_notes::{Marks, SessionNotes};
 use lsp_rpc::{Memory, Side};
 use lsp_session::Session;
 use lsp_verdict::{Completeness, Entry, Offence, RunFault, Verdict, next_entry};

@@ -15,23 +15,21 @@ ghost use Rattle.lsp_verdict.specs.Given.{given_offence, offence_view};
 ghost use Rattle.lsp_verdict.specs.Offences.{Asks, Noted, breaks_handshake, is_handshake_lost, wants_handshake, wants_text};
 ghost use Rattle.lsp_verdict.specs.Placed as placed;
 ghost use Rattle.lsp_verdict.specs.Verdict as spec;
-ghost use Rattle.lsp_survey.specs.Marking.{number_next};
-ghost use Rattle.lsp_survey.specs.Marks.{DoneBy, ShownBy};
-ghost use Rattle.lsp_survey.specs.Notes.{AreAfter};
-ghost use Rattle.lsp_survey.specs.SessionNoting.{SaysOn};
-ghost use Rattle.lsp_survey.specs.Walking.{Counted, Hears, IsUnread, PassesOver, Walks, asks_of, offence_of};
+ghost use Rattle.lsp_notes.specs.Marking.{number_next};
+ghost use Rattle.lsp_notes.specs.Marks.{DoneBy, ShownBy};
+ghost use Rattle.lsp_notes.specs.Notes.{AreAfter, asks_of};
+ghost use Rattle.lsp_notes.specs.SessionNoting.{SaysOn};
+ghost use Rattle.lsp_survey.specs.Walking.{Counted, Hears, IsUnread, PassesOver, Walks, offence_of};
 
-use crate::asks::{asks_again, asks_handshake};
-use crate::marks::Marks;
-use crate::note::Notes;
 use crate::offending::{Found, Heard, Offending};
-use crate::rules::{breaks_handshake, wants_handshake, wants_text};
-use crate::said::{is_on_lost, note_kept_act, note_refused, note_refused_act};
-use crate::session_notes::SessionNotes;
 use lsp_docs::{DocFault, Match};
 use lsp_events::{Events, Refused};
 use lsp_frame::{Format, Limits};
 use lsp_lined::Lined;
+use lsp_notes::{
+    Marks, Notes, SessionNotes, asks_again, asks_handshake, breaks_handshake, is_on_lost,
+    note_kept_act, note_refused, note_refused_act, wants_handshake, wants_text,
+};
 use lsp_rpc::{Memory, Side, Spoken};
 use lsp_verdict::{Counts, Offence, Who, who_of};
 use std::alloc::Global;

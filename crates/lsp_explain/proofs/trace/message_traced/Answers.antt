@@ -6,10 +6,10 @@ use Rattle.lsp_types.specs.declared.change.SyncKind.TheVariants.{Nothing}
 use Rattle.lsp_types.specs.declared.position.Encoding.TheVariants.{Utf16}
 use Rattle.lsp_verdict.specs.Event.{sent_in}
 use Rattle.lsp_verdict.specs.Offences.{kept_of}
-use Rattle.lsp_survey.specs.Marks.{AreMarks}
-use Rattle.lsp_survey.specs.SessionNoting.{AreNotes}
-use Rattle.lsp_survey.specs.declared.marks.Marks.{Marks}
-use Rattle.lsp_survey.specs.declared.session_notes.SessionNotes.{SessionNotes}
+use Rattle.lsp_notes.specs.Marks.{AreMarks}
+use Rattle.lsp_notes.specs.SessionNoting.{AreNotes}
+use Rattle.lsp_notes.specs.declared.marks.Marks.{Marks}
+use Rattle.lsp_notes.specs.declared.session_notes.SessionNotes.{SessionNotes}
 use Rattle.lsp_facts.specs.Fact.{facts_view}
 use Rattle.lsp_explain.specs.Standing.{terms_in}
 use Rattle.lsp_explain.proofs.Tracing.{same_traced}

@@ -1,0 +1,13 @@
+use Rattle.std.proofs.Common.{Some}
+use Rattle.lsp_docs.proofs.Entries.{puts-key}
+use Rattle.lsp_notes.specs.declared.note.Note.{Note}
+use Rattle.lsp_notes.proofs.Noting.{note_put}
+use Rattle.lsp_notes.proofs.note.put.Goals as goal
+
+pub returns : goal.returns
+returns c =
+    let uri = c.args.uri.now in
+    let old = c.args.map.now.entries in
+    let new = c.insert.new.self.entries in
+    let updates = c.in_ok-insert.ensures.updates in
+    note_put uri (Some c.args.note) old new (puts-key (λ (n : Note). n) c.in_ok-key.key uri c.in_ok-key.ensures.ok (Some c.args.note) old new updates.1 updates.3)

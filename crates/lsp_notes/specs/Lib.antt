@@ -1,0 +1,5 @@
+pub mod Notes
+pub mod Asking
+pub mod Marking
+pub mod Marks
+pub mod SessionNoting
