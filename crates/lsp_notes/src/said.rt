@@ -47,12 +47,7 @@ fn any_whole(changes: &[Change]) -> bool
 ///
 /// # Errors
 /// `Memory` where memory was refused; nothing is then known of the notes.
-pub fn note_refused(
-    notes: &mut Notes,
-    rule: u16,
-    uri: &str,
-    changed: bool,
-) -> Result<(), Memory>
+pub fn note_refused(notes: &mut Notes, rule: u16, uri: &str, changed: bool) -> Result<(), Memory>
     ensures { OnOk result ((call : Call) → uri_of call ≡ uri.now → has_changes call ≡ changed
         → AreAfter (Some rule) (Some call) notes.old.map.entries notes.new.map.entries) }
 {
