@@ -21,6 +21,7 @@ add to the same log:
     | TEXT    bytes there without a line end
     KEEP      the bytes of the log as they are now; KEEP 2 with the first line of format 2
     ! LINE    a line of the report on standard error
+    ? NAME    the hint of this name, a line on standard error after the fixed words
     = yes     the run
 
 An empty line ends a table, and # begins a comment.
@@ -183,13 +184,22 @@ ENDS = {
 }
 
 
+# What an input that is something else seems to be.
+HINTS = {
+    "stream": b"this seems to be one raw stream of frames: try 'lspcheck frames'",
+    "log": b"this seems to be the log of a session: try 'lspcheck check'",
+    "format": b"a log of a format that this lspcheck doesn't know: see --version",
+    "unknown": b"a log begins with the line 'lsp-session 2': see docs/LOG_FORMAT.md",
+}
+
+
 class Row:
     """A run: its words and input, and what it has to give."""
 
-    def __init__(self, name, words, given, out, err, end):
+    def __init__(self, name, words, given, out, err, hint, end):
         self.name, self.words, self.given, self.out = name, words, given, out
         self.status, remark = ENDS[end]
-        self.err = err + remark
+        self.err = err + remark + hint
 
 
 def run_of(word, rest):
@@ -203,26 +213,31 @@ def run_of(word, rest):
 
 
 def rows_of(name, table):
-    """The runs of a table."""
-    log, out, err = Log(), b"", b""
+    """The runs of a table, which has at least one."""
+    log, out, err, hint, count = Log(), b"", b"", b"", 0
     for number, line in table:
         word, _, rest = line.partition(" ")
         run = run_of(word, rest)
         if run:
-            yield Row(f"{name}:{number}", run[0], log.bytes, out, err, run[1])
-            out = err = b""
+            yield Row(f"{name}:{number}", run[0], log.bytes, out, err, hint, run[1])
+            out = err = hint = b""
+            count += 1
         elif word == ">":
             out += rest.encode() + b"\n"
         elif word == "|":
             out += rest.encode()
         elif word == "!":
             err += rest.encode() + b"\n"
+        elif word == "?":
+            hint += b"lspcheck: hint: %s\n" % HINTS[rest]
         elif word == "KEEP":
             out += HEAD_TWO + log.bytes.removeprefix(HEAD) if rest == "2" else log.bytes
         else:
             log.add(word, rest)
-    if out or err:
-        raise ValueError(f"{name}: lines behind the last run")
+    if out or err or hint:
+        raise ValueError(f"{name}: lines after the last run")
+    if not count:
+        raise ValueError(f"{name}:{table[0][0]}: a table without a run")
 
 
 def tables_of(path):
@@ -236,8 +251,19 @@ def tables_of(path):
             table = []
 
 
+def rows_in(path):
+    """The runs of the tables of a file, which has at least one."""
+    tables = [*tables_of(path)]
+    if not tables:
+        raise ValueError(f"{path.name}: no table")
+    for table in tables:
+        yield from rows_of(path.name, table)
+
+
 def rows():
-    """The runs of every table in this folder."""
-    for path in sorted(FOLDER.glob("*.txt")):
-        for table in tables_of(path):
-            yield from rows_of(path.name, table)
+    """The runs of every table in this folder, which has at least one file of them."""
+    paths = sorted(FOLDER.glob("*.txt"))
+    if not paths:
+        raise ValueError(f"{FOLDER}: no tables")
+    for path in paths:
+        yield from rows_in(path)
