@@ -9,7 +9,7 @@ A log is built line by line:
     E {..}    the same by its content
     T 1 "ab"  adds a snapshot of file:///a: its version, and its text in quotes
     F WORDS   adds a frame outside of any record
-    LONG 40   adds a frame whose header part has a field of so many letters
+    LONG 40   adds a frame whose header part has a field of so many letters; E LONG 40 adds it as a record
     + TEXT    adds bytes as they are, where \\r, \\n, \\xff and \\\\ stand for one each
     CUT 64    from here on a record of bytes has so many bytes at most
     : 698     says how many bytes there are
@@ -27,6 +27,7 @@ add to the same log:
 An empty line ends a table, and # begins a comment.
 """
 
+import re
 import sys
 from pathlib import Path
 
@@ -97,6 +98,11 @@ def unescaped(text):
     return made
 
 
+def long(words):
+    """A frame whose header part has a field of so many letters."""
+    return b"Content-Length: 2\r\nX: " + b"a" * int(words.removeprefix("LONG ")) + b"\r\n\r\n{}"
+
+
 class Log:
     """A log that is built line by line."""
 
@@ -124,13 +130,13 @@ class Log:
         if word in ("EMPTY", "HEAD", "START"):
             self.begin(word, rest)
         elif word in ("E", "S"):
-            self.record(word, frame(content_of(rest)))
+            self.record(word, long(rest) if rest.startswith("LONG ") else frame(content_of(rest)))
         elif word == "T":
             self.snapshot(rest)
         elif word == "F":
             self.bytes += frame(content_of(rest))
         elif word == "LONG":
-            self.bytes += b"Content-Length: 2\r\nX: " + b"a" * int(rest) + b"\r\n\r\n{}"
+            self.bytes += long(f"LONG {rest}")
         elif word == "+":
             self.bytes += unescaped(rest)
         elif word == "CUT":
@@ -267,3 +273,36 @@ def rows():
         raise ValueError(f"{FOLDER}: no tables")
     for path in paths:
         yield from rows_in(path)
+
+
+# The rules and the codes of a log that an explanation can be of. L6 takes a log of 2^40 bytes.
+RULES = {
+    *map(str, [*range(101, 108), *range(201, 210), *range(301, 304), *range(401, 408), 411, 412]),
+    *map(str, [*range(501, 505), *range(601, 609), 701, 702]),
+    *["L1", "L2", "L3", "L4", "L5"],
+}
+
+# What takes a text over the limit, so it is explained by commands/sizes.py.
+OF_SIZE = {"607", "bytes", "limit"}
+
+
+def lines_of(page):
+    """The kinds of lines that docs/REPORT.md lists for an explanation: the words that are fixed."""
+    listed = re.findall(r"^\| `([^`|]*)` \| (?:\d|a bad log)", page, re.M)
+    return {" ".join(re.sub(r"<[^>]*>|\.\.", "", it).split()) for it in listed}
+
+
+def explained(outputs):
+    """The rules and the kinds of lines that these explanations have."""
+    found = set()
+    for line in b"\n".join(outputs).decode().splitlines():
+        word, *rest = line.split(" ")
+        found |= {rest[0]} if word == "no" else {rest[1]} if line.startswith("bad log ") else {word}
+        found |= {f"{word} whole"} if rest[1:] == ["whole"] else set()
+    return found
+
+
+def unexplained(page):
+    """The rules and the kinds of lines of an explanation that no row here has."""
+    wanted = lines_of(page) | RULES
+    return sorted(wanted - OF_SIZE - explained(row.out for row in rows() if row.words[0] == "explain"))
