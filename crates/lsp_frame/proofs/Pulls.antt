@@ -1,16 +1,16 @@
 -- A piece that a source put behind the bytes that a decoder holds.
 use Rattle.std.proofs.Common.{◌≡◌, ℕ, ◌+◌, ◌-◌, ◌≤◌, List, [], ◌++◌, length, take, drop, Option, Some, None, refl, sym, ap, subst, ◌∙◌, append-nil, arith, true, false}
-use Rattle.std.proofs.lemmas.List.{length-append, length-take, length-drop, take-append-le, take-take}
+use Rattle.std.proofs.lemmas.List.{length-append, length-take, length-drop, nil_from_length, take_all, take-append-le, take-take}
 use borrow.Rule.Slice.PartMut.{put_mid}
 use Rattle.lsp_frame.specs.Bounds.{Bounds}
 use Rattle.lsp_frame.specs.Told.{Told, Gave}
 use Rattle.std.specs.Prelude.{is_some, max}
 use Rattle.std.proofs.Math.Seq.{take-append-add}
 use Rattle.lsp_frame.proofs.Telling.{gave_nothing}
-use Rattle.lsp_frame.specs.Decoder.{State, taken, taken_at, room_for}
+use Rattle.lsp_frame.specs.Decoder.{State, FitsIn, pushed, taken, taken_at, room_for}
 use Rattle.lsp_frame.specs.Pulling.{Pulls}
-use Rattle.lsp_frame.proofs.Steps.{state_at, taken_stands}
-use Rattle.lsp_frame.specs.Decoder.{StandsFor}
+use Rattle.lsp_frame.proofs.Steps.{state_at, taken_stands, push_stands}
+use Rattle.lsp_frame.specs.Decoder.{StandsFor, RestAt}
 use Rattle.lsp_frame.proofs.Starts.{header_stays}
 use Rattle.lsp_frame.specs.Buffer.{AheadStands, FaultStands}
 use Rattle.lsp_frame.specs.declared.start.FrameSize.{FrameSize}
@@ -89,6 +89,34 @@ no_fault_stands limits rest fault none = rw none tt
 taken_shut : (fault : Option ℕ) (s : State) (more : ℕ) → is_some fault ≡ true → s ≡ taken_at fault s more []
 taken_shut None s more some = absurd cc
 taken_shut (Some rule) s more some = refl
+
+-- nothing stands between two places that don't follow one another
+pub none_between : (limits : Bounds) (items : List ℕ) (start end : ℕ) (fault : Option ℕ) (old : State) → state_at limits items start end fault ≡ old → end ≤ start → old.rest ≡ []
+none_between limits items start end fault old is idle =
+    ap (λ (s : State). s.rest) (sym is) ∙ nil_from_length (drop start (take end items)) (omega (arith, length-drop start (take end items), length-take end items, idle))
+
+-- a decoder that holds nothing takes the piece's buffer
+pub owned : (limits : Bounds) (items piece : List ℕ) (start end len : ℕ) (fault : Option ℕ) (old : State) → state_at limits items start end fault ≡ old → fault ≡ None → old.rest ≡ [] → len ≡ length piece → FitsIn (state_at limits piece 0 len fault) (pushed old piece)
+owned limits items piece start end len fault old is none idle size =
+    let now = state_at limits items start end fault in
+    let new = state_at limits piece 0 len fault in
+    let nothing : now.rest ≡ [] = ap (λ (s : State). s.rest) is ∙ idle in
+    let whole : new.rest ≡ now.rest ++ piece = take_all len piece (omega (arith, size)) ∙ ap (λ (w : List ℕ). w ++ piece) (sym nothing) in
+    let same = taken_open fault now (length piece) (room_for now (length piece)) new.rest piece refl none whole refl in
+    subst (λ (s : State). FitsIn new (pushed s piece)) is (record {
+      same = ap (λ (s : State). record s { room = length piece }) same;
+      room = subst (λ (s : State). length piece ≤ s.room) same (omega arith);
+    })
+
+rest_in : (fault : Option ℕ) (s : State) (room : ℕ) (rest : List ℕ) → RestAt fault s rest → RestAt fault (record s { room = room }) rest
+rest_in None s room rest held = held
+rest_in (Some rule) s room rest held = held
+
+-- what fits in less room stands for the same
+pub fits_stands : (new old : State) (piece bytes : List ℕ) (contents : List (List ℕ)) → FitsIn new (pushed old piece) → StandsFor old bytes contents → StandsFor new (bytes ++ piece) contents
+fits_stands new old piece bytes contents fits stands =
+    let due = push_stands old piece bytes contents stands in
+    subst (λ (s : State). StandsFor s (bytes ++ piece) contents) (sym fits.same) (record { rest = due.rest; frames = due.frames; held = rest_in (pushed old piece).fault (pushed old piece) new.room due.rest due.held })
 
 -- a decoder that gave a fault takes nothing
 pub pulled_shut : (s : State) (now : Told) (most : ℕ) → is_some s.fault ≡ true → Pulls s s now now most 0

@@ -1,5 +1,5 @@
 -- What a decoder holds, and for which streams it stands.
-use Rattle.std.specs.Prelude.{◌≡◌, ℕ, ◌+◌, max, List, [], ◌∷◌, ◌++◌, length, Option, Some, None, Result, Ok, Err, IfSome}
+use Rattle.std.specs.Prelude.{◌≡◌, ℕ, ◌+◌, ◌≤◌, max, List, [], ◌∷◌, ◌++◌, length, Option, Some, None, Result, Ok, Err, IfSome}
 use Rattle.lsp_frame.specs.Bounds.{Bounds}
 use Rattle.lsp_frame.specs.Frame.{IsFrame, Begins, Frames, Breaks, HasFault, IsStream}
 use Rattle.lsp_frame.specs.declared.decoder.FrameFault.{FrameFault}
@@ -32,6 +32,11 @@ taken s more piece = taken_at s.fault s more piece
 -- after a piece
 abbrev pub pushed : State → List ℕ → State
 pushed s piece = taken s (length piece) piece
+
+-- the same, in a buffer that is no longer
+pub record FitsIn (s due : State) : Type 0 where
+  pub same : s ≡ record due { room = s.room }
+  pub room : s.room ≤ due.room
 
 -- how many bytes are in the buffer
 abbrev pub held_of : State → ℕ

@@ -3,7 +3,7 @@ ghost use Rattle.std.specs.Prelude.{◌≡◌, ◌≤◌, ◌<◌, ◌+◌, ◌-
 ghost use Rattle.std.specs.Io.KnownBytes.{IsAtEnd};
 ghost use Rattle.std.specs.Borrow.{sem};
 ghost use Rattle.lsp_frame.specs.Frame.{Frames, IsStream};
-ghost use Rattle.lsp_frame.specs.Decoder.{empty, pushed, held_of, finish_of, StandsFor};
+ghost use Rattle.lsp_frame.specs.Decoder.{empty, pushed, FitsIn, held_of, finish_of, StandsFor};
 ghost use Rattle.lsp_frame.specs.Buffer.{Advances, ReadsAhead, last_of};
 ghost use Rattle.lsp_frame.specs.Pulling.{Pulls, PullFails, Misses, MissesNone, GoesPast, Passes};
 ghost use Rattle.lsp_frame.specs.Start.{StartsWithHeader, StartsWithNone};
@@ -219,6 +219,30 @@ impl Decoder {
             held_of self.new ≤ self.old.limits.header + self.old.limits.content + length piece.now) }
     {
         self.append(piece)
+    }
+
+    /// Takes the next bytes of the stream as [`Decoder::push`] does. Where no byte is held that belongs to no frame
+    /// given, it takes their buffer in the place of its own, and copies nothing.
+    pub fn push_owned(&mut self, piece: Vec<u8>) -> Result<(), Memory>
+        ensures ok { OnOk result (FitsIn self.new (pushed self.old piece.items)) }
+        ensures stands { OnOk result ((bytes : List ℕ) (contents : List (List ℕ)) →
+            StandsFor self.old bytes contents → StandsFor self.new (bytes ++ piece.items) contents) }
+        ensures err { OnErr result (self.new ≡ self.old) }
+        ensures after_fault { IsSome self.old.fault → IsOk result }
+
+        // Where every whole frame pushed before was given, and there was no fault, one frame and the piece have room.
+        ensures held { OnOk result ((bytes : List ℕ) (contents : List (List ℕ)) →
+            StandsFor self.old bytes contents →
+            IsStream self.old.limits bytes contents self.old.rest None →
+            held_of self.new ≤ self.old.limits.header + self.old.limits.content + length piece.items) }
+    {
+        if self.fault.is_some() || self.start < self.end {
+            return self.append(piece.as_slice());
+        }
+        self.start = 0;
+        self.end = piece.len();
+        self.buffer = piece;
+        Ok(())
     }
 
     /// Takes the next bytes of the stream straight from a source: those that one call of it gives, at most so many, and
