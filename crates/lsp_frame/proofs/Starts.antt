@@ -1,4 +1,5 @@
 -- What stands at the front of bytes, from a search for the first CR LF CR LF.
+use Rattle.std.specs.Prelude.{◌⊎◌}
 use Rattle.std.proofs.Common.{◌≡◌, ℕ, ◌+◌, ◌-◌, ◌<◌, ◌≤◌, List, ◌++◌, length, take, drop, min, Some, None, Ok, Err, refl, sym, ap, subst, ◌∙◌, arith, inl, inr}
 use Rattle.std.proofs.lemmas.List.{length-append, take-append-drop, take-take, length-take, length-drop, take-append-le, take_min}
 use Rattle.memchr.specs.Find.{FindsNeedle}
@@ -6,7 +7,9 @@ use Rattle.lsp_frame.specs.Bounds.{Bounds}
 use Rattle.lsp_frame.specs.Header.{blank_line, Says}
 use Rattle.lsp_frame.specs.Frame.{HoldsNoBlank, IsHeader, IsFrame, Breaks}
 use Rattle.lsp_frame.specs.declared.start.FrameSize.{FrameSize}
-use Rattle.lsp_frame.specs.Start.{StartsWithHeader, StartsUnfinished}
+use Rattle.lsp_frame.specs.Start.{StartsWithHeader, StartsWithNone, StartsUnfinished, StartsAs}
+use Rattle.lsp_frame.specs.declared.start.Start.{Start}
+use Rattle.lsp_frame.specs.declared.start.Start.TheVariants.{Fault, Unfinished}
 use Rattle.lsp_frame.proofs.Splits.{none_found, first_part}
 use Rattle.lsp_frame.proofs.Frames.{frame_header, header_near, same_header, says_one, says_along, ok_is, err_not_ok}
 
@@ -53,6 +56,23 @@ front_is n bytes = sym (take-append-drop n bytes)
 pub bad_header : (limits : Bounds) (bytes : List ℕ) (n rule : ℕ) → Found limits bytes n → Says limits (take n bytes) (Err rule) → Breaks limits bytes rule
 bad_header limits bytes n rule is says = inr (record { header = take n bytes; after = drop n bytes; whole = front_is n bytes; part = is.part; says = says })
 
+-- no header part is whole
+pub none_ahead : (limits : Bounds) (bytes : List ℕ) → HoldsNoBlank (take limits.header bytes) → StartsWithNone limits bytes
+none_ahead limits bytes none size starts =
+    header_near limits bytes (take size.header bytes) (drop size.header bytes) (record { whole = front_is size.header bytes; part = starts.part }) none
+
+-- where a fault stands in front, no header part without fault does
+pub none_at_fault : (limits : Bounds) (bytes : List ℕ) (rule : ℕ) → Breaks limits bytes rule → StartsWithNone limits bytes
+none_at_fault limits bytes rule (inl long) size starts = none_ahead limits bytes long.1.endless size starts
+none_at_fault limits bytes rule (inr bad) size starts =
+    let n = size.header in
+    let h = same_header limits (take n bytes) bad.header (drop n bytes) bad.after starts.part bad.part (sym (front_is n bytes) ∙ bad.whole) in
+    err_not_ok (sym (says_one limits bad.header (Ok size.content) (Err rule) (says_along limits (take n bytes) bad.header (Ok size.content) h.0 starts.says) bad.says))
+
+pub none_at : (limits : Bounds) (bytes : List ℕ) (start : Start) → StartsAs limits bytes start → ((rule : ℕ) × (start ≡ Fault rule)) ⊎ (start ≡ Unfinished) → StartsWithNone limits bytes
+none_at limits bytes start starts (inl fault) = let breaks : Breaks limits bytes fault.0 = subst (StartsAs limits bytes) fault.1 starts in none_at_fault limits bytes fault.0 breaks
+none_at limits bytes start starts (inr unfinished) = let none : StartsAs limits bytes Unfinished = subst (StartsAs limits bytes) unfinished starts in none.1
+
 -- the content isn't whole yet
 pub unfinished_content : (limits : Bounds) (bytes : List ℕ) (size : FrameSize) → StartsWithHeader limits bytes size → length bytes - size.header < size.content → StartsUnfinished limits bytes
 unfinished_content limits bytes size starts short =
@@ -64,12 +84,7 @@ unfinished_content limits bytes size starts short =
           let h = same_header limits (take n bytes) begins.2.header (drop n bytes) (content ++ after) starts.part has.part (sym (front_is n bytes) ∙ has.whole) in
           let lens : len ≡ length content = ok_is (says_one limits begins.2.header (Ok len) (Ok (length content)) (says_along limits (take n bytes) begins.2.header (Ok len) h.0 starts.says) begins.2.says) in
           absurd (omega (arith, lens, ap length h.1, length-append content after, length-drop n bytes));
-      no_fault = λ rule breaks. elim breaks [
-        | inl long ↦ header_near limits bytes (take n bytes) (drop n bytes) (record { whole = front_is n bytes; part = starts.part }) long.1.endless
-        | inr bad ↦
-            let h = same_header limits (take n bytes) bad.header (drop n bytes) bad.after starts.part bad.part (sym (front_is n bytes) ∙ bad.whole) in
-            err_not_ok (sym (says_one limits bad.header (Ok len) (Err rule) (says_along limits (take n bytes) bad.header (Ok len) h.0 starts.says) bad.says))
-      ];
+      no_fault = λ rule breaks. none_at_fault limits bytes rule breaks size starts;
     }
 
 -- what the front is as a frame

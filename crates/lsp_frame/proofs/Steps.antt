@@ -10,7 +10,7 @@ use Rattle.lsp_frame.specs.Bounds.{Bounds}
 use Rattle.lsp_frame.specs.declared.start.FrameSize.{FrameSize}
 use Rattle.lsp_frame.specs.Start.{StartsWithHeader}
 use Rattle.lsp_frame.specs.Frame.{IsFrame, Begins, Frames, Breaks, IsStream}
-use Rattle.lsp_frame.specs.Decoder.{State, GivesFrame, GivesNothing, GivesFault, finish_at, empty, pushed, pushed_at, StandsFor, RestAt, EndsWith, Step, StepOf, Next}
+use Rattle.lsp_frame.specs.Decoder.{State, GivesFrame, GivesNothing, GivesFault, finish_at, empty, taken, taken_at, pushed, StandsFor, RestAt, EndsWith, Step, StepOf, Next}
 use Rattle.lsp_frame.specs.Buffer.{last_of}
 use Rattle.lsp_frame.proofs.Starts.{front_of, unfinished_content}
 use Rattle.lsp_frame.proofs.Readings.{rest_short}
@@ -29,7 +29,7 @@ last_is kept frame header content len =
 
 -- start and end: where the bytes begin that belong to no frame given, and where those pushed end
 abbrev pub state_at : Bounds → List ℕ → ℕ → ℕ → Option ℕ → State
-state_at limits items start end fault = record { limits = limits; kept = take start items; rest = drop start (take end items); fault = fault }
+state_at limits items start end fault = record { limits = limits; kept = take start items; rest = drop start (take end items); fault = fault; room = length items }
 
 front_on : (items : List ℕ) (start end n : ℕ) → start ≤ end → n ≤ length (drop start (take end items)) → take n (drop start items) ≡ take n (drop start (take end items))
 front_on items start end n from inside =
@@ -52,7 +52,7 @@ gives_frame limits items start end header content fault none from fits starts in
         frame = frame;
         is_frame = subst (λ (w : List ℕ). IsFrame limits frame w) (sym last) front.is_frame;
         rest = sym (take-append-drop n rest) ∙ ap (λ (w : List ℕ). frame ++ w) (drop-drop n start (take end items));
-        same = ap (λ (w : List ℕ). record { limits = limits; kept = w; rest = drop (start + n) (take end items); fault = fault }) kept;
+        same = ap (λ (w : List ℕ). record { limits = limits; kept = w; rest = drop (start + n) (take end items); fault = fault; room = length items }) kept;
       },
     )
 
@@ -80,24 +80,27 @@ moved_down xs start end from fits =
 pub new_stands : (limits : Bounds) → StandsFor (empty limits) [] []
 new_stands limits = record { rest = []; frames = refl; held = refl }
 
-rest_pushed : (fault : Option ℕ) (s : State) (rest piece : List ℕ) → s.fault ≡ fault → RestAt fault s rest → RestAt fault (pushed_at fault s piece) (rest ++ piece)
-rest_pushed None s rest piece is held = ap (λ (w : List ℕ). w ++ piece) held
-rest_pushed (Some rule) s rest piece is held = (held.0 ++ piece, ap (λ (w : List ℕ). w ++ piece) held.1 ∙ append_assoc s.rest held.0 piece, held.2)
+rest_taken : (fault : Option ℕ) (s : State) (more : ℕ) (rest piece : List ℕ) → s.fault ≡ fault → RestAt fault s rest → RestAt fault (taken_at fault s more piece) (rest ++ piece)
+rest_taken None s more rest piece is held = ap (λ (w : List ℕ). w ++ piece) held
+rest_taken (Some rule) s more rest piece is held = (held.0 ++ piece, ap (λ (w : List ℕ). w ++ piece) held.1 ∙ append_assoc s.rest held.0 piece, held.2)
 
-same_fault_kept : (fault : Option ℕ) (s : State) (piece : List ℕ) → (pushed_at fault s piece).fault ≡ s.fault
-same_fault_kept None s piece = refl
-same_fault_kept (Some rule) s piece = refl
+same_fault_kept : (fault : Option ℕ) (s : State) (more : ℕ) (piece : List ℕ) → (taken_at fault s more piece).fault ≡ s.fault
+same_fault_kept None s more piece = refl
+same_fault_kept (Some rule) s more piece = refl
 
-same_limits_kept : (fault : Option ℕ) (s : State) (piece : List ℕ) → (pushed_at fault s piece).limits ≡ s.limits
-same_limits_kept None s piece = refl
-same_limits_kept (Some rule) s piece = refl
+same_limits_kept : (fault : Option ℕ) (s : State) (more : ℕ) (piece : List ℕ) → (taken_at fault s more piece).limits ≡ s.limits
+same_limits_kept None s more piece = refl
+same_limits_kept (Some rule) s more piece = refl
+
+pub taken_stands : (s : State) (more : ℕ) (piece bytes : List ℕ) (contents : List (List ℕ)) → StandsFor s bytes contents → StandsFor (taken s more piece) (bytes ++ piece) contents
+taken_stands s more piece bytes contents stands = record {
+  rest = stands.rest ++ piece;
+  frames = subst (λ (l : Bounds). Frames l (bytes ++ piece) contents (stands.rest ++ piece)) (sym (same_limits_kept s.fault s more piece)) (frames_more s.limits bytes contents stands.rest piece stands.frames);
+  held = subst (λ (f : Option ℕ). RestAt f (taken s more piece) (stands.rest ++ piece)) (sym (same_fault_kept s.fault s more piece)) (rest_taken s.fault s more stands.rest piece refl stands.held);
+}
 
 pub push_stands : (s : State) (piece bytes : List ℕ) (contents : List (List ℕ)) → StandsFor s bytes contents → StandsFor (pushed s piece) (bytes ++ piece) contents
-push_stands s piece bytes contents stands = record {
-  rest = stands.rest ++ piece;
-  frames = subst (λ (l : Bounds). Frames l (bytes ++ piece) contents (stands.rest ++ piece)) (sym (same_limits_kept s.fault s piece)) (frames_more s.limits bytes contents stands.rest piece stands.frames);
-  held = subst (λ (f : Option ℕ). RestAt f (pushed s piece) (stands.rest ++ piece)) (sym (same_fault_kept s.fault s piece)) (rest_pushed s.fault s stands.rest piece refl stands.held);
-}
+push_stands s piece = taken_stands s (length piece) piece
 
 pub open_rest : (s : State) (rest : List ℕ) → s.fault ≡ None → RestAt s.fault s rest → rest ≡ s.rest
 open_rest s rest none held = let at : RestAt None s rest = subst (λ (f : Option ℕ). RestAt f s rest) none held in at
@@ -177,7 +180,7 @@ push_stands_ok (Err e) old new piece is = tt
 
 -- what is held after a piece, where all frames before it were given and there was no fault
 held_within : (fault : Option ℕ) (s : State) (piece bytes : List ℕ) (contents : List (List ℕ)) → s.fault ≡ fault → StandsFor s bytes contents → IsStream s.limits bytes contents s.rest None
-    → length (pushed_at fault s piece).kept + length (pushed_at fault s piece).rest ≤ s.limits.header + s.limits.content + length piece
+    → length (taken_at fault s (length piece) piece).kept + length (taken_at fault s (length piece) piece).rest ≤ s.limits.header + s.limits.content + length piece
 held_within None s piece bytes contents is stands stream = omega (arith, rest_short s.limits bytes contents s.rest stream, length-append s.rest piece)
 held_within (Some rule) s piece bytes contents is stands stream =
     let kept : RestAt (Some rule) s stands.rest = subst (λ (f : Option ℕ). RestAt f s stands.rest) is stands.held in

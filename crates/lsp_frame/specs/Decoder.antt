@@ -1,28 +1,42 @@
 -- What a decoder holds, and for which streams it stands.
-use Rattle.std.specs.Prelude.{◌≡◌, ℕ, ◌+◌, List, [], ◌∷◌, ◌++◌, length, Option, Some, None, Result, Ok, Err, IfSome}
+use Rattle.std.specs.Prelude.{◌≡◌, ℕ, ◌+◌, ◌≤◌, max, List, [], ◌∷◌, ◌++◌, length, Option, Some, None, Result, Ok, Err, IfSome}
 use Rattle.lsp_frame.specs.Bounds.{Bounds}
 use Rattle.lsp_frame.specs.Frame.{IsFrame, Begins, Frames, Breaks, HasFault, IsStream}
 use Rattle.lsp_frame.specs.declared.decoder.FrameFault.{FrameFault}
 
 -- kept: the bytes of frames given that are still in the buffer; rest: the bytes pushed that belong to no frame given;
--- fault: the fault given
+-- fault: the fault given; room: how many bytes the buffer has, those that are not yet used included
 pub record State : Type 0 where
   pub limits : Bounds
   pub kept : List ℕ
   pub rest : List ℕ
   pub fault : Option ℕ
+  pub room : ℕ
 
 -- before any push
 abbrev pub empty : Bounds → State
-empty limits = record { limits = limits; kept = []; rest = []; fault = None }
+empty limits = record { limits = limits; kept = []; rest = []; fault = None; room = 0 }
 
-abbrev pub pushed_at : Option ℕ → State → List ℕ → State
-pushed_at None s piece = record s { kept = []; rest = s.rest ++ piece }
-pushed_at (Some rule) s piece = s
+-- the room once so many bytes are to follow the rest: the buffer grows only where they don't fit, and only so far
+abbrev pub room_for : State → ℕ → ℕ
+room_for s more = max s.room (length s.rest + more)
 
--- after a piece; a decoder that gave a fault takes nothing
+abbrev pub taken_at : Option ℕ → State → ℕ → List ℕ → State
+taken_at None s more piece = record s { kept = []; rest = s.rest ++ piece; room = room_for s more }
+taken_at (Some rule) s more piece = s
+
+-- after a piece for which so much room was made; a decoder that gave a fault takes nothing
+abbrev pub taken : State → ℕ → List ℕ → State
+taken s more piece = taken_at s.fault s more piece
+
+-- after a piece
 abbrev pub pushed : State → List ℕ → State
-pushed s piece = pushed_at s.fault s piece
+pushed s piece = taken s (length piece) piece
+
+-- the same, in a buffer that is no longer
+pub record FitsIn (s due : State) : Type 0 where
+  pub same : s ≡ record due { room = s.room }
+  pub room : s.room ≤ due.room
 
 -- how many bytes are in the buffer
 abbrev pub held_of : State → ℕ

@@ -13,6 +13,10 @@ pub record StartsWithHeader (limits : Bounds) (bytes : List ℕ) (size : FrameSi
   pub part : IsHeader limits (take size.header bytes)
   pub says : Says limits (take size.header bytes) (Ok size.content)
 
+-- no header part without fault stands in front
+abbrev pub StartsWithNone : Bounds → List ℕ → Type 0
+StartsWithNone limits bytes = (size : FrameSize) → StartsWithHeader limits bytes size → ⊥
+
 -- neither a frame nor a fault stands in front
 pub record StartsUnfinished (limits : Bounds) (bytes : List ℕ) : Type 0 where
   pub no_frame : (content after : List ℕ) → Begins limits bytes content after → ⊥
@@ -21,4 +25,4 @@ pub record StartsUnfinished (limits : Bounds) (bytes : List ℕ) : Type 0 where
 abbrev pub StartsAs : Bounds → List ℕ → Start → Type 0
 StartsAs limits bytes (Header size) = StartsWithHeader limits bytes size
 StartsAs limits bytes (Fault rule) = Breaks limits bytes rule
-StartsAs limits bytes Unfinished = StartsUnfinished limits bytes
+StartsAs limits bytes Unfinished = StartsUnfinished limits bytes × StartsWithNone limits bytes

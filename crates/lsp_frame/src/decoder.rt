@@ -1,11 +1,12 @@
 //! Frames from bytes that come in pieces (LSP 3.17, "Base Protocol").
-ghost use Rattle.std.specs.Prelude.{◌≡◌, ◌≤◌, ◌<◌, ◌+◌, ◌-◌, ◌^◌, ℕ, List, [], ◌++◌, length, take, drop, vec_len, Some, None, Err, Result, IfSome, IsSome, IsOk, IfOk, OnOk, OnErr};
+ghost use Rattle.std.specs.Prelude.{◌≡◌, ◌≤◌, ◌<◌, ◌+◌, ◌-◌, ◌^◌, ℕ, List, [], ◌++◌, length, take, drop, vec_len, Some, None, Err, Result, IsSome, IsOk, IfOk, OnOk, OnErr, MatchOption, max};
 ghost use Rattle.std.specs.Io.KnownBytes.{IsAtEnd};
 ghost use Rattle.std.specs.Borrow.{sem};
 ghost use Rattle.lsp_frame.specs.Frame.{Frames, IsStream};
-ghost use Rattle.lsp_frame.specs.Decoder.{empty, pushed, held_of, finish_of, StandsFor};
+ghost use Rattle.lsp_frame.specs.Decoder.{empty, pushed, FitsIn, held_of, finish_of, StandsFor};
 ghost use Rattle.lsp_frame.specs.Buffer.{Advances, ReadsAhead, last_of};
-ghost use Rattle.lsp_frame.specs.Pulling.{Pulls, PullFails, Misses, GoesPast, Passes};
+ghost use Rattle.lsp_frame.specs.Pulling.{Pulls, PullFails, Misses, MissesNone, GoesPast, Passes};
+ghost use Rattle.lsp_frame.specs.Start.{StartsWithHeader, StartsWithNone};
 ghost use Rattle.lsp_frame.specs.Lending.{LendsContent};
 ghost use Rattle.lsp_frame.specs.Front.{HoldsRest};
 
@@ -97,7 +98,7 @@ pub struct Decoder {
 }
 
 impl Model for Decoder {
-    ghost use Rattle.std.specs.Prelude.{◌≤◌, take, drop, vec_len};
+    ghost use Rattle.std.specs.Prelude.{◌≤◌, length, take, drop, vec_len};
     ghost use Rattle.lsp_frame.specs.Decoder.{State};
     ghost use Rattle.lsp_frame.specs.Buffer.{AheadStands, FaultStands};
 
@@ -108,6 +109,7 @@ impl Model for Decoder {
       kept = take a.start a.buffer.items;
       rest = drop a.start (take a.end a.buffer.items);
       fault = a.fault;
+      room = length a.buffer.items;
     } };
 
     ghost invariant = { λ a. (a.start ≤ a.end)
@@ -139,7 +141,7 @@ fn make_room(buffer: &mut Vec<u8>, start: usize, end: usize, more: usize) -> Res
     requires places { (start ≤ end) × (end ≤ vec_len buffer.old) }
     requires more { more < 2 ^ 63 }
     ensures front { OnOk result (take (end - start) buffer.new.items ≡ drop start (take end buffer.old.items)) }
-    ensures room { OnOk result (end - start + more ≤ vec_len buffer.new) }
+    ensures len { OnOk result (length buffer.new.items ≡ max (length buffer.old.items) (end - start + more)) }
     ensures err { OnErr result (buffer.new.items ≡ buffer.old.items) }
 {
     let rest = end - start;
@@ -158,7 +160,7 @@ fn push_after(
     piece: &[u8],
 ) -> Result<(), AllocError>
     requires { (start ≤ end) × (end ≤ vec_len buffer.old) }
-    ensures len { OnOk result (end - start + length piece.now ≤ vec_len buffer.new) }
+    ensures len { OnOk result (length buffer.new.items ≡ max (length buffer.old.items) (end - start + length piece.now)) }
     ensures ok { OnOk result (take (end - start + length piece.now) buffer.new.items
         ≡ drop start (take end buffer.old.items) ++ piece.now) }
     ensures err { OnErr result (buffer.new.items ≡ buffer.old.items) }
@@ -219,6 +221,30 @@ impl Decoder {
         self.append(piece)
     }
 
+    /// Takes the next bytes of the stream as [`Decoder::push`] does. Where no byte is held that belongs to no frame
+    /// given, it takes their buffer in the place of its own, and copies nothing.
+    pub fn push_owned(&mut self, piece: Vec<u8>) -> Result<(), Memory>
+        ensures ok { OnOk result (FitsIn self.new (pushed self.old piece.items)) }
+        ensures stands { OnOk result ((bytes : List ℕ) (contents : List (List ℕ)) →
+            StandsFor self.old bytes contents → StandsFor self.new (bytes ++ piece.items) contents) }
+        ensures err { OnErr result (self.new ≡ self.old) }
+        ensures after_fault { IsSome self.old.fault → IsOk result }
+
+        // Where every whole frame pushed before was given, and there was no fault, one frame and the piece have room.
+        ensures held { OnOk result ((bytes : List ℕ) (contents : List (List ℕ)) →
+            StandsFor self.old bytes contents →
+            IsStream self.old.limits bytes contents self.old.rest None →
+            held_of self.new ≤ self.old.limits.header + self.old.limits.content + length piece.items) }
+    {
+        if self.fault.is_some() || self.start < self.end {
+            return self.append(piece.as_slice());
+        }
+        self.start = 0;
+        self.end = piece.len();
+        self.buffer = piece;
+        Ok(())
+    }
+
     /// Takes the next bytes of the stream straight from a source: those that one call of it gives, at most so many, and
     /// none only at its end; once a fault was given, nothing. Where the source fails or memory is refused, no byte is
     /// taken.
@@ -226,7 +252,7 @@ impl Decoder {
         ensures ok { IfOk result (λ n. Pulls self.old self.new (R.told source.old) (R.told source.new) most n) }
         ensures end { IfOk result (λ n. n ≡ 0 → 0 < most → self.old.fault ≡ None → IsAtEnd (R.told source.new).bytes) }
         ensures read_fault { result ≡ Err PullFault.Read →
-            PullFails self.old self.new (R.told source.old) (R.told source.new) }
+            PullFails self.old self.new (R.told source.old) (R.told source.new) most }
         ensures memory { result ≡ Err PullFault.Memory →
             (self.new ≡ self.old) × (R.told source.new ≡ R.told source.old) }
     {
@@ -242,14 +268,29 @@ impl Decoder {
         Ok(count)
     }
 
-    /// The next content, where it was waited for and its last bytes are missing.
+    /// The size of the frame that the rest begins with, where its header part is whole and has no fault. It is read
+    /// again where no content was waited for.
+    fn size_ahead(&self) -> Option<FrameSize>
+        ensures { MatchOption result (StartsWithNone self.now.limits self.now.rest)
+            (StartsWithHeader self.now.limits self.now.rest) }
+    {
+        if let Some(size) = self.ahead {
+            return Some(size);
+        }
+        match start_of(&self.limits, &self.buffer[self.start..self.end]) {
+            Start::Header(size) => Some(size),
+            Start::Fault(_) | Start::Unfinished => None,
+        }
+    }
+
+    /// The next content, where its header part is whole and its last bytes are missing.
     pub fn missing(&self) -> Option<Missing>
-        ensures { IfSome result (λ missing. Misses self.now missing) }
+        ensures { MatchOption result (MissesNone self.now) (Misses self.now) }
     {
         if self.fault.is_some() {
             return None;
         }
-        let size = self.ahead?;
+        let size = self.size_ahead()?;
         let held = self.end - self.start - size.header;
         if size.content <= held {
             return None;

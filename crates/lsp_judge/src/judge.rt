@@ -353,7 +353,7 @@ impl<S: TextStore> Judge<S> {
                 side: Side::Editor,
                 bytes,
             } => {
-                self.editor.push(bytes.as_slice())?;
+                self.editor.push_owned(bytes)?;
                 self.turn = Some(Turn::Bytes(Side::Editor));
                 Ok(())
             }
@@ -361,7 +361,7 @@ impl<S: TextStore> Judge<S> {
                 side: Side::Server,
                 bytes,
             } => {
-                self.server.push(bytes.as_slice())?;
+                self.server.push_owned(bytes)?;
                 self.turn = Some(Turn::Bytes(Side::Server));
                 Ok(())
             }

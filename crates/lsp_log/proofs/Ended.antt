@@ -15,8 +15,8 @@ use Rattle.lsp_log.specs.Place.{place_of, line_of, shown_line, found_behind}
 use Rattle.lsp_log.specs.Tape.{Held, ReadFailed, IsOver, IsCutAt}
 use Rattle.lsp_log.specs.Room.{AwaitsRecord}
 use Rattle.lsp_log.specs.Stops.{Ends, EndsAt, HoldsLine, Refused, LacksFirst, wants_bytes}
-use Rattle.lsp_log.specs.Reader.{State, StandsFor, StandsAt, Reads, ReadsNone, Begins, Given, kept_by, kept_in, MayFollow, TellsFormat, answer_of}
-use Rattle.lsp_log.specs.Ending.{FoundFrom, EndAnswer, CutEnd, end_of, next_number, fault_of}
+use Rattle.lsp_log.specs.Reader.{State, StandsFor, StandsAt, Reads, ReadsNone, Begins, LacksLine, Given, kept_by, kept_in, MayFollow, TellsFormat, answer_of}
+use Rattle.lsp_log.specs.Ending.{FailsBehind, FoundFrom, EndAnswer, CutEnd, end_of, next_number, fault_of}
 use Rattle.lsp_log.specs.declared.fault.LogCode.{LogCode}
 use Rattle.lsp_log.specs.declared.fault.LogCode.TheVariants.{L1}
 use Rattle.lsp_log.specs.declared.fault.LogFault.{LogFault}
@@ -289,13 +289,30 @@ begins_at s bytes piece records progress.Records free st = subst (λ (f : Option
     ))
 begins_at s bytes piece records (progress.Over end) free st = absurd cc
 
-given_read : (s : State) (tape : Held) (before after : Told) (bytes : List ℕ) (records : List log.Record) → kept_by s ≡ None → StandsFor s bytes records → ReadFailed s.tape.left before after
+-- where the first line was not read, all bytes are held
+lacks_at : (s : State) (bytes piece : List ℕ) (records : List log.Record) (p : Progress) → kept_in p ≡ None → StandsAt p s bytes records → (s.format ≡ None → length (s.tape.rest ++ piece) < 14) → LacksLine s.format (bytes ++ piece)
+lacks_at s bytes piece records progress.FirstLine free st fewer =
+    let less : length (bytes ++ piece) < 14 = omega (arith, fewer st.unknown, length-append bytes piece, length-append s.tape.rest piece, ap length st.whole) in
+    subst (λ (f : Option Format). LacksLine f (bytes ++ piece)) (sym st.unknown) less
+lacks_at s bytes piece records progress.Records free st fewer = subst (λ (f : Option Format). LacksLine f (bytes ++ piece)) (sym st.known) tt
+lacks_at s bytes piece records (progress.Over end) free st fewer = absurd cc
+
+-- a format that is known is not missing
+known_some : (format : Option Format) (f : Format) (n : ℕ) → format ≡ Some f → format ≡ None → n < 14
+known_some format f n known unknown = absurd cc
+
+-- the bytes that the reader gave before it failed, and that they are too few where no first line was read
+failed_behind : (format : Option Format) (tape : Held) (before after : Told) → FailsBehind format tape before after → (f : ReadFailed tape.left before after) × (format ≡ None → length (tape.rest ++ f.piece) < 14)
+failed_behind None tape before after f = (f.failed, λ unknown. f.fewer)
+failed_behind (Some format) tape before after f = (f, λ unknown. absurd cc)
+
+given_read : (s : State) (tape : Held) (before after : Told) (bytes : List ℕ) (records : List log.Record) → kept_by s ≡ None → StandsFor s bytes records → (f : ReadFailed s.tape.left before after) → (s.format ≡ None → length (s.tape.rest ++ f.piece) < 14)
     → Given (over s tape (Err log_fault.Read)) before after (Err log_fault.Read) bytes records
-given_read s tape before after bytes records free stands f = record {
+given_read s tape before after bytes records free stands f fewer = record {
   piece = f.piece;
   read = f.read;
   within = omega (arith, f.within, left_at s bytes records s.progress free stands.1, length-append bytes f.piece);
-  stands = (stands.0, begins_at s bytes f.piece records s.progress free stands.1, stands.2, tt);
+  stands = (stands.0, (begins_at s bytes f.piece records s.progress free stands.1, lacks_at s bytes f.piece records s.progress free stands.1 fewer), stands.2, tt);
   tells = f.failures;
   shows = tt;
   room = tt;
@@ -335,7 +352,7 @@ cut_end : (s : State) (tape : Held) (before now after : Told) (bytes : List ℕ)
 cut_end s tape before now after bytes records flaw end free stands o wants e (inl (none, failed, is)) =
     subst (λ (a : Result (Unit {0}) LogFault). Given (over s tape a) before after (answer_of a) bytes records) (sym is)
     (given_read s tape before after bytes records free stands
-    (failed_then s.tape.left tape.left before now after e.piece e.pulled (subst (λ (n : ℕ). ReadFailed n now after) (sym none) failed)))
+    (failed_then s.tape.left tape.left before now after e.piece e.pulled (subst (λ (n : ℕ). ReadFailed n now after) (sym none) failed)) (known_some s.format o.format _ o.known))
 cut_end s tape before now after bytes records flaw end free stands o wants e (inr (cut, at, is)) =
     given_closed s tape before after bytes records (code_of flaw cut) end is stands.0 stands.2 o
     (closed s.limits o.format before now after bytes tape.rest records tape.left flaw cut wants (reached s tape before now bytes records flaw o e) at)
@@ -357,7 +374,9 @@ ends_at s tape before now after Number end bytes records free stands a e = whole
 ends_at s tape before now after Short end bytes records free stands a e = cut_end s tape before now after bytes records (Some cut_short) end free stands (reads_at s bytes records a.0 stands) refl a.3 (cut_cases (record s { tape = tape }) now after Short end e)
 ends_at s tape before now after End end bytes records free stands a e = whole_end s tape before now after bytes records (Some bad_end) end stands (reads_at s bytes records a.0 stands) refl a.3 e
 ends_at s tape before now after Text end bytes records free stands a e = whole_end s tape before now after bytes records (Some not_utf8) end stands (reads_at s bytes records a.0 stands) refl a.3 e
-ends_at s tape before now after Read end bytes records free stands a e = as_is s tape before now after bytes records log_fault.Read end e (given_read s tape before now bytes records free stands a)
+ends_at s tape before now after Read end bytes records free stands a e =
+    let f = failed_behind s.format s.tape before now a in
+    as_is s tape before now after bytes records log_fault.Read end e (given_read s tape before now bytes records free stands f.0 f.1)
 ends_at s tape before now after Memory end bytes records free stands a e = as_is s tape before now after bytes records log_fault.Memory end e (given_memory s tape before now bytes records stands.0 stands.2 (reads_at s bytes records a.0 stands) a.2 a.3)
 
 -- ---- what it says of the format

@@ -6,11 +6,11 @@ use Rattle.lsp_frame.specs.Told.{Told, after_failure}
 use Rattle.lsp_frame.specs.declared.format.Format.{Format}
 use Rattle.lsp_log.specs.Log as log
 use Rattle.lsp_log.specs.Log.{spelling, with_feed, head_line, head_of, parts_of, first_line}
-use Rattle.lsp_log.specs.Tape.{Held, Taken}
+use Rattle.lsp_log.specs.Tape.{Held, ReadFailed, Taken}
 use Rattle.lsp_log.specs.Stops.{FoundAnswer, FirstAnswer}
 use Rattle.lsp_log.specs.Records.{record_view}
 use Rattle.lsp_log.specs.Reader.{State, ahead, passed, Shows, StandsFor, Given, Gives, Tells, LacksRoom, records_with, kept_by, TellsFormat, FitsProgress, answer_of}
-use Rattle.lsp_log.specs.Ending.{Starts, started, starts, FoundFrom, FindAnswer, StartAnswer, EndAnswer, next_number}
+use Rattle.lsp_log.specs.Ending.{Starts, started, starts, FailsBehind, FoundFrom, FindAnswer, StartAnswer, EndAnswer, next_number}
 use Rattle.lsp_log.specs.declared.fault.LogFault.{LogFault}
 use Rattle.lsp_log.specs.declared.fault.LogFault.TheVariants as log_fault
 use Rattle.lsp_log.specs.declared.record.Record.{Record}
@@ -33,7 +33,7 @@ first_fails s tape before after Number at unknown f = absurd f
 first_fails s tape before after Short at unknown f = absurd f
 first_fails s tape before after End at unknown f = absurd f
 first_fails s tape before after Text at unknown f = absurd f
-first_fails s tape before after Read at unknown f = record { mid = s; now = before; begins = started refl refl; found = f; same = refl }
+first_fails s tape before after Read at unknown f = record { mid = s; now = before; begins = started refl refl; found = subst (λ (o : Option Format). FailsBehind o s.tape before after) (sym unknown) f; same = refl }
 first_fails s tape before after Memory at unknown f = absurd f
 
 pub start_fails : (old s : State) (tape : Held) (before after : Told) (stop : Stop) → s ≡ old → s.progress ≡ progress.FirstLine → FitsProgress s.progress s.format → FirstAnswer s.tape tape before after (Err stop) → FindAnswer old (record s { tape = tape }) before after (Err stop)
@@ -47,6 +47,10 @@ start_done old s tape format place before after same at is t =
 
 -- ---- a record behind it
 
+fails_behind : (format : Option Format) (tape : Held) (before after : Told) → IsSome format → ReadFailed tape.left before after → FailsBehind format tape before after
+fails_behind None tape before after some f = absurd cc
+fails_behind (Some format) tape before after some f = f
+
 found_from : (s : State) (tape : Held) (before after : Told) (result : Result Record Stop) → s.progress ≡ progress.Records → IsSome s.format → length tape.rest ≤ 64 → FoundAnswer s.limits s.tape tape before after result → FoundFrom s tape before after result
 found_from s tape before after (Ok r) at some near f = (at, some, near, f)
 found_from s tape before after (Err FirstLine) at some near f = absurd f
@@ -56,7 +60,7 @@ found_from s tape before after (Err Number) at some near f = (at, some, near, f)
 found_from s tape before after (Err Short) at some near f = (at, some, near, f)
 found_from s tape before after (Err End) at some near f = (at, some, near, f)
 found_from s tape before after (Err Text) at some near f = (at, some, near, f)
-found_from s tape before after (Err Read) at some near f = f
+found_from s tape before after (Err Read) at some near f = fails_behind s.format s.tape before after some f
 found_from s tape before after (Err Memory) at some near f = (at, some, near, f)
 
 pub find_done : (s mid i : State) (tape : Held) (before now after : Told) (result : Result Record Stop) → i ≡ mid → StartAnswer {X = Unit {0}} s mid before now (Ok tt) → length tape.rest ≤ 64 → FoundAnswer i.limits i.tape tape now after result

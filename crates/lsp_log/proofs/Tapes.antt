@@ -2,8 +2,8 @@
 use Rattle.std.proofs.Common.{◌≡◌, Bool, true, false, ℕ, zero, suc, ◌+◌, ◌-◌, ◌<◌, ◌≤◌, List, [], ◌∷◌, ◌++◌, length, take, drop, refl, sym, ap, subst, ◌∙◌, append_assoc, append-nil, arith}
 use Rattle.std.proofs.lemmas.List.{length-append, length-take, length-drop, take_at}
 use borrow.Rule.Slice.PartMut.{put_mid}
-use Rattle.lsp_frame.specs.Told.{Told, after_failure}
-use Rattle.lsp_frame.proofs.Telling.{gave_then}
+use Rattle.lsp_frame.specs.Told.{Told, KeepsBytes, after_failure}
+use Rattle.lsp_frame.proofs.Telling.{gave_then, gave_kept}
 use Rattle.lsp_frame.proofs.Pulls.{take_written}
 use Rattle.memchr.specs.Find.{Passes, Nowhere, NoneBefore, is_byte}
 use Rattle.lsp_log.specs.Log.{HasLine, holds_feed}
@@ -14,7 +14,7 @@ use Rattle.std.proofs.lemmas.Bool.{cases_lt}
 use Rattle.std.proofs.Common.{inl, inr}
 use Rattle.std.proofs.lemmas.Map.Views.{exact_unsigned_eq}
 use Rattle.lsp_log.specs.Log.{with_feed}
-use Rattle.lsp_log.specs.Tape.{Held, Pulled, IsOver, ReadFailed, Filled, Taken, Wants, Misses}
+use Rattle.lsp_log.specs.Tape.{Held, Pulled, IsOver, ReadFailed, FailsShort, Filled, Taken, Wants, Misses}
 
 -- ---- pulls
 
@@ -31,6 +31,26 @@ failed_then a b before now after x p f = record {
   read = gave_then before now after x f.piece p.read f.read;
   within = omega (arith, length-append x f.piece, p.left, f.within);
   failures = f.failures ∙ ap after_failure p.failures;
+}
+
+-- the reader fails once it gave these bytes
+pub fails_after : (a b : ℕ) (before now after : Told) (x : List ℕ) → Pulled a b before now x → KeepsBytes now after → after.failures ≡ after_failure now.failures → ReadFailed a before after
+fails_after a b before now after x p keeps failures = record {
+  piece = x;
+  read = gave_kept before now after x p.read keeps;
+  within = omega (arith, p.left);
+  failures = failures ∙ ap after_failure p.failures;
+}
+
+pub fails_short : (old new : Held) (before now after : Told) (x : List ℕ) (count : ℕ) → Filled old new before now x → KeepsBytes now after → after.failures ≡ after_failure now.failures → length new.rest < count → FailsShort old before after count
+fails_short old new before now after x count filled keeps failures less = record {
+  failed = record {
+    piece = x;
+    read = gave_kept before now after x filled.pulled.read keeps;
+    within = omega (arith, filled.pulled.left);
+    failures = failures ∙ ap after_failure filled.pulled.failures;
+  };
+  fewer = omega (arith, ap length filled.rest, less);
 }
 
 pub taken_both : (a b c : Held) (before now after : Told) (x y : List ℕ) → Taken a b before now x → Taken b c now after y → Taken a c before after (x ++ y)

@@ -3,7 +3,7 @@ use Rattle.std.specs.Prelude.{◌≡◌, ℕ, ◌+◌, ◌-◌, ◌^◌, ◌≤�
 use Rattle.lsp_frame.specs.Told.{Told}
 use Rattle.lsp_frame.specs.declared.format.Format.{Format}
 use Rattle.lsp_log.specs.Log.{bad_line, bad_number, cut_short, bad_end, not_utf8, first_line, code_of}
-use Rattle.lsp_log.specs.Tape.{Held, ReadFailed, IsCutAt, Taken}
+use Rattle.lsp_log.specs.Tape.{Held, ReadFailed, FailsShort, IsCutAt, Taken}
 use Rattle.lsp_log.specs.Stops.{LacksFirst, FoundAnswer}
 use Rattle.lsp_log.specs.Reader.{State, passed}
 use Rattle.lsp_log.specs.declared.record.Record.{Record}
@@ -20,10 +20,15 @@ pub data Starts (old mid : State) (before now : Told) : Type 0 where
   started : mid ≡ old → now ≡ before → Starts old mid before now
   starts : (format : Format) → old.progress ≡ progress.FirstLine → mid ≡ record old { tape = mid.tape; progress = progress.Records; format = Some format; place = mid.place } → mid.place ≡ passed mid → Taken old.tape mid.tape before now (first_line format) → Starts old mid before now
 
+-- the reader failed; where the first line was not yet read, before all of it was there
+abbrev pub FailsBehind : Option Format → Held → Told → Told → Type 0
+FailsBehind None tape before after = FailsShort tape before after 14
+FailsBehind (Some format) tape before after = ReadFailed tape.left before after
+
 -- the next record, or why there is none
 abbrev pub FoundFrom : State → Held → Told → Told → Result Record Stop → Type 0
 FoundFrom s tape before after (Err FirstLine) = (s.progress ≡ progress.FirstLine) × (s.format ≡ None) × LacksFirst s.tape tape before after
-FoundFrom s tape before after (Err Read) = ReadFailed s.tape.left before after
+FoundFrom s tape before after (Err Read) = FailsBehind s.format s.tape before after
 FoundFrom s tape before after result = (s.progress ≡ progress.Records) × IsSome s.format × (length tape.rest ≤ 64) × FoundAnswer s.limits s.tape tape before after result
 
 -- the same, where the first line may have to be read before

@@ -1,5 +1,5 @@
 -- What a reader of a log gives, and what it stands for.
-use Rattle.std.specs.Prelude.{◌≡◌, ℕ, ◌+◌, ◌-◌, ◌≤◌, List, [], ◌∷◌, ◌++◌, length, Option, Some, None, IsSome, Result, Ok, Err}
+use Rattle.std.specs.Prelude.{◌≡◌, ℕ, ◌+◌, ◌-◌, ◌<◌, ◌≤◌, List, [], ◌∷◌, ◌++◌, length, Option, Some, None, IsSome, Result, Ok, Err}
 use Rattle.std.specs.Io.KnownBytes.{IsAtEnd}
 use Rattle.std.specs.List.{flat_map, AllByRecursion}
 use Rattle.lsp_frame.specs.Bounds.{Bounds, IsInRange}
@@ -113,12 +113,17 @@ abbrev pub Begins : Bounds → List ℕ → Option Format → List log.Record �
 Begins limits bytes (Some format) records = (more : List ℕ) → (rest : List ℕ) × BeginsLog limits format (bytes ++ more) records rest
 Begins limits bytes None records = records ≡ []
 
+-- with no format, the bytes are too few for a first line
+abbrev pub LacksLine : Option Format → List ℕ → Type 0
+LacksLine (Some format) bytes = Unit {0}
+LacksLine None bytes = length bytes < 14
+
 abbrev pub StandsAt : Progress → State → List ℕ → List log.Record → Type 0
 StandsAt FirstLine s bytes records = ReadsNone s bytes records
 StandsAt Records s bytes records = Reads s bytes records
 StandsAt (Over (Ok end)) s bytes records = IsLog s.limits bytes s.format records None
 StandsAt (Over (Err (Bad number code))) s bytes records = IsLog s.limits bytes s.format records (Some (number, code))
-StandsAt (Over (Err Read)) s bytes records = Begins s.limits bytes s.format records
+StandsAt (Over (Err Read)) s bytes records = Begins s.limits bytes s.format records × LacksLine s.format bytes
 StandsAt (Over (Err Memory)) s bytes records = Begins s.limits bytes s.format records
 
 -- behind a fault of the log the reader holds the line that stands there

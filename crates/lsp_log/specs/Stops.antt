@@ -8,7 +8,7 @@ use Rattle.lsp_frame.specs.declared.format.Format.{Format}
 use Rattle.lsp_log.specs.Log as log
 use Rattle.lsp_log.specs.Log.{Flaw, bad_line, bad_number, cut_short, bad_end, not_utf8, EndsWith, Fits, spelling, parts_flaw, parts_of, lengths_of, with_feed, first_line, NoFirstLine, head_of, IsText}
 use Rattle.lsp_log.specs.Place.{line_of}
-use Rattle.lsp_log.specs.Tape.{Held, Pulled, IsOver, ReadFailed, Taken}
+use Rattle.lsp_log.specs.Tape.{Held, Pulled, IsOver, ReadFailed, FailsShort, Taken}
 use Rattle.lsp_log.specs.Room.{AwaitsPart, AwaitsRecord}
 use Rattle.lsp_log.specs.Records.{record_view}
 use Rattle.lsp_log.specs.declared.head.HeadFault.{HeadFault}
@@ -45,7 +45,7 @@ pub record LacksFirst (old new : Held) (before after : Told) : Type 0 where
 abbrev pub FirstAnswer : Held → Held → Told → Told → Result Format Stop → Type 0
 FirstAnswer old new before after (Ok format) = Taken old new before after (first_line format)
 FirstAnswer old new before after (Err FirstLine) = LacksFirst old new before after
-FirstAnswer old new before after (Err Read) = ReadFailed old.left before after
+FirstAnswer old new before after (Err Read) = FailsShort old before after 14
 FirstAnswer old new before after (Err stop) = ⊥
 
 -- the records end for want of bytes

@@ -34,6 +34,11 @@ abbrev pub PullAnswer : {E : Type 0} → ℕ → ℕ → Told → Told → List 
 PullAnswer left_old left_new before after buffer (Ok n) = Pulled left_old left_new before after (take n buffer) × (n ≡ 0 → 0 < length buffer → IsOver left_new after)
 PullAnswer left_old left_new before after buffer (Err e) = KeepsBytes before after × (after.failures ≡ after_failure before.failures)
 
+-- the reader failed, and with the bytes that it gave before there are fewer than so many
+pub record FailsShort (old : Held) (before after : Told) (count : ℕ) : Type 0 where
+  pub failed : ReadFailed old.left before after
+  pub fewer : length (old.rest ++ failed.piece) < count
+
 -- the tape reads some bytes behind those that it holds
 pub record Filled (old new : Held) (before after : Told) (piece : List ℕ) : Type 0 where
   pub pulled : Pulled old.left new.left before after piece
@@ -41,11 +46,11 @@ pub record Filled (old new : Held) (before after : Told) (piece : List ℕ) : Ty
 
 abbrev pub FillAnswer : {E : Type 0} → Held → Held → Told → Told → Result ℕ E → Type 0
 FillAnswer old new before after (Ok n) = (piece : List ℕ) × Filled old new before after piece × (length piece ≡ n) × (n ≡ 0 → length old.rest < 64 → IsOver new.left after)
-FillAnswer old new before after (Err e) = ReadFailed old.left before after
+FillAnswer old new before after (Err e) = KeepsBytes before after × (after.failures ≡ after_failure before.failures)
 
 abbrev pub ReachAnswer : {E X : Type 0} → Held → Held → Told → Told → ℕ → Result X E → Type 0
 ReachAnswer old new before after count (Ok x) = (piece : List ℕ) × Filled old new before after piece × (length new.rest < count → IsOver new.left after)
-ReachAnswer old new before after count (Err e) = ReadFailed old.left before after
+ReachAnswer old new before after count (Err e) = FailsShort old before after count
 
 abbrev pub LineAnswer : {E : Type 0} → Held → Held → Told → Told → Result (Option ℕ) E → Type 0
 LineAnswer old new before after (Ok (Some at)) = (piece : List ℕ) × Filled old new before after piece × (at < length new.rest) × HasLine new.rest (take at new.rest) (drop (at + 1) new.rest)

@@ -12,6 +12,7 @@ pub mod Messages
 pub mod CallsMade
 pub mod Meanings
 pub mod Logs
+pub mod FormatOne
 pub mod ByIndex
 pub mod EventCounts
 pub mod ExactCounts

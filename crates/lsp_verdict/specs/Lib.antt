@@ -10,6 +10,7 @@ pub mod Kept
 pub mod Headline
 pub mod Texts
 pub mod Report
+pub mod FormatOne
 pub mod RunIo
 pub mod StreamReport
 pub mod Shown

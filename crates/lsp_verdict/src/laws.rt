@@ -1,4 +1,5 @@
 //! Laws over the definitions: each is the contract of a function that does nothing.
+ghost use Rattle.lsp_verdict.specs.FormatOne.{FormatOneKeepsReport, FormatOneKeepsVerdict};
 ghost use Rattle.lsp_verdict.specs.Headline.{BadLogMeansFault, KeptMeansYes, NoNamesTheFirst, YesMeansKept};
 ghost use Rattle.lsp_verdict.specs.Laws.{CutsDontMatter, CutsLeaveVerdict, EventsFirst, OffenceDecides, OneSession, OneVerdict, SidesAreStreams, SnapshotsAreShown, SomeFinal, SomeSession, SomeVerdict};
 ghost use Rattle.lsp_verdict.specs.TextAfter.{OneText};
@@ -81,6 +82,13 @@ pub fn some_verdict()
 /// And one only, so that the verdict is a function of the bytes and the limits.
 pub fn one_verdict()
     ensures { OneVerdict }
+{}
+
+/// Every log whose first line is format 1's has the verdict of the definitions that keep no version
+/// but the present one, and the report of that verdict: what format 2 keeps changes nothing for it.
+pub fn format_one_keeps_none()
+    ensures verdict { FormatOneKeepsVerdict }
+    ensures report { FormatOneKeepsReport }
 {}
 
 /// A log has one answer for the text after a message of the editor's.

@@ -5,8 +5,8 @@ use Rattle.lsp_frame.specs.Bounds.{Bounds}
 use Rattle.lsp_frame.specs.Sink.{Wrote, Stopped}
 use Rattle.lsp_frame.specs.Frame.{Frames}
 use Rattle.lsp_frame.specs.Told.{Told, after_failure}
-use Rattle.lsp_frame.specs.Decoder.{State, EndsWith, pushed}
-use Rattle.lsp_frame.specs.Pulling.{Misses, GavePast, FailsPast, PassesAll, EndsBefore, Passes}
+use Rattle.lsp_frame.specs.Decoder.{State, EndsWith, pushed, room_for}
+use Rattle.lsp_frame.specs.Pulling.{Misses, window_of, GavePast, FailsPast, PassesAll, EndsBefore, Passes}
 use Rattle.lsp_frame.specs.declared.decoder.Missing.{Missing}
 use Rattle.lsp_frame.proofs.Frames.{frames_more}
 use Rattle.lsp_frame.proofs.Steps.{open_rest, push_stands}
@@ -24,7 +24,7 @@ use Rattle.lsp_streams.specs.StreamParts.{numbers, length_line, outcome_at}
 use Rattle.lsp_streams.specs.StreamRun.{fault_of}
 use Rattle.lsp_streams.specs.StreamSteps.{AreParts, WroteParts, BrokeOff, SoFar, ToldAll, IsLong, LongAnswer}
 use Rattle.lsp_streams.proofs.Framing.Parts.{parts_push}
-use Rattle.lsp_streams.proofs.Framing.Runs.{pushed_open, push_on, memory_broke, read_broke, end_ran, found_broke}
+use Rattle.lsp_streams.proofs.Framing.Runs.{taken_open, push_on, memory_broke, read_broke, end_ran, found_broke}
 
 -- ---- some of what is missing came
 
@@ -38,10 +38,10 @@ partly limits before now after sink_before sink_now d given read n missing misse
     let count = past.count in
     let stands = push_stands d piece bytes contents told.so_far.stands in
     let unfinished = misses.unfinished piece (omega (arith, count, fewer)) in
-    let open_now : pushed d piece ≡ record d { kept = []; rest = d.rest ++ piece } = pushed_open d piece misses.no_fault in
+    let open_now : pushed d piece ≡ record d { kept = []; rest = d.rest ++ piece; room = room_for d (length piece) } = taken_open d (length piece) piece misses.no_fault in
     let same = open_rest d told.so_far.stands.rest misses.no_fault told.so_far.stands.held in
     record {
-      so_far = push_on limits Lengths before now after sink_before sink_now d (pushed d piece) given read piece told past.gave past.failures refl stands (omega (arith, count, fewer, fits));
+      so_far = push_on limits Lengths before now after sink_before sink_now d (pushed d piece) given read piece told past.gave past.failures (length piece) refl stands (omega (arith, count, fewer, fits));
       ends = subst (λ (s : State). EndsWith s (bytes ++ piece) contents None) (sym open_now) (
         misses.no_fault,
         record {
@@ -70,9 +70,9 @@ pub long_ended : (limits : Bounds) (before now after sink_before sink_now : Told
 long_ended limits before now after sink_before sink_now d e given read missing misses told ends fits outcome at =
     let piece = ends.past.piece in
     let whole = partly limits before now after sink_before sink_now d given read ends.n missing misses told ends.past ends.fewer fits in
-    let kept : e ≡ record d { kept = []; rest = d.rest ++ [] } = ends.kept ∙ pushed_open d [] misses.no_fault in
+    let kept : e ≡ record d { kept = []; rest = d.rest ++ []; room = room_for d (window_of missing) } = ends.kept ∙ taken_open d (window_of missing) [] misses.no_fault in
     let rest : e.rest ≡ d.rest = ap (λ (s : State). s.rest) kept ∙ append-nil d.rest in
-    let all : (pushed d piece).rest ≡ d.rest ++ piece = ap (λ (s : State). s.rest) (pushed_open d piece misses.no_fault) in
+    let all : (pushed d piece).rest ≡ d.rest ++ piece = ap (λ (s : State). s.rest) (taken_open d (length piece) piece misses.no_fault) in
     end_ran limits Lengths before after after sink_before sink_now (pushed d piece) given (read + length piece) outcome whole (gave_nothing after) ends.end refl
     (λ closed. at (ap (λ (s : State). s.fault) kept ∙ misses.no_fault)
     ∙ ap (λ (w : List ℕ). outcome_at (given + 1) (fault_of None false w)) rest
@@ -124,8 +124,8 @@ long_unwritten limits before now after sink_before sink_now sink_new d e given r
     let piece = passes.past.piece in
     let count = passes.past.count in
     let stands = passes.stands so_far.bytes so_far.contents so_far.stands in
-    let pushed_far = push_on limits Lengths before now after sink_before sink_now d (pushed d piece) given read piece told passes.past.gave passes.past.failures refl (push_stands d piece so_far.bytes so_far.contents so_far.stands) (omega (arith, count, fits)) in
-    let same_pushed : e.limits ≡ (pushed d piece).limits = ap (λ (s : State). s.limits) passes.let_go ∙ sym (ap (λ (s : State). s.limits) (pushed_open d piece misses.no_fault)) in
+    let pushed_far = push_on limits Lengths before now after sink_before sink_now d (pushed d piece) given read piece told passes.past.gave passes.past.failures (length piece) refl (push_stands d piece so_far.bytes so_far.contents so_far.stands) (omega (arith, count, fits)) in
+    let same_pushed : e.limits ≡ (pushed d piece).limits = ap (λ (s : State). s.limits) passes.let_go ∙ sym (ap (λ (s : State). s.limits) (taken_open d (length piece) piece misses.no_fault)) in
     found_broke limits Lengths before after sink_before sink_now sink_new (pushed d piece) e given (read + length piece) faults.Write pushed_far
     (record {
       contents = so_far.contents ++ passes.content ∷ [];

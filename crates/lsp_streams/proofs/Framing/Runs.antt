@@ -7,7 +7,7 @@ use Rattle.std.proofs.lemmas.List.{append-nil, length-append, nil_from_length, t
 use Rattle.lsp_frame.specs.Bounds.{Bounds}
 use Rattle.lsp_frame.specs.Frame.{Frames, IsStream}
 use Rattle.lsp_frame.specs.Told.{Told, Gave, KeepsBytes, after_failure}
-use Rattle.lsp_frame.specs.Decoder.{State, StandsFor, empty, pushed, pushed_at}
+use Rattle.lsp_frame.specs.Decoder.{State, StandsFor, empty, taken, taken_at, room_for}
 use Rattle.lsp_frame.specs.Pulling.{Pulls, PullFails}
 use Rattle.lsp_frame.specs.declared.decoder.PullFault.{PullFault}
 use Rattle.lsp_frame.specs.declared.decoder.PullFault.TheVariants as pulls
@@ -156,10 +156,10 @@ abbrev failed_pull : PullFault → Result ℕ PullFault
 failed_pull fault = Err fault
 
 -- a pull took nothing
-pub pull_broke : (limits : Bounds) (mode : Mode) (before now after sink_before sink_now : Told) (d e : State) (given read : ℕ) (fault : PullFault) (told : ToldAll limits mode before now sink_before sink_now d given read)
-    → (failed_pull fault ≡ failed_pull pulls.Read → PullFails d e now after) → (failed_pull fault ≡ failed_pull pulls.Memory → (e ≡ d) × (after ≡ now)) → BrokeOff limits mode before after sink_before sink_now (of_pull fault)
-pull_broke limits mode before now after sink_before sink_now d e given read pulls.Read told failed refused = read_broke limits mode before now after sink_before sink_now d given read told (failed refl).keeps (failed refl).failures
-pull_broke limits mode before now after sink_before sink_now d e given read pulls.Memory told failed refused = memory_broke limits mode before now after sink_before sink_now d given read told (refused refl).1
+pub pull_broke : (limits : Bounds) (mode : Mode) (before now after sink_before sink_now : Told) (d e : State) (given read most : ℕ) (fault : PullFault) (told : ToldAll limits mode before now sink_before sink_now d given read)
+    → (failed_pull fault ≡ failed_pull pulls.Read → PullFails d e now after most) → (failed_pull fault ≡ failed_pull pulls.Memory → (e ≡ d) × (after ≡ now)) → BrokeOff limits mode before after sink_before sink_now (of_pull fault)
+pull_broke limits mode before now after sink_before sink_now d e given read most pulls.Read told failed refused = read_broke limits mode before now after sink_before sink_now d given read told (failed refl).keeps (failed refl).failures
+pull_broke limits mode before now after sink_before sink_now d e given read most pulls.Memory told failed refused = memory_broke limits mode before now after sink_before sink_now d given read told (refused refl).1
 
 -- ---- the ends of a run
 
@@ -257,17 +257,17 @@ end_ran limits mode before now after sink_before sink_now d given read outcome t
       };
     }
 
-pub pushed_open : (d : State) (piece : List ℕ) → d.fault ≡ None → pushed d piece ≡ record d { kept = []; rest = d.rest ++ piece }
-pushed_open d piece none = ap (λ (f : Option ℕ). pushed_at f d piece) none
+pub taken_open : (d : State) (more : ℕ) (piece : List ℕ) → d.fault ≡ None → taken d more piece ≡ record d { kept = []; rest = d.rest ++ piece; room = room_for d more }
+taken_open d more piece none = ap (λ (f : Option ℕ). taken_at f d more piece) none
 
 -- a pull that gave nothing, at the end of the source
 pub end_pulled : (limits : Bounds) (mode : Mode) (before now after sink_before sink_now : Told) (d e : State) (given read most n : ℕ) (outcome : Outcome) → ToldAll limits mode before now sink_before sink_now d given read
     → Pulls d e now after most n → n ≡ 0 → IsAtEnd after.bytes → (e.fault ≡ None → outcome ≡ outcome_at (given + 1) (fault_of None false e.rest)) → WroteParts limits mode before after sink_before sink_now outcome
 end_pulled limits mode before now after sink_before sink_now d e given read most n outcome told pulls none end at =
     let empty_piece : pulls.piece ≡ [] = nil_from_length pulls.piece (pulls.count ∙ none) in
-    let pushed_is : e ≡ record d { kept = []; rest = d.rest ++ pulls.piece } = pulls.pushed ∙ pushed_open d pulls.piece told.ends.0 in
-    let same_rest : e.rest ≡ d.rest = ap (λ (s : State). s.rest) pushed_is ∙ ap (λ (w : List ℕ). d.rest ++ w) empty_piece ∙ append-nil d.rest in
-    let open_still : e.fault ≡ None = ap (λ (s : State). s.fault) pushed_is ∙ told.ends.0 in
+    let taken_is : e ≡ record d { kept = []; rest = d.rest ++ pulls.piece; room = room_for d most } = pulls.taken ∙ taken_open d most pulls.piece told.ends.0 in
+    let same_rest : e.rest ≡ d.rest = ap (λ (s : State). s.rest) taken_is ∙ ap (λ (w : List ℕ). d.rest ++ w) empty_piece ∙ append-nil d.rest in
+    let open_still : e.fault ≡ None = ap (λ (s : State). s.fault) taken_is ∙ told.ends.0 in
     end_ran limits mode before now after sink_before sink_now d given read outcome told (subst (λ (w : List ℕ). Gave now after w) empty_piece pulls.gave) end pulls.failures
     (λ closed. at open_still ∙ ap (λ (w : List ℕ). outcome_at (given + 1) (fault_of None false w)) same_rest)
 
@@ -306,11 +306,11 @@ too_long_ran limits mode before now after sink_before sink_now d given read byte
 -- ---- the next piece
 
 unfoldable pub push_on : (limits : Bounds) (mode : Mode) (before now after sink_before sink_now : Told) (d e : State) (given read : ℕ) (piece : List ℕ) (told : ToldAll limits mode before now sink_before sink_now d given read)
-    → Gave now after piece → after.failures ≡ now.failures → e ≡ pushed d piece → StandsFor e (told.so_far.bytes ++ piece) told.so_far.contents → read + length piece ≤ limits.log
+    → Gave now after piece → after.failures ≡ now.failures → (more : ℕ) → e ≡ taken d more piece → StandsFor e (told.so_far.bytes ++ piece) told.so_far.contents → read + length piece ≤ limits.log
     → SoFar limits mode before after sink_before sink_now e given (read + length piece)
-push_on limits mode before now after sink_before sink_now d e given read piece told took no_fault is stands fits =
+push_on limits mode before now after sink_before sink_now d e given read piece told took no_fault more is stands fits =
     let so_far = told.so_far in
-    let open_rest : e ≡ record d { kept = []; rest = d.rest ++ piece } = is ∙ pushed_open d piece told.ends.0 in
+    let open_rest : e ≡ record d { kept = []; rest = d.rest ++ piece; room = room_for d more } = is ∙ taken_open d more piece told.ends.0 in
     let room = so_far.room in
     let len = so_far.len in
     record {
@@ -335,4 +335,4 @@ pub pull_taken : (limits : Bounds) (mode : Mode) (before now after sink_before s
 pull_taken limits mode before now after sink_before sink_now d e given read most n told pulls within =
     let len = pulls.count in
     subst (λ (k : ℕ). SoFar limits mode before after sink_before sink_now e given (read + k)) len
-    (push_on limits mode before now after sink_before sink_now d e given read pulls.piece told pulls.gave pulls.failures pulls.pushed (pulls.stands told.so_far.bytes told.so_far.contents told.so_far.stands) (omega (arith, len, within)))
+    (push_on limits mode before now after sink_before sink_now d e given read pulls.piece told pulls.gave pulls.failures most pulls.taken (pulls.stands told.so_far.bytes told.so_far.contents told.so_far.stands) (omega (arith, len, within)))

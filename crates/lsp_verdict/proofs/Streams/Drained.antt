@@ -1,8 +1,8 @@
 -- A decoder that has given all contents of its bytes.
-use Rattle.std.proofs.Common.{◌≡◌, ℕ, List, [], Option, Some, None, refl, sym, subst}
+use Rattle.std.proofs.Common.{◌≡◌, ℕ, List, [], length, Option, Some, None, refl, sym, subst}
 use Rattle.lsp_frame.specs.Bounds.{Bounds, IsInRange}
 use Rattle.lsp_frame.specs.Decoder as decoder
-use Rattle.lsp_frame.specs.Decoder.{State, pushed, pushed_at}
+use Rattle.lsp_frame.specs.Decoder.{State, pushed, taken_at}
 use Rattle.lsp_verdict.specs.Drained.{IsDrained}
 use Rattle.lsp_verdict.proofs.Streams.{no_stream}
 
@@ -12,7 +12,7 @@ drained_along d bytes more e p = subst (IsDrained d) e p
 pub pushed_limits : (s : State) (piece : List ℕ) → (pushed s piece).limits ≡ s.limits
 pushed_limits s piece = by_fault s.fault
   where
-    by_fault : (o : Option ℕ) → (pushed_at o s piece).limits ≡ s.limits
+    by_fault : (o : Option ℕ) → (taken_at o s (length piece) piece).limits ≡ s.limits
     by_fault None = refl
     by_fault (Some rule) = refl
 

@@ -1,4 +1,4 @@
-use Rattle.lsp_frame.proofs.Starts.{near_is, none_near, unfinished_header, too_long, found, bad_header}
+use Rattle.lsp_frame.proofs.Starts.{near_is, none_near, none_ahead, unfinished_header, too_long, found, bad_header}
 use Rattle.lsp_frame.proofs.PlainHeaders.{near_starts}
 use Rattle.std.proofs.Common.{arith, ◌+◌}
 use Rattle.lsp_frame.proofs.start.start_of.Goals as goal
@@ -6,7 +6,8 @@ use Rattle.lsp_frame.proofs.start.start_of.Goals as goal
 pub returns-then-bytes-most : goal.returns-then-bytes-most
 returns-then-bytes-most c =
     let is = near_is c.args.limits.now c.args.bytes.now c.min.result c.header-most.result c.min.ensures c.header-most.ensures.value in
-    unfinished_header c.args.limits.now c.args.bytes.now (none_near c.args.limits.now c.args.bytes.now _ is c.in_default-find.ensures) (omega arith)
+    let none = none_near c.args.limits.now c.args.bytes.now _ is c.in_default-find.ensures in
+    (unfinished_header c.args.limits.now c.args.bytes.now none (omega arith), none_ahead c.args.limits.now c.args.bytes.now none)
 
 pub returns-in_default-find : goal.returns-in_default-find
 returns-in_default-find c =

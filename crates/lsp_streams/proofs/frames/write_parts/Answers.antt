@@ -26,7 +26,7 @@ returns-in_err-count g c =
     let found = rw c.in_default.is at (c.in_ok-rule.ensures.answer so_far.bytes so_far.contents so_far.parts so_far.stands so_far.count so_far.are_parts) in
     let told = told_all _ _ _ _ _ _ _ _ _ _ _ _ so_far found c.write_found.ensures.limits c.write_found.ensures.room in
     let p = err_from_is_err_and c.from_residual-in_err-count.result c.from_residual-in_err-count.ensures.1 in
-    rw (p.1, p.2) (pull_broke _ _ _ _ _ _ _ _ _ _ _ _ told c.in_err-count.ensures.read_fault c.in_err-count.ensures.memory)
+    rw (p.1, p.2) (pull_broke _ _ _ _ _ _ _ _ _ _ _ _ _ told c.in_err-count.ensures.read_fault c.in_err-count.ensures.memory)
 
 pub returns-then-count-eq0 : goal.returns-then-count-eq0
 returns-then-count-eq0 g c =

@@ -32,5 +32,5 @@ pub returns-in-Unfinished : goal.returns-in-Unfinished
 returns-in-Unfinished c =
     let i = c.self.inside in
     let rest = rest_slice c.deref.result.now i.buffer.items i.start i.end c.deref.ensures.value in
-    let starts = subst (λ (w : List ℕ). StartsUnfinished i.limits w) rest c.in-Unfinished.ensures in
+    let starts = subst (λ (w : List ℕ). StartsUnfinished i.limits w) rest c.in-Unfinished.ensures.0 in
     rw (← c.self.view_is) (record { open_before = c.in_default.is; no_frame = starts.no_frame; no_fault = starts.no_fault; same = refl })

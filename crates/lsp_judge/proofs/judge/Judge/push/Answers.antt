@@ -6,21 +6,19 @@ use Rattle.lsp_verdict.proofs.Streams.Drained.{pushed_limits}
 use Rattle.lsp_judge.proofs.Pulling.{pushed_editor, pushed_server, pushed_snapshot}
 use Rattle.lsp_judge.proofs.judge.Judge.push.Goals as goal
 
-pub returns-in_ok-push-in-Bytes-Editor-default-clause-ok : goal.returns-in_ok-push-in-Bytes-Editor-default-clause-ok
-returns-in_ok-push-in-Bytes-Editor-default-clause-ok g c =
-    let pushed = c.in_ok-push-in-Bytes-Editor-default.ensures in
-    let limits = ap (λ (d : decoder.State). d.limits) pushed.ok ∙ pushed_limits _ _ in
-    let stands = rw c.as_slice.ensures.value at pushed.stands in
+pub returns-in_ok-push_owned-in-Bytes-Editor-default-clause-ok : goal.returns-in_ok-push_owned-in-Bytes-Editor-default-clause-ok
+returns-in_ok-push_owned-in-Bytes-Editor-default-clause-ok g c =
+    let pushed = c.in_ok-push_owned-in-Bytes-Editor-default.ensures in
+    let limits = ap (λ (d : decoder.State). d.limits) pushed.ok.same ∙ pushed_limits _ _ in
     rw (← c.self.view_is, c.in-Bytes-Editor-default.is, c.in-Bytes-Editor-default.side-is) (λ records heard idle h.
-    pushed_editor _ _ records heard c.in-Bytes-Editor-default.bytes.items idle h limits stands)
+    pushed_editor _ _ records heard c.in-Bytes-Editor-default.bytes.items idle h limits pushed.stands)
 
-pub returns-in_ok-push-in-Bytes-Server-default-clause-ok : goal.returns-in_ok-push-in-Bytes-Server-default-clause-ok
-returns-in_ok-push-in-Bytes-Server-default-clause-ok g c =
-    let pushed = c.in_ok-push-in-Bytes-Server-default.ensures in
-    let limits = ap (λ (d : decoder.State). d.limits) pushed.ok ∙ pushed_limits _ _ in
-    let stands = rw c.as_slice-in-Bytes-Server-default.ensures.value at pushed.stands in
+pub returns-in_ok-push_owned-in-Bytes-Server-default-clause-ok : goal.returns-in_ok-push_owned-in-Bytes-Server-default-clause-ok
+returns-in_ok-push_owned-in-Bytes-Server-default-clause-ok g c =
+    let pushed = c.in_ok-push_owned-in-Bytes-Server-default.ensures in
+    let limits = ap (λ (d : decoder.State). d.limits) pushed.ok.same ∙ pushed_limits _ _ in
     rw (← c.self.view_is, c.in-Bytes-Server-default.is, c.in-Bytes-Server-default.side-is) (λ records heard idle h.
-    pushed_server _ _ records heard c.in-Bytes-Server-default.bytes.items idle h limits stands)
+    pushed_server _ _ records heard c.in-Bytes-Server-default.bytes.items idle h limits pushed.stands)
 
 pub returns-in-Snapshot-clause-ok : goal.returns-in-Snapshot-clause-ok
 returns-in-Snapshot-clause-ok g c =
