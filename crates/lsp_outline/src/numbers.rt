@@ -3,6 +3,7 @@ ghost use Rattle.std.specs.Prelude.{◌≡◌, ◌<◌, ◌≤◌, ◌==◌, len
 ghost use Rattle.std.specs.Char.{is_ascii_digit};
 ghost use Rattle.std.specs.List.{list_all};
 ghost use Rattle.std.specs.Str.Parse.{digits_value};
+ghost use Rattle.json.specs.Print.{IsNumber};
 ghost use Rattle.serde_json.specs.Data.{unsigned};
 ghost use Rattle.serde_json.specs.Read.{number_of, number_from};
 
@@ -60,11 +61,24 @@ fn any_is_in_range(digits: &str) -> bool
     }
 }
 
-/// Whether `serde_json` reads the numeral.
+/// Whether the numeral has one or two bytes and no sign. Of a number these are digits.
+#[inline(always)]
+fn is_tiny(digits: &[u8]) -> bool
+    ensures few { IsTrue result → length digits.now ≤ 2 }
+    ensures unsigned { IsTrue result → (slice_index digits.now 0 == 45) ≡ false }
+{
+    digits.len() <= 2 && !has_minus(digits)
+}
+
+/// Whether `serde_json` reads the number.
 #[inline(always)]
 pub(crate) fn is_in_range(digits: &str) -> bool
+    requires { IsNumber digits.now }
     ensures { IsTrue result → is_some (number_of digits.now) ≡ true }
 {
+    if is_tiny(digits.as_bytes()) {
+        return true;
+    }
     is_short(digits.as_bytes()) || any_is_in_range(digits)
 }
 
