@@ -4,3 +4,4 @@ pub mod Editing
 pub mod Noticing
 pub mod Calls
 pub mod ShortNumerals
+pub mod TinyNumerals
