@@ -212,6 +212,29 @@ def one_line(rng):
             yield from snapshot(URI, version, "".join(blocks))
 
 
+def cancels(rng):
+    """Requests that are cancelled at once and answered with an error."""
+    yield from start(2)
+    id = 0
+    while True:
+        id += 1
+        position = {"line": rng.randrange(9000), "character": rng.randrange(80)}
+        yield from records(b"E", call("textDocument/hover", {"textDocument": {"uri": URI}, "position": position}, id))
+        yield from records(b"E", call("$/cancelRequest", {"id": id}))
+        yield from records(b"S", as_json({"jsonrpc": "2.0", "id": id, "error": {"code": -32800, "message": "cancelled"}}))
+
+
+def empty_lines(rng, count=3_000_000):
+    """Typing at the fronts of the empty lines of one document."""
+    yield from start(2)
+    yield from opens(URI, "\n" * count)
+    version = 1
+    while True:
+        version += 1
+        line = rng.randrange(count)
+        yield from changes(URI, version, replaces(line, 0, line, 0, rng.choice("abcdefghijklmnopqrstuvwxyz")))
+
+
 WORKLOADS = {
     "typing": typing,
     "long-document": long_document,
@@ -219,15 +242,24 @@ WORKLOADS = {
     "requests": requests,
     "full-texts": full_texts,
     "one-line": one_line,
+    "cancels": cancels,
+    "empty-lines": empty_lines,
 }
 
 
-def write(name, size, path):
-    """Writes the workload of this name, of about so many bytes."""
+def in_format(pieces, format):
+    """The pieces of a log, whose first line is that of the format."""
+    next(pieces)
+    yield b"lsp-session %d\n" % format
+    yield from pieces
+
+
+def write(name, size, path, format=1):
+    """Writes the workload of this name, of about so many bytes, as a log of the format."""
     rng = random.Random(1)
     written = 0
     with open(path, "wb") as out:
-        for piece in WORKLOADS[name](rng):
+        for piece in in_format(WORKLOADS[name](rng), format):
             out.write(piece)
             written += len(piece)
             if written >= size:

@@ -53,6 +53,12 @@ encoding utf-16 sync incremental
 document 1 2 "file:///a"
 """
 
+# The killed editor sent one message less.
+KILLED_YES = WHOLE_REPORT.replace(b"messages 5 2", b"messages 4 2")
+
+# Sessions that keep the rules, and their reports.
+KEPT = [(WHOLE, WHOLE_REPORT), (KILLED, KILLED_YES), (UPGRADED, WHOLE_REPORT)]
+
 WHOLE_LINES = b"""1 editor request 1 "initialize"
 2 server result 1
 3 editor notification "initialized"

@@ -180,6 +180,23 @@ def long_texts(size=TEXT):
         yield b"".join([*log, did_change(uri, 9, [replaced((0, 0), (0, 0), "x")])]), refused
 
 
+def explained_texts(size=TEXT):
+    """An opening with a byte too many, and a change that makes a text of the greatest size longer by one, with what
+    explains the refusal of each."""
+    uri, over = "file:///a", size + 1
+    sizes = f"bytes {over}\nlimit {size}\n"
+    opened = START + did_open(uri, 1, "a" * over)
+    told = 'event 4 editor notification "textDocument/didOpen"\nuri "file:///a"\nsent 1\n'
+    yield opened, f"no 607 editor 3 event 4\ndocument over the limit\n{told}{sizes}".encode()
+    log = START + did_open(uri, 1, ("a" * 63 + "\n") * (size // 64))
+    told = 'event 5 editor notification "textDocument/didChange"\nuri "file:///a"\nheld 1\nbrought 4\nsent 2\nchanges 1\n'
+    report = f"no 607 editor 4 event 5\ndocument over the limit\n{told}"
+    changed = log + did_change(uri, 2, [replaced((1, 63), (1, 63), "x")])
+    yield changed, f"{report}change 1 1 63 1 63\nlength 63\n{sizes}".encode()
+    changed = log + did_change(uri, 2, [{"text": "b" * over}])
+    yield changed, f"{report}change 1 whole\n{sizes}".encode()
+
+
 def padded(size):
     """The content of a message of the server that has so many bytes."""
     front, back = b'{"jsonrpc":"2.0","method":"window/logMessage","params":{"type":3,"message":"', b'"}}'
@@ -212,6 +229,8 @@ def large():
     """Texts and contents of the greatest size, and of one byte more."""
     for number, (log, report) in enumerate(long_texts()):
         yield "a text of the greatest size", ["check"], log, number % 2, report, b""
+    for log, told in explained_texts():
+        yield "a text that is too long", ["explain"], log, 1, told, b""
     most = padded(CONTENT)
     log = START + cut(b"S", framed(most))
     yield "a content of the greatest size", ["check"], log, 0, yes((2, 2), (0, 0), []), b""

@@ -1,7 +1,7 @@
 ;;; emacs.el --- Records sessions of eglot and lsp-mode as logs for lspcheck  -*- lexical-binding: t; -*-
 
 ;; Start Emacs with: emacs -l emacs.el FILE (or `load' it in the init file, before a server starts).
-;; Each server process gets a log of its own, NAME-PID.log, in $LSPCHECK_LOGS or the folder that
+;; Each server process gets a log of its own, SERVER-PID.log, in $LSPCHECK_LOGS or the folder that
 ;; Emacs was started in.
 
 (require 'subr-x)
@@ -22,7 +22,7 @@
     (unless file
       (setq file (expand-file-name
                   (format "%s-%d.log"
-                          (replace-regexp-in-string "[^[:alnum:]._-]" "_" (process-name process))
+                          (file-name-nondirectory (car (process-command process)))
                           (process-id process))
                   lspcheck-folder)
             head "lsp-session 1\n")
@@ -87,21 +87,16 @@
       (funcall filter process string))))
 
 (defun lspcheck--lsp-sending (message process)
-  "Record MESSAGE, which lsp-mode sends to PROCESS."
-  (lspcheck--record process "E" message))
-
-(defun lspcheck--lsp-snapshot (&rest _)
-  "Record the buffer for each of its servers, at the version that lsp-mode keeps for it."
-  (dolist (workspace (lsp-workspaces))
-    (let ((process (lsp--workspace-cmd-proc workspace)))
-      (when (processp process)
-        (lspcheck--snapshot process (lsp--buffer-uri) lsp--cur-version)))))
+  "Record MESSAGE, which lsp-mode sends to PROCESS, and the buffer where it tells a text.
+Where lsp-mode sends nothing, as inside `revert-buffer', there is no snapshot."
+  (lspcheck--record process "E" message)
+  (when (string-match-p "\"method\":\"textDocument/did\\(Open\\|Change\\|Save\\)\""
+                        (substring message 0 (min 200 (length message))))
+    (lspcheck--snapshot process (lsp--buffer-uri) lsp--cur-version)))
 
 (with-eval-after-load 'lsp-mode
   (advice-add 'lsp--create-filter-function :around #'lspcheck--lsp-filter)
-  (advice-add 'lsp--send-no-wait :before #'lspcheck--lsp-sending)
-  (dolist (sending '(lsp--text-document-did-open lsp-on-change lsp-on-save))
-    (advice-add sending :after #'lspcheck--lsp-snapshot)))
+  (advice-add 'lsp--send-no-wait :before #'lspcheck--lsp-sending))
 
 (provide 'lspcheck)
 ;;; emacs.el ends here

@@ -9,7 +9,7 @@ A log is built line by line:
     E {..}    the same by its content
     T 1 "ab"  adds a snapshot of file:///a: its version, and its text in quotes
     F WORDS   adds a frame outside of any record
-    LONG 40   adds a frame whose header part has a field of so many letters
+    LONG 40   adds a frame whose header part has a field of so many letters; E LONG 40 adds it as a record
     + TEXT    adds bytes as they are, where \\r, \\n, \\xff and \\\\ stand for one each
     CUT 64    from here on a record of bytes has so many bytes at most
     : 698     says how many bytes there are
@@ -21,11 +21,13 @@ add to the same log:
     | TEXT    bytes there without a line end
     KEEP      the bytes of the log as they are now; KEEP 2 with the first line of format 2
     ! LINE    a line of the report on standard error
+    ? NAME    the hint of this name, a line on standard error after the fixed words
     = yes     the run
 
 An empty line ends a table, and # begins a comment.
 """
 
+import re
 import sys
 from pathlib import Path
 
@@ -96,6 +98,11 @@ def unescaped(text):
     return made
 
 
+def long(words):
+    """A frame whose header part has a field of so many letters."""
+    return b"Content-Length: 2\r\nX: " + b"a" * int(words.removeprefix("LONG ")) + b"\r\n\r\n{}"
+
+
 class Log:
     """A log that is built line by line."""
 
@@ -123,13 +130,13 @@ class Log:
         if word in ("EMPTY", "HEAD", "START"):
             self.begin(word, rest)
         elif word in ("E", "S"):
-            self.record(word, frame(content_of(rest)))
+            self.record(word, long(rest) if rest.startswith("LONG ") else frame(content_of(rest)))
         elif word == "T":
             self.snapshot(rest)
         elif word == "F":
             self.bytes += frame(content_of(rest))
         elif word == "LONG":
-            self.bytes += b"Content-Length: 2\r\nX: " + b"a" * int(rest) + b"\r\n\r\n{}"
+            self.bytes += long(f"LONG {rest}")
         elif word == "+":
             self.bytes += unescaped(rest)
         elif word == "CUT":
@@ -183,13 +190,22 @@ ENDS = {
 }
 
 
+# What an input that is something else seems to be.
+HINTS = {
+    "stream": b"this seems to be one raw stream of frames: try 'lspcheck frames'",
+    "log": b"this seems to be the log of a session: try 'lspcheck check'",
+    "format": b"a log of a format that this lspcheck doesn't know: see --version",
+    "unknown": b"a log begins with the line 'lsp-session 2': see docs/LOG_FORMAT.md",
+}
+
+
 class Row:
     """A run: its words and input, and what it has to give."""
 
-    def __init__(self, name, words, given, out, err, end):
+    def __init__(self, name, words, given, out, err, hint, end):
         self.name, self.words, self.given, self.out = name, words, given, out
         self.status, remark = ENDS[end]
-        self.err = err + remark
+        self.err = err + remark + hint
 
 
 def run_of(word, rest):
@@ -203,26 +219,31 @@ def run_of(word, rest):
 
 
 def rows_of(name, table):
-    """The runs of a table."""
-    log, out, err = Log(), b"", b""
+    """The runs of a table, which has at least one."""
+    log, out, err, hint, count = Log(), b"", b"", b"", 0
     for number, line in table:
         word, _, rest = line.partition(" ")
         run = run_of(word, rest)
         if run:
-            yield Row(f"{name}:{number}", run[0], log.bytes, out, err, run[1])
-            out = err = b""
+            yield Row(f"{name}:{number}", run[0], log.bytes, out, err, hint, run[1])
+            out = err = hint = b""
+            count += 1
         elif word == ">":
             out += rest.encode() + b"\n"
         elif word == "|":
             out += rest.encode()
         elif word == "!":
             err += rest.encode() + b"\n"
+        elif word == "?":
+            hint += b"lspcheck: hint: %s\n" % HINTS[rest]
         elif word == "KEEP":
             out += HEAD_TWO + log.bytes.removeprefix(HEAD) if rest == "2" else log.bytes
         else:
             log.add(word, rest)
-    if out or err:
-        raise ValueError(f"{name}: lines behind the last run")
+    if out or err or hint:
+        raise ValueError(f"{name}: lines after the last run")
+    if not count:
+        raise ValueError(f"{name}:{table[0][0]}: a table without a run")
 
 
 def tables_of(path):
@@ -236,8 +257,52 @@ def tables_of(path):
             table = []
 
 
+def rows_in(path):
+    """The runs of the tables of a file, which has at least one."""
+    tables = [*tables_of(path)]
+    if not tables:
+        raise ValueError(f"{path.name}: no table")
+    for table in tables:
+        yield from rows_of(path.name, table)
+
+
 def rows():
-    """The runs of every table in this folder."""
-    for path in sorted(FOLDER.glob("*.txt")):
-        for table in tables_of(path):
-            yield from rows_of(path.name, table)
+    """The runs of every table in this folder, which has at least one file of them."""
+    paths = sorted(FOLDER.glob("*.txt"))
+    if not paths:
+        raise ValueError(f"{FOLDER}: no tables")
+    for path in paths:
+        yield from rows_in(path)
+
+
+# The rules and the codes of a log that an explanation can be of. L6 takes a log of 2^40 bytes.
+RULES = {
+    *map(str, [*range(101, 108), *range(201, 210), *range(301, 304), *range(401, 408), 411, 412]),
+    *map(str, [*range(501, 505), *range(601, 609), 701, 702]),
+    *["L1", "L2", "L3", "L4", "L5"],
+}
+
+# What takes a text over the limit, so it is explained by commands/sizes.py.
+OF_SIZE = {"607", "bytes", "limit"}
+
+
+def lines_of(page):
+    """The kinds of lines that docs/REPORT.md lists for an explanation: the words that are fixed."""
+    listed = re.findall(r"^\| `([^`|]*)` \| (?:\d|a bad log)", page, re.M)
+    return {" ".join(re.sub(r"<[^>]*>|\.\.", "", it).split()) for it in listed}
+
+
+def explained(outputs):
+    """The rules and the kinds of lines that these explanations have."""
+    found = set()
+    for line in b"\n".join(outputs).decode().splitlines():
+        word, *rest = line.split(" ")
+        found |= {rest[0]} if word == "no" else {rest[1]} if line.startswith("bad log ") else {word}
+        found |= {f"{word} whole"} if rest[1:] == ["whole"] else set()
+    return found
+
+
+def unexplained(page):
+    """The rules and the kinds of lines of an explanation that no row here has."""
+    wanted = lines_of(page) | RULES
+    return sorted(wanted - OF_SIZE - explained(row.out for row in rows() if row.words[0] == "explain"))

@@ -9,7 +9,7 @@ use Rattle.std.specs.Str.{bytes_eq, chars, IsUtf8}
 use Rattle.std.proofs.lemmas.Slice.Eq.{bytes_eq-Decides}
 use Rattle.lsp_text.proofs.Counting.{chars_same}
 use Rattle.std.specs.Borrow.{Bor}
-use Rattle.std.specs.Prelude.{not}
+use Rattle.std.specs.Prelude.{is_some, not}
 use Rattle.lsp_docs.specs.Texts.{Text}
 use Rattle.lsp_docs.specs.Documents.{Version}
 use Rattle.lsp_docs.specs.State.{SameVersions}
@@ -91,3 +91,16 @@ found-behind s ks v h = ap (option_map (λ (w : Version). w.text)) (find-append 
     behind : (o p : Option Version) → option_map (λ (w : Version). w.text) o ≡ None → option_map (λ (w : Version). w.text) (option_or o p) ≡ option_map (λ (w : Version). w.text) p
     behind None p h = refl
     behind (Some w) p h = absurd (cc)
+
+-- what is found is there
+any-weaker : (v : Version) (t : Text) (ss : List Version) → list_any (is_other v t) ss ≡ true → list_any (differs v) ss ≡ true
+any-weaker v t [] h = h
+any-weaker v t (s ∷ ss) h =
+    elim (cases_Bool (differs v s)) [
+      | inl p ↦ rw p refl
+      | inr p ↦ rw p (any-weaker v t ss (rw p at h))
+    ]
+
+pub finds-any : (v : Version) (ss : List Version) (r : Option (Bor (List ℕ))) → FindsOther v ss r → is_some r ≡ list_any (differs v) ss
+finds-any v ss None found = sym found
+finds-any v ss (Some other) found = sym (any-weaker v (chars other.now) ss found)

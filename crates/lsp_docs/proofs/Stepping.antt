@@ -2,7 +2,7 @@
 use Rattle.std.proofs.Common.{◌≡◌, ℕ, ◌+◌, ◌≤◌, Bool, true, false, ◌&&◌, List, [], ◌∷◌, ◌++◌, length, refl, sym, ap, ◌∙◌, Option, Some, None, inl, inr, append-nil, subst, Result, Ok, arith, true≢false}
 use Rattle.std.proofs.lemmas.Bool.{or_parts, cases_Bool}
 use Rattle.std.proofs.lemmas.Bool.Decides.{Decides-int_eq}
-use Rattle.std.specs.Prelude.{if◌then◌else◌, ℤ, not, is_some, int_lt, nat_lt, option_to_list}
+use Rattle.std.specs.Prelude.{if◌then◌else◌, ℤ, not, is_some, int_lt, option_to_list}
 use Rattle.std.specs.Str.{bytes_eq}
 use Rattle.std.specs.Ordering.{int_eq}
 use Rattle.std.specs.List.{list_any}
@@ -10,8 +10,7 @@ use Rattle.std.proofs.lemmas.Option.{none-some}
 use Rattle.lsp_types.specs.declared.position.Encoding.{Encoding}
 use Rattle.lsp_types.specs.declared.change.SyncKind.{SyncKind}
 use Rattle.lsp_docs.specs.declared.fault.DocFault.{DocFault}
-use Rattle.lsp_docs.specs.declared.fault.DocFault.TheVariants.{Rule, Memory}
-use Rattle.lsp_docs.specs.Texts.{Text, byte_len}
+use Rattle.lsp_docs.specs.Texts.{Text}
 use Rattle.lsp_docs.specs.Terms.{Terms}
 use Rattle.lsp_text.specs.Edits.{Edit, applied}
 use Rattle.lsp_docs.specs.Calls.{Bytes, Call, opens, changes, closes, saves, shows, uri_of, is_close, is_change}
@@ -287,25 +286,6 @@ late-rule terms ws enc k n cs (Some v) e =
     let first = none_row (not (int_lt v.number n)) 603 _ e in
     let second = none_row (not (fits_kind k cs)) 604 _ first.1 in
     (refl, rw (first.0, second.0) refl)
-
--- ---- rules of an opening
-
-pub open-early : (terms : Terms) (o : Option Version) (ks ws : List Version) (u : Bytes) (n : ℤ) (t : Text) (f : DocFault)
-    → Names (if is_some o then Some 601 else (if nat_lt terms.limit (byte_len t) then Some 607 else None)) f → Names (rule_of terms o ks ws (opens u n t)) f
-open-early terms o ks ws u n t Memory h = tt
-open-early terms o ks ws u n t (Rule r) h = go (is_some o) (nat_lt terms.limit (byte_len t)) h
-  where
-    go : (a b : Bool) → (if a then Some 601 else (if b then Some 607 else None)) ≡ Some r → (if a then Some 601 else (if b then Some 607 else version_rule ws (versioned n t))) ≡ Some r
-    go true b e = e
-    go false true e = e
-    go false false e = absurd (none-some r e)
-
-pub open-late : (terms : Terms) (o : Option Version) (ks ws : List Version) (u : Bytes) (n : ℤ) (t : Text) → o ≡ None → nat_lt terms.limit (byte_len t) ≡ false
-    → rule_of terms o ks ws (opens u n t) ≡ version_rule ws (versioned n t)
-open-late terms o ks ws u n t p q = rw (p, q) refl
-
-pub version-refuted : (ws : List Version) (v : Version) → list_any (differs v) ws ≡ true → version_rule ws v ≡ Some 702
-version-refuted ws v p = rw p refl
 
 pub version-agrees : (ws : List Version) (v : Version) → list_any (differs v) ws ≡ false → version_rule ws v ≡ None
 version-agrees ws v p = rw p refl

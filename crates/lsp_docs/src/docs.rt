@@ -1,9 +1,8 @@
 //! The open documents of a session.
 
-ghost use Rattle.std.specs.Prelude.{◌≡◌, [], ◌++◌, ◌∷◌, List, None, Some, Ok, true, false, length, not, map, slice_get, is_some, if◌then◌else◌, nat_lt, IfErr, IfOk, OnOk, OnErr, option_map};
+ghost use Rattle.std.specs.Prelude.{◌≡◌, [], ◌++◌, ◌∷◌, List, None, Some, Ok, Err, true, false, length, not, map, slice_get, is_some, nat_lt, IfErr, IfOk, OnOk, OnErr, option_map};
 ghost use Rattle.std.specs.List.{list_any};
 ghost use Rattle.std.specs.Str.{chars};
-ghost use Rattle.lsp_docs.specs.declared.fault.DocFault.TheVariants.{Rule};
 ghost use Rattle.lsp_docs.specs.Texts.{byte_len};
 ghost use Rattle.lsp_docs.specs.Terms.{terms_of, kept_of as kept_by};
 ghost use Rattle.lsp_docs.specs.Calls.{Call, opens, changes as changes_by, closes, saves, shows};
@@ -13,7 +12,7 @@ ghost use Rattle.lsp_docs.specs.Opened.{or_nothing};
 ghost use Rattle.lsp_docs.specs.Snapshots.{waiting, unmatched, versions_of};
 ghost use Rattle.lsp_docs.specs.Others.{FindsOther, other_than};
 ghost use Rattle.lsp_docs.specs.Rules.{differs, show_rule, text_rule, call_rule};
-ghost use Rattle.lsp_docs.specs.State.{capped, held_in, kept_in, queue_of, set_in, changed_at, early_rule, IsChanged, with_held, Stands};
+ghost use Rattle.lsp_docs.specs.State.{capped, held_in, kept_in, queue_of, set_in, changed_at, early_rule, IsChanged, with_held, rule_at, Stands};
 ghost use Rattle.lsp_docs.specs.Fault.{Names, IsRule, Breaks};
 ghost use Rattle.lsp_text.specs.Changes.{edits_of, edit_of};
 ghost use Rattle.lsp_docs.specs.Answer.{answer_of};
@@ -186,7 +185,8 @@ impl<S: TextStore> Docs<S> {
     /// Opens a document (LSP 3.17, "DidOpenTextDocument Notification").
     ///
     /// Refused by 601 where the URI is open, 607 where the text has more bytes of UTF-8 than the limit, 702 where a snapshot
-    /// that waits for this version has another text; by the least of them.
+    /// that waits for this version has another text; by the least of them. Memory is asked for only where none of them
+    /// applies.
     pub fn did_open(&mut self, uri: &str, version: i32, text: &str) -> Result<(), DocFault>
         ensures stands { OnOk result ((calls : List Call) → Stands self.old calls
             → Stands self.new (calls ++ opens uri.now version (chars text.now) ∷ [])) }
@@ -195,12 +195,14 @@ impl<S: TextStore> Docs<S> {
         ensures terms { self.new.terms ≡ self.old.terms }
         ensures rule { IfErr result (λ fault. (calls : List Call) → Stands self.old calls
             → Names (call_rule self.old.terms calls (opens uri.now version (chars text.now))) fault) }
+        ensures memory { result ≡ Err DocFault.Memory → ((calls : List Call) → Stands self.old calls
+            → call_rule self.old.terms calls (opens uri.now version (chars text.now)) ≡ None) }
         ensures err { OnErr result (self.new ≡ self.old) }
     {
-        let store = self.new_store(uri, text)?;
-        if self.refutes(uri, version, &store) {
-            return Err(DocFault::Rule(SNAPSHOT_DIFFERS));
+        if let Some(rule) = self.open_rule(uri, version, text) {
+            return Err(DocFault::Rule(rule));
         }
+        let store = S::from_text(self.documents.alloc(), text)?;
         self.documents.insert(uri, version, store)?;
         self.waiting.reach(uri, version);
         Ok(())
@@ -212,7 +214,7 @@ impl<S: TextStore> Docs<S> {
     /// Refused by 602 where the URI is not open, 603 where the version is not greater than the held one, 604 where the kind
     /// allows no changes, or none with a span and one has it; then by the first change that fails: 605 a position inside a
     /// character, 606 a reversed span, 607 a text over the limit; then by 702 where a snapshot that waits for this version
-    /// has another text.
+    /// has another text. Memory is asked for only where 602 to 604 don't apply.
     pub fn did_change(
         &mut self,
         encoding: Encoding,
@@ -228,6 +230,8 @@ impl<S: TextStore> Docs<S> {
         ensures terms { self.new.terms ≡ self.old.terms }
         ensures rule { IfErr result (λ fault. (calls : List Call) → Stands self.old calls
             → Names (call_rule self.old.terms calls (changes_by encoding kind uri.now version (edits_of changes.now))) fault) }
+        ensures memory { result ≡ Err DocFault.Memory → ((calls : List Call) → Stands self.old calls
+            → early_rule kind version (edits_of changes.now) (held self.old.terms uri.now calls) ≡ None) }
         ensures err { OnErr result (self.new ≡ self.old) }
     {
         if let Some(rule) = self.change_rule(kind, uri, version, changes) {
@@ -288,7 +292,7 @@ impl<S: TextStore> Docs<S> {
     /// to come. One whose version lies between kept ones is missed.
     ///
     /// Refused by 701 where its version is below the held one and each kept one, and by 702 where its version is held or
-    /// kept with another text.
+    /// kept with another text. Memory is asked for only where it has to wait.
     pub fn snapshot(&mut self, uri: &str, version: i32, text: &str) -> Result<Match, DocFault>
         ensures stands { OnOk result ((calls : List Call) → Stands self.old calls
             → Stands self.new (calls ++ shows uri.now version (chars text.now) ∷ [])) }
@@ -299,6 +303,11 @@ impl<S: TextStore> Docs<S> {
         ensures terms { self.new.terms ≡ self.old.terms }
         ensures rule { IfErr result (λ fault. (calls : List Call) → Stands self.old calls
             → Names (call_rule self.old.terms calls (shows uri.now version (chars text.now))) fault) }
+        ensures memory { result ≡ Err DocFault.Memory → ((calls : List Call) → Stands self.old calls
+            → call_rule self.old.terms calls (shows uri.now version (chars text.now)) ≡ None) }
+        ensures memory_waits { result ≡ Err DocFault.Memory → ((calls : List Call) → Stands self.old calls
+            → answer_of version (kept self.old.terms uri.now calls) (held self.old.terms uri.now calls)
+            ≡ Match.Waits) }
         ensures err { OnErr result (self.new ≡ self.old) }
     {
         match self.judge(uri, version, text)? {
@@ -319,6 +328,7 @@ impl<S: TextStore> Docs<S> {
         ensures answer { IfOk result (λ answer. answer ≡ answer_of version (kept_in uri.now self.now.kept) (held_in uri.now self.now.documents)) }
         ensures allowed { OnOk result (show_rule version (chars text.now) (kept_in uri.now self.now.kept) (held_in uri.now self.now.documents) ≡ None) }
         ensures rule { IfErr result (Names (show_rule version (chars text.now) (kept_in uri.now self.now.kept) (held_in uri.now self.now.documents))) }
+        ensures rule_only { IfErr result IsRule }
     {
         match self.get(uri) {
             Some(document) => document.judge(version, text),
@@ -333,22 +343,26 @@ impl<S: TextStore> Docs<S> {
         self.documents.get(uri)
     }
 
-    /// A store of a text that a document may open with.
-    fn new_store(&self, uri: &str, text: &str) -> Result<S, DocFault>
-        ensures store { IfOk result (λ store. S.content store ≡ chars text.now) }
-        ensures new { OnOk result (held_in uri.now self.now.documents ≡ None) }
-        ensures fits { OnOk result (nat_lt self.now.terms.limit (byte_len (chars text.now)) ≡ false) }
-        ensures rule { IfErr result (Names (if is_some (held_in uri.now self.now.documents) then Some 601
-            else (if nat_lt self.now.terms.limit (byte_len (chars text.now)) then Some 607 else None))) }
+    /// The rule that an opening breaks.
+    fn open_rule(&self, uri: &str, version: i32, text: &str) -> Option<u16>
+        ensures { result ≡ rule_at self.now (opens uri.now version (chars text.now)) }
     {
         if self.get(uri).is_some() {
-            return Err(DocFault::Rule(ALREADY_OPEN));
+            Some(ALREADY_OPEN)
+        } else if is_over(self.limit, text) {
+            Some(OVER_LIMIT)
+        } else if self.contradicts(uri, version, text) {
+            Some(SNAPSHOT_DIFFERS)
+        } else {
+            None
         }
-        let store = S::from_text(self.documents.alloc(), text)?;
-        if self.limit < store.byte_len() {
-            return Err(DocFault::Rule(OVER_LIMIT));
-        }
-        Ok(store)
+    }
+
+    /// Whether a snapshot that waits for this version has another text than this one.
+    fn contradicts(&self, uri: &str, version: i32, text: &str) -> bool
+        ensures { result ≡ list_any (differs (versioned version (chars text.now))) (queue_of uri.now self.now.waits.queues) }
+    {
+        self.waiting.other(uri, version, text).is_some()
     }
 
     /// Whether a snapshot that waits for this version has another text.
@@ -461,6 +475,13 @@ impl<S: TextStore> Docs<S> {
         change_all(&mut store, encoding, changes, self.limit)?;
         Ok(store)
     }
+}
+
+/// Whether a text has more bytes of UTF-8 than the limit.
+fn is_over(limit: u64, text: &str) -> bool
+    ensures { result ≡ nat_lt limit (byte_len (chars text.now)) }
+{
+    limit < text.len() as u64
 }
 
 /// How many versions before the present one a format keeps.

@@ -6,7 +6,7 @@ ghost use Rattle.lsp_docs.specs.Documents.{versioned};
 ghost use Rattle.lsp_docs.specs.Kept.{last_of};
 ghost use Rattle.lsp_docs.specs.Rules.{show_rule};
 ghost use Rattle.lsp_docs.specs.Answer.{answer_of};
-ghost use Rattle.lsp_docs.specs.Fault.{Names};
+ghost use Rattle.lsp_docs.specs.Fault.{IsRule, Names};
 ghost use Rattle.lsp_docs.specs.Others.{other_than};
 
 use crate::fault::{DocFault, LATE_SNAPSHOT, SNAPSHOT_DIFFERS};
@@ -57,6 +57,7 @@ impl<S: TextStore> Document<S> {
         ensures answer { IfOk result (λ answer. answer ≡ answer_of version self.now.kept (Some (versioned self.now.held.version (S.content self.now.held.store)))) }
         ensures allowed { OnOk result (show_rule version (chars text.now) self.now.kept (Some (versioned self.now.held.version (S.content self.now.held.store))) ≡ None) }
         ensures rule { IfErr result (Names (show_rule version (chars text.now) self.now.kept (Some (versioned self.now.held.version (S.content self.now.held.store))))) }
+        ensures rule_only { IfErr result IsRule }
     {
         match self.rule(version, text) {
             Some(rule) => Err(DocFault::Rule(rule)),

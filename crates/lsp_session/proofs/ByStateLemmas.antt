@@ -1,15 +1,17 @@
 -- What a session finds by what it keeps is what the list of messages says.
-use Rattle.std.proofs.Common.{◌≡◌, ℕ, List, ◌∷◌, [], Bool, true, false, not, ◌&&◌, ◌||◌, Option, Some, None, is_some, refl}
-use Rattle.lsp_rpc.specs.Act.{Act}
+use Rattle.std.proofs.Common.{◌≡◌, ℕ, List, ◌∷◌, [], Bool, true, false, not, ◌&&◌, ◌||◌, Option, Some, None, is_some, if◌then◌else◌, refl}
+use Rattle.std.specs.Option.{option_or}
+use Rattle.lsp_rpc.specs.Act.{Act, Offer, Picked}
 use Rattle.lsp_rpc.specs.Message.{Message}
+use Rattle.lsp_rpc.specs.Results.{picked_at}
 use Rattle.lsp_types.specs.declared.side.Side.{Side}
 use Rattle.lsp_types.specs.declared.side.Side.TheVariants.{Editor, Server}
 use Rattle.lsp_session.specs.ByState as by_state
-use Rattle.lsp_session.specs.Handshake.{Settled, first_settled, is_done, is_empty, open_initializes, was_sent}
+use Rattle.lsp_session.specs.Handshake.{Settled, first_settled, is_done, is_empty, open_initializes, settled_by, was_sent}
 use Rattle.lsp_session.specs.Lifecycle.{is_early, lifecycle_rule, reports_on}
-use Rattle.lsp_session.specs.Negotiation.{first_row}
+use Rattle.lsp_session.specs.Negotiation.{first_row, pick_rule, register_rule, settled_rule, shape_rule}
 use Rattle.lsp_session.specs.Requests.{open_requests, request_rule}
-use Rattle.lsp_session.specs.Rules.{rule_after}
+use Rattle.lsp_session.specs.Rules.{early_rule, rule_after}
 use Rattle.lsp_session.specs.Sent.{Sent, is_exit, is_initialize, is_initialized, is_response, is_shutdown, other_side}
 use Rattle.lsp_session.specs.State.{agreed_in, state_of}
 
@@ -112,3 +114,23 @@ lifecycle_rule-state_of before Server message act =
 -- the rules by the state are the rules by the list
 pub rule_by-state_of : (before : List Sent) (m : Sent) → by_state.rule_by (state_of before) m ≡ rule_after before m
 rule_by-state_of before m = rw (request_rule-state_of before m, lifecycle_rule-state_of before m.side m.message m.act) refl
+
+-- ---- what is decided before a session grows
+
+abbrev shape_at : Option Picked → Option ℕ
+shape_at picked = if is_some picked then None else Some 501
+
+early-parts : (ids lifecycle : Option ℕ) (settled : Option Settled) (register : Option ℕ) → option_or ids (option_or lifecycle (option_or (settled_rule settled) register)) ≡ None
+    → option_or ids (option_or lifecycle (shape_rule settled register)) ≡ None
+early-parts (Some n) lifecycle settled register none = none
+early-parts None (Some n) settled register none = none
+early-parts None None None register none = none
+early-parts None None (Some s) register none = shaped s.offer (picked_at s.value) register none
+  where
+    shaped : (offer : Offer) (picked : Option Picked) (other : Option ℕ) → option_or (pick_rule offer picked) other ≡ None → shape_at picked ≡ None
+    shaped offer None other none = none
+    shaped offer (Some picked) other none = refl
+
+-- a message that breaks no rule breaks none of the early ones
+pub early-none : (before : List Sent) (m : Sent) → rule_after before m ≡ None → early_rule before m ≡ None
+early-none before m none = early-parts (request_rule before m) (lifecycle_rule before m) (settled_by before m) (register_rule m.side m.act) none

@@ -89,3 +89,12 @@ register_rule Server act = if registers_synchronisation act then Some 504 else N
 -- the rule of the negotiation that the message breaks
 abbrev pub negotiation_rule : List Sent → Sent → Option ℕ
 negotiation_rule before m = option_or (settled_rule (settled_by before m)) (register_rule m.side m.act)
+
+-- 501 of a result that answers an `initialize`, and the rule given of any other message
+abbrev pub shape_rule : Option Settled → Option ℕ → Option ℕ
+shape_rule None other = other
+shape_rule (Some settled) other = if is_some (picked_at settled.value) then None else Some 501
+
+-- the same, without 502 and 503, for which the name of the encoding is copied
+abbrev pub early_negotiation_rule : List Sent → Sent → Option ℕ
+early_negotiation_rule before m = shape_rule (settled_by before m) (register_rule m.side m.act)

@@ -1,5 +1,5 @@
 //! What the two sides agree on.
-ghost use Rattle.std.specs.Prelude.{◌≡◌, Some, None, IfOk, IfErr, OnOk, codes, option_map};
+ghost use Rattle.std.specs.Prelude.{◌≡◌, Some, None, is_some, true, IfOk, IfErr, OnOk, codes, option_map};
 ghost use Rattle.std.specs.List.{list_any};
 ghost use Rattle.std.specs.Str.{bytes_eq};
 ghost use Rattle.serde_json.specs.View.{view};
@@ -73,13 +73,14 @@ fn check_picked(offer: &Offer, picked: &Picked) -> Result<Agreed, Refusal>
     }
 }
 
-/// What a result agrees on that answers this offer.
+/// What a result agrees on that answers this offer. Memory is taken only where it has the shape.
 pub(crate) fn agree(alloc: Global, offer: &Offer, value: &Value) -> Result<Agreed, Refusal>
     ensures ok { IfOk result (λ agreed. spec.agreed_at (view value.now) ≡ Some agreed) }
     ensures allowed { OnOk result
         (spec.pick_rule (offer_view offer.now) (picked_at (view value.now)) ≡ None) }
     ensures rule { IfErr result
         (Names (spec.pick_rule (offer_view offer.now) (picked_at (view value.now)))) }
+    ensures memory { result ≡ Err Refusal.Memory → is_some (picked_at (view value.now)) ≡ true }
 {
     match picked_of(alloc, value) {
         Ok(picked) => check_picked(offer, &picked),

@@ -88,12 +88,14 @@ impl Pending {
         self.requests.contains_key(id)
     }
 
-    /// Adds a request at the end. Rule 302: one with this id is open. A refusal changes nothing.
+    /// Adds a request at the end. Rule 302: one with this id is open. A refusal changes nothing, and
+    /// memory is asked for only where no request has the id.
     pub fn ask(&mut self, id: &Id, method: &str) -> Result<(), Refusal>
         ensures added { OnOk result
             (self.new ≡ self.old ++ new_entry (id_view id.now) method.now ∷ []) }
         ensures allowed { OnOk result (ask_rule (id_view id.now) self.old ≡ None) }
         ensures rule { IfErr result (Names (ask_rule (id_view id.now) self.old)) }
+        ensures memory { result ≡ Err Refusal.Memory → ask_rule (id_view id.now) self.old ≡ None }
         ensures unchanged { OnErr result (self.new ≡ self.old) }
     {
         if self.contains(id) {

@@ -1,5 +1,5 @@
 //! The messages of two sides, judged one after another (LSP 3.17, "Server lifecycle").
-ghost use Rattle.std.specs.Prelude.{◌≡◌, Some, true, false, ◌++◌, ◌∷◌, [], List, None, IfErr, IfOk, OnOk, OnErr, not, option_map};
+ghost use Rattle.std.specs.Prelude.{◌≡◌, ℕ, Some, true, false, ◌++◌, ◌∷◌, [], List, None, IfErr, IfOk, OnOk, OnErr, not, option_map, Option};
 ghost use Rattle.lsp_rpc.specs.Ident.{id_view};
 ghost use Rattle.lsp_rpc.specs.View.{act_view, message_view};
 ghost use Rattle.lsp_session.specs.ByState as by_state;
@@ -7,9 +7,10 @@ ghost use Rattle.lsp_session.specs.Entry.{has_id, new_entry};
 ghost use Rattle.lsp_session.specs.Handshake as handshake;
 ghost use Rattle.lsp_session.specs.Incomplete as complete;
 ghost use Rattle.lsp_session.specs.Negotiation as negotiation;
+ghost use Rattle.lsp_session.specs.Negotiation.{shape_rule};
 ghost use Rattle.lsp_session.specs.Refusal.{Names};
 ghost use Rattle.lsp_session.specs.Requests.{open_requests};
-ghost use Rattle.lsp_session.specs.Rules.{rule_after};
+ghost use Rattle.lsp_session.specs.Rules.{early_rule, rule_after};
 ghost use Rattle.lsp_session.specs.Sent.{Sent, other_side};
 ghost use Rattle.lsp_session.specs.Sent as message_spec;
 ghost use Rattle.lsp_session.specs.State.{Stands, after_answer, next, next_open};
@@ -77,7 +78,8 @@ impl Session {
     /// Admits a message that breaks no rule, and else names the least rule that it breaks: 301 and
     /// 302 on ids, 401 to 412 on who may send what, 501 to 504 on what is agreed (LSP 3.17, "Base
     /// Protocol" and "Server lifecycle"). A refusal changes nothing. The act is what the message
-    /// means on its side.
+    /// means on its side. Memory is asked for only where the message breaks no rule but, maybe, 502 or
+    /// 503.
     pub fn admit(&mut self, side: Side, message: &Message, act: &Act) -> Result<(), Refusal>
         ensures admitted { OnOk result ((before : List Sent) → Stands self.old before
             → Stands self.new (before ++ sent side message.now act.now ∷ [])) }
@@ -85,6 +87,8 @@ impl Session {
             → rule_after before (sent side message.now act.now) ≡ None) }
         ensures rule { IfErr result (λ refusal. (before : List Sent) → Stands self.old before
             → Names (rule_after before (sent side message.now act.now)) refusal) }
+        ensures memory { result ≡ Err Refusal.Memory → ((before : List Sent) → Stands self.old before
+            → early_rule before (sent side message.now act.now) ≡ None) }
         ensures unchanged { OnErr result (self.new ≡ self.old) }
     {
         if let Some(rule) = self.request_rule(side, message) {
@@ -317,6 +321,9 @@ impl Session {
             (by_state.result_rule self.now side (message_view message.now) ≡ None) }
         ensures rule { IfErr result
             (Names (by_state.result_rule self.now side (message_view message.now))) }
+        ensures memory { result ≡ Err Refusal.Memory → ((other : Option ℕ) → shape_rule
+            (handshake.settled_among self.now.initializes side (message_view message.now)) other
+            ≡ None) }
     {
         match self.settled_by(side, message) {
             Some((offer, value)) => Ok(Some(agree(self.alloc, offer, value)?)),

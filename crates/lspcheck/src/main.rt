@@ -1,10 +1,10 @@
 //! `lspcheck` judges what passed between an editor and a language server.
 //!
-//! `lspcheck check` reads the log of a recorded session and reports the verdict on it, and `lspcheck
-//! show` lists its events too. `lspcheck text` writes the text of a document as it was at some
-//! message, `lspcheck normal` the log's normal form. `lspcheck frames` reads one raw stream, one
-//! direction of such a session, and writes a line for each of its frames or their canonical form, or
-//! names the first fault.
+//! `lspcheck check` reads the log of a recorded session and reports the verdict on it. `explain`
+//! adds the details of the event that breaks a rule, and `show` lists the events before it. `text`
+//! writes the text of a document after a message, and `event` the content of one event. `normal`
+//! writes the log in its normal form, and `upgrade` writes it in format 2. `frames` reads one raw
+//! stream, one direction of such a session, and lists its frames, or writes them in canonical form.
 //!
 //! What the words ask for, how it is done and what its end means stand in `lsp_command`; here the
 //! words, the input and the two outputs come from the system.

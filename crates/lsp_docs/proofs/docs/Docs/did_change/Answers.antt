@@ -1,12 +1,12 @@
-use Rattle.std.proofs.Common.{◌∙◌, sym, subst, List, ◌++◌, ◌∷◌, [], w32, rules}
+use Rattle.std.proofs.Common.{ap, ◌∙◌, sym, subst, List, ◌++◌, ◌∷◌, [], w32, rules}
 use Rattle.std.proofs.lemmas.Int.{to_z-of_z}
 use mir.Val.{SFits}
 use Rattle.lsp_docs.specs.Calls.{Call, changes}
 use Rattle.lsp_docs.specs.Rules.{call_rule}
-use Rattle.lsp_docs.specs.State.{Stands, held_in, queue_of, reached}
+use Rattle.lsp_docs.specs.State.{Stands, early_rule, held_in, queue_of, reached}
 use Rattle.lsp_text.specs.Changes.{edits_of}
 use Rattle.lsp_docs.specs.Fault.{Names}
-use Rattle.lsp_docs.proofs.Stepping.{Stands-changed, names-stands, rule-stands, early-rule, late-rule, stated, terms_in}
+use Rattle.lsp_docs.proofs.Stepping.{Stands-changed, held-stands, names-stands, rule-stands, early-rule, late-rule, stated, terms_in}
 use Rattle.lsp_docs.proofs.docs.Docs.did_change.Goals as goal
 
 pub returns-in-Some-clause-rule : goal.returns-in-Some-clause-rule
@@ -59,3 +59,9 @@ returns-clause-stands g c = λ calls h.
     subst (λ w. Stands (stated (terms_in c.self.inside.limit c.self.inside.kept) c.self.inside.documents.held c.self.inside.documents.kept w) (calls ++ call ∷ [])) (sym re)
     (subst (λ x. Stands (stated x.terms x.documents x.kept (reached uri n x.waits)) (calls ++ call ∷ [])) (sym (c.self.view_is ∙ ok.is))
     (Stands-changed s calls c.args.encoding c.args.kind uri n cs ok.text ok.kept accepted ok.made ok.keeps h))
+
+pub returns-in_err-set_text-clause-memory : goal.returns-in_err-set_text-clause-memory
+returns-in_err-set_text-clause-memory g c = λ refused calls h.
+    let fits : SFits w32 c.args.version = c.ranges.version in
+    let asked = simp to_z-of_z at c.change_rule.ensures in
+    ap (early_rule c.args.kind c.args.version (edits_of c.args.changes.now)) (sym (held-stands c.args.self.now calls c.args.uri.now h)) ∙ (sym asked ∙ c.in_default.is)

@@ -1,48 +1,36 @@
-use Rattle.std.proofs.Common.{ap, ◌∙◌, sym, subst, List, ◌++◌, ◌∷◌, [], w32, rules}
+use Rattle.std.proofs.Common.{◌∙◌, sym, subst, ◌++◌, ◌∷◌, [], w32}
 use Rattle.std.specs.Str.{chars}
-use Rattle.std.specs.List.{list_any}
 use Rattle.std.proofs.lemmas.Int.{to_z-of_z}
 use mir.Val.{SFits}
-use Rattle.lsp_docs.specs.Calls.{Call, opens}
+use Rattle.lsp_docs.specs.Calls.{opens}
 use Rattle.lsp_docs.specs.Documents.{versioned}
-use Rattle.lsp_docs.specs.Rules.{differs, call_rule}
-use Rattle.lsp_docs.specs.State.{Stands, KeepsSame, held_in, kept_in, queue_of, reached}
-use Rattle.lsp_docs.specs.Fault.{Names}
-use Rattle.lsp_docs.proofs.Stepping.{Stands-opened, names-stands, open-early, open-late, rule-stands, stated, version-refuted, version-agrees, terms_in}
+use Rattle.lsp_docs.specs.State.{Stands, KeepsSame, reached}
+use Rattle.lsp_docs.proofs.Stepping.{Stands-opened, rule-stands, stated, terms_in}
 use Rattle.lsp_docs.proofs.docs.Docs.did_open.Goals as goal
 
-pub returns-in_err-store-clause-rule : goal.returns-in_err-store-clause-rule
-returns-in_err-store-clause-rule g c =
-    let s = c.args.self.now in
-    let uri = c.args.uri.now in
-    let named : (calls : List Call) → Stands s calls → Names (call_rule s.terms calls (opens uri c.args.version (chars c.args.text.now))) c.in_err-store.field-0.0 =
-    λ calls h. names-stands s calls (opens uri c.args.version (chars c.args.text.now)) _ h
-    (open-early s.terms (held_in uri s.documents) (kept_in uri s.kept) (queue_of uri s.waits.queues) uri c.args.version (chars c.args.text.now) _ c.in_err-store.ensures.rule) in
-    search rules
-
-pub returns-then-refutes-clause-rule : goal.returns-then-refutes-clause-rule
-returns-then-refutes-clause-rule g c = λ calls h.
+pub returns-in-Some-clause-rule : goal.returns-in-Some-clause-rule
+returns-in-Some-clause-rule g c = λ calls h.
     let fits : SFits w32 c.args.version = c.ranges.version in
-    let s = c.args.self.now in
-    let uri = c.args.uri.now in
-    let tested = simp to_z-of_z at c.refutes.ensures in
-    let other = ap (λ x. list_any (differs (versioned c.args.version x)) (queue_of uri s.waits.queues)) (sym c.in_ok-store.ensures.store) ∙ (sym tested ∙ c.if-refutes.true) in
-    sym (rule-stands s calls (opens uri c.args.version (chars c.args.text.now)) h)
-    ∙ (open-late s.terms (held_in uri s.documents) (kept_in uri s.kept) (queue_of uri s.waits.queues) uri c.args.version (chars c.args.text.now) c.in_ok-store.ensures.new c.in_ok-store.ensures.fits
-    ∙ version-refuted (queue_of uri s.waits.queues) (versioned c.args.version (chars c.args.text.now)) other)
+    let asked = simp to_z-of_z at c.open_rule.ensures in
+    sym (rule-stands c.args.self.now calls (opens c.args.uri.now c.args.version (chars c.args.text.now)) h) ∙ (sym asked ∙ c.in-Some.is)
+
+pub returns-in_err-store-clause-memory : goal.returns-in_err-store-clause-memory
+returns-in_err-store-clause-memory g c = λ refused calls h.
+    let fits : SFits w32 c.args.version = c.ranges.version in
+    let asked = simp to_z-of_z at c.open_rule.ensures in
+    sym (rule-stands c.args.self.now calls (opens c.args.uri.now c.args.version (chars c.args.text.now)) h) ∙ (sym asked ∙ c.in_default.is)
+
+pub returns-in_err-insert-clause-memory : goal.returns-in_err-insert-clause-memory
+returns-in_err-insert-clause-memory g c = λ refused calls h.
+    let fits : SFits w32 c.args.version = c.ranges.version in
+    let asked = simp to_z-of_z at c.open_rule.ensures in
+    sym (rule-stands c.args.self.now calls (opens c.args.uri.now c.args.version (chars c.args.text.now)) h) ∙ (sym asked ∙ c.in_default.is)
 
 pub returns-clause-accepted : goal.returns-clause-accepted
 returns-clause-accepted g c = λ calls h.
     let fits : SFits w32 c.args.version = c.ranges.version in
-    let s = c.args.self.now in
-    let uri = c.args.uri.now in
-    let t = chars c.args.text.now in
-    let n = c.args.version in
-    let tested = simp to_z-of_z at c.refutes.ensures in
-    let quiet = ap (λ x. list_any (differs (versioned n x)) (queue_of uri s.waits.queues)) (sym c.in_ok-store.ensures.store) ∙ (sym tested ∙ c.if-refutes.false) in
-    sym (rule-stands s calls (opens uri n t) h)
-    ∙ (open-late s.terms (held_in uri s.documents) (kept_in uri s.kept) (queue_of uri s.waits.queues) uri n t c.in_ok-store.ensures.new c.in_ok-store.ensures.fits
-    ∙ version-agrees (queue_of uri s.waits.queues) (versioned n t) quiet)
+    let asked = simp to_z-of_z at c.open_rule.ensures in
+    sym (rule-stands c.args.self.now calls (opens c.args.uri.now c.args.version (chars c.args.text.now)) h) ∙ (sym asked ∙ c.in_default.is)
 
 pub returns-clause-stands : goal.returns-clause-stands
 returns-clause-stands g c = λ calls h.
@@ -60,5 +48,5 @@ returns-clause-stands g c = λ calls h.
     subst (λ w. Stands (stated (terms_in c.self.inside.limit c.self.inside.kept) c.insert.new.self.held c.insert.new.self.kept w) (calls ++ call ∷ [])) (sym re)
     (subst (λ l. Stands (stated (terms_in c.self.inside.limit c.self.inside.kept) l c.insert.new.self.kept (reached uri n c.self.inside.waiting)) (calls ++ call ∷ [])) (sym ins)
     (subst (λ x. Stands (stated x.terms (x.documents ++ record { uri = uri; version = versioned n content } ∷ []) c.insert.new.self.kept (reached uri n x.waits)) (calls ++ call ∷ [])) (sym c.self.view_is)
-    (subst (λ x. Stands (stated s.terms (s.documents ++ record { uri = uri; version = versioned n x } ∷ []) c.insert.new.self.kept (reached uri n s.waits)) (calls ++ call ∷ [])) (sym c.in_ok-store.ensures.store)
+    (subst (λ x. Stands (stated s.terms (s.documents ++ record { uri = uri; version = versioned n x } ∷ []) c.insert.new.self.kept (reached uri n s.waits)) (calls ++ call ∷ [])) (sym c.in_ok-store.ensures)
     (Stands-opened s calls uri n t c.insert.new.self.kept accepted same h))))

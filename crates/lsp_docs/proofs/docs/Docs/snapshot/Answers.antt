@@ -96,3 +96,15 @@ returns-in-Missed-clause-answer g c = λ calls h.
     let fits : SFits w32 c.args.version = c.ranges.version in
     let answer = simp to_z-of_z at c.in_ok-judge.ensures.answer in
     sym c.in-Missed.is ∙ (answer ∙ answer-stands c.args.self.now calls c.args.uri.now c.args.version h)
+
+pub returns-in_err-add-in-Waits-clause-memory : goal.returns-in_err-add-in-Waits-clause-memory
+returns-in_err-add-in-Waits-clause-memory g c = λ refused calls h.
+    let fits : SFits w32 c.args.version = c.ranges.version in
+    let allowed = simp to_z-of_z at c.in_ok-judge.ensures.allowed in
+    sym (rule-stands c.args.self.now calls (shows c.args.uri.now c.args.version (chars c.args.text.now)) h) ∙ allowed
+
+pub returns-in_err-add-in-Waits-clause-memory_waits : goal.returns-in_err-add-in-Waits-clause-memory_waits
+returns-in_err-add-in-Waits-clause-memory_waits g c = λ refused calls h.
+    let fits : SFits w32 c.args.version = c.ranges.version in
+    let answer = simp to_z-of_z at c.in_ok-judge.ensures.answer in
+    sym (answer-stands c.args.self.now calls c.args.uri.now c.args.version h) ∙ (sym answer ∙ c.in-Waits.is)

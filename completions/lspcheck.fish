@@ -1,0 +1,33 @@
+# Completion of lspcheck's command line for fish.
+# Copy this file as ~/.config/fish/completions/lspcheck.fish.
+
+function __lspcheck_command -d 'Whether the command is one of these'
+    set -l words (commandline -opc)
+    contains -- "$words[2]" $argv
+end
+
+function __lspcheck_option -d 'Whether an option of these commands is not given yet'
+    __lspcheck_command $argv[2..-1]; and not contains -- --$argv[1] (commandline -opc)
+end
+
+set -l first 'test (count (commandline -opc)) -eq 1'
+complete -c lspcheck -n $first -f
+complete -c lspcheck -n $first -a check -d 'Judge a recorded session'
+complete -c lspcheck -n $first -a explain -d 'Judge a session, and explain what is wrong'
+complete -c lspcheck -n $first -a show -d 'List the events of a session'
+complete -c lspcheck -n $first -a text -d 'Write the text of a document after a message'
+complete -c lspcheck -n $first -a event -d 'Write the content of one event'
+complete -c lspcheck -n $first -a normal -d 'Write the normal form of a log'
+complete -c lspcheck -n $first -a upgrade -d 'Write a log again in format 2'
+complete -c lspcheck -n $first -a frames -d 'Read one raw stream of frames'
+complete -c lspcheck -n $first -a help -d 'Print help'
+complete -c lspcheck -n $first -s V -l version -d 'Print the version'
+complete -c lspcheck -n 'not __lspcheck_command help' -s h -l help -d 'Print help'
+
+complete -c lspcheck -n '__lspcheck_command help' -f -a 'check explain show text event normal upgrade frames help'
+complete -c lspcheck -n '__lspcheck_option complete check explain' -l complete -d 'The session must be complete'
+complete -c lspcheck -n '__lspcheck_option all check explain' -l all -d 'All that is wrong'
+complete -c lspcheck -n '__lspcheck_option every check' -l every -d 'Also what follows from an earlier violation'
+complete -c lspcheck -n '__lspcheck_option long show' -l long -d 'Longer lines'
+set -l as '__lspcheck_option as frames; or test (commandline -opc)[-1] = --as'
+complete -c lspcheck -n $as -l as -x -a 'lengths canonical kinds' -d 'What to write for each frame'
