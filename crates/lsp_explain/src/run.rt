@@ -24,7 +24,9 @@ use lsp_facts::{flaw_facts, push_facts};
 use lsp_frame::{Limits, Sink, Source, put_all};
 use lsp_rpc::{Memory, Side};
 use lsp_survey::{End, Found, Heard, Next, Offending, SurveyReader};
-use lsp_verdict::{Completeness, Offence, Outcome, RunFault, Summary, Verdict, Who, verdict_report};
+use lsp_verdict::{
+    Completeness, Offence, Outcome, RunFault, Summary, Verdict, Who, verdict_report,
+};
 use std::alloc::Global;
 
 /// Reads a log and writes the report of the verdict on it, and behind a No what is wrong: the
