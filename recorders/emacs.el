@@ -9,14 +9,35 @@
 (defvar lspcheck-folder (or (getenv "LSPCHECK_LOGS") default-directory)
   "Where the logs are written.")
 
+(defvar lspcheck-alarm (not (member (getenv "LSPCHECK_ALARM") '(nil "")))
+  "Whether `lspcheck explain' reads each log while it is written.
+Where a rule is broken or the texts drift apart, a message and a window tell it at once.")
+
 (defconst lspcheck-most 1048576 "The most bytes of one record.")
 
 (defun lspcheck--bytes (string)
   "STRING as the bytes that a server's pipe has for it."
   (if (multibyte-string-p string) (encode-coding-string string 'utf-8-emacs-unix) string))
 
+(defun lspcheck--tell (alarm _event)
+  "Show what ALARM, a process of lspcheck, explained, where that is a violation."
+  (unless (process-live-p alarm)
+    (with-current-buffer (process-buffer alarm)
+      (goto-char (point-min))
+      (if (not (looking-at "no .*"))
+          (kill-buffer)
+        (display-buffer (current-buffer))
+        (message "lspcheck: %s" (match-string 0))))))
+
+(defun lspcheck--start-alarm (name)
+  "Start lspcheck on the log of that NAME, which is yet to be written, where the user wants that."
+  (when (and lspcheck-alarm (executable-find "lspcheck"))
+    (make-process :name "lspcheck" :command '("lspcheck" "explain" "-") :connection-type 'pipe
+                  :buffer (generate-new-buffer (format "*lspcheck: %s*" name))
+                  :coding '(utf-8-unix . binary) :noquery t :sentinel #'lspcheck--tell)))
+
 (defun lspcheck--write (process &rest parts)
-  "Write PARTS, which are bytes, behind the log of PROCESS."
+  "Append PARTS, which are bytes, to the log of PROCESS."
   (let ((file (process-get process 'lspcheck-log)) (coding-system-for-write 'binary)
         (head "") (write-region-inhibit-fsync t))
     (unless file
@@ -26,8 +47,12 @@
                           (process-id process))
                   lspcheck-folder)
             head "lsp-session 1\n")
-      (process-put process 'lspcheck-log file))
-    (write-region (apply #'concat head parts) nil file t 'quiet)))
+      (process-put process 'lspcheck-log file)
+      (process-put process 'lspcheck-alarm (lspcheck--start-alarm (file-name-nondirectory file))))
+    (let ((bytes (apply #'concat head parts)) (alarm (process-get process 'lspcheck-alarm)))
+      (write-region bytes nil file t 'quiet)
+      (when (process-live-p alarm)
+        (ignore-errors (process-send-string alarm bytes))))))
 
 (defun lspcheck--record (process side string)
   "Record that STRING passed between Emacs and PROCESS: SIDE \"E\" wrote it, or \"S\"."

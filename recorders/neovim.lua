@@ -1,6 +1,7 @@
 -- Records what Neovim's built-in client and its language servers say to each other, as logs for lspcheck.
 -- Start Neovim with: nvim --cmd 'luafile neovim.lua' FILE (or dofile it at the top of init.lua).
 -- Each server process gets a log of its own, NAME-PID-NUMBER.log, in $LSPCHECK_LOGS or the working folder.
+-- With LSPCHECK_ALARM=1, and lspcheck on the PATH, a message tells at once where a rule is broken or texts drift apart.
 
 local uv = vim.uv or vim.loop
 local folder = os.getenv("LSPCHECK_LOGS") or "."
@@ -9,12 +10,57 @@ local count, started = 0, nil
 local log_of_pipe = setmetatable({}, { __mode = "k" })
 local log_of_rpc = setmetatable({}, { __mode = "k" })
 
+local pipe = getmetatable(uv.new_pipe(false)).__index
+local write, read_start = pipe.write, pipe.read_start
+local start, spawn = vim.lsp.rpc.start, uv.spawn
+
+-- A message, and a buffer with the whole explanation.
+local function tell(log, explanation)
+  local buffer = vim.api.nvim_create_buf(true, true)
+  vim.api.nvim_buf_set_name(buffer, "lspcheck: " .. log.name)
+  vim.api.nvim_buf_set_lines(buffer, 0, -1, true, vim.split(explanation, "\n"))
+  local first = explanation:match("[^\n]*")
+  vim.notify(("lspcheck: %s (:buffer %d)"):format(first, buffer), vim.log.levels.ERROR)
+end
+
+-- `lspcheck explain -` reads the log while it is written, and ends at the first violation.
+local function start_alarm(log)
+  local input, output, explanation = uv.new_pipe(false), uv.new_pipe(false), ""
+  spawn("lspcheck", { args = { "explain", "-" }, stdio = { input, output } }, function() end)
+  log.alarm = input
+  read_start(output, function(_, data)
+    if data then
+      explanation = explanation .. data
+      return
+    end
+    log.alarm = nil
+    input:close()
+    output:close()
+    if explanation:match("^no ") then
+      vim.schedule(function()
+        tell(log, explanation)
+      end)
+    end
+  end)
+end
+
+local function append(log, bytes)
+  log.file:write(bytes)
+  log.file:flush()
+  if log.alarm then
+    write(log.alarm, bytes)
+  end
+end
+
 local function new_log(command)
   count = count + 1
   local name = vim.fn.fnamemodify(command, ":t"):gsub("[^%w._-]", "_")
-  local log = assert(io.open(("%s/%s-%d-%d.log"):format(folder, name, uv.os_getpid(), count), "wb"))
-  log:write("lsp-session 2\n")
-  log:flush()
+  name = ("%s-%d-%d.log"):format(name, uv.os_getpid(), count)
+  local log = { name = name, file = assert(io.open(folder .. "/" .. name, "wb")) }
+  if (os.getenv("LSPCHECK_ALARM") or "") ~= "" and vim.fn.executable("lspcheck") == 1 then
+    start_alarm(log)
+  end
+  append(log, "lsp-session 2\n")
   return log
 end
 
@@ -22,13 +68,11 @@ end
 local function record(log, side, bytes)
   for at = 1, #bytes, most do
     local piece = bytes:sub(at, at + most - 1)
-    log:write(("%s %d\n%s\n"):format(side, #piece, piece))
+    append(log, ("%s %d\n%s\n"):format(side, #piece, piece))
   end
-  log:flush()
 end
 
 -- The pipes of a language server are those of the process that `vim.lsp.rpc.start` spawns.
-local start, spawn = vim.lsp.rpc.start, uv.spawn
 vim.lsp.rpc.start = function(...)
   started = {}
   local rpc = start(...)
@@ -47,8 +91,6 @@ uv.spawn = function(command, options, ...)
   return spawn(command, options, ...)
 end
 
-local pipe = getmetatable(uv.new_pipe(false)).__index
-local write, read_start = pipe.write, pipe.read_start
 pipe.write = function(self, data, ...)
   local log = log_of_pipe[self]
   if log then
@@ -89,8 +131,7 @@ local function snapshot(buffer)
   for _, client in pairs(clients_of(buffer)) do
     local log = log_of_rpc[client.rpc]
     if log then
-      log:write(("T %d %d %d\n%s\n%s\n"):format(version, #uri, #text, uri, text))
-      log:flush()
+      append(log, ("T %d %d %d\n%s\n%s\n"):format(version, #uri, #text, uri, text))
     end
   end
 end

@@ -3,6 +3,8 @@
 " (Vim takes new bodies for ALE's functions from a file of this very name: keep it, in a folder ale.)
 " Each server process gets a log of its own, NAME-PID-NUMBER.log, in $LSPCHECK_LOGS or the working
 " folder. The snapshot of a buffer is taken as soon as ALE has sent its text.
+" With LSPCHECK_ALARM=1, and lspcheck on the PATH, a message tells at once where a rule is broken or
+" the texts drift apart.
 
 runtime autoload/ale/job.vim
 
@@ -10,10 +12,46 @@ let s:folder = empty($LSPCHECK_LOGS) ? getcwd() : $LSPCHECK_LOGS
 let s:most = 1048576
 let s:count = 0
 let s:logs = {}
+let s:alarms = {}
 let s:line_ends = {'unix': "\n", 'dos': "\r\n", 'mac': "\r"}
 
 function! s:Write(log, bytes) abort
   call writefile(split(a:bytes, "\n", 1), a:log, 'ab')
+
+  if has_key(s:alarms, a:log) && job_status(s:alarms[a:log]) is# 'run'
+    silent! call ch_sendraw(s:alarms[a:log], a:bytes)
+  endif
+endfunction
+
+" A message, and a buffer with the whole explanation, where that is a violation.
+function! s:Tell(log, lines) abort
+  if get(a:lines, 0, '') !~# '^no '
+    return
+  endif
+
+  let l:buffer = bufadd('lspcheck: ' . fnamemodify(a:log, ':t'))
+  call setbufvar(l:buffer, '&buftype', 'nofile')
+  call setbufvar(l:buffer, '&swapfile', 0)
+  call bufload(l:buffer)
+  call setbufvar(l:buffer, '&buflisted', 1)
+  call setbufline(l:buffer, 1, a:lines)
+  echohl ErrorMsg
+  echomsg 'lspcheck: ' . a:lines[0] . ' (:buffer ' . l:buffer . ')'
+  echohl None
+endfunction
+
+" `lspcheck explain -` reads the log while it is written, and ends at the first violation.
+function! s:StartAlarm(log) abort
+  if empty($LSPCHECK_ALARM) || !executable('lspcheck')
+    return
+  endif
+
+  let l:lines = []
+  let s:alarms[a:log] = job_start(['lspcheck', 'explain', '-'], {
+  \   'in_mode': 'raw',
+  \   'out_cb': {_, line -> add(l:lines, line)},
+  \   'close_cb': {_ -> s:Tell(a:log, l:lines)},
+  \})
 endfunction
 
 " What the editor wrote ('E') or read ('S').
@@ -69,6 +107,7 @@ function! ale#job#Start(command, options) abort
     call l:Read(a:job, a:message)
   endfunction
 
+  call s:StartAlarm(l:log)
   call s:Write(l:log, "lsp-session 1\n")
   let l:job_id = s:Start(a:command, l:options)
   let s:logs[l:job_id] = l:log
