@@ -1,10 +1,13 @@
 -- What an input seems to be by the bytes that it begins with.
 use Rattle.std.specs.Prelude.{ℕ, Bool, ◌||◌, List, [], ◌∷◌, ◌++◌, Option, Some, None, Result, Ok, Err, codes, nat_eq, zero, suc, if◌then◌else◌}
 use Rattle.std.specs.List.{starts_with}
+use Rattle.lsp_streams.specs.declared.event.EventOutcome.{EventOutcome}
+use Rattle.lsp_streams.specs.declared.event.EventOutcome.TheVariants as events
+use Rattle.lsp_command.specs.declared.task_outcome.TaskOutcome.{TaskOutcome}
+use Rattle.lsp_command.specs.declared.task_outcome.TaskOutcome.TheVariants as tasks
 use Rattle.lsp_verdict.specs.declared.outcome.Outcome.{Outcome}
-use Rattle.lsp_verdict.specs.declared.outcome.Outcome.TheVariants.{Done, Judged, Stream, NoDocument, TooFew, NoContent, FewerEvents}
+use Rattle.lsp_verdict.specs.declared.outcome.Outcome.TheVariants.{Done, Judged, Stream, NoDocument, TooFew}
 use Rattle.lsp_verdict.specs.declared.outcome.RunFault.{RunFault}
-use Rattle.lsp_verdict.specs.declared.verdict.Verdict.{Verdict}
 use Rattle.lsp_verdict.specs.declared.verdict.Verdict.TheVariants.{Yes, No, BadLog}
 use Rattle.lsp_command.specs.declared.hint.Hint.{Hint}
 use Rattle.lsp_command.specs.declared.hint.Hint.TheVariants as hints
@@ -50,21 +53,29 @@ abbrev pub stream_hint : List ℕ → Option Hint
 stream_hint bytes = if begins (codes "lsp-session ") bytes then Some hints.Log else None
 
 -- a log has a fault at its first line only where its record is 0
-abbrev pub verdict_hint : Verdict → List ℕ → Option Hint
-verdict_hint (Yes s) bytes = None
-verdict_hint (No rule who number event) bytes = None
-verdict_hint (BadLog zero code) bytes = Some (log_hint bytes)
-verdict_hint (BadLog (suc n) code) bytes = None
+abbrev pub fault_hint : ℕ → List ℕ → Option Hint
+fault_hint zero bytes = Some (log_hint bytes)
+fault_hint (suc n) bytes = None
 
--- what an input seems to be, where a run ended so on it
-abbrev pub hint_of : Result Outcome RunFault → List ℕ → Option Hint
-hint_of (Ok (Judged v)) bytes = verdict_hint v bytes
-hint_of (Ok (Stream frame fault)) bytes = stream_hint bytes
-hint_of (Ok Done) bytes = None
-hint_of (Ok NoDocument) bytes = None
-hint_of (Ok TooFew) bytes = None
-hint_of (Ok NoContent) bytes = None
-hint_of (Ok FewerEvents) bytes = None
+abbrev pub run_hint : Outcome → List ℕ → Option Hint
+run_hint (Judged (BadLog number code)) bytes = fault_hint number bytes
+run_hint (Judged (Yes s)) bytes = None
+run_hint (Judged (No rule who number event)) bytes = None
+run_hint (Stream frame fault) bytes = stream_hint bytes
+run_hint Done bytes = None
+run_hint NoDocument bytes = None
+run_hint TooFew bytes = None
+
+abbrev pub event_hint : EventOutcome → List ℕ → Option Hint
+event_hint (events.BadLog number code) bytes = fault_hint number bytes
+event_hint events.Done bytes = None
+event_hint events.NoContent bytes = None
+event_hint events.FewerEvents bytes = None
+
+-- what an input seems to be, where a task ended so on it
+abbrev pub hint_of : Result TaskOutcome RunFault → List ℕ → Option Hint
+hint_of (Ok (tasks.Run outcome)) bytes = run_hint outcome bytes
+hint_of (Ok (tasks.Event outcome)) bytes = event_hint outcome bytes
 hint_of (Err fault) bytes = None
 
 -- the words of a hint

@@ -1,4 +1,5 @@
 pub mod Beginnings
+pub mod Ended
 pub mod Hints
 pub mod Ports
 pub mod Remarks

@@ -4,24 +4,30 @@ use Rattle.lsp_verdict.specs.Given.{verdict_view}
 use Rattle.lsp_verdict.specs.Report.{report}
 use Rattle.lsp_verdict.specs.StreamReport.{stream_report}
 use Rattle.lsp_verdict.specs.declared.outcome.Mode.TheVariants.{Canonical}
+use Rattle.lsp_verdict.specs.Verdict.{bad_log}
+use Rattle.lsp_streams.specs.declared.event.EventOutcome.TheVariants as events
+use Rattle.lsp_command.specs.declared.task_outcome.TaskOutcome.{TaskOutcome}
+use Rattle.lsp_command.specs.declared.task_outcome.TaskOutcome.TheVariants as tasks
 use Rattle.lsp_verdict.specs.declared.outcome.Outcome.{Outcome}
-use Rattle.lsp_verdict.specs.declared.outcome.Outcome.TheVariants.{Done, Judged, Stream, NoDocument, TooFew, NoContent, FewerEvents}
+use Rattle.lsp_verdict.specs.declared.outcome.Outcome.TheVariants.{Done, Judged, Stream, NoDocument, TooFew}
 use Rattle.lsp_verdict.specs.declared.outcome.RunFault.{RunFault}
 use Rattle.lsp_verdict.specs.declared.outcome.RunFault.TheVariants.{Read, Write, Memory}
 use Rattle.lsp_verdict.specs.declared.verdict.Verdict.{Verdict}
 use Rattle.lsp_verdict.specs.declared.verdict.Verdict.TheVariants.{Yes}
 use Rattle.lsp_words.specs.declared.task.Task.{Task}
-use Rattle.lsp_words.specs.declared.task.Task.TheVariants.{Text, Event, Normal, Upgrade, Frames}
+use Rattle.lsp_words.specs.declared.task.Task.TheVariants.{Text, Normal, Upgrade, Frames}
 
--- the fixed words for how a run ended
-abbrev pub remark_of : Result Outcome RunFault → Option (List ℕ)
-remark_of (Ok NoDocument) = Some (codes "no such document")
-remark_of (Ok TooFew) = Some (codes "fewer editor messages")
-remark_of (Ok NoContent) = Some (codes "no content")
-remark_of (Ok FewerEvents) = Some (codes "fewer events")
-remark_of (Ok Done) = None
-remark_of (Ok (Judged v)) = None
-remark_of (Ok (Stream frame fault)) = None
+-- the fixed words for how a task ended
+abbrev pub remark_of : Result TaskOutcome RunFault → Option (List ℕ)
+remark_of (Ok (tasks.Run NoDocument)) = Some (codes "no such document")
+remark_of (Ok (tasks.Run TooFew)) = Some (codes "fewer editor messages")
+remark_of (Ok (tasks.Run Done)) = None
+remark_of (Ok (tasks.Run (Judged v))) = None
+remark_of (Ok (tasks.Run (Stream frame fault))) = None
+remark_of (Ok (tasks.Event events.NoContent)) = Some (codes "no content")
+remark_of (Ok (tasks.Event events.FewerEvents)) = Some (codes "fewer events")
+remark_of (Ok (tasks.Event events.Done)) = None
+remark_of (Ok (tasks.Event (events.BadLog number fault))) = None
 remark_of (Err Read) = Some (codes "lspcheck: read fault")
 remark_of (Err Write) = Some (codes "lspcheck: write fault")
 remark_of (Err Memory) = Some (codes "lspcheck: out of memory")
@@ -31,11 +37,16 @@ abbrev pub report_refused : Verdict → Option (List ℕ)
 report_refused (Yes s) = None
 report_refused v = Some (report (verdict_view v))
 
--- the report that stands apart from what was asked for: that of a verdict in `text`, `event` and `normal`, of one that is no Yes in `upgrade`, and that of a stream in `frames --as canonical`
-abbrev pub report_apart : Task → Outcome → Option (List ℕ)
-report_apart (Text number uri) (Judged v) = Some (report (verdict_view v))
-report_apart (Event number) (Judged v) = Some (report (verdict_view v))
-report_apart Normal (Judged v) = Some (report (verdict_view v))
-report_apart Upgrade (Judged v) = report_refused v
-report_apart (Frames Canonical) (Stream frame fault) = Some (stream_report frame fault)
-report_apart task outcome = None
+-- the report that stands apart from what was asked for: that of a verdict in `text` and `normal`, of one that is no Yes in `upgrade`, and that of a stream in `frames --as canonical`
+abbrev pub run_report_apart : Task → Outcome → Option (List ℕ)
+run_report_apart (Text number uri) (Judged v) = Some (report (verdict_view v))
+run_report_apart Normal (Judged v) = Some (report (verdict_view v))
+run_report_apart Upgrade (Judged v) = report_refused v
+run_report_apart (Frames Canonical) (Stream frame fault) = Some (stream_report frame fault)
+run_report_apart task outcome = None
+
+-- and that of a fault of the log before the event that was asked for
+abbrev pub report_apart : Task → TaskOutcome → Option (List ℕ)
+report_apart task (tasks.Run outcome) = run_report_apart task outcome
+report_apart task (tasks.Event (events.BadLog number fault)) = Some (report (bad_log number fault))
+report_apart task (tasks.Event outcome) = None

@@ -2,26 +2,47 @@
 use Rattle.std.specs.Prelude.{ℕ, Result, Ok, Err}
 use Rattle.clap.specs.declared.error.kind.ErrorKind.{ErrorKind}
 use Rattle.clap.specs.declared.error.kind.ErrorKind.TheVariants as kinds
+use Rattle.lsp_streams.specs.declared.event.EventOutcome.{EventOutcome}
+use Rattle.lsp_streams.specs.declared.event.EventOutcome.TheVariants as events
+use Rattle.lsp_command.specs.declared.task_outcome.TaskOutcome.{TaskOutcome}
+use Rattle.lsp_command.specs.declared.task_outcome.TaskOutcome.TheVariants as tasks
 use Rattle.lsp_verdict.specs.declared.outcome.Outcome.{Outcome}
-use Rattle.lsp_verdict.specs.declared.outcome.Outcome.TheVariants.{Done, Judged, Stream, NoDocument, TooFew, NoContent, FewerEvents}
+use Rattle.lsp_verdict.specs.declared.outcome.Outcome.TheVariants.{Done, Judged, Stream, NoDocument, TooFew}
 use Rattle.lsp_verdict.specs.declared.outcome.RunFault.{RunFault}
 use Rattle.lsp_verdict.specs.declared.outcome.RunFault.TheVariants.{Read, Write, Memory}
 use Rattle.lsp_verdict.specs.declared.verdict.Verdict.TheVariants.{Yes, No, BadLog}
 
--- 0 yes or done, 1 no, 2 a bad log or a bad stream, 3 a read or write fault, 4 out of memory, 5 no such document or content, or too few messages or events
+-- 0 yes or done, 1 no, 2 a bad log or a bad stream, 5 no such document, or too few messages
+abbrev pub status_of_outcome : Outcome → ℕ
+status_of_outcome Done = 0
+status_of_outcome (Judged (Yes s)) = 0
+status_of_outcome (Judged (No rule who number event)) = 1
+status_of_outcome (Judged (BadLog number code)) = 2
+status_of_outcome (Stream frame fault) = 2
+status_of_outcome NoDocument = 5
+status_of_outcome TooFew = 5
+
+-- 0 done, 2 a bad log, 5 no content, or too few events
+abbrev pub status_of_event : EventOutcome → ℕ
+status_of_event events.Done = 0
+status_of_event (events.BadLog number code) = 2
+status_of_event events.NoContent = 5
+status_of_event events.FewerEvents = 5
+
+-- 3 a read or write fault, 4 out of memory
+abbrev pub status_of_fault : RunFault → ℕ
+status_of_fault Read = 3
+status_of_fault Write = 3
+status_of_fault Memory = 4
+
 abbrev pub status_of : Result Outcome RunFault → ℕ
-status_of (Ok Done) = 0
-status_of (Ok (Judged (Yes s))) = 0
-status_of (Ok (Judged (No rule who number event))) = 1
-status_of (Ok (Judged (BadLog number code))) = 2
-status_of (Ok (Stream frame fault)) = 2
-status_of (Ok NoDocument) = 5
-status_of (Ok TooFew) = 5
-status_of (Ok NoContent) = 5
-status_of (Ok FewerEvents) = 5
-status_of (Err Read) = 3
-status_of (Err Write) = 3
-status_of (Err Memory) = 4
+status_of (Ok outcome) = status_of_outcome outcome
+status_of (Err fault) = status_of_fault fault
+
+abbrev pub status_of_task : Result TaskOutcome RunFault → ℕ
+status_of_task (Ok (tasks.Run outcome)) = status_of_outcome outcome
+status_of_task (Ok (tasks.Event outcome)) = status_of_event outcome
+status_of_task (Err fault) = status_of_fault fault
 
 -- where the words ask for no run: 0 for help and the version, 4 out of memory, 64 where they don't parse
 abbrev pub status_of_words : ErrorKind → ℕ

@@ -1,25 +1,23 @@
 -- What each task answers and writes: what the run of its name does with its arguments.
-use Rattle.std.specs.Prelude.{◌≡◌, ◌⊎◌, ℕ, List, Result, Ok, Err, IfOk, OnErr, IsOk}
+use Rattle.std.specs.Prelude.{◌≡◌, ◌⊎◌, ℕ, List, [], Result, Ok, Err, IfOk, OnErr, IsOk}
 use Rattle.std.specs.Io.KnownBytes.{IsAtEnd}
-use lib.Utf8.{encodes}
 use Rattle.std.specs.Int.NonZero.{non_zero_u64_get}
 use Rattle.lsp_frame.specs.Bounds.{Bounds}
-use Rattle.lsp_frame.specs.Told.{Told, KeepsBytes, Took}
+use Rattle.lsp_frame.specs.Told.{Told, KeepsBytes, Took, after_failure}
 use Rattle.lsp_judge.specs.Answered.{IsReportCut}
 use Rattle.lsp_verdict.specs.Given.{verdict_view}
 use Rattle.lsp_streams.specs.Event.{IsEvent, BeginsEvent}
 use Rattle.lsp_streams.specs.Normal.{EndsNormal, BeginsNormal}
 use Rattle.lsp_verdict.specs.Complete.{IsVerdictBy}
 use Rattle.lsp_verdict.specs.Report.{report}
-use Rattle.lsp_verdict.specs.RunIo.{OfRead, AppendsFront}
-use Rattle.lsp_verdict.specs.Shown.{text_is, no_document, too_few, refused}
+use Rattle.lsp_verdict.specs.RunIo.{OfRead, source_failures, sink_failures}
 use Rattle.lsp_judge.specs.ShownLog.{IsShown, BeginsShown}
 use Rattle.lsp_streams.specs.StreamRun.{IsRun, BeginsRun}
 use Rattle.lsp_explain.specs.AllExplained.{IsAllExplained, BeginsAllExplained}
 use Rattle.lsp_explain.specs.Explained.{IsExplanation, BeginsExplanation}
 use Rattle.lsp_survey.specs.Reported.{IsReported, BeginsReported}
 use Rattle.lsp_verdict.specs.declared.listing.Listing.{Listing}
-use Rattle.lsp_verdict.specs.TextAfter.{AnswersText}
+use Rattle.lsp_verdict.specs.TextAfter.{BeginsText, IsText}
 use Rattle.lsp_verdict.specs.Upgraded.{IsUpgraded, BeginsUpgraded}
 use Rattle.lsp_verdict.specs.declared.completeness.Completeness.{Completeness}
 use Rattle.lsp_verdict.specs.declared.lines.Lines.{Lines}
@@ -31,6 +29,10 @@ use Rattle.lsp_verdict.specs.declared.outcome.RunFault.TheVariants as faults
 use Rattle.lsp_verdict.specs.declared.verdict.Summary.{Summary}
 use Rattle.lsp_verdict.specs.declared.verdict.Verdict.{Verdict}
 use Rattle.lsp_verdict.specs.declared.verdict.Verdict.TheVariants as verdicts
+use Rattle.lsp_streams.specs.declared.event.EventOutcome.{EventOutcome}
+use Rattle.lsp_streams.specs.declared.event.EventOutcome.TheVariants as events
+use Rattle.lsp_command.specs.Ended.{of_event, of_run}
+use Rattle.lsp_command.specs.declared.task_outcome.TaskOutcome.{TaskOutcome}
 use Rattle.lsp_words.specs.declared.task.Task.{Task}
 use Rattle.lsp_words.specs.declared.task.Task.TheVariants.{Check, Survey, Explain, ExplainAll, Show, Text, Event, Normal, Upgrade, Frames}
 
@@ -100,24 +102,17 @@ pub record Showed (lines : Lines) (limits : Bounds) (p : Ports) (result : Result
   pub ended : (s : Summary) → result ≡ Ok (outcomes.Judged (verdicts.Yes s)) → IsAtEnd p.source_after.bytes
   pub fault : OnErr result ((out : List ℕ) × Wrote p out × Read limits p (λ log. BeginsShown lines limits log out))
 
--- `text`: the text that is held for the URI after the editor's message of the number, and nothing else
+-- `text`: what is due for the text of the URI after the editor's message of the number, or after a write fault what begins it
 pub record ToldText (limits : Bounds) (p : Ports) (number : ℕ) (uri : List ℕ) (result : Result Outcome RunFault) : Type 0 where
-  pub text : result ≡ Ok outcomes.Done → (text : List ℕ) × Wrote p (encodes text)
-      × Read limits p (λ log. AnswersText limits log number uri (text_is text))
-  pub silent : IfOk result (λ outcome. (outcome ≡ outcomes.Done) ⊎ (IsSilent p))
-  pub no_document : result ≡ Ok outcomes.NoDocument → Read limits p (λ log. AnswersText limits log number uri no_document)
-  pub too_few : result ≡ Ok outcomes.TooFew → Read limits p (λ log. AnswersText limits log number uri too_few)
-  pub refused : (v : Verdict) → result ≡ Ok (outcomes.Judged v)
-      → Read limits p (λ log. AnswersText limits log number uri (refused (verdict_view v)))
+  pub written : IfOk result (λ outcome. (out : List ℕ) × Wrote p out × Read limits p (λ log. IsText limits log number uri out outcome))
   pub read_fault : result ≡ Err faults.Read → IsSilent p
   pub memory : result ≡ Err faults.Memory → IsSilent p
-  pub write_fault : result ≡ Err faults.Write → (text : List ℕ) × AppendsFront p.sink_before p.sink_after (encodes text)
-      × Read limits p (λ log. AnswersText limits log number uri (text_is text))
+  pub write_fault : result ≡ Err faults.Write → (out : List ℕ) × Wrote p out × Read limits p (λ log. BeginsText limits log number uri out)
 
 -- `event`: what is due for the event of the number, or after a fault what begins it
-pub record GaveEvent (limits : Bounds) (p : Ports) (number : ℕ) (result : Result Outcome RunFault) : Type 0 where
+pub record GaveEvent (limits : Bounds) (p : Ports) (number : ℕ) (result : Result EventOutcome RunFault) : Type 0 where
   pub written : IfOk result (λ outcome. (out : List ℕ) × Wrote p out × Read limits p (λ log. IsEvent limits log number out outcome))
-  pub ended : result ≡ Ok outcomes.FewerEvents → IsAtEnd p.source_after.bytes
+  pub ended : result ≡ Ok events.FewerEvents → IsAtEnd p.source_after.bytes
   pub fault : OnErr result ((out : List ℕ) × Wrote p out × Read limits p (λ log. BeginsEvent limits log number out))
   pub read_fault : result ≡ Err faults.Read → IsSilent p
   pub memory : result ≡ Err faults.Memory → IsSilent p
@@ -142,27 +137,38 @@ pub record Framed (limits : Bounds) (p : Ports) (mode : Mode) (result : Result O
   pub done : result ≡ Ok outcomes.Done → IsAtEnd p.source_after.bytes
   pub fault : OnErr result ((out : List ℕ) × Wrote p out × Read limits p (λ stream. BeginsRun limits mode stream out))
 
+-- the run over a log or a stream answers so, and the task as it does
+abbrev pub EndsRun : (Result Outcome RunFault → Type 0) → Result TaskOutcome RunFault → Type 0
+EndsRun Ends result = (ended : Result Outcome RunFault) × (result ≡ of_run ended) × Ends ended
+
 -- **each task is the run of its name**, with its arguments, on this input and into this output
-abbrev pub Answers : Bounds → Task → Ports → Result Outcome RunFault → Type 0
-Answers limits (Check completeness) p result = Checked completeness limits p result
-Answers limits (Survey completeness listing) p result = Surveyed completeness listing limits p result
-Answers limits (Explain completeness) p result = Explained completeness limits p result
-Answers limits (ExplainAll completeness) p result = AllExplained completeness limits p result
-Answers limits (Show lines) p result = Showed lines limits p result
-Answers limits (Text number uri) p result = ToldText limits p (non_zero_u64_get number) uri.now result
-Answers limits (Event number) p result = GaveEvent limits p (non_zero_u64_get number) result
-Answers limits Normal p result = Normalized limits p result
-Answers limits Upgrade p result = Upgraded limits p result
-Answers limits (Frames mode) p result = Framed limits p mode result
+abbrev pub Answers : Bounds → Task → Ports → Result TaskOutcome RunFault → Type 0
+Answers limits (Check completeness) p result = EndsRun (Checked completeness limits p) result
+Answers limits (Survey completeness listing) p result = EndsRun (Surveyed completeness listing limits p) result
+Answers limits (Explain completeness) p result = EndsRun (Explained completeness limits p) result
+Answers limits (ExplainAll completeness) p result = EndsRun (AllExplained completeness limits p) result
+Answers limits (Show lines) p result = EndsRun (Showed lines limits p) result
+Answers limits (Text number uri) p result = EndsRun (ToldText limits p (non_zero_u64_get number) uri.now) result
+Answers limits (Event number) p result = (ended : Result EventOutcome RunFault) × (result ≡ of_event ended) × GaveEvent limits p (non_zero_u64_get number) ended
+Answers limits Normal p result = EndsRun (Normalized limits p) result
+Answers limits Upgrade p result = EndsRun (Upgraded limits p) result
+Answers limits (Frames mode) p result = EndsRun (Framed limits p mode) result
 
 -- what a task answered is the answer, or it ended well and what it wrote could not be handed on: a write fault
-abbrev pub IsHandedOn : Result Outcome RunFault → Result Outcome RunFault → Type 0
+abbrev pub IsHandedOn : Result TaskOutcome RunFault → Result TaskOutcome RunFault → Type 0
 IsHandedOn ended result = (result ≡ ended) ⊎ (IsOk ended × (result ≡ Err faults.Write))
 
--- the task was done, and then what it had written was handed on
-pub record RanThrough (limits : Bounds) (task : Task) (p : Ports) (result : Result Outcome RunFault) : Type 0 where
+-- nothing is left of what was gathered, or the output failed once more
+abbrev pub IsEmptied : List ℕ → Told → Told → Type 0
+IsEmptied left before after = (left ≡ []) ⊎ (after.failures ≡ after_failure before.failures)
+
+-- the task was done, and then what it had written was handed on, whether or not it ended well; this much of it is left
+pub record RanThrough (limits : Bounds) (task : Task) (p : Ports) (left : List ℕ) (result : Result TaskOutcome RunFault) : Type 0 where
   pub gathered : Told
-  pub ended : Result Outcome RunFault
+  pub ended : Result TaskOutcome RunFault
   pub answers : Answers limits task (record p { sink_after = gathered }) ended
+  pub source_failures : p.source_after.failures ≡ source_failures ended p.source_before.failures
+  pub sink_failures : gathered.failures ≡ sink_failures ended p.sink_before.failures
   pub kept : KeepsBytes gathered p.sink_after
+  pub emptied : IsEmptied left gathered p.sink_after
   pub handed_on : IsHandedOn ended result

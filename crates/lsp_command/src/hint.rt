@@ -1,8 +1,9 @@
 //! What an input seems to be that is not what the command reads.
 ghost use Rattle.std.specs.Prelude.{◌≡◌};
-ghost use Rattle.lsp_command.specs.Hints.{begins, has_line_ends, is_compressed, is_stream, log_hint, session_hint, hint_of};
+ghost use Rattle.lsp_command.specs.Hints.{begins, has_line_ends, is_compressed, is_stream, log_hint, run_hint, session_hint, hint_of};
 
-use lsp_judge::{Outcome, RunFault, Verdict};
+use crate::task_outcome::TaskOutcome;
+use lsp_judge::{EventOutcome, Outcome, RunFault, Verdict};
 use std::fmt;
 
 /// What an input seems to be that is not what the command reads.
@@ -110,13 +111,24 @@ fn session_hint(bytes: &[u8]) -> Hint
     Hint::Unknown
 }
 
-/// What an input seems to be, where a run ended so that read it and these are its first bytes.
-pub fn hint_of(ended: &Result<Outcome, RunFault>, bytes: &[u8]) -> Option<Hint>
+/// What an input seems to be, where a run over a log or a stream ended so.
+fn run_hint(outcome: &Outcome, bytes: &[u8]) -> Option<Hint>
+    ensures { result ≡ run_hint outcome.now bytes.now }
+{
+    match outcome {
+        Outcome::Judged(Verdict::BadLog { number: 0, .. }) => Some(log_hint(bytes)),
+        Outcome::Stream { .. } if begins(b"lsp-session ", bytes) => Some(Hint::Log),
+        _ => None,
+    }
+}
+
+/// What an input seems to be, where a task ended so that read it and these are its first bytes.
+pub fn hint_of(ended: &Result<TaskOutcome, RunFault>, bytes: &[u8]) -> Option<Hint>
     ensures { result ≡ hint_of ended.now bytes.now }
 {
     match ended {
-        Ok(Outcome::Judged(Verdict::BadLog { number: 0, .. })) => Some(log_hint(bytes)),
-        Ok(Outcome::Stream { .. }) if begins(b"lsp-session ", bytes) => Some(Hint::Log),
+        Ok(TaskOutcome::Run(outcome)) => run_hint(outcome, bytes),
+        Ok(TaskOutcome::Event(EventOutcome::BadLog { number: 0, .. })) => Some(log_hint(bytes)),
         _ => None,
     }
 }

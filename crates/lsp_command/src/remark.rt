@@ -1,21 +1,23 @@
 //! What is said on standard error of how a run ended.
 ghost use Rattle.std.specs.Prelude.{◌≡◌, IfOk, IfErr, option_map, string_bytes};
 ghost use Rattle.lsp_verdict.specs.declared.outcome.RunFault.TheVariants as faults;
-ghost use Rattle.lsp_command.specs.Remarks.{remark_of, report_apart};
+ghost use Rattle.lsp_command.specs.Remarks.{remark_of, report_apart, run_report_apart};
 
-use lsp_judge::{Mode, Outcome, RunFault, Verdict, report_of, stream_report};
+use crate::task_outcome::TaskOutcome;
+use lsp_judge::{EventOutcome, Mode, Outcome, RunFault, Verdict};
+use lsp_verdict::{frame_report, verdict_report};
 use lsp_words::Task;
 use std::alloc::Global;
 
-/// The fixed words for how a run ended, without their line end, where there are any.
-pub fn remark_of(ended: &Result<Outcome, RunFault>) -> Option<&'static str>
+/// The fixed words for how a task ended, without their line end, where there are any.
+pub fn remark_of(ended: &Result<TaskOutcome, RunFault>) -> Option<&'static str>
     ensures { option_map (λ words. words.now) result ≡ remark_of ended.now }
 {
     match ended {
-        Ok(Outcome::NoDocument) => Some("no such document"),
-        Ok(Outcome::TooFew) => Some("fewer editor messages"),
-        Ok(Outcome::NoContent) => Some("no content"),
-        Ok(Outcome::FewerEvents) => Some("fewer events"),
+        Ok(TaskOutcome::Run(Outcome::NoDocument)) => Some("no such document"),
+        Ok(TaskOutcome::Run(Outcome::TooFew)) => Some("fewer editor messages"),
+        Ok(TaskOutcome::Event(EventOutcome::NoContent)) => Some("no content"),
+        Ok(TaskOutcome::Event(EventOutcome::FewerEvents)) => Some("fewer events"),
         Ok(_) => None,
         Err(RunFault::Read) => Some("lspcheck: read fault"),
         Err(RunFault::Write) => Some("lspcheck: write fault"),
@@ -32,20 +34,41 @@ pub fn remark_of(ended: &Result<Outcome, RunFault>) -> Option<&'static str>
 pub fn report_apart(
     alloc: Global,
     task: Task<'_>,
-    outcome: &Outcome,
+    outcome: &TaskOutcome,
 ) -> Result<Option<String>, RunFault>
     ensures report { IfOk result (λ written. option_map (λ report. string_bytes report) written ≡ report_apart task.entry outcome.now) }
     ensures fault { IfErr result (λ fault. fault ≡ faults.Memory) }
 {
+    match outcome {
+        TaskOutcome::Run(outcome) => run_report_apart(alloc, task, outcome),
+        TaskOutcome::Event(EventOutcome::BadLog { number, fault }) => {
+            let verdict = Verdict::BadLog {
+                number: *number,
+                fault: *fault,
+            };
+            Ok(Some(verdict_report(alloc, &verdict)?))
+        }
+        TaskOutcome::Event(_) => Ok(None),
+    }
+}
+
+/// The same where the run over a log or a stream ended so.
+fn run_report_apart(
+    alloc: Global,
+    task: Task<'_>,
+    outcome: &Outcome,
+) -> Result<Option<String>, RunFault>
+    ensures report { IfOk result (λ written. option_map (λ report. string_bytes report) written ≡ run_report_apart task.entry outcome.now) }
+    ensures fault { IfErr result (λ fault. fault ≡ faults.Memory) }
+{
     match (outcome, task) {
         (Outcome::Stream { frame, fault }, Task::Frames(Mode::Canonical)) => {
-            Ok(Some(stream_report(alloc, *frame, *fault)?))
+            Ok(Some(frame_report(alloc, *frame, *fault)?))
         }
         (Outcome::Judged(Verdict::Yes(_)), Task::Upgrade) => Ok(None),
-        (
-            Outcome::Judged(verdict),
-            Task::Text { .. } | Task::Event { .. } | Task::Normal | Task::Upgrade,
-        ) => Ok(Some(report_of(alloc, verdict)?)),
+        (Outcome::Judged(verdict), Task::Text { .. } | Task::Normal | Task::Upgrade) => {
+            Ok(Some(verdict_report(alloc, verdict)?))
+        }
         _ => Ok(None),
     }
 }

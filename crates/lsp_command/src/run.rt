@@ -7,11 +7,12 @@ ghost use Rattle.lsp_command.specs.Tasks.{Answers, RanThrough};
 
 use crate::inlet::Inlet;
 use crate::outlet::Outlet;
+use crate::task_outcome::{TaskOutcome, of_event, of_run};
 use lsp_explain::{run_explain, run_explain_all};
 use lsp_frame::{Limits, Sink, Source};
 use lsp_judge::{
-    Completeness, Outcome, RunFault, run_check, run_check_complete, run_event, run_frames,
-    run_normal, run_show, run_text, run_upgrade,
+    Completeness, Lines, RunFault, run_check, run_check_complete, run_event, run_frames,
+    run_normal, run_show, run_show_long, run_text, run_upgrade,
 };
 use lsp_survey::run_survey;
 use lsp_words::Task;
@@ -25,7 +26,7 @@ pub fn run_task<R: Source, W: Sink>(
     source: &mut R,
     sink: &mut W,
     limits: Limits,
-) -> Result<Outcome, RunFault>
+) -> Result<TaskOutcome, RunFault>
     ensures answers { Answers limits task.entry (record {
       source_before = R.told source.old;
       source_after = R.told source.new;
@@ -36,21 +37,33 @@ pub fn run_task<R: Source, W: Sink>(
     ensures sink_failures { (W.told sink.new).failures ≡ sink_failures result (W.told sink.old).failures }
 {
     match task {
-        Task::Check(Completeness::Ignored) => run_check(alloc, source, sink, limits),
-        Task::Check(Completeness::Required) => run_check_complete(alloc, source, sink, limits),
-        Task::Survey(completeness, listing) => {
-            run_survey(alloc, source, sink, limits, completeness, listing)
+        Task::Check(Completeness::Ignored) => of_run(run_check(alloc, source, sink, limits)),
+        Task::Check(Completeness::Required) => {
+            of_run(run_check_complete(alloc, source, sink, limits))
         }
-        Task::Explain(completeness) => run_explain(alloc, source, sink, limits, completeness),
+        Task::Survey(completeness, listing) => of_run(run_survey(
+            alloc,
+            source,
+            sink,
+            limits,
+            completeness,
+            listing,
+        )),
+        Task::Explain(completeness) => {
+            of_run(run_explain(alloc, source, sink, limits, completeness))
+        }
         Task::ExplainAll(completeness) => {
-            run_explain_all(alloc, source, sink, limits, completeness)
+            of_run(run_explain_all(alloc, source, sink, limits, completeness))
         }
-        Task::Show(lines) => run_show(alloc, source, sink, limits, lines),
-        Task::Text { number, uri } => run_text(alloc, source, sink, limits, number.get(), uri),
-        Task::Event { number } => run_event(alloc, source, sink, limits, number.get()),
-        Task::Normal => run_normal(alloc, source, sink, limits),
-        Task::Upgrade => run_upgrade(alloc, source, sink, limits),
-        Task::Frames(mode) => run_frames(alloc, source, sink, limits, mode),
+        Task::Show(Lines::Short) => of_run(run_show(alloc, source, sink, limits)),
+        Task::Show(Lines::Long) => of_run(run_show_long(alloc, source, sink, limits)),
+        Task::Text { number, uri } => {
+            of_run(run_text(alloc, source, sink, limits, number.get(), uri))
+        }
+        Task::Event { number } => of_event(run_event(alloc, source, sink, limits, number.get())),
+        Task::Normal => of_run(run_normal(alloc, source, sink, limits)),
+        Task::Upgrade => of_run(run_upgrade(alloc, source, sink, limits)),
+        Task::Frames(mode) => of_run(run_frames(alloc, source, sink, limits, mode)),
     }
 }
 
@@ -62,13 +75,13 @@ pub fn run_through<R: Read + Drop, W: Write + Drop>(
     inlet: &mut Inlet<R>,
     outlet: &mut Outlet<W>,
     limits: Limits,
-) -> Result<Outcome, RunFault>
+) -> Result<TaskOutcome, RunFault>
     ensures ran { RanThrough limits task.entry (record {
       source_before = ⟦<Inlet<R> as Source>⟧.told inlet.old;
       source_after = ⟦<Inlet<R> as Source>⟧.told inlet.new;
       sink_before = ⟦<Outlet<W> as Sink>⟧.told outlet.old;
       sink_after = ⟦<Outlet<W> as Sink>⟧.told outlet.new;
-    }) result }
+    }) (unwritten outlet.new) result }
     ensures flushed { OnOk result (unwritten outlet.new ≡ []) }
     // A fault of the input or the output has its error.
     ensures read_error { result ≡ Err faults.Read → IsSome (input_error inlet.new) }

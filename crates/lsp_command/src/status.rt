@@ -1,22 +1,59 @@
 //! The status that the program ends with.
 ghost use Rattle.std.specs.Prelude.{◌≡◌};
-ghost use Rattle.lsp_command.specs.Status.{status_of, status_of_words};
+ghost use Rattle.lsp_command.specs.Status.{status_of, status_of_event, status_of_fault, status_of_outcome, status_of_task, status_of_words};
 
+use crate::task_outcome::TaskOutcome;
 use clap::error::ErrorKind;
-use lsp_judge::{Outcome, RunFault, Verdict};
+use lsp_judge::{EventOutcome, Outcome, RunFault, Verdict};
+
+fn status_of_outcome(outcome: &Outcome) -> u8
+    ensures { result ≡ status_of_outcome outcome.now }
+{
+    match outcome {
+        Outcome::Done | Outcome::Judged(Verdict::Yes(_)) => 0,
+        Outcome::Judged(Verdict::No { .. }) => 1,
+        Outcome::Judged(Verdict::BadLog { .. }) | Outcome::Stream { .. } => 2,
+        Outcome::NoDocument | Outcome::TooFew => 5,
+    }
+}
+
+fn status_of_event(outcome: EventOutcome) -> u8
+    ensures { result ≡ status_of_event outcome }
+{
+    match outcome {
+        EventOutcome::Done => 0,
+        EventOutcome::BadLog { .. } => 2,
+        EventOutcome::NoContent | EventOutcome::FewerEvents => 5,
+    }
+}
+
+fn status_of_fault(fault: RunFault) -> u8
+    ensures { result ≡ status_of_fault fault }
+{
+    match fault {
+        RunFault::Read | RunFault::Write => 3,
+        RunFault::Memory => 4,
+    }
+}
 
 /// The exit status that tells a script how a run ended.
 pub fn status_of(ended: &Result<Outcome, RunFault>) -> u8
     ensures { result ≡ status_of ended.now }
 {
     match ended {
-        Ok(Outcome::Done | Outcome::Judged(Verdict::Yes(_))) => 0,
-        Ok(Outcome::Judged(Verdict::No { .. })) => 1,
-        Ok(Outcome::Judged(Verdict::BadLog { .. }) | Outcome::Stream { .. }) => 2,
-        Err(RunFault::Read | RunFault::Write) => 3,
-        Err(RunFault::Memory) => 4,
-        Ok(Outcome::NoDocument | Outcome::TooFew) => 5,
-        Ok(Outcome::NoContent | Outcome::FewerEvents) => 5,
+        Ok(outcome) => status_of_outcome(outcome),
+        Err(fault) => status_of_fault(*fault),
+    }
+}
+
+/// The exit status where a task ended so.
+pub fn status_of_task(ended: &Result<TaskOutcome, RunFault>) -> u8
+    ensures { result ≡ status_of_task ended.now }
+{
+    match ended {
+        Ok(TaskOutcome::Run(outcome)) => status_of_outcome(outcome),
+        Ok(TaskOutcome::Event(outcome)) => status_of_event(*outcome),
+        Err(fault) => status_of_fault(*fault),
     }
 }
 

@@ -24,7 +24,9 @@ use lsp_facts::{flaw_facts, push_facts};
 use lsp_frame::{Limits, Sink, Source, put_all};
 use lsp_rpc::{Memory, Side};
 use lsp_survey::{End, Found, Heard, Next, Offending, SurveyReader};
-use lsp_verdict::{Completeness, Offence, Outcome, RunFault, Summary, Verdict, Who, report_of};
+use lsp_verdict::{
+    Completeness, Offence, Outcome, RunFault, Summary, Verdict, Who, verdict_report,
+};
 use std::alloc::Global;
 
 /// Reads a log and writes the report of the verdict on it, and behind a No what is wrong: the
@@ -134,7 +136,7 @@ pub(crate) fn explain_found(
     ensures { IfOk result (TellsOf events.now found.now) }
 {
     let verdict = found.offence.verdict();
-    let mut text = report_of(alloc, &verdict)?;
+    let mut text = verdict_report(alloc, &verdict)?;
     let mut said = String::new(alloc);
     let rest = events.rest(side_of(&found.offending));
     push_said(alloc, &mut said, events, rest, found)?;
@@ -190,7 +192,7 @@ pub(crate) fn explain_listed(
         → string_bytes x.text ≡ report (offence_view listed.now).no ++ said_of (end_explained rests (numbered (terms_in events.now) before) (offence_view listed.now).no)) }
 {
     let verdict = listed.verdict();
-    let mut text = report_of(alloc, &verdict)?;
+    let mut text = verdict_report(alloc, &verdict)?;
     let mut said = String::new(alloc);
     push_end(alloc, &mut said, events, rest, listed)?;
     text.push_str(said.as_str())?;
@@ -209,7 +211,7 @@ pub(crate) fn explain_sound(
 {
     let flaw = flaw_text(alloc, events, &bad)?;
     let verdict = events.sound(bad)?;
-    let mut text = report_of(alloc, &verdict)?;
+    let mut text = verdict_report(alloc, &verdict)?;
     text.push_str(flaw.as_str())?;
     Ok(Explanation { text, verdict })
 }

@@ -25,7 +25,7 @@ use lsp_frame::{Limits, Sink, Source, put_all};
 use lsp_rpc::Memory;
 use lsp_survey::{End, Found, Heard, Next, SurveyReader, Tally};
 use lsp_verdict::{
-    Completeness, Offence, Outcome, RunFault, Summary, Verdict, found_report, report_of,
+    Completeness, Offence, Outcome, RunFault, Summary, Verdict, found_report, verdict_report,
 };
 use std::alloc::Global;
 
@@ -250,7 +250,7 @@ fn last_lines(
         return Ok(count);
     };
     let flaw = flaw_text(alloc, events, bad)?;
-    let mut text = report_of(alloc, verdict)?;
+    let mut text = verdict_report(alloc, verdict)?;
     text.push_str(flaw.as_str())?;
     text.push_str(count.as_str())?;
     Ok(text)

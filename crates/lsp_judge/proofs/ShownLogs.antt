@@ -23,7 +23,7 @@ use Rattle.lsp_verdict.specs.Given.{verdict_view}
 use Rattle.lsp_verdict.specs.LookBack.{each_of, each_from}
 use Rattle.lsp_verdict.specs.Outcome.{IsVerdict}
 use Rattle.lsp_verdict.specs.Report.{report}
-use Rattle.lsp_verdict.specs.RunIo.{OfRead, Tells, failures_after, source_failures, sink_failures}
+use Rattle.lsp_verdict.specs.RunIo.{OfRead, Tells, failures_after, sink_failures_after}
 use Rattle.lsp_verdict.specs.Shown.{event_line, line_at, lines_of, show_of}
 use Rattle.lsp_verdict.specs.Verdict.{Verdict, belongs_to, count_of, whose, who_of}
 use Rattle.lsp_verdict.proofs.EventCounts.{count_few}
@@ -184,12 +184,12 @@ module _ (lines : Lines) (limits : Bounds) (start now old mid : Told) (heard : L
     sink = by_sink fault wrote.failures broke.unwritten;
   }
     where
-      by_source : (f : RunFault) → now.failures ≡ failures_after f start.failures → (f ≡ faults.Write → ⊥) → now.failures ≡ source_failures (Err f) start.failures
+      by_source : (f : RunFault) → now.failures ≡ failures_after f start.failures → (f ≡ faults.Write → ⊥) → now.failures ≡ failures_after f start.failures
       by_source faults.Read e unwritten = e
       by_source faults.Write e unwritten = e
       by_source faults.Memory e unwritten = e
 
-      by_sink : (f : RunFault) → mid.failures ≡ old.failures → (f ≡ faults.Write → ⊥) → mid.failures ≡ sink_failures (Err f) old.failures
+      by_sink : (f : RunFault) → mid.failures ≡ old.failures → (f ≡ faults.Write → ⊥) → mid.failures ≡ sink_failures_after f old.failures
       by_sink faults.Read e unwritten = e
       by_sink faults.Write e unwritten = absurd (unwritten refl)
       by_sink faults.Memory e unwritten = e

@@ -1,6 +1,7 @@
 -- The text that is held after a message of the editor's, as the events of a log are heard.
 use Rattle.std.proofs.Common.{◌≡◌, ◌+◌, ◌<◌, ◌≤◌, ℕ, Bool, true, false, List, [], ◌∷◌, ◌++◌, length, drop, Option, Some, None, Result, Ok, Err, inl, inr, refl, sym, ap, subst, ◌∙◌, append_assoc, append-nil, arith}
 use Rattle.std.specs.Prelude.{is_some, if◌then◌else◌, filter, IfOk}
+use lib.Utf8.{encodes}
 use Rattle.std.proofs.lemmas.List.{take-append-drop}
 use Rattle.lsp_frame.specs.Bounds.{Bounds}
 use Rattle.lsp_frame.specs.Told.{Told}
@@ -11,20 +12,17 @@ use Rattle.lsp_docs.specs.Terms.{Terms, terms_of}
 use Rattle.lsp_verdict.specs.Calls.{calls}
 use Rattle.lsp_verdict.specs.Event.{Event}
 use Rattle.lsp_verdict.specs.Outcome.{Offends, format_or_one, log_terms}
-use Rattle.lsp_verdict.specs.RunIo.{OfRead, GaveAtMost}
-use Rattle.lsp_verdict.specs.Given.{verdict_view}
+use Rattle.lsp_verdict.specs.RunIo.{OfRead, GaveAtMost, source_failures}
 use Rattle.lsp_verdict.specs.declared.completeness.Completeness.{Completeness}
 use Rattle.lsp_verdict.specs.declared.completeness.Completeness.TheVariants.{Ignored}
 use Rattle.lsp_verdict.specs.declared.outcome.Outcome.{Outcome}
-use Rattle.lsp_verdict.specs.declared.outcome.Outcome.TheVariants.{Judged}
+use Rattle.lsp_verdict.specs.declared.outcome.Outcome.TheVariants.{Done}
 use Rattle.lsp_verdict.specs.declared.outcome.RunFault.{RunFault}
 use Rattle.lsp_verdict.specs.declared.outcome.RunFault.TheVariants as faults
 use Rattle.lsp_judge.specs.declared.text_answer.TextAnswer as answer
 use Rattle.lsp_judge.specs.TextAnswers.{answer_view}
-use Rattle.lsp_verdict.specs.declared.verdict.Verdict as code
-use Rattle.lsp_judge.proofs.Answering.{judged_as}
-use Rattle.lsp_verdict.specs.Shown.{refused, TextAnswer, kept_count, kept_within, up_to_editor, held_answer, missing_answer, text_answer}
-use Rattle.lsp_verdict.specs.TextAfter.{AnswersText}
+use Rattle.lsp_verdict.specs.Shown.{TextAnswer, text_is, kept_count, kept_within, up_to_editor, held_answer, missing_answer, text_answer}
+use Rattle.lsp_verdict.specs.TextAfter.{AnswersText, BeginsText, EndsAs, IsText, written_of}
 use Rattle.lsp_verdict.specs.Verdict.{Verdict, first_no, no_at, is_of, count_of}
 use Rattle.lsp_verdict.proofs.Finding.{found}
 use Rattle.lsp_verdict.proofs.Logs.{final_more, known_terms}
@@ -32,7 +30,7 @@ use Rattle.lsp_verdict.proofs.RunReading.{read_map, read_within}
 use Rattle.lsp_verdict.proofs.Logs.Text.{text_missing}
 use Rattle.lsp_verdict.proofs.Logs.UpTo.{reached_more, reached_past, reached_now, count-append, count_one}
 use Rattle.lsp_verdict.proofs.Verdicts.{no_found}
-use Rattle.lsp_judge.specs.LogEvents.{EndsAt, EndsBy, SoFar, Found, GivesText, failures_of}
+use Rattle.lsp_judge.specs.LogEvents.{EndsAt, EndsBy, SoFar, Found, GivesText}
 use Rattle.lsp_events.specs.Standing.{Follows}
 use Rattle.lsp_judge.specs.declared.event_reader.EventReader.{EventReader}
 use Rattle.lsp_judge.proofs.KeptEvents.{kept_clean, kept_no, kept_final}
@@ -166,10 +164,20 @@ text_none completeness limits start now n uri heard v answer ignored few is foun
     read_map limits start now (λ log. EndsBy completeness limits log heard v) (λ log. AnswersText limits log n uri answer)
     (λ log ends. subst (AnswersText limits log n uri) (sym is) (text_ended limits n uri heard v few log (subst (λ c. EndsBy c limits log heard v) ignored ends))) found.of_read
 
--- the verdict of an outcome
-pub refused_read : (limits : Bounds) (before after : Told) (n : ℕ) (uri : List ℕ) (given v : code.Verdict) → (let outcome : Result Outcome RunFault = Ok (Judged given) in outcome) ≡ Ok (Judged v)
-    → OfRead limits before after (λ log. AnswersText limits log n uri (refused (verdict_view given))) → OfRead limits before after (λ log. AnswersText limits log n uri (refused (verdict_view v)))
-refused_read limits before after n uri given v e told = judged_as given v (λ w. OfRead limits before after (λ log. AnswersText limits log n uri (refused (verdict_view w)))) e told
+-- ---- what is written
+
+-- what is due for the answer was written
+pub text_due : (limits : Bounds) (start now : Told) (n : ℕ) (uri : List ℕ) (answer : TextAnswer) (out : List ℕ) (outcome : Outcome) → OfRead limits start now (λ log. AnswersText limits log n uri answer) → out ≡ written_of answer → EndsAs answer outcome
+    → OfRead limits start now (λ log. IsText limits log n uri out outcome)
+text_due limits start now n uri answer out outcome told written ends =
+    read_map limits start now (λ log. AnswersText limits log n uri answer) (λ log. IsText limits log n uri out outcome) (λ log answers. record { answer = answer; answers = answers; written = written; ends = ends }) told
+
+-- a front of the text was written
+pub text_begun : (limits : Bounds) (start now : Told) (n : ℕ) (uri text front back : List ℕ) → OfRead limits start now (λ log. AnswersText limits log n uri (text_is text)) → encodes text ≡ front ++ back
+    → OfRead limits start now (λ log. BeginsText limits log n uri front)
+text_begun limits start now n uri text front back told whole =
+    read_map limits start now (λ log. AnswersText limits log n uri (text_is text)) (λ log. BeginsText limits log n uri front)
+    (λ log answers. (Done, back, record { answer = text_is text; answers = answers; written = sym whole; ends = refl })) told
 
 -- ---- what the answer says
 
@@ -177,7 +185,7 @@ pub text_answered : (limits : Bounds) (start now : Told) (n : ℕ) (uri : List �
 text_answered limits start now n uri (Ok a) g = g.0
 text_answered limits start now n uri (Err fault) g = tt
 
-pub text_failures : (limits : Bounds) (start now : Told) (n : ℕ) (uri : List ℕ) (r : Result answer.TextAnswer RunFault) → GivesText limits start now n uri r → now.failures ≡ failures_of r start.failures
+pub text_failures : (limits : Bounds) (start now : Told) (n : ℕ) (uri : List ℕ) (r : Result answer.TextAnswer RunFault) → GivesText limits start now n uri r → now.failures ≡ source_failures r start.failures
 text_failures limits start now n uri (Ok a) g = g.1
 text_failures limits start now n uri (Err fault) g = g.failures
 

@@ -19,7 +19,7 @@ use Rattle.lsp_verdict.specs.Event.{Event}
 use Rattle.lsp_verdict.specs.Given.{verdict_view, as_given}
 use Rattle.lsp_verdict.specs.Outcome.{IsFinal, IsVerdict, Offends, format_or_one}
 use Rattle.lsp_verdict.specs.Placed.{IsSession}
-use Rattle.lsp_verdict.specs.RunIo.{OfRead, failures_after, sink_failures}
+use Rattle.lsp_verdict.specs.RunIo.{OfRead, failures_after, sink_failures_after}
 use Rattle.lsp_verdict.specs.Upgraded.{upgraded, AreAccepted, HasAccepted, IsUpgraded, BeginsUpgraded}
 use Rattle.lsp_verdict.specs.Verdict.{Verdict, first_no}
 use Rattle.lsp_verdict.specs.declared.outcome.Outcome.{Outcome}
@@ -304,7 +304,7 @@ module _ (limits : Bounds) (start now old mid : Told) (records : List Record) (w
   pub broke_upgraded : (fault : RunFault) → BrokeBehind limits start now records fault → UpgradedPart limits start now old mid fault
   broke_upgraded fault broke = record { out = upgraded records; took = wrote.took; due = broke.of_read; source = broke.failures; sink = by_sink fault broke.unwritten }
     where
-      by_sink : (f : RunFault) → (f ≡ faults.Write → ⊥) → mid.failures ≡ sink_failures (Err f) old.failures
+      by_sink : (f : RunFault) → (f ≡ faults.Write → ⊥) → mid.failures ≡ sink_failures_after f old.failures
       by_sink faults.Read unwritten = wrote.failures
       by_sink faults.Write unwritten = absurd (unwritten refl)
       by_sink faults.Memory unwritten = wrote.failures

@@ -114,8 +114,3 @@ GivesVerdict completeness limits start now (Err fault) = BrokeOff limits start n
 abbrev pub GivesText : Bounds → Told → Told → ℕ → List ℕ → Result TextAnswer RunFault → Type 0
 GivesText limits start now n uri (Ok answer) = OfRead limits start now (λ log. AnswersText limits log n uri (answer_view answer)) × (now.failures ≡ start.failures)
 GivesText limits start now n uri (Err fault) = BrokeOff limits start now [] fault
-
--- the failures of a source after an answer
-abbrev pub failures_of : {X : Type 0} → Result X RunFault → ℕ → ℕ
-failures_of (Ok answer) before = before
-failures_of (Err fault) before = failures_after fault before

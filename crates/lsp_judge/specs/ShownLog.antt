@@ -11,7 +11,7 @@ use Rattle.lsp_verdict.specs.Event.{Event}
 use Rattle.lsp_verdict.specs.Given.{verdict_view}
 use Rattle.lsp_verdict.specs.Outcome.{IsVerdict}
 use Rattle.lsp_verdict.specs.Report.{report}
-use Rattle.lsp_verdict.specs.RunIo.{OfRead, source_failures, sink_failures}
+use Rattle.lsp_verdict.specs.RunIo.{OfRead, failures_after, sink_failures_after}
 use Rattle.lsp_verdict.specs.Shown.{show_of}
 use Rattle.lsp_verdict.specs.Verdict.{Verdict, belongs_to, count_of, whose}
 use Rattle.lsp_events.specs.declared.heard.Place.{Place}
@@ -44,8 +44,8 @@ pub record ShowedPart (lines : Lines) (limits : Bounds) (start now old new : Tol
   pub out : List ℕ
   pub took : Took old new out
   pub due : OfRead limits start now (λ log. BeginsShown lines limits log out)
-  pub source : now.failures ≡ source_failures (Err fault) start.failures
-  pub sink : new.failures ≡ sink_failures (Err fault) old.failures
+  pub source : now.failures ≡ failures_after fault start.failures
+  pub sink : new.failures ≡ sink_failures_after fault old.failures
 
 -- the place of the event that comes behind these, as it is counted
 pub record IsPlace (before : List Event) (event : Event) (place : Place) : Type 0 where

@@ -8,7 +8,7 @@ use Rattle.lsp_log.specs.Records.{record_view}
 use Rattle.lsp_verdict.specs.Entries.{IsAt}
 use Rattle.lsp_verdict.specs.Given.{verdict_view}
 use Rattle.lsp_verdict.specs.Outcome.{format_or_one}
-use Rattle.lsp_verdict.specs.RunIo.{OfRead, failures_after, source_failures, sink_failures}
+use Rattle.lsp_verdict.specs.RunIo.{OfRead, failures_after, sink_failures_after}
 use Rattle.lsp_verdict.specs.Upgraded.{upgraded, IsUpgraded, BeginsUpgraded}
 use Rattle.lsp_verdict.specs.Verdict.{Verdict}
 use Rattle.lsp_verdict.specs.declared.outcome.RunFault.{RunFault}
@@ -66,8 +66,8 @@ pub record UpgradedPart (limits : Bounds) (start now old new : Told) (fault : Ru
   pub out : List ℕ
   pub took : Took old new out
   pub due : OfRead limits start now (λ log. BeginsUpgraded limits log out)
-  pub source : now.failures ≡ source_failures (Err fault) start.failures
-  pub sink : new.failures ≡ sink_failures (Err fault) old.failures
+  pub source : now.failures ≡ failures_after fault start.failures
+  pub sink : new.failures ≡ sink_failures_after fault old.failures
 
 abbrev pub Upgrades : Bounds → Told → Told → Told → Told → Result code.Verdict RunFault → Type 0
 Upgrades limits start now old new (Ok v) = UpgradedAll limits start now old new (verdict_view v)

@@ -61,7 +61,7 @@ fn check<R: Source, W: Sink>(
 {
     let verdict = verdict_of(alloc, reader, limits, completeness)?;
     let report = report_of(alloc, &verdict)?;
-    put_all(writer, report.as_bytes())?;
+    put_all(writer, report.as_slice())?;
     Ok(Outcome::Judged(verdict))
 }
 

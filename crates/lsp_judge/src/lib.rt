@@ -26,19 +26,20 @@ pub use judge::Judge;
 pub use lsp_frame::{Format, Input, Limits, Output};
 pub use lsp_log::LogCode;
 pub use lsp_streams::{
-    event_is_numbered, normal_form_keeps_events, normal_form_keeps_verdict, normal_form_stays,
-    one_event, one_normal_form, one_run, run_event, run_frames, run_normal, some_event, some_run,
+    EventOutcome, event_is_numbered, normal_form_keeps_events, normal_form_keeps_verdict,
+    normal_form_stays, one_event, one_normal_form, one_run, run_event, run_frames, run_normal,
+    some_event, some_normal_form, some_run,
 };
 pub use lsp_verdict::{
     Completeness, Lines, Mode, OpenDocument, Outcome, RunFault, StreamFault, Summary, Verdict, Who,
     bad_log_means_fault, both_yes_agree, complete_means_ended, complete_means_fault,
-    cuts_dont_matter, cuts_leave_verdict, ended_means_complete, handshake_in_turn, kept_means_yes,
-    lack_is_named, no_names_the_first, one_complete_verdict, one_session, one_text, one_upgrade,
-    one_verdict, only_order_offends, report_of, sessions_are_read, some_complete_verdict,
-    some_session, some_upgrade, some_verdict, stream_report, upgrade_keeps_yes, upgrade_stays,
-    yes_means_kept,
+    cuts_dont_matter, cuts_leave_verdict, ended_means_complete, events_are_streams, events_first,
+    handshake_in_turn, kept_means_yes, lack_is_named, no_names_the_first, offence_decides,
+    one_complete_verdict, one_session, one_text, one_upgrade, one_verdict, only_order_offends,
+    report_of, sessions_are_read, some_complete_verdict, some_final, some_session, some_upgrade,
+    some_verdict, stream_report, upgrade_keeps_yes, upgrade_stays, yes_means_kept,
 };
-pub use show::run_show;
+pub use show::{run_show, run_show_long};
 pub use show_laws::one_shown;
 pub use text::{run_text, text_after};
 pub use text_answer::TextAnswer;

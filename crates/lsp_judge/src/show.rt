@@ -19,9 +19,7 @@ use std::alloc::Global;
 /// before that place, and then the report of the verdict.
 ///
 /// The line of a message has its number among all events, from 1, the side that sent it, and its
-/// words; that of a snapshot its number, version, bytes of text and URI. A long line has besides the
-/// number among those of the side, or among the snapshots; and of a message that opens, changes, saves
-/// or closes a document the URI, and the version that it is opened at or changed to.
+/// words; that of a snapshot its number, version, bytes of text and URI.
 ///
 /// # Errors
 /// `Read` is answered where the source failed, `Write` where the sink did, and `Memory` where memory
@@ -31,7 +29,6 @@ pub fn run_show<R: Source, W: Sink>(
     reader: &mut R,
     writer: &mut W,
     limits: Limits,
-    lines: Lines,
 ) -> Result<Outcome, RunFault>
     // The answer is the verdict on the log read, however that goes on where its end was not met.
     ensures judged { IfOk result (λ outcome. (v : Verdict) × (outcome ≡ Outcome.Judged v)) }
@@ -40,22 +37,80 @@ pub fn run_show<R: Source, W: Sink>(
     // What is due for that log is written, and nothing else.
     ensures shown { (v : Verdict) → result ≡ Ok (Outcome.Judged v)
         → (out : List ℕ) × Took (W.told writer.old) (W.told writer.new) out
-        × OfRead limits (R.told reader.old) (R.told reader.new) (λ log. IsShown lines limits log (verdict_view v) out) }
-
+        × OfRead limits (R.told reader.old) (R.told reader.new) (λ log. IsShown Lines.Short limits log (verdict_view v) out) }
     // Yes is answered only where the end was met.
     ensures ended { (s : Summary) → result ≡ Ok (Outcome.Judged (Verdict.Yes s)) → IsAtEnd (R.told reader.new).bytes }
 
     // What is written before a fault begins what is due for the log.
     ensures fault { OnErr result ((out : List ℕ) × Took (W.told writer.old) (W.told writer.new) out
-        × OfRead limits (R.told reader.old) (R.told reader.new) (λ log. BeginsShown lines limits log out)) }
+        × OfRead limits (R.told reader.old) (R.told reader.new) (λ log. BeginsShown Lines.Short limits log out)) }
     ensures source_failures { (R.told reader.new).failures ≡ source_failures result (R.told reader.old).failures }
     ensures sink_failures { (W.told writer.new).failures ≡ sink_failures result (W.told writer.old).failures }
     // At most one byte past the limit is read.
     ensures limit { GaveAtMost (limits.log + 1) (R.told reader.old) (R.told reader.new) }
 {
+    show(alloc, reader, writer, limits, Lines::Short)
+}
+
+/// Does what [`run_show`] does, with long lines: each also has the event's number among those of its
+/// side, or among the snapshots; and of a message that opens, changes, saves or closes a document the
+/// URI, and the version that it is opened at or changed to.
+///
+/// # Errors
+/// Those of [`run_show`].
+pub fn run_show_long<R: Source, W: Sink>(
+    alloc: Global,
+    reader: &mut R,
+    writer: &mut W,
+    limits: Limits,
+) -> Result<Outcome, RunFault>
+    // The answer is the verdict on the log read, however that goes on where its end was not met.
+    ensures judged { IfOk result (λ outcome. (v : Verdict) × (outcome ≡ Outcome.Judged v)) }
+    ensures verdict { (v : Verdict) → result ≡ Ok (Outcome.Judged v)
+        → OfRead limits (R.told reader.old) (R.told reader.new) (λ log. IsVerdict limits log (verdict_view v)) }
+    // What is due for that log is written, and nothing else.
+    ensures shown { (v : Verdict) → result ≡ Ok (Outcome.Judged v)
+        → (out : List ℕ) × Took (W.told writer.old) (W.told writer.new) out
+        × OfRead limits (R.told reader.old) (R.told reader.new) (λ log. IsShown Lines.Long limits log (verdict_view v) out) }
+    // Yes is answered only where the end was met.
+    ensures ended { (s : Summary) → result ≡ Ok (Outcome.Judged (Verdict.Yes s)) → IsAtEnd (R.told reader.new).bytes }
+
+    // What is written before a fault begins what is due for the log.
+    ensures fault { OnErr result ((out : List ℕ) × Took (W.told writer.old) (W.told writer.new) out
+        × OfRead limits (R.told reader.old) (R.told reader.new) (λ log. BeginsShown Lines.Long limits log out)) }
+    ensures source_failures { (R.told reader.new).failures ≡ source_failures result (R.told reader.old).failures }
+    ensures sink_failures { (W.told writer.new).failures ≡ sink_failures result (W.told writer.old).failures }
+    // At most one byte past the limit is read.
+    ensures limit { GaveAtMost (limits.log + 1) (R.told reader.old) (R.told reader.new) }
+{
+    show(alloc, reader, writer, limits, Lines::Long)
+}
+
+/// Reads a log up to the first event that offends, or to its end, and writes a line for each event
+/// before that place, and then the report of the verdict.
+fn show<R: Source, W: Sink>(
+    alloc: Global,
+    reader: &mut R,
+    writer: &mut W,
+    limits: Limits,
+    lines: Lines,
+) -> Result<Outcome, RunFault>
+    ensures judged { IfOk result (λ outcome. (v : Verdict) × (outcome ≡ Outcome.Judged v)) }
+    ensures verdict { (v : Verdict) → result ≡ Ok (Outcome.Judged v)
+        → OfRead limits (R.told reader.old) (R.told reader.new) (λ log. IsVerdict limits log (verdict_view v)) }
+    ensures shown { (v : Verdict) → result ≡ Ok (Outcome.Judged v)
+        → (out : List ℕ) × Took (W.told writer.old) (W.told writer.new) out
+        × OfRead limits (R.told reader.old) (R.told reader.new) (λ log. IsShown lines limits log (verdict_view v) out) }
+    ensures ended { (s : Summary) → result ≡ Ok (Outcome.Judged (Verdict.Yes s)) → IsAtEnd (R.told reader.new).bytes }
+    ensures fault { OnErr result ((out : List ℕ) × Took (W.told writer.old) (W.told writer.new) out
+        × OfRead limits (R.told reader.old) (R.told reader.new) (λ log. BeginsShown lines limits log out)) }
+    ensures source_failures { (R.told reader.new).failures ≡ source_failures result (R.told reader.old).failures }
+    ensures sink_failures { (W.told writer.new).failures ≡ sink_failures result (W.told writer.old).failures }
+    ensures limit { GaveAtMost (limits.log + 1) (R.told reader.old) (R.told reader.new) }
+{
     let verdict = show_log(alloc, reader, writer, limits, lines)?;
     let report = report_of(alloc, &verdict)?;
-    put_all(writer, report.as_bytes())?;
+    put_all(writer, report.as_slice())?;
     Ok(Outcome::Judged(verdict))
 }
 

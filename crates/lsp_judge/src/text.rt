@@ -1,18 +1,15 @@
 //! The text that is held after a message of the editor's.
-ghost use Rattle.std.specs.Prelude.{◌≡◌, ◌⊎◌, ◌<◌, ◌+◌, ℕ, List, None, Ok, Err, IfOk};
+ghost use Rattle.std.specs.Prelude.{◌≡◌, ◌<◌, ◌+◌, ℕ, List, Err, IfOk};
 ghost use Rattle.lsp_frame.specs.Told.{Took};
-ghost use lib.Utf8.{encodes};
-ghost use Rattle.lsp_verdict.specs.Given.{verdict_view};
-ghost use Rattle.lsp_verdict.specs.RunIo.{OfRead, GaveAtMost, AppendsFront, source_failures, sink_failures};
-ghost use Rattle.lsp_verdict.specs.Shown.{text_is, no_document, too_few, refused};
-ghost use Rattle.lsp_verdict.specs.TextAfter.{AnswersText};
+ghost use Rattle.lsp_verdict.specs.RunIo.{OfRead, GaveAtMost, source_failures, sink_failures};
+ghost use Rattle.lsp_verdict.specs.TextAfter.{AnswersText, BeginsText, IsText};
 ghost use Rattle.lsp_judge.specs.TextAnswers.{answer_view};
-ghost use Rattle.lsp_judge.specs.LogEvents.{IsFresh, GivesText, failures_of};
+ghost use Rattle.lsp_judge.specs.LogEvents.{IsFresh, GivesText};
 
 use crate::event_reader::{EventReader, Next};
 use crate::text_answer::TextAnswer;
 use lsp_frame::{Limits, Sink, Source, put_all};
-use lsp_verdict::{Completeness, Outcome, RunFault, StreamFault, Verdict};
+use lsp_verdict::{Completeness, Outcome, RunFault};
 use std::alloc::Global;
 
 /// Reads a log up to the editor's message of this number, from 1, and answers with the text that the
@@ -34,7 +31,7 @@ pub fn text_after<R: Source>(
     ensures answer { IfOk result (λ answer. OfRead limits (R.told reader.old) (R.told reader.new)
         (λ log. AnswersText limits log number uri.now (answer_view answer))) }
     ensures no_write_fault { result ≡ Err RunFault.Write → ⊥ }
-    ensures source_failures { (R.told reader.new).failures ≡ failures_of result (R.told reader.old).failures }
+    ensures source_failures { (R.told reader.new).failures ≡ source_failures result (R.told reader.old).failures }
     // At most one byte past the limit is read.
     ensures limit { GaveAtMost (limits.log + 1) (R.told reader.old) (R.told reader.new) }
 {
@@ -80,25 +77,17 @@ pub fn run_text<R: Source, W: Sink>(
     uri: &str,
 ) -> Result<Outcome, RunFault>
     requires { 0 < number }
-    // The text of the log read is written, however that goes on where its end was not met.
-    ensures text { result ≡ Ok Outcome.Done → (text : List ℕ) × Took (W.told writer.old) (W.told writer.new) (encodes text)
-        × OfRead limits (R.told reader.old) (R.told reader.new) (λ log. AnswersText limits log number uri.now (text_is text)) }
-    // Nothing else is written, and another outcome tells why the log has no text.
-    ensures silent { IfOk result (λ outcome. (outcome ≡ Outcome.Done) ⊎ (W.told writer.new ≡ W.told writer.old)) }
-    ensures no_document { result ≡ Ok Outcome.NoDocument
-        → OfRead limits (R.told reader.old) (R.told reader.new) (λ log. AnswersText limits log number uri.now no_document) }
-    ensures too_few { result ≡ Ok Outcome.TooFew
-        → OfRead limits (R.told reader.old) (R.told reader.new) (λ log. AnswersText limits log number uri.now too_few) }
-    ensures refused { (v : Verdict) → result ≡ Ok (Outcome.Judged v)
-        → OfRead limits (R.told reader.old) (R.told reader.new) (λ log. AnswersText limits log number uri.now (refused (verdict_view v))) }
-    ensures no_stream { (frame : ℕ) (fault : StreamFault) → result ≡ Ok (Outcome.Stream frame fault) → ⊥ }
+    // What is due for that text of the log read, however that goes on where its end was not met, is
+    // written, and nothing else; the outcome is the one that is due.
+    ensures written { IfOk result (λ outcome. (out : List ℕ) × Took (W.told writer.old) (W.told writer.new) out
+        × OfRead limits (R.told reader.old) (R.told reader.new) (λ log. IsText limits log number uri.now out outcome)) }
 
-    // After a read fault or for want of memory nothing is written, after a write fault a prefix of the
-    // text.
+    // After a read fault or for want of memory nothing is written, after a write fault a prefix of what
+    // is due.
     ensures read_fault { result ≡ Err RunFault.Read → W.told writer.new ≡ W.told writer.old }
     ensures memory { result ≡ Err RunFault.Memory → W.told writer.new ≡ W.told writer.old }
-    ensures write_fault { result ≡ Err RunFault.Write → (text : List ℕ) × AppendsFront (W.told writer.old) (W.told writer.new) (encodes text)
-        × OfRead limits (R.told reader.old) (R.told reader.new) (λ log. AnswersText limits log number uri.now (text_is text)) }
+    ensures write_fault { result ≡ Err RunFault.Write → (out : List ℕ) × Took (W.told writer.old) (W.told writer.new) out
+        × OfRead limits (R.told reader.old) (R.told reader.new) (λ log. BeginsText limits log number uri.now out) }
     ensures source_failures { (R.told reader.new).failures ≡ source_failures result (R.told reader.old).failures }
     ensures sink_failures { (W.told writer.new).failures ≡ sink_failures result (W.told writer.old).failures }
     // At most one byte past the limit is read.

@@ -4,9 +4,8 @@ use Rattle.lsp_frame.specs.Bounds.{Bounds}
 use Rattle.lsp_frame.specs.declared.format.Format.{Format}
 use Rattle.lsp_log.specs.declared.fault.LogCode.{LogCode}
 use Rattle.lsp_log.specs.Log.{Record, IsLog}
-use Rattle.lsp_verdict.specs.declared.outcome.Outcome.{Outcome}
-use Rattle.lsp_verdict.specs.declared.outcome.Outcome.TheVariants.{Done, Judged, NoContent, FewerEvents}
-use Rattle.lsp_verdict.specs.declared.verdict.Verdict.TheVariants.{BadLog}
+use Rattle.lsp_streams.specs.declared.event.EventOutcome.{EventOutcome}
+use Rattle.lsp_streams.specs.declared.event.EventOutcome.TheVariants.{Done, NoContent, FewerEvents, BadLog}
 use Rattle.lsp_verdict.specs.Placed.{Raw, content, broken, show, Placed}
 
 -- ---- one event
@@ -18,21 +17,21 @@ content_of (broken side rule) = []
 content_of (show number uri text) = text
 
 -- how a run ends that was asked for this event
-abbrev pub outcome_of : Raw → Outcome
+abbrev pub outcome_of : Raw → EventOutcome
 outcome_of (content side bytes) = Done
 outcome_of (broken side rule) = NoContent
 outcome_of (show number uri text) = Done
 
 -- how it ends where there is no such event: a fault of the log is named
-abbrev pub without : Option (ℕ × LogCode) → Outcome
+abbrev pub without : Option (ℕ × LogCode) → EventOutcome
 without None = FewerEvents
-without (Some flaw) = Judged (BadLog flaw.0 flaw.1)
+without (Some flaw) = BadLog flaw.0 flaw.1
 
 abbrev pub content_at : Option Raw → List ℕ
 content_at None = []
 content_at (Some raw) = content_of raw
 
-abbrev pub outcome_at : Option Raw → Option (ℕ × LogCode) → Outcome
+abbrev pub outcome_at : Option Raw → Option (ℕ × LogCode) → EventOutcome
 outcome_at None flaw = without flaw
 outcome_at (Some raw) flaw = outcome_of raw
 
@@ -43,7 +42,7 @@ event_at n raws = slice_get raws (n - 1)
 -- ---- the event of a log
 
 -- **what is due for the n-th event of a log**, whatever of its events offends: what this event holds, and how the run ends
-pub record IsEvent (limits : Bounds) (log : List ℕ) (n : ℕ) (out : List ℕ) (outcome : Outcome) : Type 0 where
+pub record IsEvent (limits : Bounds) (log : List ℕ) (n : ℕ) (out : List ℕ) (outcome : EventOutcome) : Type 0 where
   pub format : Option Format
   pub records : List Record
   pub log_fault : Option (ℕ × LogCode)
@@ -55,4 +54,4 @@ pub record IsEvent (limits : Bounds) (log : List ℕ) (n : ℕ) (out : List ℕ)
 
 -- these bytes begin what is due for the n-th event of a log
 abbrev pub BeginsEvent : Bounds → List ℕ → ℕ → List ℕ → Type 0
-BeginsEvent limits log n front = (outcome : Outcome) × (left : List ℕ) × IsEvent limits log n (front ++ left) outcome
+BeginsEvent limits log n front = (outcome : EventOutcome) × (left : List ℕ) × IsEvent limits log n (front ++ left) outcome

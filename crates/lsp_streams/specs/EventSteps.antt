@@ -11,12 +11,12 @@ use Rattle.lsp_log.specs.Log.{Record}
 use Rattle.lsp_log.specs.Reader as reader
 use Rattle.lsp_streams.specs.Event.{content_of, outcome_of, event_at, IsEvent}
 use Rattle.lsp_streams.specs.declared.event.Answer.{Answer}
+use Rattle.lsp_streams.specs.declared.event.EventOutcome.TheVariants.{FewerEvents}
 use Rattle.lsp_streams.specs.declared.event.Search.{Search}
 use Rattle.lsp_verdict.specs.Drained.{IsDrained}
 use Rattle.lsp_verdict.specs.Entries.{IsAt}
 use Rattle.lsp_verdict.specs.Placed.{Raw, content, new_fault, Brings, Placed, joined}
 use Rattle.lsp_verdict.specs.RunIo.{OfRead, BreaksOff}
-use Rattle.lsp_verdict.specs.declared.outcome.Outcome.TheVariants.{FewerEvents}
 use Rattle.lsp_verdict.specs.declared.outcome.RunFault.{RunFault}
 use Rattle.lsp_verdict.specs.declared.outcome.RunFault.TheVariants as faults
 

@@ -19,7 +19,7 @@ use Rattle.lsp_verdict.specs.Entries.{IsAt}
 use Rattle.lsp_verdict.specs.declared.entry.Entry.{Entry}
 use Rattle.lsp_verdict.specs.declared.entry.Entry.TheVariants as entries
 use Rattle.lsp_verdict.specs.declared.outcome.Outcome.{Outcome}
-use Rattle.lsp_verdict.specs.declared.outcome.Outcome.TheVariants.{Done, Judged, Stream, NoDocument, TooFew, NoContent, FewerEvents}
+use Rattle.lsp_verdict.specs.declared.outcome.Outcome.TheVariants.{Done, Judged, Stream, NoDocument, TooFew}
 use Rattle.lsp_verdict.specs.declared.outcome.RunFault.{RunFault}
 use Rattle.lsp_verdict.specs.declared.outcome.RunFault.TheVariants as faults
 use Rattle.lsp_verdict.specs.Given.{verdict_view, as_given}
@@ -28,7 +28,7 @@ use Rattle.lsp_verdict.specs.Event.{Event}
 use Rattle.lsp_streams.specs.Normal.{records_of, no_next, first_broken, fault_of, EndsNormal, BeginsNormal}
 use Rattle.lsp_verdict.specs.Outcome.{HasRest, ending, format_or_one}
 use Rattle.lsp_verdict.specs.Placed.{Raw, content, broken, show, Brings, Placed, joined}
-use Rattle.lsp_verdict.specs.RunIo.{OfRead, source_failures, sink_failures}
+use Rattle.lsp_verdict.specs.RunIo.{OfRead, failures_after, sink_failures_after}
 use Rattle.lsp_verdict.specs.Counting.{AreCounts}
 use Rattle.lsp_verdict.specs.Drained.{IsDrained}
 use Rattle.lsp_verdict.specs.Verdict.{Verdict}
@@ -49,8 +49,6 @@ CarriesCapped (Judged v) fault = option_map as_given fault ≡ Some (verdict_vie
 CarriesCapped (Stream frame fault) _ = ⊥
 CarriesCapped NoDocument fault = ⊥
 CarriesCapped TooFew fault = ⊥
-CarriesCapped NoContent fault = ⊥
-CarriesCapped FewerEvents fault = ⊥
 
 -- the records of these events, as they are written
 abbrev pub spelled : ℕ → List Raw → List ℕ
@@ -62,7 +60,7 @@ pub record WroteFront (old new : Told) (due : List ℕ) (fault : RunFault) : Typ
   pub back : List ℕ
   pub whole : due ≡ front ++ back
   pub took : Took old new front
-  pub failures : new.failures ≡ sink_failures (Err fault) old.failures
+  pub failures : new.failures ≡ sink_failures_after fault old.failures
 
 -- a fault of the writer or of memory, not of the reader
 abbrev pub IsLate : RunFault → Type 0
@@ -232,8 +230,8 @@ pub record Ended (limits : Bounds) (before now sink_before sink_now : Told) (out
 
 pub record BrokeOff (limits : Bounds) (before now sink_before sink_now : Told) (fault : RunFault) : Type 0 where
   pub cut_short : BeganNormal limits before now sink_before sink_now
-  pub source : now.failures ≡ source_failures (Err fault) before.failures
-  pub sink : sink_now.failures ≡ sink_failures (Err fault) sink_before.failures
+  pub source : now.failures ≡ failures_after fault before.failures
+  pub sink : sink_now.failures ≡ sink_failures_after fault sink_before.failures
 
 abbrev pub StepAnswers : Bounds → reader.State → Streams → Told → Told → Told → Told → Result (Option Outcome) RunFault → Type 0
 StepAnswers limits r s before now sink_before sink_now (Ok None) = SoFar limits r s before now sink_before sink_now

@@ -7,7 +7,7 @@ use Rattle.lsp_verdict.specs.StreamReport.{stream_report}
 use Rattle.lsp_verdict.specs.declared.outcome.Mode.{Mode}
 use Rattle.lsp_verdict.specs.declared.outcome.Mode.TheVariants.{Lengths, Canonical, Kinds}
 use Rattle.lsp_verdict.specs.declared.outcome.Outcome.{Outcome}
-use Rattle.lsp_verdict.specs.declared.outcome.Outcome.TheVariants.{Done, Judged, Stream, NoDocument, TooFew, NoContent, FewerEvents}
+use Rattle.lsp_verdict.specs.declared.outcome.Outcome.TheVariants.{Done, Judged, Stream, NoDocument, TooFew}
 use Rattle.lsp_verdict.specs.declared.outcome.StreamFault.{StreamFault}
 use Rattle.lsp_verdict.specs.declared.outcome.StreamFault.TheVariants.{Rule, TooLong}
 
@@ -37,8 +37,6 @@ closing Canonical (Stream frame fault) = []
 closing mode (Judged v) = []
 closing mode NoDocument = []
 closing mode TooFew = []
-closing mode NoContent = []
-closing mode FewerEvents = []
 
 -- all that is due for a stream, and how it ends
 abbrev pub IsRun : Bounds → Mode → List ℕ → List ℕ → Outcome → Type 0

@@ -8,7 +8,7 @@ use Rattle.lsp_frame.specs.Pulling.{Misses}
 use Rattle.lsp_frame.specs.declared.decoder.Missing.{Missing}
 use Rattle.lsp_frame.specs.Decoder.{State, StandsFor, EndsWith}
 use Rattle.lsp_streams.specs.StreamParts.{IsPart, Refuses, outcome_at}
-use Rattle.lsp_verdict.specs.RunIo.{HasRead, OfRead, source_failures, sink_failures}
+use Rattle.lsp_verdict.specs.RunIo.{HasRead, OfRead, failures_after, sink_failures_after}
 use Rattle.lsp_streams.specs.StreamRun.{fault_of, HasParts}
 use Rattle.lsp_verdict.specs.declared.outcome.Mode.{Mode}
 use Rattle.lsp_verdict.specs.declared.outcome.Mode.TheVariants.{Lengths}
@@ -69,7 +69,7 @@ pub record FoundBroken (d : State) (mode : Mode) (old new : Told) (bytes before 
   pub frames : Frames d.limits bytes contents rest
   pub are_parts : AreParts mode 1 contents (before ++ (written ++ left))
   pub wrote : Took old new written
-  pub sink : new.failures ≡ sink_failures (Err fault) old.failures
+  pub sink : new.failures ≡ sink_failures_after fault old.failures
 
 abbrev pub Finds : State → Mode → Told → Told → ℕ → List ℕ → List ℕ → Result (Option ℕ) RunFault → Type 0
 Finds d mode old new given bytes before (Ok None) = FoundAll d mode old new given bytes before
@@ -99,8 +99,8 @@ pub record BrokeOff (limits : Bounds) (mode : Mode) (before after sink_before si
   pub frames : Frames limits bytes contents rest
   pub are_parts : AreParts mode 1 contents (written ++ left)
   pub wrote : Took sink_before sink_after written
-  pub source : after.failures ≡ source_failures (Err fault) before.failures
-  pub sink : sink_after.failures ≡ sink_failures (Err fault) sink_before.failures
+  pub source : after.failures ≡ failures_after fault before.failures
+  pub sink : sink_after.failures ≡ sink_failures_after fault sink_before.failures
 
 abbrev pub PartsAnswer : Bounds → Mode → Told → Told → Told → Told → Result Outcome RunFault → Type 0
 PartsAnswer limits mode before after sink_before sink_after (Ok outcome) = WroteParts limits mode before after sink_before sink_after outcome

@@ -15,33 +15,47 @@ ghost use Rattle.lsp_verdict.specs.Entries.{EntryIs, IsRecord};
 ghost use Rattle.lsp_verdict.specs.RunIo.{OfRead, GaveAtMost, source_failures, sink_failures};
 
 use lsp_frame::{Decoder, Limits, Sink, Source, put_all};
-use lsp_log::{LogReader, Record};
+use lsp_log::{LogCode, LogReader, Record};
 use lsp_rpc::Side;
-use lsp_verdict::{Entry, Outcome, RunFault, Verdict, next_entry};
+use lsp_verdict::{Entry, RunFault, next_entry};
 use std::alloc::Global;
+
+/// How a run ended that was asked for one event, and met no fault of reading, writing or memory.
+#[derive(Clone, Copy, Debug, PartialEq, Eq)]
+pub enum EventOutcome {
+    /// What the event holds was written.
+    Done,
+    /// The event is a fault of a side's frames: it has no content.
+    NoContent,
+    /// The log ends before the event.
+    FewerEvents,
+    /// The log has this fault before the event, at the record of this number, from 1; 0 is the first
+    /// line.
+    BadLog { number: u64, fault: LogCode },
+}
 
 /// What is due for an event that was asked for.
 #[derive(Drop)]
 pub(crate) struct Answer {
     /// What the event holds; nothing where there is no such event, or no content.
     content: Vec<u8>,
-    outcome: Outcome,
+    outcome: EventOutcome,
 }
 
 impl Answer {
     /// The event holds these bytes.
     fn of_content(alloc: Global, content: &[u8]) -> Result<Answer, RunFault>
-        ensures ok { IfOk result (λ answer. (answer.content.items ≡ content.now) × (answer.outcome ≡ Outcome.Done)) }
+        ensures ok { IfOk result (λ answer. (answer.content.items ≡ content.now) × (answer.outcome ≡ EventOutcome.Done)) }
         ensures err { (fault : RunFault) → result ≡ Err fault → fault ≡ RunFault.Memory }
     {
         Ok(Answer {
             content: Vec::from_slice(alloc, content)?,
-            outcome: Outcome::Done,
+            outcome: EventOutcome::Done,
         })
     }
 
     /// Nothing is held, and the run ends so.
-    fn without_content(alloc: Global, outcome: Outcome) -> Answer
+    fn without_content(alloc: Global, outcome: EventOutcome) -> Answer
         ensures { (result.content.items ≡ []) × (result.outcome ≡ outcome) }
     {
         Answer {
@@ -98,10 +112,10 @@ impl Search {
     {
         match next {
             Entry::Record(record) => self.take(&record),
-            Entry::End => Ok(Some(Answer::without_content(self.alloc, Outcome::FewerEvents))),
+            Entry::End => Ok(Some(Answer::without_content(self.alloc, EventOutcome::FewerEvents))),
             Entry::Bad { number, fault } => Ok(Some(Answer::without_content(
                 self.alloc,
-                Outcome::Judged(Verdict::BadLog { number, fault }),
+                EventOutcome::BadLog { number, fault },
             ))),
         }
     }
@@ -178,7 +192,7 @@ fn take_contents(
                 if *left > 0 {
                     return Ok(None);
                 }
-                return Ok(Some(Answer::without_content(alloc, Outcome::NoContent)));
+                return Ok(Some(Answer::without_content(alloc, EventOutcome::NoContent)));
             }
             Ok(None) => return Ok(None),
             Ok(Some(content)) => {
@@ -230,7 +244,7 @@ fn find_event<R: Source>(
 ///
 /// Events are counted as a verdict numbers them, but nothing is judged: an event may offend, and so may
 /// those before it. An event that is a fault of a side's frames has no content. Where the log ends before
-/// the event, the outcome is the verdict at its fault, or that there are fewer events.
+/// the event, the outcome is the log's fault, or that there are fewer events.
 ///
 /// # Errors
 /// `Read` where the source failed, `Write` where the sink did, and `Memory` where memory was refused.
@@ -240,14 +254,14 @@ pub fn run_event<R: Source, W: Sink>(
     writer: &mut W,
     limits: Limits,
     number: u64,
-) -> Result<Outcome, RunFault>
+) -> Result<EventOutcome, RunFault>
     requires { 0 < number }
     // What is due for that event of the log read, however that goes on where its end was not met, is
     // written, and nothing else; the outcome is the one that is due.
     ensures written { IfOk result (λ outcome. (out : List ℕ) × Took (W.told writer.old) (W.told writer.new) out
         × OfRead limits (R.told reader.old) (R.told reader.new) (λ log. IsEvent limits log number out outcome)) }
     // That there are fewer events is known only at the source's end.
-    ensures ended { result ≡ Ok Outcome.FewerEvents → IsAtEnd (R.told reader.new).bytes }
+    ensures ended { result ≡ Ok EventOutcome.FewerEvents → IsAtEnd (R.told reader.new).bytes }
 
     // What is written before a fault begins what is due; after a read fault or for want of memory that is
     // nothing.

@@ -253,7 +253,7 @@ fn write_closing<W: Sink>(
         && mode != Mode::Canonical
     {
         let report = stream_report(alloc, *frame, *fault)?;
-        put_all(writer, report.as_bytes())?;
+        put_all(writer, report.as_slice())?;
     }
     Ok(())
 }

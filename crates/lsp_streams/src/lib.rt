@@ -10,7 +10,7 @@ mod normal_laws;
 mod pieces;
 mod stream_laws;
 
-pub use event::run_event;
+pub use event::{EventOutcome, run_event};
 pub use event_laws::{event_is_numbered, one_event, some_event};
 pub use frames::run_frames;
 pub use normal::run_normal;

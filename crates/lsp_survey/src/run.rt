@@ -21,7 +21,7 @@ use lsp_frame::{Limits, Sink, Source, put_all};
 use lsp_rpc::Memory;
 use lsp_verdict::{
     Completeness, Listing, Offence, Outcome, RunFault, Summary, Verdict, found_report,
-    offence_report, report_of,
+    offence_report, verdict_report,
 };
 use std::alloc::Global;
 
@@ -237,7 +237,7 @@ fn closing_of(
         }),
         None => {
             let verdict = events.sound(bad)?;
-            let text = report_of(alloc, &verdict)?;
+            let text = verdict_report(alloc, &verdict)?;
             Ok(Closing { text, verdict })
         }
     }
@@ -252,7 +252,7 @@ fn last_lines(alloc: Global, tally: &Tally, bad: &Option<Verdict>) -> Result<Str
     let Some(verdict) = bad else {
         return Ok(count);
     };
-    let mut text = report_of(alloc, verdict)?;
+    let mut text = verdict_report(alloc, verdict)?;
     text.push_str(count.as_str())?;
     Ok(text)
 }

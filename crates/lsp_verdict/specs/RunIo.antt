@@ -6,7 +6,6 @@ use Rattle.lsp_frame.specs.Sink.{Wrote, Stopped}
 use Rattle.lsp_frame.specs.Told.{Told, Gave, Took, after_failure}
 use Rattle.lsp_frame.specs.declared.decoder.PullFault.{PullFault}
 use Rattle.lsp_frame.specs.declared.decoder.PullFault.TheVariants as pulls
-use Rattle.lsp_verdict.specs.declared.outcome.Outcome.{Outcome}
 use Rattle.lsp_verdict.specs.declared.outcome.RunFault.{RunFault}
 use Rattle.lsp_verdict.specs.declared.outcome.RunFault.TheVariants as faults
 
@@ -69,16 +68,19 @@ failures_after faults.Read before = after_failure before
 failures_after faults.Write before = before
 failures_after faults.Memory before = before
 
-abbrev pub source_failures : Result Outcome RunFault → ℕ → ℕ
-source_failures (Ok outcome) before = before
+abbrev pub source_failures : {X : Type 0} → Result X RunFault → ℕ → ℕ
+source_failures (Ok answer) before = before
 source_failures (Err fault) before = failures_after fault before
 
 -- a sink has failed once more after a write fault, and no more after anything else
-abbrev pub sink_failures : Result Outcome RunFault → ℕ → ℕ
-sink_failures (Err faults.Write) before = after_failure before
-sink_failures (Err faults.Read) before = before
-sink_failures (Err faults.Memory) before = before
-sink_failures (Ok outcome) before = before
+abbrev pub sink_failures_after : RunFault → ℕ → ℕ
+sink_failures_after faults.Write before = after_failure before
+sink_failures_after faults.Read before = before
+sink_failures_after faults.Memory before = before
+
+abbrev pub sink_failures : {X : Type 0} → Result X RunFault → ℕ → ℕ
+sink_failures (Ok answer) before = before
+sink_failures (Err fault) before = sink_failures_after fault before
 
 -- reading broke off, before anything was written: the source gave no more than it may, and it alone may have failed
 pub record BreaksOff (limits : Bounds) (start now : Told) (fault : RunFault) : Type 0 where

@@ -47,5 +47,5 @@ pub use offence_laws::{
     nothing_listed, one_survey, some_survey, survey_agrees,
 };
 pub use outcome::{Mode, Outcome, RunFault, StreamFault};
-pub use report::{report_of, stream_report};
+pub use report::{frame_report, report_of, stream_report, verdict_report};
 pub use verdict::{OpenDocument, Summary, Verdict, Who, who_of};

@@ -40,10 +40,6 @@ pub enum Outcome {
     NoDocument,
     /// The editor sent fewer messages than were asked for.
     TooFew,
-    /// The event that was asked for has no content: it is a fault of a side's frames.
-    NoContent,
-    /// The log has fewer events than were asked for.
-    FewerEvents,
 }
 
 /// Why a run stopped before its end.

@@ -27,7 +27,7 @@ fn two_lines(alloc: Global, code: &str, frame: u64, text: &str) -> Result<String
 
 /// The two lines that tell the fault of a frame: its code and the frame's number, and the rule's
 /// fixed text. A rule without a text has an empty second line.
-pub fn stream_report(alloc: Global, frame: u64, fault: StreamFault) -> Result<String, Memory>
+pub fn frame_report(alloc: Global, frame: u64, fault: StreamFault) -> Result<String, Memory>
     ensures { IfOk result (λ written. string_bytes written ≡ stream_report frame fault) }
 {
     match fault {
@@ -39,6 +39,14 @@ pub fn stream_report(alloc: Global, frame: u64, fault: StreamFault) -> Result<St
             two_lines(alloc, code_name(LogCode::L6), frame, code_text(LogCode::L6))
         }
     }
+}
+
+/// The bytes of [`frame_report`].
+pub fn stream_report(alloc: Global, frame: u64, fault: StreamFault) -> Result<Vec<u8>, Memory>
+    ensures { IfOk result (λ written. written.items ≡ stream_report frame fault) }
+{
+    let report = frame_report(alloc, frame, fault)?;
+    Ok(report.into_bytes())
 }
 
 fn push_document(alloc: Global, report: &mut String, document: &OpenDocument) -> Result<(), Memory>
@@ -164,7 +172,7 @@ fn bad_log_report(alloc: Global, number: u64, fault: LogCode) -> Result<String, 
 /// and one for each open request, the editor's first; URIs, ids and methods are JSON text. Of No:
 /// the rule, whose event it is, its number and that of the event, and the rule's fixed text. Of a
 /// bad log: its code, the number of the record, and the fixed text.
-pub fn report_of(alloc: Global, verdict: &Verdict) -> Result<String, Memory>
+pub fn verdict_report(alloc: Global, verdict: &Verdict) -> Result<String, Memory>
     ensures { IfOk result (λ written. string_bytes written ≡ report (verdict_view verdict.now)) }
 {
     match verdict {
@@ -177,4 +185,12 @@ pub fn report_of(alloc: Global, verdict: &Verdict) -> Result<String, Memory>
         } => no_report(alloc, *rule, *who, *number, *event),
         Verdict::BadLog { number, fault } => bad_log_report(alloc, *number, *fault),
     }
+}
+
+/// The bytes of [`verdict_report`].
+pub fn report_of(alloc: Global, verdict: &Verdict) -> Result<Vec<u8>, Memory>
+    ensures { IfOk result (λ written. written.items ≡ report (verdict_view verdict.now)) }
+{
+    let report = verdict_report(alloc, verdict)?;
+    Ok(report.into_bytes())
 }

@@ -14,10 +14,10 @@ use clap::Error;
 use clap::error::ErrorKind;
 pub use lsp_command::status_of;
 use lsp_command::{
-    Hint, Inlet, Outlet, Request, hint_of, remark_of, report_apart, request_of, run_through,
-    status_of_words,
+    Hint, Inlet, Outlet, Request, TaskOutcome, hint_of, remark_of, report_apart, request_of,
+    run_through, status_of_task, status_of_words,
 };
-use lsp_judge::{Limits, Outcome, RunFault};
+use lsp_judge::{Limits, RunFault};
 use std::alloc::Global;
 use std::io::Read;
 use std::process::ExitCode;
@@ -38,7 +38,7 @@ enum Advice {
 /// How a run ended, and what may help beyond that.
 #[derive(Drop)]
 struct Ended {
-    answer: Result<Outcome, RunFault>,
+    answer: Result<TaskOutcome, RunFault>,
     advice: Option<Advice>,
 }
 
@@ -92,8 +92,8 @@ fn run<R: Files + io::Input + Print + AllocGlobal>(rt: &R, request: &Request<'_>
 fn show_report<R: Eprint + AllocGlobal>(
     rt: &R,
     request: &Request<'_>,
-    answer: Result<Outcome, RunFault>,
-) -> Result<Outcome, RunFault> {
+    answer: Result<TaskOutcome, RunFault>,
+) -> Result<TaskOutcome, RunFault> {
     let outcome = answer?;
     if let Some(report) = report_apart(rt.alloc(), request.task, &outcome)? {
         let _ = rt.eprint(report.as_str());
@@ -116,11 +116,11 @@ fn show_advice<R: Eprint>(rt: &R, file: Option<&str>, advice: Option<Advice>) {
 
 /// The status of a run, of which is said on standard error what is to be said. A failure of standard
 /// error changes nothing.
-fn status_shown<R: Eprint>(rt: &R, answer: &Result<Outcome, RunFault>) -> u8 {
+fn status_shown<R: Eprint>(rt: &R, answer: &Result<TaskOutcome, RunFault>) -> u8 {
     if let Some(remark) = remark_of(answer) {
         let _ = rt.eprintln(remark);
     }
-    status_of(answer)
+    status_of_task(answer)
 }
 
 /// Runs, and says on standard error what is to be said of it.

@@ -11,7 +11,7 @@ use Rattle.lsp_docs.specs.State.{capped}
 use Rattle.lsp_log.specs.Log.{Record, IsLog}
 use Rattle.lsp_log.specs.declared.fault.LogCode.{LogCode}
 use Rattle.lsp_verdict.specs.declared.outcome.Outcome.{Outcome}
-use Rattle.lsp_verdict.specs.declared.outcome.Outcome.TheVariants.{Done, Judged, Stream, NoDocument, TooFew, NoContent, FewerEvents}
+use Rattle.lsp_verdict.specs.declared.outcome.Outcome.TheVariants.{Done, Judged, Stream, NoDocument, TooFew}
 use Rattle.lsp_verdict.specs.Given.{as_given}
 use Rattle.lsp_verdict.specs.LookBack.{first_from}
 use Rattle.lsp_verdict.specs.Outcome.{ending}
@@ -63,5 +63,3 @@ carries_exact (Judged v) fault exact carries = sym exact ∙ carries
 carries_exact (Stream frame f) fault exact carries = absurd carries
 carries_exact NoDocument fault exact carries = absurd carries
 carries_exact TooFew fault exact carries = absurd carries
-carries_exact NoContent fault exact carries = absurd carries
-carries_exact FewerEvents fault exact carries = absurd carries

@@ -23,12 +23,12 @@ use Rattle.lsp_verdict.specs.Entries as entries
 use Rattle.lsp_verdict.specs.Entries.{IsAt, HasRecords, HasFirst, IsKnown, EntryIs}
 use Rattle.lsp_verdict.specs.Outcome.{ending, format_or_one}
 use Rattle.lsp_verdict.specs.Placed.{Raw, Placed, joined}
-use Rattle.lsp_verdict.specs.RunIo.{OfRead, source_failures, sink_failures}
+use Rattle.lsp_verdict.specs.RunIo.{OfRead, failures_after, sink_failures_after}
 use Rattle.lsp_verdict.specs.Verdict.{Verdict, bad_log}
 use Rattle.lsp_verdict.specs.declared.entry.Entry.{Entry}
 use Rattle.lsp_verdict.specs.declared.entry.Entry.TheVariants as entry
 use Rattle.lsp_verdict.specs.declared.outcome.Outcome.{Outcome}
-use Rattle.lsp_verdict.specs.declared.outcome.Outcome.TheVariants.{Done, Judged, Stream, NoDocument, TooFew, NoContent, FewerEvents}
+use Rattle.lsp_verdict.specs.declared.outcome.Outcome.TheVariants.{Done, Judged, Stream, NoDocument, TooFew}
 use Rattle.lsp_verdict.specs.declared.outcome.RunFault.{RunFault}
 use Rattle.lsp_verdict.specs.declared.outcome.RunFault.TheVariants as faults
 use Rattle.lsp_verdict.specs.declared.verdict.Verdict.TheVariants as given
@@ -118,20 +118,18 @@ carried (Judged w) v carries e = absurd cc
 carried (Stream frame fault) v carries e = absurd cc
 carried NoDocument v carries e = absurd cc
 carried TooFew v carries e = absurd cc
-carried NoContent v carries e = absurd cc
-carried FewerEvents v carries e = absurd cc
 
-late_source : (fault : RunFault) (n : ℕ) → IsLate fault → n ≡ source_failures (Err fault) n
+late_source : (fault : RunFault) (n : ℕ) → IsLate fault → n ≡ failures_after fault n
 late_source faults.Read n late = absurd late
 late_source faults.Write n late = refl
 late_source faults.Memory n late = refl
 
 -- a fault of the writer or of memory behind what was written
-failures_along : (fault : RunFault) (a b c : ℕ) → b ≡ a → c ≡ sink_failures (Err fault) b → c ≡ sink_failures (Err fault) a
-failures_along fault a b c same is = is ∙ ap (sink_failures (Err fault)) same
+failures_along : (fault : RunFault) (a b c : ℕ) → b ≡ a → c ≡ sink_failures_after fault b → c ≡ sink_failures_after fault a
+failures_along fault a b c same is = is ∙ ap (sink_failures_after fault) same
 
 -- a fault of the reader or of memory, where no write failed
-unwritten_sink : (fault : RunFault) (n : ℕ) → (fault ≡ faults.Write → ⊥) → n ≡ sink_failures (Err fault) n
+unwritten_sink : (fault : RunFault) (n : ℕ) → (fault ≡ faults.Write → ⊥) → n ≡ sink_failures_after fault n
 unwritten_sink faults.Read n none = refl
 unwritten_sink faults.Memory n none = refl
 unwritten_sink faults.Write n none = absurd (none refl)

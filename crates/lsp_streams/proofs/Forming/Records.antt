@@ -20,7 +20,7 @@ use Rattle.lsp_verdict.specs.Event.{Event}
 use Rattle.lsp_streams.specs.Normal.{first_broken}
 use Rattle.lsp_streams.specs.NormalSteps.{mark, spelled, IsLate, WroteFront, BroughtFault, BroughtPart, BringsRecords, Formed, FormedFault, FormedPart, FormsRecord, AreFresh}
 use Rattle.lsp_verdict.specs.Placed.{Raw, show, Brings, Placed, joined}
-use Rattle.lsp_verdict.specs.RunIo.{sink_failures}
+use Rattle.lsp_verdict.specs.RunIo.{sink_failures_after}
 use Rattle.lsp_verdict.specs.Counting.{AreCounts}
 use Rattle.lsp_verdict.specs.Drained.{IsDrained}
 use Rattle.lsp_verdict.specs.Verdict.{whose}
@@ -40,9 +40,9 @@ placed_shown limits rs n uri text raws placed = placed-snoc limits [] [] rs (sho
 wrote_more : (size : ℕ) (raws now : List Raw) (start mid new : Told) → first_broken raws ≡ None → Wrote start mid (spelled size raws) → Wrote mid new (spelled size now) → Wrote start new (spelled size (raws ++ now))
 wrote_more size raws now start mid new sound p q = subst (λ (w : List ℕ). Wrote start new w) (sym (spelled_behind size raws now sound)) (wrote_then start mid new (spelled size raws) (spelled size now) p q)
 
-failures_then : (fault : RunFault) (a b c : ℕ) → IsLate fault → b ≡ a → c ≡ sink_failures (Err fault) b → c ≡ sink_failures (Err fault) a
+failures_then : (fault : RunFault) (a b c : ℕ) → IsLate fault → b ≡ a → c ≡ sink_failures_after fault b → c ≡ sink_failures_after fault a
 failures_then Read a b c late same is = absurd late
-failures_then Write a b c late same is = is ∙ ap (sink_failures (Err Write)) same
+failures_then Write a b c late same is = is ∙ ap (sink_failures_after Write) same
 failures_then Memory a b c late same is = is ∙ same
 
 front_part : (size : ℕ) (raws now : List Raw) (start mid new : Told) (fault : RunFault) → IsLate fault → first_broken raws ≡ None → Wrote start mid (spelled size raws) → WroteFront mid new (spelled size now) fault → WroteFront start new (spelled size (raws ++ now)) fault

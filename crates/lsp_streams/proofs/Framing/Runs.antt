@@ -23,7 +23,7 @@ use Rattle.lsp_verdict.specs.declared.outcome.RunFault.{RunFault}
 use Rattle.lsp_verdict.specs.declared.outcome.RunFault.TheVariants as faults
 use Rattle.lsp_verdict.specs.declared.outcome.StreamFault.TheVariants.{Rule, TooLong}
 use Rattle.lsp_streams.specs.StreamParts.{Refuses, outcome_at, RunsThrough}
-use Rattle.lsp_verdict.specs.RunIo.{of_pull, source_failures, sink_failures}
+use Rattle.lsp_verdict.specs.RunIo.{of_pull, failures_after, sink_failures_after}
 use Rattle.lsp_streams.specs.StreamRun.{fault_of, HasParts}
 use Rattle.lsp_streams.specs.StreamSteps.{AreParts, FoundAll, StopsAt, FoundFault, FoundBroken, Finds, WroteParts, BrokeOff, SoFar, ToldAll}
 use Rattle.lsp_streams.proofs.Framing.Parts.{run_through, run_refused}
@@ -57,7 +57,7 @@ told_all limits mode before now sink_before sink_now sink_new d e given given' r
 
 -- the run stopped while parts were written
 pub found_broke : (limits : Bounds) (mode : Mode) (before now sink_before sink_now sink_new : Told) (d e : State) (given read : ℕ) (fault : RunFault) (so_far : SoFar limits mode before now sink_before sink_now d given read)
-    → FoundBroken e mode sink_now sink_new so_far.bytes so_far.parts fault → e.limits ≡ d.limits → source_failures (Err fault) before.failures ≡ before.failures → sink_failures (Err fault) sink_now.failures ≡ sink_failures (Err fault) sink_before.failures
+    → FoundBroken e mode sink_now sink_new so_far.bytes so_far.parts fault → e.limits ≡ d.limits → failures_after fault before.failures ≡ before.failures → sink_failures_after fault sink_now.failures ≡ sink_failures_after fault sink_before.failures
     → BrokeOff limits mode before now sink_before sink_new fault
 found_broke limits mode before now sink_before sink_now sink_new d e given read fault so_far found same source sink =
     let len = so_far.len in

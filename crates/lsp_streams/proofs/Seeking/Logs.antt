@@ -12,15 +12,14 @@ use Rattle.lsp_log.specs.declared.fault.LogCode.{LogCode}
 use Rattle.lsp_streams.specs.Event.{content_at, outcome_of, outcome_at, without, event_at, IsEvent, BeginsEvent}
 use Rattle.lsp_streams.specs.EventSteps.{HasPassed, HasFound, SeeksRecord, SoFar, Found, SeeksEntry}
 use Rattle.lsp_streams.specs.declared.event.Answer.{Answer}
+use Rattle.lsp_streams.specs.declared.event.EventOutcome.{EventOutcome}
+use Rattle.lsp_streams.specs.declared.event.EventOutcome.TheVariants.{FewerEvents, BadLog}
 use Rattle.lsp_streams.specs.declared.event.Search.{Search}
 use Rattle.lsp_verdict.specs.Entries as entries
 use Rattle.lsp_verdict.specs.Entries.{IsAt, HasRecords, HasFirst, EntryIs}
 use Rattle.lsp_verdict.specs.Placed.{Raw, content, broken, show}
 use Rattle.lsp_verdict.specs.RunIo.{OfRead, failures_after, BreaksOff}
-use Rattle.lsp_verdict.specs.declared.outcome.Outcome.{Outcome}
-use Rattle.lsp_verdict.specs.declared.outcome.Outcome.TheVariants.{Judged, FewerEvents}
 use Rattle.lsp_verdict.specs.declared.outcome.RunFault.{RunFault}
-use Rattle.lsp_verdict.specs.declared.verdict.Verdict.TheVariants.{BadLog}
 use Rattle.lsp_verdict.proofs.Entries.{is_first, at_start}
 use Rattle.lsp_verdict.proofs.Outcomes.{placed_front}
 use Rattle.lsp_verdict.proofs.RunReading.{read_map}
@@ -31,7 +30,7 @@ use Rattle.lsp_streams.proofs.Seeking.Places.{still_at}
 -- ---- an event of the first records
 
 -- an event that is no end
-not_fewer : (raw : Raw) (outcome : Outcome) → outcome ≡ outcome_of raw → outcome ≡ FewerEvents → ⊥
+not_fewer : (raw : Raw) (outcome : EventOutcome) → outcome ≡ outcome_of raw → outcome ≡ FewerEvents → ⊥
 not_fewer (content side bytes) outcome is e = absurd (cc (sym is ∙ e))
 not_fewer (broken side rule) outcome is e = absurd (cc (sym is ∙ e))
 not_fewer (show n uri text) outcome is e = absurd (cc (sym is ∙ e))
@@ -97,7 +96,7 @@ end_answers limits r s start now n rs answer passed has met is = record {
 }
 
 pub bad_answers : (limits : Bounds) (r : reader.State) (s : Search) (start now : Told) (n : ℕ) (rs : List Record) (answer : Answer) (number : ℕ) (code : LogCode) → HasPassed limits s n rs → HasRecords limits start now r.format rs (Some (number, code))
-    → (answer.content.items ≡ []) × (answer.outcome ≡ Judged (BadLog number code)) → Found limits n start now answer
+    → (answer.content.items ≡ []) × (answer.outcome ≡ BadLog number code) → Found limits n start now answer
 bad_answers limits r s start now n rs answer number code passed has is = record {
   of_read = read_map limits start now (λ log. IsLog limits log r.format rs (Some (number, code))) (λ log. IsEvent limits log n answer.content.items answer.outcome)
       (λ log is_log. ends_before limits n s r.format rs (Some (number, code)) answer log passed is_log is) has.of_read;

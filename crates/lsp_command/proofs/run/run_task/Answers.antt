@@ -1,85 +1,244 @@
+use Rattle.lsp_command.proofs.Endings.{run_source, run_sink, event_source, event_sink}
 use Rattle.lsp_command.proofs.run.run_task.Goals as goal
 
 pub returns-in-Check-Ignored-clause-answers : goal.returns-in-Check-Ignored-clause-answers
 returns-in-Check-Ignored-clause-answers g c =
-    let ignored = rw c.in-Check-Ignored.is at c.in-Check-Ignored.field-0-is in
-    rw (c.in-Check-Ignored.is, ignored) (record {
-      judged = c.run_check.ensures.judged;
-      verdict = c.run_check.ensures.verdict;
-      report = c.run_check.ensures.report;
-      ended = c.run_check.ensures.ended;
-      read_fault = c.run_check.ensures.read_fault;
-      memory = c.run_check.ensures.memory;
-      write_fault = c.run_check.ensures.write_fault;
-    })
+    let of = rw c.in-Check-Ignored.is at c.in-Check-Ignored.field-0-is in
+    rw (c.in-Check-Ignored.is, of) (
+      c.run_check.result,
+      c.of_run.ensures,
+      record {
+        judged = c.run_check.ensures.judged;
+        verdict = c.run_check.ensures.verdict;
+        report = c.run_check.ensures.report;
+        ended = c.run_check.ensures.ended;
+        read_fault = c.run_check.ensures.read_fault;
+        memory = c.run_check.ensures.memory;
+        write_fault = c.run_check.ensures.write_fault;
+      },
+    )
+
+pub returns-in-Check-Ignored-clause-source_failures : goal.returns-in-Check-Ignored-clause-source_failures
+returns-in-Check-Ignored-clause-source_failures g c = run_source _ _ _ _ c.of_run.ensures c.run_check.ensures.source_failures
+
+pub returns-in-Check-Ignored-clause-sink_failures : goal.returns-in-Check-Ignored-clause-sink_failures
+returns-in-Check-Ignored-clause-sink_failures g c = run_sink _ _ _ _ c.of_run.ensures c.run_check.ensures.sink_failures
 
 pub returns-in-Check-Required-clause-answers : goal.returns-in-Check-Required-clause-answers
 returns-in-Check-Required-clause-answers g c =
-    let required = rw c.in-Check-Required.is at c.in-Check-Required.field-0-is in
-    rw (c.in-Check-Required.is, required) (record {
-      judged = c.run_check_complete.ensures.judged;
-      verdict = c.run_check_complete.ensures.verdict;
-      report = c.run_check_complete.ensures.report;
-      ended = c.run_check_complete.ensures.ended;
-      read_fault = c.run_check_complete.ensures.read_fault;
-      memory = c.run_check_complete.ensures.memory;
-      write_fault = c.run_check_complete.ensures.write_fault;
-    })
+    let of = rw c.in-Check-Required.is at c.in-Check-Required.field-0-is in
+    rw (c.in-Check-Required.is, of) (
+      c.run_check_complete.result,
+      c.of_run-in-Check-Required.ensures,
+      record {
+        judged = c.run_check_complete.ensures.judged;
+        verdict = c.run_check_complete.ensures.verdict;
+        report = c.run_check_complete.ensures.report;
+        ended = c.run_check_complete.ensures.ended;
+        read_fault = c.run_check_complete.ensures.read_fault;
+        memory = c.run_check_complete.ensures.memory;
+        write_fault = c.run_check_complete.ensures.write_fault;
+      },
+    )
+
+pub returns-in-Check-Required-clause-source_failures : goal.returns-in-Check-Required-clause-source_failures
+returns-in-Check-Required-clause-source_failures g c = run_source _ _ _ _ c.of_run-in-Check-Required.ensures c.run_check_complete.ensures.source_failures
+
+pub returns-in-Check-Required-clause-sink_failures : goal.returns-in-Check-Required-clause-sink_failures
+returns-in-Check-Required-clause-sink_failures g c = run_sink _ _ _ _ c.of_run-in-Check-Required.ensures c.run_check_complete.ensures.sink_failures
 
 pub returns-in-Survey-clause-answers : goal.returns-in-Survey-clause-answers
-returns-in-Survey-clause-answers g c = rw c.in-Survey.is (record {
-  judged = c.run_survey.ensures.judged;
-  verdict = c.run_survey.ensures.verdict;
-  written = c.run_survey.ensures.written;
-  ended = c.run_survey.ensures.ended;
-  fault = c.run_survey.ensures.fault;
-})
+returns-in-Survey-clause-answers g c =
+    rw c.in-Survey.is (
+      c.run_survey.result,
+      c.of_run-in-Survey.ensures,
+      record {
+        judged = c.run_survey.ensures.judged;
+        verdict = c.run_survey.ensures.verdict;
+        written = c.run_survey.ensures.written;
+        ended = c.run_survey.ensures.ended;
+        fault = c.run_survey.ensures.fault;
+      },
+    )
+
+pub returns-in-Survey-clause-source_failures : goal.returns-in-Survey-clause-source_failures
+returns-in-Survey-clause-source_failures g c = run_source _ _ _ _ c.of_run-in-Survey.ensures c.run_survey.ensures.source_failures
+
+pub returns-in-Survey-clause-sink_failures : goal.returns-in-Survey-clause-sink_failures
+returns-in-Survey-clause-sink_failures g c = run_sink _ _ _ _ c.of_run-in-Survey.ensures c.run_survey.ensures.sink_failures
 
 pub returns-in-Explain-clause-answers : goal.returns-in-Explain-clause-answers
-returns-in-Explain-clause-answers g c = rw c.in-Explain.is (record {
-  judged = c.run_explain.ensures.judged;
-  verdict = c.run_explain.ensures.verdict;
-  written = c.run_explain.ensures.written;
-  ended = c.run_explain.ensures.ended;
-  read_fault = c.run_explain.ensures.read_fault;
-  memory = c.run_explain.ensures.memory;
-  write_fault = c.run_explain.ensures.write_fault;
-})
+returns-in-Explain-clause-answers g c =
+    rw c.in-Explain.is (
+      c.run_explain.result,
+      c.of_run-in-Explain.ensures,
+      record {
+        judged = c.run_explain.ensures.judged;
+        verdict = c.run_explain.ensures.verdict;
+        written = c.run_explain.ensures.written;
+        ended = c.run_explain.ensures.ended;
+        read_fault = c.run_explain.ensures.read_fault;
+        memory = c.run_explain.ensures.memory;
+        write_fault = c.run_explain.ensures.write_fault;
+      },
+    )
+
+pub returns-in-Explain-clause-source_failures : goal.returns-in-Explain-clause-source_failures
+returns-in-Explain-clause-source_failures g c = run_source _ _ _ _ c.of_run-in-Explain.ensures c.run_explain.ensures.source_failures
+
+pub returns-in-Explain-clause-sink_failures : goal.returns-in-Explain-clause-sink_failures
+returns-in-Explain-clause-sink_failures g c = run_sink _ _ _ _ c.of_run-in-Explain.ensures c.run_explain.ensures.sink_failures
 
 pub returns-in-ExplainAll-clause-answers : goal.returns-in-ExplainAll-clause-answers
-returns-in-ExplainAll-clause-answers g c = rw c.in-ExplainAll.is (record {
-  judged = c.run_explain_all.ensures.judged;
-  verdict = c.run_explain_all.ensures.verdict;
-  written = c.run_explain_all.ensures.written;
-  ended = c.run_explain_all.ensures.ended;
-  fault = c.run_explain_all.ensures.fault;
-})
+returns-in-ExplainAll-clause-answers g c =
+    rw c.in-ExplainAll.is (
+      c.run_explain_all.result,
+      c.of_run-in-ExplainAll.ensures,
+      record {
+        judged = c.run_explain_all.ensures.judged;
+        verdict = c.run_explain_all.ensures.verdict;
+        written = c.run_explain_all.ensures.written;
+        ended = c.run_explain_all.ensures.ended;
+        fault = c.run_explain_all.ensures.fault;
+      },
+    )
 
-pub returns-in-Show-clause-answers : goal.returns-in-Show-clause-answers
-returns-in-Show-clause-answers g c = rw c.in-Show.is (record {
-  judged = c.run_show.ensures.judged;
-  shown = c.run_show.ensures.shown;
-  ended = c.run_show.ensures.ended;
-  fault = c.run_show.ensures.fault;
-})
+pub returns-in-ExplainAll-clause-source_failures : goal.returns-in-ExplainAll-clause-source_failures
+returns-in-ExplainAll-clause-source_failures g c = run_source _ _ _ _ c.of_run-in-ExplainAll.ensures c.run_explain_all.ensures.source_failures
+
+pub returns-in-ExplainAll-clause-sink_failures : goal.returns-in-ExplainAll-clause-sink_failures
+returns-in-ExplainAll-clause-sink_failures g c = run_sink _ _ _ _ c.of_run-in-ExplainAll.ensures c.run_explain_all.ensures.sink_failures
+
+pub returns-in-Show-Short-clause-answers : goal.returns-in-Show-Short-clause-answers
+returns-in-Show-Short-clause-answers g c =
+    let of = rw c.in-Show-Short.is at c.in-Show-Short.field-0-is in
+    rw (c.in-Show-Short.is, of) (
+      c.run_show.result,
+      c.of_run-in-Show-Short.ensures,
+      record {
+        judged = c.run_show.ensures.judged;
+        shown = c.run_show.ensures.shown;
+        ended = c.run_show.ensures.ended;
+        fault = c.run_show.ensures.fault;
+      },
+    )
+
+pub returns-in-Show-Short-clause-source_failures : goal.returns-in-Show-Short-clause-source_failures
+returns-in-Show-Short-clause-source_failures g c = run_source _ _ _ _ c.of_run-in-Show-Short.ensures c.run_show.ensures.source_failures
+
+pub returns-in-Show-Short-clause-sink_failures : goal.returns-in-Show-Short-clause-sink_failures
+returns-in-Show-Short-clause-sink_failures g c = run_sink _ _ _ _ c.of_run-in-Show-Short.ensures c.run_show.ensures.sink_failures
+
+pub returns-in-Show-Long-clause-answers : goal.returns-in-Show-Long-clause-answers
+returns-in-Show-Long-clause-answers g c =
+    let of = rw c.in-Show-Long.is at c.in-Show-Long.field-0-is in
+    rw (c.in-Show-Long.is, of) (
+      c.run_show_long.result,
+      c.of_run-in-Show-Long.ensures,
+      record {
+        judged = c.run_show_long.ensures.judged;
+        shown = c.run_show_long.ensures.shown;
+        ended = c.run_show_long.ensures.ended;
+        fault = c.run_show_long.ensures.fault;
+      },
+    )
+
+pub returns-in-Show-Long-clause-source_failures : goal.returns-in-Show-Long-clause-source_failures
+returns-in-Show-Long-clause-source_failures g c = run_source _ _ _ _ c.of_run-in-Show-Long.ensures c.run_show_long.ensures.source_failures
+
+pub returns-in-Show-Long-clause-sink_failures : goal.returns-in-Show-Long-clause-sink_failures
+returns-in-Show-Long-clause-sink_failures g c = run_sink _ _ _ _ c.of_run-in-Show-Long.ensures c.run_show_long.ensures.sink_failures
 
 pub returns-in-Text-clause-answers : goal.returns-in-Text-clause-answers
-returns-in-Text-clause-answers g c = rw (c.in-Text.is, ← c.get.ensures.value) (record {
-  text = c.run_text.ensures.text;
-  silent = c.run_text.ensures.silent;
-  no_document = c.run_text.ensures.no_document;
-  too_few = c.run_text.ensures.too_few;
-  refused = c.run_text.ensures.refused;
-  read_fault = c.run_text.ensures.read_fault;
-  memory = c.run_text.ensures.memory;
-  write_fault = c.run_text.ensures.write_fault;
-})
+returns-in-Text-clause-answers g c =
+    rw (c.in-Text.is, ← c.get.ensures.value) (
+      c.run_text.result,
+      c.of_run-in-Text.ensures,
+      record {
+        written = c.run_text.ensures.written;
+        read_fault = c.run_text.ensures.read_fault;
+        memory = c.run_text.ensures.memory;
+        write_fault = c.run_text.ensures.write_fault;
+      },
+    )
+
+pub returns-in-Text-clause-source_failures : goal.returns-in-Text-clause-source_failures
+returns-in-Text-clause-source_failures g c = run_source _ _ _ _ c.of_run-in-Text.ensures c.run_text.ensures.source_failures
+
+pub returns-in-Text-clause-sink_failures : goal.returns-in-Text-clause-sink_failures
+returns-in-Text-clause-sink_failures g c = run_sink _ _ _ _ c.of_run-in-Text.ensures c.run_text.ensures.sink_failures
 
 pub returns-in-Event-clause-answers : goal.returns-in-Event-clause-answers
-returns-in-Event-clause-answers g c = rw (c.in-Event.is, ← c.get-in-Event.ensures.value) (record {
-  written = c.run_event.ensures.written;
-  ended = c.run_event.ensures.ended;
-  fault = c.run_event.ensures.fault;
-  read_fault = c.run_event.ensures.read_fault;
-  memory = c.run_event.ensures.memory;
-})
+returns-in-Event-clause-answers g c =
+    rw (c.in-Event.is, ← c.get-in-Event.ensures.value) (
+      c.run_event.result,
+      c.of_event.ensures,
+      record {
+        written = c.run_event.ensures.written;
+        ended = c.run_event.ensures.ended;
+        fault = c.run_event.ensures.fault;
+        read_fault = c.run_event.ensures.read_fault;
+        memory = c.run_event.ensures.memory;
+      },
+    )
+
+pub returns-in-Event-clause-source_failures : goal.returns-in-Event-clause-source_failures
+returns-in-Event-clause-source_failures g c = event_source _ _ _ _ c.of_event.ensures c.run_event.ensures.source_failures
+
+pub returns-in-Event-clause-sink_failures : goal.returns-in-Event-clause-sink_failures
+returns-in-Event-clause-sink_failures g c = event_sink _ _ _ _ c.of_event.ensures c.run_event.ensures.sink_failures
+
+pub returns-in-Normal-clause-answers : goal.returns-in-Normal-clause-answers
+returns-in-Normal-clause-answers g c =
+    rw c.in-Normal.is (
+      c.run_normal.result,
+      c.of_run-in-Normal.ensures,
+      record {
+        written = c.run_normal.ensures.written;
+        done = c.run_normal.ensures.done;
+        fault = c.run_normal.ensures.fault;
+      },
+    )
+
+pub returns-in-Normal-clause-source_failures : goal.returns-in-Normal-clause-source_failures
+returns-in-Normal-clause-source_failures g c = run_source _ _ _ _ c.of_run-in-Normal.ensures c.run_normal.ensures.source_failures
+
+pub returns-in-Normal-clause-sink_failures : goal.returns-in-Normal-clause-sink_failures
+returns-in-Normal-clause-sink_failures g c = run_sink _ _ _ _ c.of_run-in-Normal.ensures c.run_normal.ensures.sink_failures
+
+pub returns-in-Upgrade-clause-answers : goal.returns-in-Upgrade-clause-answers
+returns-in-Upgrade-clause-answers g c =
+    rw c.in-Upgrade.is (
+      c.run_upgrade.result,
+      c.of_run-in-Upgrade.ensures,
+      record {
+        judged = c.run_upgrade.ensures.judged;
+        written = c.run_upgrade.ensures.written;
+        ended = c.run_upgrade.ensures.ended;
+        fault = c.run_upgrade.ensures.fault;
+      },
+    )
+
+pub returns-in-Upgrade-clause-source_failures : goal.returns-in-Upgrade-clause-source_failures
+returns-in-Upgrade-clause-source_failures g c = run_source _ _ _ _ c.of_run-in-Upgrade.ensures c.run_upgrade.ensures.source_failures
+
+pub returns-in-Upgrade-clause-sink_failures : goal.returns-in-Upgrade-clause-sink_failures
+returns-in-Upgrade-clause-sink_failures g c = run_sink _ _ _ _ c.of_run-in-Upgrade.ensures c.run_upgrade.ensures.sink_failures
+
+pub returns-in-Frames-clause-answers : goal.returns-in-Frames-clause-answers
+returns-in-Frames-clause-answers g c =
+    rw c.in-Frames.is (
+      c.run_frames.result,
+      c.of_run-in-Frames.ensures,
+      record {
+        written = c.run_frames.ensures.written;
+        done = c.run_frames.ensures.done;
+        fault = c.run_frames.ensures.fault;
+      },
+    )
+
+pub returns-in-Frames-clause-source_failures : goal.returns-in-Frames-clause-source_failures
+returns-in-Frames-clause-source_failures g c = run_source _ _ _ _ c.of_run-in-Frames.ensures c.run_frames.ensures.source_failures
+
+pub returns-in-Frames-clause-sink_failures : goal.returns-in-Frames-clause-sink_failures
+returns-in-Frames-clause-sink_failures g c = run_sink _ _ _ _ c.of_run-in-Frames.ensures c.run_frames.ensures.sink_failures

@@ -5,7 +5,7 @@ use Rattle.lsp_verdict.specs.declared.verdict.Verdict.TheVariants.{Yes}
 use Rattle.lsp_verdict.proofs.Logs.Ends.{yes_at_end}
 use Rattle.lsp_verdict.proofs.RunReading.{read_within}
 use Rattle.lsp_judge.proofs.ShownLogs.{verdict_read, shown_read, lines_begun, report_begun}
-use Rattle.lsp_judge.proofs.show.run_show.Goals as goal
+use Rattle.lsp_judge.proofs.show.show.Goals as goal
 
 -- the log got no verdict
 pub returns-in_err-verdict-clause-fault : goal.returns-in_err-verdict-clause-fault
@@ -53,7 +53,7 @@ pub returns-in_err-put_all-clause-fault : goal.returns-in_err-put_all-clause-fau
 returns-in_err-put_all-clause-fault g c =
     let from = c.from_residual-in_err-put_all in
     let p = err_from_is_err_and from.result from.ensures.1 in
-    rw p.1 (report_begun _ _ _ _ _ _ _ _ _ c.in_ok-verdict.ensures.answer (c.as_bytes.ensures.value ∙ c.in_ok-report.ensures) c.in_err-put_all.ensures)
+    rw p.1 (report_begun _ _ _ _ _ _ _ _ _ c.in_ok-verdict.ensures.answer (c.as_slice.ensures.value ∙ c.in_ok-report.ensures) c.in_err-put_all.ensures)
 
 pub returns-in_err-put_all-clause-source_failures : goal.returns-in_err-put_all-clause-source_failures
 returns-in_err-put_all-clause-source_failures g c =
@@ -75,7 +75,7 @@ pub returns-clause-verdict : goal.returns-clause-verdict
 returns-clause-verdict g c = λ v e. verdict_read _ _ _ _ _ _ c.in_ok-verdict.verdict v c.in_ok-verdict.ensures.answer e
 
 pub returns-clause-shown : goal.returns-clause-shown
-returns-clause-shown g c = λ v e. shown_read _ _ _ _ _ _ _ c.in_ok-verdict.verdict v _ c.in_ok-verdict.ensures.answer (c.as_bytes.ensures.value ∙ c.in_ok-report.ensures) c.in_ok-put_all.ensures e
+returns-clause-shown g c = λ v e. shown_read _ _ _ _ _ _ _ c.in_ok-verdict.verdict v _ c.in_ok-verdict.ensures.answer (c.as_slice.ensures.value ∙ c.in_ok-report.ensures) c.in_ok-put_all.ensures e
 
 pub returns-clause-ended : goal.returns-clause-ended
 returns-clause-ended g c = λ s e. yes_at_end _ c.show_log.ensures.range _ _ _ (verdict_read _ _ _ _ _ _ c.in_ok-verdict.verdict (Yes s) c.in_ok-verdict.ensures.answer e)
