@@ -1,5 +1,5 @@
 " Records what ALE and its language servers say to each other, as logs for lspcheck.
-" Write into vimrc, behind the line that puts ALE on the runtime path: source FOLDER/ale/job.vim
+" Write into vimrc, after the line that puts ALE on the runtime path: source FOLDER/ale/job.vim
 " (Vim takes new bodies for ALE's functions from a file of this very name: keep it, in a folder ale.)
 " Each server process gets a log of its own, NAME-PID-NUMBER.log, in $LSPCHECK_LOGS or the working
 " folder. The snapshot of a buffer is taken as soon as ALE has sent its text.
