@@ -1,4 +1,8 @@
 //! The commands and options of the command line, and the words of their help.
+ghost use Rattle.std.specs.Prelude.{◌≡◌, [], IfOk, IsOkAnd, true};
+ghost use Rattle.clap.specs.Words.{AddsSubcommand, app_of, shape_of};
+ghost use Rattle.lsp_words.specs.CommandLine.{AreModes, IsArg, IsCommandLine, Modes, check, event, explain, file, flag, frames, mode, normal, number, program, show, text, upgrade, uri};
+
 use clap::{Arg, ArgAction, Command, value_parser};
 use std::alloc::{AllocError, Global};
 
@@ -32,15 +36,24 @@ docs/RULES.md, docs/REPORT.md and docs/LOG_FORMAT.md of the repository.";
 /// bytes.
 const MOST_EVENTS: i64 = 1_099_511_627_776;
 
+/// The argument that names the file to read.
+fn file<'a>(alloc: Global, help: &'static str) -> Arg<'a>
+    ensures { IsArg file result }
+{
+    Arg::new(alloc, "file").value_name("FILE").help(help)
+}
+
 /// The argument that names the log.
-fn log_file<'a>(alloc: Global) -> Arg<'a> {
-    Arg::new(alloc, "file")
-        .value_name("FILE")
-        .help("The log; '-', or none, is standard input")
+fn log_file<'a>(alloc: Global) -> Arg<'a>
+    ensures { IsArg file result }
+{
+    file(alloc, "The log; '-', or none, is standard input")
 }
 
 /// An option that is set or not.
-fn flag<'a>(alloc: Global, name: &'static str, help: &'static str) -> Arg<'a> {
+fn flag<'a>(alloc: Global, name: &'static str, help: &'static str) -> Arg<'a>
+    ensures { IsArg (flag name.now) result }
+{
     Arg::new(alloc, name)
         .long(name)
         .action(ArgAction::SetTrue)
@@ -48,7 +61,9 @@ fn flag<'a>(alloc: Global, name: &'static str, help: &'static str) -> Arg<'a> {
 }
 
 /// The argument that numbers a message or an event, from 1.
-fn number<'a>(alloc: Global, help: &'static str) -> Arg<'a> {
+fn number<'a>(alloc: Global, help: &'static str) -> Arg<'a>
+    ensures { IsArg number result }
+{
     Arg::new(alloc, "number")
         .value_name("N")
         .required(true)
@@ -56,7 +71,31 @@ fn number<'a>(alloc: Global, help: &'static str) -> Arg<'a> {
         .help(help)
 }
 
-fn check<'a>(alloc: Global) -> Result<Command<'a>, AllocError> {
+/// The argument that names a document.
+fn uri<'a>(alloc: Global) -> Arg<'a>
+    ensures { IsArg uri result }
+{
+    Arg::new(alloc, "uri")
+        .value_name("URI")
+        .required(true)
+        .help("The document")
+}
+
+/// The option that says what to write for each frame.
+fn mode<'a>(alloc: Global) -> Arg<'a>
+    ensures { (modes : Modes) × AreModes modes × IsArg (mode modes) result }
+{
+    Arg::new(alloc, "as")
+        .long("as")
+        .value_name("MODE")
+        .value_parser(MODES.as_slice())
+        .default_value("lengths")
+        .help("What to write for each frame")
+}
+
+fn check<'a>(alloc: Global) -> Result<Command<'a>, AllocError>
+    ensures { IfOk result (λ command. shape_of command ≡ check) }
+{
     Command::new(alloc, "check")
         .about("Judges a recorded session, and reports the verdict")
         .arg(flag(
@@ -77,7 +116,9 @@ fn check<'a>(alloc: Global) -> Result<Command<'a>, AllocError> {
         .arg(log_file(alloc))
 }
 
-fn explain<'a>(alloc: Global) -> Result<Command<'a>, AllocError> {
+fn explain<'a>(alloc: Global) -> Result<Command<'a>, AllocError>
+    ensures { IfOk result (λ command. shape_of command ≡ explain) }
+{
     Command::new(alloc, "explain")
         .about("Judges a recorded session, and tells what a no lacks")
         .arg(flag(
@@ -89,7 +130,9 @@ fn explain<'a>(alloc: Global) -> Result<Command<'a>, AllocError> {
         .arg(log_file(alloc))
 }
 
-fn show<'a>(alloc: Global) -> Result<Command<'a>, AllocError> {
+fn show<'a>(alloc: Global) -> Result<Command<'a>, AllocError>
+    ensures { IfOk result (λ command. shape_of command ≡ show) }
+{
     Command::new(alloc, "show")
         .about("Lists the events of a recorded session, and reports the verdict")
         .arg(flag(
@@ -100,69 +143,79 @@ fn show<'a>(alloc: Global) -> Result<Command<'a>, AllocError> {
         .arg(log_file(alloc))
 }
 
-fn text<'a>(alloc: Global) -> Result<Command<'a>, AllocError> {
-    let uri = Arg::new(alloc, "uri")
-        .value_name("URI")
-        .required(true)
-        .help("The document");
+fn text<'a>(alloc: Global) -> Result<Command<'a>, AllocError>
+    ensures { IfOk result (λ command. shape_of command ≡ text) }
+{
     Command::new(alloc, "text")
         .about("Writes the text of a document after a message of the editor")
         .arg(number(alloc, "The number of a message of the editor, from 1"))?
-        .arg(uri)?
+        .arg(uri(alloc))?
         .arg(log_file(alloc))
 }
 
-fn event<'a>(alloc: Global) -> Result<Command<'a>, AllocError> {
+fn event<'a>(alloc: Global) -> Result<Command<'a>, AllocError>
+    ensures { IfOk result (λ command. shape_of command ≡ event) }
+{
     Command::new(alloc, "event")
         .about("Writes the content of one event of a recorded session")
         .arg(number(alloc, "The number of an event, from 1"))?
         .arg(log_file(alloc))
 }
 
-fn normal<'a>(alloc: Global) -> Result<Command<'a>, AllocError> {
+fn normal<'a>(alloc: Global) -> Result<Command<'a>, AllocError>
+    ensures { IfOk result (λ command. shape_of command ≡ normal) }
+{
     Command::new(alloc, "normal")
         .about("Writes the normal form of a log")
         .arg(log_file(alloc))
 }
 
-fn upgrade<'a>(alloc: Global) -> Result<Command<'a>, AllocError> {
+fn upgrade<'a>(alloc: Global) -> Result<Command<'a>, AllocError>
+    ensures { IfOk result (λ command. shape_of command ≡ upgrade) }
+{
     Command::new(alloc, "upgrade")
         .about("Writes a log again in format 2")
         .arg(log_file(alloc))
 }
 
-fn frames<'a>(alloc: Global) -> Result<Command<'a>, AllocError> {
-    let mode = Arg::new(alloc, "as")
-        .long("as")
-        .value_name("MODE")
-        .value_parser(MODES.as_slice())
-        .default_value("lengths")
-        .help("What to write for each frame");
-    let file = Arg::new(alloc, "file")
-        .value_name("FILE")
-        .help("The stream; '-', or none, is standard input");
+fn frames<'a>(alloc: Global) -> Result<Command<'a>, AllocError>
+    ensures { IfOk result (λ command.
+        (modes : Modes) × AreModes modes × (shape_of command ≡ frames modes)) }
+{
     Command::new(alloc, "frames")
         .about("Reads one raw stream of frames")
-        .arg(mode)?
-        .arg(file)
+        .arg(mode(alloc))?
+        .arg(file(alloc, "The stream; '-', or none, is standard input"))
 }
 
 /// Adds a command, where there was memory for it.
 fn with<'a>(
     program: Command<'a>,
     command: Result<Command<'a>, AllocError>,
-) -> Result<Command<'a>, AllocError> {
+) -> Result<Command<'a>, AllocError>
+    ensures { IfOk result (λ r.
+        IsOkAnd command.entry (λ c. AddsSubcommand program.entry c r)) }
+{
     program.subcommand(command?)
 }
 
-/// All of the command line.
-pub(crate) fn command_line<'a>(alloc: Global) -> Result<Command<'a>, AllocError> {
-    let program = Command::new(alloc, "lspcheck")
+/// The program with no command yet.
+fn program<'a>(alloc: Global) -> Command<'a>
+    ensures { app_of result ≡ record { top = record program { is_leaf = true }; subs = [] } }
+{
+    Command::new(alloc, "lspcheck")
         .about("Judges recorded sessions between an editor and a language server")
         .version(VERSION)
         .after_help(MORE)
         .subcommand_required(true)
-        .arg_required_else_help(true);
+        .arg_required_else_help(true)
+}
+
+/// All of the command line.
+pub(crate) fn command_line<'a>(alloc: Global) -> Result<Command<'a>, AllocError>
+    ensures { IfOk result (λ command. IsCommandLine (app_of command)) }
+{
+    let program = program(alloc);
     let program = with(program, check(alloc))?;
     let program = with(program, explain(alloc))?;
     let program = with(program, show(alloc))?;
