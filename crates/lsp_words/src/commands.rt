@@ -8,29 +8,29 @@ use std::alloc::{AllocError, Global};
 
 static MODES: [&str; 3] = ["lengths", "canonical", "kinds"];
 
-/// The version of the program, and the kit that proved it, as `rt version` names it.
-const VERSION: &str = "1.0.0 (rattle-kit-13f logic dac8208d650f15bf)";
+/// The version of the program.
+const VERSION: &str = "1.0.0";
 
 /// What the help of the program ends with.
 const MORE: &str = "\
 Examples:
   lspcheck check session.log                 the verdict on a recorded session
-  lspcheck check --all session.log           all that is wrong with it
-  lspcheck explain session.log               what a no lacks
-  lspcheck explain --all session.log         the same of all that is wrong
-  lspcheck show session.log | tail           the events before it
-  lspcheck text 12 file:///a.c session.log   what the server should hold then
-  lspcheck event 8 session.log               the content that a verdict speaks of
-  lspcheck frames --as kinds server.bin      what one raw stream is made of
+  lspcheck check --all session.log           every independent violation
+  lspcheck explain session.log               why the verdict is no
+  lspcheck explain --all session.log         the same for every independent violation
+  lspcheck show session.log | tail           the last events before the verdict
+  lspcheck text 12 file:///a.c session.log   what the server should hold after message 12
+  lspcheck event 8 session.log               the content of event 8
+  lspcheck frames --as kinds server.bin      what each message of a raw stream is
 
 Exit status:
   0 yes or done        3 read or write fault
   1 no                 4 out of memory
-  2 bad log or stream  5 no such document or content, or fewer messages or events
-                       64 words that do not parse
+  2 bad log or stream  5 nothing to write (text, event)
+                       64 bad arguments
 
-The rules, the lines of a report and how to record a session stand in the pages
-docs/RULES.md, docs/REPORT.md and docs/LOG_FORMAT.md of the repository.";
+The repository describes the rules in docs/RULES.md, the lines of a report in docs/REPORT.md,
+and how to record a session in docs/LOG_FORMAT.md.";
 
 /// The greatest number of a message or an event that can be asked for: no log has more of them than
 /// bytes.
@@ -47,7 +47,7 @@ fn file<'a>(alloc: Global, help: &'static str) -> Arg<'a>
 fn log_file<'a>(alloc: Global) -> Arg<'a>
     ensures { IsArg file result }
 {
-    file(alloc, "The log; '-', or none, is standard input")
+    file(alloc, "The log; standard input if absent or '-'")
 }
 
 /// An option that is set or not.
@@ -97,21 +97,21 @@ fn check<'a>(alloc: Global) -> Result<Command<'a>, AllocError>
     ensures { IfOk result (λ command. shape_of command ≡ check) }
 {
     Command::new(alloc, "check")
-        .about("Judges a recorded session, and reports the verdict")
+        .about("Judges a recorded session and reports the verdict")
         .arg(flag(
             alloc,
             "complete",
-            "Yes only where each request of the editor is answered and exit was sent",
+            "Says yes only if every request of the editor was answered and exit was sent",
         ))?
         .arg(flag(
             alloc,
             "all",
-            "Goes on behind an offence, and lists all that follow from no earlier one",
+            "Lists every independent violation; leaves out consequences of earlier ones",
         ))?
         .arg(flag(
             alloc,
             "every",
-            "Lists every offence, also those that follow from an earlier one",
+            "Lists every violation, consequences included",
         ))?
         .arg(log_file(alloc))
 }
@@ -120,13 +120,17 @@ fn explain<'a>(alloc: Global) -> Result<Command<'a>, AllocError>
     ensures { IfOk result (λ command. shape_of command ≡ explain) }
 {
     Command::new(alloc, "explain")
-        .about("Judges a recorded session, and tells what a no lacks")
+        .about("Judges a recorded session and explains a no")
         .arg(flag(
             alloc,
             "complete",
-            "A session has to be complete, as for check",
+            "Requires a complete session, as for check",
         ))?
-        .arg(flag(alloc, "all", "Explains all that check --all lists"))?
+        .arg(flag(
+            alloc,
+            "all",
+            "Explains every violation that check --all lists",
+        ))?
         .arg(log_file(alloc))
 }
 
@@ -134,11 +138,11 @@ fn show<'a>(alloc: Global) -> Result<Command<'a>, AllocError>
     ensures { IfOk result (λ command. shape_of command ≡ show) }
 {
     Command::new(alloc, "show")
-        .about("Lists the events of a recorded session, and reports the verdict")
+        .about("Lists the events of a recorded session, then reports the verdict")
         .arg(flag(
             alloc,
             "long",
-            "Adds the number among those of the side, and of which document a message speaks",
+            "Adds each side's own numbers, and the URI and version of documents",
         ))?
         .arg(log_file(alloc))
 }
@@ -147,8 +151,8 @@ fn text<'a>(alloc: Global) -> Result<Command<'a>, AllocError>
     ensures { IfOk result (λ command. shape_of command ≡ text) }
 {
     Command::new(alloc, "text")
-        .about("Writes the text of a document after a message of the editor")
-        .arg(number(alloc, "The number of a message of the editor, from 1"))?
+        .about("Writes the text that the server should hold after a message of the editor")
+        .arg(number(alloc, "The number of the editor's message, from 1"))?
         .arg(uri(alloc))?
         .arg(log_file(alloc))
 }
@@ -158,7 +162,7 @@ fn event<'a>(alloc: Global) -> Result<Command<'a>, AllocError>
 {
     Command::new(alloc, "event")
         .about("Writes the content of one event of a recorded session")
-        .arg(number(alloc, "The number of an event, from 1"))?
+        .arg(number(alloc, "The number of the event, from 1"))?
         .arg(log_file(alloc))
 }
 
@@ -174,7 +178,7 @@ fn upgrade<'a>(alloc: Global) -> Result<Command<'a>, AllocError>
     ensures { IfOk result (λ command. shape_of command ≡ upgrade) }
 {
     Command::new(alloc, "upgrade")
-        .about("Writes a log again in format 2")
+        .about("Writes a log in format 2")
         .arg(log_file(alloc))
 }
 
@@ -185,7 +189,7 @@ fn frames<'a>(alloc: Global) -> Result<Command<'a>, AllocError>
     Command::new(alloc, "frames")
         .about("Reads one raw stream of frames")
         .arg(mode(alloc))?
-        .arg(file(alloc, "The stream; '-', or none, is standard input"))
+        .arg(file(alloc, "The stream; standard input if absent or '-'"))
 }
 
 /// Adds a command, where there was memory for it.
