@@ -1,10 +1,14 @@
--- What the words of a command line ask for, read off what the parser found in them.
-use Rattle.std.specs.Prelude.{◌≡◌, ℕ, Bool, true, false, List, Option, Some, None, IfSome, codes, option_and_then, option_map, if◌then◌else◌}
+-- What the words of a command line ask for, read off what `clap` finds in them.
+use Rattle.std.specs.Prelude.{◌≡◌, ◌⊎◌, ◌<◌, ◌^◌, ℕ, Bool, true, false, List, [], Option, Some, None, MatchOption, codes, option_and_then, option_map, if◌then◌else◌}
 use Rattle.std.specs.Str.{bytes_eq}
-use Rattle.std.specs.Str.Parse.{digits_value, without_leading_plus}
+use Rattle.std.specs.Str.Parse.{IsNumeral, digits_value, without_leading_plus}
 use Rattle.std.specs.Int.NonZero.{non_zero_u64_get}
-use Rattle.clap.specs.Matches.{first_value, one_text}
-use Rattle.clap.specs.declared.parser.matches.Found.{Found}
+use Rattle.std.specs.declared.num.NonZeroU64.{NonZeroU64}
+use Rattle.clap.specs.Words.{App, HasKind, Row, Text, fault_of, first_of, kind_of, one_of, rows_of, subcommand_of}
+use Rattle.clap.specs.Matches.{found_of}
+use Rattle.clap.specs.declared.error.Error.{Error}
+use Rattle.clap.specs.declared.error.kind.ErrorKind.TheVariants.{MissingSubcommand}
+use Rattle.clap.specs.declared.parser.matches.ArgMatches.{ArgMatches}
 use Rattle.lsp_verdict.specs.declared.completeness.Completeness.{Completeness}
 use Rattle.lsp_verdict.specs.declared.completeness.Completeness.TheVariants.{Ignored, Required}
 use Rattle.lsp_verdict.specs.declared.lines.Lines.{Lines}
@@ -16,6 +20,10 @@ use Rattle.lsp_verdict.specs.declared.listing.Listing.TheVariants.{Causes, Every
 use Rattle.lsp_words.specs.declared.task.Request.{Request}
 use Rattle.lsp_words.specs.declared.task.Task.{Task}
 use Rattle.lsp_words.specs.declared.task.Task.TheVariants as tasks
+
+-- what was found of a command's arguments and options
+abbrev pub rows_in : ArgMatches → List Row
+rows_in arguments = rows_of (found_of arguments)
 
 -- the file of a name: `-` is standard input, as is no name
 abbrev pub file_of : Option (List ℕ) → Option (List ℕ)
@@ -36,7 +44,7 @@ abbrev pub completeness_of : Bool → Completeness
 completeness_of true = Required
 completeness_of false = Ignored
 
--- a flag with this value is set, or is not; one without a value is not
+-- an option with this value is set, or is not; one without a value is not
 pub record IsFlag (value : Option (List ℕ)) (set : Bool) : Type 0 where
   pub given : value ≡ Some (codes "true") → set ≡ true
   pub refused : value ≡ Some (codes "false") → set ≡ false
@@ -50,78 +58,105 @@ abbrev pub check_of : Completeness → Option Listing → Task
 check_of completeness None = tasks.Check completeness
 check_of completeness (Some listing) = tasks.Survey completeness listing
 
--- the verdict on a log, or its offences where an option for these is set; its session has to be complete where the option for that is set
-pub record AsksCheck (found : Found) (asked : Option Task) : Type 0 where
-  pub complete : Bool
-  pub all : Bool
-  pub every : Bool
-  pub complete_is : IsFlag (one_text found (codes "complete")) complete
-  pub all_is : IsFlag (one_text found (codes "all")) all
-  pub every_is : IsFlag (one_text found (codes "every")) every
-  pub is : asked ≡ Some (check_of (completeness_of complete) (listing_of all every))
-
 abbrev pub explain_of : Completeness → Bool → Task
 explain_of completeness all = if all then tasks.ExplainAll completeness else tasks.Explain completeness
-
--- what explains the verdict on a log, or all that is wrong with it where the option for that is set; its session has to be complete where the option for that is set
-pub record AsksExplain (found : Found) (asked : Option Task) : Type 0 where
-  pub complete : Bool
-  pub all : Bool
-  pub complete_is : IsFlag (one_text found (codes "complete")) complete
-  pub all_is : IsFlag (one_text found (codes "all")) all
-  pub is : asked ≡ Some (explain_of (completeness_of complete) all)
 
 abbrev pub lines_of : Bool → Lines
 lines_of true = Long
 lines_of false = Short
 
--- the events of a log by short lines, or by long ones where the option for these is set
-abbrev pub AsksShow : Found → Option Task → Type 0
-AsksShow found asked = (set : Bool) × IsFlag (one_text found (codes "long")) set × (asked ≡ Some (tasks.Show (lines_of set)))
+-- the session has to be complete where the option for that is set, and offences are listed where an option for these is set
+pub record AsksCheck (rows : List Row) (completeness : Completeness) (listing : Option Listing) : Type 0 where
+  pub complete : Bool
+  pub all : Bool
+  pub every : Bool
+  pub complete_is : IsFlag (one_of (codes "complete") rows) complete
+  pub all_is : IsFlag (one_of (codes "all") rows) all
+  pub every_is : IsFlag (one_of (codes "every") rows) every
+  pub completeness_is : completeness ≡ completeness_of complete
+  pub listing_is : listing ≡ listing_of all every
 
--- the words give this number
-abbrev pub GivesNumber : Found → ℕ → Type 0
-GivesNumber found number = (digits : List ℕ) × (one_text found (codes "number") ≡ Some digits)
-    × (number ≡ digits_value 10 (without_leading_plus digits))
+-- the session has to be complete where the option for that is set, and all that is wrong is explained where the option for that is set
+pub record AsksExplain (rows : List Row) (completeness : Completeness) (all : Bool) : Type 0 where
+  pub complete : Bool
+  pub complete_is : IsFlag (one_of (codes "complete") rows) complete
+  pub all_is : IsFlag (one_of (codes "all") rows) all
+  pub completeness_is : completeness ≡ completeness_of complete
 
--- the text of a URI after the editor's message of a number, both as the words give them
-abbrev pub AsksText : Found → Task → Type 0
-AsksText found (tasks.Text number uri) = (first_value found (codes "uri") ≡ Some uri.now) × (GivesNumber found (non_zero_u64_get number))
-AsksText found (tasks.Check completeness) = ⊥
-AsksText found (tasks.Survey completeness listing) = ⊥
-AsksText found (tasks.Explain completeness) = ⊥
-AsksText found (tasks.ExplainAll completeness) = ⊥
-AsksText found (tasks.Show lines) = ⊥
-AsksText found (tasks.Event number) = ⊥
-AsksText found tasks.Normal = ⊥
-AsksText found tasks.Upgrade = ⊥
-AsksText found (tasks.Frames mode) = ⊥
+-- the lines are long where the option for these is set
+abbrev pub AsksShow : List Row → Lines → Type 0
+AsksShow rows lines = (set : Bool) × IsFlag (one_of (codes "long") rows) set × (lines ≡ lines_of set)
 
--- what the event of a number holds, as the words give it
-abbrev pub AsksEvent : Found → Task → Type 0
-AsksEvent found (tasks.Event number) = GivesNumber found (non_zero_u64_get number)
-AsksEvent found (tasks.Check completeness) = ⊥
-AsksEvent found (tasks.Survey completeness listing) = ⊥
-AsksEvent found (tasks.Explain completeness) = ⊥
-AsksEvent found (tasks.ExplainAll completeness) = ⊥
-AsksEvent found (tasks.Show lines) = ⊥
-AsksEvent found (tasks.Text number uri) = ⊥
-AsksEvent found tasks.Normal = ⊥
-AsksEvent found tasks.Upgrade = ⊥
-AsksEvent found (tasks.Frames mode) = ⊥
+-- the words give this number, which 64 bits hold, and not 0
+pub record GivesNumber (rows : List Row) (number : ℕ) : Type 0 where
+  pub digits : Text
+  pub given : one_of (codes "number") rows ≡ Some digits
+  pub numeral : IsNumeral 10 (without_leading_plus digits)
+  pub value : number ≡ digits_value 10 (without_leading_plus digits)
+  pub some : 0 < number
+  pub fits : number < 2 ^ 64
 
--- **what the command of a name asks for**, with what was found of its arguments
-pub record HasTask (name : List ℕ) (found : Found) (asked : Option Task) : Type 0 where
-  pub check : name ≡ codes "check" → AsksCheck found asked
-  pub explain : name ≡ codes "explain" → AsksExplain found asked
-  pub show : name ≡ codes "show" → AsksShow found asked
-  pub text : name ≡ codes "text" → IfSome asked (AsksText found)
-  pub event : name ≡ codes "event" → IfSome asked (AsksEvent found)
-  pub normal : name ≡ codes "normal" → asked ≡ Some tasks.Normal
-  pub upgrade : name ≡ codes "upgrade" → asked ≡ Some tasks.Upgrade
-  pub frames : name ≡ codes "frames" → asked ≡ Some (tasks.Frames (mode_of (first_value found (codes "as"))))
+-- the number that the words give, where they give one
+abbrev pub NumberIn : List Row → Option NonZeroU64 → Type 0
+NumberIn rows result =
+    MatchOption result ((n : ℕ) → GivesNumber rows n → ⊥) (λ n. GivesNumber rows (non_zero_u64_get n))
 
--- what the words ask for: the task of a command, and the file that its words name
-pub record Asks (name : List ℕ) (found : Found) (request : Request) : Type 0 where
-  pub task : HasTask name found (Some request.task)
-  pub file : option_map (λ path. path.now) request.file ≡ file_of (first_value found (codes "file"))
+-- the command of a task
+abbrev pub command_of : Task → Text
+command_of (tasks.Check completeness) = codes "check"
+command_of (tasks.Survey completeness listing) = codes "check"
+command_of (tasks.Explain completeness) = codes "explain"
+command_of (tasks.ExplainAll completeness) = codes "explain"
+command_of (tasks.Show lines) = codes "show"
+command_of (tasks.Text number uri) = codes "text"
+command_of (tasks.Event number) = codes "event"
+command_of tasks.Normal = codes "normal"
+command_of tasks.Upgrade = codes "upgrade"
+command_of (tasks.Frames mode) = codes "frames"
+
+-- the arguments and options of a task
+abbrev pub HasArguments : List Row → Task → Type 0
+HasArguments rows (tasks.Check completeness) = AsksCheck rows completeness None
+HasArguments rows (tasks.Survey completeness listing) = AsksCheck rows completeness (Some listing)
+HasArguments rows (tasks.Explain completeness) = AsksExplain rows completeness false
+HasArguments rows (tasks.ExplainAll completeness) = AsksExplain rows completeness true
+HasArguments rows (tasks.Show lines) = AsksShow rows lines
+HasArguments rows (tasks.Text number uri) = GivesNumber rows (non_zero_u64_get number) × (first_of (codes "uri") rows ≡ Some uri.now)
+HasArguments rows (tasks.Event number) = GivesNumber rows (non_zero_u64_get number)
+HasArguments rows tasks.Normal = Unit {0}
+HasArguments rows tasks.Upgrade = Unit {0}
+HasArguments rows (tasks.Frames mode) = mode ≡ mode_of (first_of (codes "as") rows)
+
+-- **the command of this name asks for the task**, with what was found of its arguments and options
+pub record HasTask (name : Text) (rows : List Row) (task : Task) : Type 0 where
+  pub command : name ≡ command_of task
+  pub arguments : HasArguments rows task
+
+-- the task that the command of a name asks for, where it asks for one
+abbrev pub TaskIn : Text → List Row → Option Task → Type 0
+TaskIn name rows result =
+    MatchOption result ((task : Task) → HasTask name rows task → ⊥) (HasTask name rows)
+
+-- a command of this name asks for the request: its task, and the file that it names
+abbrev pub AsksFor : Option (Text × List Row) → Request → Type 0
+AsksFor None request = ⊥
+AsksFor (Some p) request =
+    HasTask p.0 p.1 request.task
+    × (option_map (λ path. path.now) request.file ≡ file_of (first_of (codes "file") p.1))
+
+-- the request that a command asks for, where it asks for one
+abbrev pub RequestIn : Option (Text × List Row) → Option Request → Type 0
+RequestIn found result =
+    MatchOption result ((request : Request) → AsksFor found request → ⊥) (AsksFor found)
+
+-- **what the words ask for**: `clap` takes them, and the command that it finds asks for the request
+pub record Asks (app : App) (words : List Text) (request : Request) : Type 0 where
+  pub taken : fault_of app words ≡ []
+  pub found : AsksFor (subcommand_of app words) request
+
+-- **how words are refused**: as `clap` refuses them; or what it finds asks for nothing, and a command is required
+abbrev pub Refuses : App → List Text → Error → Type 0
+Refuses app words error =
+    HasKind (fault_of app words) error
+    ⊎ ((kind_of error ≡ MissingSubcommand)
+    × ((request : Request) → AsksFor (subcommand_of app words) request → ⊥))

@@ -1,46 +1,59 @@
 //! The commands and options of the command line, and the words of their help.
+ghost use Rattle.std.specs.Prelude.{◌≡◌, [], IfOk, IsOkAnd, true};
+ghost use Rattle.clap.specs.Words.{AddsSubcommand, app_of, shape_of};
+ghost use Rattle.lsp_words.specs.CommandLine.{AreModes, IsArg, IsCommandLine, Modes, check, event, explain, file, flag, frames, mode, normal, number, program, show, text, upgrade, uri};
+
 use clap::{Arg, ArgAction, Command, value_parser};
 use std::alloc::{AllocError, Global};
 
 static MODES: [&str; 3] = ["lengths", "canonical", "kinds"];
 
-/// The version of the program, and the kit that proved it, as `rt version` names it.
-const VERSION: &str = "1.0.0 (rattle-kit-13f logic dac8208d650f15bf)";
+/// The version of the program.
+const VERSION: &str = "1.0.0";
 
 /// What the help of the program ends with.
 const MORE: &str = "\
 Examples:
   lspcheck check session.log                 the verdict on a recorded session
-  lspcheck check --all session.log           all that is wrong with it
-  lspcheck explain session.log               what a no lacks
-  lspcheck explain --all session.log         the same of all that is wrong
-  lspcheck show session.log | tail           the events before it
-  lspcheck text 12 file:///a.c session.log   what the server should hold then
-  lspcheck event 8 session.log               the content that a verdict speaks of
-  lspcheck frames --as kinds server.bin      what one raw stream is made of
+  lspcheck check --all session.log           every independent violation
+  lspcheck explain session.log               why the verdict is no
+  lspcheck explain --all session.log         the same for every independent violation
+  lspcheck show session.log | tail           the last events before the verdict
+  lspcheck text 12 file:///a.c session.log   what the server should hold after message 12
+  lspcheck event 8 session.log               the content of event 8
+  lspcheck frames --as kinds server.bin      what each message of a raw stream is
 
 Exit status:
   0 yes or done        3 read or write fault
   1 no                 4 out of memory
-  2 bad log or stream  5 no such document or content, or fewer messages or events
-                       64 words that do not parse
+  2 bad log or stream  5 nothing to write (text, event)
+                       64 bad arguments
 
-The rules, the lines of a report and how to record a session stand in the pages
-docs/RULES.md, docs/REPORT.md and docs/LOG_FORMAT.md of the repository.";
+The repository describes the rules in docs/RULES.md, the lines of a report in docs/REPORT.md,
+and how to record a session in docs/LOG_FORMAT.md.";
 
 /// The greatest number of a message or an event that can be asked for: no log has more of them than
 /// bytes.
 const MOST_EVENTS: i64 = 1_099_511_627_776;
 
+/// The argument that names the file to read.
+fn file<'a>(alloc: Global, help: &'static str) -> Arg<'a>
+    ensures { IsArg file result }
+{
+    Arg::new(alloc, "file").value_name("FILE").help(help)
+}
+
 /// The argument that names the log.
-fn log_file<'a>(alloc: Global) -> Arg<'a> {
-    Arg::new(alloc, "file")
-        .value_name("FILE")
-        .help("The log; '-', or none, is standard input")
+fn log_file<'a>(alloc: Global) -> Arg<'a>
+    ensures { IsArg file result }
+{
+    file(alloc, "The log; standard input if absent or '-'")
 }
 
 /// An option that is set or not.
-fn flag<'a>(alloc: Global, name: &'static str, help: &'static str) -> Arg<'a> {
+fn flag<'a>(alloc: Global, name: &'static str, help: &'static str) -> Arg<'a>
+    ensures { IsArg (flag name.now) result }
+{
     Arg::new(alloc, name)
         .long(name)
         .action(ArgAction::SetTrue)
@@ -48,7 +61,9 @@ fn flag<'a>(alloc: Global, name: &'static str, help: &'static str) -> Arg<'a> {
 }
 
 /// The argument that numbers a message or an event, from 1.
-fn number<'a>(alloc: Global, help: &'static str) -> Arg<'a> {
+fn number<'a>(alloc: Global, help: &'static str) -> Arg<'a>
+    ensures { IsArg number result }
+{
     Arg::new(alloc, "number")
         .value_name("N")
         .required(true)
@@ -56,113 +71,155 @@ fn number<'a>(alloc: Global, help: &'static str) -> Arg<'a> {
         .help(help)
 }
 
-fn check<'a>(alloc: Global) -> Result<Command<'a>, AllocError> {
+/// The argument that names a document.
+fn uri<'a>(alloc: Global) -> Arg<'a>
+    ensures { IsArg uri result }
+{
+    Arg::new(alloc, "uri")
+        .value_name("URI")
+        .required(true)
+        .help("The document")
+}
+
+/// The option that says what to write for each frame.
+fn mode<'a>(alloc: Global) -> Arg<'a>
+    ensures { (modes : Modes) × AreModes modes × IsArg (mode modes) result }
+{
+    Arg::new(alloc, "as")
+        .long("as")
+        .value_name("MODE")
+        .value_parser(MODES.as_slice())
+        .default_value("lengths")
+        .help("What to write for each frame")
+}
+
+fn check<'a>(alloc: Global) -> Result<Command<'a>, AllocError>
+    ensures { IfOk result (λ command. shape_of command ≡ check) }
+{
     Command::new(alloc, "check")
-        .about("Judges a recorded session, and reports the verdict")
+        .about("Judges a recorded session and reports the verdict")
         .arg(flag(
             alloc,
             "complete",
-            "Yes only where each request of the editor is answered and exit was sent",
+            "Says yes only if every request of the editor was answered and exit was sent",
         ))?
         .arg(flag(
             alloc,
             "all",
-            "Goes on behind an offence, and lists all that follow from no earlier one",
+            "Lists every independent violation; leaves out consequences of earlier ones",
         ))?
         .arg(flag(
             alloc,
             "every",
-            "Lists every offence, also those that follow from an earlier one",
+            "Lists every violation, consequences included",
         ))?
         .arg(log_file(alloc))
 }
 
-fn explain<'a>(alloc: Global) -> Result<Command<'a>, AllocError> {
+fn explain<'a>(alloc: Global) -> Result<Command<'a>, AllocError>
+    ensures { IfOk result (λ command. shape_of command ≡ explain) }
+{
     Command::new(alloc, "explain")
-        .about("Judges a recorded session, and tells what a no lacks")
+        .about("Judges a recorded session and explains a no")
         .arg(flag(
             alloc,
             "complete",
-            "A session has to be complete, as for check",
+            "Requires a complete session, as for check",
         ))?
-        .arg(flag(alloc, "all", "Explains all that check --all lists"))?
+        .arg(flag(
+            alloc,
+            "all",
+            "Explains every violation that check --all lists",
+        ))?
         .arg(log_file(alloc))
 }
 
-fn show<'a>(alloc: Global) -> Result<Command<'a>, AllocError> {
+fn show<'a>(alloc: Global) -> Result<Command<'a>, AllocError>
+    ensures { IfOk result (λ command. shape_of command ≡ show) }
+{
     Command::new(alloc, "show")
-        .about("Lists the events of a recorded session, and reports the verdict")
+        .about("Lists the events of a recorded session, then reports the verdict")
         .arg(flag(
             alloc,
             "long",
-            "Adds the number among those of the side, and of which document a message speaks",
+            "Adds each side's own numbers, and the URI and version of documents",
         ))?
         .arg(log_file(alloc))
 }
 
-fn text<'a>(alloc: Global) -> Result<Command<'a>, AllocError> {
-    let uri = Arg::new(alloc, "uri")
-        .value_name("URI")
-        .required(true)
-        .help("The document");
+fn text<'a>(alloc: Global) -> Result<Command<'a>, AllocError>
+    ensures { IfOk result (λ command. shape_of command ≡ text) }
+{
     Command::new(alloc, "text")
-        .about("Writes the text of a document after a message of the editor")
-        .arg(number(alloc, "The number of a message of the editor, from 1"))?
-        .arg(uri)?
+        .about("Writes the text that the server should hold after a message of the editor")
+        .arg(number(alloc, "The number of the editor's message, from 1"))?
+        .arg(uri(alloc))?
         .arg(log_file(alloc))
 }
 
-fn event<'a>(alloc: Global) -> Result<Command<'a>, AllocError> {
+fn event<'a>(alloc: Global) -> Result<Command<'a>, AllocError>
+    ensures { IfOk result (λ command. shape_of command ≡ event) }
+{
     Command::new(alloc, "event")
         .about("Writes the content of one event of a recorded session")
-        .arg(number(alloc, "The number of an event, from 1"))?
+        .arg(number(alloc, "The number of the event, from 1"))?
         .arg(log_file(alloc))
 }
 
-fn normal<'a>(alloc: Global) -> Result<Command<'a>, AllocError> {
+fn normal<'a>(alloc: Global) -> Result<Command<'a>, AllocError>
+    ensures { IfOk result (λ command. shape_of command ≡ normal) }
+{
     Command::new(alloc, "normal")
         .about("Writes the normal form of a log")
         .arg(log_file(alloc))
 }
 
-fn upgrade<'a>(alloc: Global) -> Result<Command<'a>, AllocError> {
+fn upgrade<'a>(alloc: Global) -> Result<Command<'a>, AllocError>
+    ensures { IfOk result (λ command. shape_of command ≡ upgrade) }
+{
     Command::new(alloc, "upgrade")
-        .about("Writes a log again in format 2")
+        .about("Writes a log in format 2")
         .arg(log_file(alloc))
 }
 
-fn frames<'a>(alloc: Global) -> Result<Command<'a>, AllocError> {
-    let mode = Arg::new(alloc, "as")
-        .long("as")
-        .value_name("MODE")
-        .value_parser(MODES.as_slice())
-        .default_value("lengths")
-        .help("What to write for each frame");
-    let file = Arg::new(alloc, "file")
-        .value_name("FILE")
-        .help("The stream; '-', or none, is standard input");
+fn frames<'a>(alloc: Global) -> Result<Command<'a>, AllocError>
+    ensures { IfOk result (λ command.
+        (modes : Modes) × AreModes modes × (shape_of command ≡ frames modes)) }
+{
     Command::new(alloc, "frames")
         .about("Reads one raw stream of frames")
-        .arg(mode)?
-        .arg(file)
+        .arg(mode(alloc))?
+        .arg(file(alloc, "The stream; standard input if absent or '-'"))
 }
 
 /// Adds a command, where there was memory for it.
 fn with<'a>(
     program: Command<'a>,
     command: Result<Command<'a>, AllocError>,
-) -> Result<Command<'a>, AllocError> {
+) -> Result<Command<'a>, AllocError>
+    ensures { IfOk result (λ r.
+        IsOkAnd command.entry (λ c. AddsSubcommand program.entry c r)) }
+{
     program.subcommand(command?)
 }
 
-/// All of the command line.
-pub(crate) fn command_line<'a>(alloc: Global) -> Result<Command<'a>, AllocError> {
-    let program = Command::new(alloc, "lspcheck")
+/// The program with no command yet.
+fn program<'a>(alloc: Global) -> Command<'a>
+    ensures { app_of result ≡ record { top = record program { is_leaf = true }; subs = [] } }
+{
+    Command::new(alloc, "lspcheck")
         .about("Judges recorded sessions between an editor and a language server")
         .version(VERSION)
         .after_help(MORE)
         .subcommand_required(true)
-        .arg_required_else_help(true);
+        .arg_required_else_help(true)
+}
+
+/// All of the command line.
+pub(crate) fn command_line<'a>(alloc: Global) -> Result<Command<'a>, AllocError>
+    ensures { IfOk result (λ command. IsCommandLine (app_of command)) }
+{
+    let program = program(alloc);
     let program = with(program, check(alloc))?;
     let program = with(program, explain(alloc))?;
     let program = with(program, show(alloc))?;

@@ -1,8 +1,8 @@
 //! What the words of the command line ask for.
-ghost use Rattle.std.specs.Prelude.{◌≡◌, ℕ, List, IfOk, IfSome, Some, codes, option_map};
-ghost use Rattle.clap.specs.Matches.{first_value, found_of};
-ghost use Rattle.clap.specs.declared.parser.matches.Found.{Found};
-ghost use Rattle.lsp_words.specs.Words.{Asks, AsksCheck, AsksEvent, AsksExplain, AsksShow, AsksText, check_of, completeness_of, explain_of, file_of, lines_of, listing_of, mode_of};
+ghost use Rattle.std.specs.Prelude.{◌≡◌, IfErr, IfOk, codes, map, option_map, string_bytes};
+ghost use Rattle.clap.specs.Words.{App, one_of, subcommand_rows_of};
+ghost use Rattle.lsp_words.specs.CommandLine.{IsCommandLine};
+ghost use Rattle.lsp_words.specs.Words.{Asks, HasTask, IsFlag, NumberIn, Refuses, RequestIn, TaskIn, check_of, completeness_of, explain_of, file_of, lines_of, listing_of, mode_of, rows_in};
 
 use crate::commands::command_line;
 use crate::task::{Request, Task};
@@ -77,38 +77,78 @@ fn lines_of(set: bool) -> Lines
     if set { Lines::Long } else { Lines::Short }
 }
 
+/// Whether this option is set.
+fn is_set(arguments: &ArgMatches<'_>, name: &str) -> bool
+    ensures { IsFlag (one_of name.now (rows_in arguments.now)) result }
+{
+    arguments.get_flag(name)
+}
+
+/// The number of a message or an event.
+fn number_of(arguments: &ArgMatches<'_>) -> Option<NonZeroU64>
+    ensures { NumberIn (rows_in arguments.now) result }
+{
+    NonZeroU64::new(arguments.get_one::<u64>("number")?)
+}
+
+fn check_task<'a>(arguments: &ArgMatches<'_>) -> Task<'a>
+    ensures { HasTask (codes "check") (rows_in arguments.now) result }
+{
+    check_of(
+        completeness_of(is_set(arguments, "complete")),
+        listing_of(is_set(arguments, "all"), is_set(arguments, "every")),
+    )
+}
+
+fn explain_task<'a>(arguments: &ArgMatches<'_>) -> Task<'a>
+    ensures { HasTask (codes "explain") (rows_in arguments.now) result }
+{
+    explain_of(
+        completeness_of(is_set(arguments, "complete")),
+        is_set(arguments, "all"),
+    )
+}
+
+fn show_task<'a>(arguments: &ArgMatches<'_>) -> Task<'a>
+    ensures { HasTask (codes "show") (rows_in arguments.now) result }
+{
+    Task::Show(lines_of(is_set(arguments, "long")))
+}
+
+fn text_task<'a>(arguments: &ArgMatches<'a>) -> Option<Task<'a>>
+    ensures { TaskIn (codes "text") (rows_in arguments.now) result }
+{
+    let number = number_of(arguments)?;
+    let uri = arguments.get_str("uri")?;
+    Some(Task::Text { number, uri })
+}
+
+fn event_task<'a>(arguments: &ArgMatches<'_>) -> Option<Task<'a>>
+    ensures { TaskIn (codes "event") (rows_in arguments.now) result }
+{
+    let number = number_of(arguments)?;
+    Some(Task::Event { number })
+}
+
+fn frames_task<'a>(arguments: &ArgMatches<'_>) -> Task<'a>
+    ensures { HasTask (codes "frames") (rows_in arguments.now) result }
+{
+    Task::Frames(mode_of(arguments.get_str("as")))
+}
+
 /// The task of the command of this name, with its arguments.
 fn task_of<'a>(name: &str, arguments: &ArgMatches<'a>) -> Option<Task<'a>>
-    ensures check { name.now ≡ codes "check" → AsksCheck (found_of arguments.now) result }
-    ensures explain { name.now ≡ codes "explain" → AsksExplain (found_of arguments.now) result }
-    ensures show { name.now ≡ codes "show" → AsksShow (found_of arguments.now) result }
-    ensures text { name.now ≡ codes "text" → IfSome result (AsksText (found_of arguments.now)) }
-    ensures event { name.now ≡ codes "event" → IfSome result (AsksEvent (found_of arguments.now)) }
-    ensures normal { name.now ≡ codes "normal" → result ≡ Some Task.Normal }
-    ensures upgrade { name.now ≡ codes "upgrade" → result ≡ Some Task.Upgrade }
-    ensures frames { name.now ≡ codes "frames"
-        → result ≡ Some (Task.Frames (mode_of (first_value (found_of arguments.now) (codes "as")))) }
+    ensures { TaskIn name.now (rows_in arguments.now) result }
 {
     match name {
-        "check" => Some(check_of(
-            completeness_of(arguments.get_flag("complete")),
-            listing_of(arguments.get_flag("all"), arguments.get_flag("every")),
-        )),
-        "explain" => Some(explain_of(
-            completeness_of(arguments.get_flag("complete")),
-            arguments.get_flag("all"),
-        )),
-        "show" => Some(Task::Show(lines_of(arguments.get_flag("long")))),
-        "text" => Some(Task::Text {
-            number: arguments.get_one::<NonZeroU64>("number")?,
-            uri: arguments.get_str("uri")?,
-        }),
-        "event" => Some(Task::Event {
-            number: arguments.get_one::<NonZeroU64>("number")?,
-        }),
+        "check" => Some(check_task(arguments)),
+        "explain" => Some(explain_task(arguments)),
+        "show" => Some(show_task(arguments)),
+        "text" => text_task(arguments),
+        "event" => event_task(arguments),
         "normal" => Some(Task::Normal),
         "upgrade" => Some(Task::Upgrade),
-        "frames" => Some(Task::Frames(mode_of(arguments.get_str("as")))),
+        "frames" => Some(frames_task(arguments)),
         _ => None,
     }
 }
@@ -123,21 +163,33 @@ fn file_of<'a>(name: Option<&'a str>) -> Option<&'a str>
     }
 }
 
+/// The request of the command that was found, with its arguments.
+fn request_in<'a>(matches: &ArgMatches<'a>) -> Option<Request<'a>>
+    ensures { RequestIn (subcommand_rows_of matches.now) result }
+{
+    let (name, arguments) = matches.subcommand()?;
+    let task = task_of(name, arguments)?;
+    let file = file_of(arguments.get_str("file"));
+    Some(Request { task, file })
+}
+
 /// Reads the words of a command line, the program's name first.
 ///
 /// # Errors
 /// `OutOfMemory` where memory was refused; `DisplayHelp` and `DisplayVersion` where the words ask for
 /// these; anything else where they don't parse.
 pub fn request_of<'a>(alloc: Global, words: &'a [String]) -> Result<Request<'a>, Error>
-    ensures { IfOk result (λ request. (name : List ℕ) × (found : Found) × Asks name found request) }
+    // The words parse by the command line, and the command found in them asks for the request.
+    ensures ok { IfOk result (λ request.
+        (app : App) × IsCommandLine app × Asks app (map string_bytes words.entry.now) request) }
+    // The error is one that these words have by the command line, or memory was refused.
+    ensures err { IfErr result (λ error.
+        (app : App) × IsCommandLine app × Refuses app (map string_bytes words.entry.now) error) }
 {
     let mut command = command_line(alloc)?;
     let matches = command.try_get_matches_from_mut(words)?;
-    if let Some((name, arguments)) = matches.subcommand()
-        && let Some(task) = task_of(name, arguments)
-    {
-        let file = file_of(arguments.get_str("file"));
-        return Ok(Request { task, file });
+    match request_in(&matches) {
+        Some(request) => Ok(request),
+        None => Err(command.error(ErrorKind::MissingSubcommand, "a command is required")?),
     }
-    Err(command.error(ErrorKind::MissingSubcommand, "a command is required")?)
 }

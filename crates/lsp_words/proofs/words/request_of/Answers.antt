@@ -1,24 +1,43 @@
-use Rattle.std.proofs.Common.{◌≡◌, ◌∙◌, Some, sym, ap, subst}
-use Rattle.clap.specs.Matches.{found_of}
-use Rattle.lsp_words.specs.Words.{AsksCheck, AsksExplain, AsksShow, file_of}
+use Rattle.std.proofs.Common.{List, Option, inl, inr, subst, sym}
+use Rattle.std.proofs.lemmas.Result.{err_from_is_err_and}
+use Rattle.clap.specs.Words.{Row, Text, app_of}
+use Rattle.lsp_words.specs.Words.{AsksFor}
+use Rattle.lsp_words.proofs.Found.{line_free, line_simple, out_of_memory}
 use Rattle.lsp_words.proofs.words.request_of.Goals as goal
 
-pub returns : goal.returns
-returns c =
-    let is : c.task_of.result ≡ Some c.in-Some-task_of.task = c.in-Some-task_of.is in (
-      c.in-Some.name.now,
-      found_of c.in-Some.arguments.now,
+pub returns-in_err-command-clause-err : goal.returns-in_err-command-clause-err
+returns-in_err-command-clause-err c =
+    let p = err_from_is_err_and c.from_residual.result c.from_residual.ensures.1 in
+    rw p.1 (out_of_memory _ p.0 p.2)
+
+pub returns-in_err-matches-clause-err : goal.returns-in_err-matches-clause-err
+returns-in_err-matches-clause-err c =
+    let p = err_from_is_err_and c.from_residual-in_err-matches.result c.from_residual-in_err-matches.ensures.1 in
+    let line = c.in_ok-command.ensures in
+    rw (p.1, p.2) (app_of c.in_ok-command.command, line, inl (c.in_err-matches.ensures.kinds (line_free _ line)))
+
+pub returns-in-Some-clause-ok : goal.returns-in-Some-clause-ok
+returns-in-Some-clause-ok c =
+    let line = c.in_ok-command.ensures in
+    let found = (c.in_ok-matches.ensures.ok.2 (line_simple _ line)).1 in (
+      app_of c.in_ok-command.command,
+      line,
       record {
-        task = record {
-          check = λ e. subst (AsksCheck (found_of c.in-Some.arguments.now)) is (c.task_of.ensures.check e);
-          explain = λ e. subst (AsksExplain (found_of c.in-Some.arguments.now)) is (c.task_of.ensures.explain e);
-          show = λ e. subst (AsksShow (found_of c.in-Some.arguments.now)) is (c.task_of.ensures.show e);
-          text = λ e. c.in-Some-task_of.ensures.text e;
-          event = λ e. c.in-Some-task_of.ensures.event e;
-          normal = λ e. sym is ∙ c.task_of.ensures.normal e;
-          upgrade = λ e. sym is ∙ c.task_of.ensures.upgrade e;
-          frames = λ e. sym is ∙ c.task_of.ensures.frames e;
-        };
-        file = c.file_of-file.ensures ∙ ap file_of c.get_str.ensures;
+        taken = c.in_ok-matches.ensures.kinds (line_free _ line);
+        found = subst (λ (o : Option (Text × List Row)). AsksFor o c.in-Some.request) found c.in-Some.ensures;
       },
+    )
+
+pub returns-in_err-error-in-None-clause-err : goal.returns-in_err-error-in-None-clause-err
+returns-in_err-error-in-None-clause-err c =
+    let p = err_from_is_err_and c.from_residual-in_err-error-in-None.result c.from_residual-in_err-error-in-None.ensures.1 in
+    rw p.1 (out_of_memory _ p.0 p.2)
+
+pub returns-clause-err : goal.returns-clause-err
+returns-clause-err c =
+    let line = c.in_ok-command.ensures in
+    let found = (c.in_ok-matches.ensures.ok.2 (line_simple _ line)).1 in (
+      app_of c.in_ok-command.command,
+      line,
+      inr (c.in_ok-error-in-None.ensures.kind, λ request asked. c.in-None.ensures request (subst (λ (o : Option (Text × List Row)). AsksFor o request) (sym found) asked)),
     )

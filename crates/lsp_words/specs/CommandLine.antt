@@ -1,0 +1,104 @@
+-- The command line: the commands of the program, with their arguments and options, as `clap` reads words by them.
+use Rattle.std.specs.Prelude.{◌≡◌, List, [], ◌∷◌, Some, true, false, codes}
+use Rattle.std.specs.Borrow.{Bor}
+use Rattle.clap.specs.Words.{App, Rule, Shape, Text, new_rule, rule_of}
+use Rattle.clap.specs.Simple.{new_shape}
+use Rattle.clap.specs.Walk.{texts}
+use Rattle.clap.specs.declared.builder.arg.Arg.{Arg}
+use Rattle.clap.specs.declared.builder.action.ArgAction.TheVariants.{SetTrue}
+use Rattle.clap.specs.declared.builder.value_parser.ValueParser.TheVariants.{Names, Unsigned}
+
+-- ---- arguments and options
+
+-- words are read by this rule for the argument, which only its own command has
+abbrev pub IsArg : Rule → Arg → Type 0
+IsArg rule arg = (rule_of arg ≡ rule) × (arg.global ≡ false)
+
+-- an option that is set or not, as `--all`
+abbrev pub flag : Text → Rule
+flag name = record (new_rule name) { long = Some name; action = Some SetTrue }
+
+-- an argument that may be left out
+abbrev pub argument : Text → Rule
+argument name = record (new_rule name) { value_names = 1 }
+
+-- the file to read
+abbrev pub file : Rule
+file = argument (codes "file")
+
+-- the number of a message or an event: one that a log can have
+abbrev pub number : Rule
+number = record (argument (codes "number")) {
+  required = true;
+  parser = Some (Unsigned 1 1099511627776);
+}
+
+-- the URI of a document
+abbrev pub uri : Rule
+uri = record (argument (codes "uri")) { required = true }
+
+-- the names that `--as` takes, where they lie in memory
+abbrev pub Modes : Type 0
+Modes = Bor (List (Bor Text))
+
+-- what to write for each frame of a stream
+abbrev pub mode : Modes → Rule
+mode modes = record (argument (codes "as")) {
+  long = Some (codes "as");
+  parser = Some (Names modes);
+  defaults = codes "lengths" ∷ [];
+}
+
+-- ---- commands
+
+-- a command with these arguments and options
+abbrev pub command : Text → List Rule → Shape
+command name rules = record (new_shape name) { rules = rules }
+
+abbrev pub check : Shape
+check = command (codes "check")
+    (flag (codes "complete") ∷ flag (codes "all") ∷ flag (codes "every") ∷ file ∷ [])
+
+abbrev pub explain : Shape
+explain = command (codes "explain") (flag (codes "complete") ∷ flag (codes "all") ∷ file ∷ [])
+
+abbrev pub show : Shape
+show = command (codes "show") (flag (codes "long") ∷ file ∷ [])
+
+abbrev pub text : Shape
+text = command (codes "text") (number ∷ uri ∷ file ∷ [])
+
+abbrev pub event : Shape
+event = command (codes "event") (number ∷ file ∷ [])
+
+abbrev pub normal : Shape
+normal = command (codes "normal") (file ∷ [])
+
+abbrev pub upgrade : Shape
+upgrade = command (codes "upgrade") (file ∷ [])
+
+abbrev pub frames : Modes → Shape
+frames modes = command (codes "frames") (mode modes ∷ file ∷ [])
+
+-- the program asks for one of its commands
+abbrev pub program : Shape
+program = record (new_shape (codes "lspcheck")) {
+  is_leaf = false;
+  has_version = true;
+  arg_required_else_help = true;
+  subcommand_required = true;
+}
+
+abbrev pub command_line : Modes → App
+command_line modes = record {
+  top = program;
+  subs = check ∷ explain ∷ show ∷ text ∷ event ∷ normal ∷ upgrade ∷ frames modes ∷ [];
+}
+
+-- the names that `--as` takes
+abbrev pub AreModes : Modes → Type 0
+AreModes modes = texts modes.now ≡ codes "lengths" ∷ codes "canonical" ∷ codes "kinds" ∷ []
+
+-- **the command line of the program**, wherever the names of the modes lie in memory
+abbrev pub IsCommandLine : App → Type 0
+IsCommandLine app = (modes : Modes) × AreModes modes × (app ≡ command_line modes)
