@@ -192,9 +192,9 @@ ENDS = {
 
 # What an input that is something else seems to be.
 HINTS = {
-    "stream": b"this seems to be one raw stream of frames: try 'lspcheck frames'",
-    "log": b"this seems to be the log of a session: try 'lspcheck check'",
-    "format": b"a log of a format that this lspcheck doesn't know: see --version",
+    "stream": b"this looks like one raw stream of frames: try 'lspcheck frames'",
+    "log": b"this looks like the log of a session: try 'lspcheck check'",
+    "format": b"this version of lspcheck does not know the format of this log",
     "unknown": b"a log begins with the line 'lsp-session 2': see docs/LOG_FORMAT.md",
 }
 

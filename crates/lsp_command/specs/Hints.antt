@@ -81,10 +81,10 @@ hint_of (Err fault) bytes = None
 -- the words of a hint
 abbrev pub hint_text : Hint → List ℕ
 hint_text hints.Empty = codes "the input is empty: the recorder wrote nothing"
-hint_text hints.RawStream = codes "this seems to be one raw stream of frames: try 'lspcheck frames'"
-hint_text hints.Log = codes "this seems to be the log of a session: try 'lspcheck check'"
-hint_text hints.LineEnds = codes "the first line ends with CR LF: a log's lines end with LF alone"
-hint_text hints.ByteOrderMark = codes "the input begins with a byte order mark: a log has none"
-hint_text hints.OtherFormat = codes "a log of a format that this lspcheck doesn't know: see --version"
+hint_text hints.RawStream = codes "this looks like one raw stream of frames: try 'lspcheck frames'"
+hint_text hints.Log = codes "this looks like the log of a session: try 'lspcheck check'"
+hint_text hints.LineEnds = codes "the first line ends in CR LF; the lines of a log end in LF alone"
+hint_text hints.ByteOrderMark = codes "the input begins with a byte order mark; a log has none"
+hint_text hints.OtherFormat = codes "this version of lspcheck does not know the format of this log"
 hint_text hints.Compressed = codes "the input is compressed: unpack it first"
 hint_text hints.Unknown = codes "a log begins with the line 'lsp-session 2': see docs/LOG_FORMAT.md"

@@ -36,11 +36,11 @@ impl fmt::Display for Hint {
     fn fmt<W: fmt::Write>(&self, f: &mut fmt::Formatter<W>) -> fmt::Result {
         f.write_str(match self {
             Hint::Empty => "the input is empty: the recorder wrote nothing",
-            Hint::RawStream => "this seems to be one raw stream of frames: try 'lspcheck frames'",
-            Hint::Log => "this seems to be the log of a session: try 'lspcheck check'",
-            Hint::LineEnds => "the first line ends with CR LF: a log's lines end with LF alone",
-            Hint::ByteOrderMark => "the input begins with a byte order mark: a log has none",
-            Hint::OtherFormat => "a log of a format that this lspcheck doesn't know: see --version",
+            Hint::RawStream => "this looks like one raw stream of frames: try 'lspcheck frames'",
+            Hint::Log => "this looks like the log of a session: try 'lspcheck check'",
+            Hint::LineEnds => "the first line ends in CR LF; the lines of a log end in LF alone",
+            Hint::ByteOrderMark => "the input begins with a byte order mark; a log has none",
+            Hint::OtherFormat => "this version of lspcheck does not know the format of this log",
             Hint::Compressed => "the input is compressed: unpack it first",
             Hint::Unknown => "a log begins with the line 'lsp-session 2': see docs/LOG_FORMAT.md",
         })
