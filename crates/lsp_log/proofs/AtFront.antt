@@ -1,18 +1,18 @@
 -- A record at the front of a tape, or why there is none.
-use Rattle.std.proofs.Common.{◌≡◌, ℕ, ◌+◌, ◌<◌, true, false, List, ◌++◌, length, take, drop, Option, Some, None, refl, sym, ap, subst, ◌∙◌, append_assoc, inl, inr, arith}
+use Rattle.std.proofs.Common.{◌≡◌, ℕ, ◌+◌, ◌<◌, ◌≤◌, true, false, List, ◌++◌, length, take, drop, Option, Some, None, refl, sym, ap, subst, ◌∙◌, append_assoc, inl, inr, arith}
 use Rattle.std.specs.List.{flat_map}
 use Rattle.std.proofs.lemmas.List.{take_all, take-append-le}
 use Rattle.lsp_frame.specs.Bounds.{Bounds}
 use Rattle.lsp_frame.specs.Told.{Told}
 use Rattle.lsp_log.specs.Log as log
-use Rattle.lsp_log.specs.Log.{Flaw, bad_line, bad_number, cut_short, bad_end, not_utf8, EndsWith, HasLine, HasHead, head_line, in_range, lengths_of, with_feed, holds_feed, head_of, parts_of}
+use Rattle.lsp_log.specs.Log.{Flaw, bad_line, bad_number, cut_short, bad_end, not_utf8, EndsWith, HasLine, HasHead, head_line, in_range, lengths_of, with_feed, holds_feed, head_of, parts_of, spelling}
 use Rattle.lsp_log.specs.Words.{head_view, IsHead, IsHeadFault}
 use Rattle.lsp_log.specs.declared.head.HeadFault.{HeadFault}
 use Rattle.lsp_log.specs.declared.head.HeadFault.TheVariants as heads
 use Rattle.lsp_log.specs.Tape.{Held, Pulled, Filled, Taken}
 use Rattle.lsp_log.specs.Room.{AwaitsPart, AwaitsRecord}
 use Rattle.lsp_log.specs.Place.{line_of}
-use Rattle.lsp_log.specs.Stops.{Ends, EndsAt, HoldsLine, Refused, StopAnswer, PartsBreak, HasParts, Found, is_flaw, IsHeadStop}
+use Rattle.lsp_log.specs.Stops.{Ends, EndsAt, HoldsLine, Refused, ReadsFew, StopAnswer, PartsBreak, HasParts, Found, is_flaw, IsHeadStop}
 use Rattle.lsp_log.specs.declared.head.Head.{Head}
 use Rattle.lsp_log.specs.declared.stop.Stop.{Stop}
 use Rattle.lsp_log.specs.declared.stop.Stop.TheVariants.{FirstLine, Nothing, Form, Number, Short, End, Text, Read, Memory}
@@ -30,6 +30,7 @@ full_window limits old new before after piece near f none same full = record {
       ap (λ (w : List ℕ). holds_feed (take 64 w)) (sym f.rest) ∙ ap holds_feed (take_all 64 new.rest (omega (arith, ap length same, full))) ∙ none,
     ),
     λ more _. ap line_of (sym (take-append-le 64 new.rest more (omega (arith, ap length same, full)))) ∙ ap (λ (w : List ℕ). line_of (take 64 (w ++ more))) f.rest,
+    omega (arith, ap length f.rest, ap length same, full),
   );
   over = λ h. absurd cc;
 }
@@ -43,8 +44,8 @@ has_line : (old new : Held) (before after : Told) (piece line rest : List ℕ) �
 has_line old new before after piece line rest f h = record { whole = sym f.rest ∙ h.whole; short = h.short; one = h.one }
 
 pub head_stops : (limits : Bounds) (old new : Held) (before after : Told) (piece near : List ℕ) (end : ℕ) (fault : HeadFault) (stop : Stop) → Filled old new before after piece → HasLine new.rest (take end new.rest) (drop (end + 1) new.rest) → near ≡ new.rest
-    → IsHeadFault limits (take end near) fault → IsHeadStop fault stop → StopAnswer (EndsAt limits new.rest) (AwaitsRecord limits) old new before after stop
-head_stops limits old new before after piece near end heads.Form stop f h same bad is =
+    → length new.rest ≤ 64 → IsHeadFault limits (take end near) fault → IsHeadStop fault stop → StopAnswer (EndsAt limits new.rest) (AwaitsRecord limits) old new before after stop
+head_stops limits old new before after piece near end heads.Form stop f h same short bad is =
     subst (λ (x : Stop). StopAnswer (EndsAt limits new.rest) (AwaitsRecord limits) old new before after x) (sym is)
     (record {
       piece = piece;
@@ -52,10 +53,11 @@ head_stops limits old new before after piece near end heads.Form stop f h same b
       holds = (
         inr (take end new.rest, drop (end + 1) new.rest, has_line old new before after piece (take end new.rest) (drop (end + 1) new.rest) f h, λ head writable e. bad head writable (ap (take end) same ∙ e)),
         line_kept old new before after piece (take end new.rest) (drop (end + 1) new.rest) (Some bad_line) f h,
+        omega (arith, ap length f.rest, short),
       );
       over = λ w. absurd cc;
     })
-head_stops limits old new before after piece near end heads.Number stop f h same bad is =
+head_stops limits old new before after piece near end heads.Number stop f h same short bad is =
     let line : take end new.rest ≡ head_line bad.0 = ap (take end) (sym same) ∙ bad.1 in
     let here : HasLine new.rest (head_line bad.0) (drop (end + 1) new.rest) = subst (λ (w : List ℕ). HasLine new.rest w (drop (end + 1) new.rest)) line h in
     subst (λ (x : Stop). StopAnswer (EndsAt limits new.rest) (AwaitsRecord limits) old new before after x) (sym is)
@@ -65,6 +67,7 @@ head_stops limits old new before after piece near end heads.Number stop f h same
       holds = (
         (bad.0, drop (end + 1) new.rest, has_line old new before after piece (head_line bad.0) (drop (end + 1) new.rest) f here, bad.2, bad.3),
         line_kept old new before after piece (head_line bad.0) (drop (end + 1) new.rest) (Some bad_number) f here,
+        omega (arith, ap length f.rest, short),
       );
       over = λ w. absurd cc;
     })
@@ -107,20 +110,29 @@ has_head limits old mid before now h more a = record {
   range = a.range;
 }
 
+-- the head's line and the parts are the spelling of the record
+spelled : (limits : Bounds) (old mid : Held) (before now : Told) (h : log.Head) (more : List ℕ) (a : AtParts limits old mid before now h) (r : log.Record) (after : List ℕ) → head_of r ≡ h → mid.rest ++ more ≡ flat_map with_feed (parts_of r) ++ after
+    → old.rest ++ (a.piece ++ more) ≡ spelling r ++ after
+spelled limits old mid before now h more a r after heads parts =
+    all_bytes limits old mid before now h more a ∙ ap (λ (k : log.Head). with_feed (head_line k) ++ (mid.rest ++ more)) (sym heads) ∙ ap (λ (w : List ℕ). with_feed (head_line (head_of r)) ++ w) parts
+    ∙ sym (append_assoc (with_feed (head_line (head_of r))) (flat_map with_feed (parts_of r)) after)
+
 parts_break : (limits : Bounds) (old mid : Held) (before now : Told) (h : log.Head) (more : List ℕ) (a : AtParts limits old mid before now h) (flaw : Option Flaw) → PartsBreak h (mid.rest ++ more) flaw → EndsWith limits (old.rest ++ (a.piece ++ more)) flaw
 parts_break limits old mid before now h more a None p = absurd p
 parts_break limits old mid before now h more a (Some bad_line) p = absurd p
 parts_break limits old mid before now h more a (Some bad_number) p = absurd p
 parts_break limits old mid before now h more a (Some cut_short) p = inr (h, mid.rest ++ more, has_head limits old mid before now h more a, p)
-parts_break limits old mid before now h more a (Some bad_end) p = (h, mid.rest ++ more, has_head limits old mid before now h more a, p)
-parts_break limits old mid before now h more a (Some not_utf8) p = (
-  p.0,
-  p.1,
-  all_bytes limits old mid before now h more a ∙ ap (λ (k : log.Head). with_feed (head_line k) ++ (mid.rest ++ more)) (sym p.2) ∙ ap (λ (w : List ℕ). with_feed (head_line (head_of p.0)) ++ w) p.3
-      ∙ sym (append_assoc (with_feed (head_line (head_of p.0))) (flat_map with_feed (parts_of p.0)) p.1),
-  ap (in_range limits) p.2 ∙ a.range,
-  p.4,
-)
+parts_break limits old mid before now h more a (Some bad_end) p = (h, mid.rest ++ more, has_head limits old mid before now h more a, p.0)
+parts_break limits old mid before now h more a (Some not_utf8) p = (p.0, p.1, spelled limits old mid before now h more a p.0 p.1 p.2 p.3, ap (in_range limits) p.2 ∙ a.range, p.4)
+
+-- at most 64 bytes were read behind those that show the flaw
+parts_few : (limits : Bounds) (old mid : Held) (before now : Told) (h : log.Head) (more : List ℕ) (a : AtParts limits old mid before now h) (flaw : Option Flaw) → PartsBreak h (mid.rest ++ more) flaw → ReadsFew limits (old.rest ++ (a.piece ++ more)) flaw
+parts_few limits old mid before now h more a None p = tt
+parts_few limits old mid before now h more a (Some bad_line) p = absurd p
+parts_few limits old mid before now h more a (Some bad_number) p = absurd p
+parts_few limits old mid before now h more a (Some cut_short) p = tt
+parts_few limits old mid before now h more a (Some bad_end) p = (h, mid.rest ++ more, has_head limits old mid before now h more a, p.1)
+parts_few limits old mid before now h more a (Some not_utf8) p = (p.0, p.1, spelled limits old mid before now h more a p.0 p.1 p.2 p.3, ap (in_range limits) p.2 ∙ a.range, p.5)
 
 ends_parts : (limits : Bounds) (old mid new : Held) (before now after : Told) (h : log.Head) (flaw : Option Flaw) → AtParts limits old mid before now h → new.rest ≡ with_feed (head_line h) → Ends (PartsBreak h) mid new now after flaw → Ends (EndsAt limits new.rest) old new before after flaw
 ends_parts limits old mid new before now after h flaw a line f = record {
@@ -131,6 +143,7 @@ ends_parts limits old mid new before now after h flaw a line f = record {
     λ more _.
         let here = (has_head limits old mid before now h f.piece a).line in
         ap (λ (w : List ℕ). line_of (take 64 w)) line ∙ line_alone (head_line h) here.short here.one ∙ sym (line_held (old.rest ++ (a.piece ++ f.piece)) (head_line h) (mid.rest ++ f.piece) more here),
+    parts_few limits old mid before now h f.piece a flaw f.holds,
   );
   over = f.over;
 }

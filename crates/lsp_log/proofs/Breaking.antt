@@ -1,13 +1,10 @@
 -- What ends the records still does where more bytes follow, unless it is that bytes are missing.
-use Rattle.std.proofs.Common.{◌≡◌, ◌⊎◌, ℕ, zero, suc, ◌+◌, ◌<◌, ◌≤◌, Bool, true, false, List, [], ◌∷◌, ◌++◌, length, drop, Option, Some, None, refl, sym, ap, subst, ◌∙◌, append_assoc, append-nil, inl, inr, arith}
-use Rattle.std.specs.Prelude.{◌==◌, nat_le, slice_index, if◌then◌else◌}
+use Rattle.std.proofs.Common.{◌≡◌, ◌⊎◌, ℕ, ◌+◌, ◌<◌, true, false, List, [], ◌∷◌, ◌++◌, length, drop, Option, Some, None, refl, sym, ap, subst, ◌∙◌, append_assoc, append-nil, inl, inr, arith}
+use Rattle.std.specs.Prelude.{◌==◌, nat_le, slice_index}
 use Rattle.std.proofs.lemmas.List.{length-append, take-append-le, drop-append-le}
-use Rattle.std.proofs.lemmas.Bool.{cases_lt}
-use borrow.Author.Tests.{le-leb}
 use Rattle.lsp_frame.specs.Bounds.{Bounds}
-use Rattle.lsp_log.specs.Log.{Flaw, bad_line, bad_number, cut_short, bad_end, not_utf8, EndsWith, HasLine, HasHead, Head, head_line, holds_feed, with_feed, parts_flaw, lengths_of, spelling}
-use Rattle.lsp_log.specs.Stops.{wants_bytes}
-use Rattle.lsp_log.proofs.Parts.{not_le}
+use Rattle.lsp_log.specs.Log.{Flaw, bad_line, bad_number, cut_short, bad_end, not_utf8, EndsWith, HasLine, HasHead, Head, head_line, holds_feed, with_feed, parts_flaw, lengths_of, spelling, wants_bytes}
+use Rattle.lsp_log.proofs.PartTests.{not_le, index_front, to_tests, of_tests, there_is}
 
 line_more : (bytes line after more : List ℕ) → HasLine bytes line after → HasLine (bytes ++ more) line (after ++ more)
 line_more bytes line after more h = record {
@@ -18,37 +15,6 @@ line_more bytes line after more h = record {
 
 head_more : (limits : Bounds) (bytes : List ℕ) (head : Head) (after more : List ℕ) → HasHead limits bytes head after → HasHead limits (bytes ++ more) head (after ++ more)
 head_more limits bytes head after more h = record { line = line_more bytes (head_line head) after more h.line; range = h.range }
-
-index_front : (xs ys : List ℕ) (n : ℕ) → n < length xs → slice_index (xs ++ ys) n ≡ slice_index xs n
-index_front [] ys n below = absurd (omega (arith, below))
-index_front (x ∷ xs) ys zero below = refl
-index_front (x ∷ xs) ys (suc n) below = index_front xs ys n (omega (arith, below))
-
--- the tests of one part, where its bytes are there
-record BadEnd (short at : Bool) (rest : Option Flaw) : Type 0 where
-  there : short ≡ false
-  ends : ((at ≡ true) × (rest ≡ Some bad_end)) ⊎ (at ≡ false)
-
-to_tests : (short at : Bool) (rest : Option Flaw) → (if short then Some cut_short else (if at then rest else Some bad_end)) ≡ Some bad_end → BadEnd short at rest
-to_tests true at rest e = absurd cc
-to_tests false true rest e = record { there = refl; ends = inl (refl, e) }
-to_tests false false rest e = record { there = refl; ends = inr refl }
-
-of_tests : (short at : Bool) (rest : Option Flaw) → BadEnd short at rest → (if short then Some cut_short else (if at then rest else Some bad_end)) ≡ Some bad_end
-of_tests true at rest t = let same : true ≡ false = t.there in absurd cc
-of_tests false true rest t = of_true t.ends
-  where
-    of_true : {r : Option Flaw} → ((true ≡ true) × (r ≡ Some bad_end)) ⊎ (true ≡ false) → r ≡ Some bad_end
-    of_true (inl p) = p.1
-    of_true (inr p) = absurd cc
-of_tests false false rest t = refl
-
-there_is : (n : ℕ) (bytes : List ℕ) → nat_le (length bytes) n ≡ false → n < length bytes
-there_is n bytes e = by_cases (cases_lt n (length bytes))
-  where
-    by_cases : (n < length bytes) ⊎ (length bytes ≤ n) → n < length bytes
-    by_cases (inl less) = less
-    by_cases (inr most) = let yes_it_is : nat_le (length bytes) n ≡ true = le-leb (length bytes) n most in absurd (cc (e, yes_it_is))
 
 parts_more : (ns bytes more : List ℕ) → parts_flaw ns bytes ≡ Some bad_end → parts_flaw ns (bytes ++ more) ≡ Some bad_end
 parts_more [] bytes more e = absurd cc

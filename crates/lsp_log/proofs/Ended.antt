@@ -10,12 +10,12 @@ use Rattle.lsp_frame.specs.Bounds.{Bounds, IsInRange}
 use Rattle.lsp_frame.specs.Told.{Told, Gave}
 use Rattle.lsp_frame.specs.declared.format.Format.{Format}
 use Rattle.lsp_log.specs.Log as log
-use Rattle.lsp_log.specs.Log.{Flaw, bad_line, bad_number, cut_short, bad_end, not_utf8, EndsWith, Fits, spelling, first_line, HasRecords, IsLog, code_of, at_record}
+use Rattle.lsp_log.specs.Log.{Flaw, bad_line, bad_number, cut_short, bad_end, not_utf8, EndsWith, Fits, spelling, first_line, HasRecords, IsLog, code_of, at_record, wants_bytes}
 use Rattle.lsp_log.specs.Place.{place_of, line_of, shown_line, found_behind}
 use Rattle.lsp_log.specs.Tape.{Held, ReadFailed, IsOver, IsCutAt}
 use Rattle.lsp_log.specs.Room.{AwaitsRecord}
-use Rattle.lsp_log.specs.Stops.{Ends, EndsAt, HoldsLine, Refused, LacksFirst, wants_bytes}
-use Rattle.lsp_log.specs.Reader.{State, StandsFor, StandsAt, Reads, ReadsNone, Begins, LacksLine, Given, kept_by, kept_in, MayFollow, TellsFormat, answer_of}
+use Rattle.lsp_log.specs.Stops.{Ends, EndsAt, HoldsLine, ReadsFew, Refused, LacksFirst}
+use Rattle.lsp_log.specs.Reader.{State, StandsFor, StandsAt, Reads, ReadsNone, Begins, LacksLine, ShowsNear, Given, kept_by, kept_in, MayFollow, TellsFormat, answer_of}
 use Rattle.lsp_log.specs.Ending.{FailsBehind, FoundFrom, EndAnswer, CutEnd, end_of, next_number, fault_of}
 use Rattle.lsp_log.specs.declared.fault.LogCode.{LogCode}
 use Rattle.lsp_log.specs.declared.fault.LogCode.TheVariants.{L1}
@@ -31,6 +31,7 @@ use Rattle.lsp_log.proofs.LogLemmas.{first_len}
 use Rattle.lsp_log.proofs.Tapes.{failed_then}
 use Rattle.lsp_log.proofs.Reading.{reads_at, none_at, left_at, behind, number_is, ends_there, two_codes}
 use Rattle.lsp_log.proofs.Places.{shown_there}
+use Rattle.lsp_log.proofs.Past.{shows_near}
 
 -- the log ends so behind these records, whatever may follow
 record Closed (limits : Bounds) (format : Format) (before after : Told) (bytes held : List ℕ) (records : List log.Record) (code : Option LogCode) : Type 0 where
@@ -41,6 +42,7 @@ record Closed (limits : Bounds) (format : Format) (before after : Told) (bytes h
   at_end : code ≡ None → IsAtEnd after.bytes
   holds : (more : List ℕ) → MayFollow after more → HasRecords limits format ((bytes ++ piece) ++ more) records code
   shows : (more : List ℕ) → MayFollow after more → line_of (take 64 held) ≡ found_behind limits (Some format) records ((bytes ++ piece) ++ more)
+  near : ShowsNear limits (Some format) (bytes ++ piece) records
 
 is_less : (m n : ℕ) → m < n → nat_lt m n ≡ true
 is_less m n less = lt-ltb m n less
@@ -68,6 +70,7 @@ record Reached (limits : Bounds) (format : Format) (before now : Told) (bytes he
   fits : AllByRecursion (Fits limits) records
   ends : EndsWith limits rest flaw
   line : HoldsLine held rest flaw
+  few : ReadsFew limits rest flaw
 
 reached : (s : State) (tape : Held) (before now : Told) (bytes : List ℕ) (records : List log.Record) (flaw : Option Flaw) (o : Reads s bytes records) → Ends (EndsAt s.limits tape.rest) s.tape tape before now flaw → Reached s.limits o.format before now bytes tape.rest records tape.left flaw
 reached s tape before now bytes records flaw o e = record {
@@ -81,11 +84,18 @@ reached s tape before now bytes records flaw o e = record {
   fits = o.fits;
   ends = e.holds.0;
   line = e.holds.1;
+  few = e.holds.2;
 }
 
+-- at most 64 bytes come after those that show a flaw, and no more than one was read besides
+near_there : (limits : Bounds) → IsInRange limits → (format : Format) (before now : Told) (bytes extra held : List ℕ) (records : List log.Record) (left : ℕ) (flaw : Option Flaw) (r : Reached limits format before now bytes held records left flaw) → length extra ≤ 1
+    → (wants_bytes flaw ≡ false → extra ≡ []) → ShowsNear limits (Some format) (bytes ++ (r.piece ++ extra)) records
+near_there limits sizes format before now bytes extra held records left flaw r one none =
+    shows_near limits sizes format (bytes ++ (r.piece ++ extra)) r.rest extra records flaw one none (sym (append_assoc bytes r.piece extra) ∙ ap (λ (w : List ℕ). w ++ extra) r.whole) r.ends r.few
+
 -- no bytes are wanted: whatever follows changes nothing
-closed_whole : (limits : Bounds) (format : Format) (before now : Told) (bytes held : List ℕ) (records : List log.Record) (left : ℕ) (flaw : Option Flaw) → wants_bytes flaw ≡ false → Reached limits format before now bytes held records left flaw → Closed limits format before now bytes held records (code_of flaw false)
-closed_whole limits format before now bytes held records left flaw none r = record {
+closed_whole : (limits : Bounds) → IsInRange limits → (format : Format) (before now : Told) (bytes held : List ℕ) (records : List log.Record) (left : ℕ) (flaw : Option Flaw) → wants_bytes flaw ≡ false → Reached limits format before now bytes held records left flaw → Closed limits format before now bytes held records (code_of flaw false)
+closed_whole limits sizes format before now bytes held records left flaw none r = record {
   piece = r.piece;
   read = r.read;
   within = omega (arith, r.left_is);
@@ -95,6 +105,7 @@ closed_whole limits format before now bytes held records left flaw none r = reco
       (two_codes flaw (nat_lt limits.log (length ((bytes ++ r.piece) ++ more))) false none)
       (ends_there limits format (bytes ++ r.piece) more r.rest records flaw r.whole r.fits (omega (arith, r.left_is)) r.ends (λ w. let clash : true ≡ false = sym w ∙ none in absurd cc));
   shows = λ more _. shown_there limits format (bytes ++ r.piece) more r.rest held records flaw r.whole (omega (arith, r.left_is)) r.line (λ w. let clash : true ≡ false = sym w ∙ none in absurd cc);
+  near = subst (λ (w : List ℕ). ShowsNear limits (Some format) (bytes ++ w) records) (append-nil r.piece) (near_there limits sizes format before now bytes [] held records left flaw r (omega arith) (λ _. refl));
 }
   where
     has_code : {X : Type 0} (f : Option Flaw) → wants_bytes f ≡ false → code_of f false ≡ None → X
@@ -106,9 +117,9 @@ closed_whole limits format before now bytes held records left flaw none r = reco
     has_code (Some not_utf8) p q = absurd cc
 
 -- bytes are wanted, and the log goes on past its limit
-closed_cut : (limits : Bounds) (format : Format) (before now after : Told) (bytes held : List ℕ) (records : List log.Record) (left : ℕ) (flaw : Option Flaw) → wants_bytes flaw ≡ true → Reached limits format before now bytes held records left flaw → IsCutAt left now after true
+closed_cut : (limits : Bounds) → IsInRange limits → (format : Format) (before now after : Told) (bytes held : List ℕ) (records : List log.Record) (left : ℕ) (flaw : Option Flaw) → wants_bytes flaw ≡ true → Reached limits format before now bytes held records left flaw → IsCutAt left now after true
     → Closed limits format before after bytes held records (code_of flaw true)
-closed_cut limits format before now after bytes held records left flaw wants r (none, byte, read, failures) =
+closed_cut limits sizes format before now after bytes held records left flaw wants r (none, byte, read, failures) =
     let full : length (bytes ++ r.piece) ≡ limits.log = omega (arith, r.left_is, none) in
     let same : bytes ++ (r.piece ++ byte ∷ []) ≡ (bytes ++ r.piece) ++ byte ∷ [] = sym (append_assoc bytes r.piece (byte ∷ [])) in
     record {
@@ -127,6 +138,7 @@ closed_cut limits format before now after bytes held records left flaw wants r (
           let whole : (bytes ++ r.piece) ++ (byte ∷ more) ≡ (bytes ++ (r.piece ++ byte ∷ [])) ++ more = sym (append_assoc (bytes ++ r.piece) (byte ∷ []) more) ∙ ap (λ (w : List ℕ). w ++ more) (sym same) in
           shown_there limits format (bytes ++ r.piece) (byte ∷ more) r.rest held records flaw r.whole (omega (arith, full)) r.line (λ w. inl (omega (arith, full)))
           ∙ ap (found_behind limits (Some format) records) whole;
+      near = near_there limits sizes format before now bytes (byte ∷ []) held records left flaw r (omega arith) (λ w. let clash : true ≡ false = sym wants ∙ w in absurd cc);
     }
   where
     has_code : {X : Type 0} (f : Option Flaw) → wants_bytes f ≡ true → code_of f true ≡ None → X
@@ -138,9 +150,9 @@ closed_cut limits format before now after bytes held records left flaw wants r (
     has_code (Some not_utf8) p q = absurd cc
 
 -- bytes are wanted, and the reader is at its end
-closed_at_end : (limits : Bounds) (format : Format) (before now after : Told) (bytes held : List ℕ) (records : List log.Record) (left : ℕ) (flaw : Option Flaw) → wants_bytes flaw ≡ true → Reached limits format before now bytes held records left flaw → IsCutAt left now after false
+closed_at_end : (limits : Bounds) → IsInRange limits → (format : Format) (before now after : Told) (bytes held : List ℕ) (records : List log.Record) (left : ℕ) (flaw : Option Flaw) → wants_bytes flaw ≡ true → Reached limits format before now bytes held records left flaw → IsCutAt left now after false
     → Closed limits format before after bytes held records (code_of flaw false)
-closed_at_end limits format before now after bytes held records left flaw wants r (read, over, failures) = record {
+closed_at_end limits sizes format before now after bytes held records left flaw wants r (read, over, failures) = record {
   piece = r.piece ++ [];
   read = gave_then before now after r.piece [] r.read read;
   within = omega (arith, r.left_is, ap length same);
@@ -158,15 +170,16 @@ closed_at_end limits format before now after bytes held records left flaw wants 
       let whole : (bytes ++ r.piece) ++ [] ≡ (bytes ++ (r.piece ++ [])) ++ more = append-nil (bytes ++ r.piece) ∙ sym same ∙ sym (append-nil (bytes ++ (r.piece ++ []))) ∙ ap (λ (w : List ℕ). (bytes ++ (r.piece ++ [])) ++ w) (sym none) in
       shown_there limits format (bytes ++ r.piece) [] r.rest held records flaw r.whole (omega (arith, r.left_is)) r.line (λ w. inr refl)
       ∙ ap (found_behind limits (Some format) records) whole;
+  near = near_there limits sizes format before now bytes [] held records left flaw r (omega arith) (λ _. refl);
 }
   where
     same : bytes ++ (r.piece ++ []) ≡ bytes ++ r.piece
     same = ap (λ (w : List ℕ). bytes ++ w) (append-nil r.piece)
 
-closed : (limits : Bounds) (format : Format) (before now after : Told) (bytes held : List ℕ) (records : List log.Record) (left : ℕ) (flaw : Option Flaw) (cut : Bool) → wants_bytes flaw ≡ true → Reached limits format before now bytes held records left flaw → IsCutAt left now after cut
+closed : (limits : Bounds) → IsInRange limits → (format : Format) (before now after : Told) (bytes held : List ℕ) (records : List log.Record) (left : ℕ) (flaw : Option Flaw) (cut : Bool) → wants_bytes flaw ≡ true → Reached limits format before now bytes held records left flaw → IsCutAt left now after cut
     → Closed limits format before after bytes held records (code_of flaw cut)
-closed limits format before now after bytes held records left flaw true wants r is = closed_cut limits format before now after bytes held records left flaw wants r is
-closed limits format before now after bytes held records left flaw false wants r is = closed_at_end limits format before now after bytes held records left flaw wants r is
+closed limits sizes format before now after bytes held records left flaw true wants r is = closed_cut limits sizes format before now after bytes held records left flaw wants r is
+closed limits sizes format before now after bytes held records left flaw false wants r is = closed_at_end limits sizes format before now after bytes held records left flaw wants r is
 
 -- ---- the answers
 
@@ -183,7 +196,7 @@ given_code s tape format before after bytes records None range known place numbe
     let here : HasRecords s.limits format ((bytes ++ c.piece) ++ []) records None = c.holds [] (λ _. refl) in
     let whole : IsLog s.limits (bytes ++ c.piece) s.format records None =
     subst (λ (w : List ℕ). IsLog s.limits w s.format records None) (append-nil (bytes ++ c.piece)) (log_is s.limits ((bytes ++ c.piece) ++ []) s.format format records None known here) in
-    record { piece = c.piece; read = c.read; within = c.within; stands = (range, whole, place, tt); tells = (c.at_end refl, whole, c.failures); shows = tt; room = tt }
+    record { piece = c.piece; read = c.read; within = c.within; stands = (range, whole, place, tt); tells = (c.at_end refl, whole, c.failures); shows = tt; near = tt; room = tt }
 given_code s tape format before after bytes records (Some code) range known place number c =
     let bad : (more : List ℕ) → MayFollow after more → IsLog s.limits ((bytes ++ c.piece) ++ more) s.format records (Some (next_number s.given, code)) =
     λ more follows. subst (λ (n : ℕ). IsLog s.limits ((bytes ++ c.piece) ++ more) s.format records (Some (n, code))) (sym number) (log_is s.limits ((bytes ++ c.piece) ++ more) s.format format records (Some code) known (c.holds more follows)) in
@@ -201,6 +214,7 @@ given_code s tape format before after bytes records (Some code) range known plac
       );
       tells = (bad, c.failures);
       shows = line;
+      near = subst (λ (f : Option Format). ShowsNear s.limits f (bytes ++ c.piece) records) (sym known) c.near;
       room = tt;
     }
 
@@ -251,9 +265,10 @@ first_shown limits held tape before now bytes more l whole left range follows = 
         ∙ sym (take-append-le 14 (bytes ++ l.piece) (take (limits.log - length (bytes ++ l.piece)) more) long)
         ∙ ap (take 14) (sym (take_beyond limits.log (bytes ++ l.piece) more within))
 
-given_first : (s : State) (tape : Held) (before now : Told) (bytes : List ℕ) (records : List log.Record) → LacksFirst s.tape tape before now → IsInRange s.limits → s.place ≡ place_of s.format records → ReadsNone s bytes records
+given_first : (s : State) (tape : Held) (before now : Told) (bytes : List ℕ) (records : List log.Record) → LacksFirst s.tape tape before now → length tape.rest ≤ 64 → IsInRange s.limits → s.place ≡ place_of s.format records → ReadsNone s bytes records
     → Given (over s tape (Err (log_fault.Bad 0 L1))) before now (Err (log_fault.Bad 0 L1)) bytes records
-given_first s tape before now bytes records l range place n =
+given_first s tape before now bytes records l short range place n =
+    let few : length (bytes ++ l.piece) ≤ 64 = omega (arith, short, ap length l.held, ap length n.whole, length-append bytes l.piece, length-append s.tape.rest l.piece) in
     let bad : (more : List ℕ) → MayFollow now more → IsLog s.limits ((bytes ++ l.piece) ++ more) s.format records (Some (0, L1)) =
     λ more follows. subst (λ (f : Option Format). IsLog s.limits ((bytes ++ l.piece) ++ more) f records (Some (0, L1))) (sym n.unknown)
     (n.none, refl, λ format rest e. no_first s.limits s.tape tape before now bytes more rest format l n.whole n.left range follows e) in
@@ -272,6 +287,7 @@ given_first s tape before now bytes records l range place n =
       );
       tells = (bad, l.pulled.failures);
       shows = line;
+      near = subst (λ (f : Option Format). ShowsNear s.limits f (bytes ++ l.piece) records) (sym n.unknown) few;
       room = tt;
     }
 
@@ -315,6 +331,7 @@ given_read s tape before after bytes records free stands f fewer = record {
   stands = (stands.0, (begins_at s bytes f.piece records s.progress free stands.1, lacks_at s bytes f.piece records s.progress free stands.1 fewer), stands.2, tt);
   tells = f.failures;
   shows = tt;
+  near = tt;
   room = tt;
 }
 
@@ -327,6 +344,7 @@ given_memory s tape before after bytes records range place o near r = record {
   stands = (range, begins_at s bytes r.taken.piece records progress.Records refl o, place, tt);
   tells = r.taken.pulled.failures;
   shows = tt;
+  near = tt;
   room = (o.format, r.front, o.known, r.awaits, behind s bytes r.taken.piece (r.front ++ tape.rest) records o r.taken.whole, near);
 }
 
@@ -344,7 +362,7 @@ whole_end : (s : State) (tape : Held) (before now after : Told) (bytes : List �
 whole_end s tape before now after bytes records flaw end stands o none e is =
     subst (λ (t : Told). Given (over s tape end) before t (answer_of end) bytes records) (sym is.0)
     (given_closed s tape before now bytes records (code_of flaw false) end is.1 stands.0 stands.2 o
-    (closed_whole s.limits o.format before now bytes tape.rest records tape.left flaw none (reached s tape before now bytes records flaw o e)))
+    (closed_whole s.limits stands.0 o.format before now bytes tape.rest records tape.left flaw none (reached s tape before now bytes records flaw o e)))
 
 cut_end : (s : State) (tape : Held) (before now after : Told) (bytes : List ℕ) (records : List log.Record) (flaw : Option Flaw) (end : Result (Unit {0}) LogFault) → kept_by s ≡ None → StandsFor s bytes records → Reads s bytes records → wants_bytes flaw ≡ true
     → Ends (EndsAt s.limits tape.rest) s.tape tape before now flaw → ((tape.left ≡ 0) × ReadFailed 0 now after × (end ≡ Err log_fault.Read)) ⊎ ((cut : Bool) × IsCutAt tape.left now after cut × (end ≡ end_of s.given (code_of flaw cut)))
@@ -355,7 +373,7 @@ cut_end s tape before now after bytes records flaw end free stands o wants e (in
     (failed_then s.tape.left tape.left before now after e.piece e.pulled (subst (λ (n : ℕ). ReadFailed n now after) (sym none) failed)) (known_some s.format o.format _ o.known))
 cut_end s tape before now after bytes records flaw end free stands o wants e (inr (cut, at, is)) =
     given_closed s tape before after bytes records (code_of flaw cut) end is stands.0 stands.2 o
-    (closed s.limits o.format before now after bytes tape.rest records tape.left flaw cut wants (reached s tape before now bytes records flaw o e) at)
+    (closed s.limits stands.0 o.format before now after bytes tape.rest records tape.left flaw cut wants (reached s tape before now bytes records flaw o e) at)
 
 -- where nothing more is read
 as_is : (s : State) (tape : Held) (before now after : Told) (bytes : List ℕ) (records : List log.Record) (fault : LogFault) (end : Result (Unit {0}) LogFault) → (after ≡ now) × (end ≡ Err fault) → Given (over s tape (Err fault)) before now (Err fault) bytes records
@@ -367,7 +385,7 @@ as_is s tape before now after bytes records fault end is g =
 -- **What an answer that is no record says, of a reader that is behind its first line or has none.**
 pub ends_at : (s : State) (tape : Held) (before now after : Told) (stop : Stop) (end : Result (Unit {0}) LogFault) (bytes : List ℕ) (records : List log.Record) → kept_by s ≡ None → StandsFor s bytes records → FoundFrom s tape before now (Err stop)
     → EndAnswer (record s { tape = tape }) now after stop end → Given (over s tape end) before after (answer_of end) bytes records
-ends_at s tape before now after FirstLine end bytes records free stands a e = as_is s tape before now after bytes records (log_fault.Bad 0 L1) end e (given_first s tape before now bytes records a.2 stands.0 stands.2 (none_at s bytes records a.0 stands))
+ends_at s tape before now after FirstLine end bytes records free stands a e = as_is s tape before now after bytes records (log_fault.Bad 0 L1) end e (given_first s tape before now bytes records a.2 a.3 stands.0 stands.2 (none_at s bytes records a.0 stands))
 ends_at s tape before now after Nothing end bytes records free stands a e = cut_end s tape before now after bytes records None end free stands (reads_at s bytes records a.0 stands) refl a.3 (cut_cases (record s { tape = tape }) now after Nothing end e)
 ends_at s tape before now after Form end bytes records free stands a e = whole_end s tape before now after bytes records (Some bad_line) end stands (reads_at s bytes records a.0 stands) refl a.3 e
 ends_at s tape before now after Number end bytes records free stands a e = whole_end s tape before now after bytes records (Some bad_number) end stands (reads_at s bytes records a.0 stands) refl a.3 e

@@ -9,7 +9,7 @@ use Rattle.lsp_log.specs.Log.{spelling, with_feed, head_line, head_of, parts_of,
 use Rattle.lsp_log.specs.Tape.{Held, ReadFailed, Taken}
 use Rattle.lsp_log.specs.Stops.{FoundAnswer, FirstAnswer}
 use Rattle.lsp_log.specs.Records.{record_view}
-use Rattle.lsp_log.specs.Reader.{State, ahead, passed, Shows, StandsFor, Given, Gives, Tells, LacksRoom, records_with, kept_by, TellsFormat, FitsProgress, answer_of}
+use Rattle.lsp_log.specs.Reader.{State, ahead, passed, Shows, StandsFor, StopsNear, Given, Gives, Tells, LacksRoom, records_with, kept_by, TellsFormat, FitsProgress, answer_of}
 use Rattle.lsp_log.specs.Ending.{Starts, started, starts, FailsBehind, FoundFrom, FindAnswer, StartAnswer, EndAnswer, next_number}
 use Rattle.lsp_log.specs.declared.fault.LogFault.{LogFault}
 use Rattle.lsp_log.specs.declared.fault.LogFault.TheVariants as log_fault
@@ -25,20 +25,20 @@ use Rattle.lsp_log.proofs.Ended.{over, ends_at, tells_at}
 -- ---- the first line
 
 -- the first line is missing, or the reader failed before it was read
-first_fails : (s : State) (tape : Held) (before after : Told) (stop : Stop) → s.progress ≡ progress.FirstLine → s.format ≡ None → FirstAnswer s.tape tape before after (Err stop) → FindAnswer s (record s { tape = tape }) before after (Err stop)
-first_fails s tape before after FirstLine at unknown f = record { mid = s; now = before; begins = started refl refl; found = (at, unknown, f); same = refl }
-first_fails s tape before after Nothing at unknown f = absurd f
-first_fails s tape before after Form at unknown f = absurd f
-first_fails s tape before after Number at unknown f = absurd f
-first_fails s tape before after Short at unknown f = absurd f
-first_fails s tape before after End at unknown f = absurd f
-first_fails s tape before after Text at unknown f = absurd f
-first_fails s tape before after Read at unknown f = record { mid = s; now = before; begins = started refl refl; found = subst (λ (o : Option Format). FailsBehind o s.tape before after) (sym unknown) f; same = refl }
-first_fails s tape before after Memory at unknown f = absurd f
+first_fails : (s : State) (tape : Held) (before after : Told) (stop : Stop) → s.progress ≡ progress.FirstLine → s.format ≡ None → length tape.rest ≤ 64 → FirstAnswer s.tape tape before after (Err stop) → FindAnswer s (record s { tape = tape }) before after (Err stop)
+first_fails s tape before after FirstLine at unknown short f = record { mid = s; now = before; begins = started refl refl; found = (at, unknown, f, short); same = refl }
+first_fails s tape before after Nothing at unknown short f = absurd f
+first_fails s tape before after Form at unknown short f = absurd f
+first_fails s tape before after Number at unknown short f = absurd f
+first_fails s tape before after Short at unknown short f = absurd f
+first_fails s tape before after End at unknown short f = absurd f
+first_fails s tape before after Text at unknown short f = absurd f
+first_fails s tape before after Read at unknown short f = record { mid = s; now = before; begins = started refl refl; found = subst (λ (o : Option Format). FailsBehind o s.tape before after) (sym unknown) f; same = refl }
+first_fails s tape before after Memory at unknown short f = absurd f
 
-pub start_fails : (old s : State) (tape : Held) (before after : Told) (stop : Stop) → s ≡ old → s.progress ≡ progress.FirstLine → FitsProgress s.progress s.format → FirstAnswer s.tape tape before after (Err stop) → FindAnswer old (record s { tape = tape }) before after (Err stop)
-start_fails old s tape before after stop same at fits f =
-    subst (λ (x : State). FindAnswer x (record s { tape = tape }) before after (Err stop)) same (first_fails s tape before after stop at (subst (λ (p : Progress). FitsProgress p s.format) at fits) f)
+pub start_fails : (old s : State) (tape : Held) (before after : Told) (stop : Stop) → s ≡ old → s.progress ≡ progress.FirstLine → FitsProgress s.progress s.format → length tape.rest ≤ 64 → FirstAnswer s.tape tape before after (Err stop) → FindAnswer old (record s { tape = tape }) before after (Err stop)
+start_fails old s tape before after stop same at fits short f =
+    subst (λ (x : State). FindAnswer x (record s { tape = tape }) before after (Err stop)) same (first_fails s tape before after stop at (subst (λ (p : Progress). FitsProgress p s.format) at fits) short f)
 
 pub start_done : (old s : State) (tape : Held) (format : Format) (place : ℕ) (before after : Told) → s ≡ old → s.progress ≡ progress.FirstLine → place ≡ s.limits.log - tape.left - length tape.rest → Taken s.tape tape before after (first_line format)
     → Starts old (record s { tape = tape; progress = progress.Records; format = Some format; place = place }) before after
@@ -93,6 +93,7 @@ given_behind s mid new before now after result bytes records m g =
       stands = subst (λ (w : List ℕ). StandsFor new w (records_with records result)) same g.stands;
       shows = subst (λ (w : List ℕ). Shows new after w records result) same g.shows;
       tells = subst (λ (w : List ℕ). Tells new before after w records result) same (tells_from new before now after ((bytes ++ m.piece) ++ g.piece) records result m.failures g.tells);
+      near = subst (λ (w : List ℕ). StopsNear new w records result) same g.near;
       room = subst (λ (w : List ℕ). LacksRoom new w records result) same g.room;
     }
 
@@ -120,6 +121,7 @@ given_record s tape given place before after r bytes records number is a stands 
       stands = stands_at (record s { tape = tape; given = given; place = place }) (bytes ++ t.piece) (records ++ record_view r ∷ []) a.0 stands.0 (record_stands s tape given place before after bytes records (record_view r) a.3 stands.0 o number) is;
       shows = tt;
       tells = t.pulled.failures;
+      near = tt;
       room = tt;
     }
 

@@ -6,8 +6,11 @@ pub mod Lines
 pub mod Tapes
 pub mod Fitting
 pub mod AtFront
+pub mod PartTests
 pub mod Parts
 pub mod Breaking
+pub mod OneFlaw
+pub mod Past
 pub mod Places
 pub mod Reading
 pub mod Ended

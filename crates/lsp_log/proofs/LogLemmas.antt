@@ -241,7 +241,7 @@ head_short limits sizes (shown_head v a b) is =
       length-append (decimal a) (32 ∷ decimal b),
     )
 
-feed_at : (b xs : List ℕ) → slice_index (with_feed b ++ xs) (length b) ≡ 10
+pub feed_at : (b xs : List ℕ) → slice_index (with_feed b ++ xs) (length b) ≡ 10
 feed_at [] xs = refl
 feed_at (c ∷ b) xs = feed_at b xs
 

@@ -1,8 +1,7 @@
 -- The parts of a record at the front of a tape.
-use Rattle.std.proofs.Common.{◌≡◌, ℕ, ℤ, ◌+◌, ◌<◌, ◌≤◌, Bool, true, false, List, [], ◌∷◌, ◌++◌, length, drop, Option, Some, Result, Ok, Err, refl, sym, ap, subst, ◌∙◌, append_assoc, append-nil, arith}
-use Rattle.std.specs.Prelude.{◌==◌, nat_le, slice_index, if◌then◌else◌, IsUtf8, IfErr}
+use Rattle.std.proofs.Common.{◌≡◌, ℕ, ℤ, ◌<◌, ◌≤◌, true, List, [], ◌∷◌, ◌++◌, length, Option, Some, Result, Ok, Err, refl, sym, ap, subst, ◌∙◌, append_assoc, append-nil}
+use Rattle.std.specs.Prelude.{IsUtf8, IfErr}
 use Rattle.std.specs.List.{flat_map}
-use borrow.Author.Tests.{le-leb, leb-true}
 use Rattle.lsp_types.specs.declared.side.Side.{Side}
 use Rattle.lsp_frame.specs.Bounds.{Bounds}
 use Rattle.lsp_frame.specs.Told.{Told}
@@ -17,31 +16,10 @@ use Rattle.lsp_log.specs.declared.stop.Stop.TheVariants.{Text}
 use Rattle.lsp_log.specs.declared.tape.PartFault.{PartFault}
 use Rattle.lsp_log.specs.declared.tape.PartFault.TheVariants as faults
 use Rattle.lsp_log.proofs.LogLemmas.{one_part}
+use Rattle.lsp_log.proofs.PartTests.{part_lacks, part_ends_badly, little_first, little_second}
 use Rattle.lsp_log.proofs.Tapes.{pulled_then, failed_then, taken_both}
 use Rattle.lsp_log.proofs.AtFront.{AtParts, stop_at_parts, found_record}
 use Rattle.lsp_log.specs.Records.{record_view}
-
-lacks : (short at : Bool) (rest : Option Flaw) → short ≡ true → (if short then Some cut_short else (if at then rest else Some bad_end)) ≡ Some cut_short
-lacks true at rest p = refl
-lacks false at rest p = absurd cc
-
-misses : (short at : Bool) (rest : Option Flaw) → short ≡ false → at ≡ false → (if short then Some cut_short else (if at then rest else Some bad_end)) ≡ Some bad_end
-misses false false rest p q = refl
-misses false true rest p q = absurd cc
-misses true at rest p q = absurd cc
-
-pub not_le : (m n : ℕ) → n < m → nat_le m n ≡ false
-not_le m n more = by_test (nat_le m n) refl
-  where
-    by_test : (t : Bool) → nat_le m n ≡ t → t ≡ false
-    by_test false e = refl
-    by_test true e = absurd (omega (arith, leb-true m n e))
-
-pub part_lacks : (n : ℕ) (ns bytes : List ℕ) → length bytes ≤ n → parts_flaw (n ∷ ns) bytes ≡ Some cut_short
-part_lacks n ns bytes less = lacks (nat_le (length bytes) n) (slice_index bytes n == 10) (parts_flaw ns (drop (n + 1) bytes)) (le-leb (length bytes) n less)
-
-pub part_ends_badly : (n : ℕ) (ns bytes : List ℕ) → n < length bytes → (slice_index bytes n == 10) ≡ false → parts_flaw (n ∷ ns) bytes ≡ Some bad_end
-part_ends_badly n ns bytes more other = misses (nat_le (length bytes) n) (slice_index bytes n == 10) (parts_flaw ns (drop (n + 1) bytes)) (not_le (length bytes) n more) other
 
 -- behind a whole part
 behind_part : (old mid : Held) (before now : Told) (front more : List ℕ) (t : Taken old mid before now (with_feed front)) → old.rest ++ (t.piece ++ more) ≡ with_feed front ++ (mid.rest ++ more)
@@ -83,13 +61,13 @@ refused_second old mid new before now after front first second t len u some = re
 pub part_stops : (old new : Held) (before after : Told) (side : Side) (len : ℕ) (fault : PartFault) (stop : Stop) → IsPartStop fault stop → PartAnswer old new before after len (Err fault)
     → StopAnswer (PartsBreak (chunk_head side len)) (AwaitsPart (len ∷ [])) old new before after stop
 part_stops old new before after side len faults.Short stop is w = subst (StopAnswer (PartsBreak (chunk_head side len)) (AwaitsPart (len ∷ [])) old new before after) (sym is) (first_short old new before after (PartsBreak (chunk_head side len)) len w (part_lacks len [] (old.rest ++ w.piece) w.less))
-part_stops old new before after side len faults.End stop is m = subst (StopAnswer (PartsBreak (chunk_head side len)) (AwaitsPart (len ∷ [])) old new before after) (sym is) (first_misses old new before after (PartsBreak (chunk_head side len)) len m (part_ends_badly len [] (old.rest ++ m.piece) m.more m.other))
+part_stops old new before after side len faults.End stop is m = subst (StopAnswer (PartsBreak (chunk_head side len)) (AwaitsPart (len ∷ [])) old new before after) (sym is) (first_misses old new before after (PartsBreak (chunk_head side len)) len m (part_ends_badly len [] (old.rest ++ m.piece) m.more m.other, little_first len [] (old.rest ++ m.piece) m.near))
 part_stops old new before after side len faults.Read stop is f = subst (StopAnswer (PartsBreak (chunk_head side len)) (AwaitsPart (len ∷ [])) old new before after) (sym is) f
 part_stops old new before after side len faults.Memory stop is r = subst (StopAnswer (PartsBreak (chunk_head side len)) (AwaitsPart (len ∷ [])) old new before after) (sym is) (refused_first old new before after len [] r.0 r.1)
 
 pub first_fails : (old new : Held) (before after : Told) (first second : ℕ) (fault : PartFault) → PartAnswer old new before after first (Err fault) → TwoPartsAnswer old new before after first second (Err fault)
 first_fails old new before after first second faults.Short w = first_short old new before after (PartsLack (first ∷ second ∷ [])) first w (part_lacks first (second ∷ []) (old.rest ++ w.piece) w.less)
-first_fails old new before after first second faults.End m = first_misses old new before after (PartsLack (first ∷ second ∷ [])) first m (part_ends_badly first (second ∷ []) (old.rest ++ m.piece) m.more m.other)
+first_fails old new before after first second faults.End m = first_misses old new before after (PartsLack (first ∷ second ∷ [])) first m (part_ends_badly first (second ∷ []) (old.rest ++ m.piece) m.more m.other, little_first first (second ∷ []) (old.rest ++ m.piece) m.near)
 first_fails old new before after first second faults.Read f = f
 first_fails old new before after first second faults.Memory r = refused_first old new before after first (second ∷ []) r.0 r.1
 
@@ -104,7 +82,10 @@ second_fails old mid new before now after front first second faults.Short t len 
 second_fails old mid new before now after front first second faults.End t len m = record {
   piece = t.piece ++ m.piece;
   pulled = pulled_then old.left mid.left new.left before now after t.piece m.piece t.pulled m.pulled;
-  holds = flaw_behind old mid before now front m.piece first second bad_end t len (part_ends_badly second [] (mid.rest ++ m.piece) m.more m.other);
+  holds = (
+    flaw_behind old mid before now front m.piece first second bad_end t len (part_ends_badly second [] (mid.rest ++ m.piece) m.more m.other),
+    little_second front (mid.rest ++ m.piece) (old.rest ++ (t.piece ++ m.piece)) first second len m.near (behind_part old mid before now front m.piece t),
+  );
   over = λ h. absurd cc;
 }
 second_fails old mid new before now after front first second faults.Read t len f = failed_then old.left mid.left before now after t.piece t.pulled f
@@ -123,21 +104,21 @@ two_taken old mid new before now after front back first second t len u more = re
 both_parts : (front back rest : List ℕ) → (with_feed front ++ with_feed back) ++ rest ≡ flat_map with_feed (front ∷ back ∷ []) ++ rest
 both_parts front back rest = ap (λ (w : List ℕ). (with_feed front ++ w) ++ rest) (sym (append-nil (with_feed back)))
 
-no_text : (old new : Held) (before after : Told) (v : ℤ) (first second : ℕ) (front back : List ℕ) → TwoParts old new before after first second front back → (IsUtf8 front × IsUtf8 back → ⊥) → Ends (PartsBreak (shown_head v first second)) old new before after (Some not_utf8)
-no_text old new before after v first second front back two none = record {
+no_text : (old new : Held) (before after : Told) (v : ℤ) (first second : ℕ) (front back : List ℕ) → TwoParts old new before after first second front back → length new.rest ≤ 64 → (IsUtf8 front × IsUtf8 back → ⊥) → Ends (PartsBreak (shown_head v first second)) old new before after (Some not_utf8)
+no_text old new before after v first second front back two short none = record {
   piece = two.taken.piece;
   pulled = two.taken.pulled;
-  holds = (shown v front back, new.rest, cc (two.front_len, two.back_len), two.taken.whole ∙ both_parts front back new.rest, none);
+  holds = (shown v front back, new.rest, cc (two.front_len, two.back_len), two.taken.whole ∙ both_parts front back new.rest, none, short);
   over = λ h. absurd cc;
 }
 
-pub uri_stops : (old new : Held) (before after : Told) (v : ℤ) (first second : ℕ) (front back : List ℕ) (stop : Stop) → TwoParts old new before after first second front back → TextAnswer front (Err stop) → StopAnswer (PartsBreak (shown_head v first second)) (AwaitsPart (first ∷ second ∷ [])) old new before after stop
-uri_stops old new before after v first second front back Text two bad = no_text old new before after v first second front back two (λ t. bad t.0)
-uri_stops old new before after v first second front back stop two bad = absurd bad
+pub uri_stops : (old new : Held) (before after : Told) (v : ℤ) (first second : ℕ) (front back : List ℕ) (stop : Stop) → TwoParts old new before after first second front back → length new.rest ≤ 64 → TextAnswer front (Err stop) → StopAnswer (PartsBreak (shown_head v first second)) (AwaitsPart (first ∷ second ∷ [])) old new before after stop
+uri_stops old new before after v first second front back Text two short bad = no_text old new before after v first second front back two short (λ t. bad t.0)
+uri_stops old new before after v first second front back stop two short bad = absurd bad
 
-pub text_stops : (old new : Held) (before after : Told) (v : ℤ) (first second : ℕ) (front back : List ℕ) (stop : Stop) → TwoParts old new before after first second front back → TextAnswer back (Err stop) → StopAnswer (PartsBreak (shown_head v first second)) (AwaitsPart (first ∷ second ∷ [])) old new before after stop
-text_stops old new before after v first second front back Text two bad = no_text old new before after v first second front back two (λ t. bad t.1)
-text_stops old new before after v first second front back stop two bad = absurd bad
+pub text_stops : (old new : Held) (before after : Told) (v : ℤ) (first second : ℕ) (front back : List ℕ) (stop : Stop) → TwoParts old new before after first second front back → length new.rest ≤ 64 → TextAnswer back (Err stop) → StopAnswer (PartsBreak (shown_head v first second)) (AwaitsPart (first ∷ second ∷ [])) old new before after stop
+text_stops old new before after v first second front back Text two short bad = no_text old new before after v first second front back two short (λ t. bad t.1)
+text_stops old new before after v first second front back stop two short bad = absurd bad
 
 pub snapshot_found : (old new : Held) (before after : Told) (v w : ℤ) (first second : ℕ) (front back uri text : List ℕ) → TwoParts old new before after first second front back → uri ≡ front → text ≡ back → IsUtf8 uri → IsUtf8 text → w ≡ v
     → HasParts old new before after (shown_head v first second) (shown w uri text)

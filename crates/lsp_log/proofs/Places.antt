@@ -6,9 +6,9 @@ use Rattle.lsp_frame.specs.Bounds.{Bounds}
 use Rattle.lsp_frame.specs.declared.format.Format.{Format}
 use Rattle.lsp_frame.proofs.Frames.{take_beyond}
 use Rattle.lsp_log.specs.Log as log
-use Rattle.lsp_log.specs.Log.{Flaw, spelling, first_line}
+use Rattle.lsp_log.specs.Log.{Flaw, spelling, first_line, wants_bytes}
 use Rattle.lsp_log.specs.Place.{line_of, found_behind}
-use Rattle.lsp_log.specs.Stops.{HoldsLine, wants_bytes}
+use Rattle.lsp_log.specs.Stops.{HoldsLine}
 
 pub take_none : (n : ℕ) (xs : List ℕ) → (n ≡ 0) ⊎ (xs ≡ []) → take n xs ≡ []
 take_none n xs (inl e) = ap (λ (k : ℕ). take k xs) e

@@ -9,9 +9,9 @@ use Rattle.lsp_frame.specs.Bounds.{Bounds, IsInRange}
 use Rattle.lsp_frame.specs.Told.{Told, Gave}
 use Rattle.lsp_frame.specs.declared.format.Format.{Format}
 use Rattle.lsp_log.specs.Log as log
-use Rattle.lsp_log.specs.Log.{Flaw, bad_line, bad_number, cut_short, bad_end, not_utf8, EndsWith, Fits, spelling, with_feed, head_line, head_of, parts_of, first_line, HasRecords, code_of}
+use Rattle.lsp_log.specs.Log.{Flaw, bad_line, bad_number, cut_short, bad_end, not_utf8, EndsWith, Fits, spelling, with_feed, head_line, head_of, parts_of, first_line, HasRecords, code_of, wants_bytes}
 use Rattle.lsp_log.specs.Tape.{Held, Taken}
-use Rattle.lsp_log.specs.Stops.{Found, wants_bytes}
+use Rattle.lsp_log.specs.Stops.{Found}
 use Rattle.lsp_log.specs.Place.{place_of}
 use Rattle.lsp_log.specs.Reader.{State, StandsFor, StandsAt, ShowsAt, Reads, ReadsNone, passed, kept_by, kept_in}
 use Rattle.lsp_log.specs.Ending.{Starts, started, starts, next_number}

@@ -16,7 +16,7 @@ use Rattle.lsp_log.specs.Laws.{SomeLog}
 use Rattle.lsp_log.specs.Log.{Record, chunk, shown, Head, chunk_head, shown_head, head_line, head_of, parts_of, with_feed, spelling, in_range, IsText, Fits, Flaw, bad_line, bad_number, cut_short, bad_end, not_utf8, holds_feed, lengths_of, parts_flaw, HasLine, HasHead, EndsWith, code_of, first_line, NoFirstLine, at_record}
 use Rattle.lsp_log.proofs.LogLemmas.{holds, clash, one_part, first_len}
 use Rattle.lsp_log.proofs.Bytes.{cut_at}
-use Rattle.lsp_log.proofs.Parts.{part_lacks, part_ends_badly}
+use Rattle.lsp_log.proofs.PartTests.{part_lacks, part_ends_badly}
 use Rattle.lsp_log.proofs.SomeHead.{cut_or_not, head_or_not}
 
 -- ---- the parts behind a first line

@@ -153,11 +153,12 @@ not_equal b c differ = by_test (b == c) refl
     by_test false e = refl
     by_test true e = absurd (differ (exact_unsigned_eq b c e))
 
-pub part_misses : (a c : Held) (before after : Told) (given : List ℕ) (len : ℕ) → Taken a c before after given → length given ≡ len → 0 < length c.rest → (slice_index c.rest 0 ≡ 10 → ⊥) → Misses a c before after len
-part_misses a c before after given len t is some differ = record {
+pub part_misses : (a c : Held) (before after : Told) (given : List ℕ) (len : ℕ) → Taken a c before after given → length given ≡ len → 0 < length c.rest → length c.rest ≤ 64 → (slice_index c.rest 0 ≡ 10 → ⊥) → Misses a c before after len
+part_misses a c before after given len t is some short differ = record {
   piece = t.piece;
   pulled = t.pulled;
   more = omega (arith, ap length t.whole, length-append given c.rest, is, some);
+  near = omega (arith, ap length t.whole, length-append given c.rest, is, short);
   other = ap (λ (w : List ℕ). slice_index w len == 10) t.whole ∙ ap (λ b. b == 10) (index_past given c.rest len is) ∙ not_equal (slice_index c.rest 0) 10 differ;
 }
 

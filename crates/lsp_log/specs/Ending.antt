@@ -27,7 +27,7 @@ FailsBehind (Some format) tape before after = ReadFailed tape.left before after
 
 -- the next record, or why there is none
 abbrev pub FoundFrom : State → Held → Told → Told → Result Record Stop → Type 0
-FoundFrom s tape before after (Err FirstLine) = (s.progress ≡ progress.FirstLine) × (s.format ≡ None) × LacksFirst s.tape tape before after
+FoundFrom s tape before after (Err FirstLine) = (s.progress ≡ progress.FirstLine) × (s.format ≡ None) × LacksFirst s.tape tape before after × (length tape.rest ≤ 64)
 FoundFrom s tape before after (Err Read) = FailsBehind s.format s.tape before after
 FoundFrom s tape before after result = (s.progress ≡ progress.Records) × IsSome s.format × (length tape.rest ≤ 64) × FoundAnswer s.limits s.tape tape before after result
 

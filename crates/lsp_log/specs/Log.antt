@@ -130,6 +130,12 @@ abbrev pub EndsWith : Bounds → List ℕ → Option Flaw → Type 0
 EndsWith limits rest None = rest ≡ []
 EndsWith limits rest (Some flaw) = Breaks limits rest flaw
 
+-- the records end for want of bytes
+abbrev pub wants_bytes : Option Flaw → Bool
+wants_bytes None = true
+wants_bytes (Some cut_short) = true
+wants_bytes (Some flaw) = false
+
 -- the code of what ends the records; where the log was cut, L6 stands for an end without a fault and for bytes that are missing
 abbrev pub code_of : Option Flaw → Bool → Option LogCode
 code_of None false = None

@@ -1,12 +1,12 @@
 -- What a reader of a log gives, and what it stands for.
-use Rattle.std.specs.Prelude.{◌≡◌, ℕ, ◌+◌, ◌-◌, ◌<◌, ◌≤◌, List, [], ◌∷◌, ◌++◌, length, Option, Some, None, IsSome, Result, Ok, Err}
+use Rattle.std.specs.Prelude.{◌≡◌, ℕ, ◌+◌, ◌-◌, ◌<◌, ◌≤◌, false, List, [], ◌∷◌, ◌++◌, length, Option, Some, None, IsSome, Result, Ok, Err}
 use Rattle.std.specs.Io.KnownBytes.{IsAtEnd}
 use Rattle.std.specs.List.{flat_map, AllByRecursion}
 use Rattle.lsp_frame.specs.Bounds.{Bounds, IsInRange}
 use Rattle.lsp_frame.specs.declared.format.Format.{Format}
 use Rattle.lsp_frame.specs.Told.{Told, Gave, after_failure}
 use Rattle.lsp_log.specs.Log as log
-use Rattle.lsp_log.specs.Log.{Fits, spelling, first_line, BeginsLog, IsLog}
+use Rattle.lsp_log.specs.Log.{Flaw, Breaks, Fits, spelling, first_line, wants_bytes, BeginsLog, IsLog}
 use Rattle.lsp_log.specs.Place.{place_of, shown_line, found_behind}
 use Rattle.lsp_log.specs.Tape.{Held}
 use Rattle.lsp_log.specs.Room.{AwaitsRecord}
@@ -159,6 +159,23 @@ abbrev pub Shows : State → Told → List ℕ → List log.Record → Result (O
 Shows new after bytes records (Err (Bad number code)) = (more : List ℕ) → MayFollow after more → shown_by new ≡ found_behind new.limits new.format records (bytes ++ more)
 Shows new after bytes records answer = Unit {0}
 
+-- these bytes are the first line of a format, records, and then what no record begins with, for a reason that they show whatever may follow
+pub record ShowsFlaw (limits : Bounds) (format : Format) (bytes : List ℕ) (records : List log.Record) (flaw : Flaw) : Type 0 where
+  pub rest : List ℕ
+  pub whole : bytes ≡ (first_line format ++ flat_map spelling records) ++ rest
+  pub breaks : Breaks limits rest flaw
+  pub shown : wants_bytes (Some flaw) ≡ false
+
+-- of the bytes read at most 64 come after those that show the fault; where the first line is missing, there are no more in all
+abbrev pub ShowsNear : Bounds → Option Format → List ℕ → List log.Record → Type 0
+ShowsNear limits None bytes records = length bytes ≤ 64
+ShowsNear limits (Some format) bytes records = (front after : List ℕ) (flaw : Flaw) → bytes ≡ front ++ after → ShowsFlaw limits format front records flaw → length after ≤ 64
+
+-- a fault of the log is answered once the bytes read show it: at most 64 more were read
+abbrev pub StopsNear : State → List ℕ → List log.Record → Result (Option Record) LogFault → Type 0
+StopsNear new bytes records (Err (Bad number code)) = ShowsNear new.limits new.format bytes records
+StopsNear new bytes records answer = Unit {0}
+
 -- memory is refused only where a record's first line stands behind the records given, whose numbers are in their ranges, and for a part of it that isn't empty; at most 64 bytes of that part were read
 abbrev pub LacksRoom : State → List ℕ → List log.Record → Result (Option Record) LogFault → Type 0
 LacksRoom new bytes records (Err Memory) =
@@ -173,6 +190,7 @@ pub record Given (new : State) (before after : Told) (result : Result (Option Re
   pub stands : StandsFor new (bytes ++ piece) (records_with records result)
   pub tells : Tells new before after (bytes ++ piece) records result
   pub shows : Shows new after (bytes ++ piece) records result
+  pub near : StopsNear new (bytes ++ piece) records result
   pub room : LacksRoom new (bytes ++ piece) records result
 
 abbrev pub Gives : State → State → Told → Told → Result (Option Record) LogFault → Type 0

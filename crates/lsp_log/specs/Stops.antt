@@ -1,12 +1,12 @@
 -- Why no record stands at the front of a tape, as the code says it.
-use Rattle.std.specs.Prelude.{◌≡◌, ℕ, ◌<◌, List, [], ◌∷◌, ◌++◌, length, take, Option, Some, None, Bool, true, false, Result, Ok, Err, IsUtf8, string_bytes, String, Vec}
+use Rattle.std.specs.Prelude.{◌≡◌, ℕ, ◌<◌, ◌≤◌, List, [], ◌∷◌, ◌++◌, length, take, Option, Some, None, Bool, true, false, Result, Ok, Err, IsUtf8, string_bytes, String, Vec}
 use Rattle.std.specs.List.{flat_map}
 use Rattle.std.specs.Global.{Global}
 use Rattle.lsp_frame.specs.Bounds.{Bounds}
 use Rattle.lsp_frame.specs.Told.{Told}
 use Rattle.lsp_frame.specs.declared.format.Format.{Format}
 use Rattle.lsp_log.specs.Log as log
-use Rattle.lsp_log.specs.Log.{Flaw, bad_line, bad_number, cut_short, bad_end, not_utf8, EndsWith, Fits, spelling, parts_flaw, parts_of, lengths_of, with_feed, first_line, NoFirstLine, head_of, IsText}
+use Rattle.lsp_log.specs.Log.{Flaw, bad_line, bad_number, cut_short, bad_end, not_utf8, EndsWith, Fits, spelling, parts_flaw, parts_of, lengths_of, wants_bytes, with_feed, first_line, NoFirstLine, head_of, in_range, HasHead, IsText}
 use Rattle.lsp_log.specs.Place.{line_of}
 use Rattle.lsp_log.specs.Tape.{Held, Pulled, IsOver, ReadFailed, FailsShort, Taken}
 use Rattle.lsp_log.specs.Room.{AwaitsPart, AwaitsRecord}
@@ -47,12 +47,6 @@ FirstAnswer old new before after (Ok format) = Taken old new before after (first
 FirstAnswer old new before after (Err FirstLine) = LacksFirst old new before after
 FirstAnswer old new before after (Err Read) = FailsShort old before after 14
 FirstAnswer old new before after (Err stop) = ⊥
-
--- the records end for want of bytes
-abbrev pub wants_bytes : Option Flaw → Bool
-wants_bytes None = true
-wants_bytes (Some cut_short) = true
-wants_bytes (Some flaw) = false
 
 -- this holds of the bytes read; where bytes are wanted, no more can be read
 pub record Ends (P : List ℕ → Option Flaw → Type 0) (old new : Held) (before after : Told) (flaw : Option Flaw) : Type 0 where
@@ -97,10 +91,22 @@ put_back_at stop line tape = tape
 abbrev pub HoldsLine : List ℕ → List ℕ → Option Flaw → Type 0
 HoldsLine held bytes flaw = (more : List ℕ) → (wants_bytes flaw ≡ true → more ≡ []) → line_of (take 64 held) ≡ line_of (take 64 (bytes ++ more))
 
+-- of these bytes at most 64 come after those that show a wrong line end behind a part of one of these lengths
+abbrev pub LittlePast : List ℕ → List ℕ → Type 0
+LittlePast lengths bytes = (front after : List ℕ) → bytes ≡ front ++ after → parts_flaw lengths front ≡ Some bad_end → length after ≤ 64
+
+-- of these bytes, which end the records for this reason, at most 64 come after those that show it
+abbrev pub ReadsFew : Bounds → List ℕ → Option Flaw → Type 0
+ReadsFew limits bytes (Some bad_line) = length bytes ≤ 64
+ReadsFew limits bytes (Some bad_number) = length bytes ≤ 64
+ReadsFew limits bytes (Some bad_end) = (head : log.Head) × (after : List ℕ) × HasHead limits bytes head after × LittlePast (lengths_of head) after
+ReadsFew limits bytes (Some not_utf8) = (r : log.Record) × (after : List ℕ) × (bytes ≡ spelling r ++ after) × (in_range limits (head_of r) ≡ true) × (length after ≤ 64)
+ReadsFew limits bytes flaw = Unit {0}
+
 -- parts of these lengths don't stand there
 abbrev pub PartsLack : List ℕ → List ℕ → Option Flaw → Type 0
 PartsLack lengths bytes (Some cut_short) = parts_flaw lengths bytes ≡ Some cut_short
-PartsLack lengths bytes (Some bad_end) = parts_flaw lengths bytes ≡ Some bad_end
+PartsLack lengths bytes (Some bad_end) = (parts_flaw lengths bytes ≡ Some bad_end) × LittlePast lengths bytes
 PartsLack lengths bytes flaw = ⊥
 
 -- two parts, one after the other
@@ -118,7 +124,7 @@ TwoPartsAnswer old new before after first second (Err faults.Memory) = Refused (
 
 -- the parts behind a head are flawed
 abbrev pub PartsBreak : log.Head → List ℕ → Option Flaw → Type 0
-PartsBreak head bytes (Some not_utf8) = (r : log.Record) × (after : List ℕ) × (head_of r ≡ head) × (bytes ≡ flat_map with_feed (parts_of r) ++ after) × (IsText r → ⊥)
+PartsBreak head bytes (Some not_utf8) = (r : log.Record) × (after : List ℕ) × (head_of r ≡ head) × (bytes ≡ flat_map with_feed (parts_of r) ++ after) × (IsText r → ⊥) × (length after ≤ 64)
 PartsBreak head bytes flaw = PartsLack (lengths_of head) bytes flaw
 
 -- the parts of a record with this head
@@ -135,9 +141,9 @@ pub record Found (limits : Bounds) (old new : Held) (before after : Told) (r : l
   pub taken : Taken old new before after (spelling r)
   pub fits : Fits limits r
 
--- the records end so, and the line is held that stands there
+-- the records end so, the line is held that stands there, and little more was read
 abbrev pub EndsAt : Bounds → List ℕ → List ℕ → Option Flaw → Type 0
-EndsAt limits held bytes flaw = EndsWith limits bytes flaw × HoldsLine held bytes flaw
+EndsAt limits held bytes flaw = EndsWith limits bytes flaw × HoldsLine held bytes flaw × ReadsFew limits bytes flaw
 
 -- a record, or why there is none
 abbrev pub FoundAnswer : Bounds → Held → Held → Told → Told → Result Record Stop → Type 0

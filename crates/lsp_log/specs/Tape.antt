@@ -74,11 +74,12 @@ pub record Wants (old new : Held) (before after : Told) (len : ℕ) : Type 0 whe
   pub less : length (old.rest ++ piece) ≤ len
   pub over : IsOver new.left after
 
--- no LF stands at that place
+-- no LF stands at that place, and at most 64 bytes from there on were read
 pub record Misses (old new : Held) (before after : Told) (len : ℕ) : Type 0 where
   pub piece : List ℕ
   pub pulled : Pulled old.left new.left before after piece
   pub more : len < length (old.rest ++ piece)
+  pub near : length (old.rest ++ piece) ≤ len + 64
   pub other : (slice_index (old.rest ++ piece) len == 10) ≡ false
 
 abbrev pub TakeAnswer : Held → Held → Told → Told → ℕ → Result (Vec ℕ Global) PartFault → Type 0

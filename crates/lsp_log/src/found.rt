@@ -24,7 +24,8 @@ fn text_of(bytes: Vec<u8>) -> Result<String, Stop>
 
 /// Goes past the first line, and gives the format that it names.
 pub(crate) fn first_line<R: Source>(tape: &mut Tape, reader: &mut R) -> Result<Format, Stop>
-    ensures { FirstAnswer tape.old tape.new (R.told reader.old) (R.told reader.new) result }
+    ensures short { length tape.new.rest ≤ 64 }
+    ensures answer { FirstAnswer tape.old tape.new (R.told reader.old) (R.told reader.new) result }
 {
     tape.reach(reader, LINE_LEN)?;
     let Some(format) = format_of(tape.near()) else {

@@ -27,8 +27,8 @@ pub(crate) enum Progress {
 
 /// Gives the records of a log one after another.
 ///
-/// It reads at most 64 bytes past the record that it gives, and of a log that is over its limit
-/// one byte past the limit.
+/// It reads at most 64 bytes past the record that it gives, or past the bytes that show a fault, and
+/// of a log that is over its limit one byte past the limit.
 #[derive(Drop)]
 pub struct LogReader {
     alloc: Global,
@@ -136,7 +136,8 @@ impl LogReader {
         // A kept answer is given again, and nothing is read or changed.
         ensures kept { RepeatsKept self.old self.new (R.told reader.old) (R.told reader.new) result }
         // Otherwise the reader stands for the bytes read and the records given, this one
-        // included, and the answer is that of the log.
+        // included, and the answer is that of the log. Where bytes show a fault, at most 64 more
+        // were read.
         ensures gives { kept_by self.old ≡ None → Gives self.old self.new (R.told reader.old) (R.told reader.new) result }
     {
         if let Progress::Over(end) = self.progress {
