@@ -359,8 +359,9 @@ impl Decoder {
         }
     }
 
-    /// Goes past the next frame, and gives the length of its content.
-    fn advance(&mut self) -> Result<Option<usize>, FrameFault>
+    /// Goes past the next frame as [`Decoder::next`] does, and gives the length of its content, which
+    /// [`Decoder::last`] lends.
+    pub fn advance(&mut self) -> Result<Option<usize>, FrameFault>
         ensures { Advances self.old self.new result }
     {
         let Some(size) = self.read_ahead()? else {
@@ -374,8 +375,8 @@ impl Decoder {
         Ok(Some(size.content))
     }
 
-    /// The last bytes of the frames given.
-    fn last(&self, len: usize) -> &[u8]
+    /// The last bytes of the frames given since the last push: the content of the last one, at its length.
+    pub fn last(&self, len: usize) -> &[u8]
         requires { len ≤ length self.now.kept }
         ensures { result.now ≡ last_of self.now.kept len }
     {
@@ -391,6 +392,13 @@ impl Decoder {
             None => Ok(None),
             Some(len) => Ok(Some(self.last(len))),
         }
+    }
+
+    /// The fault that was given, if any.
+    pub fn fault(&self) -> Option<u16>
+        ensures { result ≡ self.now.fault }
+    {
+        self.fault
     }
 
     /// How many bytes stand in the buffer: those of the frames given since the last push, and those behind them.

@@ -34,7 +34,7 @@ pub fn write_record<W: Sink>(writer: &mut W, entry: &Record) -> Result<(), Write
 {
     match entry {
         Record::Bytes { side, bytes } => write_chunk(writer, *side, bytes, &[]),
-        Record::Snapshot { version, uri, text } => put_snapshot(writer, *version, uri, text),
+        Record::Snapshot { version, uri, text } => write_snapshot(writer, *version, uri, text),
     }
 }
 
@@ -70,8 +70,9 @@ fn put_chunk_head<W: Sink>(writer: &mut W, side: Side, len: u64) -> Result<(), W
     put_line(writer, Buffer::new().format(len).as_bytes())
 }
 
-/// Writes a snapshot.
-fn put_snapshot<W: Sink>(
+/// Writes the record of a snapshot, in the one spelling that a log has for it. After a fault a prefix of that is
+/// written.
+pub fn write_snapshot<W: Sink>(
     writer: &mut W,
     version: i32,
     uri: &str,

@@ -3,9 +3,7 @@ pub mod Pieces
 pub mod Forms
 pub mod Counts
 pub mod OneForm
-pub mod Contents
-pub mod Bringing
-pub mod Records
+pub mod Ends
 pub mod Logs
 pub mod Rows
 pub mod Again

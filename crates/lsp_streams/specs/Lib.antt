@@ -8,3 +8,7 @@ pub mod NormalLaws
 pub mod Event
 pub mod EventSteps
 pub mod EventLaws
+pub mod Streams
+pub mod Lending
+pub mod LogEvents
+pub mod LogLending

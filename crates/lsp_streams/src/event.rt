@@ -1,23 +1,18 @@
 //! The content of one event of a log.
-ghost use Rattle.std.specs.Prelude.{◌≡◌, ◌<◌, ◌+◌, ◌++◌, ◌∷◌, [], ℕ, List, Option, None, false, Ok, Err, IfOk, OnErr};
+ghost use Rattle.std.specs.Prelude.{◌≡◌, ◌<◌, ◌+◌, [], ℕ, List, Err, IfOk, OnErr};
 ghost use Rattle.std.specs.Io.KnownBytes.{IsAtEnd};
-ghost use Rattle.lsp_frame.specs.Bounds.{Bounds, IsInRange};
-ghost use Rattle.lsp_frame.specs.Decoder.{StandsFor};
+ghost use Rattle.lsp_frame.specs.Bounds.{Bounds};
 ghost use Rattle.lsp_frame.specs.Told.{Told, Took};
-ghost use Rattle.lsp_frame.specs.declared.format.Format.{Format};
-ghost use Rattle.lsp_log.specs.Log as log;
-ghost use Rattle.lsp_log.specs.Reader.{State, ahead};
-ghost use Rattle.lsp_log.specs.Records.{record_view};
 ghost use Rattle.lsp_streams.specs.Event.{IsEvent, BeginsEvent};
-ghost use Rattle.lsp_streams.specs.EventSteps.{GivesContents, BringsAnswer, IsSpent, HasPassed, SeeksRecord, SeeksEntry, SoFar, Finds};
-ghost use Rattle.lsp_types.specs.declared.side.Side.{Side};
-ghost use Rattle.lsp_verdict.specs.Entries.{EntryIs, IsRecord};
+ghost use Rattle.lsp_streams.specs.EventSteps.{Answers, Finds, HasPassed, IsOfEnd};
+ghost use Rattle.lsp_streams.specs.Streams.{raw_view};
 ghost use Rattle.lsp_verdict.specs.RunIo.{OfRead, GaveAtMost, source_failures, sink_failures};
 
-use lsp_frame::{Decoder, Limits, Sink, Source, put_all};
-use lsp_log::{LogCode, LogReader, Record};
-use lsp_rpc::Side;
-use lsp_verdict::{Entry, RunFault, next_entry};
+use crate::log_events::{End, LogEvents, Next};
+use crate::raw::Raw;
+use lsp_frame::{Limits, Sink, Source, put_all};
+use lsp_log::LogCode;
+use lsp_verdict::RunFault;
 use std::alloc::Global;
 
 /// How a run ended that was asked for one event, and met no fault of reading, writing or memory.
@@ -43,6 +38,30 @@ pub(crate) struct Answer {
 }
 
 impl Answer {
+    /// What is due for this event.
+    fn of_event(alloc: Global, raw: &Raw<'_>) -> Result<Answer, RunFault>
+        ensures ok { IfOk result (λ answer. Answers answer (raw_view raw.now)) }
+        ensures err { (fault : RunFault) → result ≡ Err fault → fault ≡ RunFault.Memory }
+    {
+        match raw {
+            Raw::Content { content, .. } => Answer::of_content(alloc, content),
+            Raw::Broken { .. } => Ok(Answer::without_content(alloc, EventOutcome::NoContent)),
+            Raw::Snapshot { text, .. } => Answer::of_content(alloc, text.as_bytes()),
+        }
+    }
+
+    /// What is due where the log ends so, before the event.
+    fn of_end(alloc: Global, end: End) -> Answer
+        ensures { IsOfEnd result end }
+    {
+        match end {
+            End::Sound => Answer::without_content(alloc, EventOutcome::FewerEvents),
+            End::Bad { number, fault } => {
+                Answer::without_content(alloc, EventOutcome::BadLog { number, fault })
+            }
+        }
+    }
+
     /// The event holds these bytes.
     fn of_content(alloc: Global, content: &[u8]) -> Result<Answer, RunFault>
         ensures ok { IfOk result (λ answer. (answer.content.items ≡ content.now) × (answer.outcome ≡ EventOutcome.Done)) }
@@ -65,161 +84,6 @@ impl Answer {
     }
 }
 
-/// The frames of one side, and whether they had a fault: behind it there are no events.
-#[derive(Drop)]
-struct Stream {
-    decoder: Decoder,
-    ended: bool,
-}
-
-/// The frames of both sides, and how many events are still to come, the last of which is asked for.
-#[derive(Drop)]
-pub(crate) struct Search {
-    alloc: Global,
-    editor: Stream,
-    server: Stream,
-    left: u64,
-}
-
-impl Search {
-    /// Looks for the event of this number, from 1.
-    fn new(alloc: Global, limits: Limits, number: u64) -> Search
-        requires positive { 0 < number }
-        requires range { IsInRange limits }
-        ensures { HasPassed limits result number [] }
-    {
-        Search {
-            alloc,
-            editor: Stream {
-                decoder: Decoder::new(alloc, limits),
-                ended: false,
-            },
-            server: Stream {
-                decoder: Decoder::new(alloc, limits),
-                ended: false,
-            },
-            left: number,
-        }
-    }
-
-    /// Goes past the events that an entry brings, up to the one that is asked for.
-    fn take_entry(&mut self, next: Entry) -> Result<Option<Answer>, RunFault>
-        requires { 0 < self.old.left }
-        ensures more { result ≡ Ok None → IsRecord next }
-        ensures answer { (limits : Bounds) (r : State) (start now : Told) (known : Option Format) (number : ℕ) (records : List log.Record)
-            → HasPassed limits self.old number records → r.limits ≡ limits → EntryIs r limits start now known records (Ok next)
-            → SeeksEntry limits r self.new start now number result }
-    {
-        match next {
-            Entry::Record(record) => self.take(&record),
-            Entry::End => Ok(Some(Answer::without_content(self.alloc, EventOutcome::FewerEvents))),
-            Entry::Bad { number, fault } => Ok(Some(Answer::without_content(
-                self.alloc,
-                EventOutcome::BadLog { number, fault },
-            ))),
-        }
-    }
-
-    /// Goes past the events that a record brings, up to the one that is asked for.
-    fn take(&mut self, entry: &Record) -> Result<Option<Answer>, RunFault>
-        requires { 0 < self.old.left }
-        ensures { (limits : Bounds) (number : ℕ) (records : List log.Record) → HasPassed limits self.old number records
-            → SeeksRecord limits self.new number (records ++ record_view entry.now ∷ []) result }
-    {
-        match entry {
-            Record::Bytes { side, bytes } => match side {
-                Side::Editor => take_bytes(
-                    self.alloc,
-                    bytes.as_slice(),
-                    &mut self.editor,
-                    &mut self.left,
-                ),
-                Side::Server => take_bytes(
-                    self.alloc,
-                    bytes.as_slice(),
-                    &mut self.server,
-                    &mut self.left,
-                ),
-            },
-            Record::Snapshot { text, .. } => {
-                self.left -= 1;
-                if self.left > 0 {
-                    return Ok(None);
-                }
-                Ok(Some(Answer::of_content(self.alloc, text.as_bytes())?))
-            }
-        }
-    }
-}
-
-/// Takes bytes of a side, and goes past the events that they bring, up to the one that is asked for.
-fn take_bytes(
-    alloc: Global,
-    bytes: &[u8],
-    stream: &mut Stream,
-    left: &mut u64,
-) -> Result<Option<Answer>, RunFault>
-    requires { 0 < left.old }
-    ensures { (limits : Bounds) (side : Side) (sent : List ℕ) → IsSpent limits stream.old.ended stream.old.decoder sent
-        → BringsAnswer limits side stream.new.ended stream.new.decoder left.old left.new sent bytes.now result }
-{
-    if stream.ended {
-        return Ok(None);
-    }
-    stream.decoder.push(bytes)?;
-    take_contents(alloc, &mut stream.decoder, &mut stream.ended, left)
-}
-
-/// Goes past the contents that are whole and past a fault of the frames, up to the event that is
-/// asked for.
-fn take_contents(
-    alloc: Global,
-    decoder: &mut Decoder,
-    ended: &mut bool,
-    left: &mut u64,
-) -> Result<Option<Answer>, RunFault>
-    requires ahead { 0 < left.old }
-    requires unbroken { ended.old ≡ false }
-    ensures limits { decoder.new.limits ≡ decoder.old.limits }
-    ensures answer { (side : Side) (bytes : List ℕ) (contents : List (List ℕ)) → StandsFor decoder.old bytes contents
-        → GivesContents side decoder.new ended.new left.old left.new bytes contents result }
-{
-    loop {
-        match decoder.next() {
-            Err(_) => {
-                *ended = true;
-                *left -= 1;
-                if *left > 0 {
-                    return Ok(None);
-                }
-                return Ok(Some(Answer::without_content(alloc, EventOutcome::NoContent)));
-            }
-            Ok(None) => return Ok(None),
-            Ok(Some(content)) => {
-                *left -= 1;
-                if *left == 0 {
-                    return Ok(Some(Answer::of_content(alloc, content)?));
-                }
-            }
-        }
-    }
-}
-
-/// Goes past the events of the next entry of a log, up to the one that is asked for.
-fn find_next<R: Source>(
-    reader: &mut R,
-    log: &mut LogReader,
-    search: &mut Search,
-) -> Result<Option<Answer>, RunFault>
-    requires { 0 < search.old.left }
-    ensures less { result ≡ Ok None → ahead log.new < ahead log.old }
-    ensures answer { (limits : Bounds) (start : Told) (number : ℕ) → SoFar limits log.old search.old start (R.told reader.old) number
-        → SeeksEntry limits log.new search.new start (R.told reader.new) number result }
-{
-    let entry = next_entry(log, reader)?;
-    search.take_entry(entry)
-}
-
 /// Reads a log up to the event of this number.
 fn find_event<R: Source>(
     alloc: Global,
@@ -230,11 +94,32 @@ fn find_event<R: Source>(
     requires { 0 < number }
     ensures { Finds limits number (R.told reader.old) (R.told reader.new) result }
 {
-    let mut log = LogReader::new(alloc, limits);
-    let mut search = Search::new(alloc, limits, number);
+    let mut events = LogEvents::open(alloc, reader, limits)?;
+    find_next(alloc, &mut events, reader, number)
+}
+
+/// Goes past the events that come next, up to the one of this number, from 1.
+fn find_next<R: Source>(
+    alloc: Global,
+    events: &mut LogEvents,
+    reader: &mut R,
+    number: u64,
+) -> Result<Answer, RunFault>
+    requires { 0 < number }
+    ensures { (limits : Bounds) (start : Told) (n : ℕ) → HasPassed limits events.old start (R.told reader.old) n number
+        → Finds limits n start (R.told reader.new) result }
+{
+    let mut left = number;
     loop {
-        if let Some(answer) = find_next(reader, &mut log, &mut search)? {
-            return Ok(answer);
+        match events.next(reader) {
+            Err(fault) => return Err(fault),
+            Ok(Next::End(end)) => return Ok(Answer::of_end(alloc, end)),
+            Ok(Next::Event(raw)) => {
+                left -= 1;
+                if left == 0 {
+                    return Answer::of_event(alloc, &raw);
+                }
+            }
         }
     }
 }

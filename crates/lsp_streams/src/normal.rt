@@ -1,129 +1,29 @@
 //! The normal form of a log: each message as its canonical frame, in full records.
-ghost use Rattle.std.specs.Prelude.{◌≡◌, ◌<◌, ◌+◌, ◌++◌, ◌∷◌, [], ℕ, List, Option, None, Some, Ok, IfOk, OnErr};
+ghost use Rattle.std.specs.Prelude.{◌≡◌, ◌+◌, [], ℕ, List, Some, None, Ok, IfOk, OnErr};
 ghost use Rattle.std.specs.Io.KnownBytes.{IsAtEnd};
-ghost use Rattle.lsp_frame.specs.Bounds.{Bounds, profile};
-ghost use Rattle.lsp_frame.specs.Decoder.{StandsFor};
+ghost use Rattle.lsp_frame.specs.Bounds.{Bounds};
 ghost use Rattle.lsp_frame.specs.Told.{Told, Took};
-ghost use Rattle.lsp_frame.specs.declared.format.Format.{Format};
 ghost use Rattle.lsp_log.specs.Log as log;
-ghost use Rattle.lsp_log.specs.Log.{Fits};
-ghost use Rattle.lsp_log.specs.Reader.{State, ahead};
-ghost use Rattle.lsp_log.specs.Records.{record_view};
+ghost use Rattle.lsp_streams.specs.LogEvents.{Opens};
 ghost use Rattle.lsp_streams.specs.Normal as normal;
 ghost use Rattle.lsp_streams.specs.Normal.{first_broken, EndsNormal, BeginsNormal};
-ghost use Rattle.lsp_streams.specs.NormalSteps.{Counted, CarriesCapped, GivesContents, BringsRecords, Formed, FormsRecord, EndsWhole, IsReading, FitsRecord, Written, SoFar, AreFresh, StepAnswers};
-ghost use Rattle.lsp_verdict.specs.Entries.{IsAt, EntryIs, IsRecord};
-ghost use Rattle.lsp_verdict.specs.Placed.{Raw};
+ghost use Rattle.lsp_streams.specs.NormalSteps.{Counted, CarriesCapped, EndsLog, EndsWhole, Forms, WritesEvent, WroteHead};
+ghost use Rattle.lsp_streams.specs.Streams.{Stands, raw_view};
+ghost use Rattle.lsp_verdict.specs.Placed.{Raw as PlacedRaw};
 ghost use Rattle.lsp_verdict.specs.RunIo.{OfRead, GaveAtMost, source_failures, sink_failures};
-ghost use Rattle.lsp_verdict.specs.Drained.{IsDrained};
 
+use crate::log_events::{End, LogEvents, Next};
 use crate::pieces::Pieces;
-use lsp_frame::{Decoder, Format, Limits, Sink, Source};
-use lsp_log::{LogReader, Record, write_head_of, write_record};
+use crate::raw::Raw;
+use lsp_frame::{Format, Limits, Sink, Source};
+use lsp_log::{write_head_of, write_snapshot};
 use lsp_rpc::Side;
-use lsp_verdict::{Counts, Entry, Outcome, RunFault, Verdict, Who, next_entry, who_of};
+use lsp_verdict::{Counts, Outcome, RunFault, Verdict, Who, who_of};
 use std::alloc::Global;
-
-/// The frames of both sides, and how many events there were, none of which is a fault of the frames.
-#[derive(Drop)]
-pub(crate) struct Streams {
-    editor: Decoder,
-    server: Decoder,
-    counts: Counts,
-    pieces: Pieces,
-}
-
-impl Streams {
-    fn new(alloc: Global, limits: Limits) -> Streams
-        ensures { AreFresh limits result }
-    {
-        let size = limits.chunk() as usize;
-        Streams {
-            editor: Decoder::new(alloc, limits),
-            server: Decoder::new(alloc, limits),
-            counts: Counts::new(),
-            pieces: Pieces::new(alloc, size),
-        }
-    }
-
-    /// Writes the events that an entry brings, or gives the outcome.
-    fn write_entry<W: Sink>(
-        &mut self,
-        writer: &mut W,
-        next: Entry,
-    ) -> Result<Option<Outcome>, RunFault>
-        requires { FitsRecord next }
-        ensures more { result ≡ Ok None → IsRecord next }
-        ensures answer { (limits : Bounds) (r : State) (source now sink : Told) (known : Option Format) (records : List log.Record)
-            → Written limits r self.old sink (W.told writer.old) records → EntryIs r limits source now known records (Ok next)
-            → StepAnswers limits r self.new source now sink (W.told writer.new) result }
-    {
-        match next {
-            Entry::Record(record) => self.write(writer, &record),
-            Entry::End => Ok(Some(self.finish())),
-            Entry::Bad { number, fault } => {
-                Ok(Some(Outcome::Judged(Verdict::BadLog { number, fault })))
-            }
-        }
-    }
-
-    /// Writes the events that a record brings, or gives the outcome at a fault of the frames.
-    fn write<W: Sink>(
-        &mut self,
-        writer: &mut W,
-        entry: &Record,
-    ) -> Result<Option<Outcome>, RunFault>
-        requires { Fits profile (record_view entry.now) }
-        ensures { (limits : Bounds) (start : Told) (records : List log.Record)
-            → Formed limits self.old start (W.told writer.old) records
-            → FormsRecord limits self.new start (W.told writer.new)
-            (records ++ record_view entry.now ∷ []) result }
-    {
-        match entry {
-            Record::Bytes { side, bytes } => match side {
-                Side::Editor => write_bytes(
-                    writer,
-                    Side::Editor,
-                    bytes.as_slice(),
-                    &mut self.editor,
-                    &mut self.counts,
-                    &mut self.pieces,
-                ),
-                Side::Server => write_bytes(
-                    writer,
-                    Side::Server,
-                    bytes.as_slice(),
-                    &mut self.server,
-                    &mut self.counts,
-                    &mut self.pieces,
-                ),
-            },
-            Record::Snapshot { .. } => {
-                write_record(writer, entry)?;
-                self.counts.add(Who::Snapshot);
-                Ok(None)
-            }
-        }
-    }
-
-    /// The outcome where the log ends here without a fault.
-    fn finish(&self) -> Outcome
-        ensures { (limits : Bounds) (start now : Told) (records : List log.Record) → (formed : Formed limits self.now start now records)
-            → EndsWhole limits records formed.raws result }
-    {
-        if let Err(fault) = self.editor.finish() {
-            return no_next(&self.counts, fault.rule, Side::Editor);
-        }
-        if let Err(fault) = self.server.finish() {
-            return no_next(&self.counts, fault.rule, Side::Server);
-        }
-        Outcome::Done
-    }
-}
 
 /// No at the event that comes next, with the number that the side's next message has.
 fn no_next(counts: &Counts, rule: u16, side: Side) -> Outcome
-    ensures { (raws : List Raw) → Counted counts.now raws → CarriesCapped result (Some (normal.no_next rule side raws)) }
+    ensures { (raws : List PlacedRaw) → Counted counts.now raws → CarriesCapped result (Some (normal.no_next rule side raws)) }
 {
     let who = who_of(side);
     let (number, event) = counts.next(who);
@@ -135,93 +35,97 @@ fn no_next(counts: &Counts, rule: u16, side: Side) -> Outcome
     })
 }
 
-/// Takes bytes of a side, and writes each content that they make whole.
-fn write_bytes<W: Sink>(
+/// Writes the records of an event and counts it, or gives the No at a fault of the frames.
+fn write_event<W: Sink>(
     writer: &mut W,
-    side: Side,
-    bytes: &[u8],
-    decoder: &mut Decoder,
-    counts: &mut Counts,
     pieces: &mut Pieces,
-) -> Result<Option<Outcome>, RunFault>
-    ensures limits { decoder.new.limits ≡ decoder.old.limits }
-    ensures size { pieces.new ≡ pieces.old }
-    ensures answer { (limits : Bounds) (sent : List ℕ) (before : List Raw) → decoder.old.limits ≡ limits → pieces.old ≡ limits.chunk
-        → IsDrained decoder.old sent → Counted counts.old before → first_broken before ≡ None
-        → BringsRecords limits side decoder.new counts.new (W.told writer.old) (W.told writer.new)
-        sent bytes.now before result }
-{
-    decoder.push(bytes)?;
-    write_contents(writer, side, decoder, counts, pieces)
-}
-
-/// Writes each content that is whole, or gives the No at a fault of the frames.
-fn write_contents<W: Sink>(
-    writer: &mut W,
-    side: Side,
-    decoder: &mut Decoder,
     counts: &mut Counts,
-    pieces: &mut Pieces,
+    raw: &Raw<'_>,
 ) -> Result<Option<Outcome>, RunFault>
-    ensures limits { decoder.new.limits ≡ decoder.old.limits }
     ensures size { pieces.new ≡ pieces.old }
-    ensures answer { (bytes : List ℕ) (contents : List (List ℕ)) (before : List Raw) → StandsFor decoder.old bytes contents → Counted counts.old before
-        → GivesContents side pieces.old decoder.new counts.new (W.told writer.old) (W.told writer.new)
-        bytes contents before result }
+    ensures answer { (before : List PlacedRaw) → Counted counts.old before
+        → WritesEvent pieces.old counts.new (W.told writer.old) (W.told writer.new) before (raw_view raw.now) result }
 {
-    loop {
-        match decoder.next() {
-            Err(fault) => return Ok(Some(no_next(counts, fault.rule, side))),
-            Ok(None) => return Ok(None),
-            Ok(Some(content)) => {
-                pieces.write(writer, side, content)?;
-                counts.add(who_of(side));
-            }
+    match raw {
+        Raw::Content { side, content } => {
+            pieces.write(writer, *side, content)?;
+            counts.add(who_of(*side));
+            Ok(None)
+        }
+        Raw::Broken { side, rule } => Ok(Some(no_next(counts, *rule, *side))),
+        Raw::Snapshot { version, uri, text } => {
+            write_snapshot(writer, *version, uri, text)?;
+            counts.add(Who::Snapshot);
+            Ok(None)
         }
     }
 }
 
-/// Writes the first line of the log's format and the events of its first entry, or gives the
-/// outcome. A log that begins with no first line has that of format 1 as its normal form.
-fn write_first<R: Source, W: Sink>(
-    reader: &mut R,
-    writer: &mut W,
-    log: &mut LogReader,
-    streams: &mut Streams,
-) -> Result<Option<Outcome>, RunFault>
-    requires { IsReading log.old (R.told reader.old) }
-    ensures { (limits : Bounds) (source : Told) → IsAt log.old source (R.told reader.old) [] → log.old.limits ≡ limits → AreFresh limits streams.old
-        → StepAnswers limits log.new streams.new
-        source (R.told reader.new)
-        (W.told writer.old)
-        (W.told writer.new)
-        result }
+/// The outcome where the log ends without a fault, behind events that were counted.
+fn sound_outcome(events: &LogEvents, counts: &Counts) -> Outcome
+    ensures { (limits : Bounds) (records : List log.Record) (given : List PlacedRaw) → Stands limits events.now.streams records given [] → Counted counts.now given
+        → first_broken given ≡ None → EndsWhole limits records given result }
 {
-    let entry = next_entry(log, reader)?;
-    write_head_of(writer, log.format().unwrap_or(Format::One))?;
-    streams.write_entry(writer, entry)
+    if events.ends_inside(Side::Editor) {
+        return no_next(counts, 107, Side::Editor);
+    }
+    if events.ends_inside(Side::Server) {
+        return no_next(counts, 107, Side::Server);
+    }
+    Outcome::Done
 }
 
-/// Writes the events of the next entry, or gives the outcome.
-fn write_next<R: Source, W: Sink>(
+/// The outcome where the log ends so, behind events that were counted.
+fn outcome_at(events: &LogEvents, counts: &Counts, end: End) -> Outcome
+    ensures { (limits : Bounds) (records : List log.Record) (given : List PlacedRaw) → Stands limits events.now.streams records given [] → Counted counts.now given
+        → first_broken given ≡ None → EndsLog limits records given end result }
+{
+    match end {
+        End::Sound => sound_outcome(events, counts),
+        End::Bad { number, fault } => Outcome::Judged(Verdict::BadLog { number, fault }),
+    }
+}
+
+/// Writes the normal form of a log.
+fn write_normal<R: Source, W: Sink>(
+    alloc: Global,
     reader: &mut R,
     writer: &mut W,
-    log: &mut LogReader,
-    streams: &mut Streams,
-) -> Result<Option<Outcome>, RunFault>
-    requires { IsReading log.old (R.told reader.old) }
-    ensures less { result ≡ Ok None → ahead log.new < ahead log.old }
-    ensures answer { (limits : Bounds) (source sink : Told)
-        → SoFar limits log.old streams.old
-        source (R.told reader.old)
-        sink (W.told writer.old)
-        → StepAnswers limits log.new streams.new
-        source (R.told reader.new)
-        sink (W.told writer.new)
-        result }
+    limits: Limits,
+) -> Result<Outcome, RunFault>
+    ensures { Forms limits (R.told reader.old) (R.told reader.new) (W.told writer.old) (W.told writer.new) result }
 {
-    let entry = next_entry(log, reader)?;
-    streams.write_entry(writer, entry)
+    let mut events = LogEvents::open(alloc, reader, limits)?;
+    write_head_of(writer, events.format().unwrap_or(Format::One))?;
+    write_events(alloc, reader, writer, limits, &mut events)
+}
+
+/// Writes the records of the events of a log.
+fn write_events<R: Source, W: Sink>(
+    alloc: Global,
+    reader: &mut R,
+    writer: &mut W,
+    limits: Limits,
+    events: &mut LogEvents,
+) -> Result<Outcome, RunFault>
+    requires { (start : Told) × Opens limits start (R.told reader.old) events.old }
+    ensures { (start sink : Told) → Opens limits start (R.told reader.old) events.old → WroteHead events.old sink (W.told writer.old)
+        → Forms limits start (R.told reader.new) sink (W.told writer.new) result }
+{
+    let size = limits.chunk() as usize;
+    let mut pieces = Pieces::new(alloc, size);
+    let mut counts = Counts::new();
+    loop {
+        match events.next(reader) {
+            Err(fault) => return Err(fault),
+            Ok(Next::End(end)) => return Ok(outcome_at(events, &counts, end)),
+            Ok(Next::Event(raw)) => {
+                if let Some(outcome) = write_event(writer, &mut pieces, &mut counts, &raw)? {
+                    return Ok(outcome);
+                }
+            }
+        }
+    }
 }
 
 /// Writes the normal form of a log: the first line of its format, and for each of its events the
@@ -256,14 +160,6 @@ pub fn run_normal<R: Source, W: Sink>(
     // At most one byte past the limit is read.
     ensures limit { GaveAtMost (limits.log + 1) (R.told reader.old) (R.told reader.new) }
 {
-    let mut log = LogReader::new(alloc, limits);
-    let mut streams = Streams::new(alloc, limits);
-    if let Some(outcome) = write_first(reader, writer, &mut log, &mut streams)? {
-        return Ok(outcome);
-    }
-    loop {
-        if let Some(outcome) = write_next(reader, writer, &mut log, &mut streams)? {
-            return Ok(outcome);
-        }
-    }
+    let outcome = write_normal(alloc, reader, writer, limits)?;
+    Ok(outcome)
 }

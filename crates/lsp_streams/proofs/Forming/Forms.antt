@@ -21,17 +21,9 @@ use Rattle.lsp_verdict.specs.declared.verdict.Who.{Who}
 use Rattle.std.proofs.lemmas.List.{length-map}
 use Rattle.lsp_verdict.specs.Verdict as verdict
 use Rattle.lsp_verdict.specs.Verdict.{Verdict, no, who_of, belongs_to, count_of}
-use Rattle.lsp_verdict.proofs.LookBackLemmas.{first_of-append, first_of-snoc}
-use Rattle.lsp_streams.proofs.Forming.Pieces.{due}
+use Rattle.lsp_verdict.proofs.LookBackLemmas.{first_of-snoc}
 
 -- ---- events without a fault, and with one
-
-contents_from : (side : Side) (before : List Raw) (contents : List (List ℕ)) → first_from no_at before (map (content side) contents) ≡ None
-contents_from side before [] = refl
-contents_from side before (c ∷ contents) = contents_from side (before ++ content side c ∷ []) contents
-
-pub contents_sound : (side : Side) (contents : List (List ℕ)) → first_broken (map (content side) contents) ≡ None
-contents_sound side contents = contents_from side [] contents
 
 records_from : (size : ℕ) (before raws more : List Raw) → first_from no_at before raws ≡ None → records_of size (raws ++ more) ≡ records_of size raws ++ records_of size more
 records_from size before [] more sound = refl
@@ -71,24 +63,19 @@ form_begins format size raws more = by_fault (first_broken raws) refl
     by_fault None e = (spelled size more, form_behind format size raws more e)
     by_fault (Some v) e = ([], form_stops format size raws more v e ∙ sym (append-nil (form_of format size raws)))
 
--- ---- contents of a side, behind other events
+-- ---- one event more
 
-pub sound_more : (side : Side) (before : List Raw) (contents : List (List ℕ)) → first_broken before ≡ None → first_broken (before ++ map (content side) contents) ≡ None
-sound_more side before contents sound =
-    first_of-append no_at before (map (content side) contents) ∙ ap (λ o. option_or o (first_from no_at before (map (content side) contents))) sound ∙ contents_from side before contents
+pub one_sound : (raw : Raw) (before : List Raw) → no_at before raw ≡ None → first_broken before ≡ None → first_broken (before ++ raw ∷ []) ≡ None
+one_sound raw before none sound = first_of-snoc no_at before raw ∙ ap (λ o. option_or o (no_at before raw)) sound ∙ none
 
-pub broken_behind : (side : Side) (rule : ℕ) (before : List Raw) → first_broken before ≡ None → first_broken (before ++ broken side rule ∷ []) ≡ Some (no_next rule side before)
-broken_behind side rule before sound = first_of-snoc no_at before (broken side rule) ∙ ap (λ o. option_or o (Some (no_next rule side before))) sound
-
-pub shown_sound : (raw : Raw) (before : List Raw) → no_at before raw ≡ None → first_broken before ≡ None → first_broken (before ++ raw ∷ []) ≡ None
-shown_sound raw before none sound = first_of-snoc no_at before raw ∙ ap (λ o. option_or o (no_at before raw)) sound ∙ none
+pub one_broken : (raw : Raw) (before : List Raw) (v : Verdict) → no_at before raw ≡ Some v → first_broken before ≡ None → first_broken (before ++ raw ∷ []) ≡ Some v
+one_broken raw before v is sound = first_of-snoc no_at before raw ∙ ap (λ o. option_or o (no_at before raw)) sound ∙ is
 
 -- a fault of the frames has no records
-pub spelled_broken : (size : ℕ) (side : Side) (contents : List (List ℕ)) (rule : ℕ) → spelled size (map (content side) contents ++ broken side rule ∷ []) ≡ spelled size (map (content side) contents)
-spelled_broken size side contents rule = spelled_behind size (map (content side) contents) (broken side rule ∷ []) (contents_sound side contents) ∙ append-nil (spelled size (map (content side) contents))
-
-pub spelled_one : (size : ℕ) (side : Side) (bytes : List ℕ) → spelled size (content side bytes ∷ []) ≡ due size side (canonical bytes)
-spelled_one size side bytes = ap (λ (rs : List Record). flat_map spelling rs) (append-nil (chunks size side (canonical bytes)))
+pub spelled_broken : (size : ℕ) (before : List Raw) (raw : Raw) (v : Verdict) → no_at before raw ≡ Some v → spelled size (raw ∷ []) ≡ []
+spelled_broken size before (content side bytes) v is = absurd cc
+spelled_broken size before (broken side rule) v is = refl
+spelled_broken size before (show number uri text) v is = absurd cc
 
 -- ---- counts
 

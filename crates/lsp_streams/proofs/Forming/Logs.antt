@@ -1,57 +1,47 @@
--- The normal form of a log, against that of the records that were read.
-use Rattle.std.specs.Io.KnownBytes.{IsAtEnd}
+-- The normal form of a log, against that of the events that were given.
 use Rattle.std.specs.Option.{option_or}
 use Rattle.std.specs.Prelude.{unwrap_or}
-use Rattle.std.proofs.Common.{◌≡◌, ℕ, List, [], ◌∷◌, ◌++◌, Option, Some, None, Result, Ok, Err, refl, sym, ap, subst, ◌∙◌, append_assoc, append-nil}
-use Rattle.lsp_frame.specs.Bounds.{Bounds, IsInRange}
+use Rattle.std.proofs.Common.{◌≡◌, ℕ, ◌+◌, ◌-◌, ◌<◌, List, [], ◌∷◌, ◌++◌, length, map, Option, Some, None, Ok, Err, refl, sym, ap, subst, ◌∙◌, append_assoc, append-nil, arith}
+use Rattle.std.proofs.lemmas.List.{length_push, length-map, length-append}
+use Rattle.lsp_frame.specs.Bounds.{Bounds}
 use Rattle.lsp_frame.specs.Sink.{Wrote, Stopped}
 use Rattle.lsp_frame.specs.Told.{Told}
 use Rattle.lsp_frame.specs.declared.format.Format.{Format}
 use Rattle.lsp_frame.specs.declared.format.Format.TheVariants.{One}
 use Rattle.lsp_frame.proofs.Telling.{took_nothing, took_then}
-use Rattle.lsp_frame.proofs.Writing.{wrote_then}
-use Rattle.lsp_types.specs.declared.side.Side.TheVariants.{Editor, Server}
-use Rattle.lsp_log.specs.Log.{Record, first_line, IsLog}
-use Rattle.lsp_log.specs.Reader as reader
-use Rattle.lsp_log.specs.Reader.{KeepsFormat, StandsFor}
-use Rattle.lsp_log.specs.Records.{record_view}
+use Rattle.lsp_frame.proofs.Writing.{wrote_nothing, wrote_then}
+use Rattle.lsp_log.specs.Log.{Record, first_line}
 use Rattle.lsp_log.specs.declared.fault.LogCode.{LogCode}
-use Rattle.lsp_streams.specs.Normal.{form_of, first_broken, fault_of, EndsNormal, BeginsNormal}
-use Rattle.lsp_streams.specs.NormalSteps.{CarriesCapped, spelled, IsLate, FormedFault, FormedPart, FormsRecord, EndsWhole, IsReading, FitsRecord, Written, Ended, BrokeOff, StepAnswers}
-use Rattle.lsp_streams.specs.declared.normal.Streams.{Streams}
-use Rattle.lsp_verdict.specs.Entries as entries
-use Rattle.lsp_verdict.specs.Entries.{IsAt, HasRecords, HasFirst, IsKnown, EntryIs}
-use Rattle.lsp_verdict.specs.Outcome.{ending, format_or_one}
-use Rattle.lsp_verdict.specs.Placed.{Raw, Placed, joined}
-use Rattle.lsp_verdict.specs.RunIo.{OfRead, failures_after, sink_failures_after}
+use Rattle.lsp_streams.specs.LogEvents as log_events
+use Rattle.lsp_streams.specs.LogEvents.{Gives, HasGiven, IsLogOf, Opens, Reads, flaw_of}
+use Rattle.lsp_streams.specs.Normal.{form_of, fault_of, EndsNormal, BeginsNormal, IsNormal}
+use Rattle.lsp_streams.specs.NormalSteps.{mark, CarriesCapped, spelled, IsLate, EndsLog, EndsWhole, WritesEvent, SoFar, Ended, BrokeOff}
+use Rattle.lsp_streams.specs.Streams.{raw_view}
+use Rattle.lsp_streams.specs.declared.log_events.End.{End}
+use Rattle.lsp_streams.specs.declared.log_events.End.TheVariants.{Sound, Bad}
+use Rattle.lsp_streams.specs.declared.log_events.LogEvents.{LogEvents}
+use Rattle.lsp_streams.specs.declared.log_events.Next.TheVariants as next
+use Rattle.lsp_streams.specs.declared.raw.Raw as code
+use Rattle.lsp_verdict.specs.Counting.{AreCounts}
+use Rattle.lsp_types.specs.declared.side.Side.TheVariants.{Editor, Server}
+use Rattle.lsp_verdict.specs.Outcome.{HasRest, ending, format_or_one}
+use Rattle.lsp_verdict.specs.Placed.{Raw, joined}
+use Rattle.lsp_verdict.specs.RunIo.{BreaksOff, failures_after, sink_failures_after}
 use Rattle.lsp_verdict.specs.Verdict.{Verdict, bad_log}
-use Rattle.lsp_verdict.specs.declared.entry.Entry.{Entry}
-use Rattle.lsp_verdict.specs.declared.entry.Entry.TheVariants as entry
+use Rattle.lsp_verdict.specs.declared.counts.Counts.{Counts}
 use Rattle.lsp_verdict.specs.declared.outcome.Outcome.{Outcome}
 use Rattle.lsp_verdict.specs.declared.outcome.Outcome.TheVariants.{Done, Judged, Stream, NoDocument, TooFew}
 use Rattle.lsp_verdict.specs.declared.outcome.RunFault.{RunFault}
 use Rattle.lsp_verdict.specs.declared.outcome.RunFault.TheVariants as faults
-use Rattle.lsp_verdict.specs.declared.verdict.Verdict.TheVariants as given
-use Rattle.lsp_verdict.proofs.Below.{one_log, some_stream}
-use Rattle.lsp_verdict.proofs.Entries.{is_first, at_start, record_fits}
+use Rattle.lsp_verdict.specs.declared.verdict.Verdict.TheVariants as verdicts
+use Rattle.lsp_verdict.proofs.Below.{some_stream}
+use Rattle.lsp_verdict.proofs.ExactCounts.{capped_is, raws_within}
+use Rattle.lsp_verdict.proofs.PlacedLemmas.{placed_whole}
 use Rattle.lsp_verdict.proofs.RunReading.{read_map}
-use Rattle.lsp_verdict.proofs.Lists.{not_nil}
 use Rattle.lsp_streams.proofs.Forming.Counts.{end_exact, carries_exact}
+use Rattle.lsp_streams.proofs.Forming.Forms.{one_broken, one_sound, spelled_behind, spelled_broken}
 use Rattle.lsp_streams.proofs.Forming.OneForm.{broken_normal, due_first}
-
--- ---- the format
-
--- once a record was read, so was the format
-pub known_at : (r : reader.State) (start now : Told) (rs : List Record) (next : Record) → IsAt r start now (rs ++ next ∷ []) → (format : Format) × (r.format ≡ Some format)
-known_at r start now rs next at = by_format r.format refl
-  where
-    by_format : (o : Option Format) → r.format ≡ o → (format : Format) × (r.format ≡ Some format)
-    by_format None none = absurd (not_nil rs next (at.early none))
-    by_format (Some format) some = (format, some)
-
--- the log is then of the format that was read
-same_format : (limits : Bounds) (known : Option Format) (format : Format) (rs : List Record) (log : List ℕ) → known ≡ Some format → (has : HasFirst limits known rs log) → has.format ≡ known
-same_format limits known format rs log is has = subst (λ (o : Option Format). IsKnown o has.format) is has.is_known ∙ sym is
+use Rattle.lsp_streams.proofs.Pulling.{log_of, reads_failures, reads_given}
 
 -- a log of no format is written as one of format 1
 pub one_or_format : (known : Option Format) (o : Option Format) (format : Format) → o ≡ known → format ≡ unwrap_or o One → format_or_one known ≡ format
@@ -60,54 +50,6 @@ one_or_format known o format same is = sym (is ∙ ap (λ (p : Option Format). u
     by_format : (p : Option Format) → unwrap_or p One ≡ format_or_one p
     by_format None = refl
     by_format (Some f) = refl
-
--- ---- how a log's normal form ends
-
-module _ (limits : Bounds) (log : List ℕ) (format : Option Format) (rs : List Record) (raws : List Raw) (placed : Placed limits rs raws) (sound : first_broken raws ≡ None) where
-  -- at its end
-  end_normal : IsInRange limits → IsLog limits log format rs None → (outcome : Outcome) → EndsWhole limits rs raws outcome → EndsNormal limits log (form_of (format_or_one format) limits.chunk raws) outcome
-  end_normal sizes is_log outcome ends =
-      let due = fault_of raws (ending None ends.editor ends.server) in (
-        due,
-        record {
-          format = format;
-          records = rs;
-          log_fault = None;
-          raws = raws;
-          editor = ends.editor;
-          server = ends.server;
-          is_log = is_log;
-          placed = placed;
-          editor_rest = ends.editor_rest;
-          server_rest = ends.server_rest;
-          ends = refl;
-          written = refl;
-        },
-        carries_exact outcome due (end_exact limits sizes log format rs raws ends.editor ends.server is_log placed sound) ends.carries,
-      )
-
-  -- at a fault of the log
-  bad_normal : (number : ℕ) (fault : LogCode) → IsLog limits log format rs (Some (number, fault)) → EndsNormal limits log (form_of (format_or_one format) limits.chunk raws) (Judged (given.BadLog number fault))
-  bad_normal number fault is_log =
-      let editor = some_stream limits (joined Editor rs) in
-      let server = some_stream limits (joined Server rs) in (
-        fault_of raws (ending (Some (number, fault)) editor.1 server.1),
-        record {
-          format = format;
-          records = rs;
-          log_fault = Some (number, fault);
-          raws = raws;
-          editor = editor.1;
-          server = server.1;
-          is_log = is_log;
-          placed = placed;
-          editor_rest = (editor.0, editor.2, editor.3);
-          server_rest = (server.0, server.2, server.3);
-          ends = refl;
-          written = refl;
-        },
-        ap (λ (o : Option Verdict). option_or o (Some (bad_log number fault))) sound,
-      )
 
 -- ---- an outcome, and a fault
 
@@ -124,7 +66,7 @@ late_source faults.Read n late = absurd late
 late_source faults.Write n late = refl
 late_source faults.Memory n late = refl
 
--- a fault of the writer or of memory behind what was written
+-- a fault behind what was written
 failures_along : (fault : RunFault) (a b c : ℕ) → b ≡ a → c ≡ sink_failures_after fault b → c ≡ sink_failures_after fault a
 failures_along fault a b c same is = is ∙ ap (sink_failures_after fault) same
 
@@ -134,180 +76,224 @@ unwritten_sink faults.Read n none = refl
 unwritten_sink faults.Memory n none = refl
 unwritten_sink faults.Write n none = absurd (none refl)
 
--- ---- a record was read
+-- ---- nothing was written
 
-module _ (limits : Bounds) (r : reader.State) (start now sink mid new : Told) (rs : List Record) (same : r.limits ≡ limits) (at : IsAt r start now rs) (format : Format) (known : r.format ≡ Some format) (head : Wrote sink mid (first_line (format_or_one r.format))) where
-  range : IsInRange limits
-  range = subst IsInRange same at.stands.0
-
-  record_fault : (outcome : Outcome) → FormedFault limits mid new rs outcome → Ended limits start now sink new outcome
-  record_fault outcome f =
-      let wrote = wrote_then sink mid new (first_line (format_or_one r.format)) (spelled limits.chunk f.raws) head f.wrote in
-      let form : List ℕ = form_of (format_or_one r.format) limits.chunk f.raws in
-      record {
-        normal = (
-          form,
-          wrote.took,
-          read_map limits start now (HasFirst limits r.format rs) (λ log. EndsNormal limits log form outcome) (λ log has.
-              let normal = broken_normal limits range log r.format rs has (same_format limits r.format format rs log known has) f.raws f.placed f.verdict f.breaks in
-              (Some f.verdict, normal.0, carries_exact outcome (Some f.verdict) (ap Some normal.1) f.carries))
-              (is_first r limits start now rs same at),
-        );
-        done = λ done. absurd (carried outcome f.verdict f.carries done);
-        source = at.failures;
-        sink = wrote.failures;
-      }
-
-  record_part : (fault : RunFault) → FormedPart limits mid new rs fault → BrokeOff limits start now sink new fault
-  record_part fault f =
-      let line : List ℕ = first_line (format_or_one r.format) in
-      let whole : line ++ spelled limits.chunk f.raws ≡ (line ++ f.wrote.front) ++ f.wrote.back = ap (λ (w : List ℕ). line ++ w) f.wrote.whole ∙ sym (append_assoc line f.wrote.front f.wrote.back) in
-      record {
-        cut_short = (
-          line ++ f.wrote.front,
-          took_then sink mid new line f.wrote.front head.took f.wrote.took,
-          read_map limits start now (HasFirst limits r.format rs) (λ log. BeginsNormal limits log (line ++ f.wrote.front))
-              (λ log has. due_first limits range log r.format rs has (same_format limits r.format format rs log known has) f.raws f.placed (line ++ f.wrote.front) f.wrote.back whole)
-              (is_first r limits start now rs same at),
-        );
-        source = at.failures ∙ late_source fault start.failures f.late;
-        sink = failures_along fault sink.failures mid.failures new.failures head.failures f.wrote.failures;
-      }
-
-  -- the events of the last record were written, if nothing else came
-  pub record_answers : (t : Streams) (result : Result (Option Outcome) RunFault) → FormsRecord limits t mid new rs result → StepAnswers limits r t start now sink new result
-  record_answers t (Ok None) f = record { records = rs; at = at; format = format; known = known; written = record { limits_are = same; sink_between = mid; head = head; formed = f } }
-  record_answers t (Ok (Some outcome)) f = record_fault outcome f
-  record_answers t (Err fault) f = record_part fault f
-
--- ---- no record was read
-
-module _ (limits : Bounds) (r : reader.State) (t : Streams) (start now sink new : Told) (rs : List Record) (w : Written limits r t sink new rs) where
-  form : List ℕ
-  form = form_of (format_or_one r.format) limits.chunk w.formed.raws
-
-  wrote : Wrote sink new form
-  unfolding form
-  wrote = wrote_then sink w.sink_between new (first_line (format_or_one r.format)) (spelled limits.chunk w.formed.raws) w.head w.formed.wrote
-
-  pub end_answers : (outcome : Outcome) → HasRecords limits start now r.format rs None → IsAtEnd now.bytes → EndsWhole limits rs w.formed.raws outcome → Ended limits start now sink new outcome
-  unfolding form
-  end_answers outcome has met ends = record {
-    normal = (
-      form,
-      wrote.took,
-      read_map limits start now (λ log. IsLog limits log r.format rs None) (λ log. EndsNormal limits log form outcome)
-          (λ log is_log. end_normal limits log r.format rs w.formed.raws w.formed.placed w.formed.sound w.formed.range is_log outcome ends) has.of_read,
-    );
-    done = λ done. met;
-    source = has.failures;
-    sink = wrote.failures;
-  }
-
-  pub bad_answers : (number : ℕ) (fault : LogCode) → HasRecords limits start now r.format rs (Some (number, fault)) → Ended limits start now sink new (Judged (given.BadLog number fault))
-  unfolding form
-  bad_answers number fault has = record {
-    normal = (
-      form,
-      wrote.took,
-      read_map limits start now (λ log. IsLog limits log r.format rs (Some (number, fault))) (λ log. EndsNormal limits log form (Judged (given.BadLog number fault)))
-          (λ log is_log. bad_normal limits log r.format rs w.formed.raws w.formed.placed w.formed.sound number fault is_log) has.of_read,
-    );
-    done = λ done. absurd (cc done);
-    source = has.failures;
-    sink = wrote.failures;
-  }
-
-  -- the reader of the log gave none
-  pub broke_answers : (format : Format) → r.format ≡ Some format → (fault : RunFault) → entries.BrokeOff limits start now r.format rs fault → BrokeOff limits start now sink new fault
-  unfolding form
-  broke_answers format known fault broke = record {
-    cut_short = (
-      form,
-      wrote.took,
-      read_map limits start now (HasFirst limits r.format rs) (λ log. BeginsNormal limits log form)
-          (λ log has. due_first limits w.formed.range log r.format rs has (same_format limits r.format format rs log known has) w.formed.raws w.formed.placed form [] (sym (append-nil form))) broke.of_read,
-    );
-    source = broke.failures;
-    sink = failures_along fault sink.failures new.failures new.failures wrote.failures (unwritten_sink fault new.failures broke.unwritten);
-  }
-
--- a format that was read stays
-pub written_along : (limits : Bounds) (r s : reader.State) (t : Streams) (sink new : Told) (rs : List Record) (format : Format) → r.format ≡ Some format → KeepsFormat r.format s.format → s.limits ≡ r.limits → Written limits r t sink new rs → Written limits s t sink new rs
-written_along limits r s t sink new rs format known keeps same w = record {
-  limits_are = same ∙ w.limits_are;
-  sink_between = w.sink_between;
-  head = subst (λ (o : Option Format). Wrote sink w.sink_between (first_line (format_or_one o))) (known ∙ sym (keeps format known)) w.head;
-  formed = w.formed;
-}
-
--- ---- the first entry
-
--- the log read is of this format or of none
-record IsOf (limits : Bounds) (start now : Told) (format : Option Format) : Type 0 where
-  of_read : OfRead limits start now (λ log. (rs : List Record) × (fault : Option (ℕ × LogCode)) × IsLog limits log format rs fault)
-  failures : now.failures ≡ start.failures
-
-is_of : (r : reader.State) (limits : Bounds) (start now : Told) (known : Option Format) (e : Entry) → r.limits ≡ limits → EntryIs r limits start now known [] (Ok e) → IsOf limits start now r.format
-is_of r limits start now known (entry.Record next) same at =
-    let format = known_at r start now [] (record_view next) at in
-    let first = is_first r limits start now (record_view next ∷ []) same at in
-    record {
-      of_read = read_map limits start now (HasFirst limits r.format (record_view next ∷ [])) (λ log. (rs : List Record) × (fault : Option (ℕ × LogCode)) × IsLog limits log r.format rs fault)
-          (λ log has. (record_view next ∷ has.more, has.fault, subst (λ (o : Option Format). IsLog limits log o (record_view next ∷ has.more) has.fault) (same_format limits r.format format.0 (record_view next ∷ []) log format.1 has) has.is_log)) first;
-      failures = at.failures;
-    }
-is_of r limits start now known entry.End same has = record {
-  of_read = read_map limits start now (λ log. IsLog limits log r.format [] None) (λ log. (rs : List Record) × (fault : Option (ℕ × LogCode)) × IsLog limits log r.format rs fault) (λ log is_log. ([], None, is_log)) has.0.of_read;
-  failures = has.0.failures;
-}
-is_of r limits start now known (entry.Bad number fault) same has = record {
-  of_read = read_map limits start now (λ log. IsLog limits log r.format [] (Some (number, fault))) (λ log. (rs : List Record) × (flaw : Option (ℕ × LogCode)) × IsLog limits log r.format rs flaw) (λ log is_log. ([], Some (number, fault), is_log)) has.of_read;
-  failures = has.failures;
-}
-
--- its first line was not written whole
-pub head_cut : (limits : Bounds) (r : reader.State) (start now sink new : Told) (known : Option Format) (e : Entry) → IsInRange limits → r.limits ≡ limits → EntryIs r limits start now known [] (Ok e) → Stopped sink new (first_line (format_or_one r.format)) → BrokeOff limits start now sink new faults.Write
-head_cut limits r start now sink new known e sizes same next stopped =
-    let of_log = is_of r limits start now known e same next in
-    record {
-      cut_short = (
-        stopped.front,
-        stopped.took,
-        read_map limits start now (λ log. (rs : List Record) × (fault : Option (ℕ × LogCode)) × IsLog limits log r.format rs fault) (λ log. BeginsNormal limits log stopped.front) (λ log is out fault normal.
-            let one = one_log limits sizes log normal.format r.format normal.records is.0 normal.log_fault is.1 normal.is_log is.2 in
-            let rest : List ℕ = spelled limits.chunk normal.raws in (
-              stopped.back ++ rest,
-              normal.written
-                  ∙ ap (λ (o : Option Format). first_line (format_or_one o) ++ rest) one.0
-                  ∙ ap (λ (w : List ℕ). w ++ rest) stopped.whole
-                  ∙ append_assoc stopped.front stopped.back rest,
-            )) of_log.of_read,
-      );
-      source = of_log.failures;
-      sink = stopped.failures;
-    }
-
--- nothing was written
-pub none_read : (limits : Bounds) (start now sink : Told) (known : Option Format) (fault : RunFault) → entries.BrokeOff limits start now known [] fault → BrokeOff limits start now sink sink fault
-none_read limits start now sink known fault broke = record {
-  cut_short = (
-    [],
-    took_nothing sink,
-    read_map limits start now (HasFirst limits known []) (λ log. BeginsNormal limits log []) (λ log has out due_fault normal. (out, refl)) broke.of_read,
-  );
+-- reading broke off before the first record
+pub none_read : (limits : Bounds) (start now sink : Told) (fault : RunFault) → BreaksOff limits start now fault → BrokeOff limits start now sink sink fault
+none_read limits start now sink fault broke = record {
+  cut_short = ([], took_nothing sink, read_map limits start now (λ log. Unit {0}) (λ log. BeginsNormal limits log []) (λ log u out due_fault normal. (out, refl)) broke.of_read);
   source = broke.failures;
   sink = unwritten_sink fault sink.failures broke.unwritten;
 }
 
--- ---- an entry that is a record may be written
+-- the first line was not written whole
+pub head_cut : (limits : Bounds) (e : LogEvents) (start now sink new : Told) → Opens limits start now e → Stopped sink new (first_line (format_or_one e.log.format)) → BrokeOff limits start now sink new faults.Write
+head_cut limits e start now sink new (records, due, reads) stopped = record {
+  cut_short = (
+    stopped.front,
+    stopped.took,
+    read_map limits start now (HasGiven limits e.log.format records []) (λ log. BeginsNormal limits log stopped.front)
+        (λ log has. due_first limits reads.stands.range log e.log.format records [] has stopped.front stopped.back (append-nil (first_line (format_or_one e.log.format)) ∙ stopped.whole))
+        (reads_given limits e.log.format e start now records [] due reads),
+  );
+  source = reads_failures limits e.log.format e start now records [] due reads;
+  sink = stopped.failures;
+}
 
-pub next_fits : (r : reader.State) (limits : Bounds) (start now : Told) (known : Option Format) (records : List Record) (next : Entry) → EntryIs r limits start now known records (Ok next) → FitsRecord next
-next_fits r limits start now known records (entry.Record next) at = record_fits r start now records (record_view next) at
-next_fits r limits start now known records entry.End at = tt
-next_fits r limits start now known records (entry.Bad number fault) at = tt
+-- none of the events was given
+pub none_formed : (limits : Bounds) (e : LogEvents) (counts : Counts) (start now old : Told) → Opens limits start now e → AreCounts counts [] → SoFar limits e.log.format e counts start now old old
+none_formed limits e counts start now old (records, due, reads) counted =
+    record { records = records; given = []; due = due; reads = reads; sound = refl; counted = counted; wrote = wrote_nothing old }
 
--- ---- the run
+-- ---- one event more
 
-pub nothing_read : (limits : Bounds) (r : reader.State) (source : Told) → r ≡ reader.empty limits → StandsFor r [] [] → IsReading r source
-nothing_read limits r source new stands = record { start = source; records = []; at = at_start r limits source new stands }
+module _ (limits : Bounds) (format : Option Format) (old new : LogEvents) (counts : Counts) (start before now sink_before sink_now : Told) (so : SoFar limits format old counts start before sink_before sink_now) where
+  -- its records are written behind those before
+  wrote_more : (raw : Raw) (sink_new : Told) → Wrote sink_now sink_new (spelled limits.chunk (raw ∷ [])) → Wrote sink_before sink_new (spelled limits.chunk (so.given ++ raw ∷ []))
+  wrote_more raw sink_new wrote =
+      subst (Wrote sink_before sink_new) (sym (spelled_behind limits.chunk so.given (raw ∷ []) so.sound))
+      (wrote_then sink_before sink_now sink_new (spelled limits.chunk so.given) (spelled limits.chunk (raw ∷ [])) so.wrote wrote)
+
+  pub one_formed : (raw : code.Raw) (counted_now : Counts) (size : ℕ) (sink_new : Told) → size ≡ limits.chunk → Gives limits format new start now so.records so.given (Ok (next.Event raw)) → WritesEvent size counted_now sink_now sink_new so.given (raw_view raw) (Ok None)
+      → SoFar limits format new counted_now start now sink_before sink_new
+  one_formed raw counted_now size sink_new is (more, due, reads) (none, counted, wrote) = record {
+    records = so.records ++ more;
+    given = so.given ++ raw_view raw ∷ [];
+    due = due;
+    reads = reads;
+    sound = one_sound (raw_view raw) so.given none so.sound;
+    counted = counted;
+    wrote = wrote_more (raw_view raw) sink_new (subst (λ (n : ℕ). Wrote sink_now sink_new (spelled n (raw_view raw ∷ []))) is wrote);
+  }
+
+  -- and it is one more than before, of no more than the log has bytes
+  pub fewer : (raw : code.Raw) (counted_now : Counts) (size : ℕ) (sink_new : Told) → Gives limits format new start now so.records so.given (Ok (next.Event raw)) → WritesEvent size counted_now sink_now sink_new so.given (raw_view raw) (Ok None)
+      → (limits.log + 1) - counted_now.all < (limits.log + 1) - counts.all
+  fewer raw counted_now size sink_new (more, due, reads) (none, counted, wrote) =
+      let given : List Raw = so.given ++ raw_view raw ∷ [] in
+      let of_log = reads_given limits format new start now (so.records ++ more) given due reads in
+      let has : HasGiven limits format (so.records ++ more) given of_log.bytes = of_log.holds of_log.bytes ([], sym (append-nil of_log.bytes), λ end. refl) in
+      let few = raws_within limits of_log.bytes format has.records has.log_fault (given ++ has.later) has.is_log has.placed in
+      let longer = length_push so.given (raw_view raw) in
+      let all = length-append given has.later in
+      let high = reads.stands.range.log_high in
+      let is_old : counts.all ≡ length so.given = so.counted.all ∙ capped_is (length (map mark so.given)) (omega (arith, length-map so.given mark, few, longer, all, high)) ∙ length-map so.given mark in
+      let is_new : counted_now.all ≡ length given = counted.all ∙ capped_is (length (map mark given)) (omega (arith, length-map given mark, few, all, high)) ∙ length-map given mark in
+      omega (arith, is_old, is_new, few, longer, all)
+
+  module _ (sink : Told) (head : Wrote sink sink_before (first_line (format_or_one format))) where
+    line : List ℕ
+    line = first_line (format_or_one format)
+
+    -- a fault of the frames ends the normal form
+    pub fault_ends : (raw : code.Raw) (counted_now : Counts) (size : ℕ) (outcome : Outcome) (sink_new : Told) → Gives limits format new start now so.records so.given (Ok (next.Event raw)) → WritesEvent size counted_now sink_now sink_new so.given (raw_view raw) (Ok (Some outcome))
+        → Ended limits start now sink sink_new outcome
+    unfolding line
+    fault_ends raw counted_now size outcome sink_new (more, due, reads) (stays, (verdict, is, carries)) =
+        let given : List Raw = so.given ++ raw_view raw ∷ [] in
+        let form : List ℕ = form_of (format_or_one format) limits.chunk given in
+        let breaks = one_broken (raw_view raw) so.given verdict is so.sound in
+        let same : spelled limits.chunk given ≡ spelled limits.chunk so.given =
+        spelled_behind limits.chunk so.given (raw_view raw ∷ []) so.sound
+        ∙ ap (λ (w : List ℕ). spelled limits.chunk so.given ++ w) (spelled_broken limits.chunk so.given (raw_view raw) verdict is)
+        ∙ append-nil (spelled limits.chunk so.given) in
+        let wrote : Wrote sink sink_now form = wrote_then sink sink_before sink_now line (spelled limits.chunk given) head (subst (Wrote sink_before sink_now) (sym same) so.wrote) in
+        let all = subst (λ (t : Told). Wrote sink t form) (sym stays) wrote in
+        record {
+          normal = (
+            form,
+            all.took,
+            read_map limits start now (HasGiven limits format (so.records ++ more) given) (λ log. EndsNormal limits log form outcome)
+                (λ log has.
+                let normal = broken_normal limits reads.stands.range log format (so.records ++ more) given has verdict breaks in
+                (Some verdict, normal.0, carries_exact outcome (Some verdict) (ap Some normal.1) carries))
+                (reads_given limits format new start now (so.records ++ more) given due reads),
+          );
+          done = λ done. absurd (carried outcome verdict carries done);
+          source = reads_failures limits format new start now (so.records ++ more) given due reads;
+          sink = all.failures;
+        }
+
+    -- its records were not written whole
+    pub part_written : (raw : code.Raw) (counted_now : Counts) (size : ℕ) (fault : RunFault) (sink_new : Told) → size ≡ limits.chunk → Gives limits format new start now so.records so.given (Ok (next.Event raw)) → WritesEvent size counted_now sink_now sink_new so.given (raw_view raw) (Err fault)
+        → BrokeOff limits start now sink sink_new fault
+    unfolding line
+    part_written raw counted_now size fault sink_new is (more, due, reads) (none, late, part) =
+        let given : List Raw = so.given ++ raw_view raw ∷ [] in
+        let before_it : List ℕ = line ++ spelled limits.chunk so.given in
+        let wrote : Wrote sink sink_now before_it = wrote_then sink sink_before sink_now line (spelled limits.chunk so.given) head so.wrote in
+        let due_now : spelled limits.chunk (raw_view raw ∷ []) ≡ part.front ++ part.back = ap (λ (n : ℕ). spelled n (raw_view raw ∷ [])) (sym is) ∙ part.whole in
+        let whole : form_of (format_or_one format) limits.chunk given ≡ (before_it ++ part.front) ++ part.back =
+        ap (λ (w : List ℕ). line ++ w) (spelled_behind limits.chunk so.given (raw_view raw ∷ []) so.sound)
+        ∙ ap (λ (w : List ℕ). line ++ (spelled limits.chunk so.given ++ w)) due_now
+        ∙ sym (append_assoc line (spelled limits.chunk so.given) (part.front ++ part.back))
+        ∙ sym (append_assoc before_it part.front part.back) in
+        record {
+          cut_short = (
+            before_it ++ part.front,
+            took_then sink sink_now sink_new before_it part.front wrote.took part.took,
+            read_map limits start now (HasGiven limits format (so.records ++ more) given) (λ log. BeginsNormal limits log (before_it ++ part.front))
+                (λ log has. due_first limits reads.stands.range log format (so.records ++ more) given has (before_it ++ part.front) part.back whole)
+                (reads_given limits format new start now (so.records ++ more) given due reads),
+          );
+          source = reads_failures limits format new start now (so.records ++ more) given due reads ∙ late_source fault start.failures late;
+          sink = failures_along fault sink.failures sink_now.failures sink_new.failures wrote.failures part.failures;
+        }
+
+    wrote_given : Wrote sink sink_now (form_of (format_or_one format) limits.chunk so.given)
+    unfolding line
+    wrote_given = wrote_then sink sink_before sink_now line (spelled limits.chunk so.given) head so.wrote
+
+    -- reading broke off
+    pub broke_off : (fault : RunFault) → Gives limits format new start now so.records so.given (Err fault) → BrokeOff limits start now sink sink_now fault
+    broke_off fault (more, broke) =
+        let form : List ℕ = form_of (format_or_one format) limits.chunk so.given in
+        record {
+          cut_short = (
+            form,
+            wrote_given.took,
+            read_map limits start now (HasGiven limits format (so.records ++ more) so.given) (λ log. BeginsNormal limits log form)
+                (λ log has. due_first limits so.reads.stands.range log format (so.records ++ more) so.given has form [] (sym (append-nil form))) broke.of_read,
+          );
+          source = broke.failures;
+          sink = failures_along fault sink.failures sink_now.failures sink_now.failures wrote_given.failures (unwritten_sink fault sink_now.failures broke.unwritten);
+        }
+
+    module _ (more : List Record) (end : End) (ended : log_events.Ended limits format new start now (so.records ++ more) so.given end) where
+      records : List Record
+      records = so.records ++ more
+
+      form : List ℕ
+      form = form_of (format_or_one format) limits.chunk so.given
+
+      -- the normal form of a log of these records, behind which it ends
+      normal_of : (log : List ℕ) (editor server : List ℕ) → IsLogOf new.log limits records (flaw_of end) log → HasRest limits (joined Editor records) editor → HasRest limits (joined Server records) server
+          → IsNormal limits log form (fault_of so.given (ending (flaw_of end) editor server))
+      unfolding records form
+      normal_of log editor server is editor_rest server_rest = record {
+        format = new.log.format;
+        records = records;
+        log_fault = flaw_of end;
+        raws = so.given;
+        editor = editor;
+        server = server;
+        is_log = log_of limits new.log records (flaw_of end) log is;
+        placed = placed_whole limits records so.given [] refl ended.reads.stands.placed;
+        editor_rest = editor_rest;
+        server_rest = server_rest;
+        ends = refl;
+        written = ap (λ (f : Option Format). form_of (format_or_one f) limits.chunk so.given) (sym ended.reads.format_is);
+      }
+
+    -- the log ended without a fault
+    log_ends : (outcome : Outcome) → (gives : Gives limits format new start now so.records so.given (Ok (next.End Sound))) → EndsWhole limits (so.records ++ gives.0) so.given outcome → Ended limits start now sink sink_now outcome
+    unfolding records form normal_of
+    log_ends outcome (more, ended) ends =
+        let all : List Record = so.records ++ more in
+        let placed = placed_whole limits all so.given [] refl ended.reads.stands.placed in
+        let due : Option Verdict = fault_of so.given (ending None ends.editor ends.server) in
+        let written : List ℕ = form_of (format_or_one format) limits.chunk so.given in
+        record {
+          normal = (
+            written,
+            wrote_given.took,
+            read_map limits start now (IsLogOf new.log limits all None) (λ log. EndsNormal limits log written outcome)
+                (λ log is. (
+                  due,
+                  normal_of more Sound ended log ends.editor ends.server is ends.editor_rest ends.server_rest,
+                  carries_exact outcome due (end_exact limits so.reads.stands.range log new.log.format all so.given ends.editor ends.server is placed so.sound) ends.carries,
+                )) ended.ends.of_read,
+          );
+          done = λ done. ended.ends.met refl;
+          source = ended.ends.failures;
+          sink = wrote_given.failures;
+        }
+
+    -- the log has a fault
+    bad_ends : (number : ℕ) (fault : LogCode) → Gives limits format new start now so.records so.given (Ok (next.End (Bad number fault))) → Ended limits start now sink sink_now (Judged (verdicts.BadLog number fault))
+    unfolding records form normal_of
+    bad_ends number fault (more, ended) =
+        let all : List Record = so.records ++ more in
+        let written : List ℕ = form_of (format_or_one format) limits.chunk so.given in
+        let outcome : Outcome = Judged (verdicts.BadLog number fault) in
+        let editor = some_stream limits (joined Editor all) in
+        let server = some_stream limits (joined Server all) in
+        record {
+          normal = (
+            written,
+            wrote_given.took,
+            read_map limits start now (IsLogOf new.log limits all (Some (number, fault))) (λ log. EndsNormal limits log written outcome)
+                (λ log is. (
+                  fault_of so.given (ending (Some (number, fault)) editor.1 server.1),
+                  normal_of more (Bad number fault) ended log editor.1 server.1 is (editor.0, editor.2, editor.3) (server.0, server.2, server.3),
+                  ap (λ (o : Option Verdict). option_or o (Some (bad_log number fault))) so.sound,
+                )) ended.ends.of_read,
+          );
+          done = λ done. absurd (cc done);
+          source = ended.ends.failures;
+          sink = wrote_given.failures;
+        }
+
+    pub end_formed : (end : End) (outcome : Outcome) → (gives : Gives limits format new start now so.records so.given (Ok (next.End end))) → EndsLog limits (so.records ++ gives.0) so.given end outcome → Ended limits start now sink sink_now outcome
+    end_formed Sound outcome gives ends = log_ends outcome gives ends
+    end_formed (Bad number fault) outcome gives is = subst (λ (o : Outcome). Ended limits start now sink sink_now o) (sym is) (bad_ends number fault gives)

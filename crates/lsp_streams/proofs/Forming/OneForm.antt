@@ -6,9 +6,9 @@ use Rattle.lsp_frame.specs.declared.format.Format.{Format}
 use Rattle.lsp_types.specs.declared.side.Side.TheVariants.{Editor, Server}
 use Rattle.lsp_log.specs.Log.{Record}
 use Rattle.lsp_log.specs.declared.fault.LogCode.{LogCode}
+use Rattle.lsp_streams.specs.LogEvents.{HasGiven}
 use Rattle.lsp_streams.specs.Normal.{form_of, no_at, first_broken, fault_of, rest_of, IsNormal, BeginsNormal}
 use Rattle.lsp_streams.specs.NormalLaws.{SomeNormalForm, OneNormalForm}
-use Rattle.lsp_verdict.specs.Entries.{HasFirst}
 use Rattle.lsp_verdict.specs.Given.{as_given}
 use Rattle.lsp_verdict.specs.Outcome.{ending, format_or_one}
 use Rattle.lsp_verdict.specs.Placed.{Raw, Placed, joined}
@@ -17,22 +17,9 @@ use Rattle.lsp_verdict.proofs.Below.{one_log, some_log, some_stream}
 use Rattle.lsp_verdict.proofs.LookBackLemmas.{first_of-more}
 use Rattle.lsp_streams.proofs.Forming.Counts.{broken_exact}
 use Rattle.lsp_streams.proofs.Forming.Forms.{form_begins, form_stops}
-use Rattle.lsp_verdict.proofs.Outcomes.{placed_front, one_rest}
+use Rattle.lsp_verdict.proofs.Outcomes.{one_rest}
 use Rattle.lsp_verdict.proofs.PlacedLemmas.{one_placed}
 use Rattle.lsp_verdict.proofs.Sessions.{some_placed}
-
--- a fault of the frames among the first records decides
-pub record Decides (size : ℕ) (raws all : List Raw) (v : Verdict) : Type 0 where
-  pub form : (format : Format) → form_of format size all ≡ form_of format size raws
-  pub breaks : first_broken all ≡ Some v
-
-pub decides : (limits : Bounds) (rs us others : List Record) (raws all : List Raw) (v : Verdict) → us ≡ rs ++ others → Placed limits rs raws → Placed limits us all → first_broken raws ≡ Some v → Decides limits.chunk raws all v
-decides limits rs us others raws all v cut placed whole breaks =
-    let later = placed_front limits [] [] rs others raws all placed (subst (λ (xs : List Record). Placed limits xs all) cut whole) in
-    record {
-      form = λ format. ap (form_of format limits.chunk) later.1 ∙ form_stops format limits.chunk raws later.0 v breaks;
-      breaks = ap first_broken later.1 ∙ first_of-more no_at raws later.0 v breaks;
-    }
 
 pub broken_is : (raws : List Raw) (end : Ending) (v : Verdict) → first_broken raws ≡ Some v → fault_of raws end ≡ Some v
 broken_is raws end v breaks = ap (λ (o : Option Verdict). option_or o (option_or (bad_log_of end.log_fault) (rest_of raws end.editor_rest end.server_rest))) breaks
@@ -63,45 +50,46 @@ some_normal_form limits log =
       },
     )
 
--- ---- the first records of a log
+-- ---- the first events of a log
 
-module _ (limits : Bounds) (sizes : IsInRange limits) (log : List ℕ) (format : Option Format) (rs : List Record) (has : HasFirst limits format rs log) (same_format : has.format ≡ format) (raws : List Raw) (placed : Placed limits rs raws) where
-  all : (whole : List Raw) × Placed limits (rs ++ has.more) whole
-  all = some_placed limits [] [] (rs ++ has.more)
+module _ (limits : Bounds) (sizes : IsInRange limits) (log : List ℕ) (format : Option Format) (rs : List Record) (given : List Raw) (has : HasGiven limits format rs given log) where
+  all : List Raw
+  all = given ++ has.later
 
-  -- a fault of the frames among their events ends the normal form, whatever follows
-  pub broken_normal : (v : Verdict) → first_broken raws ≡ Some v → IsNormal limits log (form_of (format_or_one format) limits.chunk raws) (Some v) × (as_given v ≡ v)
+  -- a fault of the frames among them ends the normal form, whatever follows
+  pub broken_normal : (v : Verdict) → first_broken given ≡ Some v → IsNormal limits log (form_of (format_or_one format) limits.chunk given) (Some v) × (as_given v ≡ v)
+  unfolding all
   broken_normal v breaks =
-      let d = decides limits rs (rs ++ has.more) has.more raws all.0 v refl placed all.1 breaks in
-      let editor = some_stream limits (joined Editor (rs ++ has.more)) in
-      let server = some_stream limits (joined Server (rs ++ has.more)) in (
+      let decides : first_broken all ≡ Some v = first_of-more no_at given has.later v breaks in
+      let editor = some_stream limits (joined Editor has.records) in
+      let server = some_stream limits (joined Server has.records) in (
         record {
-          format = has.format;
-          records = rs ++ has.more;
-          log_fault = has.fault;
-          raws = all.0;
+          format = format;
+          records = has.records;
+          log_fault = has.log_fault;
+          raws = all;
           editor = editor.1;
           server = server.1;
           is_log = has.is_log;
-          placed = all.1;
+          placed = has.placed;
           editor_rest = (editor.0, editor.2, editor.3);
           server_rest = (server.0, server.2, server.3);
-          ends = broken_is all.0 (ending has.fault editor.1 server.1) v d.breaks;
-          written = sym (d.form (format_or_one format)) ∙ ap (λ (o : Option Format). form_of (format_or_one o) limits.chunk all.0) (sym same_format);
+          ends = broken_is all (ending has.log_fault editor.1 server.1) v decides;
+          written = sym (form_stops (format_or_one format) limits.chunk given has.later v breaks);
         },
-        broken_exact limits sizes log has.format (rs ++ has.more) has.fault all.0 v has.is_log all.1 d.breaks,
+        broken_exact limits sizes log format has.records has.log_fault all v has.is_log has.placed decides,
       )
 
   -- what is written for them stands first in the normal form
-  pub due_first : (front back : List ℕ) → form_of (format_or_one format) limits.chunk raws ≡ front ++ back → BeginsNormal limits log front
+  pub due_first : (front back : List ℕ) → form_of (format_or_one format) limits.chunk given ≡ front ++ back → BeginsNormal limits log front
   due_first front back whole out fault normal =
-      let same = one_log limits sizes log normal.format has.format normal.records (rs ++ has.more) normal.log_fault has.fault normal.is_log has.is_log in
-      let later = placed_front limits [] [] rs has.more raws normal.raws placed (subst (λ (xs : List Record). Placed limits xs normal.raws) same.1 normal.placed) in
-      let begins = form_begins (format_or_one format) limits.chunk raws later.0 in (
+      let same = one_log limits sizes log normal.format format normal.records has.records normal.log_fault has.log_fault normal.is_log has.is_log in
+      let raws : normal.raws ≡ given ++ has.later = one_placed limits [] [] has.records normal.raws (given ++ has.later) (subst (λ (xs : List Record). Placed limits xs normal.raws) same.1 normal.placed) has.placed in
+      let begins = form_begins (format_or_one format) limits.chunk given has.later in (
         back ++ begins.0,
         normal.written
-            ∙ ap (λ (o : Option Format). form_of (format_or_one o) limits.chunk normal.raws) (same.0 ∙ same_format)
-            ∙ ap (form_of (format_or_one format) limits.chunk) later.1
+            ∙ ap (λ (o : Option Format). form_of (format_or_one o) limits.chunk normal.raws) same.0
+            ∙ ap (form_of (format_or_one format) limits.chunk) raws
             ∙ begins.1
             ∙ ap (λ (w : List ℕ). w ++ begins.0) whole
             ∙ append_assoc front back begins.0,

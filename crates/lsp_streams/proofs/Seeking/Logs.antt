@@ -1,33 +1,35 @@
--- The event of a log, against those of the records that were read.
-use Rattle.std.specs.Io.KnownBytes.{IsAtEnd}
-use Rattle.std.proofs.Common.{◌≡◌, ℕ, ◌-◌, ◌≤◌, List, [], ◌++◌, length, Option, Some, None, Result, Ok, Err, sym, ap, subst, ◌∙◌, arith}
+-- The event of a log, among those that were given.
+use Rattle.std.proofs.Common.{◌≡◌, ℕ, ◌+◌, ◌-◌, ◌<◌, ◌≤◌, List, [], ◌∷◌, ◌++◌, length, Option, Some, None, Result, Ok, Err, IfOk, refl, sym, ap, subst, ◌∙◌, arith}
+use Rattle.std.proofs.lemmas.List.{length_push}
 use Rattle.std.proofs.lemmas.Option.{slice_get_past}
+use Rattle.std.specs.Io.KnownBytes.{IsAtEnd}
 use Rattle.lsp_frame.specs.Bounds.{Bounds}
 use Rattle.lsp_frame.specs.Told.{Told}
 use Rattle.lsp_frame.specs.declared.format.Format.{Format}
-use Rattle.lsp_log.specs.Log.{Record, IsLog}
-use Rattle.lsp_log.specs.Reader as reader
-use Rattle.lsp_log.specs.Reader.{StandsFor}
-use Rattle.lsp_log.specs.declared.fault.LogCode.{LogCode}
-use Rattle.lsp_streams.specs.Event.{content_at, outcome_of, outcome_at, without, event_at, IsEvent, BeginsEvent}
-use Rattle.lsp_streams.specs.EventSteps.{HasPassed, HasFound, SeeksRecord, SoFar, Found, SeeksEntry}
+use Rattle.lsp_log.specs.Log.{Record}
+use Rattle.lsp_streams.specs.Event.{content_at, outcome_of, outcome_at, event_at, IsEvent, BeginsEvent}
+use Rattle.lsp_streams.specs.EventSteps.{Answers, Finds, Found, HasPassed, IsOfEnd}
+use Rattle.lsp_streams.specs.LogEvents.{Ended, Gives, HasGiven, IsLogOf, Opens, Reads, flaw_of}
+use Rattle.lsp_streams.specs.Streams.{raw_view}
 use Rattle.lsp_streams.specs.declared.event.Answer.{Answer}
 use Rattle.lsp_streams.specs.declared.event.EventOutcome.{EventOutcome}
-use Rattle.lsp_streams.specs.declared.event.EventOutcome.TheVariants.{FewerEvents, BadLog}
-use Rattle.lsp_streams.specs.declared.event.Search.{Search}
-use Rattle.lsp_verdict.specs.Entries as entries
-use Rattle.lsp_verdict.specs.Entries.{IsAt, HasRecords, HasFirst, EntryIs}
+use Rattle.lsp_streams.specs.declared.event.EventOutcome.TheVariants.{FewerEvents}
+use Rattle.lsp_streams.specs.declared.log_events.End.{End}
+use Rattle.lsp_streams.specs.declared.log_events.End.TheVariants.{Sound, Bad}
+use Rattle.lsp_streams.specs.declared.log_events.LogEvents.{LogEvents}
+use Rattle.lsp_streams.specs.declared.log_events.Next.TheVariants as next
+use Rattle.lsp_streams.specs.declared.raw.Raw as code
 use Rattle.lsp_verdict.specs.Placed.{Raw, content, broken, show}
-use Rattle.lsp_verdict.specs.RunIo.{OfRead, failures_after, BreaksOff}
+use Rattle.lsp_verdict.specs.RunIo.{OfRead, BreaksOff, failures_after}
 use Rattle.lsp_verdict.specs.declared.outcome.RunFault.{RunFault}
-use Rattle.lsp_verdict.proofs.Entries.{is_first, at_start}
-use Rattle.lsp_verdict.proofs.Outcomes.{placed_front}
+use Rattle.lsp_verdict.specs.declared.outcome.RunFault.TheVariants as faults
+use Rattle.lsp_verdict.proofs.PlacedLemmas.{placed_whole}
 use Rattle.lsp_verdict.proofs.RunReading.{read_map}
-use Rattle.lsp_verdict.proofs.Sessions.{some_placed}
+use Rattle.lsp_streams.proofs.Pulling.{log_of, reads_failures, reads_given}
 use Rattle.lsp_streams.proofs.Seeking.Laws.{some_event}
-use Rattle.lsp_streams.proofs.Seeking.Places.{still_at}
+use Rattle.lsp_streams.proofs.Seeking.Places.{at_place, still_at}
 
--- ---- an event of the first records
+-- ---- the event was given
 
 -- an event that is no end
 not_fewer : (raw : Raw) (outcome : EventOutcome) → outcome ≡ outcome_of raw → outcome ≡ FewerEvents → ⊥
@@ -35,92 +37,96 @@ not_fewer (content side bytes) outcome is e = absurd (cc (sym is ∙ e))
 not_fewer (broken side rule) outcome is e = absurd (cc (sym is ∙ e))
 not_fewer (show n uri text) outcome is e = absurd (cc (sym is ∙ e))
 
--- whatever follows them
-found_first : (limits : Bounds) (n : ℕ) (known : Option Format) (rs : List Record) (answer : Answer) (log : List ℕ) → HasFound limits n rs answer → HasFirst limits known rs log → IsEvent limits log n answer.content.items answer.outcome
-found_first limits n known rs answer log found has =
-    let all = some_placed limits [] [] (rs ++ has.more) in
-    let later = placed_front limits [] [] rs has.more found.raws all.0 found.placed all.1 in
-    let at : event_at n all.0 ≡ Some found.raw = ap (event_at n) later.1 ∙ still_at found.raws later.0 found.raw _ found.at in
+module _ (limits : Bounds) (format : Option Format) (e : LogEvents) (start now : Told) (records : List Record) (given due : List Raw) (raw : Raw) (h : Reads limits format e start now records (given ++ raw ∷ []) due) (n : ℕ) (last : length given + 1 ≡ n) where
+  event_found : (answer : Answer) → Answers answer raw → Found limits n start now answer
+  event_found answer answers = record {
+    of_read = read_map limits start now (HasGiven limits format records (given ++ raw ∷ [])) (λ log. IsEvent limits log n answer.content.items answer.outcome)
+        (λ log has.
+        let place : n - 1 ≡ length given = omega (arith, last) in
+        let at : event_at n ((given ++ raw ∷ []) ++ has.later) ≡ Some raw = still_at (given ++ raw ∷ []) has.later raw (n - 1) (at_place given [] raw (n - 1) place) in
+        record {
+          format = format;
+          records = has.records;
+          log_fault = has.log_fault;
+          raws = (given ++ raw ∷ []) ++ has.later;
+          is_log = has.is_log;
+          placed = has.placed;
+          written = answers.0 ∙ ap content_at (sym at);
+          ends = answers.1 ∙ ap (λ (o : Option Raw). outcome_at o has.log_fault) (sym at);
+        }) (reads_given limits format e start now records (given ++ raw ∷ []) due h);
+    ended = λ fewer. absurd (not_fewer raw answer.outcome answers.1 fewer);
+    failures = reads_failures limits format e start now records (given ++ raw ∷ []) due h;
+  }
+
+  -- and its content was copied, if memory was not refused
+  pub answered : (result : Result Answer RunFault) → IfOk result (λ answer. Answers answer raw) → ((fault : RunFault) → result ≡ Err fault → fault ≡ faults.Memory) → Finds limits n start now result
+  answered (Ok answer) answers memory = event_found answer answers
+  answered (Err fault) answers memory = record {
+    of_read = read_map limits start now (HasGiven limits format records (given ++ raw ∷ [])) (λ log. Unit {0}) (λ log has. tt) (reads_given limits format e start now records (given ++ raw ∷ []) due h);
+    failures = reads_failures limits format e start now records (given ++ raw ∷ []) due h ∙ ap (λ (f : RunFault). failures_after f start.failures) (sym (memory fault refl));
+    unwritten = λ write. absurd (cc (sym (memory fault refl) ∙ write));
+  }
+
+-- ---- the log ends before it
+
+met_end : (end : End) (now : Told) (r_met : flaw_of end ≡ None → IsAtEnd now.bytes) (outcome : EventOutcome) → outcome ≡ outcome_at None (flaw_of end) → outcome ≡ FewerEvents → IsAtEnd now.bytes
+met_end Sound now r_met outcome is fewer = r_met refl
+met_end (Bad number fault) now r_met outcome is fewer = absurd (cc (sym is ∙ fewer))
+
+fewer_found : (limits : Bounds) (format : Option Format) (e : LogEvents) (start now : Told) (records : List Record) (given : List Raw) (end : End) (n : ℕ) (answer : Answer) → Ended limits format e start now records given end → length given < n → IsOfEnd answer end → Found limits n start now answer
+fewer_found limits format e start now records given end n answer h before is =
+    let past : length given ≤ n - 1 = omega (arith, before) in
+    let none : event_at n given ≡ None = slice_get_past given (n - 1) past in
     record {
-      format = has.format;
-      records = rs ++ has.more;
-      log_fault = has.fault;
-      raws = all.0;
-      is_log = has.is_log;
-      placed = all.1;
-      written = found.answers.0 ∙ ap content_at (sym at);
-      ends = found.answers.1 ∙ ap (λ (o : Option Raw). outcome_at o has.fault) (sym at);
+      of_read = read_map limits start now (IsLogOf e.log limits records (flaw_of end)) (λ log. IsEvent limits log n answer.content.items answer.outcome)
+          (λ log whole. record {
+            format = e.log.format;
+            records = records;
+            log_fault = flaw_of end;
+            raws = given;
+            is_log = log_of limits e.log records (flaw_of end) log whole;
+            placed = placed_whole limits records given [] refl h.reads.stands.placed;
+            written = is.0 ∙ ap content_at (sym none);
+            ends = is.1 ∙ ap (λ (o : Option Raw). outcome_at o (flaw_of end)) (sym none);
+          }) h.ends.of_read;
+      ended = λ fewer. met_end end now h.ends.met answer.outcome is.1 fewer;
+      failures = h.ends.failures;
     }
 
--- the log ends before the event
-ends_before : (limits : Bounds) (n : ℕ) (s : Search) (format : Option Format) (rs : List Record) (flaw : Option (ℕ × LogCode)) (answer : Answer) (log : List ℕ) → HasPassed limits s n rs → IsLog limits log format rs flaw
-    → (answer.content.items ≡ []) × (answer.outcome ≡ without flaw) → IsEvent limits log n answer.content.items answer.outcome
-ends_before limits n s format rs flaw answer log p is_log is =
-    let past : length p.raws ≤ n - 1 = omega (arith, p.count, p.ahead) in
-    let none : event_at n p.raws ≡ None = slice_get_past p.raws (n - 1) past in
-    record {
-      format = format;
-      records = rs;
-      log_fault = flaw;
-      raws = p.raws;
-      is_log = is_log;
-      placed = p.placed;
-      written = is.0 ∙ ap content_at (sym none);
-      ends = is.1 ∙ ap (λ (o : Option Raw). outcome_at o flaw) (sym none);
-    }
+-- ---- one event more
 
--- ---- one entry more
+module _ (limits : Bounds) (old new : LogEvents) (start before now : Told) (n left : ℕ) (ahead : 0 < left) (p : HasPassed limits old start before n left) where
+  pub broke_off : (fault : RunFault) → Gives limits p.format new start now p.records p.given (Err fault) → Finds limits n start now (Err fault)
+  broke_off fault (more, broke) = record {
+    of_read = read_map limits start now (HasGiven limits p.format (p.records ++ more) p.given) (λ log. Unit {0}) (λ log has. tt) broke.of_read;
+    failures = broke.failures;
+    unwritten = broke.unwritten;
+  }
 
-pub record_answers : (limits : Bounds) (r : reader.State) (s : Search) (start now : Told) (n : ℕ) (rs : List Record) (result : Result (Option Answer) RunFault) → r.limits ≡ limits → IsAt r start now rs
-    → SeeksRecord limits s n rs result → SeeksEntry limits r s start now n result
-record_answers limits r s start now n rs (Ok None) same at passed = record { records = rs; at = at; same = same; passed = passed }
-record_answers limits r s start now n rs (Ok (Some answer)) same at found = record {
-  of_read = read_map limits start now (HasFirst limits r.format rs) (λ log. IsEvent limits log n answer.content.items answer.outcome)
-      (λ log has. found_first limits n r.format rs answer log found has) (is_first r limits start now rs same at);
-  ended = λ fewer. absurd (not_fewer found.raw answer.outcome found.answers.1 fewer);
-  failures = at.failures;
-}
-record_answers limits r s start now n rs (Err fault) same at memory = record {
-  of_read = read_map limits start now (HasFirst limits r.format rs) (λ log. Unit {0}) (λ log has. tt) (is_first r limits start now rs same at);
-  failures = at.failures ∙ ap (λ (f : RunFault). failures_after f start.failures) (sym memory);
-  unwritten = λ write. absurd (cc (sym memory ∙ write));
-}
+  pub log_ends : (end : End) (answer : Answer) → Gives limits p.format new start now p.records p.given (Ok (next.End end)) → IsOfEnd answer end → Finds limits n start now (Ok answer)
+  log_ends end answer (more, ends) is = fewer_found limits p.format new start now (p.records ++ more) p.given end n answer ends (omega (arith, ahead, p.count)) is
 
-pub end_answers : (limits : Bounds) (r : reader.State) (s : Search) (start now : Told) (n : ℕ) (rs : List Record) (answer : Answer) → HasPassed limits s n rs → HasRecords limits start now r.format rs None → IsAtEnd now.bytes
-    → (answer.content.items ≡ []) × (answer.outcome ≡ FewerEvents) → Found limits n start now answer
-end_answers limits r s start now n rs answer passed has met is = record {
-  of_read = read_map limits start now (λ log. IsLog limits log r.format rs None) (λ log. IsEvent limits log n answer.content.items answer.outcome)
-      (λ log is_log. ends_before limits n s r.format rs None answer log passed is_log is) has.of_read;
-  ended = λ fewer. met;
-  failures = has.failures;
-}
+  -- the last of those to come
+  pub last_given : (raw : code.Raw) (result : Result Answer RunFault) → left ≡ 1 → Gives limits p.format new start now p.records p.given (Ok (next.Event raw)) → IfOk result (λ answer. Answers answer (raw_view raw)) → ((fault : RunFault) → result ≡ Err fault → fault ≡ faults.Memory)
+      → Finds limits n start now result
+  last_given raw result last (more, due, reads) answers memory =
+      answered limits p.format new start now (p.records ++ more) p.given due (raw_view raw) reads n (omega (arith, last, p.count)) result answers memory
 
-pub bad_answers : (limits : Bounds) (r : reader.State) (s : Search) (start now : Told) (n : ℕ) (rs : List Record) (answer : Answer) (number : ℕ) (code : LogCode) → HasPassed limits s n rs → HasRecords limits start now r.format rs (Some (number, code))
-    → (answer.content.items ≡ []) × (answer.outcome ≡ BadLog number code) → Found limits n start now answer
-bad_answers limits r s start now n rs answer number code passed has is = record {
-  of_read = read_map limits start now (λ log. IsLog limits log r.format rs (Some (number, code))) (λ log. IsEvent limits log n answer.content.items answer.outcome)
-      (λ log is_log. ends_before limits n s r.format rs (Some (number, code)) answer log passed is_log is) has.of_read;
-  ended = λ fewer. absurd (cc (sym is.1 ∙ fewer));
-  failures = has.failures;
-}
-
--- the reader of the log gave none
-pub broke_answers : (limits : Bounds) (start now : Told) (known : Option Format) (rs : List Record) (fault : RunFault) → entries.BrokeOff limits start now known rs fault → BreaksOff limits start now fault
-broke_answers limits start now known rs fault broke = record {
-  of_read = read_map limits start now (HasFirst limits known rs) (λ log. Unit {0}) (λ log has. tt) broke.of_read;
-  failures = broke.failures;
-  unwritten = broke.unwritten;
-}
+  -- one of those before
+  pub one_passed : (raw : code.Raw) → Gives limits p.format new start now p.records p.given (Ok (next.Event raw)) → HasPassed limits new start now n (left - 1)
+  one_passed raw (more, due, reads) = record {
+    format = p.format;
+    records = p.records ++ more;
+    given = p.given ++ raw_view raw ∷ [];
+    due = due;
+    reads = reads;
+    count = omega (arith, ahead, p.count, length_push p.given (raw_view raw));
+  }
 
 -- ---- the run
 
-pub start_passed : (limits : Bounds) (r : reader.State) (s : Search) (start : Told) (n : ℕ) → r ≡ reader.empty limits → StandsFor r [] [] → HasPassed limits s n [] → SoFar limits r s start start n
-start_passed limits r s start n new stands passed = record {
-  records = [];
-  at = at_start r limits start new stands;
-  same = ap (λ (t : reader.State). t.limits) new;
-  passed = passed;
-}
+pub none_passed : (limits : Bounds) (e : LogEvents) (start now : Told) (n : ℕ) → Opens limits start now e → HasPassed limits e start now n n
+none_passed limits e start now n (records, due, reads) = record { format = e.log.format; records = records; given = []; due = due; reads = reads; count = omega arith }
 
 -- what was written before a fault begins what is due
 pub none_written : (limits : Bounds) (start now : Told) (n : ℕ) (fault : RunFault) → BreaksOff limits start now fault → OfRead limits start now (λ log. BeginsEvent limits log n [])

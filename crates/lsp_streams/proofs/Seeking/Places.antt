@@ -1,7 +1,7 @@
 -- The place of an element in a list that goes on.
-use Rattle.std.proofs.Common.{◌≡◌, ℕ, ◌+◌, ◌<◌, List, ◌∷◌, ◌++◌, length, get_or, Some, slice_get, refl, sym, ap, ◌∙◌, arith}
+use Rattle.std.proofs.Common.{◌≡◌, ℕ, ◌<◌, List, ◌∷◌, ◌++◌, length, get_or, Some, slice_get, refl, sym, ap, ◌∙◌, arith}
 use Rattle.std.proofs.Math.Seq.{get_or-append_seam}
-use Rattle.std.proofs.lemmas.List.{length-append, get_or_append_left, get_or-append-add}
+use Rattle.std.proofs.lemmas.List.{length-append, get_or_append_left}
 use Rattle.std.proofs.lemmas.Option.{slice_get_within, get_or_from_slice_get, slice_get_read}
 
 -- behind so many others
@@ -16,10 +16,3 @@ still_at xs ys x n is =
     let inside = slice_get_within xs n x is in
     let within : n < length (xs ++ ys) = omega (arith, inside, length-append xs ys) in
     slice_get_read (xs ++ ys) (length (xs ++ ys)) n x refl within (sym (get_or_append_left xs ys x n inside ∙ get_or_from_slice_get xs n x x is))
-
--- what comes in front moves it
-pub moved_to : {A : Type 0} (xs ys : List A) (x : A) (n k : ℕ) → k ≡ length xs + n → slice_get ys n ≡ Some x → slice_get (xs ++ ys) k ≡ Some x
-moved_to xs ys x n k is found =
-    let inside = slice_get_within ys n x found in
-    let within : k < length (xs ++ ys) = omega (arith, is, inside, length-append xs ys) in
-    slice_get_read (xs ++ ys) (length (xs ++ ys)) k x refl within (sym (ap (λ i. get_or (xs ++ ys) i x) is ∙ get_or-append-add xs ys n x ∙ get_or_from_slice_get ys n x x found))

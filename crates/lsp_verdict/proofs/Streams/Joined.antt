@@ -11,7 +11,7 @@ use Rattle.lsp_session.specs.Sent.{same_side}
 use Rattle.lsp_log.specs.Log.{Record, chunk, shown}
 use Rattle.lsp_verdict.specs.Event.{Event, message, fault, snapshot}
 use Rattle.lsp_verdict.specs.Laws.{stream_of, snapshots_in, SidesAreStreams, SnapshotsAreShown}
-use Rattle.lsp_verdict.specs.Placed.{Raw, content, broken, show, Brings, new_fault, PlacedAfter, Reads, joined}
+use Rattle.lsp_verdict.specs.Placed.{Raw, content, broken, show, Brings, new_fault, Placed, PlacedAfter, Reads, joined}
 use Rattle.lsp_verdict.specs.Verdict.{is_of, is_snapshot}
 use Rattle.lsp_verdict.proofs.Below.{one_stream, some_stream}
 use Rattle.lsp_verdict.proofs.PlacedLemmas.{join_brings}
@@ -19,7 +19,7 @@ use Rattle.lsp_verdict.proofs.Streams.{no_stream}
 
 -- ---- the events of a side, before they are read
 
-abbrev is_own : Side → Raw → Bool
+abbrev pub is_own : Side → Raw → Bool
 is_own side (content by bytes) = same_side side by
 is_own side (broken by rule) = same_side side by
 is_own side (show number uri text) = false
@@ -128,14 +128,19 @@ reads_own side (raw ∷ raws) (e ∷ events) reads = by_test (is_own side raw) (
     by_test true false same rest = absurd cc
     by_test false true same rest = absurd cc
 
-pub sides_are_streams : SidesAreStreams
-sides_are_streams limits sizes records events side contents rest flaw session stream =
-    let placed : Brings limits side [] (joined side records) (filter (is_own side) session.0) = by_side side (joined_bring limits side [] [] records session.0 session.1) in
-    subst (λ (w : List Raw). AllZip Reads w (filter (is_of side) events)) (all_brought limits sizes side (joined side records) contents rest flaw (filter (is_own side) session.0) stream placed) (reads_own side session.0 events session.2)
+-- those of a side's stream
+pub own_is_stream : (limits : Bounds) → IsInRange limits → (side : Side) (records : List Record) (raws : List Raw) (contents : List (List ℕ)) (rest : List ℕ) (flaw : Option ℕ) → Placed limits records raws → IsStream limits (joined side records) contents rest flaw
+    → filter (is_own side) raws ≡ stream_of side contents flaw
+own_is_stream limits sizes side records raws contents rest flaw placed stream =
+    all_brought limits sizes side (joined side records) contents rest flaw (filter (is_own side) raws) stream (by_side side (joined_bring limits side [] [] records raws placed))
   where
-    by_side : (s : Side) → Brings limits s (sent_by s [] []) (joined s records) (filter (is_own s) session.0) → Brings limits s [] (joined s records) (filter (is_own s) session.0)
+    by_side : (s : Side) → Brings limits s (sent_by s [] []) (joined s records) (filter (is_own s) raws) → Brings limits s [] (joined s records) (filter (is_own s) raws)
     by_side Editor b = b
     by_side Server b = b
+
+pub sides_are_streams : SidesAreStreams
+sides_are_streams limits sizes records events side contents rest flaw session stream =
+    subst (λ (w : List Raw). AllZip Reads w (filter (is_of side) events)) (own_is_stream limits sizes side records session.0 contents rest flaw session.1 stream) (reads_own side session.0 events session.2)
 
 -- ---- snapshots
 

@@ -1,25 +1,36 @@
-use Rattle.std.proofs.Common.{Ok, subst, ◌∙◌}
-use Rattle.std.proofs.lemmas.Result.{err_from_is_err_and}
-use Rattle.lsp_frame.specs.Bounds.{Bounds}
-use Rattle.lsp_verdict.specs.Entries as entries
-use Rattle.lsp_verdict.specs.Entries.{EntryIs}
-use Rattle.lsp_streams.proofs.Seeking.Logs.{broke_answers}
+use Rattle.std.proofs.Common.{◌≡◌, arith}
+use Rattle.lsp_streams.proofs.Seeking.Logs.{broke_off, last_given, log_ends, one_passed}
 use Rattle.lsp_streams.proofs.event.find_next.Goals as goal
 
-pub returns-clause-answer : goal.returns-clause-answer
-returns-clause-answer g c = λ limits start number so_far.
-    let log = c.next_entry.new.log in
-    let now = g.R.Source.told c.next_entry.new.reader in
-    let next = c.in_ok-entry.ensures in
-    let here = subst (λ (b : Bounds). EntryIs log b start now c.args.log.now.format so_far.records (Ok c.in_ok-entry.entry)) so_far.same (next.answer start so_far.records so_far.at) in
-    c.take_entry.ensures.answer limits log start now c.args.log.now.format number so_far.records so_far.passed (next.limits ∙ so_far.same) here
+pub returns-in-Err : goal.returns-in-Err
+returns-in-Err g c = λ limits start n h.
+    let inv = c.loop-fault.invariant in
+    let p = inv.passed limits start n h in
+    let next = rw c.in-Err.is at c.next.follows.holds-at-none in
+    broke_off limits c.loop-fault.events c.next.follows.lender-at-none start _ _ n c.loop-fault.left inv.ahead p c.in-Err.fault (next limits p.format start p.records p.given p.due p.reads)
 
-pub returns-in_err-entry-clause-answer : goal.returns-in_err-entry-clause-answer
-returns-in_err-entry-clause-answer g c =
-    let p = err_from_is_err_and c.from_residual.result c.from_residual.ensures.1 in
-    rw (p.1, p.2) (λ limits start number so_far.
-    let old = c.args.log.now in
-    let now = g.R.Source.told c.next_entry.new.reader in
-    let fault = c.in_err-entry.field-0.0 in
-    broke_answers limits start now old.format so_far.records fault
-    (subst (λ (b : Bounds). entries.BrokeOff b start now old.format so_far.records fault) so_far.same (c.in_err-entry.ensures.answer start so_far.records so_far.at)))
+pub returns-in-Ok-End : goal.returns-in-Ok-End
+returns-in-Ok-End g c = λ limits start n h.
+    let inv = c.loop-fault.invariant in
+    let p = inv.passed limits start n h in
+    let next = rw (c.in-Ok-End.is, c.in-Ok-End.field-0-is) at c.next.follows.holds-at-none in
+    log_ends limits c.loop-fault.events c.next.follows.lender-at-none start _ _ n c.loop-fault.left inv.ahead p c.in-Ok-End.end c.of_end.result (next limits p.format start p.records p.given p.due p.reads) c.of_end.ensures
+
+pub returns-then-left-eq0 : goal.returns-then-left-eq0
+returns-then-left-eq0 g c = λ limits start n h.
+    let inv = c.loop-fault.invariant in
+    let p = inv.passed limits start n h in
+    let next = rw (c.in-Ok-Event.is, c.in-Ok-Event.field-0-is) at c.next.follows.holds-at-none in
+    let last : c.loop-fault.left ≡ 1 = omega (arith, inv.ahead, c.if-left-eq0.true) in
+    last_given limits c.loop-fault.events c.next.follows.lender-at-none start _ _ n c.loop-fault.left inv.ahead p c.in-Ok-Event.raw c.of_event.result last (next limits p.format start p.records p.given p.due p.reads) c.of_event.ensures.ok c.of_event.ensures.err
+
+pub loop-fault-preserved : goal.loop-fault-preserved
+loop-fault-preserved g c =
+    let inv = c.loop-fault.invariant in
+    let next = rw (c.in-Ok-Event.is, c.in-Ok-Event.field-0-is) at c.next.follows.holds-at-none in
+    record {
+      ahead = omega (arith, inv.ahead, c.if-left-eq0.false);
+      passed = λ limits start n h.
+          let p = inv.passed limits start n h in
+          one_passed limits c.loop-fault.events c.next.follows.lender-at-none start _ _ n c.loop-fault.left inv.ahead p c.in-Ok-Event.raw (next limits p.format start p.records p.given p.due p.reads);
+    }

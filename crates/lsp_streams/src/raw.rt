@@ -1,0 +1,23 @@
+//! An event of a session before its content is read.
+use lsp_rpc::Side;
+
+/// An event before its content is read, lent from where it is held.
+#[derive(Clone, Copy, Debug, PartialEq, Eq)]
+pub enum Raw<'a> {
+    /// A content that a side sent (LSP 3.17, "Base Protocol").
+    Content {
+        side: Side,
+        content: &'a [u8],
+    },
+    /// A fault of a side's frames, by its rule, 101 to 106.
+    Broken {
+        side: Side,
+        rule: u16,
+    },
+    /// A text that the editor showed.
+    Snapshot {
+        version: i32,
+        uri: &'a str,
+        text: &'a str,
+    },
+}
