@@ -1,9 +1,9 @@
 -- The texts of a queue, kept by version, beside the snapshots that they stand for.
-use Rattle.std.proofs.Common.{◌≡◌, ℕ, ◌+◌, Bool, true, false, ◌||◌, ◌&&◌, List, [], ◌∷◌, ◌++◌, map, filter, length, refl, sym, ap, ◌∙◌, inl, inr, arith, true≢false, Option, Some, None, length-append, subst, suc}
+use Rattle.std.proofs.Common.{◌≡◌, ℕ, ◌+◌, Bool, true, false, ◌||◌, List, [], ◌∷◌, ◌++◌, map, filter, length, refl, sym, ap, ◌∙◌, inl, inr, arith, true≢false, Option, Some, None, length-append, append_assoc, append-nil, subst, suc, ◌⊎◌}
 use Rattle.std.proofs.lemmas.Int.{ints}
 use Rattle.std.proofs.lemmas.Option.{none-some}
 use Rattle.std.proofs.lemmas.List.Folds.{list_any-append}
-use Rattle.std.specs.Prelude.{ℤ, int_lt, not, min, ◌-◌, ◌^◌}
+use Rattle.std.specs.Prelude.{ℤ, int_lt, min, ◌-◌, ◌^◌}
 use Rattle.std.specs.List.{list_any, AllByRecursion}
 use Rattle.std.specs.List.Sorted.{IsStrictlySortedBy}
 use Rattle.std.specs.Map.{lookup, set_value, keys_of}
@@ -13,20 +13,17 @@ use Rattle.std.specs.declared.cmp.Ordering.TheVariants.{Less, Equal, Greater}
 use Rattle.std.specs.BTreeMap.{insert_entry}
 use Rattle.lsp_docs.specs.Texts.{Text}
 use Rattle.lsp_docs.specs.Documents.{Version, versioned, is_after, is_at, is_before}
-use Rattle.lsp_docs.specs.State.{SameVersions, capped}
+use Rattle.lsp_docs.specs.Snapshots.{texts_at}
+use Rattle.lsp_docs.specs.State.{SameOrder, SameVersions, capped}
 use Rattle.lsp_docs.specs.Stored.{versions_in, is_first_within, rest_of, first_before}
-use Rattle.lsp_docs.specs.Rules.{differs}
-use Rattle.lsp_docs.specs.Others.{is_other, is_other_text, FindsOther, FindsText}
-use Rattle.std.specs.Borrow.{Bor}
 use Rattle.std.proofs.lemmas.Bool.Decides.{nat_tests}
 use Rattle.std.specs.Prelude.{nat_lt}
-use Rattle.std.specs.Str.{bytes_eq, chars}
 use Rattle.std.proofs.lemmas.Bool.Decides.{Decides-int_eq}
-use Rattle.std.proofs.lemmas.Bool.{cases_Bool, and_left, not-true, not-false}
+use Rattle.std.proofs.lemmas.Bool.{cases_Bool, not-true, not-false}
 use Rattle.std.proofs.lemmas.List.Elements.{filter-append}
 use Rattle.std.proofs.lemmas.List.{map-append, length-map}
 use Rattle.std.proofs.Math.Bool.{or-false}
-use Rattle.lsp_docs.proofs.Words.{int_is, lt_trans, less_behind, and_first}
+use Rattle.lsp_docs.proofs.Words.{int_is, lt_trans, less_behind}
 use Rattle.lsp_docs.proofs.Queues.{rest_of as rest_of_entry, head_is, not_head}
 use Rattle.lsp_docs.proofs.SameVersions.{count-append}
 
@@ -137,39 +134,7 @@ due-there n es ts h at = sym (any_text ts) ∙ sym (due_found n es h ∙ ap (fou
 pub due-absent : (n : ℤ) (es : Entries) → IsStrictlySortedBy int_cmp (keys_of es) → lookup (int_eq n) es ≡ None → false ≡ list_any (is_at n) (versions_in es)
 due-absent n es h at = sym (due_found n es h ∙ ap (found n (λ _. true) (is_at n) (λ t. eq_same n) (λ v e. eq_flip n v.number e)) at)
 
-differs_found : (n : ℤ) (text : Text) (es : Entries) → IsStrictlySortedBy int_cmp (keys_of es)
-    → list_any (differs (versioned n text)) (versions_in es)
-    ≡ found n (λ t. not (bytes_eq text t)) (differs (versioned n text)) (λ t. and_first (int_eq n n) _ (eq_same n)) (λ v e. and_left (int_eq n v.number) _ e) (lookup (int_eq n) es)
-differs_found n text es h = any_found n (λ t. not (bytes_eq text t)) (differs (versioned n text)) (λ t. and_first (int_eq n n) _ (eq_same n)) (λ v e. and_left (int_eq n v.number) _ e) es h
-
-module _ (n : ℤ) (text : Text) (es : Entries) (h : IsStrictlySortedBy int_cmp (keys_of es)) where
-  abbrev looked : Option (List Text) → Bool
-  looked = found n (λ t. not (bytes_eq text t)) (differs (versioned n text)) (λ t. and_first (int_eq n n) _ (eq_same n)) (λ v e. and_left (int_eq n v.number) _ e)
-
-  pub differs-there : (ts : List Text) → lookup (int_eq n) es ≡ Some ts → list_any (λ t. not (bytes_eq text t)) ts ≡ list_any (differs (versioned n text)) (versions_in es)
-  differs-there ts at = sym (differs_found n text es h ∙ ap looked at)
-
-  pub differs-absent : lookup (int_eq n) es ≡ None → false ≡ list_any (differs (versioned n text)) (versions_in es)
-  differs-absent at = sym (differs_found n text es h ∙ ap looked at)
-
-module _ (n : ℤ) (text other : Text) (es : Entries) (h : IsStrictlySortedBy int_cmp (keys_of es)) where
-  namely : (t : Text) → is_other (versioned n text) other (versioned n t) ≡ is_other_text text other t
-  namely t = ap (λ b. b && bytes_eq t other) (and_first (int_eq n n) _ (eq_same n))
-
-  away : (v : Version) → int_eq n v.number ≡ false → is_other (versioned n text) other v ≡ false
-  away v e = ap (λ b. b && bytes_eq v.text other) (and_left (int_eq n v.number) _ e)
-
-  pub other-there : (ts : List Text) → lookup (int_eq n) es ≡ Some ts → list_any (is_other_text text other) ts ≡ list_any (is_other (versioned n text) other) (versions_in es)
-  other-there ts at = sym (any_found n (is_other_text text other) (is_other (versioned n text) other) namely away es h ∙ ap (found n (is_other_text text other) (is_other (versioned n text) other) namely away) at)
-
--- what is found among the texts of a version is found among all snapshots
-pub finds-there : (n : ℤ) (text : Text) (es : Entries) → IsStrictlySortedBy int_cmp (keys_of es) → (ts : List Text) → lookup (int_eq n) es ≡ Some ts → (r : Option (Bor (List ℕ))) → FindsText text ts r
-    → FindsOther (versioned n text) (versions_in es) r
-finds-there n text es h ts at None found = sym (differs-there n text es h ts at) ∙ found
-finds-there n text es h ts at (Some other) found = sym (other-there n text (chars other.now) es h ts at) ∙ found
-
 -- ---- what is reached
-
 all_pass : (p : Version → Bool) (k : ℤ) (ts : List Text) → ((t : Text) → p (versioned k t) ≡ true) → filter p (map (versioned k) ts) ≡ map (versioned k) ts
 all_pass p k [] h = refl
 all_pass p k (t ∷ ts) h = rw (h t) (ap (λ l. versioned k t ∷ l) (all_pass p k ts h))
@@ -177,6 +142,48 @@ all_pass p k (t ∷ ts) h = rw (h t) (ap (λ l. versioned k t ∷ l) (all_pass p
 none_pass : (p : Version → Bool) (k : ℤ) (ts : List Text) → ((t : Text) → p (versioned k t) ≡ false) → filter p (map (versioned k) ts) ≡ []
 none_pass p k [] h = refl
 none_pass p k (t ∷ ts) h = rw (h t) (none_pass p k ts h)
+
+quiet : (p : Version → Bool) (vs : List Version) → list_any p vs ≡ false → filter p vs ≡ []
+quiet p [] h = refl
+quiet p (v ∷ vs) h =
+    elim (cases_Bool (p v)) [ inl k ↦ absurd (true≢false (rw k at h)) | inr k ↦ rw k (quiet p vs (rw k at h)) ]
+
+-- ---- the texts of a version
+
+texts-append : (n : ℤ) (vs ws : List Version) → texts_at n (vs ++ ws) ≡ texts_at n vs ++ texts_at n ws
+texts-append n vs ws = ap (map (λ (v : Version). v.text)) (filter-append (is_at n) vs ws) ∙ map-append (λ (v : Version). v.text) (filter (is_at n) vs) (filter (is_at n) ws)
+
+none-at : (n : ℤ) (vs : List Version) → list_any (is_at n) vs ≡ false → texts_at n vs ≡ []
+none-at n vs h = ap (map (λ (v : Version). v.text)) (quiet (is_at n) vs h)
+
+texts_again : (n : ℤ) (ts : List Text) → map (λ (v : Version). v.text) (map (versioned n) ts) ≡ ts
+texts_again n [] = refl
+texts_again n (t ∷ ts) = ap (λ l. t ∷ l) (texts_again n ts)
+
+texts-own : (n : ℤ) (ts : List Text) → texts_at n (map (versioned n) ts) ≡ ts
+texts-own n ts = ap (map (λ (v : Version). v.text)) (all_pass (is_at n) n ts (λ t. eq_same n)) ∙ texts_again n ts
+
+-- those of a version among all snapshots are what is held of it
+pub texts-there : (n : ℤ) (es : Entries) (ts : List Text) → IsStrictlySortedBy int_cmp (keys_of es) → lookup (int_eq n) es ≡ Some ts → texts_at n (versions_in es) ≡ ts
+texts-there n [] ts s h = absurd (none-some ts h)
+texts-there n (y ∷ es) ts s h =
+    texts-append n (map (versioned y.0) y.1) (versions_in es)
+    ∙ elim (cases_Bool (int_eq n y.0)) [
+      | inl k ↦
+          let same : n ≡ y.0 = int_is n y.0 k in
+          let above : Above n es = subst (λ i. Above i es) (sym same) (head_above y es s) in
+          let own : texts_at n (map (versioned y.0) y.1) ≡ y.1 = ap (λ i. texts_at n (map (versioned i) y.1)) (sym same) ∙ texts-own n y.1 in
+          let others = none-at n (versions_in es) (any_above n (λ _. true) (is_at n) (λ t. eq_same n) (λ v d. eq_flip n v.number d) es above) in
+          ap (λ l. l ++ texts_at n (versions_in es)) own ∙ (ap (λ l. y.1 ++ l) others ∙ (append-nil y.1 ∙ head_is (int_eq n y.0) y.1 (lookup (int_eq n) es) ts h k))
+      | inr k ↦
+          let away = none-at n (map (versioned y.0) y.1) (any_away n (λ _. true) (is_at n) (λ t. eq_same n) (λ v d. eq_flip n v.number d) y.0 y.1 k) in
+          ap (λ l. l ++ texts_at n (versions_in es)) away ∙ texts-there n es ts (tail_sorted y es s) (rest_of_entry (int_eq n y.0) y.1 (lookup (int_eq n) es) (Some ts) h k)
+    ]
+
+pub texts-absent : (n : ℤ) (es : Entries) → IsStrictlySortedBy int_cmp (keys_of es) → lookup (int_eq n) es ≡ None → texts_at n (versions_in es) ≡ []
+texts-absent n es s h = none-at n (versions_in es) (sym (due-absent n es s h))
+
+-- ---- what goes
 
 module _ (n : ℤ) where
   -- the first version is reached
@@ -292,6 +299,69 @@ module _ (n : ℤ) (x : Text) (p : Version → Bool) where
   count-new (y ∷ es) h =
       let other = not_head (int_eq n y.0) y.1 (lookup (int_eq n) es) h in
       put_at y es (insert_entry int_cmp es n (x ∷ [])) (int_cmp n y.0) refl other (count-new es (rest_of_entry (int_eq n y.0) y.1 (lookup (int_eq n) es) None h other))
+
+swapped : (a b : List Version) → (a ≡ []) ⊎ (b ≡ []) → a ++ b ≡ b ++ a
+swapped a b (inl e) = ap (λ l. l ++ b) e ∙ (sym (append-nil b) ∙ sym (ap (λ l. b ++ l) e))
+swapped a b (inr e) = ap (λ l. a ++ l) e ∙ (append-nil a ∙ sym (ap (λ l. l ++ a) e))
+
+module _ (n : ℤ) (x : Text) (m : ℤ) where
+  abbrev new : List Version
+  new = versioned n x ∷ []
+
+  -- the new one may as well stand before what has none of its number
+  passes_by : (vs : List Version) → list_any (is_at n) vs ≡ false → filter (is_at m) (vs ++ new) ≡ filter (is_at m) (new ++ vs)
+  passes_by vs none =
+      filter-append (is_at m) vs new
+      ∙ (swapped (filter (is_at m) vs) (filter (is_at m) new) (elim (cases_Bool (int_eq n m)) [
+        | inl h ↦ inl (quiet (is_at m) vs (ap (λ k. list_any (is_at k) vs) (sym (int_is n m h)) ∙ none))
+        | inr h ↦ inr (rw h refl)
+      ])
+      ∙ sym (filter-append (is_at m) new vs))
+
+  behind : (a b c : List Version) → filter (is_at m) b ≡ filter (is_at m) c → filter (is_at m) (a ++ b) ≡ filter (is_at m) (a ++ c)
+  behind a b c h = filter-append (is_at m) a b ∙ (ap (λ l. filter (is_at m) a ++ l) h ∙ sym (filter-append (is_at m) a c))
+
+  order-there : (es : Entries) (ts w : List Text) → IsStrictlySortedBy int_cmp (keys_of es) → lookup (int_eq n) es ≡ Some ts → w ≡ ts ++ x ∷ []
+      → filter (is_at m) (versions_in es ++ new) ≡ filter (is_at m) (versions_in (set_value (int_eq n) es w))
+  order-there [] ts w s h e = absurd (none-some ts h)
+  order-there (y ∷ es) ts w s h e =
+      let a = map (versioned y.0) y.1 in
+      elim (cases_Bool (int_eq n y.0)) [
+        | inl k ↦
+            let same : n ≡ y.0 = int_is n y.0 k in
+            let own : y.1 ≡ ts = head_is (int_eq n y.0) y.1 (lookup (int_eq n) es) ts h k in
+            let now : map (versioned y.0) w ≡ a ++ new = ap (map (versioned y.0)) (e ∙ ap (λ l. l ++ x ∷ []) (sym own)) ∙ (map-behind y.0 y.1 x ∙ ap (λ z. a ++ versioned z x ∷ []) (sym same)) in
+            let above : Above n es = subst (λ i. Above i es) (sym same) (head_above y es s) in
+            let none = any_above n (λ _. true) (is_at n) (λ t. eq_same n) (λ v d. eq_flip n v.number d) es above in
+            rw k (ap (filter (is_at m)) (append_assoc a (versions_in es) new)
+            ∙ (behind a (versions_in es ++ new) (new ++ versions_in es) (passes_by (versions_in es) none)
+            ∙ (ap (filter (is_at m)) (sym (append_assoc a new (versions_in es))) ∙ ap (λ l. filter (is_at m) (l ++ versions_in es)) (sym now))))
+        | inr k ↦
+            let rest = order-there es ts w (tail_sorted y es s) (rest_of_entry (int_eq n y.0) y.1 (lookup (int_eq n) es) (Some ts) h k) e in
+            rw k (ap (filter (is_at m)) (append_assoc a (versions_in es) new) ∙ behind a (versions_in es ++ new) (versions_in (set_value (int_eq n) es w)) rest)
+      ]
+
+  order_at : (y : ℤ × List Text) (es rest : Entries) (o : Ordering) → int_cmp n y.0 ≡ o → int_eq n y.0 ≡ false → list_any (is_at n) (versions_in (y ∷ es)) ≡ false
+      → filter (is_at m) (versions_in es ++ new) ≡ filter (is_at m) (versions_in rest)
+      → filter (is_at m) (versions_in (y ∷ es) ++ new) ≡ filter (is_at m) (versions_in (match_ordering o ((n, x ∷ []) ∷ y ∷ es) ((y.0, x ∷ []) ∷ es) (y ∷ rest)))
+  order_at y es rest Less e other none h = passes_by (versions_in (y ∷ es)) none
+  order_at y es rest Equal e other none h = absurd (true≢false (sym (ap is_eq e) ∙ other))
+  order_at y es rest Greater e other none h =
+      let a = map (versioned y.0) y.1 in
+      ap (filter (is_at m)) (append_assoc a (versions_in es) new) ∙ behind a (versions_in es ++ new) (versions_in rest) h
+
+  order-new : (es : Entries) → IsStrictlySortedBy int_cmp (keys_of es) → lookup (int_eq n) es ≡ None → filter (is_at m) (versions_in es ++ new) ≡ filter (is_at m) (versions_in (insert_entry int_cmp es n (x ∷ [])))
+  order-new [] s h = refl
+  order-new (y ∷ es) s h =
+      let other = not_head (int_eq n y.0) y.1 (lookup (int_eq n) es) h in
+      order_at y es (insert_entry int_cmp es n (x ∷ [])) (int_cmp n y.0) refl other (sym (due-absent n (y ∷ es) s h))
+      (order-new es (tail_sorted y es s) (rest_of_entry (int_eq n y.0) y.1 (lookup (int_eq n) es) None h other))
+
+pub ordered-there : (n : ℤ) (x : Text) (es : Entries) (ts w : List Text) → IsStrictlySortedBy int_cmp (keys_of es) → lookup (int_eq n) es ≡ Some ts → w ≡ ts ++ x ∷ [] → SameOrder (versions_in es ++ versioned n x ∷ []) (versions_in (set_value (int_eq n) es w))
+ordered-there n x es ts w s h e = λ m. order-there n x m es ts w s h e
+
+pub ordered-new : (n : ℤ) (x : Text) (es : Entries) (w : List Text) → IsStrictlySortedBy int_cmp (keys_of es) → lookup (int_eq n) es ≡ None → w ≡ x ∷ [] → SameOrder (versions_in es ++ versioned n x ∷ []) (versions_in (insert_entry int_cmp es n w))
+ordered-new n x es w s h e = λ m. order-new n x m es s h ∙ ap (λ v. filter (is_at m) (versions_in (insert_entry int_cmp es n v))) (sym e)
 
 pub added-there : (n : ℤ) (x : Text) (es : Entries) (ts w : List Text) → lookup (int_eq n) es ≡ Some ts → w ≡ ts ++ x ∷ [] → SameVersions (versions_in es ++ versioned n x ∷ []) (versions_in (set_value (int_eq n) es w))
 added-there n x es ts w h e = λ p. count-there n x p es ts w h e

@@ -1,21 +1,16 @@
 -- Versions that have another text than a given one, as they are looked for.
 use Rattle.std.proofs.Common.{◌≡◌, ◌<◌, ◌+◌, ℕ, Bool, true, false, List, [], ◌∷◌, ◌++◌, map, length, get_or, take, drop, Option, Some, None, refl, sym, ap, ◌∙◌, inl, inr, true≢false}
-use Rattle.std.proofs.lemmas.Bool.{cond-true, cond-false, cases_Bool, or_right, or_left}
+use Rattle.std.proofs.lemmas.Bool.{cond-true, cond-false, cases_Bool}
 use Rattle.std.proofs.lemmas.List.{take_more, take-append-drop, at_drop_more}
-use Rattle.std.proofs.lemmas.List.Folds.{find-append, list_any-append}
-use Rattle.std.specs.List.{find, list_any}
+use Rattle.std.proofs.lemmas.List.Folds.{find-append}
+use Rattle.std.specs.List.{find}
 use Rattle.std.specs.Option.{option_map, option_or}
 use Rattle.std.specs.Str.{bytes_eq, chars, IsUtf8}
 use Rattle.std.proofs.lemmas.Slice.Eq.{bytes_eq-Decides}
 use Rattle.lsp_text.proofs.Counting.{chars_same}
-use Rattle.std.specs.Borrow.{Bor}
-use Rattle.std.specs.Prelude.{is_some, not}
 use Rattle.lsp_docs.specs.Texts.{Text}
 use Rattle.lsp_docs.specs.Documents.{Version}
-use Rattle.lsp_docs.specs.State.{SameVersions}
-use Rattle.lsp_docs.specs.Rules.{differs}
-use Rattle.lsp_docs.specs.Others.{is_other, is_other_text, differs_from, other_in, other_than, FindsOther}
-use Rattle.lsp_docs.proofs.SameVersions.{same-any}
+use Rattle.lsp_docs.specs.Others.{differs_from, other_in, other_than}
 
 module _ {X : Type 0} (p : X → Bool) (xs : List X) (i : ℕ) (x : X) (lt : i < length xs) (is : x ≡ get_or xs i x) where
   parts : xs ≡ take i xs ++ x ∷ drop (i + 1) xs
@@ -35,13 +30,6 @@ module _ {X : Type 0} (p : X → Bool) (xs : List X) (i : ℕ) (x : X) (lt : i <
       ap (find p) parts
       ∙ (find-append p (take i xs) (x ∷ drop (i + 1) xs)
       ∙ (ap (λ o. option_or o (find p (x ∷ drop (i + 1) xs))) none ∙ cond-true _ _ _ passes))
-
-  -- one passes
-  pub any-here : p x ≡ true → list_any p xs ≡ true
-  any-here passes =
-      ap (list_any p) parts
-      ∙ (list_any-append p (take i xs) (x ∷ drop (i + 1) xs)
-      ∙ or_right (list_any p (take i xs)) (list_any p (x ∷ drop (i + 1) xs)) (or_left (p x) (list_any p (drop (i + 1) xs)) passes))
 
 -- a test on the parts of a list
 pub find-map : {A B : Type 0} (p : B → Bool) (f : A → B) (xs : List A) → find p (map f xs) ≡ option_map f (find (λ x. p (f x)) xs)
@@ -63,15 +51,6 @@ same_text a b u v =
       ]
     ]
 
--- a text that was found to be another
-pub is_found : (t u : Text) → not (bytes_eq t u) ≡ true → is_other_text t u u ≡ true
-is_found t u h = rw h ((bytes_eq-Decides u u).1 refl)
-
--- what is found among some snapshots is found among the same in another order
-pub finds-same : (v : Version) (ss ws : List Version) → SameVersions ss ws → (r : Option (Bor (List ℕ))) → FindsOther v ss r → FindsOther v ws r
-finds-same v ss ws h None found = sym (same-any (differs v) ss ws h) ∙ found
-finds-same v ss ws h (Some other) found = sym (same-any (is_other v (chars other.now)) ss ws h) ∙ found
-
 pub map-seen : {A B C : Type 0} (g : B → C) (f : A → B) (xs : List A) → map g (map f xs) ≡ map (λ x. g (f x)) xs
 map-seen g f [] = refl
 map-seen g f (x ∷ xs) = ap (λ l. g (f x) ∷ l) (map-seen g f xs)
@@ -91,16 +70,3 @@ found-behind s ks v h = ap (option_map (λ (w : Version). w.text)) (find-append 
     behind : (o p : Option Version) → option_map (λ (w : Version). w.text) o ≡ None → option_map (λ (w : Version). w.text) (option_or o p) ≡ option_map (λ (w : Version). w.text) p
     behind None p h = refl
     behind (Some w) p h = absurd (cc)
-
--- what is found is there
-any-weaker : (v : Version) (t : Text) (ss : List Version) → list_any (is_other v t) ss ≡ true → list_any (differs v) ss ≡ true
-any-weaker v t [] h = h
-any-weaker v t (s ∷ ss) h =
-    elim (cases_Bool (differs v s)) [
-      | inl p ↦ rw p refl
-      | inr p ↦ rw p (any-weaker v t ss (rw p at h))
-    ]
-
-pub finds-any : (v : Version) (ss : List Version) (r : Option (Bor (List ℕ))) → FindsOther v ss r → is_some r ≡ list_any (differs v) ss
-finds-any v ss None found = sym found
-finds-any v ss (Some other) found = sym (any-weaker v (chars other.now) ss found)

@@ -13,10 +13,10 @@ use Rattle.indexmap.specs.IndexMap.{insert_entry, swap_remove_entry}
 use Rattle.indexmap.proofs.MapLemmas.{Found-position, Missing-position, swap_remove_entry-found}
 use Rattle.std.proofs.lemmas.Bool.{cases_Bool}
 use Rattle.lsp_docs.specs.Documents.{Version}
-use Rattle.lsp_docs.specs.State.{Queue, queue_of, keep_in, total, SameVersions, IsAdded, IsReleased}
+use Rattle.lsp_docs.specs.State.{Queue, queue_of, keep_in, total, SameOrder, SameVersions, IsAdded, IsReleased}
 use Rattle.lsp_docs.specs.Stored.{queues_in, lengths}
 use Rattle.lsp_docs.proofs.Words.{uri_is, uri_same}
-use Rattle.lsp_docs.proofs.SameVersions.{same-length, same-of}
+use Rattle.lsp_docs.proofs.SameVersions.{order-of, same-length, same-of}
 
 -- a key other than the first entry's finds what it finds in the rest
 pub rest_of : {D : Type 0} (b : Bool) (d : D) (rest x : Option D) → cond b (Some d) rest ≡ x → b ≡ false → rest ≡ x
@@ -112,13 +112,15 @@ module _ {D : Type 0} (versions : D → List Version) where
         ]
 
     -- one more in a queue that is there
-    pub added-there : (v : Version) (d w : D) → SameVersions (versions d ++ v ∷ []) (versions w) → (es : List (String Global × D)) → lookup is_key es ≡ Some d
+    pub added-there : (v : Version) (d w : D) → SameVersions (versions d ++ v ∷ []) (versions w) → SameOrder (versions d ++ v ∷ []) (versions w) → (es : List (String Global × D)) → lookup is_key es ≡ Some d
         → IsAdded uri v (map queued es) (map queued (set_value is_key es w))
-    added-there v d w same es h =
+    added-there v d w same order es h =
         let more : length (versions w) ≡ length (versions d) + 1 = sym (same-length (versions d ++ v ∷ []) (versions w) same) ∙ length-append (versions d) (v ∷ []) in
         record {
           own = subst (λ l. SameVersions (l ++ v ∷ []) (queue_of uri (map queued (set_value is_key es w)))) (sym (queue_of-there es d h))
               (subst (SameVersions (versions d ++ v ∷ [])) (sym (queue_of-there (set_value is_key es w) w (written-there d w es h))) same);
+          order = subst (λ l. SameOrder (l ++ v ∷ []) (queue_of uri (map queued (set_value is_key es w)))) (sym (queue_of-there es d h))
+              (subst (SameOrder (versions d ++ v ∷ [])) (sym (queue_of-there (set_value is_key es w) w (written-there d w es h))) order);
           others = λ u apart. written-others u w apart es;
           count = written-count d w more es h;
         }
@@ -152,6 +154,7 @@ module _ {D : Type 0} (versions : D → List Version) where
       added-new es h =
           subst (λ l. IsAdded uri v (map queued es) (map queued l)) (sym (put_is es h)) (record {
             own = subst (λ l. SameVersions (l ++ v ∷ []) (queue_of uri (map queued (es ++ (k, w) ∷ [])))) (sym (queue_of-absent es h)) (same-of (v ∷ []) _ (sym (end_own es h)));
+            order = subst (λ l. SameOrder (l ++ v ∷ []) (queue_of uri (map queued (es ++ (k, w) ∷ [])))) (sym (queue_of-absent es h)) (order-of (v ∷ []) _ (sym (end_own es h)));
             others = λ u apart. end_others u apart es;
             count = end_count es;
           })

@@ -1,8 +1,11 @@
 -- Lists of versions that have the same versions, in whatever order.
-use Rattle.std.proofs.Common.{◌≡◌, ℕ, zero, suc, ◌+◌, Bool, true, false, ◌&&◌, List, [], ◌∷◌, ◌++◌, filter, length, length-append, refl, sym, ap, ◌∙◌, inl, inr, Option, Some, None, Result, Ok, Err}
+use Rattle.std.proofs.Common.{◌≡◌, ℕ, zero, suc, ◌+◌, Bool, true, false, ◌&&◌, ◌||◌, List, [], ◌∷◌, ◌++◌, map, filter, length, length-append, refl, sym, ap, ◌∙◌, inl, inr, true≢false, Option, Some, None, Result, Ok, Err}
 use Rattle.std.specs.Prelude.{ℤ, if◌then◌else◌, is_some, nat_lt, not, int_lt}
 use Rattle.std.specs.List.{list_any}
+use Rattle.std.specs.Ordering.{int_eq}
+use Rattle.std.specs.Str.{bytes_eq}
 use Rattle.std.proofs.lemmas.Bool.{cases_Bool}
+use Rattle.std.proofs.lemmas.Bool.Decides.{Decides-int_eq}
 use Rattle.std.proofs.lemmas.List.Elements.{filter-append}
 use Rattle.lsp_types.specs.declared.position.Encoding.{Encoding}
 use Rattle.lsp_types.specs.declared.change.SyncKind.{SyncKind}
@@ -10,9 +13,10 @@ use Rattle.lsp_text.specs.Edits.{Edit, applied}
 use Rattle.lsp_docs.specs.Terms.{Terms}
 use Rattle.lsp_docs.specs.Texts.{Text, byte_len}
 use Rattle.lsp_docs.specs.Calls.{Call, opens, changes, closes, saves, shows}
-use Rattle.lsp_docs.specs.Documents.{Version, versioned}
+use Rattle.lsp_docs.specs.Documents.{Version, versioned, is_at}
 use Rattle.lsp_docs.specs.Rules.{differs, version_rule, text_rule, change_rule, rule_of, first_row, fits_kind}
-use Rattle.lsp_docs.specs.State.{SameVersions}
+use Rattle.lsp_docs.specs.Snapshots.{texts_at}
+use Rattle.lsp_docs.specs.State.{SameOrder, SameVersions}
 use Rattle.lsp_docs.proofs.Words.{filter-all}
 
 pub same-of : (vs ws : List Version) → vs ≡ ws → SameVersions vs ws
@@ -54,6 +58,56 @@ any-counted p (v ∷ vs) = elim (cases_Bool (p v)) [ inl h ↦ rw h refl | inr h
 
 pub same-any : (p : Version → Bool) (vs ws : List Version) → SameVersions vs ws → list_any p vs ≡ list_any p ws
 same-any p vs ws h = any-counted p vs ∙ (ap is_more (h p) ∙ sym (any-counted p ws))
+
+-- ---- order
+
+pub order-of : (vs ws : List Version) → vs ≡ ws → SameOrder vs ws
+order-of vs ws e = λ n. ap (filter (is_at n)) e
+
+pub order-then : (vs ws us : List Version) → SameOrder vs ws → SameOrder ws us → SameOrder vs us
+order-then vs ws us h k = λ n. h n ∙ k n
+
+pub order-behind : (vs ws us : List Version) → SameOrder vs ws → SameOrder (vs ++ us) (ws ++ us)
+order-behind vs ws us h = λ n. filter-append (is_at n) vs us ∙ (ap (λ l. l ++ filter (is_at n) us) (h n) ∙ sym (filter-append (is_at n) ws us))
+
+filter-swap : (p q : Version → Bool) (vs : List Version) → filter p (filter q vs) ≡ filter q (filter p vs)
+filter-swap p q [] = refl
+filter-swap p q (v ∷ vs) =
+    elim (cases_Bool (q v)) [
+      | inl h ↦ elim (cases_Bool (p v)) [
+        | inl k ↦ rw (h, k, h) (ap (λ l. v ∷ l) (filter-swap p q vs))
+        | inr k ↦ rw (h, k) (filter-swap p q vs)
+      ]
+      | inr h ↦ elim (cases_Bool (p v)) [
+        | inl k ↦ rw (h, k, h) (filter-swap p q vs)
+        | inr k ↦ rw (h, k) (filter-swap p q vs)
+      ]
+    ]
+
+pub order-filtered : (q : Version → Bool) (vs ws : List Version) → SameOrder vs ws → SameOrder (filter q vs) (filter q ws)
+order-filtered q vs ws h = λ n. filter-swap (is_at n) q vs ∙ (ap (filter q) (h n) ∙ filter-swap q (is_at n) ws)
+
+-- the texts of a version are the same
+pub order-texts : (n : ℤ) (vs ws : List Version) → SameOrder vs ws → texts_at n vs ≡ texts_at n ws
+order-texts n vs ws h = ap (map (λ (v : Version). v.text)) (h n)
+
+-- one of the version that has another text is one of its texts that is another
+pub differs-texts : (v : Version) (vs : List Version) → list_any (differs v) vs ≡ list_any (λ t. not (bytes_eq v.text t)) (texts_at v.number vs)
+differs-texts v [] = refl
+differs-texts v (s ∷ vs) =
+    let other = not (bytes_eq v.text s.text) in
+    elim (cases_Bool (int_eq s.number v.number)) [
+      | inl k ↦ rw k (ap (λ b. (b && other) || list_any (differs v) vs) (flipped v.number s.number true k) ∙ ap (λ b. other || b) (differs-texts v vs))
+      | inr k ↦ rw k (ap (λ b. (b && other) || list_any (differs v) vs) (flipped v.number s.number false k) ∙ differs-texts v vs)
+    ]
+  where
+    flipped : (a b : ℤ) (c : Bool) → int_eq b a ≡ c → int_eq a b ≡ c
+    flipped a b true h = (Decides-int_eq a b).1 (sym ((Decides-int_eq b a).0 h))
+    flipped a b false h =
+        elim (cases_Bool (int_eq a b)) [
+          | inl k ↦ absurd (true≢false (sym ((Decides-int_eq b a).1 (sym ((Decides-int_eq a b).0 k))) ∙ h))
+          | inr k ↦ k
+        ]
 
 -- ---- rules
 

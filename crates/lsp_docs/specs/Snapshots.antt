@@ -4,6 +4,7 @@ use Rattle.std.specs.List.{list_any}
 use Rattle.std.specs.Ordering.{int_eq}
 use Rattle.std.specs.Str.{bytes_eq}
 use Rattle.lsp_docs.specs.Terms.{Terms}
+use Rattle.lsp_docs.specs.Texts.{Text}
 use Rattle.lsp_docs.specs.Calls.{Bytes, Call, opens, changes, shows, is_close}
 use Rattle.lsp_docs.specs.Documents.{Version, versioned, is_at, held}
 use Rattle.lsp_docs.specs.Kept.{kept}
@@ -42,6 +43,10 @@ is_of uri s = bytes_eq uri s.uri
 -- those of one URI
 abbrev pub versions_of : Bytes → List Shown → List Version
 versions_of uri ss = map (λ s. s.version) (filter (is_of uri) ss)
+
+-- the texts of those of this version
+abbrev pub texts_at : ℤ → List Version → List Text
+texts_at number vs = map (λ (v : Version). v.text) (filter (is_at number) vs)
 
 -- ---- snapshots that were never compared
 

@@ -7,7 +7,7 @@ use Rattle.lsp_docs.specs.Terms.{Terms}
 use Rattle.lsp_docs.specs.Texts.{Text}
 use Rattle.lsp_text.specs.Edits.{Edit, applied}
 use Rattle.lsp_docs.specs.Calls.{Bytes, Call, uri_of}
-use Rattle.lsp_docs.specs.Documents.{Version, versioned, is_after, is_before, Held, documents}
+use Rattle.lsp_docs.specs.Documents.{Version, versioned, is_after, is_at, is_before, Held, documents}
 use Rattle.lsp_docs.specs.Kept.{kept, last_of}
 use Rattle.lsp_docs.specs.Snapshots.{waiting, versions_of}
 use Rattle.lsp_docs.specs.Rules.{rule_of, rule_of_change, AreAccepted}
@@ -87,6 +87,10 @@ keep_in uri p (n ∷ ns) = if bytes_eq uri n.uri then record { uri = n.uri; vers
 abbrev pub SameVersions : List Version → List Version → Type 0
 SameVersions vs ws = (p : Version → Bool) → length (filter p vs) ≡ length (filter p ws)
 
+-- those of each number, in the same order
+abbrev pub SameOrder : List Version → List Version → Type 0
+SameOrder vs ws = (n : ℤ) → filter (is_at n) vs ≡ filter (is_at n) ws
+
 -- how many wait
 abbrev pub total : List Queue → ℕ
 total [] = 0
@@ -95,6 +99,7 @@ total (n ∷ ns) = length n.versions + total ns
 -- one more of the URI
 pub record IsAdded (uri : Bytes) (v : Version) (old new : List Queue) : Type 0 where
   pub own : SameVersions (queue_of uri old ++ v ∷ []) (queue_of uri new)
+  pub order : SameOrder (queue_of uri old ++ v ∷ []) (queue_of uri new)
   pub others : (u : Bytes) → bytes_eq u uri ≡ false → queue_of u new ≡ queue_of u old
   pub count : total new ≡ total old + 1
 
@@ -145,6 +150,7 @@ early_rule kind number cs h = rule_of_change kind number cs (λ v. None) h
 -- the snapshots that wait are those that the definitions give for these calls
 pub record AreWaits (terms : Terms) (w : Waits) (calls : List Call) : Type 0 where
   pub queues : (uri : Bytes) → SameVersions (queue_of uri w.queues) (versions_of uri (waiting terms calls))
+  pub order : (uri : Bytes) → SameOrder (queue_of uri w.queues) (versions_of uri (waiting terms calls))
   pub count : total w.queues ≡ length (waiting terms calls)
   pub missed : w.missed ≡ capped (missed terms calls)
 

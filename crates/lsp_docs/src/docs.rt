@@ -9,9 +9,10 @@ ghost use Rattle.lsp_docs.specs.Calls.{Call, opens, changes as changes_by, close
 ghost use Rattle.lsp_docs.specs.Documents.{versioned, held, documents};
 ghost use Rattle.lsp_docs.specs.Kept.{kept};
 ghost use Rattle.lsp_docs.specs.Opened.{or_nothing};
-ghost use Rattle.lsp_docs.specs.Snapshots.{waiting, unmatched, versions_of};
-ghost use Rattle.lsp_docs.specs.Others.{FindsOther, other_than};
+ghost use Rattle.lsp_docs.specs.Snapshots.{texts_at, waiting, unmatched, versions_of};
+ghost use Rattle.lsp_docs.specs.Others.{other_than};
 ghost use Rattle.lsp_docs.specs.Rules.{differs, show_rule, text_rule, call_rule};
+ghost use Rattle.lsp_docs.specs.Stored.{texts_of};
 ghost use Rattle.lsp_docs.specs.State.{capped, held_in, kept_in, queue_of, set_in, changed_at, early_rule, IsChanged, with_held, rule_at, Stands};
 ghost use Rattle.lsp_docs.specs.Fault.{Names, IsRule, Breaks};
 ghost use Rattle.lsp_text.specs.Changes.{edits_of, edit_of};
@@ -25,7 +26,7 @@ use crate::fault::{
 use crate::kind::fits_kind;
 use crate::opened::OpenDocuments;
 use crate::revision::has_text;
-use crate::snapshot::Match;
+use crate::snapshot::{Match, any_differs, any_is_not};
 use crate::waiting::Waiting;
 use lsp_frame::{Format, Limits};
 use lsp_text::{TextStore, change_all};
@@ -159,13 +160,13 @@ impl<S: TextStore> Docs<S> {
         }
     }
 
-    /// The text of a snapshot that waits for this version of a URI and has another text than this one: what refuses an
-    /// opening or a change by 702. Of several it is any one.
-    pub fn waiting_other(&self, uri: &str, version: i32, text: &str) -> Option<&str>
+    /// The texts of the snapshots that wait for this version of a URI, in the order in which they came: one that is
+    /// another text refuses an opening or a change by 702.
+    pub fn waiting_texts(&self, uri: &str, version: i32) -> &[String]
         ensures { (calls : List Call) → Stands self.now calls
-            → FindsOther (versioned version (chars text.now)) (versions_of uri.now (waiting self.now.terms calls)) result }
+            → texts_of result.now ≡ texts_at version (versions_of uri.now (waiting self.now.terms calls)) }
     {
-        self.waiting.other(uri, version, text)
+        self.waiting.texts(uri, version)
     }
 
     /// How many snapshots may still be compared, at most 2^64 - 1.
@@ -362,14 +363,14 @@ impl<S: TextStore> Docs<S> {
     fn contradicts(&self, uri: &str, version: i32, text: &str) -> bool
         ensures { result ≡ list_any (differs (versioned version (chars text.now))) (queue_of uri.now self.now.waits.queues) }
     {
-        self.waiting.other(uri, version, text).is_some()
+        any_is_not(self.waiting.texts(uri, version), text)
     }
 
     /// Whether a snapshot that waits for this version has another text.
     fn refutes(&self, uri: &str, version: i32, store: &S) -> bool
         ensures { result ≡ list_any (differs (versioned version (S.content store.now))) (queue_of uri.now self.now.waits.queues) }
     {
-        self.waiting.refutes(uri, version, store)
+        any_differs(self.waiting.texts(uri, version), store)
     }
 
     /// The rule that a change breaks, whatever text it leads to.

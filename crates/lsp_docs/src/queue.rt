@@ -1,19 +1,16 @@
 //! The snapshots of one URI that wait for their versions.
 
 ghost use Rattle.std.specs.Prelude.{◌≡◌, [], ◌++◌, ◌∷◌, None, true, length, filter, int_lt, if◌then◌else◌, IfOk, OnOk, OnErr};
-ghost use Rattle.std.specs.Str.{chars};
 ghost use Rattle.std.specs.List.{list_any};
 ghost use Rattle.std.specs.Map.{lookup};
 ghost use Rattle.std.specs.Ordering.{int_eq, int_cmp};
 ghost use Rattle.std.specs.BTreeMap.{IsOrdered};
 ghost use Rattle.lsp_docs.specs.Documents.{versioned, is_after, is_at, is_before};
-ghost use Rattle.lsp_docs.specs.State.{SameVersions, capped};
-ghost use Rattle.lsp_docs.specs.Stored.{text_of, versions_in, is_first_within, rest_of, first_before};
-ghost use Rattle.lsp_docs.specs.Rules.{differs};
-ghost use Rattle.lsp_docs.specs.Others.{FindsOther};
+ghost use Rattle.lsp_docs.specs.Snapshots.{texts_at};
+ghost use Rattle.lsp_docs.specs.State.{SameOrder, SameVersions, capped};
+ghost use Rattle.lsp_docs.specs.Stored.{text_of, texts_of, versions_in, is_first_within, rest_of, first_before};
 
 use crate::snapshot::Texts;
-use lsp_text::TextStore;
 use std::alloc::{AllocError, Global};
 use std::collections::BTreeMap;
 use std::marker::Model;
@@ -60,6 +57,7 @@ impl SnapshotQueue {
         text: String,
     ) -> Result<(), AllocError>
         ensures ok { OnOk result (SameVersions (self.old ++ versioned version (text_of text) ∷ []) self.new) }
+        ensures order { OnOk result (SameOrder (self.old ++ versioned version (text_of text) ∷ []) self.new) }
         ensures err { OnErr result (self.new ≡ self.old) }
     {
         add_text(&mut self.texts, alloc, version, text)
@@ -86,23 +84,13 @@ impl SnapshotQueue {
         }
     }
 
-    /// Whether one waits for this version that has another text than the store.
-    pub(crate) fn any_differs<S: TextStore>(&self, version: i32, store: &S) -> bool
-        ensures { result ≡ list_any (differs (versioned version (S.content store.now))) self.now }
+    /// The texts of those that wait for this version, in the order in which they came.
+    pub(crate) fn texts(&self, version: i32) -> &[String]
+        ensures { texts_of result.now ≡ texts_at version self.now }
     {
         match self.texts.get(&version) {
-            Some(texts) => texts.any_differs(store),
-            None => false,
-        }
-    }
-
-    /// The text of one that waits for this version and has another text than this one.
-    pub(crate) fn other(&self, version: i32, text: &str) -> Option<&str>
-        ensures { FindsOther (versioned version (chars text.now)) self.now result }
-    {
-        match self.texts.get(&version) {
-            Some(texts) => texts.other(text),
-            None => None,
+            Some(texts) => texts.as_slice(),
+            None => &[],
         }
     }
 
@@ -125,6 +113,7 @@ fn add_text(
 ) -> Result<(), AllocError>
     requires { IsOrdered int_cmp texts.old }
     ensures ok { OnOk result (SameVersions (versions_in texts.old.entries ++ versioned version (text_of text) ∷ []) (versions_in texts.new.entries)) }
+    ensures order { OnOk result (SameOrder (versions_in texts.old.entries ++ versioned version (text_of text) ∷ []) (versions_in texts.new.entries)) }
     ensures err { OnErr result (versions_in texts.new.entries ≡ versions_in texts.old.entries) }
     ensures ordered { IsOrdered int_cmp texts.new }
 {
@@ -144,6 +133,7 @@ fn add_version(
     requires new { lookup (int_eq version) texts.old.entries ≡ None }
     requires ordered { IsOrdered int_cmp texts.old }
     ensures ok { OnOk result (SameVersions (versions_in texts.old.entries ++ versioned version (text_of text) ∷ []) (versions_in texts.new.entries)) }
+    ensures order { OnOk result (SameOrder (versions_in texts.old.entries ++ versioned version (text_of text) ∷ []) (versions_in texts.new.entries)) }
     ensures err { OnErr result (versions_in texts.new.entries ≡ versions_in texts.old.entries) }
     ensures ordered { IsOrdered int_cmp texts.new }
 {

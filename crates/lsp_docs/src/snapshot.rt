@@ -4,7 +4,6 @@ ghost use Rattle.std.specs.Prelude.{◌≡◌, [], ◌++◌, ◌∷◌, length, 
 ghost use Rattle.std.specs.List.{list_any};
 ghost use Rattle.std.specs.Str.{chars, bytes_eq};
 ghost use Rattle.lsp_docs.specs.Stored.{text_of, texts_of};
-ghost use Rattle.lsp_docs.specs.Others.{FindsText};
 
 use lsp_text::TextStore;
 use std::alloc::{AllocError, Global};
@@ -63,23 +62,16 @@ impl Texts {
         self.texts.len()
     }
 
-    /// Whether one is another text than the store has.
-    pub(crate) fn any_differs<S: TextStore>(&self, store: &S) -> bool
-        ensures { result ≡ list_any (λ t. not (bytes_eq (S.content store.now) t)) self.now }
+    /// The texts.
+    pub(crate) fn as_slice(&self) -> &[String]
+        ensures { texts_of result.now ≡ self.now }
     {
-        any_differs(self.texts.as_slice(), store)
-    }
-
-    /// The first that is another text than this one.
-    pub(crate) fn other(&self, text: &str) -> Option<&str>
-        ensures { FindsText (chars text.now) self.now result }
-    {
-        first_other(self.texts.as_slice(), text)
+        self.texts.as_slice()
     }
 }
 
 /// Whether one is another text than the store has.
-fn any_differs<S: TextStore>(texts: &[String], store: &S) -> bool
+pub(crate) fn any_differs<S: TextStore>(texts: &[String], store: &S) -> bool
     ensures { result ≡ list_any (λ t. not (bytes_eq (S.content store.now) (text_of t))) texts.now }
 {
     texts.iter().any(|text| is_other(text, store))
@@ -92,16 +84,11 @@ fn is_other<S: TextStore>(text: &String, store: &S) -> bool
     !store.equals(text.as_str())
 }
 
-/// The first that is another text than this one.
-fn first_other<'a>(texts: &'a [String], text: &str) -> Option<&'a str>
-    ensures { FindsText (chars text.now) (texts_of texts.now) result }
+/// Whether one is another text than this one.
+pub(crate) fn any_is_not(texts: &[String], text: &str) -> bool
+    ensures { result ≡ list_any (λ t. not (bytes_eq (chars text.now) (text_of t))) texts.now }
 {
-    for other in texts {
-        if is_not(other, text) {
-            return Some(other.as_str());
-        }
-    }
-    None
+    texts.iter().any(|other| is_not(other, text))
 }
 
 /// Whether it is another text than this one.

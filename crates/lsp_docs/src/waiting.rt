@@ -3,16 +3,15 @@
 ghost use Rattle.std.specs.Prelude.{◌≡◌, ◌+◌, [], length, filter, None, OnOk, OnErr, string_bytes};
 ghost use Rattle.std.specs.List.{list_any};
 ghost use Rattle.std.specs.Map.{lookup};
+ghost use Rattle.std.specs.Option.{option_copied};
 ghost use Rattle.std.specs.Str.{chars, bytes_eq};
 ghost use Rattle.lsp_docs.specs.Documents.{versioned, is_after, is_at, is_before};
+ghost use Rattle.lsp_docs.specs.Snapshots.{texts_at};
 ghost use Rattle.lsp_docs.specs.State.{capped, queue_of, keep_in, IsAdded, IsReleased, total, reached, missed_one};
-ghost use Rattle.lsp_docs.specs.Rules.{differs};
-ghost use Rattle.lsp_docs.specs.Others.{FindsOther};
-ghost use Rattle.lsp_docs.specs.Stored.{text_of, queues_in};
+ghost use Rattle.lsp_docs.specs.Stored.{text_of, texts_of, queues_in};
 
 use crate::queue::SnapshotQueue;
 use indexmap::IndexMap;
-use lsp_text::TextStore;
 use std::alloc::{AllocError, Global};
 use std::marker::Model;
 
@@ -49,29 +48,19 @@ impl Waiting {
     pub(crate) fn is_due(&self, uri: &str, version: i32) -> bool
         ensures { result ≡ list_any (is_at version) (queue_of uri.now self.now.queues) }
     {
-        match self.snapshots.get(uri) {
+        match queue_for(&self.snapshots, uri) {
             Some(queue) => queue.is_due(version),
             None => false,
         }
     }
 
-    /// Whether a snapshot of a URI waits for this version that has another text than the store.
-    pub(crate) fn refutes<S: TextStore>(&self, uri: &str, version: i32, store: &S) -> bool
-        ensures { result ≡ list_any (differs (versioned version (S.content store.now))) (queue_of uri.now self.now.queues) }
+    /// The texts of the snapshots of a URI that wait for this version, in the order in which they came.
+    pub(crate) fn texts(&self, uri: &str, version: i32) -> &[String]
+        ensures { texts_of result.now ≡ texts_at version (queue_of uri.now self.now.queues) }
     {
-        match self.snapshots.get(uri) {
-            Some(queue) => queue.any_differs(version, store),
-            None => false,
-        }
-    }
-
-    /// The text of a snapshot of a URI that waits for this version and has another text than this one.
-    pub(crate) fn other(&self, uri: &str, version: i32, text: &str) -> Option<&str>
-        ensures { FindsOther (versioned version (chars text.now)) (queue_of uri.now self.now.queues) result }
-    {
-        match self.snapshots.get(uri) {
-            Some(queue) => queue.other(version, text),
-            None => None,
+        match queue_for(&self.snapshots, uri) {
+            Some(queue) => queue.texts(version),
+            None => &[],
         }
     }
 
@@ -128,6 +117,16 @@ impl Waiting {
     }
 }
 
+/// The snapshots of a URI that wait. Where none waits at all, as is common, the URI is not looked up.
+fn queue_for<'a>(snapshots: &'a SnapshotMap, uri: &str) -> Option<&'a SnapshotQueue>
+    ensures value { option_copied result ≡ lookup (λ key. bytes_eq uri.now (string_bytes key)) snapshots.now.entries }
+{
+    if snapshots.is_empty() {
+        return None;
+    }
+    snapshots.get(uri)
+}
+
 /// Adds a snapshot of a URI to its others.
 fn add_to(
     snapshots: &mut SnapshotMap,
@@ -169,6 +168,9 @@ fn drop_reached(snapshots: &mut SnapshotMap, uri: &str, version: i32) -> u64
     ensures left { queues_in snapshots.new.entries ≡ keep_in uri.now (is_after version) (queues_in snapshots.old.entries) }
     ensures missed { result ≡ capped (length (filter (is_before version) (queue_of uri.now (queues_in snapshots.old.entries)))) }
 {
+    if snapshots.is_empty() {
+        return 0;
+    }
     match snapshots.get_mut(uri) {
         Some(waiting) => waiting.reach(version),
         None => 0,
@@ -180,6 +182,9 @@ fn drop_all(snapshots: &mut SnapshotMap, uri: &str) -> u64
     ensures left { IsReleased uri.now (queues_in snapshots.old.entries) (queues_in snapshots.new.entries) }
     ensures missed { result ≡ capped (length (queue_of uri.now (queues_in snapshots.old.entries))) }
 {
+    if snapshots.is_empty() {
+        return 0;
+    }
     match snapshots.swap_remove(uri) {
         Some(waiting) => waiting.len(),
         None => 0,

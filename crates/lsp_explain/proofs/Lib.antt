@@ -14,3 +14,4 @@ pub mod AllCauses
 pub mod AllTelling
 pub mod AllEnding
 pub mod AllLaws
+pub mod OneExplanation

@@ -7,8 +7,8 @@ use Rattle.lsp_verdict.specs.Report.{report}
 use Rattle.lsp_verdict.specs.Survey.{first_verdict, shown_of}
 use Rattle.lsp_verdict.specs.Verdict.{Verdict, Summary, yes}
 use Rattle.lsp_verdict.specs.declared.completeness.Completeness.{Completeness}
-use Rattle.lsp_explain.specs.AllExplained.{AreAllSaid}
-use Rattle.lsp_explain.specs.Explained.{Explained, explanation}
+use Rattle.lsp_explain.specs.AllExplained.{AreAllSaid, IsAllExplained}
+use Rattle.lsp_explain.specs.Explained.{Explained, explanation, IsExplanation}
 use Rattle.lsp_facts.specs.Fact.{Fact}
 
 -- **An explanation begins with the report of the verdict.**
@@ -34,3 +34,25 @@ abbrev pub FirstIsVerdict : Type 0
 FirstIsVerdict =
     (completeness : Completeness) (limits : Bounds) → IsInRange limits → (log : List ℕ) (found : List Offence) (e : Explained) (explained : List Explained) (bad : Option Verdict) (flaw : List Fact) (s : Summary) (v : Verdict)
     → AreAllSaid completeness limits log found (e ∷ explained) bad flaw s → IsVerdictBy completeness limits log v → v ≡ e.no
+
+-- ---- how many there are
+
+-- **Each log has an explanation**, with the verdict on it.
+abbrev pub SomeExplanation : Type 0
+SomeExplanation = (completeness : Completeness) (limits : Bounds) (log : List ℕ) → (v : Verdict) × (out : List ℕ) × IsExplanation completeness limits log v out
+
+-- **And one only.**
+abbrev pub OneExplanation : Type 0
+OneExplanation =
+    (completeness : Completeness) (limits : Bounds) → IsInRange limits → (log : List ℕ) (v w : Verdict) (out other : List ℕ)
+    → IsExplanation completeness limits log v out → IsExplanation completeness limits log w other → (v ≡ w) × (out ≡ other)
+
+-- **Each log has an explanation of all that is wrong with it.**
+abbrev pub SomeExplanationOfAll : Type 0
+SomeExplanationOfAll = (completeness : Completeness) (limits : Bounds) (log : List ℕ) → (v : Verdict) × (out : List ℕ) × IsAllExplained completeness limits log v out
+
+-- **And one only.**
+abbrev pub OneExplanationOfAll : Type 0
+OneExplanationOfAll =
+    (completeness : Completeness) (limits : Bounds) → IsInRange limits → (log : List ℕ) (v w : Verdict) (out other : List ℕ)
+    → IsAllExplained completeness limits log v out → IsAllExplained completeness limits log w other → (v ≡ w) × (out ≡ other)

@@ -1,21 +1,27 @@
 -- Which event brought what: what is added to the facts on an offence, read off all events before it.
-use Rattle.std.specs.Prelude.{◌≡◌, ℕ, List, [], ◌∷◌, ◌++◌, map, insert, slice_get, nat_lt, Bool, true, false, ◌==◌, if◌then◌else◌, Option, Some, None, option_map, option_and_then, option_to_list}
+use Rattle.std.specs.Prelude.{◌≡◌, ℕ, List, [], ◌∷◌, ◌++◌, map, insert, slice_get, nat_lt, Bool, true, false, ◌==◌, if◌then◌else◌, Option, Some, None, option_map, option_and_then, option_to_list, unwrap_or}
 use Rattle.lsp_docs.specs.Calls.{Call, opens, changes, closes, saves, shows, uri_of}
 use Rattle.lsp_docs.specs.Terms.{Terms}
+use Rattle.lsp_rpc.specs.Act.{Act}
 use Rattle.lsp_rpc.specs.Ident.{Ident}
 use Rattle.lsp_session.specs.Entry.{Entry}
 use Rattle.lsp_session.specs.Handshake.{phase}
+use Rattle.lsp_session.specs.Negotiation.{encoding, sync_kind}
 use Rattle.lsp_session.specs.Requests.{open_requests}
 use Rattle.lsp_session.specs.Sent.{other_side}
+use Rattle.lsp_types.specs.declared.change.SyncKind.TheVariants.{Nothing}
+use Rattle.lsp_types.specs.declared.position.Encoding.TheVariants.{Utf16}
 use Rattle.lsp_types.specs.declared.side.Side.{Side}
 use Rattle.lsp_types.specs.declared.side.Side.TheVariants.{Editor}
-use Rattle.lsp_verdict.specs.Event.{Event, message, fault, snapshot}
-use Rattle.lsp_verdict.specs.Offences.{is_within, said_at}
+use Rattle.lsp_verdict.specs.Calls.{call_of, calls}
+use Rattle.lsp_verdict.specs.Event.{Event, message, fault, snapshot, sent_in}
+use Rattle.lsp_verdict.specs.Offences.{is_within, kept_of, said_at}
 use Rattle.lsp_notes.specs.Asking.{Numbered, answered, asked, numbered, sents, since}
 use Rattle.lsp_notes.specs.Marking.{Step, agreed, brought, number_next, steps, waiting_for}
 use Rattle.lsp_notes.specs.declared.mark.Shown.{Shown}
 use Rattle.lsp_facts.specs.Fact.{Fact, holds, waits, waits_since, brought_by, shown_by, agreed_by, answered_by, asked_by, led_by, in_phase}
 use Rattle.lsp_facts.specs.MessageFacts.{id_in}
+use Rattle.lsp_facts.specs.Refuting.{refuting}
 
 -- a fact on an event, where there is one
 abbrev pub number_facts : (ℕ → Fact) → Option ℕ → List Fact
@@ -36,13 +42,13 @@ abbrev pub agreed_facts : Option Shown → List Fact
 agreed_facts None = []
 agreed_facts (Some shown) = agreed_by shown.event shown.version ∷ []
 
--- the snapshots whose text a call is compared with, by their events: those that wait for its version, or it is one itself, by this event
-abbrev pub compared_with : List Step → ℕ → Call → List ℕ
-compared_with done n (opens uri number text) = waiting_for number done
-compared_with done n (changes enc kind uri number edits) = waiting_for number done
-compared_with done n (closes uri) = []
-compared_with done n (saves uri text) = []
-compared_with done n (shows uri number text) = n ∷ []
+-- the snapshots that differ from the text of a call behind these, by their events: of those that wait for its version the ones with another text, or it is one itself, by this event
+abbrev pub differing : Terms → List Call → List Step → ℕ → Call → List ℕ
+differing terms before done n (opens uri number text) = refuting terms before (opens uri number text) (waiting_for number done)
+differing terms before done n (changes enc kind uri number edits) = refuting terms before (changes enc kind uri number edits) (waiting_for number done)
+differing terms before done n (closes uri) = []
+differing terms before done n (saves uri text) = []
+differing terms before done n (shows uri number text) = n ∷ []
 
 -- 702: these snapshots; and with 608 the one that was found equal last
 abbrev pub texts_traced : Option Shown → List ℕ → ℕ → List Fact
@@ -53,11 +59,15 @@ texts_traced equal snapshots rule =
 abbrev pub document_traced : List Step → List ℕ → ℕ → List Fact → List Fact
 document_traced done snapshots rule plain = with_brought (brought done) plain ++ texts_traced (agreed done) snapshots rule
 
+-- what an act says of a document behind these events, under what was agreed
+abbrev pub act_call : Terms → List Event → Act → Option Call
+act_call terms before act = call_of (unwrap_or (encoding (sent_in (kept_of terms before))) Utf16) (unwrap_or (sync_kind (sent_in (kept_of terms before))) Nothing) act
+
 -- the facts on a call that breaks this rule behind these events
 abbrev pub call_traced : Terms → List Event → ℕ → Option Call → List Fact → List Fact
 call_traced terms before rule None plain = plain
 call_traced terms before rule (Some call) plain =
-    document_traced (steps terms (uri_of call) before) (compared_with (steps terms (uri_of call) before) (number_next before) call) rule plain
+    document_traced (steps terms (uri_of call) before) (differing terms (calls (kept_of terms before)) (steps terms (uri_of call) before) (number_next before) call) rule plain
 
 -- ---- messages
 

@@ -1,5 +1,5 @@
 //! Laws of what is explained.
-ghost use Rattle.lsp_explain.specs.ExplainLaws.{BeginsWithReport, CausesAreExplained, FirstIsVerdict, YesIsReport};
+ghost use Rattle.lsp_explain.specs.ExplainLaws.{BeginsWithReport, CausesAreExplained, FirstIsVerdict, OneExplanation, OneExplanationOfAll, SomeExplanation, SomeExplanationOfAll, YesIsReport};
 
 /// An explanation begins with the report of the verdict.
 pub fn explanation_begins_with_report()
@@ -19,4 +19,24 @@ pub fn all_explained_are_causes()
 /// The first of them is the verdict on the log.
 pub fn first_explained_is_verdict()
     ensures { FirstIsVerdict }
+{}
+
+/// Each log has an explanation, with the verdict on it.
+pub fn some_explanation()
+    ensures { SomeExplanation }
+{}
+
+/// And one only.
+pub fn one_explanation()
+    ensures { OneExplanation }
+{}
+
+/// Each log has an explanation of all that is wrong with it.
+pub fn some_explanation_of_all()
+    ensures { SomeExplanationOfAll }
+{}
+
+/// And one only.
+pub fn one_explanation_of_all()
+    ensures { OneExplanationOfAll }
 {}

@@ -1,28 +1,27 @@
 //! Which event brought what: facts on an offence that name earlier events.
 ghost use Rattle.std.specs.Prelude.{◌≡◌, ◌≤◌, ◌++◌, ℕ, Some, chars, nat_lt, if◌then◌else◌, ◌∷◌, [], List, true, IfOk, OnOk, map, slice_get, vec_len, option_and_then};
-ghost use Rattle.lsp_docs.specs.Calls.{shows};
+ghost use Rattle.lsp_docs.specs.Calls.{Call, shows};
 ghost use Rattle.lsp_docs.specs.Terms.{Terms};
 ghost use Rattle.lsp_rpc.specs.View.{act_view, message_view};
 ghost use Rattle.lsp_session.specs.Entry.{request_view};
 ghost use Rattle.lsp_session.specs.Sent.{other_side};
-ghost use Rattle.lsp_types.specs.declared.change.SyncKind.{SyncKind as ASyncKind};
-ghost use Rattle.lsp_types.specs.declared.position.Encoding.{Encoding as AnEncoding};
-ghost use Rattle.lsp_verdict.specs.Calls.{call_of};
+ghost use Rattle.lsp_verdict.specs.Calls.{calls};
 ghost use Rattle.lsp_events.specs.Standing.{RefusesMessage};
 ghost use Rattle.lsp_verdict.specs.Event.{Event, message, snapshot};
 ghost use Rattle.lsp_verdict.specs.Offences.{kept_of, rule_at};
 ghost use Rattle.lsp_notes.specs.Asking.{answered, asked, numbered};
-ghost use Rattle.lsp_notes.specs.Marking.{number_next, steps};
+ghost use Rattle.lsp_notes.specs.Marking.{number_next, steps, waiting_for};
 ghost use Rattle.lsp_notes.specs.Marks.{AreMarks};
 ghost use Rattle.lsp_notes.specs.SessionNoting.{AreNotes};
 ghost use Rattle.lsp_facts.specs.EventFacts.{AreCallFacts, AreMessageFacts};
 ghost use Rattle.lsp_facts.specs.Fact.{answered_by, asked_by, fact_view, facts_view, led_by, shown_by};
 ghost use Rattle.lsp_facts.specs.MessageFacts.{id_in};
+ghost use Rattle.lsp_facts.specs.Refuting.{refuting};
 ghost use Rattle.lsp_explain.specs.Standing.{StandsAfter, terms_in};
 ghost use Rattle.lsp_explain.specs.Traced as spec;
 
-use lsp_facts::{Fact, id_in, message_facts, shown_facts};
-use lsp_rpc::{Act, Memory, Message, Side, Spoken, copy_id};
+use lsp_facts::{Fact, id_in, message_facts, refuting, shown_facts};
+use lsp_rpc::{Act, Encoding, Memory, Message, Side, Spoken, copy_id};
 use lsp_session::{OpenRequest, Pending};
 use lsp_survey::{Marks, SessionNotes, Shown, SurveyReader};
 use std::alloc::Global;
@@ -52,8 +51,7 @@ pub(crate) fn message_traced(
 {
     let session = events.session();
     let mut facts = message_facts(alloc, session, events.docs(), side, spoken, rule)?;
-    let said = events.session_notes();
-    trace_spoken(&mut facts, events.marks(), said, side, spoken, rule)?;
+    trace_spoken(alloc, &mut facts, events, side, spoken, rule)?;
     Ok(facts)
 }
 
@@ -79,46 +77,79 @@ pub(crate) fn shown_traced(
     Ok(facts)
 }
 
-/// Adds to the facts on a message of a side the events that brought it.
+/// Adds to the facts on a message of a side that breaks this rule the events that brought it. The reader
+/// stands for the events before it.
 fn trace_spoken(
+    alloc: Global,
     facts: &mut Vec<Fact>,
-    marks: &Marks,
-    said: &SessionNotes,
+    events: &SurveyReader,
     side: Side,
     spoken: &Spoken,
     rule: u16,
 ) -> Result<(), Memory>
-    ensures { OnOk result ((enc : AnEncoding) (kind : ASyncKind) (terms : Terms) (before : List Event)
-        → AreMarks terms marks.now.map.entries before → AreNotes terms said.now before
-        → facts_view facts.new.items ≡ (if nat_lt rule 601 then facts_view facts.old.items ++ spec.session_trace rule (numbered terms before) side (id_in (message_view spoken.now.message))
-        else spec.call_traced terms before rule (call_of enc kind (act_view spoken.now.act)) (facts_view facts.old.items))) }
+    ensures { OnOk result ((before : List Event) → StandsAfter events.now before
+        → facts_view facts.new.items ≡ (if nat_lt rule 601
+        then facts_view facts.old.items ++ spec.session_trace rule (numbered (terms_in events.now) before) side (id_in (message_view spoken.now.message))
+        else spec.call_traced (terms_in events.now) before rule (spec.act_call (terms_in events.now) before (act_view spoken.now.act)) (facts_view facts.old.items))) }
 {
     if rule < FIRST_ON_DOCUMENTS {
+        let said = events.session_notes();
         return trace_message(facts, said, side, &spoken.message, rule);
     }
-    trace_act(facts, marks, &spoken.act, rule)
+    trace_act(alloc, facts, events, &spoken.act, rule)
 }
 
 /// Adds to the facts on an act that breaks this rule on documents the event that brought the held
-/// version; under 702 the snapshots that wait for the version in it; under 608 and 702 the snapshot that
-/// was found equal last.
-fn trace_act(facts: &mut Vec<Fact>, marks: &Marks, act: &Act, rule: u16) -> Result<(), Memory>
-    ensures { OnOk result ((enc : AnEncoding) (kind : ASyncKind) (terms : Terms) (before : List Event) → AreMarks terms marks.now.map.entries before
-        → facts_view facts.new.items ≡ spec.call_traced terms before rule (call_of enc kind (act_view act.now)) (facts_view facts.old.items)) }
+/// version; under 702 the snapshots that wait for the version in it and have another text; under 608 and
+/// 702 the snapshot that was found equal last.
+fn trace_act(
+    alloc: Global,
+    facts: &mut Vec<Fact>,
+    events: &SurveyReader,
+    act: &Act,
+    rule: u16,
+) -> Result<(), Memory>
+    ensures { OnOk result ((before : List Event) → StandsAfter events.now before
+        → facts_view facts.new.items ≡ spec.call_traced (terms_in events.now) before rule (spec.act_call (terms_in events.now) before (act_view act.now))
+        (facts_view facts.old.items)) }
 {
     match act {
         Act::DidOpen { uri, version, .. } => {
-            let snapshots = marks.waiting(uri.as_str(), *version);
-            trace_document(facts, marks, uri.as_str(), snapshots, rule)
+            trace_text(alloc, facts, events, act, uri.as_str(), *version, rule)
         }
         Act::DidChange { uri, version, .. } => {
-            let snapshots = marks.waiting(uri.as_str(), *version);
-            trace_document(facts, marks, uri.as_str(), snapshots, rule)
+            trace_text(alloc, facts, events, act, uri.as_str(), *version, rule)
         }
-        Act::DidClose { uri } => trace_document(facts, marks, uri.as_str(), &[], rule),
-        Act::DidSave { uri, .. } => trace_document(facts, marks, uri.as_str(), &[], rule),
+        Act::DidClose { uri } => trace_document(facts, events.marks(), uri.as_str(), &[], rule),
+        Act::DidSave { uri, .. } => trace_document(facts, events.marks(), uri.as_str(), &[], rule),
         _ => Ok(()),
     }
+}
+
+/// The same of an act that brings this document to a version.
+fn trace_text(
+    alloc: Global,
+    facts: &mut Vec<Fact>,
+    events: &SurveyReader,
+    act: &Act,
+    uri: &str,
+    version: i32,
+    rule: u16,
+) -> Result<(), Memory>
+    ensures { OnOk result ((before : List Event) (call : Call) → StandsAfter events.now before
+        → spec.act_call (terms_in events.now) before (act_view act.now) ≡ Some call
+        → facts_view facts.new.items ≡ spec.document_traced (steps (terms_in events.now) uri.now before)
+        (refuting (terms_in events.now) (calls (kept_of (terms_in events.now) before)) call (waiting_for version (steps (terms_in events.now) uri.now before)))
+        rule (facts_view facts.old.items)) }
+{
+    let marks = events.marks();
+    if rule != SNAPSHOT_DIFFERS {
+        return trace_document(facts, marks, uri, &[], rule);
+    }
+    let encoding = events.session().encoding().unwrap_or(Encoding::Utf16);
+    let waiting = marks.waiting(uri, version);
+    let snapshots = refuting(alloc, events.docs(), encoding, act, waiting)?;
+    trace_document(facts, marks, uri, snapshots.as_slice(), rule)
 }
 
 /// The same of a snapshot, the event of this number, which is named itself under 702.

@@ -7,6 +7,7 @@ use Rattle.std.specs.Ordering.{int_eq}
 use Rattle.std.specs.Str.{bytes_eq}
 use Rattle.std.proofs.lemmas.Slice.Eq.{bytes_eq-Decides}
 use Rattle.std.proofs.lemmas.List.Folds.{list_any-append}
+use Rattle.std.proofs.lemmas.Option.{none-some}
 use Rattle.std.proofs.lemmas.Bool.{cases_Bool, and_parts}
 use Rattle.std.proofs.Math.Bool.{or-false}
 use Rattle.lsp_types.specs.declared.position.Encoding.{Encoding}
@@ -17,11 +18,14 @@ use Rattle.lsp_docs.specs.Terms.{Terms}
 use Rattle.lsp_docs.specs.Calls.{Call}
 use Rattle.lsp_docs.specs.Documents.{Version, versioned, is_after}
 use Rattle.lsp_docs.specs.Rules.{differs, text_rule, fits_kind, change_rule, show_rule, call_rule}
-use Rattle.lsp_docs.specs.Others.{is_other, differs_from, other_than}
+use Rattle.lsp_docs.specs.Others.{differs_from, other_than}
+use Rattle.lsp_docs.specs.Snapshots.{texts_at}
+use Rattle.lsp_docs.proofs.SameVersions.{differs-texts}
 use Rattle.lsp_facts.specs.Fact.{Fact}
 use Rattle.lsp_facts.specs.DocumentFacts.{IsRefused, IsRefuted, AreApart, AreOfChange, AreOfSnapshot, AreDocumentFacts}
 use Rattle.lsp_facts.specs.Fact.{recorded_line}
 use Rattle.lsp_facts.specs.Making.{IsRejected, IsMade}
+use Rattle.lsp_facts.specs.Refuting.{first_other, is_other}
 use Rattle.lsp_facts.proofs.MadeChanges.{fails_there, makes_all}
 
 same_number : (a b : ℕ) → (let o : Option ℕ = Some a in o) ≡ Some b → a ≡ b
@@ -61,13 +65,18 @@ taken_apart s (Some v) t h e = λ same.
 pub other_apart : (s : Version) (ks : List Version) (h : Option Version) (t : Text) → other_than s ks h ≡ Some t → t ≢ s.text
 other_apart s ks h t e = taken_apart s (find (differs_from s) (ks ++ option_to_list h)) t (λ v k. find_passes (differs_from s) (ks ++ option_to_list h) v k) e
 
--- a waiting snapshot that has another text
-pub waiting_apart : (v : Version) (t : Text) (ws : List Version) → list_any (is_other v t) ws ≡ true → v.text ≢ t
-waiting_apart v t ws h = λ e.
-    let found = find_some (is_other v t) ws h in
-    let s = found.0 in
-    let is = and_parts (differs v s) (bytes_eq s.text t) (find_passes (is_other v t) ws s found.1) in
-    differ_apart v s is.0 (e ∙ sym ((bytes_eq-Decides s.text t).0 is.1))
+-- a text that is another one
+pub waiting_apart : (t u : Text) (us : List Text) → first_other t us ≡ Some u → t ≢ u
+waiting_apart t u us h = λ e.
+    let other : not (bytes_eq t u) ≡ true = find_passes (is_other t) us u h in
+    true≢false (sym other ∙ ap not ((bytes_eq-Decides t u).1 e))
+
+-- where a snapshot differs, a text is another one
+pub waiting_some : (v : Version) (ws : List Version) → list_any (differs v) ws ≡ true → (u : Text) × (first_other v.text (texts_at v.number ws) ≡ Some u)
+waiting_some v ws any = find_some (is_other v.text) (texts_at v.number ws) (sym (differs-texts v ws) ∙ any)
+
+pub waiting_found : (v : Version) (ws : List Version) → list_any (differs v) ws ≡ true → None ≡ first_other v.text (texts_at v.number ws) → ⊥
+waiting_found v ws any none = let found = waiting_some v ws any in none-some found.0 (none ∙ found.1)
 
 -- ---- snapshots
 
@@ -122,7 +131,7 @@ pub text_breaks : (terms : Terms) (ws : List Version) (enc : Encoding) (kind : S
 text_breaks terms ws enc kind number cs v rule no603 no604 h =
     later_rule (not (int_lt v.number number)) (not (fits_kind kind cs)) (text_rule ws number (applied terms.limit enc v.text cs)) rule no603 no604 h
 
-version_breaks : (b : Bool) (rule : ℕ) → (if b then Some 702 else None) ≡ Some rule → (rule ≡ 702) × (b ≡ true)
+pub version_breaks : (b : Bool) (rule : ℕ) → (if b then Some 702 else None) ≡ Some rule → (rule ≡ 702) × (b ≡ true)
 version_breaks true rule h = (sym (same_number 702 rule h), refl)
 version_breaks false rule h = absurd (cc)
 

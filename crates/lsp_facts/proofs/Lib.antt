@@ -1,6 +1,9 @@
 pub mod Differing
 pub mod MadeChanges
 pub mod Refusals
+pub mod OtherTexts
 pub mod DocumentRules
 pub mod Refused
+pub mod SomeFacts
+pub mod OneFacts
 pub mod Worked

@@ -1,6 +1,6 @@
 -- The facts on a call that breaks a rule on documents: 601 to 608, 701, 702.
 use Rattle.std.specs.Prelude.{◌≡◌, ◌⊎◌, ◌+◌, ℕ, ℤ, List, [], ◌∷◌, ◌++◌, length, take, map, slice_get, Bool, true, false, is_some, is_none, if◌then◌else◌, Option, Some, None, option_map, option_to_list, Result, Ok, Err}
-use Rattle.std.specs.List.{list_any, prefix_len}
+use Rattle.std.specs.List.{prefix_len}
 use Rattle.lsp_types.specs.declared.position.Encoding.{Encoding}
 use Rattle.lsp_types.specs.declared.position.Position.{Position}
 use Rattle.lsp_types.specs.declared.position.Span.{Span}
@@ -17,9 +17,10 @@ use Rattle.lsp_docs.specs.Terms.{Terms}
 use Rattle.lsp_docs.specs.Calls.{Call, opens, changes, closes, saves, shows, uri_of}
 use Rattle.lsp_docs.specs.Documents.{Version, versioned, held}
 use Rattle.lsp_docs.specs.Kept.{kept}
-use Rattle.lsp_docs.specs.Snapshots.{waiting, versions_of}
-use Rattle.lsp_docs.specs.Others.{is_other, other_than}
+use Rattle.lsp_docs.specs.Snapshots.{texts_at, waiting, versions_of}
+use Rattle.lsp_docs.specs.Others.{other_than}
 use Rattle.lsp_facts.specs.Fact.{Fact, of_uri, holds, sends, has_changes, has_kind, fails, line_has, falls_inside, would_have, may_have, differs_at, held_line, recorded_line, saved_line, keeps}
+use Rattle.lsp_facts.specs.Refuting.{first_other}
 
 -- ---- what is said under each rule
 
@@ -133,10 +134,10 @@ difference_facts enc t other line n = differs_at (position_at enc t n) ∷ held_
 abbrev pub AreApart : Encoding → Text → Text → (Text → Fact) → List Fact → Type 0
 AreApart enc t other line facts = DifferFirst t other (λ n. facts ≡ difference_facts enc t other line n)
 
--- a snapshot that waits for this version has another text; of several it is any one
+-- a snapshot that waits for this version has another text; of several, the first that came
 pub record IsRefuted (enc : Encoding) (waits : List Version) (v : Version) (facts : List Fact) : Type 0 where
   pub other : Text
-  pub waiting : list_any (is_other v other) waits ≡ true
+  pub waiting : first_other v.text (texts_at v.number waits) ≡ Some other
   pub apart : AreApart enc v.text other recorded_line facts
 
 -- the text that is held or kept of the snapshot's version is another

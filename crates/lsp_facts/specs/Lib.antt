@@ -2,6 +2,7 @@ pub mod Fact
 pub mod Lines
 pub mod FlawFacts
 pub mod MessageFacts
+pub mod Refuting
 pub mod DocumentFacts
 pub mod EventFacts
 pub mod Making

@@ -20,6 +20,7 @@ use crate::fact::Fact;
 use crate::fact_list::FactList;
 use crate::making::make;
 use crate::refused_change::{misfit, refused};
+use crate::waiting::first_other;
 use lsp_docs::Docs;
 use lsp_rpc::Act;
 use lsp_text::TextStore;
@@ -187,7 +188,7 @@ fn refuted<S: TextStore>(
         → list_any (differs (versioned version (chars text.now))) (versions_of uri.now (waiting docs.now.terms calls)) ≡ true
         → IsRefuted encoding (versions_of uri.now (waiting docs.now.terms calls)) (versioned version (chars text.now)) facts) }
 {
-    let Some(other) = docs.waiting_other(uri, version, text) else {
+    let Some(other) = first_other(docs.waiting_texts(uri, version), text) else {
         return Ok(FactList::new(alloc));
     };
     let facts = difference(alloc, encoding, text, other, Against::Recorded)?;

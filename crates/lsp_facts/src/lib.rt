@@ -5,7 +5,7 @@
 //! [`shown_facts`]: by their rules [`session_facts`], or [`act_facts`] and [`snapshot_facts`], which say what
 //! a call on a document lacks. [`content_facts`] are on a content that is no message, [`frame_facts`] and
 //! [`unfinished_facts`] on a stream whose frames have a fault or an end inside one, [`flaw_facts`] on a log
-//! that has a fault. [`push_facts`] writes the lines of facts, and what stands beside it the line that names
+//! that has a fault. [`refuting`] finds the snapshots whose texts refute a call. [`push_facts`] writes the lines of facts, and what stands beside it the line that names
 //! an event.
 #![tactic(auto)]
 
@@ -19,6 +19,7 @@ mod making;
 mod messages;
 mod offending;
 mod refused_change;
+mod waiting;
 
 pub use documents::{act_facts, snapshot_facts};
 pub use fact::Fact;
@@ -28,3 +29,4 @@ pub use lines::{
 };
 pub use messages::{content_facts, id_in, session_facts};
 pub use offending::{message_facts, shown_facts};
+pub use waiting::refuting;

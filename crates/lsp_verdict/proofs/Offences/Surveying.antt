@@ -197,7 +197,7 @@ one_note raw m n p q =
     ap (λ (e : Event). let r : Noted = record { event = e; asks = m.asks } in r) (one_read raw m.event n.event p.0 q.0)
     ∙ ap (λ (b : Bool). let r : Noted = record { event = n.event; asks = b } in r) (one_asks raw m.asks n.asks p.1 q.1)
 
-one_notes : (raws : List Raw) (ms ns : List Noted) → AllZip IsNoted raws ms → AllZip IsNoted raws ns → ms ≡ ns
+pub one_notes : (raws : List Raw) (ms ns : List Noted) → AllZip IsNoted raws ms → AllZip IsNoted raws ns → ms ≡ ns
 one_notes [] [] [] p q = refl
 one_notes [] [] (n ∷ ns) p q = absurd q
 one_notes [] (m ∷ ms) ns p q = absurd p

@@ -21,5 +21,6 @@ returns-clause-ok c =
     let w = c.push.new.self in
     let v = versioned c.args.version (text_of c.args.text) in
     let more = simp to_z-of_z at c.in_ok-push.ensures.ok in
+    let order = simp to_z-of_z at c.in_ok-push.ensures.order in
     subst (λ es. IsAdded c.args.uri.now v (queues_in c.args.snapshots.now.entries) (queues_in es)) (sym (c.get_mut.follows.holds w).0)
-    (added-there (λ x. x) c.args.uri.now v c.in-Some.waiting.now w more _ (sym c.in-Some.ensures.value))
+    (added-there (λ x. x) c.args.uri.now v c.in-Some.waiting.now w more order _ (sym c.in-Some.ensures.value))

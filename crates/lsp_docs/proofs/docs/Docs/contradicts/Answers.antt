@@ -1,12 +1,16 @@
-use Rattle.std.proofs.Common.{ap, ◌∙◌, w32}
+use Rattle.std.proofs.Common.{Bool, sym, ap, ◌∙◌, w32}
+use Rattle.std.specs.Prelude.{not}
 use Rattle.std.specs.List.{list_any}
 use Rattle.std.proofs.lemmas.Int.{to_z-of_z}
-use Rattle.std.specs.Str.{chars}
+use Rattle.std.specs.Str.{bytes_eq, chars}
 use mir.Val.{SFits}
 use Rattle.lsp_docs.specs.Documents.{versioned}
 use Rattle.lsp_docs.specs.Rules.{differs}
 use Rattle.lsp_docs.specs.State.{queue_of}
-use Rattle.lsp_docs.proofs.Others.{finds-any}
+use Rattle.lsp_docs.specs.Stored.{text_of}
+use Rattle.lsp_docs.specs.Texts.{Text}
+use Rattle.lsp_docs.proofs.SameVersions.{differs-texts}
+use Rattle.lsp_docs.proofs.Words.{any-map}
 use Rattle.lsp_docs.proofs.docs.Docs.contradicts.Goals as goal
 
 pub returns : goal.returns
@@ -14,7 +18,10 @@ returns g c =
     let fits : SFits w32 c.args.version = c.ranges.version in
     let v = versioned c.args.version (chars c.args.text.now) in
     let uri = c.args.uri.now in
-    let found = simp to_z-of_z at c.other.ensures in
-    c.is_some.ensures
-    ∙ (finds-any v (queue_of uri c.self.inside.waiting.queues) c.other.result found
-    ∙ ap (λ s. list_any (differs v) (queue_of uri s.waits.queues)) c.self.view_is)
+    let test : Text → Bool = λ t. not (bytes_eq (chars c.args.text.now) t) in
+    let told = simp to_z-of_z at c.texts.ensures in
+    c.any_is_not.ensures
+    ∙ (sym (any-map test text_of c.texts.result.now)
+    ∙ (ap (list_any test) told
+    ∙ (sym (differs-texts v (queue_of uri c.self.inside.waiting.queues))
+    ∙ ap (λ s. list_any (differs v) (queue_of uri s.waits.queues)) c.self.view_is)))
