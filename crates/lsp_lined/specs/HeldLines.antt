@@ -1,15 +1,12 @@
 -- What always holds of kept lines.
-use Rattle.std.specs.Prelude.{◌≡◌, ◌<◌, ◌^◌, length}
-use Rattle.lsp_types.specs.declared.position.Encoding.TheVariants.{Utf8}
-use Rattle.lsp_text.specs.Lines.{lines_of, text_of}
-use Rattle.lsp_text.specs.Places.{units}
-use Rattle.lsp_lines.specs.Runs.{joined_runs}
+use Rattle.std.specs.Prelude.{◌≡◌, ◌<◌, ◌-◌, ◌^◌, length}
+use Rattle.lsp_lined.specs.Sums.{sums_of}
+use Rattle.lsp_lined.specs.Parts.{joined, AreParts}
 use Rattle.lsp_lined.specs.declared.lined.lines.Lines.TheInside.{Inside}
 
--- the chunks are the lines of their text, and these and its bytes are counted
+-- they have a chunk, the chunks are parts of the text, and its sums are counted
 pub record AreHeld (a : Inside) : Type 0 where
-  pub lines : lines_of (text_of (joined_runs a.chunks.items)) ≡ joined_runs a.chunks.items
-  pub count_is : a.count ≡ length (joined_runs a.chunks.items)
-  pub countable : a.count < 2 ^ 64
-  pub bytes_are : a.bytes ≡ units Utf8 (text_of (joined_runs a.chunks.items))
-  pub fits : a.bytes < 2 ^ 64
+  pub some : 0 < length a.chunks.items
+  pub parts : AreParts a.chunks.items
+  pub sums : a.sums ≡ sums_of (joined a.chunks.items)
+  pub fits : length (joined a.chunks.items) < 2 ^ 64 - 1

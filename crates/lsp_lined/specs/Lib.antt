@@ -1,5 +1,9 @@
-pub mod HeldLines
-pub mod Rewriting
-pub mod Steps
-pub mod Spots
 pub mod Counted
+pub mod Steps
+pub mod Ends
+pub mod Sums
+pub mod Parts
+pub mod Blocks
+pub mod Chunks
+pub mod HeldLines
+pub mod LentLines

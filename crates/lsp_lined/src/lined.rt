@@ -1,23 +1,24 @@
-//! A text as its lines, each with its counts.
+//! A text store that keeps a text in blocks with their sums.
 
 pub(crate) mod lines;
 
-ghost use Rattle.std.specs.Prelude.{◌≡◌, ◌+◌, ◌*◌, ◌↔◌, length, IfOk, OnOk, OnErr, IfErr, IsTrue, Ok};
+ghost use Rattle.std.specs.Prelude.{◌≡◌, ◌+◌, ◌*◌, ◌↔◌, length, IfOk, OnOk, OnErr, IfErr, IsTrue, MatchOption, None, Ok};
 ghost use Rattle.std.specs.Str.{chars};
 ghost use Rattle.std.specs.String.{string_bytes};
 ghost use Rattle.lsp_text.specs.Edits.{replaced, limited, IsFaultOf};
+ghost use Rattle.lsp_text.specs.Places.{place_of};
 ghost use Rattle.lsp_lined.specs.Steps.{RisesWithin, touched};
+ghost use Rattle.lsp_text.specs.Offsets.{IsTextOffset};
 
 use crate::edit::edit;
-use crate::spot::Spot;
 use lines::{Lines, Steps};
 use lsp_text::{INSIDE_CHARACTER, OVER_LIMIT, Place, TextFault, TextStore};
 use lsp_types::{Encoding, Memory, Position, Span};
 use std::alloc::Global;
 use std::marker::Model;
 
-/// A text as its lines, each with the counts of its characters and units, and with a count of the bytes that
-/// its edits looked at and inserted. An edit looks at no lines but those of its span and the one before.
+/// A text in blocks with their sums, and a count of the bytes that its edits looked at and inserted. An edit is
+/// lent no lines but those of its span.
 #[derive(Drop)]
 pub struct Lined {
     lines: Lines,
@@ -25,11 +26,12 @@ pub struct Lined {
 }
 
 impl Model for Lined {
+    ghost use Rattle.std.specs.Str.{chars};
     ghost use Rattle.lsp_lined.specs.Counted.{Counted};
 
     ghost Value = { Counted };
 
-    ghost view = { λ a. record { content = a.lines; steps = a.steps } };
+    ghost view = { λ a. record { content = chars a.lines; steps = a.steps } };
 }
 
 impl Lined {
@@ -56,12 +58,10 @@ impl TextStore for Lined {
     }
 
     fn resolve(&self, encoding: Encoding, position: Position) -> Result<Place, TextFault> {
-        let number = self.lines.number_of(position);
-        let line = self.lines.peek(number);
-        match Spot::in_line(&self.lines, number, line.again(), encoding, position) {
+        match offset_of(&self.lines, encoding, position) {
             None => Err(TextFault::Rule(INSIDE_CHARACTER)),
-            Some(spot) => Ok(Place {
-                chars: self.lines.chars_before(number) + line.chars_before(spot.offset),
+            Some(offset) => Ok(Place {
+                chars: self.lines.chars_before(offset),
             }),
         }
     }
@@ -117,7 +117,7 @@ impl TextStore for Lined {
     }
 
     fn line_count(&self) -> u64 {
-        self.lines.len() as u64
+        self.lines.count()
     }
 
     fn copy(&self, alloc: Global) -> Result<Lined, Memory>
@@ -129,4 +129,16 @@ impl TextStore for Lined {
             steps: Steps::none(),
         })
     }
+}
+
+/// The bytes before a position, or `None` where it lies inside a character.
+fn offset_of(lines: &Lines, encoding: Encoding, position: Position) -> Option<usize>
+    ensures { MatchOption result (place_of encoding (chars lines.now) position ≡ None) (IsTextOffset encoding lines.now position) }
+{
+    let number = lines.number_of(position);
+    let line = lines.peek(number);
+    if number < position.line as u64 {
+        return Some(lines.byte_len() as usize);
+    }
+    line.offset_of(encoding, position.column)
 }

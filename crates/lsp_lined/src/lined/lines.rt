@@ -1,39 +1,42 @@
 //! The lines of a text, and the count of the bytes lent from them.
 
-ghost use Rattle.std.specs.Prelude.{◌≡◌, ◌+◌, ◌<◌, ◌≤◌, ◌^◌, length, IfOk, OnOk, OnErr, IsTrue, ◌↔◌, take, slice_range};
-ghost use Rattle.std.specs.Str.{chars};
+ghost use Rattle.std.specs.Prelude.{◌≡◌, ◌+◌, ◌<◌, ◌≤◌, ◌-◌, ◌^◌, ◌↔◌, None, length, take, drop, MatchOption, IfOk, OnOk, OnErr, IsTrue};
+ghost use Rattle.std.specs.List.{replace_range};
+ghost use Rattle.std.specs.Str.{chars, IsUtf8, IsCharBoundary};
 ghost use Rattle.std.specs.String.{string_bytes};
-ghost use Rattle.lsp_text.specs.Lines.{lines_of, text_of, line_at};
-ghost use Rattle.lsp_text.specs.Places.{units};
+ghost use Rattle.lsp_text.specs.Lines.{lines_of};
+ghost use Rattle.lsp_text.specs.Offsets.{IsAtLine};
 ghost use Rattle.lsp_lined.specs.Steps.{raised, line_bytes, line_number};
-ghost use Rattle.lsp_lined.specs.Rewriting.{rewritten, line_after, StandsApart, StaysInLine};
+ghost use Rattle.lsp_lined.specs.Ends.{IsNear};
+ghost use Rattle.lsp_lined.specs.Parts.{CanReplace};
+ghost use Rattle.lsp_lined.specs.LentLines.{IsLentLine, IsHeldLine, IsEndOf, IsOffsetIn, NoOffsetIn};
 
-use lsp_lines::{
-    Chunk, LentLine, apart, between, bytes_between, chars_of, chunks_of, count_after, count_in,
-    cut_into, joined, locate, put, share_all, spell,
+use crate::chunk::{Chunk, chunks_in, replace_in_chunks};
+use crate::part::{
+    Part, line_end_in, offset_in, push_all, share_into, strip_all, sums_in, units_before_in,
 };
+use crate::sums::Sums;
+use lsp_text::offset_in_line;
 use lsp_types::{Encoding, Position};
 use std::alloc::{AllocError, Global};
 use std::marker::Model;
 
-/// The lines of a text, in chunks of runs, and how many lines and bytes there are.
+/// A text in chunks of blocks, and its sums.
 pub(crate) struct Lines {
     alloc: Global,
     chunks: Vec<Chunk>,
-    count: usize,
-    bytes: u64,
+    sums: Sums,
 }
 
 impl Model for Lines {
-    ghost use Rattle.std.specs.Prelude.{◌≡◌, List, ℕ};
+    ghost use Rattle.std.specs.Prelude.{List, ℕ};
+    ghost use Rattle.lsp_lined.specs.Parts.{joined};
 
     ghost Value = { List ℕ };
 
     ghost use Rattle.lsp_lined.specs.HeldLines.{AreHeld};
-    ghost use Rattle.lsp_text.specs.Lines.{text_of};
-    ghost use Rattle.lsp_lines.specs.Runs.{joined_runs};
 
-    ghost view = { λ a. text_of (joined_runs a.chunks.items) };
+    ghost view = { λ a. joined a.chunks.items };
 
     ghost invariant = { AreHeld };
 }
@@ -43,8 +46,7 @@ impl Drop for Lines {
         let Lines {
             alloc: _,
             chunks: _,
-            count: _,
-            bytes: _,
+            sums: _,
         } = self;
     }
 }
@@ -52,19 +54,14 @@ impl Drop for Lines {
 impl Lines {
     /// The lines of a text.
     pub(super) fn of(alloc: Global, text: &str) -> Result<Lines, AllocError>
-        ensures { IfOk result (λ lines. lines ≡ chars text.now) }
+        ensures { IfOk result (λ lines. lines ≡ text.now) }
     {
-        let mut runs = Vec::new(alloc);
-        cut_into(alloc, &mut runs, text, false)?;
-        let chunks = chunks_of(alloc, runs)?;
-        let Some(count) = count_in(&chunks) else {
-            return Err(AllocError);
-        };
+        let chunks = chunks_in(alloc, text)?;
+        let sums = sums_in(&chunks);
         Ok(Lines {
             alloc,
             chunks,
-            count,
-            bytes: text.len() as u64,
+            sums,
         })
     }
 
@@ -72,186 +69,193 @@ impl Lines {
     pub(super) fn copy(&self, alloc: Global) -> Result<Lines, AllocError>
         ensures { IfOk result (λ lines. lines ≡ self.now) }
     {
+        let mut chunks = Vec::with_capacity(alloc, self.chunks.len())?;
+        share_into(&mut chunks, &self.chunks)?;
         Ok(Lines {
             alloc,
-            chunks: share_all(alloc, &self.chunks)?,
-            count: self.count,
-            bytes: self.bytes,
+            chunks,
+            sums: self.sums,
         })
     }
 
     /// How many lines there are.
-    pub(crate) fn len(&self) -> usize
-        ensures { result ≡ length (lines_of self.now) }
+    pub(crate) fn count(&self) -> u64
+        ensures { result ≡ length (lines_of (chars self.now)) }
     {
-        self.count
+        self.sums.ends + 1
     }
 
-    /// The allocator that they grow in.
-    pub(crate) fn alloc(&self) -> Global {
-        self.alloc
+    /// The bytes of the text.
+    pub(crate) fn byte_len(&self) -> u64
+        ensures value { result ≡ length self.now }
+        ensures utf8 { IsUtf8 self.now }
+    {
+        self.sums.bytes
     }
 
     /// The line that a position falls in, at most the last.
-    pub(crate) fn number_of(&self, position: Position) -> usize
-        ensures { result ≡ line_number self.now position }
+    pub(crate) fn number_of(&self, position: Position) -> u64
+        ensures { result ≡ line_number (chars self.now) position }
     {
-        (position.line as usize).min(self.count - 1)
-    }
-
-    /// The bytes of the lines from `first` to `last`.
-    pub(crate) fn bytes_in(&self, first: usize, last: usize) -> u64
-        requires order { first ≤ last }
-        requires within { last < length (lines_of self.now) }
-        ensures { result ≡ units Encoding.Utf8 (text_of (slice_range (lines_of self.now) first (last + 1))) }
-    {
-        let a = locate(&self.chunks, first);
-        let b = locate(&self.chunks, last);
-        let before = self.chunks[a.run].start_of(a.line);
-        let through = self.chunks[b.run].start_of(b.line + 1);
-        bytes_between(&self.chunks, a.run, b.run) + through as u64 - before as u64
+        (position.line as u64).min(self.sums.ends)
     }
 
     /// Lends a line and its end, and counts their bytes.
-    pub(crate) fn read(&self, i: usize, steps: &mut Steps) -> LentLine<'_>
-        requires { i < length (lines_of self.now) }
-        ensures value { result ≡ line_at i self.now }
-        ensures counted { steps.new ≡ raised steps.old (line_bytes self.now i) }
+    pub(crate) fn read(&self, i: u64, steps: &mut Steps) -> LentLine<'_>
+        requires { i < length (lines_of (chars self.now)) }
+        ensures value { IsLentLine self.now i result }
+        ensures counted { steps.new ≡ raised steps.old (line_bytes (chars self.now) i) }
     {
-        let at = locate(&self.chunks, i);
-        let line = self.chunks[at.run].line(at.line);
+        let line = self.peek(i);
         steps.add(line.len());
         line
     }
 
     /// Lends a line and its end, uncounted.
-    pub(super) fn peek(&self, i: usize) -> LentLine<'_>
-        requires { i < length (lines_of self.now) }
-        ensures { result ≡ line_at i self.now }
+    pub(super) fn peek(&self, i: u64) -> LentLine<'_>
+        requires { i < length (lines_of (chars self.now)) }
+        ensures { IsLentLine self.now i result }
     {
-        let at = locate(&self.chunks, i);
-        self.chunks[at.run].line(at.line)
+        let chunks = self.chunks.as_slice();
+        if i == 0 {
+            return self.line_from(0, 0, "", true);
+        }
+        let before = line_end_in(chunks, i - 1);
+        self.line_from(i, before.after, before.rest, before.is_plain)
     }
 
-    /// The characters of the lines before one.
-    pub(crate) fn chars_before(&self, i: usize) -> u64
-        requires { i < length (lines_of self.now) }
-        ensures value { result ≡ length (text_of (take i (lines_of self.now))) }
-        ensures room { length self.now < 2 ^ 64 }
+    /// The same of a line that begins at a place, with what comes after the place in its block.
+    fn line_from<'a>(&'a self, i: u64, start: usize, near: &'a str, is_plain: bool) -> LentLine<'a>
+        requires number { i < length (lines_of (chars self.now)) }
+        requires at { IsAtLine self.now i start (drop start self.now) }
+        requires near { IsNear (drop start self.now) near.now is_plain }
+        ensures { IsLentLine self.now i result }
     {
-        let at = locate(&self.chunks, i);
-        chars_of(&self.chunks[..at.run]) + self.chunks[at.run].chars_before(at.line)
+        let (end, after) = self.end_of(i);
+        LentLine {
+            chunks: &self.chunks,
+            start,
+            end,
+            after,
+            near,
+            is_plain,
+        }
+    }
+
+    /// Where the end of a line begins and where it ends.
+    fn end_of(&self, i: u64) -> (usize, usize)
+        requires { i < length (lines_of (chars self.now)) }
+        ensures { IsEndOf self.now i result.0 result.1 }
+    {
+        if i == self.sums.ends {
+            let len = self.sums.bytes as usize;
+            return (len, len);
+        }
+        let end = line_end_in(&self.chunks, i);
+        (end.at, end.after)
+    }
+
+    /// The characters before a place.
+    pub(super) fn chars_before(&self, offset: usize) -> u64
+        requires { IsCharBoundary self.now offset }
+        ensures { result ≡ length (chars (take offset self.now)) }
+    {
+        units_before_in(&self.chunks, Encoding::Utf32, offset)
     }
 
     /// Whether the lines spell a text.
     pub(super) fn spell(&self, text: &str) -> bool
-        ensures { IsTrue result ↔ (self.now ≡ chars text.now) }
+        ensures value { IsTrue result ↔ (self.now ≡ text.now) }
+        ensures utf8 { IsUtf8 self.now }
     {
-        spell(&self.chunks, text)
+        match strip_all(&self.chunks, text) {
+            Some(rest) => rest.is_empty(),
+            None => false,
+        }
     }
 
     /// The text of the lines, in a `String` of its own.
     pub(super) fn to_text(&self, alloc: Global) -> Result<String, AllocError>
-        ensures { IfOk result (λ text. chars (string_bytes text) ≡ self.now) }
+        ensures { IfOk result (λ text. string_bytes text ≡ self.now) }
     {
-        joined(alloc, &self.chunks, self.bytes as usize)
-    }
-
-    /// Puts a text in the place of the lines from `first` to `last`; the whole has `bytes` bytes then.
-    pub(crate) fn rewrite(
-        &mut self,
-        first: usize,
-        last: usize,
-        text: &str,
-        bytes: u64,
-    ) -> Result<(), AllocError>
-        requires order { first ≤ last }
-        requires within { last < length (lines_of self.old) }
-        requires apart { StandsApart self.old first last (chars text.now) }
-        requires bytes { bytes ≡ units Encoding.Utf8 (rewritten self.old first last (chars text.now)) }
-        ensures ok { OnOk result (self.new ≡ rewritten self.old first last (chars text.now)) }
-        ensures err { OnErr result (self.new ≡ self.old) }
-    {
-        let followed = self.count - last > 1;
-        let a = locate(&self.chunks, first);
-        let b = locate(&self.chunks, last);
-        let (front, back) = (&self.chunks[a.run], &self.chunks[b.run]);
-        let fresh = between(self.alloc, front, a.line, text, followed, back, b.line + 1)?;
-        let Some(count) = count_after(self.count, &self.chunks, a.run, b.run + 1, &fresh) else {
-            return Err(AllocError);
-        };
-        put(&mut self.chunks, a.run, b.run + 1, fresh)?;
-        self.count = count;
-        self.bytes = bytes;
-        Ok(())
+        let mut text = String::with_capacity(alloc, self.sums.bytes as usize)?;
+        push_all(&self.chunks, &mut text)?;
+        Ok(text)
     }
 
     /// Makes these the lines of a text.
     pub(super) fn renew(&mut self, text: &str) -> Result<(), AllocError>
-        ensures ok { OnOk result (self.new ≡ chars text.now) }
+        ensures ok { OnOk result (self.new ≡ text.now) }
         ensures err { OnErr result (self.new ≡ self.old) }
     {
         *self = Lines::of(self.alloc, text)?;
         Ok(())
     }
 
-    /// Puts a text in the place of some bytes of a line; the whole has `bytes` bytes then.
-    pub(crate) fn replace_in(
-        &mut self,
-        i: usize,
-        from: usize,
-        to: usize,
-        text: &str,
-        bytes: u64,
-    ) -> Result<(), AllocError>
-        requires stays { StaysInLine self.old i from to text.now }
-        requires bytes { bytes ≡ units Encoding.Utf8 (rewritten self.old i i (line_after self.old i from to text.now)) }
-        ensures ok { OnOk result (self.new ≡ rewritten self.old i i (line_after self.old i from to text.now)) }
+    /// Puts a text in the place of some bytes.
+    pub(crate) fn replace(&mut self, from: usize, to: usize, text: &str) -> Result<(), AllocError>
+        requires { CanReplace self.old from to }
+        ensures ok { OnOk result (self.new ≡ replace_range self.old from to text.now) }
         ensures err { OnErr result (self.new ≡ self.old) }
     {
-        self.make_room(i, text.len())?;
-        self.edit_run(i, from, to, text, bytes)
-    }
-
-    /// The same in the chunk that the line is in.
-    fn edit_run(
-        &mut self,
-        i: usize,
-        from: usize,
-        to: usize,
-        text: &str,
-        bytes: u64,
-    ) -> Result<(), AllocError>
-        requires stays { StaysInLine self.old i from to text.now }
-        requires bytes { bytes ≡ units Encoding.Utf8 (rewritten self.old i i (line_after self.old i from to text.now)) }
-        ensures ok { OnOk result (self.new ≡ rewritten self.old i i (line_after self.old i from to text.now)) }
-        ensures err { OnErr result (self.new ≡ self.old) }
-    {
-        let at = locate(&self.chunks, i);
-        self.chunks[at.run].replace(at.line, from, to, text)?;
-        self.bytes = bytes;
-        Ok(())
-    }
-
-    /// Gives a line a run of its own, in pieces, where so many bytes more would fill its run of short lines.
-    fn make_room(&mut self, i: usize, more: usize) -> Result<(), AllocError>
-        requires { i < length (lines_of self.old) }
-        ensures { self.new ≡ self.old }
-    {
-        let at = locate(&self.chunks, i);
-        if !self.chunks[at.run].is_filled(at.line, more) {
-            return Ok(());
+        // No memory holds so many bytes.
+        if text.len() as u64 >= u64::MAX - self.sums.bytes {
+            return Err(AllocError);
         }
-        let fresh = apart(self.alloc, &self.chunks[at.run], at.line)?;
-        put(&mut self.chunks, at.run, at.run + 1, fresh)?;
+        self.sums = replace_in_chunks(self.alloc, &mut self.chunks, self.sums, from, to, text)?;
         Ok(())
     }
+}
 
-    /// The bytes of the whole text.
-    pub(crate) fn byte_len(&self) -> u64
-        ensures { result ≡ units Encoding.Utf8 self.now }
+/// A line with its end that is lent: where it begins, where its end begins, and where that ends. Beside it what comes
+/// after its start in the same block, and whether each of those characters has one byte.
+#[derive(Drop)]
+pub(crate) struct LentLine<'a> {
+    chunks: &'a [Chunk],
+    start: usize,
+    end: usize,
+    after: usize,
+    near: &'a str,
+    is_plain: bool,
+}
+
+impl<'a> LentLine<'a> {
+    /// The bytes of the line and its end.
+    pub(crate) fn len(&self) -> usize
+        requires { self.now.start ≤ self.now.after }
+        ensures { result ≡ self.now.after - self.now.start }
     {
-        self.bytes
+        self.after - self.start
+    }
+
+    /// The bytes of the text before a column of the line, or `None` where it lies inside a character.
+    pub(crate) fn offset_of(&self, encoding: Encoding, column: u32) -> Option<usize>
+        requires { IsHeldLine self.now }
+        ensures { MatchOption result (NoOffsetIn encoding self.now column) (IsOffsetIn encoding self.now column) }
+    {
+        let len = self.end - self.start;
+        if self.near.len() < len {
+            return self.offset_of_far(encoding, column);
+        }
+        if self.is_plain {
+            return Some(self.start + len.min(column as usize));
+        }
+        let (line, _) = self.near.split_at(len);
+        let offset = offset_in_line(line, encoding, column)?;
+        Some(self.start + offset)
+    }
+
+    /// The same of a line that goes over several blocks.
+    fn offset_of_far(&self, encoding: Encoding, column: u32) -> Option<usize>
+        requires { IsHeldLine self.now }
+        ensures { MatchOption result (NoOffsetIn encoding self.now column) (IsOffsetIn encoding self.now column) }
+    {
+        let before = units_before_in(self.chunks, encoding, self.start);
+        let through = units_before_in(self.chunks, encoding, self.end);
+        if through - before <= column as u64 {
+            return Some(self.end);
+        }
+        offset_in(self.chunks, encoding, before + column as u64)
     }
 }
 

@@ -1,4 +1,5 @@
 use Rattle.std.proofs.Common.{List, ℕ, Result, Ok, sym, ap, ◌∙◌}
+use Rattle.std.specs.Str.{chars}
 use Rattle.lsp_text.proofs.Splices.{limited-over, limited-within}
 use Rattle.lsp_lined.proofs.lined.LinedTextStore.replace_all.Goals as goal
 
@@ -8,4 +9,4 @@ returns-then-limit-text-clause-fault c = limited-over c.args.limit c.args.text.n
 pub returns-clause-ok : goal.returns-clause-ok
 returns-clause-ok c =
     let done : List ℕ → Result (List ℕ) ℕ = λ x. Ok x in
-    limited-within c.args.limit c.args.text.now c.utf8.text c.if-limit-text.false ∙ ap done (sym c.in_ok-renew.ensures.ok)
+    limited-within c.args.limit c.args.text.now c.utf8.text c.if-limit-text.false ∙ ap done (ap chars (sym c.in_ok-renew.ensures.ok))

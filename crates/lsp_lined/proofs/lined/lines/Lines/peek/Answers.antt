@@ -1,12 +1,28 @@
-use Rattle.std.proofs.Common.{◌≡◌, [], List, ap, sym, subst, ◌∙◌, get_or}
-use Rattle.lsp_text.specs.Lines.{Line, open_line, lines_of}
-use Rattle.lsp_lines.specs.Runs.{joined_runs, IsPlaceInRuns}
-use Rattle.lsp_lines.proofs.RunPlaces.{line_there}
+use Rattle.std.proofs.Common.{◌<◌, ◌-◌, List, ℕ, sym, subst, arith}
+use Rattle.lsp_text.proofs.Positions.{at_first_line}
+use Rattle.lsp_lined.specs.Ends.{ends_in}
+use Rattle.lsp_lined.proofs.HeldText.{holds, near_none, same_text, line_behind, near_behind}
 use Rattle.lsp_lined.proofs.lined.lines.Lines.peek.Goals as goal
 
-pub returns : goal.returns
-returns c =
-    let lines : lines_of c.args.self.now ≡ joined_runs c.self.inside.chunks.items = ap lines_of (sym c.self.view_is) ∙ c.self.invariant.lines in
-    c.line.ensures
-    ∙ line_there c.self.inside.chunks.items c.args.i c.locate-at.result c.index.result.now (open_line []) (subst (λ (rs : List (List Line)). IsPlaceInRuns rs c.args.i c.locate-at.result) c.deref.ensures.value c.locate-at.ensures) c.index.ensures
-    ∙ ap (λ (ls : List Line). get_or ls c.args.i (open_line [])) (sym lines)
+pub line_from-requires-clause-at : goal.line_from-requires-clause-at
+line_from-requires-clause-at c = at_first_line c.args.self.now (holds c.self.inside c.args.self.now c.self.invariant c.self.view_is).utf8
+
+pub line_from-requires-clause-near : goal.line_from-requires-clause-near
+line_from-requires-clause-near c = near_none c.args.self.now
+
+pub line_end_in-before-requires-clause-some : goal.line_end_in-before-requires-clause-some
+line_end_in-before-requires-clause-some c =
+    let h = holds c.self.inside c.args.self.now c.self.invariant c.self.view_is in
+    let below : c.args.i - 1 < ends_in c.args.self.now = omega (arith, h.lines, h.ends, c.requires, c.if-i-eq0.false) in
+    subst (λ (x : List ℕ). c.args.i - 1 < ends_in x) (sym (same_text c.self.inside.chunks.items c.as_slice-chunks.result.now c.args.self.now c.as_slice-chunks.ensures.value c.self.view_is)) below
+
+pub line_from-requires-2-clause-at : goal.line_from-requires-2-clause-at
+line_from-requires-2-clause-at c =
+    let h = holds c.self.inside c.args.self.now c.self.invariant c.self.view_is in
+    let same = same_text c.self.inside.chunks.items c.as_slice-chunks.result.now c.args.self.now c.as_slice-chunks.ensures.value c.self.view_is in
+    line_behind c.args.self.now _ c.args.i c.line_end_in-before.result h.utf8 same (omega (arith, c.if-i-eq0.false)) c.line_end_in-before.ensures
+
+pub line_from-requires-2-clause-near : goal.line_from-requires-2-clause-near
+line_from-requires-2-clause-near c =
+    let same = same_text c.self.inside.chunks.items c.as_slice-chunks.result.now c.args.self.now c.as_slice-chunks.ensures.value c.self.view_is in
+    near_behind c.args.self.now _ (c.args.i - 1) c.line_end_in-before.result same c.line_end_in-before.ensures

@@ -1,0 +1,261 @@
+//! Blocks of a text, each a part that texts share.
+
+ghost use Rattle.std.specs.Prelude.{◌≡◌, ◌+◌, ◌-◌, ◌<◌, ◌≤◌, ◌^◌, ◌++◌, length, map, take, drop, None, false, MatchOption, IfSome, IfOk, OnOk, OnErr, EachIndex, slice_index};
+ghost use Rattle.std.specs.List.{replace_range};
+ghost use Rattle.std.specs.Str.{chars, IsUtf8, IsCharBoundary};
+ghost use Rattle.std.specs.String.{string_bytes};
+ghost use Rattle.lsp_text.specs.Places.{units, place_in_line};
+ghost use Rattle.lsp_text.specs.Offsets.{IsOffset};
+ghost use Rattle.lsp_lined.specs.Ends.{ends_in, ends_with_return, moved_place, CanMove, IsLineEnd};
+ghost use Rattle.lsp_lined.specs.Sums.{sums_of};
+ghost use Rattle.lsp_lined.specs.Parts.{BeginsOtherwise, CanReplace, IsReplacedOr, KeepsEnds, IsCutInto, IsCutPlace};
+
+use crate::ends::{end_len_before, is_whole, move_places, places_of};
+use crate::part::{LineEnd, Part};
+use crate::sums::{Measure, Sums};
+use lsp_text::{offset_in_line, width_of};
+use lsp_types::Encoding;
+use std::alloc::{AllocError, Global};
+use std::marker::Model;
+use std::rc::Rc;
+
+/// The bytes of a block that is cut from a text, at most.
+const FULL: usize = 2048;
+
+/// The bytes of a block, at most.
+const MOST: usize = 4096;
+
+/// The bytes by which a copy that is edited may grow in place.
+const ROOM: usize = 64;
+
+/// A text and the places behind its line ends, copied in order to be edited, so that the copy has room for more.
+#[derive(Drop)]
+struct BlockText {
+    text: String,
+    places: Vec<u16>,
+    alloc: Global,
+}
+
+impl Clone for BlockText {
+    ghost is_clone = { λ old copy. (string_bytes copy.text ≡ string_bytes old.text) × (copy.places.items ≡ old.places.items) };
+
+    ghost use Rattle.std.specs.String.{string_bytes};
+
+    fn clone(&self) -> Result<BlockText, AllocError> {
+        let held = self.text.as_str();
+        let mut text = String::with_capacity(self.alloc, held.len().saturating_add(ROOM))?;
+        text.push_str(held)?;
+        Ok(BlockText {
+            text,
+            places: Vec::from_slice(self.alloc, &self.places)?,
+            alloc: self.alloc,
+        })
+    }
+}
+
+/// A piece of a text, and its sums.
+#[derive(Drop)]
+pub(crate) struct Block {
+    text: Rc<BlockText>,
+    sums: Sums,
+}
+
+impl Model for Block {
+    ghost use Rattle.std.specs.Prelude.{List, ℕ};
+    ghost use Rattle.std.specs.String.{string_bytes};
+
+    ghost Value = { List ℕ };
+
+    ghost use Rattle.lsp_lined.specs.Blocks.{IsBlock};
+
+    ghost view = { λ a. string_bytes a.text.value.text };
+
+    ghost invariant = { IsBlock };
+}
+
+impl Part for Block {
+    ghost text = { λ bytes. bytes };
+
+    fn sums(&self) -> Sums {
+        self.sums
+    }
+
+    fn share(&self) -> Result<Block, AllocError> {
+        Ok(Block {
+            text: self.text.clone()?,
+            sums: self.sums,
+        })
+    }
+
+    fn line_end(&self, n: u64) -> LineEnd<'_> {
+        let held: &BlockText = &self.text;
+        let text = held.text.as_str();
+        let after = held.places[n as usize] as usize;
+        let (_, rest) = text.split_at(after);
+        LineEnd {
+            at: after - end_len_before(text, after),
+            after,
+            rest,
+            is_plain: self.sums.chars == self.sums.bytes,
+        }
+    }
+
+    fn offset_of(&self, encoding: Encoding, column: u64) -> Option<usize> {
+        if self.sums.by(Measure::Units(encoding)) <= column {
+            return Some(self.sums.bytes as usize);
+        }
+        if self.sums.chars == self.sums.bytes {
+            return Some(column as usize);
+        }
+        offset_in_line(self.as_str(), encoding, column as u32)
+    }
+
+    fn units_before(&self, encoding: Encoding, offset: usize) -> u64 {
+        if offset as u64 == self.sums.bytes {
+            return self.sums.by(Measure::Units(encoding));
+        }
+        if self.sums.chars == self.sums.bytes {
+            return offset as u64;
+        }
+        let (front, _) = self.as_str().split_at(offset);
+        width_of(front, encoding)
+    }
+
+    fn replace(&mut self, from: usize, to: usize, inserted: &str) -> Result<bool, AllocError> {
+        if inserted.len() > MOST - self.sums.bytes as usize {
+            return Ok(false);
+        }
+        match kept_sums(self, from, to, inserted) {
+            Some(sums) => {
+                replace_shared(&mut self.text, from, to, inserted)?;
+                self.sums = sums;
+            }
+            None => *self = self.rebuilt(from, to, inserted)?,
+        }
+        Ok(true)
+    }
+
+    fn push_to(&self, out: &mut String) -> Result<(), AllocError> {
+        out.push_str(self.as_str())
+    }
+
+    fn strip<'a>(&self, whole: &'a str) -> Option<&'a str> {
+        whole.strip_prefix(self.as_str())
+    }
+}
+
+impl Block {
+    /// A block of a text.
+    pub(crate) fn new(alloc: Global, text: &str) -> Result<Block, AllocError>
+        requires { length text.now ≤ MOST }
+        ensures { IfOk result (λ block. block ≡ text.now) }
+    {
+        let places = places_of(alloc, text)?;
+        let sums = Sums::of(text, places.len());
+        let held = BlockText {
+            text: String::from_str(alloc, text)?,
+            places,
+            alloc,
+        };
+        Ok(Block {
+            text: Rc::new(alloc, held)?,
+            sums,
+        })
+    }
+
+    /// Its text.
+    pub(crate) fn as_str(&self) -> &str
+        ensures { result.now ≡ self.now }
+    {
+        let held: &BlockText = &self.text;
+        held.text.as_str()
+    }
+
+    /// The same block with a text in the place of some bytes.
+    fn rebuilt(&self, from: usize, to: usize, text: &str) -> Result<Block, AllocError>
+        requires can { CanReplace self.now from to }
+        requires room { length self.now + length text.now ≤ MOST }
+        ensures { IfOk result (λ block. block ≡ replace_range self.now from to text.now) }
+    {
+        let held: &BlockText = &self.text;
+        let mut whole = String::with_capacity(held.alloc, MOST)?;
+        whole.push_str(held.text.as_str())?;
+        whole.replace_range(from..to, text)?;
+        Block::new(held.alloc, whole.as_str())
+    }
+}
+
+/// The sums of a block where a text takes the place of some bytes, if no line end comes, goes, or is joined.
+fn kept_sums(block: &Block, from: usize, to: usize, text: &str) -> Option<Sums>
+    requires can { CanReplace block.now from to }
+    requires room { length block.now + length text.now ≤ MOST }
+    ensures { IfSome result (KeepsEnds block.now from to text.now) }
+{
+    let (front, _) = block.as_str().split_at(to);
+    let (front, removed) = front.split_at(from);
+    if is_return_last(front) || !is_whole(removed) || !is_whole(text) {
+        return None;
+    }
+    Some(
+        block
+            .sums
+            .exchanged(Sums::of(removed, 0), Sums::of(text, 0)),
+    )
+}
+
+/// Whether the last byte of a text is a CR.
+fn is_return_last(text: &str) -> bool
+    ensures { result ≡ ends_with_return false text.now }
+{
+    let bytes = text.as_bytes();
+    bytes.len() > 0 && bytes[bytes.len() - 1] == b'\r'
+}
+
+/// Puts a text in the place of some bytes of a text that others may hold too, in one of its own.
+fn replace_shared(
+    shared: &mut Rc<BlockText>,
+    from: usize,
+    to: usize,
+    text: &str,
+) -> Result<(), AllocError>
+    requires can { CanReplace (string_bytes shared.old.value.text) from to }
+    requires moves { EachIndex shared.old.value.places.items (λ k. CanMove from (to - from) (length text.now) (slice_index shared.old.value.places.items k)) }
+    ensures text { OnOk result (string_bytes shared.new.value.text ≡ replace_range (string_bytes shared.old.value.text) from to text.now) }
+    ensures places { OnOk result (shared.new.value.places.items ≡ map (moved_place from (to - from) (length text.now)) shared.old.value.places.items) }
+    ensures err_text { OnErr result (string_bytes shared.new.value.text ≡ string_bytes shared.old.value.text) }
+    ensures err_places { OnErr result (shared.new.value.places.items ≡ shared.old.value.places.items) }
+{
+    let own = Rc::make_mut(shared)?;
+    own.text.replace_range(from..to, text)?;
+    move_places(&mut own.places, from, to - from, text.len());
+    Ok(())
+}
+
+/// Cuts a text into blocks behind others.
+pub(crate) fn cut_into(alloc: Global, blocks: &mut Vec<Block>, text: &str) -> Result<(), AllocError>
+    ensures { OnOk result (IsCutInto blocks.old.items text.now blocks.new.items) }
+{
+    let mut rest = text;
+    while rest.len() > FULL {
+        let (block, tail) = rest.split_at(cut_place(rest));
+        blocks.push(Block::new(alloc, block)?)?;
+        rest = tail;
+    }
+    blocks.push(Block::new(alloc, rest)?)?;
+    Ok(())
+}
+
+/// A place in a long text, at no character's inside and not between CR and LF.
+fn cut_place(text: &str) -> usize
+    requires { 2048 < length text.now }
+    ensures most { result ≤ 2048 }
+    ensures place { IsCutPlace text.now result }
+{
+    let at = text.floor_char_boundary(FULL);
+    let bytes = text.as_bytes();
+    if bytes[at - 1] == b'\r' && bytes[at] == b'\n' {
+        at - 1
+    } else {
+        at
+    }
+}
