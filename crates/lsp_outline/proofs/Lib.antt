@@ -5,3 +5,7 @@ pub mod Noticing
 pub mod Calls
 pub mod ShortNumerals
 pub mod TinyNumerals
+pub mod Lexing
+pub mod Spaces
+pub mod Strings
+pub mod Walking

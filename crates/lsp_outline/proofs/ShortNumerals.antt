@@ -1,15 +1,19 @@
 -- A few digits write an integer of 64 bits.
-use Rattle.std.proofs.Common.{◌≡◌, ◌==◌, ◌&&◌, ◌++◌, ◌<◌, ◌≤◌, ◌^◌, ℕ, List, [], ◌∷◌, length, get_or, true, false, Some, is_some, refl, sym, ap, ◌∙◌, arith, append-nil, lit<}
-use Rattle.std.proofs.lemmas.Bool.{lt-ltb, ne_eqb}
+use Rattle.std.proofs.Common.{◌≡◌, ◌==◌, ◌&&◌, ◌||◌, ◌⊎◌, inl, inr, ◌++◌, ◌+◌, ◌-◌, ◌<◌, ◌≤◌, ◌^◌, ℕ, suc, Bool, List, [], ◌∷◌, length, take, drop, get_or, true, false, cond, Some, None, is_some, option_and_then, lt_of_not-le, refl, sym, ap, ap₂, subst, ◌∙◌, arith, append-nil, lit<}
+use Rattle.std.proofs.lemmas.Bool.{lt-ltb, ne_eqb, and_parts, true≢false}
+use Rattle.std.proofs.lemmas.List.{drop_all, drop_more, get_or_past}
 use Rattle.std.proofs.lemmas.Float.Parse.{scan_numeral-text_of}
 use Rattle.std.proofs.lemmas.Str.Parse.{IsNumeralModel, numerals_by_value, tells_all_ascii_digits, not_in_digits, digits_value_short}
 use Rattle.std.specs.Char.{is_ascii_digit}
-use Rattle.std.specs.List.{list_all}
+use Rattle.std.specs.List.{list_all, prefix_len}
 use Rattle.std.specs.Str.{all_ascii_digits}
 use Rattle.std.specs.Str.Parse.{AllDigits, digits_value}
 use Rattle.fast_float.specs.Text.{Parts, IsWellFormed, scan, text_of}
+use Rattle.json.specs.Print.{IsNumber}
+use Rattle.json.specs.Word.{is_operator, is_space, ends_word, after_digits, after_whole, after_fraction, after_exponent, after_number}
 use Rattle.serde_json.specs.Data.{unsigned}
 use Rattle.serde_json.specs.Read.{number_of}
+use Rattle.lsp_outline.specs.Walk.{part, IsNumeral}
 
 abbrev AreDigits : List ℕ → Type 0
 AreDigits s = all_ascii_digits s ≡ true
@@ -55,3 +59,103 @@ short_in_range s some short alone = ap is_some (short_natural s some short alone
 -- what fewer digits write is below their power of ten
 pub few_value : (s : List ℕ) (k : ℕ) → length s ≤ k → list_all is_ascii_digit s ≡ true → digits_value 10 s < 10 ^ k
 few_value s k few alone = digits_value_short own s k (as_digits s ∙ alone) few
+
+-- ---- a few digits are a number
+
+same_all : (s : List ℕ) → list_all is_ascii_digit s ≡ true → prefix_len is_ascii_digit s ≡ length s
+same_all [] all = refl
+same_all (x ∷ xs) all =
+    let both = and_parts (is_ascii_digit x) (list_all is_ascii_digit xs) all in
+    let rest = same_all xs both.1 in
+    ap (λ b. cond b (1 + prefix_len is_ascii_digit xs) 0) both.0 ∙ omega (arith, rest)
+
+whole_digits : (s : List ℕ) (z : Bool) → list_all is_ascii_digit s ≡ true → 0 < length s → (length s ≡ 1) ⊎ (z ≡ false) → cond z (Some (drop 1 s)) (after_digits s) ≡ Some []
+whole_digits s true all some (inl one) = ap Some (drop_all 1 s (omega arith))
+whole_digits s true all some (inr none) = absurd (cc)
+whole_digits s false all some one =
+    ap (λ n. cond (n == 0) None (Some (drop n s))) (same_all s all) ∙ ap (λ b. cond b None (Some (drop (length s) s))) (ne_eqb (length s) 0 (λ e. omega arith)) ∙ ap Some (drop_all (length s) s (omega arith))
+
+no_minus : (x : ℕ) → is_ascii_digit x ≡ true → (x == 45) ≡ false
+no_minus x digit = ne_eqb x 45 (λ e. true≢false (sym digit ∙ ap is_ascii_digit e))
+
+pub digits_number : (s : List ℕ) → list_all is_ascii_digit s ≡ true → 0 < length s → (length s ≡ 1) ⊎ ((get_or s 0 0 == 48) ≡ false) → IsNumber s
+unfolding after_number
+digits_number [] all some one = let never : ⊥ = omega arith in absurd never
+digits_number (x ∷ xs) all some one =
+    let s = x ∷ xs in
+    let both = and_parts (is_ascii_digit x) (list_all is_ascii_digit xs) all in
+    ap (λ b. option_and_then after_exponent (option_and_then after_fraction (after_whole (cond b xs s)))) (no_minus x both.0)
+    ∙ ap (λ w. option_and_then after_exponent (option_and_then after_fraction w)) (whole_digits s (x == 48) all some one)
+
+front_digits : (b : Bool) (x n : ℕ) (xs : List ℕ) → is_ascii_digit x ≡ b → list_all is_ascii_digit (take n xs) ≡ true → list_all is_ascii_digit (take (cond b (1 + n) 0) (x ∷ xs)) ≡ true
+front_digits false x n xs is rest = refl
+front_digits true x n xs is rest =
+    let next : 1 + n ≡ suc n = omega arith in
+    ap (λ k. list_all is_ascii_digit (take k (x ∷ xs))) next ∙ ap₂ (λ a b. a && b) is rest
+
+pub run_of_digits : (xs : List ℕ) → list_all is_ascii_digit (take (prefix_len is_ascii_digit xs) xs) ≡ true
+run_of_digits [] = refl
+run_of_digits (x ∷ xs) = front_digits (is_ascii_digit x) x (prefix_len is_ascii_digit xs) xs refl (run_of_digits xs)
+
+-- a few digits up to a place where a word ends
+zero_from : (end from : ℕ) → end ≤ from → end - from ≡ 0
+zero_from end from h = omega arith
+
+pub short_numeral : (d : List ℕ) (from end : ℕ) → end ≡ from + prefix_len is_ascii_digit (drop from d) → 0 < length (part d from end) → length (part d from end) ≤ 18
+    → (length (part d from end) ≡ 1) ⊎ ((get_or (part d from end) 0 0 == 48) ≡ false) → ends_word (drop end d) ≡ true → end ≤ length d → IsNumeral d from end
+short_numeral d from end is some short one ended within =
+    let count : prefix_len is_ascii_digit (drop from d) ≡ end - from = omega arith in
+    let digits : list_all is_ascii_digit (part d from end) ≡ true = ap (λ n. list_all is_ascii_digit (take n (drop from d))) (sym count) ∙ run_of_digits (drop from d) in
+    let none : from < end = lt_of_not-le (λ h. omega (arith, some, ap (λ n. length (take n (drop from d))) (zero_from end from h))) in
+    record {
+      number = digits_number (part d from end) digits some one;
+      fits = short_in_range (part d from end) some short digits;
+      ended = ended;
+      forward = none;
+      within = within;
+    }
+
+pub ends_at : (d : List ℕ) (end : ℕ) → (is_operator (get_or d end 0) || is_space (get_or d end 0)) ≡ true → (end < length d) × (ends_word (drop end d) ≡ true)
+ends_at d end h =
+    let within : end < length d = lt_of_not-le (λ past. true≢false (sym h ∙ ap (λ x. is_operator x || is_space x) (get_or_past d end 0 past))) in
+    let here : get_or (drop end d) 0 32 ≡ get_or d end 0 = ap (λ l. get_or l 0 32) (drop_more d end 0 within) in
+    (within, ap (λ x. is_operator x || is_space x) here ∙ h)
+
+no_number : IsNumber [] → ⊥
+unfolding after_number
+no_number h = absurd (cc)
+
+-- a number of whatever form up to a place where a word ends
+pub some_numeral : (d : List ℕ) (from end : ℕ) (s : List ℕ) → s ≡ part d from end → IsNumber s → is_some (number_of s) ≡ true → from ≤ end
+    → (is_operator (get_or d end 0) || is_space (get_or d end 0)) ≡ true → IsNumeral d from end
+some_numeral d from end s same number fits le ended =
+    let ends = ends_at d end ended in
+    let some : from < end = lt_of_not-le (λ h. no_number (subst IsNumber (same ∙ ap (λ n. take n (drop from d)) (zero_from end from h)) number)) in
+    record {
+      number = subst IsNumber same number;
+      fits = ap (λ t. is_some (number_of t)) (sym same) ∙ fits;
+      ended = ends.1;
+      forward = some;
+      within = omega (arith, ends.0);
+    }
+
+-- one or two digits before a comma
+pub one_digit : (d : List ℕ) (from : ℕ) → is_ascii_digit (get_or d from 0) ≡ true → get_or d (from + 1) 0 ≡ 44 → IsNumeral d from (from + 1)
+one_digit d from first comma =
+    let after = ends_at d (from + 1) (ap (λ x. is_operator x || is_space x) comma) in
+    let one : from + 1 - from ≡ 1 = omega arith in
+    let same : get_or d from 0 ∷ [] ≡ part d from (from + 1) = ap (take 1) (sym (drop_more d from 0 (omega (arith, after.0)))) ∙ ap (λ n. take n (drop from d)) (sym one) in
+    let digits : list_all is_ascii_digit (get_or d from 0 ∷ []) ≡ true = ap (λ b. b && true) first in
+    some_numeral d from (from + 1) _ same (digits_number _ digits (omega arith) (inl refl)) (short_in_range _ (omega arith) (omega arith) digits) (omega arith) (ap (λ x. is_operator x || is_space x) comma)
+
+pub two_digits : (d : List ℕ) (from : ℕ) → is_ascii_digit (get_or d from 0) ≡ true → (get_or d from 0 == 48) ≡ false → is_ascii_digit (get_or d (from + 1) 0) ≡ true → get_or d (from + 2) 0 ≡ 44
+    → IsNumeral d from (from + 2)
+two_digits d from first some second comma =
+    let after = ends_at d (from + 2) (ap (λ x. is_operator x || is_space x) comma) in
+    let two : from + 2 - from ≡ 2 = omega arith in
+    let pair = get_or d from 0 ∷ get_or d (from + 1) 0 ∷ [] in
+    let there : drop from d ≡ get_or d from 0 ∷ get_or d (from + 1) 0 ∷ drop (from + 1 + 1) d =
+    drop_more d from 0 (omega (arith, after.0)) ∙ ap (λ l. get_or d from 0 ∷ l) (drop_more d (from + 1) 0 (omega (arith, after.0))) in
+    let same : pair ≡ part d from (from + 2) = ap (take 2) (sym there) ∙ ap (λ n. take n (drop from d)) (sym two) in
+    let digits : list_all is_ascii_digit pair ≡ true = ap₂ (λ a b. a && (b && true)) first second in
+    some_numeral d from (from + 2) _ same (digits_number pair digits (omega arith) (inr some)) (short_in_range pair (omega arith) (omega arith) digits) (omega arith) (ap (λ x. is_operator x || is_space x) comma)

@@ -1,15 +1,18 @@
 //! Messages read from the contents of a stream without building what nothing asks for.
 //!
-//! An `OutlineReader` goes over the tokens of a content: it reads a message without its params and
-//! the value that it answers, or a message that changes documents with what it means. What it
+//! An `OutlineReader` goes over the bytes of a content once: it reads a message without its params
+//! and the value that it answers, or a message that changes documents with what it means. What it
 //! answers is what `lsp_rpc` says of the content, and `lsp_rpc` reads those that it declines.
 #![tactic(auto)]
 
+mod bytes;
 mod edits;
 mod members;
 mod notices;
 mod numbers;
 mod outline;
 mod skip;
+mod texts;
+mod walk;
 
 pub use outline::OutlineReader;

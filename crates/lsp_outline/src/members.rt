@@ -116,7 +116,7 @@ fn uinteger(digits: &str) -> Option<u32>
     ensures read { IfSome result (λ n. number_of digits.now ≡ Some (unsigned n)) }
     ensures fits { IfSome result (λ n. n < 2 ^ 31) }
 {
-    let n = natural_of(digits)?;
+    let n = natural_of(digits.as_bytes())?;
     if n < 1 << 31 { Some(n as u32) } else { None }
 }
 

@@ -1,12 +1,15 @@
 //! The numbers that numerals of JSON write, as `serde_json` reads them.
-ghost use Rattle.std.specs.Prelude.{◌≡◌, ◌<◌, ◌≤◌, ◌==◌, length, slice_index, Some, true, false, IsTrue, IfSome, is_some};
+ghost use Rattle.std.specs.Prelude.{◌≡◌, ◌⊎◌, ◌+◌, ◌<◌, ◌≤◌, ◌==◌, ◌||◌, drop, get_or, length, slice_index, Some, true, false, IsTrue, IfSome, is_some};
 ghost use Rattle.std.specs.Char.{is_ascii_digit};
-ghost use Rattle.std.specs.List.{list_all};
+ghost use Rattle.std.specs.List.{list_all, prefix_len};
 ghost use Rattle.std.specs.Str.Parse.{digits_value};
 ghost use Rattle.json.specs.Print.{IsNumber};
+ghost use Rattle.json.specs.Word.{is_operator, is_space};
 ghost use Rattle.serde_json.specs.Data.{unsigned};
 ghost use Rattle.serde_json.specs.Read.{number_of, number_from};
+ghost use Rattle.lsp_outline.specs.Walk.{IsNumeral};
 
+use crate::bytes::{byte_at, is_delimiter};
 use fast_float::Numeral;
 
 /// Integers of so many digits fit 64 bits.
@@ -82,6 +85,102 @@ pub(crate) fn is_in_range(digits: &str) -> bool
     is_short(digits.as_bytes()) || any_is_in_range(digits)
 }
 
+/// Where the digits end that begin there.
+#[inline(always)]
+fn digits_end(bytes: &[u8], from: usize) -> usize
+    requires { from ≤ length bytes.now }
+    ensures value { result ≡ from + prefix_len is_ascii_digit (drop from bytes.now) }
+    ensures within { result ≤ length bytes.now }
+{
+    let mut at = from;
+    'digits: while at < bytes.len() && bytes[at].is_ascii_digit() {
+        at += 1;
+    }
+    at
+}
+
+/// Whether these digits write an integer that fits, without a zero before others.
+#[inline(always)]
+fn is_integer(digits: &[u8]) -> bool
+    ensures some { IsTrue result → 0 < length digits.now }
+    ensures short { IsTrue result → length digits.now ≤ 18 }
+    ensures first { IsTrue result
+        → (length digits.now ≡ 1) ⊎ ((slice_index digits.now 0 == 48) ≡ false) }
+{
+    !digits.is_empty() && digits.len() <= SHORT && (digits.len() == 1 || digits[0] != b'0')
+}
+
+/// The first place from there on where a number ends.
+fn word_end(bytes: &[u8], from: usize) -> Option<usize>
+    requires { from ≤ length bytes.now }
+    ensures forward { IfSome result (λ end. from ≤ end) }
+    ensures within { IfSome result (λ end. end < length bytes.now) }
+    ensures ended { IfSome result (λ end.
+        (is_operator (get_or bytes.now end 0) || is_space (get_or bytes.now end 0)) ≡ true) }
+{
+    for end in from..bytes.len() {
+        if is_delimiter(bytes[end]) {
+            return Some(end);
+        }
+    }
+    None
+}
+
+/// Where the number of whatever form ends that begins there. `None` where `serde_json` reads none.
+#[inline(never)]
+fn any_number_end(bytes: &[u8], from: usize) -> Option<usize>
+    requires { from ≤ length bytes.now }
+    ensures { IfSome result (IsNumeral bytes.now from) }
+{
+    let end = word_end(bytes, from)?;
+    let digits = std::str::from_utf8(&bytes[from..end]).ok()?;
+    if json::is_number(digits) && is_in_range(digits) {
+        Some(end)
+    } else {
+        None
+    }
+}
+
+/// Where the number ends that begins there. `None` where `serde_json` reads none.
+#[inline(always)]
+pub(crate) fn number_end(bytes: &[u8], from: usize) -> Option<usize>
+    requires { from ≤ length bytes.now }
+    ensures { IfSome result (IsNumeral bytes.now from) }
+{
+    let end = digits_end(bytes, from);
+    if is_integer(&bytes[from..end]) && is_delimiter(byte_at(bytes, end)) {
+        return Some(end);
+    }
+    any_number_end(bytes, from)
+}
+
+/// Where the number of one or two digits ends that begins there, where a comma comes next.
+#[inline(always)]
+pub(crate) fn tiny_number_end(bytes: &[u8], from: usize) -> Option<usize>
+    ensures number { IfSome result (IsNumeral bytes.now from) }
+    ensures comma { IfSome result (λ end. get_or bytes.now end 0 ≡ 44) }
+    ensures digit { IfSome result (λ _. is_ascii_digit (get_or bytes.now from 0) ≡ true) }
+{
+    let first = byte_at(bytes, from);
+    if !first.is_ascii_digit() {
+        return None;
+    }
+    let second = byte_at(bytes, from + 1);
+    if second == b',' {
+        return Some(from + 1);
+    }
+    if first == b'0' {
+        return None;
+    }
+    if !second.is_ascii_digit() {
+        return None;
+    }
+    if byte_at(bytes, from + 2) != b',' {
+        return None;
+    }
+    Some(from + 2)
+}
+
 /// The integer that a numeral without a sign writes.
 #[inline(always)]
 fn natural(numeral: &Numeral<'_>) -> Option<u64>
@@ -124,10 +223,9 @@ fn any_natural_of(digits: &[u8]) -> Option<u64>
 
 /// The number that the digits write, where it is an integer that is not negative.
 #[inline(always)]
-pub(crate) fn natural_of(digits: &str) -> Option<u64>
+pub(crate) fn natural_of(digits: &[u8]) -> Option<u64>
     ensures { IfSome result (λ n. number_of digits.now ≡ Some (unsigned n)) }
 {
-    let digits = digits.as_bytes();
     match few_digits(digits) {
         Some(n) => Some(u64::from(n)),
         None => any_natural_of(digits),

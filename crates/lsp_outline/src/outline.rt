@@ -1,22 +1,25 @@
 //! Reading a content without building what its params and its result hold.
-ghost use Rattle.std.specs.Prelude.{◌≡◌, ◌<◌, length, Some, false, IfSome, IfOk, IfErr, string_bytes};
-ghost use Rattle.json.specs.Json.{value, members};
-ghost use Rattle.serde_json.specs.Data.{Data, Members, object, no_members};
-ghost use Rattle.serde_json.specs.Read.{of_json, of_members, converted, number_of, read as read_text};
+ghost use Rattle.std.specs.Prelude.{◌≡◌, ◌<◌, ◌≤◌, length, Some, Err, IfSome, IfOk, IfErr, string_bytes};
+ghost use Rattle.serde_json.specs.Data.{Data, Members, object};
+ghost use Rattle.serde_json.specs.Read.{number_of, read as read_text};
 ghost use Rattle.serde_json.specs.View.{view, number_view};
 ghost use Rattle.lsp_rpc.specs.Message.{Message as SpecMessage};
 ghost use Rattle.lsp_rpc.specs.Outline.{outline, without_params, is_call, IsOrIsOutline, IsOrLacksResult};
 ghost use Rattle.lsp_outline.specs.Kept.{part_named, with_part, AreKept};
+ghost use Rattle.lsp_outline.specs.Walk.{IsValue, AreMembers};
+ghost use Rattle.lsp_rpc.specs.declared.fault.RpcFault.TheVariants.{Memory};
 ghost use Rattle.lsp_rpc.specs.Params.{act_at};
 ghost use Rattle.lsp_types.specs.declared.side.Side.TheVariants.{Editor};
 ghost use Rattle.lsp_rpc.specs.Reading as reading;
 ghost use Rattle.lsp_rpc.specs.View.{act_view, message_view};
 ghost use Rattle.lsp_rpc.specs.Words.{words_of as spec_words_of};
 
+use crate::bytes::{byte_at, spaces_end};
 use crate::notices::spoken_change;
-use crate::numbers::natural_of;
-use crate::skip::{MAX_DEPTH, skip};
-use json::{Reader, Scratch, Token};
+use crate::numbers::{natural_of, number_end};
+use crate::skip::MAX_DEPTH;
+use crate::walk::{key, kind_at, literal_end, plain_string, value_end};
+use json::Scratch;
 use lsp_rpc::{Message, Parts, RpcFault, Spoken, act_of, assemble, read, words_of};
 use lsp_types::Side;
 use serde_json::{Number, Value};
@@ -93,98 +96,137 @@ fn part_named(name: &str) -> Part
 }
 
 /// The number that the digits write, where it is an integer that is not negative.
-fn natural(digits: &str) -> Option<Number>
+fn natural(digits: &[u8]) -> Option<Number>
     ensures { IfSome result (λ n. number_of digits.now ≡ Some (number_view n)) }
 {
     Number::from_u128(natural_of(digits)? as u128)
 }
 
-/// The next value, where it is neither an array nor an object.
-fn plain(alloc: Global, reader: &mut Reader<'_>) -> Option<Value>
-    ensures ok { IfSome result (λ v.
-        converted of_json (value DEPTH reader.old) ≡ Some (view v, reader.new)) }
-    ensures shorter { IfSome result (λ v. length reader.new < length reader.old) }
+/// The value that begins there, where it is neither an array nor an object, and where it ends.
+fn plain(alloc: Global, bytes: &[u8], from: usize) -> Option<(Value, usize)>
+    requires { from ≤ length bytes.now }
+    ensures { IfSome result (λ r. IsValue DEPTH bytes.now from r.1 (view r.0)) }
 {
-    match reader.next()? {
-        Token::String(text) => Some(Value::String(String::from_str(alloc, text).ok()?)),
-        Token::Number(digits) => Some(Value::Number(natural(digits)?)),
-        Token::Null => Some(Value::Null),
-        _ => None,
+    match byte_at(bytes, from) {
+        b'"' => {
+            let (text, end) = plain_string(bytes, from)?;
+            let copy = String::from_str(alloc, text).ok()?;
+            Some((Value::String(copy), end))
+        }
+        b'n' => {
+            let end = literal_end(bytes, from, b"null")?;
+            Some((Value::Null, end))
+        }
+        b'{' | b'[' => None,
+        _ => {
+            let end = number_end(bytes, from)?;
+            let number = natural(&bytes[from..end])?;
+            Some((Value::Number(number), end))
+        }
     }
 }
 
-/// Takes the member of this name into the parts.
+/// Takes the member of this name, whose value begins there, into the parts, and gives where the
+/// value ends.
 fn take_part(
     alloc: Global,
-    reader: &mut Reader<'_>,
+    bytes: &[u8],
+    from: usize,
     wanted: Wanted,
     name: &str,
     parts: &mut Parts,
-) -> Option<()>
-    ensures ok { IfSome result (λ _. (d : Data)
-        × (converted of_json (value DEPTH reader.old) ≡ Some (d, reader.new))
+) -> Option<usize>
+    requires { from ≤ length bytes.now }
+    ensures { IfSome result (λ end. (d : Data) × IsValue DEPTH bytes.now from end d
         × ((p : reading.Parts) → AreKept p parts.old
         → AreKept (with_part (part_named name.now) d p) parts.new)) }
-    ensures shorter { IfSome result (λ _. length reader.new < length reader.old) }
 {
     let part = part_named(name);
     if !wanted.allows(part) {
         return None;
     }
     match part {
-        Part::Version => parts.version = Some(plain(alloc, reader)?),
+        Part::Version => {
+            let (version, end) = plain(alloc, bytes, from)?;
+            parts.version = Some(version);
+            Some(end)
+        }
         Part::Method => {
-            let method = plain(alloc, reader)?;
+            let (method, end) = plain(alloc, bytes, from)?;
             if wanted == Wanted::Calls && has_read_params(&method) {
                 return None;
             }
             parts.method = Some(method);
+            Some(end)
         }
-        Part::Id => parts.id = Some(plain(alloc, reader)?),
-        Part::Error => parts.error = Some(plain(alloc, reader)?),
+        Part::Id => {
+            let (id, end) = plain(alloc, bytes, from)?;
+            parts.id = Some(id);
+            Some(end)
+        }
+        Part::Error => {
+            let (error, end) = plain(alloc, bytes, from)?;
+            parts.error = Some(error);
+            Some(end)
+        }
         Part::Params => {
-            if !skip(reader, DEPTH)?.fits_params() {
+            let end = value_end(bytes, from, DEPTH)?;
+            if !kind_at(byte_at(bytes, from)).fits_params() {
                 return None;
             }
+            Some(end)
         }
         Part::Result => {
-            let _kind = skip(reader, DEPTH)?;
+            let end = value_end(bytes, from, DEPTH)?;
             parts.result = Some(Value::Null);
+            Some(end)
         }
-        Part::Other => {
-            let _kind = skip(reader, DEPTH)?;
-        }
+        Part::Other => value_end(bytes, from, DEPTH),
     }
-    Some(())
 }
 
-/// The parts of the object that the reader is in.
-fn parts_of_object(alloc: Global, reader: &mut Reader<'_>, wanted: Wanted) -> Option<Parts>
-    ensures { IfSome result (λ parts. (ms : Members)
-        × (converted (λ js. of_members js no_members) (members (value DEPTH) (length reader.old) reader.old)
-        ≡ Some (ms, reader.new)) × AreKept (reading.parts_of (object ms)) parts) }
+/// The parts of the object whose brace stands before there, and where it ends.
+fn parts_of_object(
+    alloc: Global,
+    bytes: &[u8],
+    from: usize,
+    wanted: Wanted,
+) -> Option<(Parts, usize)>
+    requires { from ≤ length bytes.now }
+    ensures { IfSome result (λ r. (ms : Members) × AreMembers DEPTH bytes.now from r.1 ms
+        × AreKept (reading.parts_of (object ms)) r.0) }
 {
     let mut parts = Parts::none();
+    let mut at = spaces_end(bytes, from);
+    if byte_at(bytes, at) == b'}' {
+        return Some((parts, at + 1));
+    }
     'members: loop {
-        match reader.next_key() {
-            Ok(Some(name)) => take_part(alloc, reader, wanted, name, &mut parts)?,
-            Ok(None) => return Some(parts),
-            Err(_) => return None,
+        let (name, begin) = key(bytes, at)?;
+        let end = take_part(alloc, bytes, begin, wanted, name, &mut parts)?;
+        let next = spaces_end(bytes, end);
+        let mark = byte_at(bytes, next);
+        if mark == b'}' {
+            return Some((parts, next + 1));
         }
+        if mark != b',' {
+            return None;
+        }
+        at = spaces_end(bytes, next + 1);
     }
 }
 
 /// The parts of the object that the text is.
-fn parts_of_text(alloc: Global, text: &str, scratch: &mut Scratch, wanted: Wanted) -> Option<Parts>
-    ensures { IfSome result (λ parts. (ms : Members) × (read_text text.now ≡ Some (object ms))
+fn parts_of_text(alloc: Global, bytes: &[u8], wanted: Wanted) -> Option<Parts>
+    ensures { IfSome result (λ parts. (ms : Members) × (read_text bytes.now ≡ Some (object ms))
         × AreKept (reading.parts_of (object ms)) parts) }
 {
-    let mut reader = Reader::new(text, scratch).ok()?;
-    let Some(Token::BeginObject) = reader.next() else {
+    let from = spaces_end(bytes, 0);
+    if byte_at(bytes, from) != b'{' {
         return None;
-    };
-    let parts = parts_of_object(alloc, &mut reader, wanted)?;
-    if reader.next().is_some() {
+    }
+    let (parts, end) = parts_of_object(alloc, bytes, from + 1, wanted)?;
+    if spaces_end(bytes, end) < bytes.len() {
         return None;
     }
     Some(parts)
@@ -192,17 +234,12 @@ fn parts_of_text(alloc: Global, text: &str, scratch: &mut Scratch, wanted: Wante
 
 /// The message of a content apart from its params and its result, where it has the form that most
 /// have: no error, and no params that are refused.
-fn outline_of(
-    alloc: Global,
-    content: &[u8],
-    scratch: &mut Scratch,
-    wanted: Wanted,
-) -> Option<Message>
+fn outline_of(alloc: Global, content: &[u8], wanted: Wanted) -> Option<Message>
     ensures { IfSome result (λ message. (whole : SpecMessage) × reading.Reads content.now whole
         × (message_view message ≡ outline whole)) }
 {
-    let text = simdutf8::basic::from_utf8(content).ok()?;
-    let parts = parts_of_text(alloc, text, scratch, wanted)?;
+    let _text = simdutf8::basic::from_utf8(content).ok()?;
+    let parts = parts_of_text(alloc, content, wanted)?;
     match assemble(parts) {
         Ok(message) => Some(message),
         Err(_) => None,
@@ -260,8 +297,9 @@ impl OutlineReader {
         ensures ok { IfOk result (λ message. (whole : SpecMessage) × reading.Reads content.now whole
             × IsOrIsOutline (message_view message) whole) }
         ensures rule { IfErr result (reading.IsRefusal content.now) }
+        ensures memory { result ≡ Err Memory → 0 < length content.now }
     {
-        match outline_of(self.alloc, content, &mut self.scratch, Wanted::All) {
+        match outline_of(self.alloc, content, Wanted::All) {
             Some(message) => Ok(message),
             None => read(self.alloc, content),
         }
@@ -273,8 +311,9 @@ impl OutlineReader {
         ensures ok { IfOk result (λ message. (whole : SpecMessage) × reading.Reads content.now whole
             × IsOrLacksResult (message_view message) whole) }
         ensures rule { IfErr result (reading.IsRefusal content.now) }
+        ensures memory { result ≡ Err Memory → 0 < length content.now }
     {
-        match outline_of(self.alloc, content, &mut self.scratch, Wanted::Answers) {
+        match outline_of(self.alloc, content, Wanted::Answers) {
             Some(Message::Response { id, answer }) => Ok(Message::Response { id, answer }),
             _ => read(self.alloc, content),
         }
@@ -303,7 +342,7 @@ impl OutlineReader {
         if !begins_as_call(content) {
             return None;
         }
-        let message = outline_of(self.alloc, content, &mut self.scratch, Wanted::Calls)?;
+        let message = outline_of(self.alloc, content, Wanted::Calls)?;
         call_in(self.alloc, side, message)
     }
 
@@ -313,6 +352,7 @@ impl OutlineReader {
         ensures ok { IfOk result (λ words. (message : SpecMessage) × reading.Reads content.now message
             × (string_bytes words ≡ spec_words_of message)) }
         ensures rule { IfErr result (reading.IsRefusal content.now) }
+        ensures memory { result ≡ Err Memory → 0 < length content.now }
     {
         let message = self.read(content)?;
         match words_of(self.alloc, &message) {

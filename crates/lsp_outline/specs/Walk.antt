@@ -1,0 +1,103 @@
+-- What lies between two places of a JSON text.
+use Rattle.std.specs.Prelude.{◌≡◌, ℕ, ◌+◌, ◌-◌, ◌<◌, ◌≤◌, ◌==◌, ◌||◌, List, length, take, drop, get_or, true, cond, Some, is_some, nat_eq}
+use Rattle.std.specs.List.{starts_with}
+use Rattle.json.specs.Token.{Token}
+use Rattle.json.specs.Text.{content, plain, prepend}
+use Rattle.json.specs.Word.{ends_word}
+use Rattle.json.specs.Print.{IsNumber}
+use Rattle.json.specs.Lex.{lex, between, in_string, Place, fresh, after_value, may_begin, punctuate}
+use Rattle.json.specs.Json.{value, items, members, parse_map, read_key}
+use Rattle.serde_json.specs.Data.{Data, Items, Members, no_members}
+use Rattle.serde_json.specs.Read.{of_json, of_items, of_members, converted, number_of}
+use Rattle.lsp_outline.specs.declared.skip.Kind.{Kind}
+use Rattle.lsp_outline.specs.declared.skip.Kind.TheVariants as kinds
+use Rattle.lsp_outline.specs.Kept.{kind_of}
+
+-- the kind of a value that begins with this byte
+abbrev pub kind_at : ℕ → Kind
+kind_at x = cond ((x == 123) || (x == 91)) kinds.Structure (cond (x == 110) kinds.Null kinds.Plain)
+
+-- the tokens from a place on
+abbrev pub tokens_from : Place → List ℕ → ℕ → List Token
+tokens_from p d at = punctuate p (lex between (drop at d))
+
+-- the bytes between two places
+abbrev pub part : List ℕ → ℕ → ℕ → List ℕ
+part d from end = take (end - from) (drop from d)
+
+-- inside a string, this text stands between the places
+pub record IsRun (d : List ℕ) (from end : ℕ) (s : List ℕ) : Type 0 where
+  pub text : content plain (drop from d) ≡ prepend s (content plain (drop end d))
+  pub passed : lex in_string (drop from d) ≡ lex in_string (drop end d)
+  pub forward : from ≤ end
+  pub within : end ≤ length d
+
+-- this is the text of a string, from behind its quote up to the place after its closing quote
+pub record IsText (d : List ℕ) (from end : ℕ) (s : List ℕ) : Type 0 where
+  pub text : content plain (drop from d) ≡ Some s
+  pub passed : lex in_string (drop from d) ≡ lex between (drop end d)
+  pub forward : from < end
+  pub within : end ≤ length d
+
+-- a number that `serde_json` reads
+pub record IsNumeral (d : List ℕ) (from end : ℕ) : Type 0 where
+  pub number : IsNumber (part d from end)
+  pub fits : is_some (number_of (part d from end)) ≡ true
+  pub ended : ends_word (drop end d) ≡ true
+  pub forward : from < end
+  pub within : end ≤ length d
+
+-- the literal of this name
+pub record IsLiteral (d : List ℕ) (from : ℕ) (name : List ℕ) (end : ℕ) : Type 0 where
+  pub is : end ≡ from + length name
+  pub named : starts_with nat_eq (drop from d) name ≡ true
+  pub ended : ends_word (drop end d) ≡ true
+  pub within : end < length d
+
+-- this value, where one may begin
+pub record IsValue (depth : ℕ) (d : List ℕ) (from end : ℕ) (x : Data) : Type 0 where
+  pub read : (p : Place) → may_begin p ≡ true → converted of_json (value depth (tokens_from p d from)) ≡ Some (x, tokens_from after_value d end)
+  pub kind : kind_at (get_or d from 0) ≡ kind_of x
+  pub forward : from < end
+  pub within : end ≤ length d
+
+-- the rest of an array that holds these items
+pub record AreItems (depth : ℕ) (d : List ℕ) (from end : ℕ) (xs : Items) : Type 0 where
+  pub read : let ts = tokens_from fresh d from in converted of_items (items (value depth) (length ts) ts) ≡ Some (xs, tokens_from after_value d end)
+  pub forward : from < end
+  pub within : end ≤ length d
+
+-- the rest of an object that holds these members
+pub record AreMembers (depth : ℕ) (d : List ℕ) (from end : ℕ) (xs : Members) : Type 0 where
+  pub read : let ts = tokens_from fresh d from in converted (λ ms. of_members ms no_members) (members (value depth) (length ts) ts) ≡ Some (xs, tokens_from after_value d end)
+  pub forward : from < end
+  pub within : end ≤ length d
+
+-- an array up to a place where an item may begin, and what the items before it put in front of the rest
+pub record SomeItems (depth : ℕ) (d : List ℕ) (from at : ℕ) : Type 0 where
+  pub place : Place
+  pub begins : may_begin place ≡ true
+  pub turns : ℕ
+  pub front : Items → Items
+  pub enough : length (tokens_from place d at) ≤ turns
+  pub same : let ts = tokens_from fresh d from in
+      converted of_items (items (value depth) (length ts) ts) ≡ parse_map front (converted of_items (items (value depth) turns (tokens_from place d at)))
+  pub forward : from ≤ at
+  pub within : at ≤ length d
+
+-- an object up to a place where a member may begin, and the members before it
+pub record SomeMembers (depth : ℕ) (d : List ℕ) (from at : ℕ) (found : Members) : Type 0 where
+  pub place : Place
+  pub begins : may_begin place ≡ true
+  pub turns : ℕ
+  pub enough : length (tokens_from place d at) ≤ turns
+  pub same : let ts = tokens_from fresh d from in
+      converted (λ ms. of_members ms no_members) (members (value depth) (length ts) ts) ≡ converted (λ ms. of_members ms found) (members (value depth) turns (tokens_from place d at))
+  pub forward : from ≤ at
+  pub within : at ≤ length d
+
+-- a key, its colon and the space behind it
+pub record IsKey (d : List ℕ) (from end : ℕ) (k : List ℕ) : Type 0 where
+  pub read : (p : Place) → may_begin p ≡ true → read_key (tokens_from p d from) ≡ Some (Some k, tokens_from fresh d end)
+  pub forward : from < end
+  pub within : end ≤ length d

@@ -1,0 +1,165 @@
+//! The text of strings, with what their escapes write (RFC 8259, section 7).
+ghost use Rattle.std.specs.Prelude.{◌≡◌, ℕ, List, ◌+◌, ◌-◌, ◌<◌, ◌≤◌, length, drop, get_or, true, None, Some, MatchOption, IfSome};
+ghost use Rattle.std.specs.Char.{digit_value};
+ghost use Rattle.std.specs.List.{prefix_len};
+ghost use Rattle.json.specs.Run.{is_plain, Escape};
+ghost use Rattle.json.specs.Text.{code_unit, short_escape, after_backslash, after_u, after_high};
+ghost use Rattle.json.specs.Lex.{lex, in_string, in_escape};
+ghost use Rattle.lsp_outline.specs.Walk.{IsText};
+
+use crate::bytes::byte_at;
+
+/// Where the bytes end that stand for themselves in a string.
+#[inline(always)]
+fn plain_end(bytes: &[u8], from: usize) -> usize
+    requires { from ≤ length bytes.now }
+    ensures value { result ≡ from + prefix_len is_plain (drop from bytes.now) }
+    ensures within { result ≤ length bytes.now }
+{
+    let mut at = from;
+    'plain: while at < bytes.len() && bytes[at] != b'"' && bytes[at] != b'\\' && bytes[at] >= 0x20 {
+        at += 1;
+    }
+    at
+}
+
+/// The value of a hex digit, or 36.
+fn digit(byte: u8) -> u32
+    ensures value { result ≡ digit_value byte }
+    ensures ascii { result < 16 → byte < 128 }
+    ensures plain { result < 16 → is_plain byte ≡ true }
+{
+    match byte {
+        b'0'..=b'9' => (byte - b'0') as u32,
+        b'A'..=b'Z' => (byte - b'A') as u32 + 10,
+        b'a'..=b'z' => (byte - b'a') as u32 + 10,
+        _ => 36,
+    }
+}
+
+/// What four hex digits write.
+fn code_unit_at(bytes: &[u8], at: usize) -> Option<u32>
+    requires { at + 4 ≤ length bytes.now }
+    ensures value { result ≡ code_unit (get_or bytes.now at 0) (get_or bytes.now (at + 1) 0)
+        (get_or bytes.now (at + 2) 0) (get_or bytes.now (at + 3) 0) }
+    ensures bounds { IfSome result (λ u. (u < 65536) × (get_or bytes.now (at + 3) 0 < 128)) }
+    ensures passed { IfSome result (λ _.
+        lex in_string (drop at bytes.now) ≡ lex in_string (drop (at + 4) bytes.now)) }
+{
+    let (a, b, c, d) = (
+        digit(bytes[at]),
+        digit(bytes[at + 1]),
+        digit(bytes[at + 2]),
+        digit(bytes[at + 3]),
+    );
+    if (a < 16) & (b < 16) & (c < 16) & (d < 16) {
+        Some(a * 4096 + b * 256 + c * 16 + d)
+    } else {
+        None
+    }
+}
+
+/// What a backslash and this byte write.
+fn short_escape(byte: u8) -> Option<u8>
+    ensures value { result ≡ short_escape byte }
+    ensures ascii { IfSome result (λ c. (c < 128) × (byte < 128)) }
+{
+    match byte {
+        b'"' | b'\\' | b'/' => Some(byte),
+        b'b' => Some(8),
+        b'f' => Some(12),
+        b'n' => Some(b'\n'),
+        b'r' => Some(b'\r'),
+        b't' => Some(b'\t'),
+        _ => None,
+    }
+}
+
+/// The second half of a surrogate pair.
+fn low_half(bytes: &[u8], at: usize, high: u32) -> Option<(char, usize)>
+    requires { (at ≤ length bytes.now) × (0xd800 ≤ high) × (high < 0xdc00) }
+    ensures value { Escape bytes.now (after_high high) at result }
+    ensures passed { IfSome result (λ r.
+        lex in_string (drop at bytes.now) ≡ lex in_string (drop r.1 bytes.now)) }
+{
+    if bytes.len() - at < 6 || !((bytes[at] == b'\\') & (bytes[at + 1] == b'u')) {
+        return None;
+    }
+    let low = code_unit_at(bytes, at + 2)?;
+    if !((0xdc00 <= low) & (low < 0xe000)) {
+        return None;
+    }
+    let c = char::from_u32(0x10000 + (high - 0xd800) * 1024 + (low - 0xdc00))?;
+    Some((c, at + 6))
+}
+
+/// What follows `\u`: its character, and where the text goes on.
+fn unicode(bytes: &[u8], at: usize) -> Option<(char, usize)>
+    requires { at ≤ length bytes.now }
+    ensures value { Escape bytes.now after_u at result }
+    ensures passed { IfSome result (λ r.
+        lex in_string (drop at bytes.now) ≡ lex in_string (drop r.1 bytes.now)) }
+{
+    if bytes.len() - at < 4 {
+        return None;
+    }
+    let unit = code_unit_at(bytes, at)?;
+    if (0xd800 <= unit) & (unit < 0xdc00) {
+        return low_half(bytes, at + 4, unit);
+    }
+    let c = char::from_u32(unit)?;
+    Some((c, at + 4))
+}
+
+/// What follows a backslash: its character, and where the text goes on.
+fn escape(bytes: &[u8], at: usize) -> Option<(char, usize)>
+    requires { at ≤ length bytes.now }
+    ensures value { Escape bytes.now after_backslash at result }
+    ensures passed { IfSome result (λ r.
+        lex in_escape (drop at bytes.now) ≡ lex in_string (drop r.1 bytes.now)) }
+{
+    if at == bytes.len() {
+        return None;
+    }
+    if bytes[at] == b'u' {
+        return unicode(bytes, at + 1);
+    }
+    let c = short_escape(bytes[at])?;
+    Some((c as char, at + 1))
+}
+
+/// Where the text of a string ends that begins there, past its closing quote.
+#[inline(always)]
+pub(crate) fn text_end(bytes: &[u8], from: usize) -> Option<usize>
+    requires { from ≤ length bytes.now }
+    ensures { IfSome result (λ end. (s : List ℕ) × IsText bytes.now from end s) }
+{
+    let mut at = from;
+    'runs: loop {
+        let stop = plain_end(bytes, at);
+        let mark = byte_at(bytes, stop);
+        if mark == b'"' {
+            return Some(stop + 1);
+        }
+        if mark != b'\\' {
+            return None;
+        }
+        let (_, next) = escape(bytes, stop + 1)?;
+        at = next;
+    }
+}
+
+/// The text of a string that begins there, where it has no escape, and where it ends, past its
+/// closing quote.
+#[inline(always)]
+pub(crate) fn plain_text(bytes: &[u8], from: usize) -> Option<(&str, usize)>
+    requires { from ≤ length bytes.now }
+    ensures { IfSome result (λ r. IsText bytes.now from r.1 r.0.now) }
+{
+    let stop = plain_end(bytes, from);
+    if byte_at(bytes, stop) != b'"' {
+        return None;
+    }
+    let text = std::str::from_utf8(&bytes[from..stop]).ok()?;
+    Some((text, stop + 1))
+}
