@@ -29,13 +29,13 @@ module _ (side : Side) (d : State) (bytes : List ℕ) (due : List Raw) (h : IsDu
   due_with left breaks e f = h.are ∙ ap (λ w. map (content side) w ++ new_fault side d.fault h.breaks) e ∙ ap (λ o. map (content side) left ++ new_fault side d.fault o) f
 
   -- the stream has no more contents
-  pub due_end : (rest : List ℕ) (breaks : Option ℕ) → IsStream d.limits bytes h.given rest breaks → due ≡ new_fault side d.fault breaks
+  due_end : (rest : List ℕ) (breaks : Option ℕ) → IsStream d.limits bytes h.given rest breaks → due ≡ new_fault side d.fault breaks
   due_end rest breaks stream =
       let one = one_stream d.limits bytes h.given (h.given ++ h.left) rest h.rest breaks h.breaks stream h.stream in
       due_with [] breaks (cancel_all h.given h.left (sym one.contents)) (sym one.fault)
 
   -- the stream has this content next, and it was given
-  pub due_given : (new : State) (c : List ℕ) → new.limits ≡ d.limits → new.fault ≡ d.fault → decoder.StandsFor new bytes (h.given ++ c ∷ []) → (later : List Raw) × (due ≡ content side c ∷ later) × IsDue side new bytes later
+  due_given : (new : State) (c : List ℕ) → new.limits ≡ d.limits → new.fault ≡ d.fault → decoder.StandsFor new bytes (h.given ++ c ∷ []) → (later : List Raw) × (due ≡ content side c ∷ later) × IsDue side new bytes later
   due_given new c same fault stands =
       let frames = subst (λ (w : Bounds). Frames w bytes (h.given ++ c ∷ []) stands.rest) same stands.frames in
       let cut = frames_first d.limits bytes (h.given ++ c ∷ []) stands.rest (h.given ++ h.left) h.rest h.breaks frames h.stream in

@@ -1,27 +1,20 @@
 -- The events of a log, with one entry more taken or one event more given.
-use Rattle.std.proofs.Common.{◌≡◌, ◌≤◌, ℕ, List, [], ◌∷◌, ◌++◌, length, Option, Some, None, IsSome, Result, Ok, Err, refl, sym, ap, subst, ◌∙◌, append_assoc, append-nil}
-use Rattle.std.proofs.lemmas.Option.{same_Some}
+use Rattle.std.proofs.Common.{◌≡◌, ℕ, List, [], ◌∷◌, ◌++◌, Option, Some, None, IsSome, Result, Ok, Err, refl, sym, ap, subst, ◌∙◌, append_assoc, append-nil}
 use Rattle.std.specs.Io.KnownBytes.{IsAtEnd}
 use Rattle.lsp_frame.specs.Bounds.{Bounds}
-use Rattle.lsp_frame.specs.Decoder as decoder
 use Rattle.lsp_frame.specs.Told.{Told}
 use Rattle.lsp_frame.specs.declared.format.Format.{Format}
 use Rattle.lsp_log.specs.Log.{Record, IsLog}
 use Rattle.lsp_log.specs.Reader as reader
 use Rattle.lsp_log.specs.declared.fault.LogCode.{LogCode}
 use Rattle.lsp_streams.specs.LogEvents.{HasGiven, IsLogOf, EndsBehind, HasRead, Reads, Ended, BrokeOff, Finds, IsIdle, Takes, flaw_of}
-use Rattle.lsp_streams.specs.Streams.{State, IsRaw, Stands, Steps, IsHeld, StepsAt, StepsBy, decoder_of}
+use Rattle.lsp_streams.specs.Streams.{State, IsRaw, Stands, Steps}
 use Rattle.lsp_streams.specs.declared.log_events.End.{End}
 use Rattle.lsp_streams.specs.declared.log_events.End.TheVariants.{Sound, Bad}
 use Rattle.lsp_streams.specs.declared.log_events.LogEvents.{LogEvents}
 use Rattle.lsp_streams.specs.declared.log_events.Step.{Step}
 use Rattle.lsp_streams.specs.declared.log_events.Step.TheVariants as found
 use Rattle.lsp_streams.specs.declared.streams.Due.{Due}
-use Rattle.lsp_streams.specs.declared.streams.Due.TheVariants as dues
-use Rattle.lsp_streams.specs.declared.streams.Turn.{Turn}
-use Rattle.lsp_streams.specs.declared.streams.Turn.TheVariants as turn
-use Rattle.lsp_types.specs.declared.side.Side.{Side}
-use Rattle.lsp_types.specs.declared.side.Side.TheVariants.{Editor, Server}
 use Rattle.lsp_verdict.specs.Entries as entries
 use Rattle.lsp_verdict.specs.Entries.{IsAt, HasFirst, HasRecords, ShowsFault}
 use Rattle.lsp_verdict.specs.Placed.{Raw, Placed}
@@ -36,10 +29,10 @@ use Rattle.lsp_streams.proofs.Streaming.{one_raw, stepped}
 
 -- ---- a log that has these records and events first
 
-pub none_more : (P : List Record → Type 0) (records : List Record) → P records → (more : List Record) × P (records ++ more)
+none_more : (P : List Record → Type 0) (records : List Record) → P records → (more : List Record) × P (records ++ more)
 none_more P records p = ([], subst P (sym (append-nil records)) p)
 
-pub more_then : (P : List Record → Type 0) (records more : List Record) → ((rest : List Record) × P ((records ++ more) ++ rest)) → (all : List Record) × P (records ++ all)
+more_then : (P : List Record → Type 0) (records more : List Record) → ((rest : List Record) × P ((records ++ more) ++ rest)) → (all : List Record) × P (records ++ all)
 more_then P records more (rest, p) = (more ++ rest, subst P (append_assoc records more rest) p)
 
 -- the log is of the format that is known
@@ -185,24 +178,6 @@ bad_end was limits r start now records number fault same has shows = record {
 }
 
 -- ---- the next event
-
--- what was gone past is held
-held_by : (fault : Option ℕ) (side : Side) (old new : decoder.State) (given : Due) (s : State) → decoder_of side s ≡ new → StepsBy fault side old new (Some given) → IsHeld s given
-held_by (Some rule) side old new given s is (none, same) = absurd cc
-held_by None side old new (dues.Content by len) s is (own, within, step) =
-    let own_decoder : decoder_of by s ≡ new = ap (λ (b : Side). decoder_of b s) own ∙ is in
-    subst (λ (d : decoder.State). len ≤ length d.kept) (sym own_decoder) within
-held_by None side old new (dues.Broken by rule) s is steps = tt
-held_by None side old new dues.Snapshot s is none = absurd none
-
-pub steps_held : (old new : State) (given : Due) → Steps old new (Some given) → IsHeld new given
-steps_held old new given steps = by_turn old.turn steps
-  where
-    by_turn : (t : Option Turn) → StepsAt t old new (Some given) → IsHeld new given
-    by_turn None (none, same) = absurd cc
-    by_turn (Some (turn.Bytes Editor)) (steps, same) = held_by old.editor.fault Editor old.editor new.editor given new refl steps
-    by_turn (Some (turn.Bytes Server)) (steps, same) = held_by old.server.fault Server old.server new.server given new refl steps
-    by_turn (Some turn.Snapshot) (is, same, held) = subst (IsHeld new) (sym (same_Some _ _ is)) held
 
 module _ (limits : Bounds) (format : Option Format) (start now : Told) (records : List Record) (given due : List Raw) (old new : LogEvents) (log : new.log ≡ old.log) (end : new.end ≡ old.end) (h : Reads limits format old start now records given due) where
   -- the streams alone went on

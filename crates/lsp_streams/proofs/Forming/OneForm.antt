@@ -21,7 +21,7 @@ use Rattle.lsp_verdict.proofs.Outcomes.{one_rest}
 use Rattle.lsp_verdict.proofs.PlacedLemmas.{one_placed}
 use Rattle.lsp_verdict.proofs.Sessions.{some_placed}
 
-pub broken_is : (raws : List Raw) (end : Ending) (v : Verdict) → first_broken raws ≡ Some v → fault_of raws end ≡ Some v
+broken_is : (raws : List Raw) (end : Ending) (v : Verdict) → first_broken raws ≡ Some v → fault_of raws end ≡ Some v
 broken_is raws end v breaks = ap (λ (o : Option Verdict). option_or o (option_or (bad_log_of end.log_fault) (rest_of raws end.editor_rest end.server_rest))) breaks
 
 -- ---- each log has a normal form

@@ -59,7 +59,7 @@ module _ (limits : Bounds) (format : Option Format) (e : LogEvents) (start now :
   }
 
   -- and its content was copied, if memory was not refused
-  pub answered : (result : Result Answer RunFault) → IfOk result (λ answer. Answers answer raw) → ((fault : RunFault) → result ≡ Err fault → fault ≡ faults.Memory) → Finds limits n start now result
+  answered : (result : Result Answer RunFault) → IfOk result (λ answer. Answers answer raw) → ((fault : RunFault) → result ≡ Err fault → fault ≡ faults.Memory) → Finds limits n start now result
   answered (Ok answer) answers memory = event_found answer answers
   answered (Err fault) answers memory = record {
     of_read = read_map limits start now (HasGiven limits format records (given ++ raw ∷ [])) (λ log. Unit {0}) (λ log has. tt) (reads_given limits format e start now records (given ++ raw ∷ []) due h);
