@@ -44,7 +44,7 @@ def statuses(text):
 
 
 def compared(page, helps):
-    """Pairs that have to be equal: of what, what the page has, and what the texts of help have."""
+    """Pairs that must be equal: what is compared, what the page has, and what the texts of help have."""
     listed = re.split(r"^Commands:\n", helps[""], flags=re.M)[1].split("\n\n")[0]
     yield "commands", [it[0] for it in heads(page, "COMMANDS")], re.findall(r"^  (\w+)", listed, re.M)
     found = {option: (short, argument) for text in helps.values() for short, option, argument in options(text)}

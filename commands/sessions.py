@@ -1,4 +1,4 @@
-"""Sessions, byte by byte, and what has to be said of them.
+"""Sessions, byte by byte, and what must be reported about them.
 
 The messages and what the commands answer are worked out by hand from LSP 3.17 and the pages in docs.
 """
@@ -97,7 +97,7 @@ KILLED_REPORT = b"no 407 editor 5 event 8\nexit is missing\n"
 REST = HEAD + b"E 3\nabc\n"
 REST_REPORT = b"no 107 editor 1 event 1\nstream ends inside a frame\n"
 
-# A header part that is none, and behind it a message of either side.
+# A header part that is none, and after it a message of either side.
 BROKEN = HEAD + b"E 4\n\r\n\r\n\n" + EXIT + STOPPED
 BROKEN_REPORT = b"no 102 editor 1 event 1\nbad header line\n"
 
@@ -183,7 +183,7 @@ DIFFERS_FACTS += b'held 3\nbrought 5\nsent 3\nat 0 0\nheld "new"\nrecorded "old"
 PARTS_FACTS = b'event 7 snapshot 3 3 "file:///a"\n' + URI_LINE
 PARTS_FACTS += b'held 3\nbrought 6\nsent 3\nat 0 0\nheld "new"\nrecorded "old"\nsnapshot 7\nagreed 5 1\n'
 
-# Of logs with a no: what is said behind its two lines.
+# Of logs with a no: what is written after its two lines.
 FACTS = [
     (WRONGS, STAYS, STAYS_FACTS),
     (REVERSES, REVERSES_REPORT, REVERSED_FACTS),
@@ -201,7 +201,7 @@ begins "Content-Lenght: 2\r\n\r\n"
 '''),
 ]
 
-# The same of sessions that have to be complete.
+# The same for sessions that must be complete.
 LACK_FACTS = [
     (UNANSWERED, UNANSWERED_REPORT, b'event 8 editor\nrequest 2 "shutdown" 6\nphase exited\nsince 7\n'),
     (KILLED, KILLED_REPORT, b"event 8 editor\nphase stopping\nsince 6\n"),
@@ -282,7 +282,7 @@ def in_bytes(log):
     return b"".join(cut)
 
 
-# Logs with a fault, by their bytes behind the first line, and what is said of them.
+# Logs with a fault, by their bytes after the first line, and what is reported about them.
 BAD_LOGS = {
     b"E 0\n": b"bad log L3 record 1\nsize out of range\n",
     b"E 1048577\n": b"bad log L3 record 1\nsize out of range\n",
@@ -306,7 +306,7 @@ BAD_LINES = {
 
 BAD_FIRST_LINE = b"bad log L1 record 0\nbad first line\n"
 
-# What doesn't begin as a log does, and a word of the hint that has to be given.
+# What doesn't begin as a log does, and a word of the hint that must be given.
 NO_LOGS = {
     b"": b"is empty",
     b"Content-Length: 2\r\n\r\n{}": b"lspcheck frames",

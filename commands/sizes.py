@@ -1,4 +1,4 @@
-"""Sessions of a size, made here, and what has to be said of them, worked out from what was put in.
+"""Sessions of a size, made here, and what must be reported about them, worked out from what was put in.
 
 Each is a name, the words of the run, the input, the status, and both outputs.
 """
@@ -104,7 +104,7 @@ def many_requests(count=2400):
 
 
 def many_snapshots(count=1000):
-    """Snapshots that come before their versions, in another order, and others that no version comes to."""
+    """Snapshots that come before their versions, in another order, and others whose version never comes."""
     log, uri = [START], "file:///a"
     for version in random.Random(2).sample(range(2, 2 + count), count):
         log.append(snapshot(version, uri, f"text {version}"))

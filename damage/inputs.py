@@ -1,5 +1,5 @@
 """Damaged sessions and raw streams, each a function of a seed: what was whole is made from a few messages, or is
-one of the recorded examples, and is then cut, spoilt, repeated, or put in another order."""
+one of the recorded examples, and is then cut, damaged, repeated, or put in another order."""
 
 import json
 import random
