@@ -2,7 +2,7 @@
 use Rattle.std.specs.Prelude.{map, take, filter, if◌then◌else◌}
 use Rattle.std.specs.List.{AllByRecursion, AllZip, cons_option}
 use Rattle.std.specs.Option.{option_map}
-use Rattle.std.proofs.Common.{◌≡◌, ℕ, Bool, true, false, List, [], ◌∷◌, ◌++◌, Option, Some, None, length, refl, sym, ap, subst, ◌∙◌}
+use Rattle.std.proofs.Common.{◌≡◌, ◌+◌, ℕ, Bool, true, false, List, [], ◌∷◌, ◌++◌, Option, Some, None, length, refl, sym, ap, subst, ◌∙◌}
 use Rattle.lsp_docs.specs.Terms.{Terms}
 use Rattle.lsp_frame.specs.Bounds.{Bounds, IsInRange}
 use Rattle.lsp_frame.specs.declared.format.Format.{Format}
@@ -233,24 +233,24 @@ some_explanation completeness limits log =
         flaw = flaw_of limits log x;
         s = sum_of limits x;
         is = record {
-            format = x.format;
-            records = x.records;
-            log_fault = x.log_fault;
-            heard = x.heard;
-            rests = x.rests;
-            of_events = said.0;
-            is_log = parts.1.is_log;
-            placed_are = parts.1.placed_are;
-            noted = parts.1.noted;
-            editor_rest = parts.1.editor_rest;
-            server_rest = parts.1.server_rest;
-            lists = refl;
-            bad_is = refl;
-            flaw_is = refl;
-            comes_to = refl;
-            explains = said.1;
-            shows = refl;
-          };
+          format = x.format;
+          records = x.records;
+          log_fault = x.log_fault;
+          heard = x.heard;
+          rests = x.rests;
+          of_events = said.0;
+          is_log = parts.1.is_log;
+          placed_are = parts.1.placed_are;
+          noted = parts.1.noted;
+          editor_rest = parts.1.editor_rest;
+          server_rest = parts.1.server_rest;
+          lists = refl;
+          bad_is = refl;
+          flaw_is = refl;
+          comes_to = refl;
+          explains = said.1;
+          shows = refl;
+        };
         judges = refl;
         says = refl;
       },
@@ -292,24 +292,24 @@ some_explanation_of_all completeness limits log =
         flaw = flaw_of limits log x;
         s = sum_of limits x;
         are = record {
-            format = x.format;
-            records = x.records;
-            log_fault = x.log_fault;
-            heard = x.heard;
-            rests = x.rests;
-            of_events = said.0;
-            is_log = parts.1.is_log;
-            placed_are = parts.1.placed_are;
-            noted = parts.1.noted;
-            editor_rest = parts.1.editor_rest;
-            server_rest = parts.1.server_rest;
-            lists = refl;
-            bad_is = refl;
-            flaw_is = refl;
-            comes_to = refl;
-            explains = said.1;
-            shows = refl;
-          };
+          format = x.format;
+          records = x.records;
+          log_fault = x.log_fault;
+          heard = x.heard;
+          rests = x.rests;
+          of_events = said.0;
+          is_log = parts.1.is_log;
+          placed_are = parts.1.placed_are;
+          noted = parts.1.noted;
+          editor_rest = parts.1.editor_rest;
+          server_rest = parts.1.server_rest;
+          lists = refl;
+          bad_is = refl;
+          flaw_is = refl;
+          comes_to = refl;
+          explains = said.1;
+          shows = refl;
+        };
         judges = refl;
         says = refl;
       },
