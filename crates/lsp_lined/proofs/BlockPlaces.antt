@@ -1,5 +1,5 @@
 -- What a block's places and sums say of its text.
-use Rattle.std.proofs.Common.{◌≡◌, ◌<◌, ◌≤◌, ◌+◌, ◌-◌, ◌^◌, ◌&&◌, ◌||◌, not, ⊎_elim, ℕ, false, true, List, [], ◌++◌, length, map, take, drop, get_or, refl, sym, ap, subst, ◌∙◌, arith, length-drop, take-add}
+use Rattle.std.proofs.Common.{◌≡◌, ◌<◌, ◌≤◌, ◌+◌, ◌-◌, ◌^◌, ◌&&◌, not, ⊎_elim, ℕ, false, true, List, [], ◌++◌, length, map, take, drop, get_or, refl, sym, ap, subst, ◌∙◌, arith, take-add}
 use Rattle.std.specs.List.{replace_range}
 use Rattle.std.specs.Prelude.{EachIndex, slice_index}
 use Rattle.std.proofs.lemmas.List.{append-nil, take-append-drop, get_or_default, take_all}
@@ -61,7 +61,7 @@ block_places a bs held text h is same t =
 
 -- ---- the line ends
 
--- the place behind line end `n` is in the table
+-- the place after line end `n` is in the table
 pub in_table : (bs places : List ℕ) (n : ℕ) → places ≡ places_behind 0 bs → n < ends_in bs → n < length places
 in_table bs places n are some = omega (arith, ap length are, length-places_behind 0 bs)
 
@@ -71,7 +71,7 @@ place_read bs places n after are is some =
     let e : slice_index (places_behind 0 bs) n ≡ after = sym (is ∙ get_or_default places n after 0 lt ∙ ap (λ (x : List ℕ). get_or x n 0) are) in
     subst (λ (x : ℕ). IsAfterEnd bs n x) e (place_is_end bs n some)
 
--- a boundary stands behind a line end
+-- a boundary stands after a line end
 pub boundary_behind : (bs : List ℕ) (n after : ℕ) → IsUtf8 bs → IsAfterEnd bs n after → IsCharBoundary bs after
 boundary_behind bs n after u h =
     let some = h.some in

@@ -1,9 +1,9 @@
 -- The text of a chunk, in the blocks that it lends.
-use Rattle.std.proofs.Common.{◌≡◌, ◌<◌, ◌^◌, ℕ, List, length, map, sym, ap, subst, ◌∙◌}
+use Rattle.std.proofs.Common.{◌≡◌, ℕ, List, map, sym, ap, subst, ◌∙◌}
 use Rattle.std.proofs.lemmas.List.{map-id}
 use Rattle.std.specs.Str.{IsUtf8}
 use Rattle.lsp_lined.specs.Sums.{sums_of}
-use Rattle.lsp_lined.specs.Parts.{joined, AreParts, AreKept}
+use Rattle.lsp_lined.specs.Parts.{joined, AreKept}
 use Rattle.lsp_lined.specs.Chunks.{IsChunk}
 use Rattle.lsp_lined.specs.declared.chunk.Chunk.TheInside.{Inside}
 use Rattle.lsp_lined.specs.declared.sums.Sums.{Sums}

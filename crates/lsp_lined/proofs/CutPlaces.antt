@@ -1,6 +1,6 @@
 -- Where a text may be cut into blocks.
-use Rattle.std.proofs.Common.{◌≡◌, ◌≢◌, ◌<◌, ◌≤◌, ◌+◌, ◌-◌, ◌&&◌, ℕ, Bool, true, false, List, [], ◌∷◌, ◌++◌, length, take, drop, get_or, refl, sym, ap, subst, ◌∙◌, ⊎_elim, arith, length-append, append_assoc}
-use Rattle.std.proofs.lemmas.List.{append-nil, take-append-drop, take_more, drop_more, length-take-le}
+use Rattle.std.proofs.Common.{◌≡◌, ◌≢◌, ◌<◌, ◌≤◌, ◌+◌, ◌-◌, ◌&&◌, ℕ, Bool, false, List, [], ◌∷◌, ◌++◌, length, take, drop, get_or, refl, sym, ap, ◌∙◌, ⊎_elim, arith, length-append, append_assoc}
+use Rattle.std.proofs.lemmas.List.{append-nil, take-append-drop, take_more, drop_more}
 use Rattle.std.proofs.lemmas.Bool.{and_right, cases_lt, ne_eqb}
 use Rattle.std.specs.Str.{IsUtf8, IsCharBoundary}
 use Rattle.std.proofs.lemmas.Str.{IsUtf8-past_char, IsUtf8-take, IsUtf8-drop, IsCharBoundary-at_seam, IsCharBoundary-before_ascii, length-encode, len_utf8_bounds}
@@ -32,7 +32,7 @@ apart_before_other bs n lt ne =
 pub apart_before_return : (bs : List ℕ) (n : ℕ) → n < length bs → get_or bs n 0 ≡ 13 → joins (take n bs) (drop n bs) ≡ false
 apart_before_return bs n lt is = apart_before_other bs n lt (λ e. let f : 13 ≡ 10 = sym is ∙ e in absurd (omega arith))
 
--- a boundary behind the first two characters
+-- a boundary after the first two characters
 record HasEarly (bs : List ℕ) : Type 0 where
   at : ℕ
   least : 2 ≤ at
@@ -77,7 +77,7 @@ cut_before_other bs n some b lt ne = record { some = omega arith; boundary = b; 
 
 -- ---- a text that is cut into parts, block by block
 
--- the parts so far, behind others, and the rest of the text
+-- the parts so far, after others, and the rest of the text
 pub record IsCutSoFar (old : List (List ℕ)) (text rest : List ℕ) (new : List (List ℕ)) : Type 0 where
   pub fresh : List (List ℕ)
   pub items : new ≡ old ++ fresh

@@ -19,7 +19,7 @@ use Rattle.lsp_lined.specs.Sums.{sums_of, AreAtMost}
 abbrev pub one_if : Bool → ℕ
 one_if b = cond b 1 0
 
--- ---- bytes behind others
+-- ---- bytes after others
 
 same_end : (f r s : Bool) → (r && s) ≡ false → (f || (r && not s)) ≡ (f || (r && true))
 same_end true r s h = refl

@@ -1,4 +1,4 @@
--- The places behind line ends, in a table that an edit moves.
+-- The places after line ends, in a table that an edit moves.
 use Rattle.std.proofs.Common.{◌≡◌, ◌<◌, ◌≤◌, ◌+◌, ◌-◌, ◌&&◌, ◌||◌, ℕ, Bool, true, false, not, cond, List, [], ◌∷◌, ◌++◌, length, map, take, drop, get_or, zero, suc, refl, sym, ap, subst, ⊎_elim, ◌∙◌, arith, length-append, append_assoc}
 use Rattle.std.specs.Prelude.{EachIndex, slice_index}
 use Rattle.std.proofs.lemmas.Bool.{cases_Bool, cases_lt, cond-true, cond-false, lt-ltb, le-ltb, and_left}
@@ -8,7 +8,7 @@ use Rattle.lsp_lined.specs.Ends.{is_end, is_end_at, ends_in, places_behind, move
 use Rattle.lsp_lined.proofs.EndCounts.{one_if, length-places_behind, places_behind-add, places_behind-append}
 use Rattle.lsp_lined.proofs.PlaceSteps.{apart_from_none}
 
--- ---- a place of the table is behind a line end
+-- ---- a place of the table is after a line end
 
 -- an end stays one where fewer bytes follow
 end_alone : (f r s : Bool) → (f || (r && not s)) ≡ true → (f || (r && true)) ≡ true
@@ -66,7 +66,7 @@ place_at_end b bs (suc j) t lt h =
     ap (λ (xs : List ℕ). get_or xs (suc j) 0) (cond-true (is_end b bs) (1 ∷ places_behind 1 bs) (places_behind 1 bs) t) ∙ place_further bs j less in
     subst (λ k. IsAfterEnd (b ∷ bs) (suc j) k) (sym e) (later_end b bs j (suc j) (get_or (places_behind 0 bs) j 0) (h j less) (omega arith))
 
--- **Place `n` of the table is behind line end `n`.**
+-- **Place `n` of the table is after line end `n`.**
 pub place_is_end : (bs : List ℕ) (n : ℕ) → n < ends_in bs → IsAfterEnd bs n (slice_index (places_behind 0 bs) n)
 place_is_end [] n lt = absurd (omega arith)
 place_is_end (b ∷ bs) n lt =
@@ -125,7 +125,7 @@ moved_behind from removed inserted n m (b ∷ bs) le e =
     (cond-true _ _ _ (lt-ltb from (n + 1) (omega arith)) ∙ here)
     (moved_behind from removed inserted (n + 1) (m + 1) bs (omega arith) (omega arith))
 
--- **Where bytes without a line end take the place of others without one, the places behind them move.**
+-- **Where bytes without a line end take the place of others without one, the places after them move.**
 pub places_moved : (a r s c : List ℕ) → ends_with_return false a ≡ false → ends_in r ≡ 0 → ends_in s ≡ 0 →
     places_behind 0 ((a ++ s) ++ c) ≡ map (moved_place (length a) (length r) (length s)) (places_behind 0 ((a ++ r) ++ c))
 places_moved a r s c last none_r none_s =

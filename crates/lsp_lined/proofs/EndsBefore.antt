@@ -1,13 +1,12 @@
 -- The line end before a place.
-use Rattle.std.proofs.Common.{◌≡◌, ◌≢◌, ◌<◌, ◌≤◌, ◌+◌, ◌-◌, ◌&&◌, ◌||◌, ℕ, Bool, true, false, not, List, [], ◌∷◌, ◌++◌, length, take, drop, get_or, refl, sym, ap, subst, ◌∙◌, ⊎_elim, arith, length-drop}
+use Rattle.std.proofs.Common.{◌≡◌, ◌<◌, ◌≤◌, ◌+◌, ◌-◌, ◌&&◌, ℕ, Bool, true, false, not, List, [], ◌∷◌, length, take, drop, get_or, refl, sym, ap, ◌∙◌, ⊎_elim, arith, length-drop}
 use Rattle.std.proofs.lemmas.List.{drop_more, get_or-drop}
 use Rattle.std.proofs.lemmas.Bool.{false≢true, cases_lt, eqb-true, or_cases}
-use Rattle.std.specs.Str.{IsUtf8, IsCharBoundary}
+use Rattle.std.specs.Str.{IsUtf8}
 use Rattle.std.proofs.lemmas.Str.{IsUtf8-drop, IsCharBoundary-before_ascii}
 use Rattle.lsp_text.specs.Lines.{is_feed, is_return, starts_with_feed}
-use Rattle.lsp_text.specs.LineEnd.{IsEndLen}
 use Rattle.lsp_text.proofs.LineBytes.{end_is_feed, end_is_both, end_is_return}
-use Rattle.lsp_lined.specs.Ends.{ends_in, ends_with_return, joins, is_end_at, IsEndAt}
+use Rattle.lsp_lined.specs.Ends.{ends_in, joins, is_end_at, IsEndAt}
 use Rattle.lsp_lined.proofs.CutPlaces.{feed_at, apart_from_other, apart_before_return}
 
 take_one : (bs : List ℕ) (i : ℕ) → i < length bs → take 1 (drop i bs) ≡ get_or bs i 0 ∷ []

@@ -1,5 +1,5 @@
 -- The sums of a text in which one part is exchanged for another.
-use Rattle.std.proofs.Common.{◌≡◌, ◌<◌, ◌≤◌, ◌+◌, ◌-◌, ◌&&◌, ℕ, Bool, false, List, [], ◌∷◌, ◌++◌, length, take, drop, refl, sym, ap, subst, ◌∙◌, arith, length-append, length-drop}
+use Rattle.std.proofs.Common.{◌≡◌, ◌≤◌, ◌+◌, ◌-◌, ◌&&◌, ℕ, Bool, false, List, ◌++◌, length, take, drop, refl, sym, ap, subst, ◌∙◌, arith, length-append, length-drop}
 use Rattle.std.specs.List.{replace_range}
 use Rattle.std.proofs.lemmas.List.{take-append-drop, take-take, drop-take, length-take-le}
 use Rattle.std.specs.Str.{IsUtf8, IsCharBoundary}
@@ -8,12 +8,11 @@ use Rattle.lsp_text.specs.Lines.{starts_with_feed}
 use Rattle.lsp_lined.specs.Ends.{ends_in, ends_with_return, joins}
 use Rattle.lsp_lined.specs.Sums.{sums_of, added, exchanged, AreAtMost}
 use Rattle.lsp_lined.specs.declared.sums.Sums.{Sums}
-use Rattle.lsp_lined.proofs.EndCounts.{sums_at_most}
 use Rattle.lsp_lined.proofs.Parts.{ends_with_return-append, sums_of-append}
 use Rattle.lsp_lined.proofs.PartSteps.{counted_at_most}
-use Rattle.lsp_lined.proofs.PlaceSteps.{no_return_last, apart_from_none}
+use Rattle.lsp_lined.proofs.PlaceSteps.{no_return_last}
 
--- before, between and behind
+-- before, between and after
 pub sums_three : (a x c : List ℕ) → IsUtf8 a → IsUtf8 x → joins a x ≡ false → joins (a ++ x) c ≡ false → sums_of ((a ++ x) ++ c) ≡ added (added (sums_of a) (sums_of x)) (sums_of c)
 sums_three a x c ua ux near far =
     sums_of-append (a ++ x) c (IsUtf8-append a x ua ux) far ∙ ap (λ (s : Sums). added s (sums_of c)) (sums_of-append a x ua near)
@@ -61,7 +60,7 @@ exchange a r s c ua ur us uc near far near' far' whole old new w o n =
       len = ap (λ (x : Sums). x.bytes) same;
     }
 
--- a text without a line end, behind one that doesn't end with a CR
+-- a text without a line end, after one that doesn't end with a CR
 pub apart_behind_none : (a x c : List ℕ) → ends_with_return false a ≡ false → ends_in x ≡ 0 → joins (a ++ x) c ≡ false
 apart_behind_none a x c h none =
     ap (λ (v : Bool). v && starts_with_feed c) (ends_with_return-append false a x ∙ ap (λ (v : Bool). ends_with_return v x) h ∙ no_return_last x none)

@@ -6,7 +6,6 @@ use Rattle.std.proofs.lemmas.Str.{chars-nil, IsUtf8-nil}
 use Rattle.lsp_types.specs.declared.position.Position.{Position}
 use Rattle.lsp_text.specs.Lines.{lines_of}
 use Rattle.lsp_text.specs.Offsets.{IsAtLine}
-use Rattle.lsp_text.proofs.Positions.{at_first_line}
 use Rattle.lsp_lined.specs.Ends.{ends_in, IsNear, IsLineEnd}
 use Rattle.lsp_lined.specs.Sums.{sums_of}
 use Rattle.lsp_lined.specs.Steps.{line_number}
@@ -60,7 +59,7 @@ end_of_last ps s bs i h is =
 pub end_in : (bs whole : List ℕ) (i : ℕ) (e : LineEnd) → IsUtf8 bs → whole ≡ bs → IsLineEnd whole i e → IsEndOf bs i e.at e.after
 end_in bs whole i e u is h = end_of_line bs i e u (subst (λ (x : List ℕ). IsLineEnd x i e) is h)
 
--- the line behind it
+-- the line after it
 pub line_behind : (bs whole : List ℕ) (i : ℕ) (e : LineEnd) → IsUtf8 bs → whole ≡ bs → 0 < i → IsLineEnd whole (i - 1) e → IsAtLine bs i e.after (drop e.after bs)
 line_behind bs whole i e u is some h =
     let n : i - 1 + 1 ≡ i = omega arith in

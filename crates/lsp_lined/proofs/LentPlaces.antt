@@ -1,17 +1,16 @@
 -- Places of a lent line, and of the positions that fall in it.
-use Rattle.std.proofs.Common.{◌≡◌, ◌<◌, ◌≤◌, ◌+◌, ◌-◌, ℕ, Bool, true, List, [], ◌∷◌, ◌++◌, length, take, drop, get_or, min, Option, Some, None, MatchOption, refl, sym, ap, subst, ◌∙◌, inl, inr, ⊎_elim, arith, length-append, length-drop, take-add, append_assoc}
+use Rattle.std.proofs.Common.{◌≡◌, ◌<◌, ◌≤◌, ◌+◌, ◌-◌, ℕ, Bool, true, List, [], ◌∷◌, ◌++◌, length, take, drop, min, Option, Some, None, MatchOption, refl, sym, ap, subst, ◌∙◌, arith, length-drop, take-add}
 use Rattle.std.specs.Option.{option_map}
-use Rattle.std.proofs.lemmas.List.{take-append-drop, take_at, drop_at, take-append-le, take-take, drop-drop, drop_more, length-take-le, take_all}
-use Rattle.std.proofs.lemmas.Bool.{cases_lt}
+use Rattle.std.proofs.lemmas.List.{take-append-drop, take_at, drop_at, take-append-le, drop-drop, drop_more, length-take-le, take_all}
 use Rattle.std.specs.Str.{chars, IsUtf8, IsCharBoundary}
-use Rattle.std.proofs.lemmas.Str.{chars-append, chars-nil, IsUtf8-nil, IsUtf8-append, IsUtf8-take, IsUtf8-drop, IsUtf8-between, IsCharBoundary-end, IsCharBoundary-from_take}
+use Rattle.std.proofs.lemmas.Str.{chars-append, IsUtf8-nil, IsUtf8-take, IsUtf8-drop, IsUtf8-between, IsCharBoundary-end, IsCharBoundary-from_take}
 use lib.Utf8.{encodes}
 use Rattle.lsp_types.specs.declared.position.Encoding.{Encoding}
 use Rattle.lsp_types.specs.declared.position.Encoding.TheVariants.{Utf8}
 use Rattle.lsp_types.specs.declared.position.Position.{Position}
-use Rattle.lsp_text.specs.Lines.{Line, open_line, spelled, lines_of, line_at, text_of}
+use Rattle.lsp_text.specs.Lines.{Line, open_line, spelled, lines_of}
 use Rattle.lsp_text.specs.Places.{units, place_in_line, place_of, place_at}
-use Rattle.lsp_text.specs.Offsets.{IsOffset, IsTextOffset, IsAtLine}
+use Rattle.lsp_text.specs.Offsets.{IsOffset, IsTextOffset}
 use Rattle.lsp_text.proofs.Counting.{units-append, units-utf8, units-utf8_text, is_offset}
 use Rattle.lsp_text.proofs.Denoting.{place_in_line-sound}
 use Rattle.lsp_text.proofs.Positions.{IsLineAt, place_in_text, offset_in_text, slice_get-past, text_of-lines_of}
@@ -28,7 +27,7 @@ use Rattle.lsp_lined.proofs.Parts.{IsUtf8-joined}
 use Rattle.lsp_lined.proofs.PartEdits.{units_fit}
 use Rattle.lsp_lined.proofs.PartSteps.{IsUtf8-rest}
 
--- a text before, in and behind two places
+-- a text before, between and after two places
 pub record IsAround (bs : List ℕ) (start end : ℕ) : Type 0 where
   pub utf8 : IsUtf8 (bytes_between bs start end)
   pub len : length (bytes_between bs start end) ≡ end - start

@@ -1,11 +1,11 @@
 -- Places that are moved, one after another.
-use Rattle.std.proofs.Common.{◌≡◌, ◌<◌, ◌≤◌, ◌+◌, ◌-◌, ℕ, List, [], ◌∷◌, ◌++◌, length, map, take, drop, get_or, set, refl, sym, ap, subst, ◌∙◌, arith, append_assoc}
+use Rattle.std.proofs.Common.{◌≡◌, ◌<◌, ◌≤◌, ◌+◌, ◌-◌, ℕ, List, [], ◌∷◌, ◌++◌, length, map, take, drop, get_or, set, sym, ap, subst, ◌∙◌, arith, append_assoc}
 use Rattle.std.specs.Prelude.{EachIndex, slice_index}
 use Rattle.std.proofs.lemmas.List.{append-nil, length-map, length-take-le, get_or-append_right, get_or-drop, set-append_right, drop_more, map_more, take_all, drop_all}
 use Rattle.std.proofs.lemmas.Bool.{cond-true, cond-false, lt-ltb, le-ltb}
 use Rattle.lsp_lined.specs.Ends.{moved_place, CanMove}
 
--- some places are moved, and those behind them not yet
+-- some places are moved, and those after them not yet
 abbrev pub moved_to : (ℕ → ℕ) → List ℕ → ℕ → List ℕ
 moved_to f old i = map f (take i old) ++ drop i old
 

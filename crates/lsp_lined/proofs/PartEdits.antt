@@ -1,5 +1,5 @@
 -- An edit of one of some parts.
-use Rattle.std.proofs.Common.{◌≡◌, ◌<◌, ◌≤◌, ◌+◌, ◌-◌, ◌^◌, ℕ, Bool, true, false, List, [], ◌∷◌, length, map, take, get_or, set, refl, sym, ap, subst, ◌∙◌, arith}
+use Rattle.std.proofs.Common.{◌≡◌, ◌<◌, ◌≤◌, ◌^◌, ℕ, Bool, true, false, List, length, map, take, get_or, set, sym, ap, subst, ◌∙◌, arith}
 use Rattle.std.specs.List.{replace_range}
 use Rattle.std.proofs.lemmas.List.{length-map, length-take-le, map-set}
 use Rattle.std.proofs.lemmas.List.{length-set, get_or-set_same}
@@ -9,7 +9,7 @@ use Rattle.std.proofs.lemmas.Str.{IsUtf8-take}
 use Rattle.lsp_types.specs.declared.position.Encoding.{Encoding}
 use Rattle.lsp_text.specs.Places.{units}
 use Rattle.lsp_text.proofs.Counting.{units-utf8_text}
-use Rattle.lsp_lined.specs.Sums.{sums_of, exchanged}
+use Rattle.lsp_lined.specs.Sums.{sums_of}
 use Rattle.lsp_lined.specs.Parts.{joined, AreParts, part_at, CanReplace, IsSpot, IsReplacedOr, IsReplacedIn}
 use Rattle.lsp_lined.specs.declared.sums.Sums.{Sums}
 use Rattle.lsp_lined.specs.declared.part.Spot.{Spot}

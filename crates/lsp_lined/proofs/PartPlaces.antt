@@ -160,7 +160,7 @@ line_end-inside a p c n e b h =
 
 -- ---- columns
 
--- a column behind a character of so many units, where it is found behind that
+-- a column after a character of so many units, where it is found after that
 abbrev found_behind : ℕ → ℕ → Option ℕ → Option ℕ
 found_behind left n o = cond (ltb left 1) (Some 0) (cond (ltb left n) None (option_map (λ k. k + 1) o))
 

@@ -1,17 +1,17 @@
 -- Line ends in bytes: the first one of a text, and the one before a place.
-use Rattle.std.proofs.Common.{◌≡◌, ◌⊎◌, ◌<◌, ◌≤◌, ◌+◌, ◌-◌, ◌&&◌, ◌||◌, ℕ, Bool, true, false, not, cond, List, [], ◌∷◌, ◌++◌, length, map, take, drop, get_or, set, zero, suc, refl, sym, ap, subst, ◌∙◌, inl, inr, ⊎_elim, arith, length-append, append_assoc, length-drop, Option, Some, None, MatchOption, is_some}
-use Rattle.std.proofs.lemmas.List.{append-nil, take-append-drop, take_at, drop_at, take_more, drop_more, length-take-le, nil_from_length, get_or-drop, map_more, take-set, take_more_set, drop-set-lt}
-use Rattle.std.proofs.lemmas.Bool.{false≢true, true≢false, and_right, eqb-true, false_from_ne_true, or_cases, cond-true, cond-false}
-use Rattle.std.specs.Str.{chars, IsUtf8, IsCharBoundary}
+use Rattle.std.proofs.Common.{◌≡◌, ◌+◌, ◌&&◌, ◌||◌, ℕ, Bool, true, false, not, cond, List, [], ◌∷◌, ◌++◌, length, refl, sym, ap, subst, ◌∙◌, inl, inr, arith, length-append, append_assoc, Option, Some, None, MatchOption, is_some}
+use Rattle.std.proofs.lemmas.List.{nil_from_length}
+use Rattle.std.proofs.lemmas.Bool.{false≢true, true≢false, and_right}
+use Rattle.std.specs.Str.{chars, IsUtf8}
 use Rattle.std.specs.Bool.{IsTrue}
-use Rattle.std.proofs.lemmas.Str.{encodes-chars, encode_ascii}
+use Rattle.std.proofs.lemmas.Str.{encodes-chars}
 use lib.Utf8.{encodes, encode}
 use Rattle.lsp_text.specs.Lines.{is_feed, is_return, starts_with_feed, has_no_line_end, IsEndBefore}
 use Rattle.lsp_text.specs.FirstLine.{IsFirstLine}
 use Rattle.lsp_text.specs.declared.cut.FirstLine.{FirstLine}
 use Rattle.lsp_text.proofs.Cuts.{whole_parts}
 use Rattle.lsp_text.proofs.LineBytes.{starts_with_feed-text}
-use Rattle.lsp_lined.specs.Ends.{is_end, ends_in, places_behind, ends_with_return, joins}
+use Rattle.lsp_lined.specs.Ends.{ends_in, places_behind, ends_with_return, joins}
 use Rattle.lsp_lined.proofs.EndCounts.{places_behind-append, length-places_behind, ends_in-chars}
 use Rattle.lsp_lined.proofs.Parts.{ends_with_return-append}
 
@@ -97,7 +97,7 @@ one_end a e rest h =
       ]
     ]
 
--- **The first line of a text has the first place behind a line end.**
+-- **The first line of a text has the first place after a line end.**
 pub places-first : (n : ℕ) (bs : List ℕ) (f : FirstLine) → IsFirstLine bs f →
     places_behind n bs ≡ (n + (length f.text.now + length f.end.now)) ∷ places_behind (n + (length f.text.now + length f.end.now)) f.rest.now
 places-first n bs f h =

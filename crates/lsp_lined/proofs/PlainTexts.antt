@@ -1,11 +1,10 @@
 -- Units of texts, and of those whose characters have one byte each.
-use Rattle.std.proofs.Common.{◌≡◌, ◌<◌, ◌≤◌, ◌+◌, ℕ, List, [], ◌∷◌, ◌++◌, length, take, drop, min, Some, refl, sym, ap, subst, ◌∙◌, inl, inr, ⊎_elim, arith, length-append}
+use Rattle.std.proofs.Common.{◌≡◌, ◌<◌, ◌≤◌, ℕ, List, [], ◌∷◌, ◌++◌, length, take, drop, min, Some, refl, sym, ap, subst, ◌∙◌, inl, inr, ⊎_elim, arith, length-append}
 use Rattle.std.proofs.lemmas.List.{take-append-drop, length-take-le, take_all}
 use Rattle.std.proofs.lemmas.Bool.{cases_lt}
 use Rattle.std.proofs.lemmas.Bool.Decides.{nat_tests}
 use Rattle.std.proofs.lemmas.Str.{len_utf8_bounds, chars-append, IsUtf8-nil, IsUtf8-take, IsUtf8-drop, IsCharBoundary-end}
 use Rattle.std.specs.Str.{chars, IsUtf8, IsCharBoundary}
-use Rattle.std.specs.Char.{len_utf8}
 use lib.Utf8.{encodes}
 use Rattle.lsp_types.specs.declared.position.Encoding.{Encoding}
 use Rattle.lsp_types.specs.declared.position.Encoding.TheVariants.{Utf8, Utf16, Utf32}
@@ -13,7 +12,6 @@ use Rattle.lsp_text.specs.Places.{units, units_of_char}
 use Rattle.lsp_text.specs.Offsets.{IsOffset}
 use Rattle.lsp_text.proofs.Counting.{units-append, units-utf8, units-utf8_text, length-chars_le, is_offset}
 use Rattle.lsp_text.proofs.Denoting.{place_in_line-complete}
-use Rattle.lsp_text.proofs.Widths.{units-utf32}
 
 length_le_units : (cs : List ℕ) → length cs ≤ units Utf8 cs
 length_le_units [] = omega arith

@@ -1,5 +1,5 @@
 -- Blocks that are put in chunks, and parts that are cut anew at an edit.
-use Rattle.std.proofs.Common.{◌≡◌, ◌<◌, ◌≤◌, ◌+◌, ◌^◌, ℕ, false, List, [], ◌∷◌, ◌++◌, length, map, take, drop, get_or, sym, ap, subst, ⊎_elim, ◌∙◌, refl, arith, length-append, length-drop, append_assoc}
+use Rattle.std.proofs.Common.{◌≡◌, ◌<◌, ◌≤◌, ◌+◌, ◌^◌, ℕ, false, List, [], ◌∷◌, ◌++◌, length, map, take, drop, get_or, sym, ap, subst, ⊎_elim, ◌∙◌, arith, length-append, length-drop, append_assoc}
 use Rattle.std.specs.List.{replace_range, splice}
 use Rattle.std.proofs.lemmas.Bool.{cases_lt}
 use Rattle.std.proofs.lemmas.List.{take-append-drop, take-take, length-take-le, map-id, get_or_read}
@@ -11,11 +11,11 @@ use Rattle.lsp_lined.specs.Parts.{joined, AreParts, part_at, IsFound, IsFoundBef
 use Rattle.lsp_lined.specs.declared.sums.Sums.{Sums}
 use Rattle.lsp_lined.specs.declared.sums.Measure.TheVariants.{Units}
 use Rattle.lsp_lined.specs.declared.part.Found.{Found}
-use Rattle.lsp_lined.proofs.Parts.{joined-append, joined-more, joins-front, joins-farther, AreApart, AreApart-from_parts, IsUtf8-joined}
+use Rattle.lsp_lined.proofs.Parts.{joined-append, joined-more, joins-front, joins-farther, AreApart-from_parts, IsUtf8-joined}
 use Rattle.lsp_lined.proofs.CutPlaces.{AreParts-push, joined-push}
 use Rattle.lsp_lined.proofs.PartSteps.{found_within, joined_take_le}
 use Rattle.lsp_lined.proofs.PartPlaces.{before_part, after_part, found_units}
-use Rattle.lsp_lined.proofs.Spots.{AreSpliced, recut, spliced_parts, front_of, back_of, boundary_before}
+use Rattle.lsp_lined.proofs.Spots.{recut, spliced_parts, front_of, back_of, boundary_before}
 
 -- ---- chunks of blocks
 
@@ -26,9 +26,6 @@ pub record AreChunked (cs rs : List (List ℕ)) (bs : List ℕ) : Type 0 where
   pub some : 0 < length rs
   pub apart : joins (joined cs) (joined rs) ≡ false
   pub text : joined cs ++ joined rs ≡ bs
-
-pub none_chunked : (ps : List (List ℕ)) → AreKept ps → AreChunked [] ps (joined ps)
-none_chunked ps h = record { parts = tt; rest = h.parts; some = h.some; apart = refl; text = refl }
 
 -- the next chunk can be made
 pub can_chunk : (cs rs : List (List ℕ)) (bs : List ℕ) (n : ℕ) → AreChunked cs rs bs → length bs < 2 ^ 64 → 0 < n → n ≤ length rs → AreKept (take n rs)
@@ -146,7 +143,7 @@ front_boundary hs from a x y h is same b =
     let before = lent_before hs from a h in
     subst (λ (t : List ℕ). IsCharBoundary t a.left) (sym (same ∙ get_or_read hs a.index x before.index is [])) (boundary_before hs from a before b)
 
--- and the one behind the second
+-- and the one after the second
 pub back_boundary : (ts : List (List ℕ)) (to : ℕ) (b : Found) (x y : List ℕ) → AreKept ts → IsFound (map (λ (b : List ℕ). b) ts) (Units Utf8) to b → x ≡ get_or ts b.index x → y ≡ x → IsCharBoundary (joined ts) to →
     IsCharBoundary y b.left
 back_boundary ts to b x y kept h is same at =

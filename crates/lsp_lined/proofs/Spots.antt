@@ -150,7 +150,7 @@ recut ps qs text a b = (take a.left (part_at ps a.index) ++ text) ++ drop b.left
 regrouped : (h t x d l : List ℕ) → (h ++ ((t ++ x) ++ d)) ++ l ≡ ((h ++ t) ++ x) ++ (d ++ l)
 regrouped h t x d l = simp append_assoc
 
--- the bytes before a place, and those behind one, by the parts that were found
+-- the bytes before a place, and those after one, by the parts that were found
 pub front_of : (ps : List (List ℕ)) (from : ℕ) (a : Found) → IsFoundBefore ps from a → take from (joined ps) ≡ before_part ps a.index ++ take a.left (part_at ps a.index)
 front_of ps from a h =
     let at : from ≡ length (before_part ps a.index) + a.left = sym (sym (ap (λ n. n + a.left) h.bytes_are) ∙ h.place_is) in

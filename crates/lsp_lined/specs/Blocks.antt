@@ -6,7 +6,7 @@ use Rattle.lsp_lined.specs.Ends.{places_behind}
 use Rattle.lsp_lined.specs.Sums.{sums_of}
 use Rattle.lsp_lined.specs.declared.block.Block.TheInside.{Inside}
 
--- its text is UTF-8 and short, and its sums and the places behind its line ends are known
+-- its text is UTF-8 and short, and its sums and the places after its line ends are known
 pub record IsBlock (a : Inside) : Type 0 where
   pub sums : a.sums ≡ sums_of (string_bytes a.text.value.text)
   pub utf8 : IsUtf8 (string_bytes a.text.value.text)

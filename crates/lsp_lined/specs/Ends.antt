@@ -14,12 +14,12 @@ abbrev pub ends_in : List ℕ → ℕ
 ends_in [] = 0
 ends_in (b ∷ bs) = cond (is_end b bs) 1 0 + ends_in bs
 
--- the places behind those, where so many bytes come before
+-- the places after those, where so many bytes come before
 abbrev pub places_behind : ℕ → List ℕ → List ℕ
 places_behind n [] = []
 places_behind n (b ∷ bs) = cond (is_end b bs) ((n + 1) ∷ places_behind (n + 1) bs) (places_behind (n + 1) bs)
 
--- a place, where behind `from` some bytes went and others came
+-- a place, where after `from` some bytes went and others came
 abbrev pub moved_place : ℕ → ℕ → ℕ → ℕ → ℕ
 moved_place from removed inserted place = cond (nat_lt from place) (place - removed + inserted) place
 
@@ -27,7 +27,7 @@ moved_place from removed inserted place = cond (nat_lt from place) (place - remo
 abbrev pub is_end_at : List ℕ → ℕ → Bool
 is_end_at bs k = is_end (slice_index bs k) (drop (k + 1) bs)
 
--- a place behind `from` stays behind what went, and fits the table where it moves to
+-- a place after `from` stays after what went, and fits the table where it moves to
 abbrev pub CanMove : ℕ → ℕ → ℕ → ℕ → Type 0
 CanMove from removed inserted place = from < place → (from + removed ≤ place) × (place - removed + inserted < 65536)
 
@@ -40,7 +40,7 @@ ends_with_return b (x ∷ xs) = ends_with_return (is_return x) xs
 abbrev pub joins : List ℕ → List ℕ → Bool
 joins a b = ends_with_return false a && starts_with_feed b
 
--- the place behind line end `n`
+-- the place after line end `n`
 pub record IsAfterEnd (bs : List ℕ) (n after : ℕ) : Type 0 where
   pub some : 0 < after
   pub within : after ≤ length bs
@@ -62,7 +62,7 @@ pub record IsNear (bs near : List ℕ) (is_plain : Bool) : Type 0 where
   pub begins : bs ≡ near ++ more
   pub plain : is_plain ≡ true → length (chars near) ≡ length near
 
--- line end `n`: the bytes before it and up to behind it, and the first bytes of what follows
+-- line end `n`: the bytes before it and up to after it, and the first bytes of what follows
 pub record IsLineEnd (bs : List ℕ) (n : ℕ) (e : LineEnd) : Type 0 where
   pub order : e.at < e.after
   pub end : IsEndAt bs e.at (e.after - e.at)

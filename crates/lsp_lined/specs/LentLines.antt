@@ -1,8 +1,8 @@
 -- What a lent line stands for.
 use Rattle.std.specs.Prelude.{◌≡◌, ◌<◌, ◌≤◌, ◌-◌, ◌^◌, ℕ, List, ◌++◌, length, take, drop}
 use Rattle.std.specs.declared.option.Option.TheVariants.{None}
-use Rattle.std.specs.Str.{chars, IsUtf8, IsCharBoundary}
-use Rattle.lsp_text.specs.Lines.{Line, lines_of, line_at, text_of}
+use Rattle.std.specs.Str.{chars, IsCharBoundary}
+use Rattle.lsp_text.specs.Lines.{lines_of, line_at, text_of}
 use Rattle.lsp_types.specs.declared.position.Encoding.{Encoding}
 use Rattle.lsp_text.specs.Places.{place_in_line}
 use Rattle.lsp_text.specs.Offsets.{IsOffset, IsAtLine}

@@ -39,7 +39,7 @@ BeginsOtherwise front bytes = (rest : List ℕ) → bytes ≡ front ++ rest → 
 abbrev pub part_at : List (List ℕ) → ℕ → List ℕ
 part_at ps i = slice_index_or ps i []
 
--- number `at` of a measure falls in this part, or behind all but the last
+-- number `at` of a measure falls in this part, or after all but the last
 pub record IsFound (ps : List (List ℕ)) (by : Measure) (at : ℕ) (f : Found) : Type 0 where
   pub index : f.index < length ps
   pub bytes_are : f.bytes ≡ length (joined (take f.index ps))
@@ -54,7 +54,7 @@ pub record IsFoundBefore (ps : List (List ℕ)) (place : ℕ) (f : Found) : Type
   pub within : f.left ≤ length (part_at ps f.index)
   pub front : (0 < f.left) ⊎ (joined (take f.index ps) ≡ [])
 
--- an edit stays in this part, and leaves its first byte behind others and its last byte before others
+-- an edit stays in this part, and leaves its first byte after others and its last byte before others
 pub record IsSpot (ps : List (List ℕ)) (from to : ℕ) (s : Spot) : Type 0 where
   pub index : s.index < length ps
   pub from_is : length (joined (take s.index ps)) + s.from ≡ from
@@ -74,7 +74,7 @@ abbrev pub IsReplacedOr : List ℕ → ℕ → ℕ → List ℕ → List ℕ →
 IsReplacedOr old from to text new true = new ≡ replace_range old from to text
 IsReplacedOr old from to text new false = new ≡ old
 
--- a text in parts behind others
+-- a text in parts after others
 pub record IsCutInto (old : List (List ℕ)) (bs : List ℕ) (new : List (List ℕ)) : Type 0 where
   pub fresh : List (List ℕ)
   pub items : new ≡ old ++ fresh
@@ -88,7 +88,7 @@ pub record IsCutPlace (bs : List ℕ) (at : ℕ) : Type 0 where
   pub boundary : IsCharBoundary bs at
   pub apart : joins (take at bs) (drop at bs) ≡ false
 
--- these are the sums where a text takes the place of some bytes, and the places behind line ends only move
+-- these are the sums where a text takes the place of some bytes, and the places after line ends only move
 pub record KeepsEnds (bs : List ℕ) (from to : ℕ) (text : List ℕ) (sums : Sums) : Type 0 where
   pub sums_are : sums ≡ sums_of (replace_range bs from to text)
   pub places : places_behind 0 (replace_range bs from to text) ≡ map (moved_place from (to - from) (length text)) (places_behind 0 bs)

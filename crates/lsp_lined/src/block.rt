@@ -28,7 +28,7 @@ const MOST: usize = 4096;
 /// The bytes by which a copy that is edited may grow in place.
 const ROOM: usize = 64;
 
-/// A text and the places behind its line ends, copied in order to be edited, so that the copy has room for more.
+/// A text and the places after its line ends, copied in order to be edited, so that the copy has room for more.
 #[derive(Drop)]
 struct BlockText {
     text: String,
@@ -231,7 +231,7 @@ fn replace_shared(
     Ok(())
 }
 
-/// Cuts a text into blocks behind others.
+/// Cuts a text into blocks after others.
 pub(crate) fn cut_into(alloc: Global, blocks: &mut Vec<Block>, text: &str) -> Result<(), AllocError>
     ensures { OnOk result (IsCutInto blocks.old.items text.now blocks.new.items) }
 {

@@ -200,7 +200,7 @@ pub(crate) fn between(
     chunks_of(alloc, blocks)
 }
 
-/// The same of blocks. The block before the first cut and the one behind the second are cut anew with the text, so
+/// The same of blocks. The block before the first cut and the one after the second are cut anew with the text, so
 /// that no CR and LF are kept apart.
 fn recut(
     alloc: Global,

@@ -1,4 +1,4 @@
-//! The places behind the line ends of a block.
+//! The places after the line ends of a block.
 
 ghost use Rattle.std.specs.Prelude.{◌≡◌, ◌+◌, ◌-◌, ◌≤◌, ◌<◌, ◌↔◌, true, length, map, IfOk, IsTrue, EachIndex, slice_index};
 ghost use Rattle.lsp_lined.specs.Ends.{ends_in, is_end_at, places_behind, moved_place, CanMove, IsEndAt};
@@ -6,7 +6,7 @@ ghost use Rattle.lsp_lined.specs.Ends.{ends_in, is_end_at, places_behind, moved_
 use lsp_text::FirstLine;
 use std::alloc::{AllocError, Global};
 
-/// The places behind the line ends of a short text.
+/// The places after the line ends of a short text.
 pub(crate) fn places_of(alloc: Global, text: &str) -> Result<Vec<u16>, AllocError>
     requires { length text.now ≤ 65535 }
     ensures { IfOk result (λ places. places.items ≡ places_behind 0 text.now) }
@@ -29,7 +29,7 @@ pub(crate) fn is_whole(text: &str) -> bool
     FirstLine::of(text).is_none()
 }
 
-/// Moves the places behind `from`, where `removed` bytes without a line end went there and others came.
+/// Moves the places after `from`, where `removed` bytes without a line end went there and others came.
 pub(crate) fn move_places(places: &mut [u16], from: usize, removed: usize, inserted: usize)
     requires { EachIndex places.old (λ k. CanMove from removed inserted (slice_index places.old k)) }
     ensures { places.new ≡ map (moved_place from removed inserted) places.old }

@@ -14,7 +14,7 @@ use crate::sums::{Measure, Sums};
 use lsp_types::Encoding;
 use std::alloc::AllocError;
 
-/// A line end of a text: the bytes before it, those up to behind it, and the rest of its block.
+/// A line end of a text: the bytes before it, those up to after it, and the rest of its block.
 #[derive(Clone, Copy)]
 pub(crate) struct LineEnd<'a> {
     pub(crate) at: usize,
@@ -59,7 +59,7 @@ pub(crate) trait Part: Drop {
         ensures ok { IfOk result (IsReplacedOr (text self.old) from to inserted.now (text self.new)) }
         ensures err { OnErr result (text self.new ≡ text self.old) };
 
-    /// Writes its text behind another.
+    /// Writes its text after another.
     fn push_to(&self, out: &mut String) -> Result<(), AllocError>
         ensures { OnOk result (string_bytes out.new ≡ string_bytes out.old ++ text self.now) };
 
@@ -121,7 +121,7 @@ pub(crate) struct Spot {
     pub(crate) to: usize,
 }
 
-/// The part that an edit stays in, if it leaves the part's first and last bytes before and behind others.
+/// The part that an edit stays in, if it leaves the part's first and last bytes before and after others.
 pub(crate) fn spot_in<T: Part>(parts: &[T], from: usize, to: usize) -> Option<Spot>
     requires some { 0 < length parts.now }
     requires fits { length (joined (map T.text parts.now)) < 2 ^ 64 }
@@ -227,7 +227,7 @@ pub(crate) fn units_before_in<T: Part>(parts: &[T], encoding: Encoding, offset: 
     before + parts[found.index].units_before(encoding, found.left as usize)
 }
 
-/// Writes parts behind a text.
+/// Writes parts after a text.
 pub(crate) fn push_all<T: Part>(parts: &[T], out: &mut String) -> Result<(), AllocError>
     ensures { OnOk result (string_bytes out.new ≡ string_bytes out.old ++ joined (map T.text parts.now)) }
 {
@@ -249,7 +249,7 @@ pub(crate) fn strip_all<'a, T: Part>(parts: &[T], whole: &'a str) -> Option<&'a 
     Some(rest)
 }
 
-/// Puts the same parts behind others, each held by one more.
+/// Puts the same parts after others, each held by one more.
 pub(crate) fn share_into<T: Part>(to: &mut Vec<T>, parts: &[T]) -> Result<(), AllocError>
     ensures { OnOk result (to.new.items ≡ to.old.items ++ parts.now) }
 {

@@ -1,4 +1,4 @@
-use Rattle.std.proofs.Common.{◌≡◌, ◌≤◌, ◌++◌, [], ◌∷◌, List, ℕ, length, take, drop, sym, ap, subst, ◌∙◌, arith, length-drop}
+use Rattle.std.proofs.Common.{◌++◌, [], ◌∷◌, List, ℕ, length, sym, ap, subst, ◌∙◌, arith, length-drop}
 use Rattle.std.proofs.lemmas.List.{length-take-le}
 use Rattle.lsp_lined.proofs.CutPlaces.{IsCutSoFar, nothing_cut, one_cut, all_cut}
 use Rattle.lsp_lined.proofs.block.cut_into.Goals as goal

@@ -1,4 +1,4 @@
-use Rattle.std.proofs.Common.{◌≡◌, ◌-◌, ◌≤◌, ◌<◌, List, ℕ, length, get_or, sym, ap, ◌∙◌, arith}
+use Rattle.std.proofs.Common.{◌-◌, ◌≤◌, ◌<◌, List, ℕ, length, get_or, sym, ap, ◌∙◌, arith}
 use Rattle.lsp_lined.proofs.CutPlaces.{floor_at_least, cut_back, cut_behind_other, cut_before_other}
 use Rattle.lsp_lined.proofs.block.cut_place.Goals as goal
 use Rattle.lsp_lined.proofs.block.cut_place.Goals.{After-as_bytes-bytes, else-bytes-at-eq13-via-then-bytes-at-eq13+else-bytes-at-eq10, else-bytes-at-eq13-via-else-bytes-at-eq13}

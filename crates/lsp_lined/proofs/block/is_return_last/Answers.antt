@@ -1,6 +1,5 @@
-use Rattle.std.proofs.Common.{◌≡◌, ◌-◌, ◌<◌, false, List, ℕ, length, take, get_or, sym, ap, ◌∙◌, arith}
+use Rattle.std.proofs.Common.{false, length, sym, ap, ◌∙◌, arith}
 use Rattle.std.proofs.lemmas.List.{take_all}
-use Rattle.lsp_text.specs.Lines.{is_return}
 use Rattle.lsp_lined.specs.Ends.{ends_with_return}
 use Rattle.lsp_lined.proofs.CutPlaces.{return_at}
 use Rattle.lsp_lined.proofs.block.is_return_last.Goals as goal

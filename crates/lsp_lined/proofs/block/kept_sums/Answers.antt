@@ -1,4 +1,4 @@
-use Rattle.std.proofs.Common.{◌≡◌, ◌≤◌, false, List, ℕ, length, take, drop, refl, sym, ap, ◌∙◌, arith}
+use Rattle.std.proofs.Common.{◌≡◌, false, take, drop, refl, sym, ap, ◌∙◌, arith}
 use Rattle.std.specs.List.{replace_range}
 use Rattle.lsp_lined.specs.Ends.{ends_in, ends_with_return}
 use Rattle.lsp_lined.specs.Sums.{sums_of}

@@ -1,4 +1,4 @@
-use Rattle.std.proofs.Common.{◌≤◌, ◌<◌, ◌+◌, ◌-◌, ℕ, List, length, Result, Ok, arith, ap, sym, ◌∙◌}
+use Rattle.std.proofs.Common.{ℕ, List, length, Result, Ok, arith, ap, sym, ◌∙◌}
 use Rattle.std.specs.Str.{chars}
 use Rattle.lsp_text.proofs.Splices.{replaced-reversed, replaced-over, replaced-within}
 use Rattle.lsp_lined.proofs.StepCounts.{counted_first, counted_second, counted_all, on_err, within_limit}

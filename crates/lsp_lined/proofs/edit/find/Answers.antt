@@ -1,6 +1,5 @@
-use Rattle.std.proofs.Common.{arith, ap, ◌∙◌}
+use Rattle.std.proofs.Common.{arith}
 use Rattle.std.specs.Str.{chars}
-use Rattle.lsp_lined.specs.Steps.{raised, line_bytes}
 use Rattle.lsp_lined.proofs.LentPlaces.{found_in_lent, place_past, same_number}
 use Rattle.lsp_lined.proofs.StepCounts.{line_number_lt}
 use Rattle.lsp_lined.proofs.edit.find.Goals as goal

@@ -1,4 +1,4 @@
-use Rattle.std.proofs.Common.{◌≡◌, ◌-◌, ◌≤◌, List, ℕ, get_or, sym, ap, ◌∙◌, arith}
+use Rattle.std.proofs.Common.{◌-◌, List, ℕ, get_or, sym, ap, ◌∙◌, arith}
 use Rattle.lsp_lined.proofs.EndsBefore.{end_both, end_alone}
 use Rattle.lsp_lined.proofs.ends.end_len_before.Goals as goal
 use Rattle.lsp_lined.proofs.ends.end_len_before.Goals.{else-after-ge2-via-then-after-ge2+then-bytes-after-eq10+else-bytes-after-eq13, else-after-ge2-via-then-after-ge2+else-bytes-after-eq10, else-after-ge2-via-else-after-ge2}

@@ -1,4 +1,4 @@
-use Rattle.std.proofs.Common.{◌+◌, ℕ, get_or, ◌∙◌, arith}
+use Rattle.std.proofs.Common.{ℕ, get_or, ◌∙◌, arith}
 use Rattle.lsp_lined.specs.Ends.{moved_place}
 use Rattle.lsp_lined.proofs.MovedPlaces.{can_move, one_moved, all_moved, moved_behind, moved_before}
 use Rattle.lsp_lined.proofs.ends.move_places.Goals as goal

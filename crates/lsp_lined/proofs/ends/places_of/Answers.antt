@@ -1,4 +1,4 @@
-use Rattle.std.proofs.Common.{◌≡◌, ◌+◌, ◌++◌, [], ◌∷◌, List, ℕ, length, sym, ap, ◌∙◌, arith}
+use Rattle.std.proofs.Common.{◌+◌, ◌++◌, List, ℕ, length, sym, ap, ◌∙◌, arith}
 use Rattle.std.proofs.lemmas.List.{append-nil}
 use Rattle.lsp_lined.specs.Ends.{places_behind}
 use Rattle.lsp_lined.proofs.PlaceSteps.{places-none, ends_in-none, place_pushed, length-first}

@@ -1,4 +1,4 @@
-use Rattle.std.proofs.Common.{arith, ◌<◌, length}
+use Rattle.std.proofs.Common.{arith}
 use Rattle.lsp_lined.proofs.PartSteps.{found_next}
 use Rattle.lsp_lined.proofs.part.find.Goals as goal
 

@@ -1,6 +1,6 @@
-use Rattle.std.proofs.Common.{◌≡◌, ◌<◌, ℕ, List, map, length, sym, ap, subst, ◌∙◌, arith, length-drop}
+use Rattle.std.proofs.Common.{◌<◌, ℕ, List, map, sym, subst, arith}
 use Rattle.lsp_lined.specs.Ends.{ends_in, IsLineEnd}
-use Rattle.lsp_lined.specs.Parts.{joined, part_at}
+use Rattle.lsp_lined.specs.Parts.{joined}
 use Rattle.lsp_lined.specs.declared.sums.Measure.TheVariants.{Ends}
 use Rattle.lsp_lined.proofs.PartPlaces.{found_below, found_line_end, moved_end}
 use Rattle.lsp_lined.proofs.PartEdits.{part_of_found}

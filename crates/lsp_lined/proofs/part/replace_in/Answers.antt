@@ -1,6 +1,4 @@
-use Rattle.std.proofs.Common.{◌≡◌, ◌∙◌, ap, map, length, arith}
-use Rattle.std.specs.List.{replace_range}
-use Rattle.lsp_lined.specs.Parts.{joined}
+use Rattle.std.proofs.Common.{◌∙◌, ap, length, arith}
 use Rattle.lsp_lined.proofs.StepCounts.{on_err}
 use Rattle.lsp_lined.proofs.PartEdits.{edit_in, can_edit, edit_fits, none_edited, replaced_true, replaced_false, exchange_in, edited_text, replaced_in}
 use Rattle.lsp_lined.proofs.part.replace_in.Goals as goal

@@ -1,4 +1,4 @@
-use Rattle.std.proofs.Common.{List, ℕ, length, ap, ◌∙◌}
+use Rattle.std.proofs.Common.{length, ap, ◌∙◌}
 use Rattle.lsp_lined.proofs.EndCounts.{length-places_behind}
 use Rattle.lsp_lined.proofs.block.Block.new.Goals as goal
 

@@ -1,4 +1,4 @@
-use Rattle.std.proofs.Common.{◌≡◌, ◌-◌, ◌<◌, List, ℕ, length, drop, refl, sym, ap, subst, ◌∙◌, arith}
+use Rattle.std.proofs.Common.{◌-◌, ◌<◌, List, ℕ, refl, sym, subst, arith}
 use lib.Dec.{eqb}
 use Rattle.lsp_lined.specs.declared.part.LineEnd.{LineEnd}
 use Rattle.lsp_lined.specs.Ends.{ends_in, IsAfterEnd, IsLineEnd}

@@ -1,4 +1,4 @@
-use Rattle.std.proofs.Common.{◌≡◌, ◌<◌, List, ℕ, length, sym, ap, subst, ◌∙◌, arith}
+use Rattle.std.proofs.Common.{◌<◌, List, ℕ, sym, subst, arith}
 use Rattle.lsp_lined.specs.Ends.{ends_in}
 use Rattle.lsp_lined.proofs.HeldText.{holds, end_of_last, end_in, same_text}
 use Rattle.lsp_lined.proofs.lined.lines.Lines.end_of.Goals as goal
