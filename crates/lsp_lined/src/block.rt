@@ -219,6 +219,7 @@ fn replace_shared(
     text: &str,
 ) -> Result<(), AllocError>
     requires can { CanReplace (string_bytes shared.old.value.text) from to }
+    requires room { length (string_bytes shared.old.value.text) + length text.now ≤ MOST }
     requires moves { EachIndex shared.old.value.places.items (λ k. CanMove from (to - from) (length text.now) (slice_index shared.old.value.places.items k)) }
     ensures text { OnOk result (string_bytes shared.new.value.text ≡ replace_range (string_bytes shared.old.value.text) from to text.now) }
     ensures places { OnOk result (shared.new.value.places.items ≡ map (moved_place from (to - from) (length text.now)) shared.old.value.places.items) }
@@ -227,7 +228,12 @@ fn replace_shared(
 {
     let own = Rc::make_mut(shared)?;
     own.text.replace_range(from..to, text)?;
-    move_places(&mut own.places, from, to - from, text.len());
+    move_places(
+        &mut own.places,
+        from as u16,
+        (to - from) as u16,
+        text.len() as u16,
+    );
     Ok(())
 }
 

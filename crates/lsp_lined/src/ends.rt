@@ -30,15 +30,25 @@ pub(crate) fn is_whole(text: &str) -> bool
 }
 
 /// Moves the places after `from`, where `removed` bytes without a line end went there and others came.
-pub(crate) fn move_places(places: &mut [u16], from: usize, removed: usize, inserted: usize)
+pub(crate) fn move_places(places: &mut [u16], from: u16, removed: u16, inserted: u16)
     requires { EachIndex places.old (λ k. CanMove from removed inserted (slice_index places.old k)) }
     ensures { places.new ≡ map (moved_place from removed inserted) places.old }
 {
     for place in places.iter_mut() {
-        let at = *place as usize;
-        if at > from {
-            *place = (at - removed + inserted) as u16;
-        }
+        *place = moved(*place, from, removed, inserted);
+    }
+}
+
+/// Where a place moves to.
+#[inline(always)]
+fn moved(place: u16, from: u16, removed: u16, inserted: u16) -> u16
+    requires { CanMove from removed inserted place }
+    ensures { result ≡ moved_place from removed inserted place }
+{
+    if place > from {
+        place - removed + inserted
+    } else {
+        place
     }
 }
 
