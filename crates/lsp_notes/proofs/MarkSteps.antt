@@ -26,7 +26,7 @@ use Rattle.lsp_verdict.specs.Offences.{kept_of, rule_at, said_at}
 use Rattle.lsp_notes.specs.Marking.{Step, touches, closed, shown_step, Marked, marked, unmarked, stepped, steps, step_at, step_by, step_of, number_next}
 use Rattle.lsp_notes.specs.Marks.{AreMarks, DoneBy, ShownBy, StepsOn, mark_view, marked_in}
 use Rattle.lsp_notes.specs.declared.mark.Mark.{Mark}
-use Rattle.lsp_notes.specs.declared.mark.Touch.TheVariants.{Opened, Changed, Compared, Awaited}
+use Rattle.lsp_notes.specs.declared.mark.Touch.TheVariants.{Reached, Compared, Awaited}
 use Rattle.lsp_notes.proofs.Marking.{marked-push, steps-push}
 
 abbrev Entries : Type 0
@@ -122,9 +122,11 @@ act_done terms old new before m n are kept number done = by_call (call_of enc ki
     by_call : (o : Option Call) → call_of enc kind m.act ≡ o → DoneBy n o old new → AreMarks terms new (before ++ message m ∷ [])
     by_call None says is = subst (λ (es : Entries). AreMarks terms es (before ++ message m ∷ [])) (sym is) (unsaid_leaves terms old before (message m) are kept says)
     by_call (Some (opens uri v text)) says is =
-        step_done terms old new before (message m) (opens uri v text) (touches Opened n v) uri are kept says refl (ap (λ (k : ℕ). Some (touches Opened k v)) (sym number)) is
+        step_done terms old new before (message m) (opens uri v text) (touches Reached n v) uri
+        are kept says refl (ap (λ (k : ℕ). Some (touches Reached k v)) (sym number)) is
     by_call (Some (changes e k uri v edits)) says is =
-        step_done terms old new before (message m) (changes e k uri v edits) (touches Changed n v) uri are kept says refl (ap (λ (k : ℕ). Some (touches Changed k v)) (sym number)) is
+        step_done terms old new before (message m) (changes e k uri v edits) (touches Reached n v) uri
+        are kept says refl (ap (λ (k : ℕ). Some (touches Reached k v)) (sym number)) is
     by_call (Some (closes uri)) says is =
         step_done terms old new before (message m) (closes uri) closed uri are kept says refl refl is
     by_call (Some (saves uri text)) says is =

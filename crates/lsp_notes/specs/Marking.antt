@@ -1,7 +1,7 @@
--- Which events left a document as it is: the one that brought its version, the snapshot that was found equal last, and those that wait.
-use Rattle.std.specs.Prelude.{ℕ, ℤ, int_lt, ◌+◌, ◌-◌, List, [], ◌∷◌, ◌++◌, length, slice_get, Bool, true, false, ◌&&◌, not, if◌then◌else◌, Option, Some, None, option_map, option_and_then}
+-- Which events left a document as it is: the one that brought its version, the equal snapshot of
+-- the greatest version, and the snapshots that wait.
+use Rattle.std.specs.Prelude.{ℕ, ℤ, int_lt, ◌+◌, ◌-◌, List, [], ◌∷◌, ◌++◌, length, slice_get, Bool, true, false, ◌&&◌, not, if◌then◌else◌, Option, Some, None, option_map, option_and_then, is_none}
 use Rattle.std.specs.List.{filter_map, list_any}
-use Rattle.std.specs.Option.{option_or}
 use Rattle.std.specs.Ordering.{int_eq}
 use Rattle.std.specs.Str.{bytes_eq}
 use Rattle.lsp_docs.specs.Answer.{answer_of}
@@ -18,7 +18,7 @@ use Rattle.lsp_verdict.specs.LookBack.{each_of}
 use Rattle.lsp_verdict.specs.Offences.{kept_of, last_or, rule_at, said_at}
 use Rattle.lsp_notes.specs.declared.mark.Shown.{Shown}
 use Rattle.lsp_notes.specs.declared.mark.Touch.{Touch}
-use Rattle.lsp_notes.specs.declared.mark.Touch.TheVariants.{Opened, Changed, Compared, Awaited}
+use Rattle.lsp_notes.specs.declared.mark.Touch.TheVariants.{Reached, Compared, Awaited}
 
 -- ---- what a kept event does to a document
 
@@ -39,8 +39,8 @@ shown_step n number Missed = None
 
 -- what a call does, by the event of this number, behind these calls
 abbrev pub step_of : Terms → ℕ → List Call → Call → Option Step
-step_of terms n before (opens uri number text) = Some (touches Opened n number)
-step_of terms n before (changes enc kind uri number edits) = Some (touches Changed n number)
+step_of terms n before (opens uri number text) = Some (touches Reached n number)
+step_of terms n before (changes enc kind uri number edits) = Some (touches Reached n number)
 step_of terms n before (closes uri) = Some closed
 step_of terms n before (saves uri text) = None
 step_of terms n before (shows uri number text) = shown_step n number (answer_of number (kept terms uri before) (held terms uri before))
@@ -61,8 +61,7 @@ steps terms uri events = each_of (step_at terms uri) events
 -- ---- the event that brought the version
 
 abbrev pub brings : Step → Option (Option ℕ)
-brings (touches Opened n number) = Some (Some n)
-brings (touches Changed n number) = Some (Some n)
+brings (touches Reached n number) = Some (Some n)
 brings (touches Compared n number) = None
 brings (touches Awaited n number) = None
 brings closed = Some None
@@ -75,15 +74,13 @@ brought done = last_or None (filter_map brings done)
 
 -- the document comes to a version that is not below this one, or is closed
 abbrev pub ends_waiting : ℤ → Step → Bool
-ends_waiting number (touches Opened n own) = not (int_lt own number)
-ends_waiting number (touches Changed n own) = not (int_lt own number)
+ends_waiting number (touches Reached n own) = not (int_lt own number)
 ends_waiting number (touches Compared n own) = false
 ends_waiting number (touches Awaited n own) = false
 ends_waiting number closed = true
 
 abbrev pub waiting_entry : ℤ → Step → List Step → List ℕ
-waiting_entry number (touches Opened n own) later = []
-waiting_entry number (touches Changed n own) later = []
+waiting_entry number (touches Reached n own) later = []
 waiting_entry number (touches Compared n own) later = []
 waiting_entry number (touches Awaited n own) later = if not (list_any (ends_waiting number) later) && int_eq own number then n ∷ [] else []
 waiting_entry number closed later = []
@@ -93,23 +90,40 @@ abbrev pub waiting_for : ℤ → List Step → List ℕ
 waiting_for number [] = []
 waiting_for number (step ∷ later) = waiting_entry number step later ++ waiting_for number later
 
--- ---- the snapshot that was found equal last
+-- ---- the equal snapshot of the greatest version
 
 -- the last of these snapshots of this version
 abbrev pub last_shown : ℤ → List ℕ → Option Shown
-last_shown number events = option_map (λ n. record { event = n; version = number }) (slice_get events (length events - 1))
+last_shown number events =
+    option_map (λ n. record { event = n; version = number }) (slice_get events (length events - 1))
 
--- the last that waited for the version of an opening or a change was found equal there
-abbrev pub agrees : List Step → Step → Option (Option Shown)
-agrees before (touches Opened n number) = Some (last_shown number (waiting_for number before))
-agrees before (touches Changed n number) = option_map (λ shown. Some shown) (last_shown number (waiting_for number before))
-agrees before (touches Compared n number) = Some (Some (record { event = n; version = number }))
-agrees before (touches Awaited n number) = None
-agrees before closed = Some None
+-- the snapshot that a step finds equal, after these: one of a version that is held or kept, or the
+-- last of those that waited for the version to which the document comes; closed, it has none
+abbrev pub finds : List Step → Step → Option (Option Shown)
+finds before (touches Reached n number) =
+    option_map (λ shown. Some shown) (last_shown number (waiting_for number before))
+finds before (touches Compared n number) = Some (Some (record { event = n; version = number }))
+finds before (touches Awaited n number) = None
+finds before closed = Some None
 
--- **the snapshot of the standing opening that was found equal last**
+-- of two snapshots that of the greater version, the later one where these are equal
+abbrev pub newer : Shown → Shown → Shown
+newer earlier later = if int_lt later.version earlier.version then earlier else later
+
+abbrev pub newer_of : Option Shown → Option Shown → Option Shown
+newer_of None later = later
+newer_of (Some earlier) None = Some earlier
+newer_of (Some earlier) (Some later) = Some (newer earlier later)
+
+-- the newest of what was found behind the last place where nothing is left
+abbrev pub newest : List (Option Shown) → Option Shown
+newest [] = None
+newest (found ∷ later) =
+    if list_any is_none later then newest later else newer_of found (newest later)
+
+-- **the snapshot of the greatest version that was found equal in the standing opening**
 abbrev pub agreed : List Step → Option Shown
-agreed done = last_or None (each_of agrees done)
+agreed done = newest (each_of finds done)
 
 -- ---- all of it
 
@@ -131,8 +145,15 @@ above own waiting number = if int_lt own number then waiting number else []
 
 -- one more step
 abbrev pub stepped : Step → Marked → Marked
-stepped (touches Opened n own) m = record { brought = Some n; agreed = last_shown own (m.waiting own); waiting = above own m.waiting }
-stepped (touches Changed n own) m = record { brought = Some n; agreed = option_or (last_shown own (m.waiting own)) m.agreed; waiting = above own m.waiting }
-stepped (touches Compared n own) m = record { brought = m.brought; agreed = Some (record { event = n; version = own }); waiting = m.waiting }
+stepped (touches Reached n own) m = record {
+  brought = Some n;
+  agreed = newer_of m.agreed (last_shown own (m.waiting own));
+  waiting = above own m.waiting;
+}
+stepped (touches Compared n own) m = record {
+  brought = m.brought;
+  agreed = newer_of m.agreed (Some (record { event = n; version = own }));
+  waiting = m.waiting;
+}
 stepped (touches Awaited n own) m = record { brought = m.brought; agreed = m.agreed; waiting = λ number. m.waiting number ++ (if int_eq own number then n ∷ [] else []) }
 stepped closed m = unmarked

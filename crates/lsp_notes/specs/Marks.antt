@@ -13,7 +13,7 @@ use Rattle.lsp_docs.specs.Terms.{Terms}
 use Rattle.lsp_verdict.specs.Event.{Event}
 use Rattle.lsp_notes.specs.Marking.{Step, touches, closed, Marked, marked, unmarked, stepped, steps}
 use Rattle.lsp_notes.specs.declared.mark.Mark.{Mark}
-use Rattle.lsp_notes.specs.declared.mark.Touch.TheVariants.{Opened, Changed, Compared, Awaited}
+use Rattle.lsp_notes.specs.declared.mark.Touch.TheVariants.{Reached, Compared, Awaited}
 
 -- the events of the snapshots of a version
 abbrev pub events_in : Option (Vec ℕ Global) → List ℕ
@@ -46,8 +46,8 @@ StepsOn uri step old new = (u : List ℕ) → marked_in new u ≡ (if bytes_eq u
 -- a message, the event of this number, that says this of a document
 abbrev pub DoneBy : ℕ → Option Call → List (String Global × Mark) → List (String Global × Mark) → Type 0
 DoneBy n None old new = new ≡ old
-DoneBy n (Some (opens uri number text)) old new = StepsOn uri (touches Opened n number) old new
-DoneBy n (Some (changes enc kind uri number edits)) old new = StepsOn uri (touches Changed n number) old new
+DoneBy n (Some (opens uri number text)) old new = StepsOn uri (touches Reached n number) old new
+DoneBy n (Some (changes enc kind uri number edits)) old new = StepsOn uri (touches Reached n number) old new
 DoneBy n (Some (closes uri)) old new = StepsOn uri closed old new
 DoneBy n (Some (saves uri text)) old new = new ≡ old
 DoneBy n (Some (shows uri number text)) old new = ⊥

@@ -1,9 +1,9 @@
-//! What left a document as it is: which event brought its version, which snapshot was found equal
-//! last, and which snapshots wait.
+//! What left a document as it is: which event brought its version, which equal snapshot has the
+//! greatest version, and which snapshots wait.
 ghost use Rattle.std.specs.Prelude.{◌≡◌, ◌++◌, ◌∷◌, [], None, OnOk, if◌then◌else◌, ℤ, false, int_lt, not};
 ghost use Rattle.std.specs.Map.{lookup};
 ghost use Rattle.std.specs.Ordering.{int_eq};
-ghost use Rattle.lsp_notes.specs.Marking.{above, last_shown, stepped, touches, unmarked};
+ghost use Rattle.lsp_notes.specs.Marking.{above, last_shown, newer, newer_of, stepped, touches, unmarked};
 ghost use Rattle.lsp_notes.specs.Marks.{is_first_reached, mark_view, rest_of, waiting_in};
 
 use lsp_rpc::Memory;
@@ -22,10 +22,8 @@ pub struct Shown {
 /// How a kept event touches a document that it doesn't close.
 #[derive(Clone, Copy, Debug, PartialEq, Eq)]
 pub(crate) enum Touch {
-    /// It opens it.
-    Opened,
-    /// It brings it to a further version.
-    Changed,
+    /// It brings it to a version: it opens or changes it.
+    Reached,
     /// It shows the text of a version that is held or kept.
     Compared,
     /// It shows the text of a version that is still to come.
@@ -62,7 +60,7 @@ impl Mark {
         self.brought
     }
 
-    /// The snapshot that was found equal last.
+    /// The equal snapshot of the greatest version.
     pub(crate) fn agreed(&self) -> Option<Shown>
         ensures { result ≡ (mark_view self.now).agreed }
     {
@@ -90,20 +88,14 @@ impl Mark {
         ensures { OnOk result (mark_view self.new ≡ stepped (touches touch event version) (mark_view self.old)) }
     {
         match touch {
-            Touch::Opened => {
-                self.agreed = last_of(&self.waiting, version);
-                self.brought = Some(event);
-                drop_reached(&mut self.waiting, version);
-                Ok(())
-            }
-            Touch::Changed => {
-                self.agreed = last_of(&self.waiting, version).or(self.agreed);
+            Touch::Reached => {
+                self.agreed = newer_of(self.agreed, last_of(&self.waiting, version));
                 self.brought = Some(event);
                 drop_reached(&mut self.waiting, version);
                 Ok(())
             }
             Touch::Compared => {
-                self.agreed = Some(Shown { event, version });
+                self.agreed = newer_of(self.agreed, Some(Shown { event, version }));
                 Ok(())
             }
             Touch::Awaited => add(&mut self.waiting, alloc, version, event),
@@ -118,6 +110,29 @@ fn last_of(waiting: &WaitMap, version: i32) -> Option<Shown>
     let events = waiting.get(&version)?;
     let event = *events.as_slice().last()?;
     Some(Shown { event, version })
+}
+
+/// Of two snapshots that of the greater version, the later one where these are equal.
+fn newer_of(earlier: Option<Shown>, later: Option<Shown>) -> Option<Shown>
+    ensures { result ≡ newer_of earlier later }
+{
+    let Some(first) = earlier else {
+        return later;
+    };
+    match later {
+        Some(second) => Some(newer(first, second)),
+        None => earlier,
+    }
+}
+
+fn newer(earlier: Shown, later: Shown) -> Shown
+    ensures { result ≡ newer earlier later }
+{
+    if later.version < earlier.version {
+        earlier
+    } else {
+        later
+    }
 }
 
 /// Adds a snapshot of a version behind its others.

@@ -18,7 +18,7 @@ use std::alloc::Global;
 type MarkMap = IndexMap<String, Mark>;
 
 /// Which events left the documents as they are, by URI: which one brought the held version, which
-/// snapshot was found equal last, and which snapshots wait for a version.
+/// equal snapshot has the greatest version, and which snapshots wait for a version.
 ///
 /// It stands for the events of a session of which those that offend are passed over. A document of
 /// which nothing is marked has no entry.
@@ -49,7 +49,8 @@ impl Marks {
         }
     }
 
-    /// The snapshot of the standing opening of a URI that was found equal last, if one was.
+    /// Of the snapshots that were found equal in the standing opening of a URI, that of the greatest
+    /// version, the last of several; none where none was.
     pub fn agreed(&self, uri: &str) -> Option<Shown>
         ensures { (terms : Terms) (events : List Event) → AreMarks terms self.now.map.entries events
             → result ≡ agreed (steps terms uri.now events) }
@@ -81,10 +82,10 @@ impl Marks {
     {
         match act {
             Act::DidOpen { uri, version, .. } => {
-                touch(&mut self.map, uri.as_str(), Touch::Opened, event, *version)
+                touch(&mut self.map, uri.as_str(), Touch::Reached, event, *version)
             }
             Act::DidChange { uri, version, .. } => {
-                touch(&mut self.map, uri.as_str(), Touch::Changed, event, *version)
+                touch(&mut self.map, uri.as_str(), Touch::Reached, event, *version)
             }
             Act::DidClose { uri } => {
                 close(&mut self.map, uri.as_str());
