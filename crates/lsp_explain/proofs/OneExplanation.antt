@@ -71,7 +71,11 @@ module _ (rests : Rests) (terms : Terms) where
   some_each (b ∷ bs) all =
       let before = events_of (notes_of b.before) in
       let plain = some_facts terms (kept_of terms before) b.rule rests b.here.raw b.here.note.event all.0 in
-      let own : Explained = record { no = no_by before b.here.note.event b.rule; event = event_line (length b.before + 1) b.here.note.event; facts = traced terms before b.here.note.event b.rule plain.0 } in
+      let own : Explained = record {
+        no = no_by before b.here.note.event b.rule;
+        event = event_line (length b.before + 1) b.here.raw;
+        facts = traced terms before b.here.note.event b.rule plain.0;
+      } in
       let rest = some_each bs all.1 in
       (own ∷ rest.0, (record { no_is = refl; event_is = refl; facts_are = (plain.0, plain.1, refl) }, rest.1))
 

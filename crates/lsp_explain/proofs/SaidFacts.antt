@@ -16,7 +16,8 @@ use Rattle.lsp_verdict.proofs.OneEvent.{one_event}
 use Rattle.lsp_facts.specs.EventFacts.{AreCallFacts, AreFacts, AreMessageFacts}
 use Rattle.lsp_facts.specs.Fact.{Fact}
 use Rattle.lsp_facts.specs.FlawFacts.{Rests, rest_of, frame_facts}
-use Rattle.lsp_facts.specs.Lines.{event_line, message_event, side_event, snapshot_event}
+use Rattle.lsp_facts.specs.Lines.{content_event, content_message, event_line, message_event, side_event, snapshot_event}
+use Rattle.lsp_facts.proofs.Naming.{message_named}
 use Rattle.lsp_facts.specs.MessageFacts.{content_facts}
 use Rattle.lsp_explain.specs.RunSteps.{ShowsFault}
 use Rattle.lsp_explain.specs.Traced.{AreTraced}
@@ -72,23 +73,28 @@ module _ (terms : Terms) (kept : List Event) (rule : ℕ) where
   -- the line that names what was found
   abbrev pub line_for : ℕ → Offending → List ℕ
   line_for number (what.Frames by) = side_event number by
-  line_for number (what.Content by given) = side_event number by
+  line_for number (what.Content by given) = content_event number by (content_message given.items)
   line_for number (what.Message by spoken) = message_event number by (message_view spoken.message)
   line_for number (what.Snapshot version uri text) = snapshot_event number (string_bytes uri) version (chars (string_bytes text))
 
   -- names the event that it is
-  pub line_said : (number : ℕ) (raw : Raw) (event : Event) (o : Offending) → Reads raw event → IsOffending raw terms kept rule o → line_for number o ≡ event_line number event
-  line_said number (broken side code) event (what.Frames by) reads is = ap (side_event number) is ∙ sym (ap (event_line number) reads)
+  pub line_said : (number : ℕ) (raw : Raw) (event : Event) (o : Offending) → Reads raw event
+      → IsOffending raw terms kept rule o → line_for number o ≡ event_line number raw
+  line_said number (broken side code) event (what.Frames by) reads is = ap (side_event number) is
   line_said number (content side bytes) event (what.Content by given) reads is =
-      let same : event ≡ fault side rule = one_event side bytes event (fault side rule) reads is.2 in
-      ap (side_event number) is.0 ∙ sym (ap (event_line number) same)
+      ap (λ s. content_event number s (content_message given.items)) is.0
+      ∙ ap (λ w. content_event number side (content_message w)) is.1
   line_said number (content side bytes) event (what.Message by spoken) reads is =
       let refused = is.1 in
-      let same : event ≡ message refused.sent = one_event side bytes event (message refused.sent) reads refused.reads in
-      sym (same_line refused.sent by (message_view spoken.message) number (refused.reads.by ∙ sym is.0) refused.says) ∙ sym (ap (event_line number) same)
+      let own = refused.sent in
+      let same = same_line own by (message_view spoken.message) number (refused.reads.by ∙ sym is.0) refused.says in
+      let named = message_named bytes own.message refused.reads.reads in
+      sym same ∙ ap (λ s. message_event number s own.message) refused.reads.by
+      ∙ sym (ap (content_event number side) named)
   line_said number (show n uri text) event (what.Snapshot version name shown) reads is =
-      ap (λ u. snapshot_event number u version (chars (string_bytes shown))) is.1 ∙ ap (λ v. snapshot_event number uri v (chars (string_bytes shown))) is.0 ∙ ap (λ t. snapshot_event number uri n (chars t)) is.2
-      ∙ sym (ap (event_line number) reads)
+      ap (λ u. snapshot_event number u version (chars (string_bytes shown))) is.1
+      ∙ ap (λ v. snapshot_event number uri v (chars (string_bytes shown))) is.0
+      ∙ ap (λ t. snapshot_event number uri n (chars t)) is.2
   line_said number (broken side code) event (what.Content by given) reads is = absurd is
   line_said number (broken side code) event (what.Message by spoken) reads is = absurd is
   line_said number (broken side code) event (what.Snapshot version name shown) reads is = absurd is

@@ -50,7 +50,7 @@ SaidOf e found rest said =
     → IsOffending raw (terms_in e) (kept_of (terms_in e) before) found.offence.rule found.offending → rule_at (terms_in e) before event ≡ Some found.offence.rule
     → (facts : List Fact)
     × ((rests : Rests) → ShowsFault rests found.offending rest → AreTraced (AreFacts rests (terms_in e) (kept_of (terms_in e) before) raw event found.offence.rule) (terms_in e) before event found.offence.rule facts)
-    × (said ≡ event_line found.offence.event event ++ fact_lines facts)
+    × (said ≡ event_line found.offence.event raw ++ fact_lines facts)
 
 -- behind a fault of its frames these bytes show the header part that has it, whatever records follow
 abbrev pub SeenOf : SurveyReader → Found → List ℕ → Type 0
@@ -90,13 +90,17 @@ module _ (e : SurveyReader) (found : Found) (x : Explanation) (rest said : List 
         let told = says h.raw h.note.event before stands (parts.1 ∙ sym (capped_is (length before + 1) few)) noted
         (subst (λ t. IsOffending h.raw t (kept_of t before) found.offence.rule found.offending) same such)
         (subst (λ t. rule_at t before h.note.event ≡ Some found.offence.rule) same offends) in
-        let y : Explained = record { no = (offence_view found.offence).no; event = event_line found.offence.event h.note.event; facts = told.0 } in record {
+        let y : Explained = record {
+          no = (offence_view found.offence).no;
+          event = event_line found.offence.event h.raw;
+          facts = told.0;
+        } in record {
           rule = f.rule;
           offends = f.offends;
           told = y;
           explains = λ rests behind. record {
             no_is = ap (λ (o : Offence). o.no) f.is;
-            event_is = ap (λ n. event_line n h.note.event) (parts.1 ∙ ap (λ n. n + 1) (length_events hs));
+            event_is = ap (λ n. event_line n h.raw) (parts.1 ∙ ap (λ n. n + 1) (length_events hs));
             facts_are = subst (λ r. AreAll rests terms r told.0) parts.0 (subst (λ t. AreAll rests t found.offence.rule told.0) (sym same) (told.1 rests (shows_fault rests behind)));
           };
           no_is = ap (λ (o : Offence). o.no) f.is;

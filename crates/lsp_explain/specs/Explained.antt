@@ -61,7 +61,7 @@ pub record Explained : Type 0 where
 
 pub record Explains (rests : Rests) (terms : Terms) (b : Breach) (e : Explained) : Type 0 where
   pub no_is : e.no ≡ no_by (events_of (notes_of b.before)) b.here.note.event b.rule
-  pub event_is : e.event ≡ event_line (length b.before + 1) b.here.note.event
+  pub event_is : e.event ≡ event_line (length b.before + 1) b.here.raw
   pub facts_are : AreTraced (AreFacts rests terms (kept_of terms (events_of (notes_of b.before))) b.here.raw b.here.note.event b.rule) terms (events_of (notes_of b.before)) b.here.note.event b.rule e.facts
 
 -- ---- how a session ends

@@ -21,8 +21,8 @@ ghost use Rattle.lsp_explain.specs.Traced.{AreTraced};
 
 use crate::trace::{lack_traced, message_traced, shown_traced};
 use lsp_facts::{
-    Fact, content_facts, frame_facts, push_end_event, push_facts, push_message_event,
-    push_side_event, push_snapshot_event, unfinished_facts,
+    Fact, content_facts, frame_facts, push_content_event, push_end_event, push_facts,
+    push_message_event, push_side_event, push_snapshot_event, unfinished_facts,
 };
 use lsp_rpc::Memory;
 use lsp_survey::{Found, Offending, SurveyReader};
@@ -78,11 +78,14 @@ fn push_event(
 ) -> Result<(), Memory>
     ensures { OnOk result ((raw : Raw) (event : Event) (terms : Terms) (kept : List Event) (rule : ℕ) → Reads raw event
         → IsOffending raw terms kept rule offending.now
-        → string_bytes lines.new ≡ string_bytes lines.old ++ event_line number event) }
+        → string_bytes lines.new ≡ string_bytes lines.old ++ event_line number raw) }
 {
     match offending {
         Offending::Frames(side) => push_side_event(lines, number, *side),
-        Offending::Content { side, .. } => push_side_event(lines, number, *side),
+        Offending::Content { side, content } => {
+            let side = *side;
+            push_content_event(alloc, lines, number, side, content.as_slice())
+        }
         Offending::Message { side, spoken } => {
             let side = *side;
             push_message_event(alloc, lines, number, side, &spoken.message)
@@ -109,7 +112,7 @@ pub(crate) fn push_said(
         → (facts : List SpecFact)
         × ((rests : Rests) → ShowsFault rests found.now.offending rest.now
         → AreTraced (AreFacts rests (terms_in events.now) (kept_of (terms_in events.now) before) raw event found.now.offence.rule) (terms_in events.now) before event found.now.offence.rule facts)
-        × (string_bytes lines.new ≡ string_bytes lines.old ++ (event_line found.now.offence.event event ++ fact_lines facts))) }
+        × (string_bytes lines.new ≡ string_bytes lines.old ++ (event_line found.now.offence.event raw ++ fact_lines facts))) }
 {
     let Found { offence, offending } = found;
     push_event(alloc, lines, offence.event, offending)?;

@@ -1,4 +1,5 @@
 pub mod Differing
+pub mod Naming
 pub mod MadeChanges
 pub mod Refusals
 pub mod OtherTexts

@@ -1,17 +1,21 @@
 -- The lines of an explanation.
-use Rattle.std.specs.Prelude.{ℕ, ℤ, List, [], ◌∷◌, ◌++◌, Option, Some, None, codes, decimal}
+use Rattle.std.specs.Prelude.{ℕ, ℤ, List, [], ◌∷◌, ◌++◌, if◌then◌else◌, Option, Some, None, is_none, option_and_then, chars, codes, decimal}
 use Rattle.std.specs.List.{flat_map}
 use Rattle.std.specs.Fmt.{signed_decimal}
+use Rattle.std.specs.Str.{is_utf8}
 use lib.Utf8.{encodes}
 use Rattle.json.specs.Print.{quoted}
+use Rattle.serde_json.specs.Data.{Data}
+use Rattle.serde_json.specs.Read.{read}
 use Rattle.lsp_types.specs.declared.position.Position.{Position}
 use Rattle.lsp_types.specs.declared.position.Span.{Span}
 use Rattle.lsp_types.specs.declared.side.Side.{Side}
 use Rattle.lsp_rpc.specs.Message.{Message}
+use Rattle.lsp_rpc.specs.Reading.{broken_rule, message_in, parts_of}
 use Rattle.lsp_rpc.specs.Words.{id_text, response_id_text, words_of}
 use Rattle.lsp_session.specs.declared.phase.Phase.{Phase}
 use Rattle.lsp_session.specs.declared.phase.Phase.TheVariants as phases
-use Rattle.lsp_verdict.specs.Event.{Event, message, fault, snapshot}
+use Rattle.lsp_verdict.specs.Placed.{Raw, content, broken, show}
 use Rattle.lsp_verdict.specs.Report.{line, side_name, who_name, kind_name}
 use Rattle.lsp_verdict.specs.Shown.{snapshot_words}
 use Rattle.lsp_verdict.specs.declared.verdict.Who.{Who}
@@ -95,11 +99,25 @@ side_event number side = line (codes "event" ∷ decimal number ∷ side_name si
 abbrev pub snapshot_event : ℕ → List ℕ → ℤ → List ℕ → List ℕ
 snapshot_event number uri version text = line (codes "event" ∷ snapshot_words number uri version text)
 
--- **the line that names the event of this number**: as it is shown, or of a fault whose it is
-abbrev pub event_line : ℕ → Event → List ℕ
-event_line number (message m) = message_event number m.side m.message
-event_line number (fault side rule) = side_event number side
-event_line number (snapshot uri version text) = snapshot_event number uri version text
+-- the message that a value is, where it keeps the rules 202 to 208
+abbrev pub value_message : Data → Option Message
+value_message d = if is_none (broken_rule d) then message_in (parts_of d) else None
+
+-- the message that a content is, whatever its params
+abbrev pub content_message : List ℕ → Option Message
+content_message bytes = if is_utf8 bytes then option_and_then value_message (read bytes) else None
+
+-- a content of a side, which is this message or none
+abbrev pub content_event : ℕ → Side → Option Message → List ℕ
+content_event number side (Some said) = message_event number side said
+content_event number side None = side_event number side
+
+-- **the line that names the event of this number**: as it is shown; of a content that is no message,
+-- and of a fault of the frames, the side alone
+abbrev pub event_line : ℕ → Raw → List ℕ
+event_line number (content side bytes) = content_event number side (content_message bytes)
+event_line number (broken side rule) = side_event number side
+event_line number (show version uri text) = snapshot_event number uri version (chars text)
 
 -- the place at which no event stands, and whose the next one would be
 abbrev pub end_event : ℕ → Who → List ℕ

@@ -25,7 +25,8 @@ pub use documents::{act_facts, snapshot_facts};
 pub use fact::Fact;
 pub use flaws::{flaw_facts, frame_facts, unfinished_facts};
 pub use lines::{
-    push_end_event, push_facts, push_message_event, push_side_event, push_snapshot_event,
+    push_content_event, push_end_event, push_facts, push_message_event, push_side_event,
+    push_snapshot_event,
 };
 pub use messages::{content_facts, id_in, session_facts};
 pub use offending::{message_facts, shown_facts};

@@ -11,7 +11,7 @@ ghost use Rattle.lsp_facts.specs.Fact.{fact_view, facts_view, has_kind, differs_
 ghost use Rattle.lsp_facts.specs.Lines as spec;
 
 use crate::fact::Fact;
-use lsp_rpc::{Id, Memory, Message, push_id, push_quoted, words_of};
+use lsp_rpc::{Id, Memory, Message, RpcFault, push_id, push_quoted, read, words_of};
 use lsp_session::Phase;
 use lsp_types::{Position, Side, Span, SyncKind};
 use lsp_verdict::{Who, kind_name, side_name, who_name};
@@ -261,6 +261,41 @@ pub fn push_message_event(
     let words = words_of(alloc, message)?;
     writeln!(lines, "event {number} {name} {words}")?;
     Ok(())
+}
+
+/// Adds the line of an event that is a content: its number, from 1, the side that sent it, and the words
+/// of the message that it is, whatever its params; of a content that is no message no words.
+///
+/// # Errors
+/// `Memory` where memory was refused.
+pub fn push_content_event(
+    alloc: Global,
+    lines: &mut String,
+    number: u64,
+    side: Side,
+    content: &[u8],
+) -> Result<(), Memory>
+    ensures { OnOk result (string_bytes lines.new
+        ≡ string_bytes lines.old ++ spec.content_event number side (spec.content_message content.now)) }
+{
+    match read(alloc, content) {
+        Ok(message) => push_owned_event(alloc, lines, number, side, message),
+        Err(RpcFault::Rule(_)) => push_side_event(lines, number, side),
+        Err(RpcFault::Memory) => Err(Memory),
+    }
+}
+
+fn push_owned_event(
+    alloc: Global,
+    lines: &mut String,
+    number: u64,
+    side: Side,
+    message: Message,
+) -> Result<(), Memory>
+    ensures { OnOk result (string_bytes lines.new
+        ≡ string_bytes lines.old ++ spec.message_event number side (message_view message)) }
+{
+    push_message_event(alloc, lines, number, side, &message)
 }
 
 /// Adds the line of an event of which nothing can be named but its number, from 1, and whose it is.

@@ -1,14 +1,22 @@
 -- The lines of facts.
-use Rattle.std.proofs.Common.{◌≡◌, ℕ, ◌∷◌, [], ◌++◌, refl}
+use Rattle.std.proofs.Common.{◌≡◌, ℕ, List, ◌∷◌, [], ◌++◌, refl}
 use Rattle.std.specs.Prelude.{pos, negsuc, codes, Some, None}
+use Rattle.std.specs.Float.Numeral.{scan_numeral}
+use Rattle.std.specs.Str.{chars, is_utf8}
 use Rattle.std.specs.Fmt.{digits}
 use lib.Utf8.{encode}
+use Rattle.json.specs.Json.{value}
+use Rattle.json.specs.Lex.{punctuate, lex}
+use Rattle.json.specs.Text.{content}
+use Rattle.json.specs.Word.{word, after_number}
 use Rattle.json.specs.Print.{escape_byte}
+use Rattle.serde_json.specs.Read.{number_of}
 use Rattle.lsp_types.specs.declared.change.SyncKind.TheVariants.{Nothing, Full, Incremental}
 use Rattle.lsp_types.specs.declared.position.Position.{Position}
 use Rattle.lsp_types.specs.declared.position.Span.{Span}
-use Rattle.lsp_types.specs.declared.side.Side.TheVariants.{Server}
-use Rattle.lsp_verdict.specs.Event.{fault, snapshot}
+use Rattle.lsp_types.specs.declared.side.Side.TheVariants.{Editor, Server}
+use Rattle.lsp_verdict.specs.Placed as placed
+use Rattle.lsp_verdict.specs.Placed.{broken, show}
 use Rattle.lsp_facts.specs.Fact.{of_uri, holds, sends, has_changes, has_kind, fails, line_has, falls_inside, would_have, may_have, differs_at, held_line, recorded_line, saved_line, keeps, offers, in_record}
 use Rattle.lsp_facts.specs.Lines.{fact_lines, event_line}
 
@@ -42,10 +50,30 @@ of_lists : fact_lines (keeps (pos 3 ∷ pos 4 ∷ pos 7 ∷ []) ∷ offers (code
 unfolding digits escape_byte
 of_lists = refl
 
-of_a_fault : event_line 3 (fault Server 102) ≡ codes "event 3 server\n"
+of_a_fault : event_line 3 (broken Server 102) ≡ codes "event 3 server\n"
 unfolding digits escape_byte
 of_a_fault = refl
 
-of_a_snapshot : event_line 8 (snapshot (codes "file:///a") (pos 4) (97 ∷ 233 ∷ [])) ≡ codes "event 8 snapshot 4 3 \"file:///a\"\n"
-unfolding digits escape_byte
+of_a_snapshot : event_line 8 (show (pos 4) (codes "file:///a") (97 ∷ 195 ∷ 169 ∷ []))
+    ≡ codes "event 8 snapshot 4 3 \"file:///a\"\n"
+unfolding digits escape_byte chars
 of_a_snapshot = refl
+
+-- ---- contents
+
+-- params of another shape than the method asks for leave a message
+abbrev pub pathless : List ℕ
+pathless = codes "{\"jsonrpc\":\"2.0\",\"method\":\"textDocument/didClose\",\"params\":{}}"
+
+of_refused_params : event_line 4 (placed.content Editor pathless)
+    ≡ codes "event 4 editor notification \"textDocument/didClose\"\n"
+unfolding value punctuate lex content word after_number number_of scan_numeral is_utf8 digits escape_byte
+of_refused_params = refl
+
+of_no_message : event_line 4 (placed.content Server (codes "{\"jsonrpc\":\"2.0\"}")) ≡ codes "event 4 server\n"
+unfolding value punctuate lex content word after_number number_of scan_numeral is_utf8 digits escape_byte
+of_no_message = refl
+
+of_no_json : event_line 4 (placed.content Server (codes "ready")) ≡ codes "event 4 server\n"
+unfolding value punctuate lex content word after_number number_of scan_numeral is_utf8 digits escape_byte
+of_no_json = refl

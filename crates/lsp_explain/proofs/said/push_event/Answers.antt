@@ -1,12 +1,18 @@
 use Rattle.std.proofs.Common.{◌∙◌, ◌++◌, ap, subst, string_bytes}
 use Rattle.std.proofs.lemmas.Result.{IfOk-weaker}
+use Rattle.lsp_facts.specs.Lines.{content_event, content_message}
 use Rattle.lsp_survey.specs.Walking.{IsOffending}
 use Rattle.lsp_explain.proofs.SaidFacts.{line_said}
 use Rattle.lsp_explain.proofs.said.push_event.Goals as goal
 
 pub returns-in-Content : goal.returns-in-Content
-returns-in-Content c = IfOk-weaker c.push_side_event-in-Content.result _ _ (λ u says raw event terms kept rule reads is.
-    says ∙ ap (λ w. string_bytes c.args.lines.now ++ w) (line_said terms kept rule c.args.number raw event _ reads (subst (IsOffending raw terms kept rule) c.in-Content.is is))) c.push_side_event-in-Content.ensures
+returns-in-Content c = IfOk-weaker c.push_content_event.result _ _ (λ u says raw event terms kept rule reads is.
+    let such = subst (IsOffending raw terms kept rule) c.in-Content.is is in
+    says
+    ∙ ap (λ w. string_bytes c.args.lines.now ++ content_event c.args.number c.in-Content.side.now (content_message w))
+    c.as_slice.ensures.value
+    ∙ ap (λ w. string_bytes c.args.lines.now ++ w) (line_said terms kept rule c.args.number raw event _ reads such))
+    c.push_content_event.ensures
 
 pub returns-in-Message : goal.returns-in-Message
 returns-in-Message c = IfOk-weaker c.push_message_event.result _ _ (λ u says raw event terms kept rule reads is.

@@ -15,5 +15,5 @@ returns c = IfOk-weaker c.push_facts.result _ _ (λ u says raw event before stan
       λ rests shows. c.in_ok-facts.ensures raw event before stands number reads is offends rests shows,
       says ∙ ap (λ xs. string_bytes c.push_event.new.lines ++ fact_lines (facts_view xs)) c.as_slice.ensures.value
           ∙ ap (λ w. w ++ fact_lines facts) (c.in_ok-push_event.ensures raw event terms (kept_of terms before) offence.rule reads is)
-          ∙ append_assoc (string_bytes c.args.lines.now) (event_line offence.event event) (fact_lines facts),
+          ∙ append_assoc (string_bytes c.args.lines.now) (event_line offence.event raw) (fact_lines facts),
     )) c.push_facts.ensures
