@@ -1,4 +1,4 @@
-;;; emacs.el --- Records sessions of eglot and lsp-mode as logs for lspcheck  -*- lexical-binding: t; -*-
+;;; emacs.el --- Record eglot and lsp-mode sessions for lspcheck  -*- lexical-binding: t; -*-
 
 ;; Start Emacs with: emacs -l emacs.el FILE (or `load' it in the init file, before a server starts).
 ;; Each server process gets a log of its own, SERVER-PID.log, in $LSPCHECK_LOGS or the folder that
@@ -11,16 +11,16 @@
 
 (defvar lspcheck-alarm (not (member (getenv "LSPCHECK_ALARM") '(nil "")))
   "Whether `lspcheck explain' reads each log while it is written.
-Where a rule is broken or the texts drift apart, a message and a window tell it at once.")
+A message and a window then show the first violation at once.")
 
 (defconst lspcheck-most 1048576 "The most bytes of one record.")
 
 (defun lspcheck--bytes (string)
-  "STRING as the bytes that a server's pipe has for it."
+  "STRING as the bytes that a server's pipe carries."
   (if (multibyte-string-p string) (encode-coding-string string 'utf-8-emacs-unix) string))
 
 (defun lspcheck--tell (alarm _event)
-  "Show what ALARM, a process of lspcheck, explained, where that is a violation."
+  "Show the explanation of ALARM, a process of lspcheck, if it is about a violation."
   (unless (process-live-p alarm)
     (with-current-buffer (process-buffer alarm)
       (goto-char (point-min))
@@ -30,14 +30,14 @@ Where a rule is broken or the texts drift apart, a message and a window tell it 
         (message "lspcheck: %s" (match-string 0))))))
 
 (defun lspcheck--start-alarm (name)
-  "Start lspcheck on the log of that NAME, which is yet to be written, where the user wants that."
+  "Start lspcheck for a new log, NAME, if the user wants an alarm."
   (when (and lspcheck-alarm (executable-find "lspcheck"))
     (make-process :name "lspcheck" :command '("lspcheck" "explain" "-") :connection-type 'pipe
                   :buffer (generate-new-buffer (format "*lspcheck: %s*" name))
                   :coding '(utf-8-unix . binary) :noquery t :sentinel #'lspcheck--tell)))
 
 (defun lspcheck--write (process &rest parts)
-  "Append PARTS, which are bytes, to the log of PROCESS."
+  "Append PARTS, which consist of bytes, to the log of PROCESS."
   (let ((file (process-get process 'lspcheck-log)) (coding-system-for-write 'binary)
         (head "") (write-region-inhibit-fsync t))
     (unless file
@@ -55,7 +55,7 @@ Where a rule is broken or the texts drift apart, a message and a window tell it 
         (ignore-errors (process-send-string alarm bytes))))))
 
 (defun lspcheck--record (process side string)
-  "Record that STRING passed between Emacs and PROCESS: SIDE \"E\" wrote it, or \"S\"."
+  "Record that Emacs (SIDE \"E\") or PROCESS (SIDE \"S\") wrote STRING."
   (let ((bytes (lspcheck--bytes string)) (at 0))
     (while (< at (length bytes))
       (let ((piece (substring bytes at (min (length bytes) (+ at lspcheck-most)))))
@@ -63,7 +63,7 @@ Where a rule is broken or the texts drift apart, a message and a window tell it 
         (setq at (+ at (length piece)))))))
 
 (defun lspcheck--snapshot (process uri version)
-  "Record the whole text of the current buffer, with its line ends, as URI's at VERSION."
+  "Record the whole text of the current buffer, with its line ends, as URI at VERSION."
   (when (and process (process-get process 'lspcheck-log))
     (let* ((dos (eq 1 (coding-system-eol-type buffer-file-coding-system)))
            (coding (if dos 'utf-8-dos 'utf-8-unix))
@@ -75,19 +75,19 @@ Where a rule is broken or the texts drift apart, a message and a window tell it 
       (lspcheck--write process (format "T %d %d %d\n" version (length name) (length text))
                        name "\n" text "\n"))))
 
-;; eglot: all that passes goes through jsonrpc.
+;; eglot: all messages go through jsonrpc.
 
 (defun lspcheck--sending (process string)
-  "Record STRING, where PROCESS is one of jsonrpc's."
+  "Record STRING if PROCESS belongs to jsonrpc."
   (when (and (processp process) (eq (process-filter process) 'jsonrpc--process-filter))
     (lspcheck--record process "E" string)))
 
 (defun lspcheck--filtering (process string)
-  "Record STRING, which the PROCESS of jsonrpc's wrote."
+  "Record STRING, which PROCESS, a server of jsonrpc, wrote."
   (lspcheck--record process "S" string))
 
 (defun lspcheck--eglot-snapshot (&rest _)
-  "Record the buffer, at the version that eglot keeps for it."
+  "Record the buffer at the version that eglot keeps for it."
   (when-let ((server (eglot-current-server)))
     (lspcheck--snapshot (jsonrpc--process server)
                         (plist-get (eglot--TextDocumentIdentifier) :uri)
@@ -102,18 +102,18 @@ Where a rule is broken or the texts drift apart, a message and a window tell it 
                      eglot--signal-textDocument/didSave))
     (advice-add sending :after #'lspcheck--eglot-snapshot)))
 
-;; lsp-mode: it makes the filter of a server's process, and sends by one function.
+;; lsp-mode: it creates the filter of a server's process, and sends all messages by one function.
 
 (defun lspcheck--lsp-filter (make &rest arguments)
-  "The filter that MAKE makes of ARGUMENTS, which records what it is given first."
+  "Call MAKE with ARGUMENTS, and return its filter, which now records its input first."
   (let ((filter (apply make arguments)))
     (lambda (process string)
       (lspcheck--record process "S" string)
       (funcall filter process string))))
 
 (defun lspcheck--lsp-sending (message process)
-  "Record MESSAGE, which lsp-mode sends to PROCESS, and the buffer where it tells a text.
-Where lsp-mode sends nothing, as inside `revert-buffer', there is no snapshot."
+  "Record MESSAGE, which lsp-mode sends to PROCESS, and a snapshot if it carries a text.
+While lsp-mode sends nothing, as inside `revert-buffer', there are no snapshots."
   (lspcheck--record process "E" message)
   (when (string-match-p "\"method\":\"textDocument/did\\(Open\\|Change\\|Save\\)\""
                         (substring message 0 (min 200 (length message))))

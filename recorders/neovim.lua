@@ -1,11 +1,12 @@
--- Records what Neovim's built-in client and its language servers say to each other, as logs for lspcheck.
--- Start Neovim with: nvim --cmd 'luafile neovim.lua' FILE (or dofile it at the top of init.lua).
--- Each server process gets a log of its own, NAME-PID-NUMBER.log, in $LSPCHECK_LOGS or the working folder.
--- With LSPCHECK_ALARM=1, and lspcheck on the PATH, a message tells at once where a rule is broken or texts drift apart.
+-- Records what Neovim's built-in client and its language servers send each other, for lspcheck.
+-- Start Neovim with: nvim --cmd 'luafile neovim.lua' FILE (or use dofile at the top of init.lua).
+-- Each server process gets a log of its own, SERVER-PID-NUMBER.log, in $LSPCHECK_LOGS or the
+-- working folder; PID is that of Neovim. With LSPCHECK_ALARM=1, and lspcheck on the PATH, a message
+-- appears as soon as a rule is broken or the texts drift apart.
 
 local uv = vim.uv or vim.loop
 local folder = os.getenv("LSPCHECK_LOGS") or "."
-local most = 1048576 -- bytes of one record
+local most = 1048576 -- the most bytes of one record
 local count, started = 0, nil
 local log_of_pipe = setmetatable({}, { __mode = "k" })
 local log_of_rpc = setmetatable({}, { __mode = "k" })
@@ -14,7 +15,7 @@ local pipe = getmetatable(uv.new_pipe(false)).__index
 local write, read_start = pipe.write, pipe.read_start
 local start, spawn = vim.lsp.rpc.start, uv.spawn
 
--- A message, and a buffer with the whole explanation.
+-- Shows a message, and puts the whole explanation into a buffer.
 local function tell(log, explanation)
   local buffer = vim.api.nvim_create_buf(true, true)
   vim.api.nvim_buf_set_name(buffer, "lspcheck: " .. log.name)
@@ -64,7 +65,7 @@ local function new_log(command)
   return log
 end
 
--- What the editor wrote ("E") or read ("S").
+-- Records what the editor wrote ("E") or read ("S").
 local function record(log, side, bytes)
   for at = 1, #bytes, most do
     local piece = bytes:sub(at, at + most - 1)
@@ -72,7 +73,7 @@ local function record(log, side, bytes)
   end
 end
 
--- The pipes of a language server are those of the process that `vim.lsp.rpc.start` spawns.
+-- A language server's pipes are those of the process that `vim.lsp.rpc.start` spawns.
 vim.lsp.rpc.start = function(...)
   started = {}
   local rpc = start(...)
@@ -118,7 +119,8 @@ local function clients_of(buffer)
   return vim.lsp.buf_get_clients(buffer)
 end
 
--- The buffer as it is, at the version that the client keeps for it: that of its next change, or of its last.
+-- Records the buffer as it is, at the version that the client keeps for it: that of its last change
+-- or of its next one.
 local line_ends = { unix = "\n", dos = "\r\n", mac = "\r" }
 local function snapshot(buffer)
   local versions = vim.lsp.util.buf_versions

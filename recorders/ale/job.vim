@@ -1,9 +1,9 @@
-" Records what ALE and its language servers say to each other, as logs for lspcheck.
-" Write into vimrc, after the line that puts ALE on the runtime path: source FOLDER/ale/job.vim
-" (Vim takes new bodies for ALE's functions from a file of this very name: keep it, in a folder ale.)
-" Each server process gets a log of its own, NAME-PID-NUMBER.log, in $LSPCHECK_LOGS or the working
-" folder. The snapshot of a buffer is taken as soon as ALE has sent its text.
-" With LSPCHECK_ALARM=1, and lspcheck on the PATH, a message tells at once where a rule is broken or
+" Records what ALE and its language servers send each other, as logs for lspcheck.
+" Add to vimrc, after the line that puts ALE on the runtime path: source FOLDER/ale/job.vim
+" (Keep the name ale/job.vim: Vim lets only a file of this name redefine ALE's functions.)
+" Each server process gets a log of its own, SERVER-PID-NUMBER.log, in $LSPCHECK_LOGS or the working
+" folder; PID is that of Vim. A snapshot is taken whenever ALE has sent a text.
+" With LSPCHECK_ALARM=1, and lspcheck on the PATH, a message appears as soon as a rule is broken or
 " the texts drift apart.
 
 runtime autoload/ale/job.vim
@@ -23,7 +23,7 @@ function! s:Write(log, bytes) abort
   endif
 endfunction
 
-" A message, and a buffer with the whole explanation, where that is a violation.
+" Shows a message, and puts the whole explanation into a buffer, if it is about a violation.
 function! s:Tell(log, lines) abort
   if get(a:lines, 0, '') !~# '^no '
     return
@@ -54,7 +54,7 @@ function! s:StartAlarm(log) abort
   \})
 endfunction
 
-" What the editor wrote ('E') or read ('S').
+" Records what the editor wrote ('E') or read ('S').
 function! s:Record(log, side, bytes) abort
   let l:at = 0
 
@@ -65,7 +65,7 @@ function! s:Record(log, side, bytes) abort
   endwhile
 endfunction
 
-" The buffer as it is, where the message told its text, at the version that the message gave it.
+" Records the buffer as it is, if the message carried its text, at the version of the message.
 function! s:Snapshot(log, message) abort
   let l:method = get(a:message, 'method', '')
 
@@ -89,7 +89,7 @@ endfunction
 let s:Start = funcref('ale#job#Start')
 let s:SendRaw = funcref('ale#job#SendRaw')
 
-" Language servers are the jobs whose output is read raw.
+" The jobs whose output is read raw are language servers.
 function! ale#job#Start(command, options) abort
   if get(a:options, 'mode', '') isnot# 'raw' || !has_key(a:options, 'out_cb')
     return s:Start(a:command, a:options)

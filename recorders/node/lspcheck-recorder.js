@@ -1,4 +1,4 @@
-// Records what a client and a language server say to each other, as a log for lspcheck.
+// Records what a client and a language server send each other, as a log for lspcheck.
 //
 //   const { record, assertClean } = require("./lspcheck-recorder");
 //   const child = spawn("some-language-server", ["--stdio"]);
@@ -6,7 +6,7 @@
 //   log.snapshot(uri, version, text);           // whenever the client has sent a change
 //   assertClean("session.log", "--complete");   // once the server has exited
 //
-// Needs Node 18 and no package.
+// Needs Node 18 and no packages.
 
 "use strict";
 
@@ -26,14 +26,14 @@ class Log {
 
   /** Records bytes that the client wrote ("E") or read ("S"). */
   bytes(side, data, encoding) {
-    const bytes = typeof data === "string" ? Buffer.from(data, encoding || "utf8") : Buffer.from(data);
+    const bytes = Buffer.from(data, typeof data === "string" ? encoding || "utf8" : undefined);
     for (let at = 0; at < bytes.length; at += MOST) {
       const piece = bytes.subarray(at, at + MOST);
       this.append(`${side} ${piece.length}\n`, piece);
     }
   }
 
-  /** Records the client's whole text of a document, at the version that it keeps for it. */
+  /** Records the client's whole text of a document at the version that it keeps for it. */
   snapshot(uri, version, text) {
     const [name, content] = [Buffer.from(uri), Buffer.from(text)];
     this.append(`T ${version} ${name.length} ${content.length}\n`, name, "\n", content);

@@ -1,12 +1,12 @@
-"""Records what a client and a language server say to each other, as a log for lspcheck.
+"""Records what a client and a language server send each other, as a log for lspcheck.
 
     child = subprocess.Popen(["some-language-server"], stdin=PIPE, stdout=PIPE)
     log = record(child, "session.log")          # before the client's first write
     log.snapshot(uri, version, text)            # whenever the client has sent a change
     assert_clean("session.log", "--complete")   # once the server has exited
 
-The child may also be one of `asyncio.create_subprocess_exec`. Its pipes are replaced by ones that
-record: take `child.stdin` and `child.stdout` after the call. Needs Python 3.9 and no package.
+The child may also come from `asyncio.create_subprocess_exec`. Its pipes are replaced by recording
+ones: use `child.stdin` and `child.stdout` after the call. Needs Python 3.9 and no packages.
 """
 
 import inspect
@@ -36,7 +36,7 @@ class Log:
             self.append(b"%s %d\n%s\n" % (side, len(piece), piece))
 
     def snapshot(self, uri, version, text):
-        """Records the client's whole text of a document, at the version that it keeps for it."""
+        """Records the client's whole text of a document at the version that it keeps for it."""
         name, content = uri.encode(), text.encode()
         head = b"T %d %d %d\n" % (version, len(name), len(content))
         self.append(head + name + b"\n" + content + b"\n")
@@ -47,7 +47,7 @@ class Log:
 
 
 class Recorded:
-    """One of a server's pipes, of which all that is written or read is recorded."""
+    """One of a server's pipes; all that is written or read through it is recorded."""
 
     def __init__(self, pipe, log):
         self.pipe, self.log = pipe, log

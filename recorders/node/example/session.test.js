@@ -1,6 +1,6 @@
 // A test suite that lets lspcheck judge the sessions of the client under test.
 //
-// With COUNT_CODE_POINTS=1 the client counts columns in code points, where UTF-16 was agreed.
+// With COUNT_CODE_POINTS=1 the client counts columns in code points although UTF-16 was agreed.
 
 "use strict";
 
@@ -14,7 +14,7 @@ const { record, assertClean } = require("../lspcheck-recorder");
 
 const URI = "file:///greeting.txt";
 
-/** The client under test: it holds one document, and tells the server each edit of it. */
+/** The client under test: it holds one document, and sends the server each edit of it. */
 class Client {
   constructor(child) {
     this.child = child;

@@ -1,4 +1,4 @@
-"""A small language server: it answers requests, and does nothing else."""
+"""A small language server that only answers requests."""
 
 import json
 import re

@@ -1,7 +1,7 @@
 """A test suite that lets lspcheck judge the sessions of the client under test.
 
-With COUNT_CODE_POINTS=1 the client counts columns in code points, where UTF-16 was agreed.
-pytest runs it as well as unittest.
+With COUNT_CODE_POINTS=1 the client counts columns in code points although UTF-16 was agreed.
+Both unittest and pytest run it.
 """
 
 import asyncio
@@ -29,7 +29,7 @@ def frame(**message):
 
 
 class Document:
-    """What the client under test holds, and the messages that tell the server each edit of it."""
+    """What the client under test holds, and the messages that send the server each edit of it."""
 
     def __init__(self, text):
         self.text, self.version = text, 1
@@ -41,7 +41,8 @@ class Document:
     def appended(self, text):
         """Inserts text at the end of the first line."""
         line, rest = self.text.split("\n", 1)
-        column = len(line) if "COUNT_CODE_POINTS" in os.environ else len(line.encode("utf-16-le")) // 2
+        units = len(line.encode("utf-16-le")) // 2
+        column = len(line) if "COUNT_CODE_POINTS" in os.environ else units
         self.text, self.version = f"{line}{text}\n{rest}", self.version + 1
         place = {"line": 0, "character": column}
         params = {
