@@ -17,10 +17,10 @@ returns c =
     (c.rest-rest.ensures.broken limits start now past notes prior so (ap (λ s. (stream_of c.args.events.now.survey s).ended) c.side_of.ensures ∙ ended)) in
     tells c.args.events.now found _ c.rest-rest.result.now said text c.verdict-verdict.ensures
     (λ raw event before stands number reads is offends.
-        let r = c.in_ok-push_said.ensures raw event before stands number reads is offends in
-        let line = event_line found.offence.event raw in (
-          r.0,
-          λ rests shows. r.1 rests shows,
-          r.2 ∙ ap (λ w. w ++ (line ++ fact_lines r.0)) c.new-said.ensures.bytes,
-        ))
+    let r = c.in_ok-push_said.ensures raw event before stands number reads is offends in
+    let line = event_line found.offence.event raw in (
+      r.0,
+      λ rests shows. r.1 rests shows,
+      r.2 ∙ ap (λ w. w ++ (line ++ fact_lines r.0)) c.new-said.ensures.bytes,
+    ))
     seen
