@@ -20,7 +20,7 @@ mod task_outcome;
 pub use beginning::Beginning;
 pub use hint::{Hint, hint_of};
 pub use inlet::Inlet;
-pub use lsp_words::{Request, Task, request_of};
+pub use lsp_words::{Request, Slip, Task, only_word, request_of, uri_alone};
 pub use outlet::Outlet;
 pub use remark::{remark_of, report_apart};
 pub use run::{run_task, run_through};

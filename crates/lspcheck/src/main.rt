@@ -14,8 +14,8 @@ use clap::Error;
 use clap::error::ErrorKind;
 pub use lsp_command::status_of;
 use lsp_command::{
-    Hint, Inlet, Outlet, Request, TaskOutcome, hint_of, remark_of, report_apart, request_of,
-    run_through, status_of_task, status_of_words,
+    Hint, Inlet, Outlet, Request, Slip, TaskOutcome, hint_of, only_word, remark_of, report_apart,
+    request_of, run_through, status_of_task, status_of_words, uri_alone,
 };
 use lsp_judge::{Limits, RunFault};
 use std::alloc::Global;
@@ -145,6 +145,24 @@ fn status_without_run<R: Print + Eprint>(rt: &R, error: &Error) -> u8 {
     }
 }
 
+/// Says on standard error what the words may have left out, where this word names a file.
+fn show_slip<R: Files + Eprint>(rt: &R, slip: Slip, word: Option<&str>) {
+    if let Some(path) = word
+        && fs::open(rt, path).is_ok()
+    {
+        let _ = eprintln!(rt; "lspcheck: hint: {slip}");
+    }
+}
+
+/// Shows what is wrong with the words, and what they may have left out.
+fn status_of_wrong_words<R: Files + Print + Eprint>(rt: &R, words: &[String], error: &Error) -> u8 {
+    let status = status_without_run(rt, error);
+    if let ErrorKind::InvalidSubcommand | ErrorKind::UnknownArgument = error.kind() {
+        show_slip(rt, Slip::Command, only_word(words));
+    }
+    status
+}
+
 /// The words of the command line.
 fn words_of<R: Env + AllocGlobal>(rt: &R) -> io::Result<Vec<String>> {
     Ok(env::args(rt)?.collect(rt.alloc())?)
@@ -162,8 +180,11 @@ fn answer<R: Env + Files + io::Input + Print + Eprint + AllocGlobal>(rt: &R) -> 
         }
     };
     match request_of(rt.alloc(), words.as_slice()) {
-        Err(error) => status_without_run(rt, &error),
-        Ok(request) => status_of_run(rt, &request),
+        Err(error) => status_of_wrong_words(rt, words.as_slice(), &error),
+        Ok(request) => {
+            show_slip(rt, Slip::Uri, uri_alone(&request));
+            status_of_run(rt, &request)
+        }
     }
 }
 
