@@ -1,7 +1,7 @@
 //! The words of the command line, and what they ask for.
 //!
-//! `request_of` reads the words: a [`Request`] is a [`Task`] and the file to do it on. A [`Slip`] says
-//! what the words may have left out.
+//! `request_of` reads the words: a [`Request`] is a [`Task`] and the file to do it on. A [`Slip`]
+//! says what the words may have left out.
 #![tactic(auto)]
 
 mod commands;
