@@ -4,8 +4,8 @@ pub mod Editing
 pub mod Noticing
 pub mod Calls
 pub mod ShortNumerals
-pub mod TinyNumerals
 pub mod Lexing
 pub mod Spaces
+pub mod Blocks
 pub mod Strings
 pub mod Walking

@@ -1,10 +1,12 @@
 -- A few digits write an integer of 64 bits.
-use Rattle.std.proofs.Common.{◌≡◌, ◌==◌, ◌&&◌, ◌||◌, ◌⊎◌, inl, inr, ◌++◌, ◌+◌, ◌-◌, ◌<◌, ◌≤◌, ◌^◌, ℕ, suc, Bool, List, [], ◌∷◌, length, take, drop, get_or, true, false, cond, Some, None, is_some, option_and_then, lt_of_not-le, refl, sym, ap, ap₂, subst, ◌∙◌, arith, append-nil, lit<}
+use Rattle.std.proofs.Common.{◌≡◌, ◌==◌, ◌&&◌, ◌||◌, ◌⊎◌, inl, inr, ◌++◌, ◌+◌, ◌-◌, ◌*◌, ◌<◌, ◌≤◌, ◌^◌, ℕ, suc, Bool, List, [], ◌∷◌, length, take, drop, get_or, true, false, cond, Some, None, is_some, option_and_then, lt_of_not-le, refl, sym, ap, ap₂, subst, ◌∙◌, arith, append-nil, lit<}
 use Rattle.std.proofs.lemmas.Bool.{lt-ltb, ne_eqb, and_parts, true≢false}
-use Rattle.std.proofs.lemmas.List.{drop_all, drop_more, get_or_past}
+use Rattle.std.proofs.lemmas.Int.Digits.{digits_value_more}
+use Rattle.std.proofs.lemmas.List.{drop_all, drop_more, get_or_past, get_or-drop, length-drop, length-take-le}
+use Rattle.std.proofs.lemmas.List.Folds.{list_all_more}
 use Rattle.std.proofs.lemmas.Float.Parse.{scan_numeral-text_of}
 use Rattle.std.proofs.lemmas.Str.Parse.{IsNumeralModel, numerals_by_value, tells_all_ascii_digits, not_in_digits, digits_value_short}
-use Rattle.std.specs.Char.{is_ascii_digit}
+use Rattle.std.specs.Char.{is_ascii_digit, digit_value}
 use Rattle.std.specs.List.{list_all, prefix_len}
 use Rattle.std.specs.Str.{all_ascii_digits}
 use Rattle.std.specs.Str.Parse.{AllDigits, digits_value}
@@ -13,7 +15,7 @@ use Rattle.json.specs.Print.{IsNumber}
 use Rattle.json.specs.Word.{is_operator, is_space, ends_word, after_digits, after_whole, after_fraction, after_exponent, after_number}
 use Rattle.serde_json.specs.Data.{unsigned}
 use Rattle.serde_json.specs.Read.{number_of}
-use Rattle.lsp_outline.specs.Walk.{part, IsNumeral}
+use Rattle.lsp_outline.specs.Walk.{part, IsNumeral, IsNatural, AreFewDigits}
 
 abbrev AreDigits : List ℕ → Type 0
 AreDigits s = all_ascii_digits s ≡ true
@@ -101,11 +103,9 @@ run_of_digits (x ∷ xs) = front_digits (is_ascii_digit x) x (prefix_len is_asci
 zero_from : (end from : ℕ) → end ≤ from → end - from ≡ 0
 zero_from end from h = omega arith
 
-pub short_numeral : (d : List ℕ) (from end : ℕ) → end ≡ from + prefix_len is_ascii_digit (drop from d) → 0 < length (part d from end) → length (part d from end) ≤ 18
+digits_numeral : (d : List ℕ) (from end : ℕ) → list_all is_ascii_digit (part d from end) ≡ true → 0 < length (part d from end) → length (part d from end) ≤ 18
     → (length (part d from end) ≡ 1) ⊎ ((get_or (part d from end) 0 0 == 48) ≡ false) → ends_word (drop end d) ≡ true → end ≤ length d → IsNumeral d from end
-short_numeral d from end is some short one ended within =
-    let count : prefix_len is_ascii_digit (drop from d) ≡ end - from = omega arith in
-    let digits : list_all is_ascii_digit (part d from end) ≡ true = ap (λ n. list_all is_ascii_digit (take n (drop from d))) (sym count) ∙ run_of_digits (drop from d) in
+digits_numeral d from end digits some short one ended within =
     let none : from < end = lt_of_not-le (λ h. omega (arith, some, ap (λ n. length (take n (drop from d))) (zero_from end from h))) in
     record {
       number = digits_number (part d from end) digits some one;
@@ -114,6 +114,50 @@ short_numeral d from end is some short one ended within =
       forward = none;
       within = within;
     }
+
+pub short_numeral : (d : List ℕ) (from end : ℕ) → end ≡ from + prefix_len is_ascii_digit (drop from d) → 0 < length (part d from end) → length (part d from end) ≤ 18
+    → (length (part d from end) ≡ 1) ⊎ ((get_or (part d from end) 0 0 == 48) ≡ false) → ends_word (drop end d) ≡ true → end ≤ length d → IsNumeral d from end
+short_numeral d from end is some short one ended within =
+    let count : prefix_len is_ascii_digit (drop from d) ≡ end - from = omega arith in
+    let digits : list_all is_ascii_digit (part d from end) ≡ true = ap (λ n. list_all is_ascii_digit (take n (drop from d))) (sym count) ∙ run_of_digits (drop from d) in
+    digits_numeral d from end digits some short one ended within
+
+-- ---- at most nine digits, one after another
+
+pub few_below : (d : List ℕ) (from end n : ℕ) → AreFewDigits d from end n → end - from < 9 → n < 100000001
+few_below d from end n old less =
+    let short : length (part d from end) ≤ 8 = omega (arith, length-take-le (end - from) (drop from d) (omega (arith, old.within, old.forward, length-drop from d))) in
+    let below = few_value (part d from end) 8 short old.digits in
+    let power : 10 ^ 8 < 100000001 = lit< tt in
+    omega (arith, old.value, below, power)
+
+pub one_digit_more : (d : List ℕ) (from end n more : ℕ) → AreFewDigits d from end n → end - from < 9 → end < length d
+    → is_ascii_digit (get_or d end 0) ≡ true → more ≡ n * 10 + digit_value (get_or d end 0) → AreFewDigits d from (end + 1) more
+one_digit_more d from end n more old less within digit is =
+    let s = drop from d in
+    let i = end - from in
+    let room : i < length s = omega (arith, length-drop from d, old.forward) in
+    let next : end + 1 - from ≡ i + 1 = omega (arith, old.forward) in
+    let place : from + i ≡ end = omega (arith, old.forward) in
+    let there : get_or s i 0 ≡ get_or d end 0 = get_or-drop from d i 0 ∙ ap (λ k. get_or d k 0) place in
+    let same : part d from (end + 1) ≡ take (i + 1) s = ap (λ k. take k s) next in
+    let written : digits_value 10 (part d from (end + 1)) ≡ digits_value 10 (part d from end) * 10 + digit_value (get_or d end 0) =
+    ap (digits_value 10) same ∙ digits_value_more 10 s i room ∙ ap (λ x. digits_value 10 (take i s) * 10 + digit_value x) there in
+    record {
+      digits = ap (list_all is_ascii_digit) same ∙ list_all_more is_ascii_digit s i 0 room ∙ ap₂ (λ a b. a && b) old.digits (ap is_ascii_digit there ∙ digit);
+      value = omega (arith, is, old.value, written);
+      forward = omega (arith, old.forward);
+      few = omega (arith, less, next);
+      within = omega (arith, within);
+    }
+
+-- where a word ends after them, they are an integer
+pub few_natural : (d : List ℕ) (from end n : ℕ) → AreFewDigits d from end n → 0 < length (part d from end) → length (part d from end) ≤ 18
+    → (length (part d from end) ≡ 1) ⊎ ((get_or (part d from end) 0 0 == 48) ≡ false) → ends_word (drop end d) ≡ true → IsNatural d from end n
+few_natural d from end n old some short one ended = record {
+  numeral = digits_numeral d from end old.digits some short one ended old.within;
+  value = short_natural (part d from end) some short old.digits ∙ ap (λ m. Some (unsigned m)) (sym old.value);
+}
 
 pub ends_at : (d : List ℕ) (end : ℕ) → (is_operator (get_or d end 0) || is_space (get_or d end 0)) ≡ true → (end < length d) × (ends_word (drop end d) ≡ true)
 ends_at d end h =

@@ -3,7 +3,9 @@ use Rattle.std.proofs.Common.{◌≡◌, ℕ, suc, ◌+◌, ◌-◌, ◌<◌, �
 use Rattle.std.proofs.lemmas.List.{drop_more, append_assoc, append-nil, drop-drop, get_or_past, length-drop}
 use Rattle.std.proofs.lemmas.List.Sums.{prefix_len-le-length}
 use Rattle.std.proofs.lemmas.Bool.{or_parts, not-true, ne_eqb, le-ltb}
+use Rattle.std.proofs.lemmas.Str.{IsCharBoundary-after_ascii}
 use Rattle.std.specs.List.{prefix_len}
+use Rattle.std.specs.Str.{IsUtf8, IsCharBoundary}
 use Rattle.std.specs.Char.{encode_utf8, len_utf8}
 use Rattle.json.specs.Text.{code_unit, short_escape, is_high_surrogate, is_low_surrogate, surrogate_pair, Within, plain, after_backslash, after_u, after_high, prepend, content}
 use Rattle.json.specs.Run.{is_plain, Escape}
@@ -147,6 +149,12 @@ escaped d from stop c next s run is escape passed =
 -- a string without an escape
 pub plain_text : (d : List ℕ) (from stop : ℕ) → from ≤ length d → stop ≡ from + prefix_len is_plain (drop from d) → get_or d stop 0 ≡ 34 → IsText d from (stop + 1) (take (stop - from) (drop from d))
 plain_text d from stop within is mark = closed d from stop _ (run_on d from from stop [] (run_none d from within) is) mark
+
+-- a text may be cut after a quote
+pub after_quote : (d : List ℕ) (i : ℕ) → IsUtf8 d → get_or d i 0 ≡ 34 → IsCharBoundary d (i + 1)
+after_quote d i text mark =
+    let within : i < length d = lt_of_not-le (λ past. omega (arith, get_or_past d i 0 past)) in
+    IsCharBoundary-after_ascii d i text within (omega (arith, mark))
 
 -- ---- what escapes pass
 

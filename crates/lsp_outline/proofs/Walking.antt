@@ -1,5 +1,5 @@
 -- Values, items and members between two places of a text.
-use Rattle.std.proofs.Common.{◌≡◌, ℕ, ◌+◌, ◌-◌, ◌<◌, ◌≤◌, ◌==◌, ◌||◌, Bool, true, false, cond, List, [], ◌∷◌, ◌++◌, length, take, drop, get_or, Option, Some, None, option_map, add-zero, lt_of_not-le, refl, sym, ap, ap₂, ◌∙◌, arith}
+use Rattle.std.proofs.Common.{◌≡◌, ℕ, suc, ◌+◌, ◌-◌, ◌<◌, ◌≤◌, ◌==◌, ◌||◌, Bool, true, false, cond, List, [], ◌∷◌, ◌++◌, length, take, drop, get_or, Option, Some, None, option_map, add-zero, lt_of_not-le, refl, sym, ap, ap₂, subst, ◌∙◌, arith}
 use Rattle.std.specs.Prelude.{nat_eq}
 use Rattle.std.specs.Char.{is_ascii_digit}
 use Rattle.std.specs.List.{starts_with}
@@ -8,7 +8,8 @@ use Rattle.std.proofs.lemmas.List.{drop_all, drop_more, drop-drop, get_or-drop, 
 use Rattle.std.proofs.lemmas.Slice.Eq.{bytes_eq-Decides}
 use Rattle.json.specs.Token.{Token}
 use Rattle.json.specs.Token as token_of
-use Rattle.json.specs.Word.{is_operator, is_space, ends_word, word}
+use Rattle.json.specs.Print.{IsNumber}
+use Rattle.json.specs.Word.{is_operator, is_space, ends_word, word, after_whole, after_number}
 use Rattle.json.specs.Lex.{Lexeme, token, comma, colon, quote, backslash, operator, space, other, class, operator_lexeme, string_token, Mode, between, lex_byte, lex}
 use Rattle.json.specs.Lex.{Place, fresh, after_value, after_comma, begins_colon, punctuate}
 use Rattle.json.specs.Json as json
@@ -18,8 +19,8 @@ use Rattle.json.proofs.Printed.Numbers.{lex-number, in_word-ended}
 use Rattle.serde_json.specs.Data as tree
 use Rattle.serde_json.specs.Data.{Data, Items, no_items, item, Members, no_members, put}
 use Rattle.serde_json.specs.Read.{of_json, of_items, of_members, converted, number_of, max_depth, read}
-use Rattle.lsp_outline.specs.declared.skip.Kind.TheVariants as kinds
-use Rattle.lsp_outline.specs.Walk.{kind_at, tokens_from, part, IsText, IsNumeral, IsLiteral, IsValue, AreItems, AreMembers, SomeItems, SomeMembers, IsKey}
+use Rattle.lsp_outline.specs.declared.walk.Kind.TheVariants as kinds
+use Rattle.lsp_outline.specs.Walk.{kind_at, tokens_from, part, IsText, IsNumeral, IsNatural, IsLiteral, IsValue, AreItems, AreMembers, SomeItems, SomeMembers, IsKey}
 use Rattle.lsp_outline.proofs.Lexing.{lex_operator, lex_quote, key_first, string_first, object_first, array_first, object_last, array_last, comma_next, word_first}
 use Rattle.lsp_outline.proofs.Skipping.{converted_some, number_passed, array_passed, object_passed, item_passed, items_passed, member_passed, members_passed, nothing_before, parse_map-twice, whole_passed}
 
@@ -124,6 +125,31 @@ plain_kind x a b c = λ i. cond (ne_eqb x 123 a i || ne_eqb x 91 b i) kinds.Stru
 pub digit_kind : (x : ℕ) → is_ascii_digit x ≡ true → kind_at x ≡ kinds.Plain
 digit_kind x digit =
     plain_kind x (λ e. true≢false (sym digit ∙ ap is_ascii_digit e)) (λ e. true≢false (sym digit ∙ ap is_ascii_digit e)) (λ e. true≢false (sym digit ∙ ap is_ascii_digit e))
+
+-- a number begins with none of these
+not_first : (x : ℕ) (rest : List ℕ) → is_ascii_digit x ≡ false → (x == 45) ≡ false → (x == 48) ≡ false → IsNumber (x ∷ rest) → ⊥
+unfolding after_number
+not_first x rest digit minus zero is =
+    let whole : after_whole (x ∷ rest) ≡ None = rw (zero, digit) refl in
+    let none : after_number (x ∷ rest) ≡ None = rw (minus, whole) refl in
+    absurd (cc)
+
+number_kind : (x : ℕ) (rest : List ℕ) → IsNumber (x ∷ rest) → kind_at x ≡ kinds.Plain
+number_kind x rest is =
+    plain_kind x (λ e. not_first 123 rest refl refl refl (subst (λ y. IsNumber (y ∷ rest)) e is))
+    (λ e. not_first 91 rest refl refl refl (subst (λ y. IsNumber (y ∷ rest)) e is))
+    (λ e. not_first 110 rest refl refl refl (subst (λ y. IsNumber (y ∷ rest)) e is))
+
+-- so it is plain
+pub numeral_kind : (d : List ℕ) (from end : ℕ) → IsNumeral d from end → kind_at (get_or d from 0) ≡ kinds.Plain
+numeral_kind d from end is =
+    let some : from < length d = omega (arith, is.forward, is.within) in
+    let n : end - from ≡ suc (end - from - 1) = omega (arith, is.forward) in
+    let front : part d from end ≡ get_or d from 0 ∷ take (end - from - 1) (drop (from + 1) d) = ap (λ k. take k (drop from d)) n ∙ ap (take (suc (end - from - 1))) (drop_more d from 0 some) in
+    number_kind (get_or d from 0) _ (subst IsNumber front is.number)
+
+pub numeral_value : (d : List ℕ) (from end n : ℕ) → IsNatural d from end n → (depth : ℕ) → IsValue depth d from end (tree.number (tree.unsigned n))
+numeral_value d from end n is depth = natural_value depth d from end (tree.unsigned n) is.numeral is.value (numeral_kind d from end is.numeral)
 
 named : (d : List ℕ) (from : ℕ) (name : List ℕ) → starts_with nat_eq (drop from d) name ≡ true → drop from d ≡ name ++ drop (from + length name) d
 named d from name h =
@@ -235,22 +261,22 @@ no_end depth (Token.boolean b ∷ ts) j r e = refl
 no_end depth (Token.null ∷ ts) j r e = refl
 no_end depth (Token.bad ∷ ts) j r e = refl
 
-record Taken (depth : ℕ) (ts r : List Token) : Type 0 where
-  shorter : length r < length ts
-  going : after_end_array ts ≡ None
+pub record Taken (depth : ℕ) (ts r : List Token) : Type 0 where
+  pub shorter : length r < length ts
+  pub going : after_end_array ts ≡ None
 
-taken : (depth : ℕ) (ts r : List Token) (x : Data) → converted of_json (value depth ts) ≡ Some (x, r) → Taken depth ts r
+pub taken : (depth : ℕ) (ts r : List Token) (x : Data) → converted of_json (value depth ts) ≡ Some (x, r) → Taken depth ts r
 taken depth ts r x e =
     let j = converted_some of_json (value depth ts) x r e in
     record { shorter = skip_value-shorter depth ts r (ap left j.1); going = no_end depth ts j.0 r j.1 }
 
 -- what stands behind a value, where a comma, a bracket or a brace follows
-comma_behind : (d : List ℕ) (end next at : ℕ) → lex between (drop next d) ≡ lex between (drop end d) → get_or d next 0 ≡ 44 → lex between (drop at d) ≡ lex between (drop (next + 1) d)
+pub comma_behind : (d : List ℕ) (end next at : ℕ) → lex between (drop next d) ≡ lex between (drop end d) → get_or d next 0 ≡ 44 → lex between (drop at d) ≡ lex between (drop (next + 1) d)
     → tokens_from after_value d end ≡ tokens_from after_comma d at
 comma_behind d end next at same is after =
     ap (punctuate after_value) (sym same ∙ operator_at d next 44 is (omega arith) refl) ∙ comma_next _ ∙ ap (punctuate after_comma) (sym after)
 
-bracket_behind : (p : Place) (d : List ℕ) (end next : ℕ) → lex between (drop next d) ≡ lex between (drop end d) → get_or d next 0 ≡ 93
+pub bracket_behind : (p : Place) (d : List ℕ) (end next : ℕ) → lex between (drop next d) ≡ lex between (drop end d) → get_or d next 0 ≡ 93
     → punctuate p (lex between (drop end d)) ≡ punctuate p (token token_of.end_array ∷ lex between (drop (next + 1) d))
 bracket_behind p d end next same is = ap (punctuate p) (sym same ∙ operator_at d next 93 is (omega arith) refl)
 
@@ -259,7 +285,7 @@ brace_behind : (p : Place) (d : List ℕ) (end next : ℕ) → lex between (drop
 brace_behind p d end next same is = ap (punctuate p) (sym same ∙ operator_at d next 125 is (omega arith) refl)
 
 module _ (depth : ℕ) (d : List ℕ) (from : ℕ) where
-  pub no_items_yet : (at : ℕ) → lex between (drop at d) ≡ lex between (drop from d) → from ≤ at → at ≤ length d → SomeItems depth d from at
+  unfoldable pub no_items_yet : (at : ℕ) → lex between (drop at d) ≡ lex between (drop from d) → from ≤ at → at ≤ length d → SomeItems depth d from at
   no_items_yet at same le within =
       let reads : List Lexeme → Option (Items × List Token) = λ ls. converted of_items (items (value depth) (length (tokens_from fresh d from)) (punctuate fresh ls)) in
       record {
@@ -273,7 +299,7 @@ module _ (depth : ℕ) (d : List ℕ) (from : ℕ) where
         within = within;
       }
 
-  pub item_turn : (at end next then : ℕ) (x : Data) → SomeItems depth d from at → IsValue depth d at end x → lex between (drop next d) ≡ lex between (drop end d) → get_or d next 0 ≡ 44
+  unfoldable pub item_turn : (at end next then : ℕ) (x : Data) → SomeItems depth d from at → IsValue depth d at end x → lex between (drop next d) ≡ lex between (drop end d) → get_or d next 0 ≡ 44
       → lex between (drop then d) ≡ lex between (drop (next + 1) d) → end ≤ next → next + 1 ≤ then → then ≤ length d → SomeItems depth d from then
   item_turn at end next then x old here_read same is after le more within =
       let ts = tokens_from old.place d at in
@@ -301,7 +327,7 @@ module _ (depth : ℕ) (d : List ℕ) (from : ℕ) where
       let found = number_value depth d at stop is (digit_kind (get_or d at 0) digit) in
       item_turn at stop stop then found.0 old found.1 refl mark after (omega arith) more within
 
-  pub last_item : (at end next : ℕ) (x : Data) → SomeItems depth d from at → IsValue depth d at end x → lex between (drop next d) ≡ lex between (drop end d) → get_or d next 0 ≡ 93
+  unfoldable pub last_item : (at end next : ℕ) (x : Data) → SomeItems depth d from at → IsValue depth d at end x → lex between (drop next d) ≡ lex between (drop end d) → get_or d next 0 ≡ 93
       → end ≤ next → (xs : Items) × AreItems depth d from (next + 1) xs
   last_item at end next x old here_read same is le =
       let ts = tokens_from old.place d at in
@@ -404,12 +430,17 @@ over : (d : List ℕ) (end last : ℕ) → lex between (drop last d) ≡ lex bet
 unfolding lex punctuate
 over d end last same past = ap (punctuate after_value) (sym same ∙ ap (lex between) (drop_all last d past))
 
+-- a value with nothing but space before it and after it
+pub whole_value : (d : List ℕ) (from end last : ℕ) (x : Data) → lex between (drop from d) ≡ lex between d → IsValue max_depth d from end x
+    → lex between (drop last d) ≡ lex between (drop end d) → length d ≤ last → read d ≡ Some x
+whole_value d from end last x before found behind past =
+    whole_passed d x
+    (ap (λ ls. converted of_json (value max_depth (punctuate fresh ls))) (sym before) ∙ found.read fresh refl ∙ ap (λ ts. Some (x, ts)) (over d end last behind past))
+
 pub whole_object : (d : List ℕ) (from end last : ℕ) (ms : Members) → lex between (drop from d) ≡ lex between d → get_or d from 0 ≡ 123 → AreMembers (max_depth - 1) d (from + 1) end ms
     → lex between (drop last d) ≡ lex between (drop end d) → length d ≤ last → read d ≡ Some (tree.object ms)
 whole_object d from end last ms before first rest behind past =
-    let found = object_value max_depth d from end ms first (omega arith) rest in
-    whole_passed d (tree.object ms)
-    (ap (λ ls. converted of_json (value max_depth (punctuate fresh ls))) (sym before) ∙ found.read fresh refl ∙ ap (λ ts. Some (tree.object ms, ts)) (over d end last behind past))
+    whole_value d from end last (tree.object ms) before (object_value max_depth d from end ms first (omega arith) rest) behind past
 
 -- what reads as JSON has a byte at least
 pub some_content : (content : List ℕ) (x : Data) → read content ≡ Some x → 0 < length content

@@ -6,8 +6,8 @@ use Rattle.lsp_rpc.specs.Reading.{Parts}
 use Rattle.lsp_rpc.specs.Shape.{holds_unless_absent, is_structure_or_null}
 use Rattle.lsp_rpc.specs.View.{parts_view}
 use Rattle.lsp_rpc.specs.declared.parts.Parts as parts
-use Rattle.lsp_outline.specs.declared.skip.Kind.{Kind}
-use Rattle.lsp_outline.specs.declared.skip.Kind.TheVariants as kinds
+use Rattle.lsp_outline.specs.declared.walk.Kind.{Kind}
+use Rattle.lsp_outline.specs.declared.walk.Kind.TheVariants as kinds
 use Rattle.lsp_outline.specs.declared.outline.Part.{Part}
 use Rattle.lsp_outline.specs.declared.outline.Part.TheVariants.{Version, Method, Id, Params, Result, Error, Other}
 

@@ -1,16 +1,18 @@
 -- What lies between two places of a JSON text.
 use Rattle.std.specs.Prelude.{◌≡◌, ℕ, ◌+◌, ◌-◌, ◌<◌, ◌≤◌, ◌==◌, ◌||◌, List, length, take, drop, get_or, true, cond, Some, is_some, nat_eq}
-use Rattle.std.specs.List.{starts_with}
+use Rattle.std.specs.Char.{is_ascii_digit}
+use Rattle.std.specs.List.{list_all, starts_with}
+use Rattle.std.specs.Str.Parse.{digits_value}
 use Rattle.json.specs.Token.{Token}
 use Rattle.json.specs.Text.{content, plain, prepend}
 use Rattle.json.specs.Word.{ends_word}
 use Rattle.json.specs.Print.{IsNumber}
 use Rattle.json.specs.Lex.{lex, between, in_string, Place, fresh, after_value, may_begin, punctuate}
 use Rattle.json.specs.Json.{value, items, members, parse_map, read_key}
-use Rattle.serde_json.specs.Data.{Data, Items, Members, no_members}
+use Rattle.serde_json.specs.Data.{Data, Items, Members, no_members, unsigned}
 use Rattle.serde_json.specs.Read.{of_json, of_items, of_members, converted, number_of}
-use Rattle.lsp_outline.specs.declared.skip.Kind.{Kind}
-use Rattle.lsp_outline.specs.declared.skip.Kind.TheVariants as kinds
+use Rattle.lsp_outline.specs.declared.walk.Kind.{Kind}
+use Rattle.lsp_outline.specs.declared.walk.Kind.TheVariants as kinds
 use Rattle.lsp_outline.specs.Kept.{kind_of}
 
 -- the kind of a value that begins with this byte
@@ -45,6 +47,19 @@ pub record IsNumeral (d : List ℕ) (from end : ℕ) : Type 0 where
   pub fits : is_some (number_of (part d from end)) ≡ true
   pub ended : ends_word (drop end d) ≡ true
   pub forward : from < end
+  pub within : end ≤ length d
+
+-- an integer of this value, which is not negative
+pub record IsNatural (d : List ℕ) (from end n : ℕ) : Type 0 where
+  pub numeral : IsNumeral d from end
+  pub value : number_of (part d from end) ≡ Some (unsigned n)
+
+-- at most nine digits, none or more, that write this
+pub record AreFewDigits (d : List ℕ) (from end n : ℕ) : Type 0 where
+  pub digits : list_all is_ascii_digit (part d from end) ≡ true
+  pub value : n ≡ digits_value 10 (part d from end)
+  pub forward : from ≤ end
+  pub few : end - from ≤ 9
   pub within : end ≤ length d
 
 -- the literal of this name

@@ -1,15 +1,14 @@
-//! Positions, ranges and changes of a text, read token by token (LSP 3.17, Position, Range and
+//! Positions, ranges and changes of a text, read member by member (LSP 3.17, Position, Range and
 //! TextDocumentContentChangeEvent).
-ghost use Rattle.std.specs.Prelude.{◌≡◌, ◌<◌, length, Some, IfSome, codes, option_map, string_bytes};
-ghost use Rattle.json.specs.Json.{items, value};
+ghost use Rattle.std.specs.Prelude.{◌≡◌, ◌≤◌, length, Some, IfSome, codes, option_map, string_bytes};
 ghost use Rattle.serde_json.specs.Data.{Members, Items, object, array};
-ghost use Rattle.serde_json.specs.Read.{of_items, of_json, converted};
 ghost use Rattle.lsp_rpc.specs.Params as spec;
 ghost use Rattle.lsp_rpc.specs.View.{change_view, changes_view};
+ghost use Rattle.lsp_outline.specs.Walk.{IsValue, AreItems};
 
-use crate::members::{Gathered, next_object, next_string, next_uinteger};
-use crate::skip::skip;
-use json::{Reader, Token};
+use crate::bytes::{byte_at, spaces_end};
+use crate::members::{Gathered, object_at, skipped, uinteger_at};
+use crate::walk::string_copy;
 use lsp_types::{Change, Position, Span};
 use std::alloc::Global;
 
@@ -36,33 +35,40 @@ impl Gathered for PositionParts {
     fn take(
         &mut self,
         _alloc: Global,
-        reader: &mut Reader<'_>,
-        depth: usize,
         name: &str,
-    ) -> Option<()> {
+        text: &str,
+        from: usize,
+        depth: usize,
+    ) -> Option<usize> {
         match name {
-            "line" => self.line = Some(next_uinteger(reader)?),
-            "character" => self.column = Some(next_uinteger(reader)?),
-            _ => {
-                let _kind = skip(reader, depth)?;
+            "line" => {
+                let (line, end) = uinteger_at(text, from)?;
+                self.line = Some(line);
+                Some(end)
             }
+            "character" => {
+                let (column, end) = uinteger_at(text, from)?;
+                self.column = Some(column);
+                Some(end)
+            }
+            _ => skipped(text, from, depth),
         }
-        Some(())
     }
 }
 
+/// The position that begins there, and where it ends.
 #[inline(always)]
-fn next_position(alloc: Global, reader: &mut Reader<'_>, depth: usize) -> Option<Position>
-    ensures ok { IfSome result (λ position. (ms : Members)
-        × (converted of_json (value depth reader.old) ≡ Some (object ms, reader.new))
-        × (spec.position_at (object ms) ≡ Some position)) }
-    ensures shorter { IfSome result (λ _. length reader.new < length reader.old) }
+fn position_at(alloc: Global, text: &str, from: usize, depth: usize) -> Option<(Position, usize)>
+    requires { from ≤ length text.now }
+    ensures { IfSome result (λ r. (ms : Members) × IsValue depth text.now from r.1 (object ms)
+        × (spec.position_at (object ms) ≡ Some r.0)) }
 {
-    let parts: PositionParts = next_object(alloc, reader, depth)?;
-    Some(Position {
+    let (parts, end): (PositionParts, usize) = object_at(alloc, text, from, depth)?;
+    let position = Position {
         line: parts.line?,
         column: parts.column?,
-    })
+    };
+    Some((position, end))
 }
 
 /// The members of a range.
@@ -88,33 +94,40 @@ impl Gathered for SpanParts {
     fn take(
         &mut self,
         alloc: Global,
-        reader: &mut Reader<'_>,
-        depth: usize,
         name: &str,
-    ) -> Option<()> {
+        text: &str,
+        from: usize,
+        depth: usize,
+    ) -> Option<usize> {
         match name {
-            "start" => self.first = Some(next_position(alloc, reader, depth)?),
-            "end" => self.second = Some(next_position(alloc, reader, depth)?),
-            _ => {
-                let _kind = skip(reader, depth)?;
+            "start" => {
+                let (first, end) = position_at(alloc, text, from, depth)?;
+                self.first = Some(first);
+                Some(end)
             }
+            "end" => {
+                let (second, end) = position_at(alloc, text, from, depth)?;
+                self.second = Some(second);
+                Some(end)
+            }
+            _ => skipped(text, from, depth),
         }
-        Some(())
     }
 }
 
+/// The span that begins there, and where it ends.
 #[inline(always)]
-fn next_span(alloc: Global, reader: &mut Reader<'_>, depth: usize) -> Option<Span>
-    ensures ok { IfSome result (λ span. (ms : Members)
-        × (converted of_json (value depth reader.old) ≡ Some (object ms, reader.new))
-        × (spec.span_at (object ms) ≡ Some span)) }
-    ensures shorter { IfSome result (λ _. length reader.new < length reader.old) }
+fn span_at(alloc: Global, text: &str, from: usize, depth: usize) -> Option<(Span, usize)>
+    requires { from ≤ length text.now }
+    ensures { IfSome result (λ r. (ms : Members) × IsValue depth text.now from r.1 (object ms)
+        × (spec.span_at (object ms) ≡ Some r.0)) }
 {
-    let parts: SpanParts = next_object(alloc, reader, depth)?;
-    Some(Span {
+    let (parts, end): (SpanParts, usize) = object_at(alloc, text, from, depth)?;
+    let span = Span {
         first: parts.first?,
         second: parts.second?,
-    })
+    };
+    Some((span, end))
 }
 
 /// The members of a change.
@@ -140,64 +153,86 @@ impl Gathered for ChangeParts {
     fn take(
         &mut self,
         alloc: Global,
-        reader: &mut Reader<'_>,
-        depth: usize,
         name: &str,
-    ) -> Option<()> {
+        text: &str,
+        from: usize,
+        depth: usize,
+    ) -> Option<usize> {
         match name {
-            "range" => self.span = Some(next_span(alloc, reader, depth)?),
-            "text" => self.text = Some(next_string(alloc, reader)?),
-            _ => {
-                let _kind = skip(reader, depth)?;
+            "range" => {
+                let (span, end) = span_at(alloc, text, from, depth)?;
+                self.span = Some(span);
+                Some(end)
             }
+            "text" => {
+                let (copy, end) = string_copy(alloc, text, from)?;
+                self.text = Some(copy);
+                Some(end)
+            }
+            _ => skipped(text, from, depth),
         }
-        Some(())
     }
 }
 
-fn next_change(alloc: Global, reader: &mut Reader<'_>, depth: usize) -> Option<Change>
-    ensures ok { IfSome result (λ change. (ms : Members)
-        × (converted of_json (value depth reader.old) ≡ Some (object ms, reader.new))
-        × (spec.change_at (object ms) ≡ Some (change_view change))) }
-    ensures shorter { IfSome result (λ _. length reader.new < length reader.old) }
+/// The change that begins there, and where it ends.
+fn change_at(alloc: Global, text: &str, from: usize, depth: usize) -> Option<(Change, usize)>
+    requires { from ≤ length text.now }
+    ensures { IfSome result (λ r. (ms : Members) × IsValue depth text.now from r.1 (object ms)
+        × (spec.change_at (object ms) ≡ Some (change_view r.0))) }
 {
-    let parts: ChangeParts = next_object(alloc, reader, depth)?;
-    Some(Change {
+    let (parts, end): (ChangeParts, usize) = object_at(alloc, text, from, depth)?;
+    let change = Change {
         span: parts.span,
         text: parts.text?,
-    })
-}
-
-/// The rest of an array of changes.
-fn rest_of_changes(alloc: Global, reader: &mut Reader<'_>, depth: usize) -> Option<Vec<Change>>
-    ensures ok { IfSome result (λ changes. (ds : Items)
-        × (converted of_items (items (value depth) (length reader.old) reader.old) ≡ Some (ds, reader.new))
-        × (spec.all_of spec.change_at ds ≡ Some (changes_view changes.items))) }
-    ensures shorter { IfSome result (λ _. length reader.new < length reader.old) }
-{
-    let mut found = Vec::new(alloc);
-    'changes: while !reader.take_end_array() {
-        found.push(next_change(alloc, reader, depth)?).ok()?;
-    }
-    Some(found)
-}
-
-/// The next value, where it is an array of changes.
-pub(crate) fn next_changes(
-    alloc: Global,
-    reader: &mut Reader<'_>,
-    depth: usize,
-) -> Option<Vec<Change>>
-    ensures ok { IfSome result (λ changes. (ds : Items)
-        × (converted of_json (value depth reader.old) ≡ Some (array ds, reader.new))
-        × (spec.all_of spec.change_at ds ≡ Some (changes_view changes.items))) }
-    ensures shorter { IfSome result (λ _. length reader.new < length reader.old) }
-{
-    let Some(Token::BeginArray) = reader.next() else {
-        return None;
     };
-    if depth == 0 {
+    Some((change, end))
+}
+
+/// The changes of the array whose bracket stands before there, and where it ends.
+fn rest_of_changes(
+    alloc: Global,
+    text: &str,
+    from: usize,
+    depth: usize,
+) -> Option<(Vec<Change>, usize)>
+    requires { from ≤ length text.now }
+    ensures { IfSome result (λ r. (ds : Items) × AreItems depth text.now from r.1 ds
+        × (spec.all_of spec.change_at ds ≡ Some (changes_view r.0.items))) }
+{
+    let bytes = text.as_bytes();
+    let mut found = Vec::new(alloc);
+    let mut at = spaces_end(bytes, from);
+    if byte_at(bytes, at) == b']' {
+        return Some((found, at + 1));
+    }
+    'changes: loop {
+        let (change, end) = change_at(alloc, text, at, depth)?;
+        found.push(change).ok()?;
+        let next = spaces_end(bytes, end);
+        let mark = byte_at(bytes, next);
+        if mark == b']' {
+            return Some((found, next + 1));
+        }
+        if mark != b',' {
+            return None;
+        }
+        at = spaces_end(bytes, next + 1);
+    }
+}
+
+/// The array of changes that begins there, and where it ends.
+pub(crate) fn changes_at(
+    alloc: Global,
+    text: &str,
+    from: usize,
+    depth: usize,
+) -> Option<(Vec<Change>, usize)>
+    requires { from ≤ length text.now }
+    ensures { IfSome result (λ r. (ds : Items) × IsValue depth text.now from r.1 (array ds)
+        × (spec.all_of spec.change_at ds ≡ Some (changes_view r.0.items))) }
+{
+    if depth == 0 || byte_at(text.as_bytes(), from) != b'[' {
         return None;
     }
-    rest_of_changes(alloc, reader, depth - 1)
+    rest_of_changes(alloc, text, from + 1, depth - 1)
 }

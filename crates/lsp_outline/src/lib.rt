@@ -11,7 +11,6 @@ mod members;
 mod notices;
 mod numbers;
 mod outline;
-mod skip;
 mod texts;
 mod walk;
 

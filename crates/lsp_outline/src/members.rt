@@ -1,13 +1,13 @@
-//! Objects read token by token, without a tree of values: the members that are wanted are gathered
-//! as they come, and the others are gone past.
-ghost use Rattle.std.specs.Prelude.{◌≡◌, ◌^◌, ℕ, ◌<◌, length, pos, Some, IfSome, string_bytes};
-ghost use Rattle.json.specs.Json.{value, members};
-ghost use Rattle.serde_json.specs.Data.{Data, Members, unsigned, object, string, no_members, put};
-ghost use Rattle.serde_json.specs.Read.{of_json, of_members, converted, number_of};
+//! Objects read without a tree of values: the members that are wanted are gathered as they come, and
+//! the others are gone past.
+ghost use Rattle.std.specs.Prelude.{◌≡◌, ◌^◌, ℕ, ◌<◌, ◌≤◌, length, pos, Some, IfSome};
+ghost use Rattle.serde_json.specs.Data.{Data, Members, object, string, no_members, put};
 ghost use Rattle.lsp_rpc.specs.Shape.{as_integer};
+ghost use Rattle.lsp_outline.specs.Walk.{IsValue, AreMembers};
 
-use crate::numbers::natural_of;
-use json::{Reader, Token};
+use crate::bytes::{byte_at, spaces_end};
+use crate::numbers::natural_at;
+use crate::walk::{key, plain_string, value_end};
 use std::alloc::Global;
 
 /// What is wanted of an object's members. Of members with one name the last counts.
@@ -18,120 +18,104 @@ pub(crate) trait Gathered: Drop {
     fn none() -> Self
         ensures { gathers no_members result };
 
-    /// Takes the member of this name, whose value is next. `None` where it is not as wanted.
+    /// Takes the member of this name, whose value begins there, and gives where that ends. `None`
+    /// where the value is not as wanted.
     fn take(
         &mut self,
         alloc: Global,
-        reader: &mut Reader<'_>,
-        depth: usize,
         name: &str,
-    ) -> Option<()>
-        ensures ok { IfSome result (λ _. (d : Data)
-            × (converted of_json (value depth reader.old) ≡ Some (d, reader.new))
-            × ((ms : Members) → gathers ms self.old → gathers (put name.now d ms) self.new)) }
-        ensures shorter { IfSome result (λ _. length reader.new < length reader.old) };
+        text: &str,
+        from: usize,
+        depth: usize,
+    ) -> Option<usize>
+        requires { from ≤ length text.now }
+        ensures { IfSome result (λ end. (d : Data) × IsValue depth text.now from end d
+            × ((ms : Members) → gathers ms self.old → gathers (put name.now d ms) self.new)) };
 }
 
-/// The rest of an object.
+/// The object whose brace stands before there, and where it ends.
 #[inline(always)]
-fn rest_of_object<T: Gathered>(alloc: Global, reader: &mut Reader<'_>, depth: usize) -> Option<T>
-    ensures ok { IfSome result (λ gathered. (ms : Members)
-        × (converted (λ js. of_members js no_members) (members (value depth) (length reader.old) reader.old)
-        ≡ Some (ms, reader.new)) × T.gathers ms gathered) }
-    ensures shorter { IfSome result (λ _. length reader.new < length reader.old) }
-{
-    let mut gathered = T::none();
-    'members: loop {
-        match reader.next_key() {
-            Ok(Some(name)) => gathered.take(alloc, reader, depth, name)?,
-            Ok(None) => return Some(gathered),
-            Err(_) => return None,
-        }
-    }
-}
-
-/// The next value, where it is an object whose members are as wanted.
-#[inline(always)]
-pub(crate) fn next_object<T: Gathered>(
+fn rest_of_object<T: Gathered>(
     alloc: Global,
-    reader: &mut Reader<'_>,
+    text: &str,
+    from: usize,
     depth: usize,
-) -> Option<T>
-    ensures ok { IfSome result (λ gathered. (ms : Members)
-        × (converted of_json (value depth reader.old) ≡ Some (object ms, reader.new))
-        × T.gathers ms gathered) }
-    ensures shorter { IfSome result (λ _. length reader.new < length reader.old) }
+) -> Option<(T, usize)>
+    requires { from ≤ length text.now }
+    ensures { IfSome result (λ r. (ms : Members) × AreMembers depth text.now from r.1 ms
+        × T.gathers ms r.0) }
 {
-    let Some(Token::BeginObject) = reader.next() else {
-        return None;
-    };
-    if depth == 0 {
-        return None;
+    let bytes = text.as_bytes();
+    let mut gathered = T::none();
+    let mut at = spaces_end(bytes, from);
+    if byte_at(bytes, at) == b'}' {
+        return Some((gathered, at + 1));
     }
-    rest_of_object(alloc, reader, depth - 1)
-}
-
-/// The next value, where it is a string.
-#[inline(always)]
-pub(crate) fn next_text<'a>(reader: &mut Reader<'a>) -> Option<&'a str>
-    ensures ok { IfSome result (λ text. (depth : ℕ)
-        → converted of_json (value depth reader.old) ≡ Some (string text.now, reader.new)) }
-    ensures shorter { IfSome result (λ _. length reader.new < length reader.old) }
-{
-    match reader.next()? {
-        Token::String(text) => Some(text),
-        _ => None,
+    'members: loop {
+        let (name, begin) = key(text, at)?;
+        let end = gathered.take(alloc, name, text, begin, depth)?;
+        let next = spaces_end(bytes, end);
+        let mark = byte_at(bytes, next);
+        if mark == b'}' {
+            return Some((gathered, next + 1));
+        }
+        if mark != b',' {
+            return None;
+        }
+        at = spaces_end(bytes, next + 1);
     }
 }
 
-/// The next value, where it is a string, copied.
+/// The object that begins there, where its members are as wanted, and where it ends.
 #[inline(always)]
-pub(crate) fn next_string(alloc: Global, reader: &mut Reader<'_>) -> Option<String>
-    ensures ok { IfSome result (λ text. (depth : ℕ)
-        → converted of_json (value depth reader.old) ≡ Some (string (string_bytes text), reader.new)) }
-    ensures shorter { IfSome result (λ _. length reader.new < length reader.old) }
+pub(crate) fn object_at<T: Gathered>(
+    alloc: Global,
+    text: &str,
+    from: usize,
+    depth: usize,
+) -> Option<(T, usize)>
+    requires { from ≤ length text.now }
+    ensures { IfSome result (λ r. (ms : Members) × IsValue depth text.now from r.1 (object ms)
+        × T.gathers ms r.0) }
 {
-    let text = next_text(reader)?;
-    let copy = String::from_str(alloc, text).ok()?;
-    Some(copy)
+    if depth == 0 || byte_at(text.as_bytes(), from) != b'{' {
+        return None;
+    }
+    rest_of_object(alloc, text, from + 1, depth - 1)
 }
 
-/// Goes past the next value, where it is this string.
+/// Where the value that begins there ends, of which nothing is wanted.
 #[inline(always)]
-pub(crate) fn take_text(reader: &mut Reader<'_>, text: &str) -> Option<()>
-    ensures ok { IfSome result (λ _. (depth : ℕ)
-        → converted of_json (value depth reader.old) ≡ Some (string text.now, reader.new)) }
-    ensures shorter { IfSome result (λ _. length reader.new < length reader.old) }
+pub(crate) fn skipped(text: &str, from: usize, depth: usize) -> Option<usize>
+    requires { from ≤ length text.now }
+    ensures { IfSome result (λ end. (d : Data) × IsValue depth text.now from end d) }
 {
-    if next_text(reader)? == text {
-        Some(())
+    value_end(text.as_bytes(), from, depth)
+}
+
+/// Where the string that begins there ends, where it is this one.
+#[inline(always)]
+pub(crate) fn given_text(text: &str, from: usize, wanted: &str) -> Option<usize>
+    requires { from ≤ length text.now }
+    ensures { IfSome result (λ end.
+        (depth : ℕ) → IsValue depth text.now from end (string wanted.now)) }
+{
+    let (found, end) = plain_string(text, from)?;
+    if found == wanted { Some(end) } else { None }
+}
+
+/// The integer from 0 to 2,147,483,647 that begins there (LSP 3.17, Base Types), and where it ends.
+#[inline(always)]
+pub(crate) fn uinteger_at(text: &str, from: usize) -> Option<(u32, usize)>
+    requires { from ≤ length text.now }
+    ensures read { IfSome result (λ r. (d : Data)
+        × ((depth : ℕ) → IsValue depth text.now from r.1 d) × (as_integer d ≡ Some (pos r.0))) }
+    ensures fits { IfSome result (λ r. r.0 < 2 ^ 31) }
+{
+    let (n, end) = natural_at(text.as_bytes(), from)?;
+    if n < 1 << 31 {
+        Some((n as u32, end))
     } else {
         None
     }
-}
-
-/// The integer from 0 to 2,147,483,647 that the digits write.
-#[inline(always)]
-fn uinteger(digits: &str) -> Option<u32>
-    ensures read { IfSome result (λ n. number_of digits.now ≡ Some (unsigned n)) }
-    ensures fits { IfSome result (λ n. n < 2 ^ 31) }
-{
-    let n = natural_of(digits.as_bytes())?;
-    if n < 1 << 31 { Some(n as u32) } else { None }
-}
-
-/// The next value, where it is an integer from 0 to 2,147,483,647 (LSP 3.17, Base Types).
-#[inline(always)]
-pub(crate) fn next_uinteger(reader: &mut Reader<'_>) -> Option<u32>
-    ensures ok { IfSome result (λ n. (d : Data)
-        × ((depth : ℕ) → converted of_json (value depth reader.old) ≡ Some (d, reader.new))
-        × (as_integer d ≡ Some (pos n))) }
-    ensures fits { IfSome result (λ n. n < 2 ^ 31) }
-    ensures shorter { IfSome result (λ _. length reader.new < length reader.old) }
-{
-    let Token::Number(digits) = reader.next()? else {
-        return None;
-    };
-    let n = uinteger(digits)?;
-    Some(n)
 }

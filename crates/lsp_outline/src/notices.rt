@@ -1,11 +1,11 @@
-//! Reading the messages that change documents token by token, with what they mean (LSP 3.17, Text
+//! Reading the messages that change documents member by member, with what they mean (LSP 3.17, Text
 //! Document Synchronization).
-ghost use Rattle.std.specs.Prelude.{◌≡◌, ◌<◌, ℕ, length, None, Some, IfSome, codes, option_map, string_bytes};
-ghost use Rattle.json.specs.Json.{value};
+ghost use Rattle.std.specs.Prelude.{◌≡◌, ◌≤◌, ℕ, length, None, Some, IfSome, codes, option_map, string_bytes};
 ghost use Rattle.serde_json.specs.Data.{Members, object, string};
 ghost use Rattle.serde_json.specs.Find.{get_member};
-ghost use Rattle.serde_json.specs.Read.{of_json, converted, read as read_text};
+ghost use Rattle.serde_json.specs.Read.{read as read_text};
 ghost use Rattle.lsp_outline.specs.Notice as spec;
+ghost use Rattle.lsp_outline.specs.Walk.{IsValue};
 ghost use Rattle.lsp_rpc.specs.Message.{Message as SpecMessage};
 ghost use Rattle.lsp_rpc.specs.Outline.{without_params};
 ghost use Rattle.lsp_rpc.specs.Params as params;
@@ -14,10 +14,10 @@ ghost use Rattle.lsp_rpc.specs.Act.{did_open, did_change, did_close};
 ghost use Rattle.lsp_types.specs.declared.side.Side.TheVariants.{Editor};
 ghost use Rattle.lsp_rpc.specs.View.{act_view, changes_view, message_view};
 
-use crate::edits::next_changes;
-use crate::members::{Gathered, next_object, next_string, next_text, next_uinteger, take_text};
-use crate::skip::{MAX_DEPTH, skip};
-use json::{Reader, Scratch};
+use crate::bytes::spaces_end;
+use crate::edits::changes_at;
+use crate::members::{Gathered, given_text, object_at, skipped, uinteger_at};
+use crate::walk::{MAX_DEPTH, plain_string, string_copy};
 use lsp_rpc::{Act, Message, Spoken};
 use lsp_types::Change;
 use std::alloc::Global;
@@ -44,17 +44,18 @@ impl Notice {
     }
 }
 
-/// The next value, where it is the method of such a notification.
+/// The method of such a notification that begins there, and where it ends.
 #[inline(always)]
-fn next_notice(reader: &mut Reader<'_>) -> Option<Notice>
-    ensures ok { IfSome result (λ notice. (depth : ℕ)
-        → converted of_json (value depth reader.old) ≡ Some (string (spec.method_of notice), reader.new)) }
-    ensures shorter { IfSome result (λ _. length reader.new < length reader.old) }
+fn notice_at(text: &str, from: usize) -> Option<(Notice, usize)>
+    requires { from ≤ length text.now }
+    ensures { IfSome result (λ r.
+        (depth : ℕ) → IsValue depth text.now from r.1 (string (spec.method_of r.0))) }
 {
-    match next_text(reader)? {
-        "textDocument/didChange" => Some(Notice::Changed),
-        "textDocument/didOpen" => Some(Notice::Opened),
-        "textDocument/didClose" => Some(Notice::Closed),
+    let (method, end) = plain_string(text, from)?;
+    match method {
+        "textDocument/didChange" => Some((Notice::Changed, end)),
+        "textDocument/didOpen" => Some((Notice::Opened, end)),
+        "textDocument/didClose" => Some((Notice::Closed, end)),
         _ => None,
     }
 }
@@ -85,19 +86,29 @@ impl Gathered for DocumentParts {
     fn take(
         &mut self,
         alloc: Global,
-        reader: &mut Reader<'_>,
-        depth: usize,
         name: &str,
-    ) -> Option<()> {
+        text: &str,
+        from: usize,
+        depth: usize,
+    ) -> Option<usize> {
         match name {
-            "uri" => self.uri = Some(next_string(alloc, reader)?),
-            "version" => self.version = Some(next_uinteger(reader)? as i32),
-            "text" => self.text = Some(next_string(alloc, reader)?),
-            _ => {
-                let _kind = skip(reader, depth)?;
+            "uri" => {
+                let (uri, end) = string_copy(alloc, text, from)?;
+                self.uri = Some(uri);
+                Some(end)
             }
+            "version" => {
+                let (version, end) = uinteger_at(text, from)?;
+                self.version = Some(version as i32);
+                Some(end)
+            }
+            "text" => {
+                let (copy, end) = string_copy(alloc, text, from)?;
+                self.text = Some(copy);
+                Some(end)
+            }
+            _ => skipped(text, from, depth),
         }
-        Some(())
     }
 }
 
@@ -126,18 +137,24 @@ impl Gathered for ParamsParts {
     fn take(
         &mut self,
         alloc: Global,
-        reader: &mut Reader<'_>,
-        depth: usize,
         name: &str,
-    ) -> Option<()> {
+        text: &str,
+        from: usize,
+        depth: usize,
+    ) -> Option<usize> {
         match name {
-            "textDocument" => self.document = Some(next_object(alloc, reader, depth)?),
-            "contentChanges" => self.changes = Some(next_changes(alloc, reader, depth)?),
-            _ => {
-                let _kind = skip(reader, depth)?;
+            "textDocument" => {
+                let (document, end) = object_at(alloc, text, from, depth)?;
+                self.document = Some(document);
+                Some(end)
             }
+            "contentChanges" => {
+                let (changes, end) = changes_at(alloc, text, from, depth)?;
+                self.changes = Some(changes);
+                Some(end)
+            }
+            _ => skipped(text, from, depth),
         }
-        Some(())
     }
 }
 
@@ -212,23 +229,30 @@ impl Gathered for MessageParts {
     fn take(
         &mut self,
         alloc: Global,
-        reader: &mut Reader<'_>,
-        depth: usize,
         name: &str,
-    ) -> Option<()> {
+        text: &str,
+        from: usize,
+        depth: usize,
+    ) -> Option<usize> {
         match name {
             "jsonrpc" => {
-                take_text(reader, VERSION)?;
+                let end = given_text(text, from, VERSION)?;
                 self.has_version = true;
+                Some(end)
             }
-            "method" => self.notice = Some(next_notice(reader)?),
-            "params" => self.params = Some(next_object(alloc, reader, depth)?),
-            "id" => return None,
-            _ => {
-                let _kind = skip(reader, depth)?;
+            "method" => {
+                let (notice, end) = notice_at(text, from)?;
+                self.notice = Some(notice);
+                Some(end)
             }
+            "params" => {
+                let (params, end) = object_at(alloc, text, from, depth)?;
+                self.params = Some(params);
+                Some(end)
+            }
+            "id" => None,
+            _ => skipped(text, from, depth),
         }
-        Some(())
     }
 }
 
@@ -251,13 +275,14 @@ fn spoken_in(alloc: Global, parts: MessageParts) -> Option<Spoken>
 }
 
 /// What the text says, where it is a message that changes the documents.
-fn spoken_in_text(alloc: Global, text: &str, scratch: &mut Scratch) -> Option<Spoken>
+fn spoken_in_text(alloc: Global, text: &str) -> Option<Spoken>
     ensures { IfSome result (λ spoken. (ms : Members) × (read_text text.now ≡ Some (object ms))
         × spec.Says ms (message_view spoken.message) (act_view spoken.act)) }
 {
-    let mut reader = Reader::new(text, scratch).ok()?;
-    let parts: MessageParts = next_object(alloc, &mut reader, MAX_DEPTH)?;
-    if reader.next().is_some() {
+    let bytes = text.as_bytes();
+    let from = spaces_end(bytes, 0);
+    let (parts, end): (MessageParts, usize) = object_at(alloc, text, from, MAX_DEPTH)?;
+    if spaces_end(bytes, end) < bytes.len() {
         return None;
     }
     spoken_in(alloc, parts)
@@ -265,11 +290,11 @@ fn spoken_in_text(alloc: Global, text: &str, scratch: &mut Scratch) -> Option<Sp
 
 /// The message that a content is, with what it means, where it changes the documents and has the
 /// common form.
-pub(crate) fn spoken_change(alloc: Global, content: &[u8], scratch: &mut Scratch) -> Option<Spoken>
+pub(crate) fn spoken_change(alloc: Global, content: &[u8]) -> Option<Spoken>
     ensures { IfSome result (λ spoken. (whole : SpecMessage) × reading.Reads content.now whole
         × (message_view spoken.message ≡ without_params whole)
         × (params.act_at Editor whole ≡ Some (act_view spoken.act))) }
 {
     let text = simdutf8::basic::from_utf8(content).ok()?;
-    spoken_in_text(alloc, text, scratch)
+    spoken_in_text(alloc, text)
 }

@@ -7,7 +7,7 @@ ghost use Rattle.json.specs.Print.{IsNumber};
 ghost use Rattle.json.specs.Word.{is_operator, is_space};
 ghost use Rattle.serde_json.specs.Data.{unsigned};
 ghost use Rattle.serde_json.specs.Read.{number_of, number_from};
-ghost use Rattle.lsp_outline.specs.Walk.{IsNumeral};
+ghost use Rattle.lsp_outline.specs.Walk.{IsNumeral, IsNatural, AreFewDigits};
 
 use crate::bytes::{byte_at, is_delimiter};
 use fast_float::Numeral;
@@ -26,23 +26,6 @@ fn has_minus(digits: &[u8]) -> bool
     !digits.is_empty() && digits[0] == b'-'
 }
 
-#[inline(always)]
-fn are_digits(bytes: &[u8]) -> bool
-    ensures { result ≡ list_all is_ascii_digit bytes.now }
-{
-    bytes.iter().all(|byte| byte.is_ascii_digit())
-}
-
-/// Whether the numeral is a few digits and nothing else.
-#[inline(always)]
-fn is_short(digits: &[u8]) -> bool
-    ensures some { IsTrue result → 0 < length digits.now }
-    ensures short { IsTrue result → length digits.now ≤ 18 }
-    ensures digits { IsTrue result → list_all is_ascii_digit digits.now ≡ true }
-{
-    !digits.is_empty() && digits.len() <= SHORT && are_digits(digits)
-}
-
 /// Whether the numeral is a 64-bit integer or a finite float.
 #[inline(always)]
 fn fits(negative: bool, numeral: &Numeral<'_>) -> bool
@@ -52,8 +35,8 @@ fn fits(negative: bool, numeral: &Numeral<'_>) -> bool
     fits_integer || numeral.to_float::<f64>(negative).is_finite()
 }
 
-/// Whether `serde_json` reads a numeral, of whatever form.
-fn any_is_in_range(digits: &str) -> bool
+/// Whether `serde_json` reads the number.
+fn is_in_range(digits: &str) -> bool
     ensures { IsTrue result → is_some (number_of digits.now) ≡ true }
 {
     let digits = digits.as_bytes();
@@ -62,27 +45,6 @@ fn any_is_in_range(digits: &str) -> bool
     } else {
         fits(false, &Numeral::scan(digits))
     }
-}
-
-/// Whether the numeral has one or two bytes and no sign. Of a number these are digits.
-#[inline(always)]
-fn is_tiny(digits: &[u8]) -> bool
-    ensures few { IsTrue result → length digits.now ≤ 2 }
-    ensures unsigned { IsTrue result → (slice_index digits.now 0 == 45) ≡ false }
-{
-    digits.len() <= 2 && !has_minus(digits)
-}
-
-/// Whether `serde_json` reads the number.
-#[inline(always)]
-pub(crate) fn is_in_range(digits: &str) -> bool
-    requires { IsNumber digits.now }
-    ensures { IsTrue result → is_some (number_of digits.now) ≡ true }
-{
-    if is_tiny(digits.as_bytes()) {
-        return true;
-    }
-    is_short(digits.as_bytes()) || any_is_in_range(digits)
 }
 
 /// Where the digits end that begin there.
@@ -189,30 +151,8 @@ fn natural(numeral: &Numeral<'_>) -> Option<u64>
     numeral.to_u64()
 }
 
-/// Reads up to nine digits at once. `None` where they are more, or where anything else stands.
-#[inline(always)]
-fn few_digits(bytes: &[u8]) -> Option<u32>
-    ensures some { IfSome result (λ _. 0 < length bytes.now) }
-    ensures few { IfSome result (λ _. length bytes.now ≤ 9) }
-    ensures digits { IfSome result (λ _. list_all is_ascii_digit bytes.now ≡ true) }
-    ensures value { IfSome result (λ n. n ≡ digits_value 10 bytes.now) }
-{
-    if bytes.is_empty() || bytes.len() > FEW {
-        return None;
-    }
-    let mut n = 0;
-    'digits: for i in 0..bytes.len() {
-        let byte = bytes[i];
-        if !byte.is_ascii_digit() {
-            return None;
-        }
-        n = n * 10 + u32::from(byte - b'0');
-    }
-    Some(n)
-}
-
-/// The number that a numeral of any length writes, where it is an integer that is not negative.
-fn any_natural_of(digits: &[u8]) -> Option<u64>
+/// The number that a numeral writes, where it is an integer that is not negative.
+fn natural_of(digits: &[u8]) -> Option<u64>
     ensures { IfSome result (λ n. number_of digits.now ≡ Some (unsigned n)) }
 {
     if has_minus(digits) {
@@ -221,13 +161,41 @@ fn any_natural_of(digits: &[u8]) -> Option<u64>
     natural(&Numeral::scan(digits))
 }
 
-/// The number that the digits write, where it is an integer that is not negative.
-#[inline(always)]
-pub(crate) fn natural_of(digits: &[u8]) -> Option<u64>
-    ensures { IfSome result (λ n. number_of digits.now ≡ Some (unsigned n)) }
+/// The integer of whatever length that begins there and is not negative, and where it ends.
+#[inline(never)]
+fn long_natural_at(bytes: &[u8], from: usize) -> Option<(u64, usize)>
+    requires { from ≤ length bytes.now }
+    ensures { IfSome result (λ r. IsNatural bytes.now from r.1 r.0) }
 {
-    match few_digits(digits) {
-        Some(n) => Some(u64::from(n)),
-        None => any_natural_of(digits),
+    let end = number_end(bytes, from)?;
+    let n = natural_of(&bytes[from..end])?;
+    Some((n, end))
+}
+
+/// What up to nine digits write that begin there, and where they end.
+#[inline(always)]
+fn few_digits(bytes: &[u8], from: usize) -> (u32, usize)
+    requires { from ≤ length bytes.now }
+    ensures { AreFewDigits bytes.now from result.1 result.0 }
+{
+    let mut n = 0;
+    let mut end = from;
+    'digits: while end < bytes.len() && end - from < FEW && bytes[end].is_ascii_digit() {
+        n = n * 10 + u32::from(bytes[end] - b'0');
+        end += 1;
     }
+    (n, end)
+}
+
+/// The integer that begins there and is not negative, and where it ends.
+#[inline(always)]
+pub(crate) fn natural_at(bytes: &[u8], from: usize) -> Option<(u64, usize)>
+    requires { from ≤ length bytes.now }
+    ensures { IfSome result (λ r. IsNatural bytes.now from r.1 r.0) }
+{
+    let (n, end) = few_digits(bytes, from);
+    if !is_delimiter(byte_at(bytes, end)) || !is_integer(&bytes[from..end]) {
+        return long_natural_at(bytes, from);
+    }
+    Some((u64::from(n), end))
 }

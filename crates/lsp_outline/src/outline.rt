@@ -1,7 +1,7 @@
 //! Reading a content without building what its params and its result hold.
 ghost use Rattle.std.specs.Prelude.{◌≡◌, ◌<◌, ◌≤◌, length, Some, Err, IfSome, IfOk, IfErr, string_bytes};
-ghost use Rattle.serde_json.specs.Data.{Data, Members, object};
-ghost use Rattle.serde_json.specs.Read.{number_of, read as read_text};
+ghost use Rattle.serde_json.specs.Data.{Data, Members, number, object};
+ghost use Rattle.serde_json.specs.Read.{read as read_text};
 ghost use Rattle.serde_json.specs.View.{view, number_view};
 ghost use Rattle.lsp_rpc.specs.Message.{Message as SpecMessage};
 ghost use Rattle.lsp_rpc.specs.Outline.{outline, without_params, is_call, IsOrIsOutline, IsOrLacksResult};
@@ -15,11 +15,10 @@ ghost use Rattle.lsp_rpc.specs.View.{act_view, message_view};
 ghost use Rattle.lsp_rpc.specs.Words.{words_of as spec_words_of};
 
 use crate::bytes::{byte_at, spaces_end};
+use crate::members::skipped;
 use crate::notices::spoken_change;
-use crate::numbers::{natural_of, number_end};
-use crate::skip::MAX_DEPTH;
-use crate::walk::{key, kind_at, literal_end, plain_string, value_end};
-use json::Scratch;
+use crate::numbers::natural_at;
+use crate::walk::{MAX_DEPTH, key, kind_at, literal_end, string_copy};
 use lsp_rpc::{Message, Parts, RpcFault, Spoken, act_of, assemble, read, words_of};
 use lsp_types::Side;
 use serde_json::{Number, Value};
@@ -95,22 +94,26 @@ fn part_named(name: &str) -> Part
     }
 }
 
-/// The number that the digits write, where it is an integer that is not negative.
-fn natural(digits: &[u8]) -> Option<Number>
-    ensures { IfSome result (λ n. number_of digits.now ≡ Some (number_view n)) }
+/// The integer that begins there and is not negative, and where it ends.
+fn number_at(text: &str, from: usize) -> Option<(Number, usize)>
+    requires { from ≤ length text.now }
+    ensures { IfSome result (λ r.
+        IsValue DEPTH text.now from r.1 (number (number_view r.0))) }
 {
-    Number::from_u128(natural_of(digits)? as u128)
+    let (n, end) = natural_at(text.as_bytes(), from)?;
+    let number = Number::from_u128(n as u128)?;
+    Some((number, end))
 }
 
 /// The value that begins there, where it is neither an array nor an object, and where it ends.
-fn plain(alloc: Global, bytes: &[u8], from: usize) -> Option<(Value, usize)>
-    requires { from ≤ length bytes.now }
-    ensures { IfSome result (λ r. IsValue DEPTH bytes.now from r.1 (view r.0)) }
+fn plain(alloc: Global, text: &str, from: usize) -> Option<(Value, usize)>
+    requires { from ≤ length text.now }
+    ensures { IfSome result (λ r. IsValue DEPTH text.now from r.1 (view r.0)) }
 {
+    let bytes = text.as_bytes();
     match byte_at(bytes, from) {
         b'"' => {
-            let (text, end) = plain_string(bytes, from)?;
-            let copy = String::from_str(alloc, text).ok()?;
+            let (copy, end) = string_copy(alloc, text, from)?;
             Some((Value::String(copy), end))
         }
         b'n' => {
@@ -119,8 +122,7 @@ fn plain(alloc: Global, bytes: &[u8], from: usize) -> Option<(Value, usize)>
         }
         b'{' | b'[' => None,
         _ => {
-            let end = number_end(bytes, from)?;
-            let number = natural(&bytes[from..end])?;
+            let (number, end) = number_at(text, from)?;
             Some((Value::Number(number), end))
         }
     }
@@ -130,14 +132,14 @@ fn plain(alloc: Global, bytes: &[u8], from: usize) -> Option<(Value, usize)>
 /// value ends.
 fn take_part(
     alloc: Global,
-    bytes: &[u8],
+    text: &str,
     from: usize,
     wanted: Wanted,
     name: &str,
     parts: &mut Parts,
 ) -> Option<usize>
-    requires { from ≤ length bytes.now }
-    ensures { IfSome result (λ end. (d : Data) × IsValue DEPTH bytes.now from end d
+    requires { from ≤ length text.now }
+    ensures { IfSome result (λ end. (d : Data) × IsValue DEPTH text.now from end d
         × ((p : reading.Parts) → AreKept p parts.old
         → AreKept (with_part (part_named name.now) d p) parts.new)) }
 {
@@ -147,12 +149,12 @@ fn take_part(
     }
     match part {
         Part::Version => {
-            let (version, end) = plain(alloc, bytes, from)?;
+            let (version, end) = plain(alloc, text, from)?;
             parts.version = Some(version);
             Some(end)
         }
         Part::Method => {
-            let (method, end) = plain(alloc, bytes, from)?;
+            let (method, end) = plain(alloc, text, from)?;
             if wanted == Wanted::Calls && has_read_params(&method) {
                 return None;
             }
@@ -160,50 +162,46 @@ fn take_part(
             Some(end)
         }
         Part::Id => {
-            let (id, end) = plain(alloc, bytes, from)?;
+            let (id, end) = plain(alloc, text, from)?;
             parts.id = Some(id);
             Some(end)
         }
         Part::Error => {
-            let (error, end) = plain(alloc, bytes, from)?;
+            let (error, end) = plain(alloc, text, from)?;
             parts.error = Some(error);
             Some(end)
         }
         Part::Params => {
-            let end = value_end(bytes, from, DEPTH)?;
-            if !kind_at(byte_at(bytes, from)).fits_params() {
+            let end = skipped(text, from, DEPTH)?;
+            if !kind_at(byte_at(text.as_bytes(), from)).fits_params() {
                 return None;
             }
             Some(end)
         }
         Part::Result => {
-            let end = value_end(bytes, from, DEPTH)?;
+            let end = skipped(text, from, DEPTH)?;
             parts.result = Some(Value::Null);
             Some(end)
         }
-        Part::Other => value_end(bytes, from, DEPTH),
+        Part::Other => skipped(text, from, DEPTH),
     }
 }
 
 /// The parts of the object whose brace stands before there, and where it ends.
-fn parts_of_object(
-    alloc: Global,
-    bytes: &[u8],
-    from: usize,
-    wanted: Wanted,
-) -> Option<(Parts, usize)>
-    requires { from ≤ length bytes.now }
-    ensures { IfSome result (λ r. (ms : Members) × AreMembers DEPTH bytes.now from r.1 ms
+fn parts_of_object(alloc: Global, text: &str, from: usize, wanted: Wanted) -> Option<(Parts, usize)>
+    requires { from ≤ length text.now }
+    ensures { IfSome result (λ r. (ms : Members) × AreMembers DEPTH text.now from r.1 ms
         × AreKept (reading.parts_of (object ms)) r.0) }
 {
+    let bytes = text.as_bytes();
     let mut parts = Parts::none();
     let mut at = spaces_end(bytes, from);
     if byte_at(bytes, at) == b'}' {
         return Some((parts, at + 1));
     }
     'members: loop {
-        let (name, begin) = key(bytes, at)?;
-        let end = take_part(alloc, bytes, begin, wanted, name, &mut parts)?;
+        let (name, begin) = key(text, at)?;
+        let end = take_part(alloc, text, begin, wanted, name, &mut parts)?;
         let next = spaces_end(bytes, end);
         let mark = byte_at(bytes, next);
         if mark == b'}' {
@@ -217,15 +215,16 @@ fn parts_of_object(
 }
 
 /// The parts of the object that the text is.
-fn parts_of_text(alloc: Global, bytes: &[u8], wanted: Wanted) -> Option<Parts>
-    ensures { IfSome result (λ parts. (ms : Members) × (read_text bytes.now ≡ Some (object ms))
+fn parts_of_text(alloc: Global, text: &str, wanted: Wanted) -> Option<Parts>
+    ensures { IfSome result (λ parts. (ms : Members) × (read_text text.now ≡ Some (object ms))
         × AreKept (reading.parts_of (object ms)) parts) }
 {
+    let bytes = text.as_bytes();
     let from = spaces_end(bytes, 0);
     if byte_at(bytes, from) != b'{' {
         return None;
     }
-    let (parts, end) = parts_of_object(alloc, bytes, from + 1, wanted)?;
+    let (parts, end) = parts_of_object(alloc, text, from + 1, wanted)?;
     if spaces_end(bytes, end) < bytes.len() {
         return None;
     }
@@ -238,8 +237,8 @@ fn outline_of(alloc: Global, content: &[u8], wanted: Wanted) -> Option<Message>
     ensures { IfSome result (λ message. (whole : SpecMessage) × reading.Reads content.now whole
         × (message_view message ≡ outline whole)) }
 {
-    let _text = simdutf8::basic::from_utf8(content).ok()?;
-    let parts = parts_of_text(alloc, content, wanted)?;
+    let text = simdutf8::basic::from_utf8(content).ok()?;
+    let parts = parts_of_text(alloc, text, wanted)?;
     match assemble(parts) {
         Ok(message) => Some(message),
         Err(_) => None,
@@ -273,21 +272,15 @@ fn call_in(alloc: Global, side: Side, message: Message) -> Option<Spoken>
     Some(Spoken { message, act })
 }
 
-/// Reads contents one after another, apart from what their params and results hold. It keeps the
-/// room that a read needs.
+/// Reads contents one after another, apart from what their params and results hold.
 #[derive(Drop)]
 pub struct OutlineReader {
     alloc: Global,
-    scratch: Scratch,
 }
 
 impl OutlineReader {
-    /// A reader that has no room yet.
     pub fn new(alloc: Global) -> OutlineReader {
-        OutlineReader {
-            alloc,
-            scratch: Scratch::new(alloc),
-        }
+        OutlineReader { alloc }
     }
 
     /// Reads a content as [`read`] does (JSON-RPC 2.0, sections 4 and 5), whole or without the
@@ -328,7 +321,7 @@ impl OutlineReader {
             × (message_view spoken.message ≡ without_params whole)
             × (act_at Editor whole ≡ Some (act_view spoken.act))) }
     {
-        spoken_change(self.alloc, content, &mut self.scratch)
+        spoken_change(self.alloc, content)
     }
 
     /// Reads a request or a notification whose params its side doesn't read, with what it means. `None`

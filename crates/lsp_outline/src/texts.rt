@@ -1,17 +1,50 @@
 //! The text of strings, with what their escapes write (RFC 8259, section 7).
-ghost use Rattle.std.specs.Prelude.{◌≡◌, ℕ, List, ◌+◌, ◌-◌, ◌<◌, ◌≤◌, length, drop, get_or, true, None, Some, MatchOption, IfSome};
+ghost use Rattle.std.specs.Prelude.{◌≡◌, ℕ, List, ◌+◌, ◌-◌, ◌<◌, ◌≤◌, length, drop, get_or, true, None, Some, MatchOption, IfSome, map, string_bytes};
 ghost use Rattle.std.specs.Char.{digit_value};
 ghost use Rattle.std.specs.List.{prefix_len};
-ghost use Rattle.json.specs.Run.{is_plain, Escape};
+ghost use Rattle.std.specs.Simd.Lanes.{mask_l};
+ghost use Rattle.std.specs.Str.{IsCharBoundary};
+ghost use Rattle.json.specs.Run.{is_plain, is_stop, Escape};
 ghost use Rattle.json.specs.Text.{code_unit, short_escape, after_backslash, after_u, after_high};
 ghost use Rattle.json.specs.Lex.{lex, in_string, in_escape};
 ghost use Rattle.lsp_outline.specs.Walk.{IsText};
 
 use crate::bytes::byte_at;
+use std::alloc::Global;
+use std::simd::prelude::*;
 
-/// Where the bytes end that stand for themselves in a string.
+/// How many bytes are looked at together.
+const LANES: usize = 16;
+
+/// A bit for each of these bytes: whether it ends a run of those that stand for themselves in a
+/// string.
 #[inline(always)]
-fn plain_end(bytes: &[u8], from: usize) -> usize
+fn stops(block: u8x16) -> u64
+    requires { length block ≡ LANES }
+    ensures { result ≡ mask_l (map is_stop block) }
+{
+    (block.simd_eq(u8x16::splat(b'"'))
+        | block.simd_eq(u8x16::splat(b'\\'))
+        | block.simd_lt(u8x16::splat(0x20))).to_bitmask()
+}
+
+/// How many of these bytes stand for themselves in a string, up to the first that does not.
+#[inline(always)]
+fn plain_front(block: u8x16) -> usize
+    requires { length block ≡ LANES }
+    ensures { result ≡ prefix_len is_plain block }
+{
+    let stops = stops(block);
+    if stops == 0 {
+        LANES
+    } else {
+        stops.trailing_zeros() as usize
+    }
+}
+
+/// Where the bytes end that stand for themselves in a string, one after another.
+#[inline(never)]
+fn last_plain_end(bytes: &[u8], from: usize) -> usize
     requires { from ≤ length bytes.now }
     ensures value { result ≡ from + prefix_len is_plain (drop from bytes.now) }
     ensures within { result ≤ length bytes.now }
@@ -21,6 +54,24 @@ fn plain_end(bytes: &[u8], from: usize) -> usize
         at += 1;
     }
     at
+}
+
+/// Where the bytes end that stand for themselves in a string.
+#[inline(always)]
+fn plain_end(bytes: &[u8], from: usize) -> usize
+    requires { from ≤ length bytes.now }
+    ensures value { result ≡ from + prefix_len is_plain (drop from bytes.now) }
+    ensures within { result ≤ length bytes.now }
+{
+    let mut at = from;
+    'lanes: while bytes.len() - at >= LANES {
+        let plain = plain_front(u8x16::from_slice(&bytes[at..]));
+        if plain < LANES {
+            return at + plain;
+        }
+        at += LANES;
+    }
+    last_plain_end(bytes, at)
 }
 
 /// The value of a hex digit, or 36.
@@ -152,14 +203,39 @@ pub(crate) fn text_end(bytes: &[u8], from: usize) -> Option<usize>
 /// The text of a string that begins there, where it has no escape, and where it ends, past its
 /// closing quote.
 #[inline(always)]
-pub(crate) fn plain_text(bytes: &[u8], from: usize) -> Option<(&str, usize)>
-    requires { from ≤ length bytes.now }
-    ensures { IfSome result (λ r. IsText bytes.now from r.1 r.0.now) }
+pub(crate) fn plain_text(text: &str, from: usize) -> Option<(&str, usize)>
+    requires { IsCharBoundary text.now from }
+    ensures { IfSome result (λ r. IsText text.now from r.1 r.0.now) }
 {
+    let bytes = text.as_bytes();
     let stop = plain_end(bytes, from);
     if byte_at(bytes, stop) != b'"' {
         return None;
     }
-    let text = std::str::from_utf8(&bytes[from..stop]).ok()?;
-    Some((text, stop + 1))
+    Some((&text[from..stop], stop + 1))
+}
+
+/// The text of a string that begins there, copied, and where it ends, past its closing quote.
+#[inline(never)]
+pub(crate) fn text_copy(alloc: Global, text: &str, from: usize) -> Option<(String, usize)>
+    requires { IsCharBoundary text.now from }
+    ensures { IfSome result (λ r. IsText text.now from r.1 (string_bytes r.0)) }
+{
+    let bytes = text.as_bytes();
+    let mut copy = String::new(alloc);
+    let mut at = from;
+    'runs: loop {
+        let stop = plain_end(bytes, at);
+        let mark = byte_at(bytes, stop);
+        if mark != b'"' && mark != b'\\' {
+            return None;
+        }
+        copy.push_str(&text[at..stop]).ok()?;
+        if mark == b'"' {
+            return Some((copy, stop + 1));
+        }
+        let (c, next) = escape(bytes, stop + 1)?;
+        copy.push(c).ok()?;
+        at = next;
+    }
 }

@@ -1,13 +1,37 @@
 //! Going past JSON values of which only the kind is wanted.
-ghost use Rattle.std.specs.Prelude.{◌≡◌, ◌∷◌, ◌+◌, ◌<◌, ◌≤◌, ℕ, List, drop, length, get_or, false, Some, IfSome};
+ghost use Rattle.std.specs.Prelude.{◌≡◌, ◌∷◌, ◌+◌, ◌<◌, ◌≤◌, ℕ, List, drop, length, get_or, false, Some, IfSome, string_bytes};
 ghost use Rattle.json.specs.Lex.{lex, between, colon, begins_colon};
 ghost use Rattle.serde_json.specs.Data.{Data, string, Items, Members};
+ghost use Rattle.lsp_outline.specs.Kept.{kind_of};
 ghost use Rattle.lsp_outline.specs.Walk.{kind_at, IsLiteral, IsValue, AreItems, AreMembers, SomeItems, IsKey};
+ghost use Rattle.lsp_rpc.specs.Shape.{is_structure_or_null};
 
 use crate::bytes::{byte_at, is_delimiter, spaces_end};
 use crate::numbers::{number_end, tiny_number_end};
-use crate::skip::Kind;
-use crate::texts::{plain_text, text_end};
+use crate::texts::{plain_text, text_copy, text_end};
+use std::alloc::Global;
+
+/// How deep values may nest in a content, as `serde_json` reads it.
+pub(crate) const MAX_DEPTH: usize = 127;
+
+/// What kind of value stands somewhere, as far as a message's params and result are judged.
+#[derive(Clone, Copy)]
+pub(crate) enum Kind {
+    Null,
+    /// A boolean, a number or a string.
+    Plain,
+    /// An array or an object.
+    Structure,
+}
+
+impl Kind {
+    /// Whether params may be of this kind (JSON-RPC 2.0, section 4.2); null stands for none.
+    pub(crate) fn fits_params(self) -> bool
+        ensures { (d : Data) → self ≡ kind_of d → result ≡ is_structure_or_null d }
+    {
+        !matches!(self, Kind::Plain)
+    }
+}
 
 /// The kind of a value that begins with this byte.
 pub(crate) fn kind_at(byte: u8) -> Kind
@@ -82,14 +106,34 @@ fn string_end(bytes: &[u8], from: usize) -> Option<usize>
 
 /// The string that begins there and is no key, where it has no escape, and where it ends.
 #[inline(always)]
-pub(crate) fn plain_string(bytes: &[u8], from: usize) -> Option<(&str, usize)>
-    requires { get_or bytes.now from 0 ≡ 34 }
+pub(crate) fn plain_string(text: &str, from: usize) -> Option<(&str, usize)>
+    requires { from ≤ length text.now }
     ensures { IfSome result (λ r.
-        (depth : ℕ) → IsValue depth bytes.now from r.1 (string r.0.now)) }
+        (depth : ℕ) → IsValue depth text.now from r.1 (string r.0.now)) }
 {
-    let (text, close) = plain_text(bytes, from + 1)?;
+    let bytes = text.as_bytes();
+    if byte_at(bytes, from) != b'"' {
+        return None;
+    }
+    let (string, close) = plain_text(text, from + 1)?;
     let end = end_before_no_colon(bytes, close)?;
-    Some((text, end))
+    Some((string, end))
+}
+
+/// The string that begins there and is no key, copied, and where it ends.
+#[inline(always)]
+pub(crate) fn string_copy(alloc: Global, text: &str, from: usize) -> Option<(String, usize)>
+    requires { from ≤ length text.now }
+    ensures { IfSome result (λ r.
+        (depth : ℕ) → IsValue depth text.now from r.1 (string (string_bytes r.0))) }
+{
+    let bytes = text.as_bytes();
+    if byte_at(bytes, from) != b'"' {
+        return None;
+    }
+    let (copy, close) = text_copy(alloc, text, from + 1)?;
+    let end = end_before_no_colon(bytes, close)?;
+    Some((copy, end))
 }
 
 /// Where the key that begins there ends, with its colon and the space past it.
@@ -109,14 +153,15 @@ fn key_end(bytes: &[u8], from: usize) -> Option<usize>
 /// The key that begins there, where it has no escape, and where it ends, with its colon and the
 /// space past it.
 #[inline(always)]
-pub(crate) fn key(bytes: &[u8], from: usize) -> Option<(&str, usize)>
-    requires { from ≤ length bytes.now }
-    ensures { IfSome result (λ r. IsKey bytes.now from r.1 r.0.now) }
+pub(crate) fn key(text: &str, from: usize) -> Option<(&str, usize)>
+    requires { from ≤ length text.now }
+    ensures { IfSome result (λ r. IsKey text.now from r.1 r.0.now) }
 {
+    let bytes = text.as_bytes();
     if byte_at(bytes, from) != b'"' {
         return None;
     }
-    let (name, close) = plain_text(bytes, from + 1)?;
+    let (name, close) = plain_text(text, from + 1)?;
     let end = colon_end(bytes, close)?;
     Some((name, end))
 }

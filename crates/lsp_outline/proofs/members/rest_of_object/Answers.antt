@@ -1,39 +1,51 @@
-use Rattle.std.proofs.Common.{◌≡◌, ◌-◌, length, Some, ◌∙◌, arith, refl}
-use Rattle.json.specs.Json.{read_key, value}
-use Rattle.json.proofs.Grammar.{read_key-shorter}
+use Rattle.std.proofs.Common.{arith}
 use Rattle.serde_json.specs.Data.{no_members, put}
-use Rattle.lsp_outline.proofs.Skipping.{member_passed, members_passed}
+use Rattle.lsp_outline.proofs.Walking.{no_members_yet, member_turn, last_member, without_members}
 use Rattle.lsp_outline.proofs.members.rest_of_object.Goals as goal
 
+pub returns-then-byte_at-eq125 : goal.returns-then-byte_at-eq125
+returns-then-byte_at-eq125 g c =
+    let bytes = c.as_bytes-bytes.ensures.value in
+    let begin = c.spaces_end-at in (
+      no_members,
+      without_members c.args.depth c.args.text.now c.args.from begin.result (rw (← bytes) begin.ensures.same) (rw (← bytes) (grind arith)) begin.ensures.forward,
+      c.none-gathered.ensures,
+    )
+
 pub members-init : goal.members-init
-members-init g c = (length c.args.reader.now, no_members, omega arith, refl, omega arith, c.none-gathered.ensures)
+members-init g c =
+    let bytes = c.as_bytes-bytes.ensures.value in
+    let begin = c.spaces_end-at in (
+      no_members,
+      no_members_yet c.args.depth c.args.text.now c.args.from begin.result (rw (← bytes) begin.ensures.same) begin.ensures.forward (rw (← bytes) begin.ensures.within),
+      c.none-gathered.ensures,
+    )
 
 pub members-preserved : goal.members-preserved
 members-preserved g c =
-    let p = value c.args.depth in
     let l = c.members in
-    let n = l.invariant.0 in
-    let old = l.invariant.1 in
-    let k = c.in-Ok-Some.name.now in
-    let s = c.next_key.new.self in
-    let named : read_key l.reader ≡ Some (Some k, s) = grind arith in
-    let done = c.in_ok-take-in-Ok-Some.ensures in
-    let passed = done.ok in
-    let r = c.take.new.reader in
-    let less = read_key-shorter l.reader (Some k) s named in
-    let lesser = done.shorter in (
-      n - 1,
-      put k passed.0 old,
-      omega (arith, l.invariant.2),
-      l.invariant.3 ∙ member_passed p old n k l.reader s r passed.0 (omega (arith, l.invariant.2)) named passed.1,
-      omega (arith, l.invariant.4),
-      passed.2 old l.invariant.5,
+    let bytes = c.as_bytes-bytes.ensures.value in
+    let name = c.in_ok-name in
+    let taken = c.in_ok-end.ensures in
+    let k = name.name.now in
+    let next = c.spaces_end-next in
+    let again = c.spaces_end-at-in-members in (
+      put k taken.0 l.invariant.0,
+      member_turn c.args.depth c.args.text.now c.args.from l.at name.begin c.in_ok-end.end next.result again.result k taken.0 l.invariant.0 l.invariant.1 name.ensures taken.1
+          (rw (← bytes) next.ensures.same) (rw (← bytes) (grind arith)) (rw (← bytes) again.ensures.same) next.ensures.forward again.ensures.forward (rw (← bytes) again.ensures.within),
+      taken.2 l.invariant.0 l.invariant.2,
     )
 
-pub returns-in-Ok-None-clause-ok : goal.returns-in-Ok-None-clause-ok
-returns-in-Ok-None-clause-ok g c =
-    let p = value c.args.depth in
+pub returns-then-mark-eq125 : goal.returns-then-mark-eq125
+returns-then-mark-eq125 g c =
     let l = c.members in
-    let n = l.invariant.0 in
-    let old = l.invariant.1 in
-    (old, l.invariant.3 ∙ members_passed p old n l.reader c.next_key.new.self l.invariant.2 (grind arith), l.invariant.5)
+    let bytes = c.as_bytes-bytes.ensures.value in
+    let name = c.in_ok-name in
+    let taken = c.in_ok-end.ensures in
+    let k = name.name.now in
+    let next = c.spaces_end-next in (
+      put k taken.0 l.invariant.0,
+      last_member c.args.depth c.args.text.now c.args.from l.at name.begin c.in_ok-end.end next.result k taken.0 l.invariant.0 l.invariant.1 name.ensures taken.1
+          (rw (← bytes) next.ensures.same) (rw (← bytes) (grind arith)) next.ensures.forward,
+      taken.2 l.invariant.0 l.invariant.2,
+    )

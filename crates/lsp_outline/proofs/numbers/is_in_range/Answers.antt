@@ -1,19 +1,21 @@
-use Rattle.std.proofs.Common.{is_some, refl, sym, ap, ◌∙◌, subst, arith}
-use Rattle.json.specs.Print.{IsNumber}
-use Rattle.serde_json.specs.Read.{number_of}
-use Rattle.lsp_outline.proofs.ShortNumerals.{short_in_range}
-use Rattle.lsp_outline.proofs.TinyNumerals.{tiny_digits}
+use Rattle.std.proofs.Common.{◌≡◌, ◌==◌, drop, get_or, true, false, is_some, sym, ap, ◌∙◌, arith, take_all, length-drop}
+use Rattle.fast_float.specs.Text.{scan}
+use Rattle.serde_json.specs.Read.{number_of, number_from}
 use Rattle.lsp_outline.proofs.numbers.is_in_range.Goals as goal
 
-pub returns-then-is_tiny : goal.returns-then-is_tiny
-returns-then-is_tiny c = λ h.
-    let s = c.as_bytes.result.now in
-    let few = c.if-is_tiny.ensures.few refl in
-    let digits = tiny_digits s (subst IsNumber (sym c.as_bytes.ensures.value) c.requires) (c.if-is_tiny.ensures.unsigned refl) few in
-    ap (λ text. is_some (number_of text)) (sym c.as_bytes.ensures.value) ∙ short_in_range s digits.0 (omega (arith, few)) digits.1
+pub returns-then-has_minus : goal.returns-then-has_minus
+unfolding number_of
+returns-then-has_minus c = λ h.
+    let s = c.as_bytes-digits.result.now in
+    let signed : (get_or s 0 0 == 45) ≡ true = sym c.if-has_minus.ensures.value in
+    let parts : c.scan.result ≡ scan (drop 1 s) = c.scan.ensures.parts ∙ ap scan (take_all _ (drop 1 s) (omega (arith, length-drop 1 s))) in
+    let read : number_from true (scan (drop 1 s)) ≡ number_of s = rw signed in
+    ap is_some (ap number_of (sym c.as_bytes-digits.ensures.value) ∙ sym read ∙ ap (number_from true) (sym parts)) ∙ c.fits.ensures h
 
-pub returns-then-is_short : goal.returns-then-is_short
-returns-then-is_short c = λ h.
-    let s = c.as_bytes-2.result.now in
-    ap (λ text. is_some (number_of text)) (sym c.as_bytes-2.ensures.value)
-    ∙ short_in_range s (c.is_short.ensures.some h) (c.is_short.ensures.short h) (c.is_short.ensures.digits h)
+pub returns-else-has_minus : goal.returns-else-has_minus
+unfolding number_of
+returns-else-has_minus c = λ h.
+    let s = c.as_bytes-digits.result.now in
+    let unsigned : (get_or s 0 0 == 45) ≡ false = sym c.if-has_minus.ensures.value in
+    let read : number_from false (scan s) ≡ number_of s = rw unsigned in
+    ap is_some (ap number_of (sym c.as_bytes-digits.ensures.value) ∙ sym read ∙ ap (number_from false) (sym c.scan-else-has_minus.ensures.parts)) ∙ c.fits-else-has_minus.ensures h

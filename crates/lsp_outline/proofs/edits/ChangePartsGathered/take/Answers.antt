@@ -1,4 +1,5 @@
 use Rattle.std.proofs.Common.{Some, codes, option_map, option_and_then, string_bytes, refl, ap}
+use Rattle.std.proofs.lemmas.Option.{IfSome_then}
 use Rattle.serde_json.specs.Data.{object, string}
 use Rattle.serde_json.specs.Find.{as_str}
 use Rattle.lsp_rpc.specs.Params.{if_given, span_at}
@@ -6,17 +7,26 @@ use Rattle.lsp_rpc.specs.Shape.{unless_null}
 use Rattle.lsp_outline.proofs.Editing.{first_came, second_came, neither_came}
 use Rattle.lsp_outline.proofs.edits.ChangePartsGathered.take.Goals as goal
 
-pub returns-in_ok-next_span-in-range-clause-ok : goal.returns-in_ok-next_span-in-range-clause-ok
-returns-in_ok-next_span-in-range-clause-ok c =
-    let read = c.in_ok-next_span-in-range.ensures.ok in
-    (object read.0, read.1, first_came (λ o. if_given span_at (option_and_then unless_null o)) (option_and_then as_str) (codes "range") (codes "text") c.args.name.now (object read.0) _ _ refl c.in-range.is _ (ap (option_map Some) read.2))
+pub returns-in_ok-span-in-range : goal.returns-in_ok-span-in-range
+returns-in_ok-span-in-range c =
+    let read = c.in_ok-span-in-range.ensures in (
+      object read.0,
+      read.1,
+      first_came (λ o. if_given span_at (option_and_then unless_null o)) (option_and_then as_str) (codes "range") (codes "text") c.args.name.now (object read.0) _ _ refl c.in-range.is _ (ap (option_map Some) read.2),
+    )
 
-pub returns-in_ok-next_string-in-text-clause-ok : goal.returns-in_ok-next_string-in-text-clause-ok
-returns-in_ok-next_string-in-text-clause-ok c =
-    let text = string (string_bytes c.in_ok-next_string-in-text.field-0) in
-    (text, c.in_ok-next_string-in-text.ensures.ok c.args.depth, second_came (λ o. if_given span_at (option_and_then unless_null o)) (option_and_then as_str) (codes "range") (codes "text") c.args.name.now text _ _ refl c.in-text.is _ refl)
+pub returns-in_ok-copy-in-text : goal.returns-in_ok-copy-in-text
+returns-in_ok-copy-in-text c =
+    let text = string (string_bytes c.in_ok-copy-in-text.copy) in (
+      text,
+      c.in_ok-copy-in-text.ensures c.args.depth,
+      second_came (λ o. if_given span_at (option_and_then unless_null o)) (option_and_then as_str) (codes "range") (codes "text") c.args.name.now text _ _ refl c.in-text.is _ refl,
+    )
 
-pub returns-in_ok-_kind-in_default-clause-ok : goal.returns-in_ok-_kind-in_default-clause-ok
-returns-in_ok-_kind-in_default-clause-ok c =
-    let read = c.in_ok-_kind-in_default.ensures.ok in
-    (read.0, read.1, neither_came (λ o. if_given span_at (option_and_then unless_null o)) (option_and_then as_str) (codes "range") (codes "text") c.args.name.now read.0 _ _ c.in_default.not-range c.in_default.not-text)
+pub returns-in_default : goal.returns-in_default
+returns-in_default c =
+    IfSome_then c.skipped.result c.skipped.ensures (λ end read. (
+      read.0,
+      read.1,
+      neither_came (λ o. if_given span_at (option_and_then unless_null o)) (option_and_then as_str) (codes "range") (codes "text") c.args.name.now read.0 _ _ c.in_default.not-range c.in_default.not-text,
+    ))

@@ -1,0 +1,5 @@
+use Rattle.lsp_outline.proofs.Blocks.{marked}
+use Rattle.lsp_outline.proofs.texts.stops.Goals as goal
+
+pub returns : goal.returns
+returns c = marked c.args.block c.requires
