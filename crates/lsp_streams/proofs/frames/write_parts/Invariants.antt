@@ -2,8 +2,8 @@ use Rattle.std.proofs.Common.{◌-◌, ◌+◌}
 use Rattle.lsp_streams.specs.StreamSteps.{SoFar}
 use Rattle.lsp_streams.proofs.frames.write_parts.Given as goal
 
-abbrev pub invariant-loop-messages : goal.invariant-loop-messages
-invariant-loop-messages g l =
+abbrev pub invariant-loop-decoder : goal.invariant-loop-decoder
+invariant-loop-decoder g l =
     SoFar l.fn.limits l.fn.mode
     (g.R.Source.told l.fn.reader)
     (g.R.Source.told l.reader)
@@ -11,5 +11,5 @@ invariant-loop-messages g l =
     (g.W.Sink.told l.writer)
     l.decoder l.given l.read
 
-abbrev pub decreases-loop-messages : goal.decreases-loop-messages
-decreases-loop-messages g l = l.log + 1 - l.read
+abbrev pub decreases-loop-decoder : goal.decreases-loop-decoder
+decreases-loop-decoder g l = l.log + 1 - l.read
