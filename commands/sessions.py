@@ -88,12 +88,12 @@ WHOLE_CONTENTS += [content(SHUTDOWN), content(STOPPED), content(EXIT)]
 EXITS = WHOLE + EXIT
 EXITS_REPORT = b"no 406 editor 6 event 9\neditor message after exit\n"
 
-# The same without the answer to shutdown. What it lacks, and what the one of the killed editor lacks.
+# The same without the answer to shutdown. The reports on it, and on that of the killed editor.
 UNANSWERED = HEAD + INITIALIZE + ANSWER + INITIALIZED + OPEN + SNAPSHOT + SHUTDOWN + EXIT
 UNANSWERED_REPORT = b"no 303 editor 6 event 8\nrequest is not answered\n"
 KILLED_REPORT = b"no 407 editor 5 event 8\nexit is missing\n"
 
-# A rest that is no whole frame.
+# An unfinished frame.
 REST = HEAD + b"E 3\nabc\n"
 REST_REPORT = b"no 107 editor 1 event 1\nstream ends inside a frame\n"
 

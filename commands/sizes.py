@@ -123,7 +123,7 @@ def units(text):
 
 
 class Lines:
-    """A text as a list of lines that end with LF, which knows nothing but how to put some in the place of others."""
+    """A text as a list of lines that end with LF, which can only replace some lines by others."""
 
     def __init__(self, lines):
         self.lines = lines

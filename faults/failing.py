@@ -9,7 +9,7 @@ from pathlib import Path
 
 SOURCE = Path(__file__).resolve().parent / "faults.c"
 
-# The status of each fault, and what is said of it. A write that takes nothing has failed.
+# The status and the words of each fault. A write that takes nothing has failed.
 FAULTS = {
     "allocation": (4, b"lspcheck: out of memory\n"),
     "read": (3, b"lspcheck: read fault\n"),

@@ -8,12 +8,12 @@ TOP = Path(__file__).resolve().parent.parent
 
 
 def crates():
-    """What each crate of crates.txt stands on."""
+    """The crates that each crate of crates.txt depends on."""
     return dict(line.split(": ") for line in (TOP / "crates.txt").read_text().splitlines() if ": " in line)
 
 
 def below(crate):
-    """The same of a crate and of those that it stands on."""
+    """The same for one crate and the crates below it."""
     uses, found = crates(), [crate]
     for name in found:
         found += [other for other in uses[name].split() if other in uses and other not in found]

@@ -1,4 +1,4 @@
-"""A session and a stream that are cut at every length, or spoilt in one byte, and what has to be said of each."""
+"""A session and a stream, cut at every length or damaged in one byte, and the report on each."""
 
 from tables import content_of, log_of
 from sessions import frame
@@ -11,8 +11,8 @@ E SH
 S RES 2
 E EX"""
 
-# The records of that session: the number of the first and of the last of a kind, how many bytes each has, and the
-# verdict between two of them, where it is no yes.
+# The records of that session: the numbers of the first and the last of a kind, the bytes of each,
+# and the verdict between two of them if it is not yes.
 RECORDS = [
     (1, 1, 103, ""),
     (2, 2, 101, ""),
@@ -47,7 +47,7 @@ E CHG 5 / FULL "c\""""
 
 DIFFERS = "no 702 editor 4 event 6"
 
-# A request before the handshake, and 64 bytes that are no record.
+# A request before the handshake, and 64 bytes that are not a record.
 TOO_EARLY = "HEAD\nE REQ 7\n+ " + 64 * "X"
 
 TOO_EARLY_REPORT = b"no 401 editor 1 event 1\neditor message before initialize\n"

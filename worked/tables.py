@@ -1,20 +1,20 @@
-"""Logs and streams as lines of text, and the tables of worked sessions in this folder that are written so.
+"""Logs and streams as lines of text, and the tables of worked sessions in this folder.
 
 A log is built line by line:
 
-    HEAD      begins one with its first line; HEAD 2 one of format 2
+    HEAD      begins a log with its first line; HEAD 2 one of format 2
     START     the same and the handshake; START 2 in format 2
-    EMPTY     begins one without a byte
-    E WORDS   adds a message of the editor, S one of the server, by the name of a template and what fills it
-    E {..}    the same by its content
+    EMPTY     begins a log without any bytes
+    E WORDS   adds a message of the editor, S one of the server: a template's name and what fills it
+    E {..}    the same, with this content
     T 1 "ab"  adds a snapshot of file:///a: its version, and its text in quotes
     F WORDS   adds a frame outside of any record
-    LONG 40   adds a frame whose header part has a field of so many letters; E LONG 40 adds it as a record
-    + TEXT    adds bytes as they are, where \\r, \\n, \\xff and \\\\ stand for one each
-    CUT 64    from here on a record of bytes has so many bytes at most
-    : 698     says how many bytes there are
+    LONG 40   adds a frame whose header part has a field of 40 letters; E LONG 40, as a record
+    + TEXT    adds bytes as they are; \\r, \\n, \\xff and \\\\ are one byte each
+    CUT 64    from here on, a record of bytes has at most 64 bytes
+    : 698     the log must have 698 bytes here
 
-Then stands what a run over it gives, and the run with the word for how it ends. The lines behind a run
+Then come the output of a run and the run itself, with the word for how it ends. Lines after a run
 add to the same log:
 
     > LINE    a line on standard output
@@ -37,8 +37,8 @@ sys.dont_write_bytecode = True
 
 from sessions import HEAD, HEAD_TWO, frame  # noqa: E402
 
-# What contents are made of: `@` stands for the next word behind the name, `*` for the contents that are named behind
-# each ` / `, by commas.
+# The templates of contents: `@` stands for the next word after the name, `*` for the contents that
+# are named after each ` / `, separated by commas.
 TEMPLATES = {
     "I": '{"jsonrpc":"2.0","id":@,"method":"initialize","params":{"capabilities":{}}}',
     "IT": '{"jsonrpc":"2.0","id":1,"method":"initialize","params":{"workDoneToken":"w","capabilities":{}}}',
@@ -142,7 +142,7 @@ class Log:
         elif word == "CUT":
             self.most = int(rest)
         elif word != ":" or int(rest) != len(self.bytes):
-            raise ValueError(f"no line: {word} {rest} behind {len(self.bytes)} bytes")
+            raise ValueError(f"no line: {word} {rest} after {len(self.bytes)} bytes")
 
 
 def log_of(lines, most=sys.maxsize):
@@ -176,7 +176,7 @@ RUNS = {
 # How many words of their own these take.
 TAKES = {"text": 2, "event": 1}
 
-# The status of each word for how a run ends, and what is said of it where there is nothing to give.
+# The status for each word for how a run ends, and what standard error has if there is no output.
 ENDS = {
     "yes": (0, b""),
     "done": (0, b""),
