@@ -2,25 +2,27 @@
 use crate::message::{Id, Message};
 use lsp_types::{Change, SyncKind};
 
-/// What the editor offers in its `initialize` (LSP 3.17, Initialize Request). `None` stands for a
-/// member that is missing or null.
+/// What the editor offers in its `initialize` (LSP 3.17, Initialize Request). `None` is a member
+/// that is missing or null.
 #[derive(Debug, Drop, PartialEq, Eq)]
 pub struct Offer {
-    /// The names in `positionEncodings`.
+    /// The names in `capabilities.general.positionEncodings`, in their order.
     pub encodings: Option<Vec<String>>,
-    /// The `workDoneToken`.
+    /// The `workDoneToken` (LSP 3.17, WorkDoneProgressParams).
     pub token: Option<Id>,
 }
 
-/// What the server picks in its result for `initialize` (LSP 3.17, ServerCapabilities).
+/// What the server picks in its result of `initialize` (LSP 3.17, ServerCapabilities).
 #[derive(Debug, Drop, PartialEq, Eq)]
 pub struct Picked {
-    /// The name of an encoding; `utf-16` where none is given.
+    /// The name of a position encoding, `utf-16` if the server gives none.
     pub encoding: String,
+    /// How the editor must send changes, `Nothing` if the server does not say.
     pub kind: SyncKind,
 }
 
-/// What a message means to the session of its side.
+/// What a message means to a session, by its side, its kind and its method (LSP 3.17). Versions are
+/// those of VersionedTextDocumentIdentifier.
 #[derive(Debug, Drop, PartialEq, Eq)]
 pub enum Act {
     /// The editor's request `initialize`.
@@ -47,7 +49,7 @@ pub enum Act {
     DidClose {
         uri: String,
     },
-    /// The editor's notification `textDocument/didSave`.
+    /// The editor's notification `textDocument/didSave`; `text` is `None` if it includes none.
     DidSave {
         uri: String,
         text: Option<String>,
@@ -60,10 +62,9 @@ pub enum Act {
     Progress {
         token: Id,
     },
-    /// A message that the server may send before it has answered `initialize`, other than
-    /// `$/progress`.
+    /// A message other than `$/progress` that the server may send before it answers `initialize`.
     Early,
-    /// The server's request `client/registerCapability`, with the methods that it names.
+    /// The server's request `client/registerCapability`, with the methods that it registers.
     Register {
         methods: Vec<String>,
     },
@@ -71,7 +72,7 @@ pub enum Act {
     Other,
 }
 
-/// A message with what it means to the session of its side. Its params are left out.
+/// A message without its params, and what it means to a session.
 #[derive(Debug, Drop)]
 pub struct Spoken {
     pub message: Message,

@@ -175,7 +175,10 @@ fn versioned_method(
     }
 }
 
-/// The message that the parts make. The refusal is the least rule that they break.
+/// The message that the parts make (JSON-RPC 2.0, sections 4 and 5).
+///
+/// # Errors
+/// The lowest of the rules 202 to 208 that they break.
 pub fn assemble(parts: Parts) -> Result<Message, BrokenRule>
     ensures ok { IfOk result (λ message.
         reading.message_in (parts_view parts) ≡ Some (message_view message)) }
@@ -219,9 +222,12 @@ fn value_of(alloc: Global, content: &[u8]) -> Result<Value, RpcFault>
     }
 }
 
-/// Reads a content (JSON-RPC 2.0, sections 4 and 5; LSP 3.17, Base Protocol). The refusal is the
-/// least rule that it breaks: 201 where it is no JSON text, 202 to 208 where its value is no
-/// message. Memory is taken for the value alone, and none for an empty content.
+/// Reads the message of a content (JSON-RPC 2.0, sections 4 and 5; LSP 3.17, Base Protocol). Memory
+/// is taken for the JSON value alone, and none for an empty content.
+///
+/// # Errors
+/// The lowest rule that the content breaks: 201 if it is not JSON, 202 to 208 if its value is not a
+/// message; or `Memory`.
 pub fn read(alloc: Global, content: &[u8]) -> Result<Message, RpcFault>
     ensures ok { IfOk result (λ message. reading.Reads content.now (message_view message)) }
     ensures rule { IfErr result (reading.IsRefusal content.now) }

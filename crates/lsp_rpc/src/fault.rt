@@ -1,11 +1,11 @@
-//! Why a call gave nothing.
+//! Why a call failed.
 ghost use Rattle.lsp_rpc.specs.declared.fault.RpcFault.TheVariants.{Rule, Memory};
 ghost use Rattle.std.specs.Prelude.{◌≡◌};
 
 use std::alloc::{AllocError, AllocFailed};
 use thiserror::Error;
 
-/// Why a call gave nothing: the least rule that is broken, by its number, or memory was refused.
+/// Why a call failed: the lowest rule that is broken, by its number, or memory was refused.
 #[derive(Clone, Copy, Debug, Drop, PartialEq, Eq, Error)]
 pub enum RpcFault {
     #[error("rule {0}")]
@@ -14,7 +14,7 @@ pub enum RpcFault {
     Memory,
 }
 
-/// The least rule that a content breaks, by its number.
+/// The lowest rule that a content breaks, by its number.
 #[derive(Clone, Copy, Drop)]
 pub struct BrokenRule(pub(crate) u16);
 

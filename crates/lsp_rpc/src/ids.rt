@@ -5,7 +5,7 @@ ghost use Rattle.lsp_rpc.specs.Ident as ident;
 use crate::message::Id;
 use lsp_types::Memory;
 
-/// Whether two ids are one: the number 1 and the text `1` are two (JSON-RPC 2.0, section 4).
+/// Whether two ids are equal. The number 1 and the text `1` are not (JSON-RPC 2.0, section 4).
 pub fn same_id(first: &Id, second: &Id) -> bool
     ensures { result ≡ ident.same_id (ident.id_view first.now) (ident.id_view second.now) }
 {

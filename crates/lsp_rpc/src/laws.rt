@@ -1,7 +1,7 @@
-//! Laws of messages, each the contract of a function that does nothing.
+//! Laws of messages. Each is the contract of a function that does nothing.
 ghost use Rattle.lsp_rpc.specs.Laws.{SameIdIsEquality, OneMessage, OneRule, NotBoth, MessageOrRule};
 
-/// Two ids are one exactly where they are equal as values (JSON-RPC 2.0, section 4).
+/// `same_id` is equality of ids as values (JSON-RPC 2.0, section 4).
 pub fn same_id_is_equality()
     ensures { SameIdIsEquality }
 {}
@@ -11,12 +11,12 @@ pub fn one_message()
     ensures { OneMessage }
 {}
 
-/// A content breaks at most one least rule.
+/// A content breaks at most one lowest rule.
 pub fn one_rule()
     ensures { OneRule }
 {}
 
-/// No content is a message and breaks a rule.
+/// No content both is a message and breaks a rule.
 pub fn message_breaks_no_rule()
     ensures { NotBoth }
 {}

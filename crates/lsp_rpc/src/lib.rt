@@ -1,9 +1,9 @@
-//! Messages of JSON-RPC 2.0, as they stand in the contents of a stream, and what they mean to a
-//! session of the Language Server Protocol.
+//! Messages of JSON-RPC 2.0, read from the contents of a stream, and what they mean to a session of
+//! the Language Server Protocol 3.17.
 //!
-//! `read` gives the message of a content, `act_of` and `take_act` what a message means on its side,
-//! `picked_of` what the result of an `initialize` picks, and `words_of` the words that name a
-//! message. `assemble` makes a message of its `Parts`, for a caller that has read these by itself.
+//! `read` reads the message of a content. `act_of` and `take_act` give what a message means on its
+//! side, `picked_of` what the result of `initialize` picks, and `words_of` the words that name a
+//! message. `assemble` makes a message of its `Parts`, for callers that read these themselves.
 #![tactic(auto)]
 
 mod act;

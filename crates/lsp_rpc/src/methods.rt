@@ -173,9 +173,12 @@ fn take_params(params: &mut Option<Value>) -> Option<Cow<'static, Value>>
 }
 
 /// What a message means on its side (LSP 3.17, Lifecycle Messages and Text Document
-/// Synchronization). Rule 209: its method is read on that side and in that kind, and its params do
-/// not have the method's shape. A response is `Act::Other`. Params that are read are copied;
-/// [`take_act`] moves them.
+/// Synchronization). A response is `Act::Other`. Params that are read are copied; [`take_act`]
+/// moves them.
+///
+/// # Errors
+/// Rule 209 if the method is read on that side and in that kind, and the params do not have its
+/// shape; or `Memory`.
 pub fn act_of(alloc: Global, message: &Message, side: Side) -> Result<Act, RpcFault>
     ensures { Gives act_view 209 result (spec.act_at side (message_view message.now)) }
 {
@@ -192,8 +195,8 @@ pub fn act_of(alloc: Global, message: &Message, side: Side) -> Result<Act, RpcFa
     }
 }
 
-/// What [`act_of`] gives, with the texts moved out of the message. The message is left without its
-/// params, also where there is an error.
+/// What [`act_of`] gives, with the texts moved out of the message. The message loses its params,
+/// even if there is an error.
 pub fn take_act(alloc: Global, message: &mut Message, side: Side) -> Result<Act, RpcFault>
     ensures gives { Gives act_view 209 result (spec.act_at side (message_view message.old)) }
     ensures rest { message_view message.new ≡ without_params (message_view message.old) }

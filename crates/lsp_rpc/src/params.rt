@@ -1,5 +1,5 @@
-//! Taking the params of a message apart: what is read is moved out of them. `None` says that they do
-//! not have the shape.
+//! Taking the params of a message apart: what is read is moved out of them. `None` means that they
+//! do not have the required shape.
 ghost use Rattle.std.specs.Prelude.{◌≡◌, option_map, string_bytes};
 ghost use Rattle.serde_json.specs.Find.{as_str, as_array};
 ghost use Rattle.serde_json.specs.View.{view, items_view};

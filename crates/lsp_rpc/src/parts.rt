@@ -12,9 +12,11 @@ ghost use Rattle.lsp_rpc.specs.Fault.{IsLeast};
 use crate::fault::BrokenRule;
 use serde_json::{Map, Value};
 
-/// The members that a message is made of; `None` is a member that is missing.
+/// The members that make up a message (JSON-RPC 2.0, sections 4 and 5). `None` is a missing member;
+/// a member that is null is present.
 #[derive(Drop)]
 pub struct Parts {
+    /// The member `jsonrpc`.
     pub version: Option<Value>,
     pub method: Option<Value>,
     pub id: Option<Value>,

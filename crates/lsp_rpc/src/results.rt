@@ -55,8 +55,10 @@ fn encoding_in(capabilities: &Value) -> Option<&str>
     }
 }
 
-/// What the result of an `initialize` picks (LSP 3.17, InitializeResult). Rule 501: it does not
-/// have the shape. Memory is taken only where it does.
+/// What the result of an `initialize` picks (LSP 3.17, InitializeResult).
+///
+/// # Errors
+/// Rule 501 if the result does not have the required shape. `Memory` only if it has.
 pub fn picked_of(alloc: Global, answer: &Value) -> Result<Picked, RpcFault>
     ensures gives { Gives picked_view 501 result (spec.picked_at (view answer.now)) }
     ensures memory { result ≡ Err Memory → is_some (spec.picked_at (view answer.now)) ≡ true }

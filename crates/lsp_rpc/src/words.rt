@@ -13,7 +13,7 @@ use lsp_types::Memory;
 use serde_json::Value;
 use std::alloc::Global;
 
-/// Adds a text as a JSON string. Where memory is refused the words stay as they are.
+/// Appends a text as a JSON string. If memory is refused, the words stay as they are.
 pub fn push_quoted(alloc: Global, words: &mut String, text: &str) -> Result<(), Memory>
     ensures ok { OnOk result (string_bytes words.new ≡ string_bytes words.old ++ quoted text.now) }
     ensures err { OnErr result (string_bytes words.new ≡ string_bytes words.old) }
@@ -29,7 +29,7 @@ fn push_number(words: &mut String, n: i32) -> Result<(), Memory>
     Ok(words.push_str(Buffer::new().format(n))?)
 }
 
-/// Adds an id as JSON text. Where memory is refused the words stay as they are.
+/// Appends an id as JSON text. If memory is refused, the words stay as they are.
 pub fn push_id(alloc: Global, words: &mut String, id: &Id) -> Result<(), Memory>
     ensures ok { OnOk result
         (string_bytes words.new ≡ string_bytes words.old ++ spec.id_text (id_view id.now)) }
@@ -52,7 +52,7 @@ fn push_response_id(alloc: Global, words: &mut String, id: Option<&Id>) -> Resul
 }
 
 /// The words that name a message in a report: `request <id> <method>`, `notification <method>`,
-/// `result <id>` or `error <id> <code>`, ids and methods as JSON text.
+/// `result <id>` or `error <id> <code>`. Ids and methods are JSON text; an id may be `null`.
 pub fn words_of(alloc: Global, message: &Message) -> Result<String, Memory>
     ensures { IfOk result (λ text. string_bytes text ≡ spec.words_of (message_view message.now)) }
 {

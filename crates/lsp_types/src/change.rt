@@ -1,19 +1,19 @@
 //! Changes of a document, and how they are sent (LSP 3.17, "Text Document Synchronization").
 use crate::position::Span;
 
-/// How the editor sends the changes of a document (LSP 3.17, TextDocumentSyncKind).
+/// How the editor sends changes of a document (LSP 3.17, TextDocumentSyncKind).
 #[derive(Clone, Copy, Debug, PartialEq, Eq)]
 pub enum SyncKind {
-    /// Changes are not sent.
+    /// It sends no changes (kind 0, `None`).
     Nothing,
-    /// Each change is the whole text.
+    /// Each change is the whole text (kind 1).
     Full,
-    /// A change may be of a span.
+    /// A change may replace a span (kind 2).
     Incremental,
 }
 
-/// A text in the place of a span, or of the whole text where there is none (LSP 3.17,
-/// TextDocumentContentChangeEvent).
+/// A change of a document (LSP 3.17, TextDocumentContentChangeEvent): `text` replaces the span, or
+/// the whole text if `span` is `None`.
 #[derive(Debug, Drop, PartialEq, Eq)]
 pub struct Change {
     pub span: Option<Span>,

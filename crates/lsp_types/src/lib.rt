@@ -1,5 +1,5 @@
-//! Plain types of the Language Server Protocol that several layers speak of, and the answer where
-//! memory was refused.
+//! Plain types of the Language Server Protocol 3.17 that several layers share, and the error for
+//! refused memory.
 #![tactic(auto)]
 
 mod change;

@@ -1,8 +1,8 @@
-//! The answer where memory was refused.
+//! The error for refused memory.
 use std::alloc::{AllocError, AllocFailed};
 use thiserror::Error;
 
-/// Memory was refused.
+/// The allocator refused memory.
 #[derive(Clone, Copy, Debug, Drop, PartialEq, Eq, Error)]
 #[error("out of memory")]
 pub struct Memory;

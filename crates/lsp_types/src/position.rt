@@ -1,7 +1,7 @@
-//! Places in a text (LSP 3.17, "Text Documents").
+//! Positions in a text (LSP 3.17, "Text Documents").
 
-/// What a column counts: bytes of UTF-8, 16-bit units of UTF-16, or characters (LSP 3.17,
-/// PositionEncodingKind).
+/// The unit in which columns are counted: bytes of UTF-8, 16-bit units of UTF-16, or characters,
+/// that is, Unicode scalar values (LSP 3.17, PositionEncodingKind).
 #[derive(Clone, Copy, Debug, PartialEq, Eq)]
 pub enum Encoding {
     Utf8,
@@ -9,15 +9,15 @@ pub enum Encoding {
     Utf32,
 }
 
-/// A place in a text (LSP 3.17, Position). Lines and columns count from zero, columns in units of
-/// the encoding that the session agreed on.
+/// A position in a text (LSP 3.17, Position). Lines and columns are counted from zero, columns in
+/// units of the encoding that the session agreed on. `column` is the standard's `character`.
 #[derive(Clone, Copy, Debug, PartialEq, Eq)]
 pub struct Position {
     pub line: u32,
     pub column: u32,
 }
 
-/// From the first position up to the second, which is excluded (LSP 3.17, Range).
+/// A range of a text (LSP 3.17, Range): from `first` up to `second`, which is excluded.
 #[derive(Clone, Copy, Debug, PartialEq, Eq)]
 pub struct Span {
     pub first: Position,

@@ -1,35 +1,35 @@
-//! Laws over the verdict where a session has to be complete.
+//! Laws about the verdict if the session must be complete.
 ghost use Rattle.lsp_verdict.specs.CompleteLaws.{CompleteMeansEnded, EndedMeansComplete, LackIsNamed, CompleteMeansFault, OneCompleteVerdict, SomeCompleteVerdict};
 
-/// All bytes have a verdict where the session has to be complete.
+/// Every byte sequence has a verdict if the session must be complete.
 pub fn some_complete_verdict()
     ensures { SomeCompleteVerdict }
 {}
 
-/// And one only.
+/// It has only one.
 pub fn one_complete_verdict()
     ensures { OneCompleteVerdict }
 {}
 
-/// Yes means: the log is kept, each request of the editor's has an answer, and the editor sent
+/// Yes means: the log keeps the rules, each request of the editor is answered, and the editor sent
 /// `exit`.
 pub fn complete_means_ended()
     ensures { CompleteMeansEnded }
 {}
 
-/// Yes is the verdict wherever it is the verdict else, each request of the editor's has an answer
+/// The verdict is Yes if it is Yes without that condition, each request of the editor is answered,
 /// and the editor sent `exit`.
 pub fn ended_means_complete()
     ensures { EndedMeansComplete }
 {}
 
-/// No names the first event that offends, or the stream that ends inside a frame; or of a log that
-/// is kept the request of the editor's that has no answer, else the `exit` that was not sent.
+/// No names the first event that offends, or the stream that ends inside a frame. If the log keeps
+/// the rules, it names an unanswered request of the editor, else the missing `exit`.
 pub fn lack_is_named()
     ensures { LackIsNamed }
 {}
 
-/// A bad log has that fault, and no event before it offends.
+/// If the verdict is a bad log, the log has that fault, and no event before it offends.
 pub fn complete_means_fault()
     ensures { CompleteMeansFault }
 {}

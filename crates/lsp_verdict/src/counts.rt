@@ -1,4 +1,4 @@
-//! How many events there were.
+//! Numbers of events.
 ghost use Rattle.std.specs.Prelude.{◌≡◌, ◌++◌, ◌∷◌, [], ℕ, List};
 ghost use Rattle.lsp_verdict.specs.Counting.{AreCounts};
 ghost use Rattle.lsp_verdict.specs.Event.{Event};
@@ -8,12 +8,12 @@ ghost use Rattle.lsp_verdict.specs.Verdict.{belongs_to, count_of, no, no_next, w
 
 use crate::verdict::Who;
 
-/// How many events there were, whose they were, and in all; each at most 2^64 - 1.
+/// How many events there were, of each kind and in all. Each count stops at 2^64 - 1.
 #[derive(Clone, Copy, Debug, PartialEq, Eq)]
 pub struct Counts {
-    /// Messages and faults of the editor.
+    /// Messages and frame faults of the editor.
     pub editor: u64,
-    /// Messages and faults of the server.
+    /// Messages and frame faults of the server.
     pub server: u64,
     /// Snapshots.
     pub snapshots: u64,
@@ -22,7 +22,7 @@ pub struct Counts {
 }
 
 impl Counts {
-    /// The counts of no events.
+    /// The counts before the first event.
     pub fn new() -> Counts
         ensures { AreCounts result [] }
     {
@@ -34,7 +34,7 @@ impl Counts {
         }
     }
 
-    /// One more event.
+    /// Counts one more event.
     pub fn add(&mut self, by: Who)
         ensures { (events : List Event) (event : Event) → AreCounts self.old events → whose event ≡ by
             → AreCounts self.new (events ++ event ∷ []) }
@@ -47,7 +47,7 @@ impl Counts {
         self.all = self.all.saturating_add(1);
     }
 
-    /// How many there were of these.
+    /// How many events of `by` there were.
     pub fn of(&self, by: Who) -> u64
         ensures { (events : List Event) → AreCounts self.now events
             → result ≡ capped (count_of (belongs_to by) events) }
@@ -59,7 +59,7 @@ impl Counts {
         }
     }
 
-    /// The numbers of the event that comes next, from 1: among those of `by`, and among all.
+    /// The numbers of the next event, from 1: among those of `by`, and among all.
     pub fn next(&self, by: Who) -> (u64, u64)
         ensures { (rule : ℕ) (events : List Event) → AreCounts self.now events
             → no rule by result.0 result.1 ≡ as_given (no_next rule by events) }

@@ -1,4 +1,4 @@
-//! What a log has next.
+//! Reading a log entry by entry.
 ghost use Rattle.std.specs.Prelude.{◌≡◌, ◌<◌, List, IfOk};
 ghost use Rattle.lsp_frame.specs.Told.{Told};
 ghost use Rattle.lsp_log.specs.Log as logs;
@@ -14,7 +14,7 @@ use lsp_log::{LogCode, LogFault, LogReader, Record};
 pub enum Entry {
     /// A record.
     Record(Record),
-    /// The log ends here, without a fault.
+    /// The end of the log, which has no fault.
     End,
     /// The log has this fault.
     Bad {
@@ -28,7 +28,7 @@ pub enum Entry {
 /// Reads the next entry of a log.
 ///
 /// # Errors
-/// `Read` where the source failed, and `Memory` where memory was refused for a record.
+/// `Read` if the source failed, and `Memory` if memory was refused for a record.
 pub fn next_entry<R: Source>(log: &mut LogReader, reader: &mut R) -> Result<Entry, RunFault>
     ensures limits { log.new.limits ≡ log.old.limits }
     // The format stays, once it is known.

@@ -1,9 +1,9 @@
 //! What a recorded session is, and what the verdict on it means: its events, which of them offends,
-//! and the reports of what is found.
+//! and the reports.
 //!
-//! Nothing is judged here. The definitions say which events the records of a log bring, which of them
-//! offends by which rule, and so which verdict a log has; the laws say what the verdicts mean. All
-//! runs over a log read it by `next_entry`.
+//! Nothing is judged here. The definitions say which events the records of a log make, which of
+//! them offends and by which rule, and thus which verdict a log has. The laws say what the verdicts
+//! mean. All runs over a log read it with `next_entry`.
 #![tactic(auto)]
 
 mod complete_laws;

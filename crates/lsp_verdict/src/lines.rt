@@ -1,11 +1,11 @@
 //! Which lines show the events of a session.
 
-/// What the lines of events tell.
+/// What the line of an event contains.
 #[derive(Clone, Copy, Debug, PartialEq, Eq)]
 pub enum Lines {
-    /// The number of each event among all, and what it is.
+    /// The number of the event among all, from 1, and what it is.
     Short,
-    /// Behind that its number among those of its side, or of a snapshot among the snapshots; and of a
-    /// message on a document the URI and the version that is opened or changed to.
+    /// After that, its number among the messages of its side, or among the snapshots; for a message
+    /// about a document also its URI, and the version that the message sets.
     Long,
 }

@@ -3,8 +3,8 @@
 /// Which offences are listed.
 #[derive(Clone, Copy, Debug, PartialEq, Eq)]
 pub enum Listing {
-    /// Those that follow from none.
+    /// Those that follow from no other.
     Causes,
-    /// Every one.
+    /// All.
     Every,
 }

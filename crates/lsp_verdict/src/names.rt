@@ -15,7 +15,7 @@ pub fn side_name(side: Side) -> &'static str
     }
 }
 
-/// The word for whom an event is of.
+/// The word for the origin of an event: `editor`, `server` or `snapshot`.
 pub fn who_name(who: Who) -> &'static str
     ensures { result.now ≡ who_name who }
 {
@@ -37,7 +37,7 @@ pub(crate) fn encoding_name(encoding: Option<Encoding>) -> &'static str
     }
 }
 
-/// The word for how changes are sent, `-` where nothing was agreed.
+/// The word for how changes are sent, `-` if nothing was agreed.
 pub fn kind_name(kind: Option<SyncKind>) -> &'static str
     ensures { result.now ≡ kind_name kind }
 {

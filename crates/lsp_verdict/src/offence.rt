@@ -1,4 +1,4 @@
-//! An offence of a session as it is listed, and what is said of it.
+//! An offence of a session, as it is listed and reported.
 ghost use Rattle.std.specs.Prelude.{◌≡◌, ◌∷◌, [], List, IfOk, string_bytes, codes, decimal};
 ghost use Rattle.lsp_verdict.specs.Counting.{AreCounts};
 ghost use Rattle.lsp_verdict.specs.Event.{Event};
@@ -15,7 +15,7 @@ use crate::verdict::{Verdict, Who};
 use lsp_rpc::Memory;
 use std::alloc::Global;
 
-/// An offence of a session: the No by it, and whether it follows from an earlier one.
+/// An offence of a session, and whether it follows from an earlier one.
 #[derive(Clone, Copy, Debug, PartialEq, Eq)]
 pub struct Offence {
     pub rule: u16,
@@ -24,12 +24,12 @@ pub struct Offence {
     pub number: u64,
     /// Its number among all events, from 1.
     pub event: u64,
-    /// Whether it is broken only for what an earlier offence left apart.
+    /// Whether it arises only because an earlier offence left the two sides out of step.
     pub follows: bool,
 }
 
 impl Offence {
-    /// The offence by this rule at the event that comes next.
+    /// The offence against this rule at the next event.
     pub fn next(counts: &Counts, rule: u16, who: Who, follows: bool) -> Offence
         ensures { (events : List Event) → AreCounts counts.now events
             → offence_view result ≡ given_offence (record { no = no_next rule who events; follows = follows }) }
@@ -44,7 +44,7 @@ impl Offence {
         }
     }
 
-    /// The No by it.
+    /// The verdict No for this offence.
     pub fn verdict(&self) -> Verdict
         ensures { verdict_view result ≡ (offence_view self.now).no }
     {
@@ -57,7 +57,7 @@ impl Offence {
     }
 }
 
-/// The lines of a No that follows from an earlier one.
+/// The lines of an offence that follows from an earlier one.
 fn follow_report(
     alloc: Global,
     rule: u16,
@@ -73,8 +73,8 @@ fn follow_report(
     Ok(report)
 }
 
-/// The two lines that list an offence: those of its No, and the word `follows` behind the number of
-/// the event where it follows from an earlier one.
+/// The two lines that list an offence: those of its No, and the word `follows` after the number of
+/// the event if it follows from an earlier one.
 pub fn offence_report(alloc: Global, offence: &Offence) -> Result<String, Memory>
     ensures { IfOk result (λ written. string_bytes written ≡ offence_lines (offence_view offence.now)) }
 {
@@ -92,7 +92,7 @@ pub fn offence_report(alloc: Global, offence: &Offence) -> Result<String, Memory
     }
 }
 
-/// The line that says how many offences were found, and how many of them follow from earlier ones.
+/// The line with the number of offences found, and how many of them follow from earlier ones.
 pub fn found_report(alloc: Global, found: u64, following: u64) -> Result<String, Memory>
     ensures { IfOk result (λ written. string_bytes written
         ≡ line (codes "offences" ∷ decimal found ∷ codes "following" ∷ decimal following ∷ [])) }

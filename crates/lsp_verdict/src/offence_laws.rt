@@ -1,48 +1,49 @@
-//! Laws of all offences of a session, each the contract of a function that does nothing.
+//! Laws about the list of offences of a session. Each is the contract of a function that does
+//! nothing.
 ghost use Rattle.lsp_verdict.specs.OffenceLaws.{AllAreKept, FirstListed, KeptAreOthers, KeptOffendNowhere, ListedOffend, NothingListed, OneSurvey, SomeSurvey, SurveyAgrees};
 
-/// The events that are kept, where one that offends is passed over, by themselves offend nowhere.
+/// The kept events, from which those that offend are left out, by themselves break no rule.
 pub fn kept_offend_nowhere()
     ensures { KeptOffendNowhere }
 {}
 
-/// They are just the events that do not offend after the kept ones before them.
+/// They are exactly the events that do not offend after the kept ones before them.
 pub fn kept_are_others()
     ensures { KeptAreOthers }
 {}
 
-/// Where no event offends, all are kept.
+/// If no event offends, all are kept.
 pub fn all_are_kept()
     ensures { AllAreKept }
 {}
 
-/// An offence is listed just where an event offends after the kept ones before it.
+/// An offence is listed exactly if an event offends after the kept ones before it.
 pub fn listed_offend()
     ensures { ListedOffend }
 {}
 
-/// The first that is listed is the No of the verdict, and it follows from none.
+/// The first offence listed is the No of the verdict, and it follows from no other.
 pub fn first_listed()
     ensures { FirstListed }
 {}
 
-/// Nothing is listed just where no event offends.
+/// Nothing is listed exactly if no event offends.
 pub fn nothing_listed()
     ensures { NothingListed }
 {}
 
-/// The verdict on a log is the first that is listed of it; where nothing is, it is the fault of the log,
-/// else Yes with the same summary.
+/// The verdict on a log is its first listed offence. If nothing is listed, it is the fault of the
+/// log, else Yes with the same summary.
 pub fn survey_agrees()
     ensures { SurveyAgrees }
 {}
 
-/// Each log has a list of all that is wrong with it.
+/// Every log has a list of its offences.
 pub fn some_survey()
     ensures { SomeSurvey }
 {}
 
-/// And one only.
+/// It has only one.
 pub fn one_survey()
     ensures { OneSurvey }
 {}

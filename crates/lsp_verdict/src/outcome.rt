@@ -1,4 +1,4 @@
-//! What is asked of a run, and how it ends.
+//! What a run is asked to do, and how it ends.
 use crate::verdict::Verdict;
 use lsp_frame::{PullFault, WriteFault};
 use lsp_rpc::Memory;
@@ -9,25 +9,25 @@ use std::fmt;
 /// What a run writes for the frames of a stream.
 #[derive(Clone, Copy, Debug, PartialEq, Eq)]
 pub enum Mode {
-    /// A line for each frame: its number, from 1, and the bytes of its content.
+    /// A line for each frame: its number, from 1, and the size of its content in bytes.
     Lengths,
-    /// Each content behind the one canonical header part.
+    /// Each content after its canonical header part.
     Canonical,
-    /// A line for each frame: its number, the bytes of its content, and the words that name its
-    /// message.
+    /// A line for each frame: its number, from 1, the size of its content in bytes, and the words
+    /// that name its message.
     Kinds,
 }
 
 /// What is wrong with a stream.
 #[derive(Clone, Copy, Debug, PartialEq, Eq)]
 pub enum StreamFault {
-    /// A frame, or the rest of the stream, breaks this rule.
+    /// A frame, or the unfinished rest of the stream, breaks this rule.
     Rule(u16),
-    /// The stream is longer than the limit, and its bytes up to there have no other fault.
+    /// The stream is longer than the limit, and its bytes up to the limit have no other fault.
     TooLong,
 }
 
-/// How a run ended that met no fault of reading, writing or memory.
+/// How a run ended, if not by a fault of reading, writing or memory.
 #[derive(Drop)]
 pub enum Outcome {
     /// All that was asked for was written, and nothing was wrong with it.
@@ -36,9 +36,9 @@ pub enum Outcome {
     Judged(Verdict),
     /// The frame of this number, from 1, has the fault.
     Stream { frame: u64, fault: StreamFault },
-    /// No document of the URI is open at the place that was asked for.
+    /// No document of the URI is open after the requested message.
     NoDocument,
-    /// The editor sent fewer messages than were asked for.
+    /// The editor sent fewer messages than the requested number.
     TooFew,
 }
 

@@ -1,4 +1,4 @@
-//! Reports: what is printed of a verdict, and of a fault of a stream.
+//! Reports of a verdict, and of a fault of a stream.
 ghost use Rattle.std.specs.Prelude.{◌≡◌, ◌++◌, IfOk, OnOk, string_bytes, map};
 ghost use Rattle.std.specs.List.{flat_map};
 ghost use Rattle.lsp_session.specs.Entry.{request_view};
@@ -25,8 +25,8 @@ fn two_lines(alloc: Global, code: &str, frame: u64, text: &str) -> Result<String
     Ok(report)
 }
 
-/// The two lines that tell the fault of a frame: its code and the frame's number, and the rule's
-/// fixed text. A rule without a text has an empty second line.
+/// The two lines about the fault of a frame: its code and the frame's number, from 1, and the
+/// rule's fixed text. If the rule has no text, the second line is empty.
 pub fn frame_report(alloc: Global, frame: u64, fault: StreamFault) -> Result<String, Memory>
     ensures { IfOk result (λ written. string_bytes written ≡ stream_report frame fault) }
 {
@@ -166,12 +166,13 @@ fn bad_log_report(alloc: Global, number: u64, fault: LogCode) -> Result<String, 
     Ok(report)
 }
 
-/// The report of a verdict, a line feed behind each line.
+/// The report of a verdict; each line ends with a line feed.
 ///
-/// Of Yes: what was counted and agreed, a line for each document that is open, in order of opening,
-/// and one for each open request, the editor's first; URIs, ids and methods are JSON text. Of No:
-/// the rule, whose event it is, its number and that of the event, and the rule's fixed text. Of a
-/// bad log: its code, the number of the record, and the fixed text.
+/// For Yes: what was counted and agreed, a line for each open document, in the order in which they
+/// were opened, and one for each open request, the editor's first. URIs, ids and methods are JSON
+/// text. For No: the rule, whose event it is, its number among those of that side, its number among
+/// all events, and the rule's fixed text. For a bad log: its code, the number of the record, and
+/// the code's fixed text.
 pub fn verdict_report(alloc: Global, verdict: &Verdict) -> Result<String, Memory>
     ensures { IfOk result (λ written. string_bytes written ≡ report (verdict_view verdict.now)) }
 {

@@ -1,10 +1,10 @@
-//! The fixed texts of the rules, and of the faults of a log.
+//! The fixed texts of the rules and of the faults of a log.
 ghost use Rattle.std.specs.Prelude.{◌≡◌};
 ghost use Rattle.lsp_verdict.specs.Texts.{session_texts, text_among, text_of, code_name, code_text};
 
 use lsp_log::LogCode;
 
-/// The text that stands for a rule in a report, empty where the rule has none.
+/// The text of a rule in a report, empty if the rule has none.
 pub(crate) fn text_of(rule: u16) -> &'static str
     ensures { result.now ≡ text_of rule }
 {
@@ -29,7 +29,7 @@ pub(crate) fn text_of(rule: u16) -> &'static str
     }
 }
 
-/// The text of a rule on what a message says behind those before it.
+/// The text of a rule about messages in their order.
 fn session_text(rule: u16) -> &'static str
     ensures { result.now ≡ text_among session_texts rule }
 {
@@ -77,7 +77,7 @@ pub(crate) fn code_name(code: LogCode) -> &'static str
     }
 }
 
-/// The text that stands for a fault of a log in a report.
+/// The text of a fault of a log in a report.
 pub(crate) fn code_text(code: LogCode) -> &'static str
     ensures { result.now ≡ code_text code }
 {

@@ -6,18 +6,18 @@ use lsp_log::LogCode;
 use lsp_rpc::{Encoding, Side, SyncKind};
 use lsp_session::OpenRequest;
 
-/// Whose event offends.
+/// The origin of an event.
 #[derive(Clone, Copy, Debug, PartialEq, Eq)]
 pub enum Who {
-    /// A message or a frame of the editor's.
+    /// A message or a frame fault of the editor.
     Editor,
-    /// A message or a frame of the server's.
+    /// A message or a frame fault of the server.
     Server,
-    /// A text that the editor showed.
+    /// A snapshot of the editor's text.
     Snapshot,
 }
 
-/// Whose an event of this side's is.
+/// The origin of an event of this side.
 pub fn who_of(side: Side) -> Who
     ensures { result ≡ spec.who_of side }
 {
@@ -34,28 +34,28 @@ pub struct OpenDocument {
     pub uri: String,
     /// Its version (LSP 3.17, `VersionedTextDocumentIdentifier`).
     pub version: i32,
-    /// The bytes of UTF-8 that its text has.
+    /// The size of its text, in bytes of UTF-8.
     pub bytes: u64,
 }
 
-/// What a session that keeps the rules comes to. A count past 2^64 - 1 is given as 2^64 - 1.
+/// The summary of a session that keeps the rules. Counts stop at 2^64 - 1.
 #[derive(Drop)]
 pub struct Summary {
-    /// Messages of the editor.
+    /// How many messages the editor sent.
     pub editor: u64,
-    /// Messages of the server.
+    /// How many messages the server sent.
     pub server: u64,
-    /// Snapshots.
+    /// How many snapshots there are.
     pub snapshots: u64,
-    /// Snapshots that were never compared with a held text.
+    /// How many of the snapshots were never compared with a held text.
     pub unmatched: u64,
-    /// The position encoding that was agreed on.
+    /// The agreed position encoding (LSP 3.17, PositionEncodingKind), if any.
     pub encoding: Option<Encoding>,
-    /// How the editor sends changes, as agreed.
+    /// The agreed way to send changes (LSP 3.17, TextDocumentSyncKind), if any.
     pub sync: Option<SyncKind>,
-    /// The documents that are open, in order of opening.
+    /// The open documents, in the order in which they were opened.
     pub documents: Vec<OpenDocument>,
-    /// The requests that are open: the editor's, then the server's, each in order of asking.
+    /// The open requests: the editor's, then the server's, in the order in which they were sent.
     pub requests: Vec<(Side, OpenRequest)>,
 }
 
@@ -64,7 +64,7 @@ pub struct Summary {
 pub enum Verdict {
     /// The session keeps the rules.
     Yes(Summary),
-    /// An event offends a rule.
+    /// An event breaks a rule.
     No {
         rule: u16,
         who: Who,
