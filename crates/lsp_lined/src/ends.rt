@@ -11,7 +11,7 @@ pub(crate) fn places_of(alloc: Global, text: &str) -> Result<Vec<u16>, AllocErro
     requires { length text.now ≤ 65535 }
     ensures { IfOk result (λ places. places.items ≡ places_behind 0 text.now) }
 {
-    let mut places = Vec::new(alloc);
+    let mut places = Vec::with_capacity(alloc, text.len() / 32 + 4)?;
     let mut rest = text;
     let mut after = 0;
     while let Some(line) = FirstLine::of(rest) {
