@@ -5,6 +5,7 @@ pub mod Positions
 pub mod Splices
 pub mod JoinedLines
 pub mod ByteCounts
+pub mod AsciiCounts
 pub mod Denoting
 pub mod Edits
 pub mod Widths

@@ -1,6 +1,6 @@
 //! Bytes of UTF-8 counted 32 at a time.
 
-ghost use Rattle.std.specs.Prelude.{◌≡◌, ◌+◌, length, count_by, nat_lt};
+ghost use Rattle.std.specs.Prelude.{◌≡◌, ◌+◌, ◌≤◌, ◌↔◌, length, take, count_by, nat_lt, IsTrue};
 ghost use Rattle.std.specs.List.{sum_by};
 ghost use Rattle.lsp_text.specs.Offsets.{byte_units};
 
@@ -30,10 +30,10 @@ pub(crate) fn count_below(bytes: &[u8]) -> BytesBelow
     ensures leads { result.leads ≡ count_by (λ x. nat_lt x LEAD) bytes.now }
     ensures leads_of_four { result.leads_of_four ≡ count_by (λ x. nat_lt x LEAD_OF_FOUR) bytes.now }
 {
-    let mut continuations = 0;
-    let mut leads = 0;
-    let mut leads_of_four = 0;
-    let mut at = 0;
+    let mut at = ascii_front(bytes);
+    let mut continuations = at;
+    let mut leads = at;
+    let mut leads_of_four = at;
     while at + 32 <= bytes.len() {
         let block = u8x32::from_slice(&bytes[at..]);
         continuations += count_in(block, CONTINUATION) as usize;
@@ -51,6 +51,26 @@ pub(crate) fn count_below(bytes: &[u8]) -> BytesBelow
         leads,
         leads_of_four,
     }
+}
+
+/// The bytes of the blocks at the front that hold ASCII alone.
+fn ascii_front(bytes: &[u8]) -> usize
+    ensures within { result ≤ length bytes.now }
+    ensures ascii { count_by (λ x. nat_lt x CONTINUATION) (take result bytes.now) ≡ result }
+{
+    let mut at = 0;
+    while at + 32 <= bytes.len() && is_ascii(u8x32::from_slice(&bytes[at..])) {
+        at += 32;
+    }
+    at
+}
+
+/// Whether 32 bytes are ASCII.
+fn is_ascii(block: u8x32) -> bool
+    requires { length block ≡ 32 }
+    ensures { IsTrue result ↔ (count_by (λ x. nat_lt x CONTINUATION) block ≡ 32) }
+{
+    count_in(block, CONTINUATION) == 32
 }
 
 /// The units that 32 bytes of UTF-8 bring.

@@ -1,7 +1,20 @@
-use Rattle.std.proofs.Common.{arith}
+use Rattle.std.proofs.Common.{sym, arith}
 use Rattle.std.proofs.lemmas.Simd.{length-chunk}
+use Rattle.lsp_text.proofs.AsciiCounts.{count_all}
 use Rattle.lsp_text.proofs.ByteCounts.{count_block, count_byte}
 use Rattle.lsp_text.proofs.lanes.count_below.Goals as goal
+
+pub loop-at-init : goal.loop-at-init
+loop-at-init c =
+    let bs = c.args.bytes.now in
+    let n = c.ascii_front-at.result in
+    let h = c.ascii_front-at.ensures in
+    record {
+      continuations = sym h.ascii;
+      leads = count_all 192 bs n (omega arith) h.within h.ascii;
+      leads_of_four = count_all 240 bs n (omega arith) h.within h.ascii;
+      within = h.within;
+    }
 
 pub count_in-requires : goal.count_in-requires
 count_in-requires c = length-chunk c.loop-at.at 32 c.args.bytes.now c.loop-at-test.true
