@@ -8,6 +8,7 @@ pub mod Exchanges
 pub mod HeldText
 pub mod LentPlaces
 pub mod LineEnds
+pub mod MarkedPlaces
 pub mod MovedPlaces
 pub mod PartPlaces
 pub mod PartSteps

@@ -1,5 +1,5 @@
 -- Line ends in bytes: the first one of a text, and the one before a place.
-use Rattle.std.proofs.Common.{◌≡◌, ◌+◌, ◌&&◌, ◌||◌, ℕ, Bool, true, false, not, cond, List, [], ◌∷◌, ◌++◌, length, refl, sym, ap, subst, ◌∙◌, inl, inr, arith, length-append, append_assoc, Option, Some, None, MatchOption, is_some}
+use Rattle.std.proofs.Common.{◌≡◌, ◌+◌, ◌&&◌, ◌||◌, ℕ, Bool, true, false, not, cond, List, [], ◌∷◌, ◌++◌, length, refl, sym, ap, subst, ◌∙◌, inl, inr, arith, length-append, Option, Some, None, MatchOption, is_some}
 use Rattle.std.proofs.lemmas.List.{nil_from_length}
 use Rattle.std.proofs.lemmas.Bool.{false≢true, true≢false, and_right}
 use Rattle.std.specs.Str.{chars, IsUtf8}
@@ -120,16 +120,6 @@ some_end_first bs f h none =
     let rest = places_behind (0 + m) f.rest.now in
     let e : length (places_behind 0 bs) ≡ length ((0 + m) ∷ rest) = ap length (places-first 0 bs f h) in
     omega (arith, length-places_behind 0 bs)
-
--- one place more
-pub place_pushed : (places whole : List ℕ) (after : ℕ) (rest : List ℕ) (f : FirstLine) → IsFirstLine rest f → places ++ places_behind after rest ≡ whole →
-    (places ++ (after + (length f.text.now + length f.end.now)) ∷ []) ++ places_behind (after + (length f.text.now + length f.end.now)) f.rest.now ≡ whole
-place_pushed places whole after rest f h is =
-    let k = after + (length f.text.now + length f.end.now) in
-    append_assoc places (k ∷ []) (places_behind k f.rest.now) ∙ ap (λ (xs : List ℕ). places ++ xs) (sym (places-first after rest f h)) ∙ is
-
-pub length-first : (bs : List ℕ) (f : FirstLine) → IsFirstLine bs f → (length f.text.now + length f.end.now) + length f.rest.now ≡ length bs
-length-first bs f h = omega (arith, ap length h.parts, length-append (f.text.now ++ f.end.now) f.rest.now, length-append f.text.now f.end.now)
 
 -- whether a text has a line end, by its first line
 pub whole_or_not : (bs : List ℕ) (r : Option FirstLine) (v : Bool) → IsUtf8 bs → MatchOption r (has_no_line_end (chars bs) ≡ true) (IsFirstLine bs) → is_some r ≡ not v → (IsTrue v → ends_in bs ≡ 0) × (ends_in bs ≡ 0 → IsTrue v)

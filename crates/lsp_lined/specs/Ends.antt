@@ -1,5 +1,6 @@
 -- Line ends in the bytes of a text.
-use Rattle.std.specs.Prelude.{◌≡◌, ◌<◌, ◌≤◌, ◌+◌, ◌-◌, ◌&&◌, ◌||◌, ℕ, nat_lt, Bool, true, false, not, cond, List, [], ◌∷◌, ◌++◌, length, take, drop, slice_index}
+use Rattle.std.specs.Prelude.{◌≡◌, ◌↔◌, ◌<◌, ◌≤◌, ◌+◌, ◌-◌, ◌&&◌, ◌||◌, ℕ, nat_lt, Bool, true, false, not, cond, List, [], ◌∷◌, ◌++◌, length, take, drop, slice_index}
+use Rattle.std.specs.Int.{bit_at}
 use Rattle.std.specs.Str.{chars, IsUtf8, IsCharBoundary}
 use Rattle.lsp_text.specs.Lines.{is_feed, is_return, starts_with_feed}
 use Rattle.lsp_text.specs.LineEnd.{IsEndLen}
@@ -18,6 +19,19 @@ ends_in (b ∷ bs) = cond (is_end b bs) 1 0 + ends_in bs
 abbrev pub places_behind : ℕ → List ℕ → List ℕ
 places_behind n [] = []
 places_behind n (b ∷ bs) = cond (is_end b bs) ((n + 1) ∷ places_behind (n + 1) bs) (places_behind (n + 1) bs)
+
+-- where `old` are the places after the line ends of the first `from` bytes, `new` are those of the first `to`
+abbrev pub ArePlacesTo : List ℕ → ℕ → List ℕ → ℕ → List ℕ → Type 0
+ArePlacesTo bs from old to new =
+    new ++ places_behind to (drop to bs) ≡ old ++ places_behind from (drop from bs)
+
+-- a LF or a CR
+abbrev pub is_mark : ℕ → Bool
+is_mark b = is_feed b || is_return b
+
+-- bit k is set exactly where byte k is a LF or a CR
+abbrev pub IsMarked : List ℕ → ℕ → Type 0
+IsMarked bs marks = (k : ℕ) → (bit_at marks k ≡ 1) ↔ (is_mark (slice_index bs k) ≡ true)
 
 -- a place, where after `from` some bytes went and others came
 abbrev pub moved_place : ℕ → ℕ → ℕ → ℕ → ℕ

@@ -27,6 +27,7 @@ mod chunk;
 mod edit;
 mod ends;
 mod lined;
+mod marks;
 mod part;
 mod sums;
 

@@ -1,15 +1,16 @@
-use Rattle.std.proofs.Common.{◌≡◌, ◌+◌, ◌++◌, length}
-use Rattle.std.specs.Str.{IsUtf8}
-use Rattle.lsp_lined.specs.Ends.{places_behind}
+use Rattle.std.proofs.Common.{◌-◌, ◌≤◌, [], length}
+use Rattle.lsp_lined.specs.Ends.{ArePlacesTo}
 use Rattle.lsp_lined.proofs.ends.places_of.Given as goal
 
-abbrev pub invariant-loop-line : goal.invariant-loop-line
-invariant-loop-line l =
+abbrev pub invariant-loop-at : goal.invariant-loop-at
+invariant-loop-at l =
     record {
-      utf8 : IsUtf8 l.rest;
-      len : l.after + length l.rest ≡ length l.text;
-      are : l.places.items ++ places_behind l.after l.rest ≡ places_behind 0 l.text;
+      within : l.at ≤ length l.bytes;
+      are : ArePlacesTo l.bytes 0 [] l.at l.places.items;
     }
 
-abbrev pub decreases-loop-line : goal.decreases-loop-line
-decreases-loop-line l = length l.rest
+abbrev pub decreases-loop-at : goal.decreases-loop-at
+decreases-loop-at l = length l.bytes - l.at
+
+abbrev pub invariant-loop-i : goal.invariant-loop-i
+invariant-loop-i l = ArePlacesTo l.bytes 0 [] l.i l.places.items
