@@ -1,5 +1,5 @@
 -- The lines that show events, and their words.
-use Rattle.std.specs.Prelude.{◌≡◌, ℕ, List, [], ◌∷◌, ◌++◌, string_bytes, chars, unwrap_or}
+use Rattle.std.specs.Prelude.{◌≡◌, ℕ, List, [], ◌∷◌, ◌++◌, chars, unwrap_or}
 use Rattle.std.specs.List.{flat_map}
 use Rattle.lsp_rpc.specs.Outline.{outline}
 use Rattle.lsp_rpc.specs.View.{act_view, message_view}
@@ -16,7 +16,8 @@ IsHeard (message sent) (heard.Message side spoken) = (sent.side ≡ side) × (ou
 IsHeard (message sent) (heard.Snapshot version uri text) = ⊥
 IsHeard (fault side rule) given = ⊥
 IsHeard (snapshot uri number text) (heard.Message side spoken) = ⊥
-IsHeard (snapshot uri number text) (heard.Snapshot version name shown) = (uri ≡ string_bytes name) × (number ≡ version) × (text ≡ chars (string_bytes shown))
+IsHeard (snapshot uri number text) (heard.Snapshot version name shown) =
+    (uri ≡ name.now) × (number ≡ version) × (text ≡ chars shown.now)
 
 -- the line of the event at this place, empty for a fault
 abbrev pub line_of : Lines → Place → Event → List ℕ

@@ -1,9 +1,9 @@
 //! Events that were heard, and where they stand.
 use lsp_rpc::{Side, Spoken};
 
-/// An event that was heard and doesn't offend.
+/// An event that was heard and doesn't offend. The texts of a snapshot are lent.
 #[derive(Drop)]
-pub enum Heard {
+pub enum Heard<'a> {
     /// A message, without its params and the value of a result, with what it means.
     Message {
         side: Side,
@@ -12,8 +12,8 @@ pub enum Heard {
     /// A text that the editor showed.
     Snapshot {
         version: i32,
-        uri: String,
-        text: String,
+        uri: &'a str,
+        text: &'a str,
     },
 }
 

@@ -179,7 +179,7 @@ fn fill_event_line(
     text: &mut String,
     lines: Lines,
     place: Place,
-    heard: &Heard,
+    heard: &Heard<'_>,
 ) -> Result<(), Memory>
     ensures { OnOk result ((event : Event) → IsHeard event heard.now
         → string_bytes text.new ≡ line_of lines place event) }
@@ -194,15 +194,7 @@ fn fill_event_line(
             text: shown,
         } => {
             let version = *version;
-            fill_snapshot_line(
-                alloc,
-                text,
-                lines,
-                place,
-                version,
-                uri.as_str(),
-                shown.as_str(),
-            )
+            fill_snapshot_line(alloc, text, lines, place, version, *uri, *shown)
         }
     }
 }
@@ -214,9 +206,10 @@ fn write_line<W: Sink>(
     text: &mut String,
     lines: Lines,
     place: Place,
-    heard: &Heard,
+    heard: &Heard<'_>,
 ) -> Result<(), RunFault>
-    ensures { (event : Event) → IsHeard event heard.now → Tells (W.told writer.old) (W.told writer.new) (line_of lines place event) result }
+    ensures { (event : Event) → IsHeard event heard.now
+        → Tells (W.told writer.old) (W.told writer.new) (line_of lines place event) result }
 {
     fill_event_line(alloc, text, lines, place, heard)?;
     Ok(put_all(writer, text.as_bytes())?)
@@ -233,9 +226,10 @@ pub fn write_event_line<W: Sink>(
     text: &mut String,
     lines: Lines,
     place: Place,
-    heard: Heard,
+    heard: Heard<'_>,
 ) -> Result<(), RunFault>
-    ensures { (event : Event) → IsHeard event heard → Tells (W.told writer.old) (W.told writer.new) (line_of lines place event) result }
+    ensures { (event : Event) → IsHeard event heard.entry
+        → Tells (W.told writer.old) (W.told writer.new) (line_of lines place event) result }
 {
     write_line(alloc, writer, text, lines, place, &heard)
 }

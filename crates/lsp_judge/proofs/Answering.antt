@@ -1,5 +1,6 @@
 -- What is answered on a log and on records means what the verdict on it means.
-use Rattle.std.proofs.Common.{◌≡◌, ◌⊎◌, ℕ, List, Option, Some, None, Result, Ok, inl, inr, refl, sym, ap, subst, ◌∙◌}
+use Rattle.std.proofs.Common.{◌≡◌, ◌⊎◌, ℕ, List, Option, Some, None, Result, Ok, inl, inr, refl}
+use Rattle.std.proofs.Common.{sym, ap, subst, ◌∙◌}
 use Rattle.std.specs.Prelude.{IfOk, option_map}
 use Rattle.std.proofs.lemmas.Option.{same_Some}
 use Rattle.lsp_frame.specs.Bounds.{Bounds, IsInRange}
@@ -17,7 +18,8 @@ use Rattle.lsp_verdict.specs.declared.verdict.Verdict as code
 use Rattle.lsp_verdict.specs.declared.verdict.Verdict.TheVariants as verdicts
 use Rattle.lsp_verdict.specs.declared.verdict.Who.{Who}
 use Rattle.lsp_verdict.specs.declared.completeness.Completeness.{Completeness}
-use Rattle.lsp_judge.specs.Answered.{NamesFirst, NamesRest, NamesShort, NoneOffends, AreClean, IsClean, SaysYes}
+use Rattle.lsp_judge.specs.Answered.{NamesFirst, NamesRest, NamesShort, NoneOffends, AreClean}
+use Rattle.lsp_judge.specs.Answered.{IsClean, SaysYes}
 use Rattle.lsp_verdict.specs.BroughtToEnd.{AreComplete, IsBroughtToEnd}
 use Rattle.lsp_verdict.specs.Complete.{IsCompleteFinal, IsCompleteVerdict, IsVerdictBy}
 use Rattle.lsp_verdict.specs.Event.{Event}
@@ -29,44 +31,69 @@ use Rattle.lsp_verdict.specs.RunIo.{OfRead, AppendsFront}
 use Rattle.lsp_judge.specs.Rulings.{verdict_in}
 use Rattle.lsp_judge.specs.Standing.{HasOffence, State, Stands}
 use Rattle.lsp_verdict.specs.Verdict.{Verdict, Summary, yes, no, bad_log, summary, first_no}
-use Rattle.lsp_judge.proofs.Finals.{open_clean}
-use Rattle.lsp_verdict.proofs.Completing.{some_complete_final, are_complete, complete_no, complete_yes, one_complete_verdict}
+use Rattle.lsp_verdict.proofs.Completing.{some_complete_final, are_complete, complete_no}
+use Rattle.lsp_verdict.proofs.Completing.{complete_yes, one_complete_verdict}
 use Rattle.lsp_verdict.proofs.Logs.{some_final, one_verdict}
 use Rattle.lsp_verdict.proofs.Meanings.{are_kept, final_no, final_yes, is_yes_given, kept_means_yes}
-use Rattle.lsp_judge.proofs.Records.{is_open, offence_in}
-use Rattle.lsp_verdict.proofs.Sessions.{same_session, some_session}
+use Rattle.lsp_judge.proofs.Records.{is_open, offence_in, clean_session}
+use Rattle.lsp_verdict.proofs.Sessions.{some_session}
 use Rattle.lsp_verdict.proofs.Verdicts.{names_first, nothing_offends}
 
 -- ---- the log read
 
-pub front_of : (old new : Told) (written due : List ℕ) → Stopped old new written → written ≡ due → AppendsFront old new due
-front_of old new written due stopped is = (stopped.front, stopped.back, sym is ∙ stopped.whole, stopped.took)
+pub front_of : (old new : Told) (written due : List ℕ) → Stopped old new written → written ≡ due
+    → AppendsFront old new due
+front_of old new written due stopped is =
+    (stopped.front, stopped.back, sym is ∙ stopped.whole, stopped.took)
 
 -- the verdict of an outcome
-pub judged_as : (given v : code.Verdict) (P : code.Verdict → Type 0) → (let outcome : Result Outcome RunFault = Ok (Judged given) in outcome) ≡ Ok (Judged v) → P given → P v
+pub judged_as : (given v : code.Verdict) (P : code.Verdict → Type 0)
+    → (let outcome : Result Outcome RunFault = Ok (Judged given) in outcome) ≡ Ok (Judged v)
+    → P given → P v
 judged_as given v P e p =
     let same : given ≡ v = cc e in
     subst P same p
 
-pub read_verdict : (completeness : Completeness) (limits : Bounds) (before after : Told) (given v : code.Verdict) → OfRead limits before after (λ log. IsVerdictBy completeness limits log (verdict_view given))
-    → (let outcome : Result Outcome RunFault = Ok (Judged given) in outcome) ≡ Ok (Judged v) → OfRead limits before after (λ log. IsVerdictBy completeness limits log (verdict_view v))
-read_verdict completeness limits before after given v says e = judged_as given v (λ w. OfRead limits before after (λ log. IsVerdictBy completeness limits log (verdict_view w))) e says
+pub read_verdict : (completeness : Completeness) (limits : Bounds) (before after : Told)
+    (given v : code.Verdict)
+    → OfRead limits before after (λ log. IsVerdictBy completeness limits log (verdict_view given))
+    → (let outcome : Result Outcome RunFault = Ok (Judged given) in outcome) ≡ Ok (Judged v)
+    → OfRead limits before after (λ log. IsVerdictBy completeness limits log (verdict_view v))
+read_verdict completeness limits before after given v says e =
+    judged_as given v (λ w. OfRead limits before after
+    (λ log. IsVerdictBy completeness limits log (verdict_view w))) e says
 
 -- ---- Yes
 
-pub clean_yes : (limits : Bounds) → IsInRange limits → (given : Verdict) (log : List ℕ) → IsVerdict limits log given → (format : Option Format) (events : List Event) → IsClean limits log format events → given ≡ yes (summary (log_terms limits format) events)
+pub clean_yes : (limits : Bounds) → IsInRange limits → (given : Verdict) (log : List ℕ)
+    → IsVerdict limits log given → (format : Option Format) (events : List Event)
+    → IsClean limits log format events → given ≡ yes (summary (log_terms limits format) events)
 clean_yes limits sizes given log says format events (records, is_log, c) =
-    one_verdict limits sizes log given (yes (summary (log_terms limits format) events)) says (kept_means_yes limits log format records events is_log c.session c.clean c.editor c.server)
+    one_verdict limits sizes log given (yes (summary (log_terms limits format) events)) says
+    (kept_means_yes limits log format records events is_log c.session c.clean c.editor c.server)
 
-pub clean_complete : (limits : Bounds) → IsInRange limits → (given : Verdict) (log : List ℕ) → IsCompleteVerdict limits log given → (format : Option Format) (events : List Event) → IsClean limits log format events → IsBroughtToEnd events → given ≡ yes (summary (log_terms limits format) events)
+pub clean_complete : (limits : Bounds) → IsInRange limits → (given : Verdict) (log : List ℕ)
+    → IsCompleteVerdict limits log given → (format : Option Format) (events : List Event)
+    → IsClean limits log format events → IsBroughtToEnd events
+    → given ≡ yes (summary (log_terms limits format) events)
 clean_complete limits sizes given log says format events (records, is_log, c) ended =
-    let final = complete_yes limits (format_or_one format) records events c.session c.clean c.editor c.server ended in
-    let whole : IsVerdict limits log final.plain = record { format = format; records = records; fault = None; is_log = is_log; final = final.final } in
-    one_complete_verdict limits sizes log given (yes (summary (log_terms limits format) events)) says (record { plain = final.plain; whole = whole; says = final.says })
+    let final = complete_yes limits (format_or_one format) records events c.session c.clean c.editor
+    c.server ended in
+    let whole : IsVerdict limits log final.plain =
+    record {
+      format = format;
+      records = records;
+      fault = None;
+      is_log = is_log;
+      final = final.final;
+    } in
+    one_complete_verdict limits sizes log given (yes (summary (log_terms limits format) events))
+    says (record { plain = final.plain; whole = whole; says = final.says })
 
 -- ---- records
 
-no_given : (v : Verdict) (rule : ℕ) (who : Who) (number event : ℕ) → no rule who number event ≡ as_given v → (n : ℕ) × (k : ℕ) × (v ≡ no rule who n k)
+no_given : (v : Verdict) (rule : ℕ) (who : Who) (number event : ℕ)
+    → no rule who number event ≡ as_given v → (n : ℕ) × (k : ℕ) × (v ≡ no rule who n k)
 no_given (yes t) rule who number event e = absurd cc
 no_given (no r w n k) rule who number event e =
     let rules : rule ≡ r = cc e in
@@ -79,101 +106,182 @@ ok_at r x P e p = subst (λ s. IfOk s P) e p
 
 -- what is answered on records is the verdict on them
 abbrev pub Finals : Bounds → Format → List Record → Verdict → Type 0
-Finals limits format records given = (v : Verdict) → IsFinal limits format records None v → given ≡ as_given v
+Finals limits format records given =
+    (v : Verdict) → IsFinal limits format records None v → given ≡ as_given v
 
-pub records_kept : (limits : Bounds) → IsInRange limits → (format : Format) (records : List Record) (s : Summary) → Finals limits format records (yes s) → AreKept limits format records
+pub records_kept : (limits : Bounds) → IsInRange limits
+    → (format : Format) (records : List Record) (s : Summary) → Finals limits format records (yes s)
+    → AreKept limits format records
 records_kept limits sizes format records s says =
     let final = some_final limits format records None in
     let t = is_yes_given final.0 s (says final.0 final.1) in
-    (are_kept limits sizes format records None t.0 (subst (IsFinal limits format records None) t.1 final.1)).0
+    (are_kept limits sizes format records None t.0
+    (subst (IsFinal limits format records None) t.1 final.1)).0
 
-pub records_refused : (limits : Bounds) (format : Format) (records : List Record) (rule : ℕ) (who : Who) (number event : ℕ) → Finals limits format records (no rule who number event)
-    → NamesFirst limits format records (no rule who number event) ⊎ NamesRest limits format records (no rule who number event)
+pub records_refused : (limits : Bounds) (format : Format) (records : List Record) (rule : ℕ)
+    (who : Who) (number event : ℕ) → Finals limits format records (no rule who number event)
+    → NamesFirst limits format records (no rule who number event)
+    ⊎ NamesRest limits format records (no rule who number event)
 records_refused limits format records rule who number event says =
     let final = some_final limits format records None in
     let is = says final.0 final.1 in
     let w = no_given final.0 rule who number event is in
-    let last : IsFinal limits format records None (no rule who w.0 w.1) = subst (IsFinal limits format records None) w.2 final.1 in
+    let last : IsFinal limits format records None (no rule who w.0 w.1) =
+    subst (IsFinal limits format records None) w.2 final.1 in
     let given : no rule who number event ≡ as_given (no rule who w.0 w.1) = is ∙ ap as_given w.2 in
     elim (final_no limits format records None rule who w.0 w.1 last) [
-      | inl names ↦ inl (record { events = last.events; session = last.session; verdict = no rule who w.0 w.1; names = names; is = given })
-      | inr rest ↦ inr (record { events = last.events; session = last.session; verdict = no rule who w.0 w.1; names = rest; is = given })
+      | inl names ↦ inl (record {
+        events = last.events;
+        session = last.session;
+        verdict = no rule who w.0 w.1;
+        names = names;
+        is = given;
+      })
+      | inr rest ↦ inr (record {
+        events = last.events;
+        session = last.session;
+        verdict = no rule who w.0 w.1;
+        names = rest;
+        is = given;
+      })
     ]
 
-pub records_clean : (limits : Bounds) (format : Format) (records : List Record) (events : List Event) (given : Verdict) → AreClean limits format records events → Finals limits format records given → SaysYes limits format events given
-records_clean limits format records events given c says = says (yes (summary (terms_of limits format) events)) (final_yes limits format records events c.session c.clean c.editor c.server)
+pub records_clean : (limits : Bounds) (format : Format) (records : List Record)
+    (events : List Event) (given : Verdict) → AreClean limits format records events
+    → Finals limits format records given → SaysYes limits format events given
+records_clean limits format records events given c says =
+    says (yes (summary (terms_of limits format) events))
+    (final_yes limits format records events c.session c.clean c.editor c.server)
 
-pub names_of : (limits : Bounds) (format : Format) (records : List Record) (given : Verdict) → HasOffence limits format records given → NamesFirst limits format records given
+pub names_of : (limits : Bounds) (format : Format) (records : List Record) (given : Verdict)
+    → HasOffence limits format records given → NamesFirst limits format records given
 names_of limits format records given (v, offends, is) =
-    record { events = offends.events; session = offends.session; verdict = v; names = names_first (terms_of limits format) offends.events v offends.offends; is = is }
+    record {
+      events = offends.events;
+      session = offends.session;
+      verdict = v;
+      names = names_first (terms_of limits format) offends.events v offends.offends;
+      is = is;
+    }
 
 -- where the session has to be complete
 abbrev pub CompleteFinals : Bounds → Format → List Record → Verdict → Type 0
-CompleteFinals limits format records given = (v : Verdict) → IsCompleteFinal limits format records None v → given ≡ as_given v
+CompleteFinals limits format records given =
+    (v : Verdict) → IsCompleteFinal limits format records None v → given ≡ as_given v
 
-pub records_complete : (limits : Bounds) → IsInRange limits → (format : Format) (records : List Record) (s : Summary) → CompleteFinals limits format records (yes s) → AreComplete limits format records
+pub records_complete : (limits : Bounds) → IsInRange limits
+    → (format : Format) (records : List Record) (s : Summary)
+    → CompleteFinals limits format records (yes s) → AreComplete limits format records
 records_complete limits sizes format records s says =
     let final = some_complete_final limits format records None in
     let t = is_yes_given final.0 s (says final.0 final.1) in
-    are_complete limits sizes format records None t.0 (subst (IsCompleteFinal limits format records None) t.1 final.1)
+    are_complete limits sizes format records None t.0
+    (subst (IsCompleteFinal limits format records None) t.1 final.1)
 
-pub records_short : (limits : Bounds) → IsInRange limits → (format : Format) (records : List Record) (rule : ℕ) (who : Who) (number event : ℕ) → CompleteFinals limits format records (no rule who number event)
-    → (NamesFirst limits format records (no rule who number event) ⊎ NamesRest limits format records (no rule who number event)) ⊎ NamesShort limits format records (no rule who number event)
+pub records_short : (limits : Bounds) → IsInRange limits
+    → (format : Format) (records : List Record) (rule : ℕ) (who : Who) (number event : ℕ)
+    → CompleteFinals limits format records (no rule who number event)
+    → (NamesFirst limits format records (no rule who number event)
+    ⊎ NamesRest limits format records (no rule who number event))
+    ⊎ NamesShort limits format records (no rule who number event)
 records_short limits sizes format records rule who number event says =
     let final = some_complete_final limits format records None in
     let is = says final.0 final.1 in
     let w = no_given final.0 rule who number event is in
-    let last : IsCompleteFinal limits format records None (no rule who w.0 w.1) = subst (IsCompleteFinal limits format records None) w.2 final.1 in
+    let last : IsCompleteFinal limits format records None (no rule who w.0 w.1) =
+    subst (IsCompleteFinal limits format records None) w.2 final.1 in
     let given : no rule who number event ≡ as_given (no rule who w.0 w.1) = is ∙ ap as_given w.2 in
     elim (complete_no limits sizes format records None rule who w.0 w.1 last) [
-      | inl (inl names) ↦ inl (inl (record { events = last.final.events; session = last.final.session; verdict = no rule who w.0 w.1; names = names; is = given }))
-      | inl (inr rest) ↦ inl (inr (record { events = last.final.events; session = last.final.session; verdict = no rule who w.0 w.1; names = rest; is = given }))
+      | inl (inl names) ↦ inl (inl (record {
+        events = last.final.events;
+        session = last.final.session;
+        verdict = no rule who w.0 w.1;
+        names = names;
+        is = given;
+      }))
+      | inl (inr rest) ↦ inl (inr (record {
+        events = last.final.events;
+        session = last.final.session;
+        verdict = no rule who w.0 w.1;
+        names = rest;
+        is = given;
+      }))
       | inr short ↦ inr (record { verdict = no rule who w.0 w.1; short = short; is = given })
     ]
 
-pub records_ended : (limits : Bounds) (format : Format) (records : List Record) (events : List Event) (given : Verdict) → AreClean limits format records events → IsBroughtToEnd events → CompleteFinals limits format records given → SaysYes limits format events given
-records_ended limits format records events given c ended says = says (yes (summary (terms_of limits format) events)) (complete_yes limits format records events c.session c.clean c.editor c.server ended)
+pub records_ended : (limits : Bounds) (format : Format) (records : List Record)
+    (events : List Event) (given : Verdict) → AreClean limits format records events
+    → IsBroughtToEnd events → CompleteFinals limits format records given
+    → SaysYes limits format events given
+records_ended limits format records events given c ended says =
+    says (yes (summary (terms_of limits format) events))
+    (complete_yes limits format records events c.session c.clean c.editor c.server ended)
 
 -- ---- what a judge holds
 
-pub given_names : (s : State) (records : List Record) (ruling : Ruling) (given : Verdict) → s.given ≡ Some ruling → verdict_in ruling ≡ Some given → Stands s records → NamesFirst s.limits s.format records given
-given_names s records ruling given e is stands = names_of s.limits s.format records given (offence_in s records ruling given e is stands)
+pub given_names : (s : State) (records : List Record) (ruling : Ruling) (given : Verdict)
+    → s.given ≡ Some ruling → verdict_in ruling ≡ Some given → Stands s records
+    → NamesFirst s.limits s.format records given
+given_names s records ruling given e is stands =
+    names_of s.limits s.format records given (offence_in s records ruling given e is stands)
 
-pub open_none : (s : State) (records : List Record) → s.given ≡ None → Stands s records → NoneOffends s.limits s.format records
-open_none s records none stands = λ events session.
-    let o = is_open s records none stands in
-    let same = same_session s.limits records records events o.events refl session o.is_session in
-    nothing_offends (terms_of s.limits s.format) events (ap (first_no (terms_of s.limits s.format)) same ∙ open_clean s records stands.limits o)
+pub open_none : (s : State) (records : List Record) → s.given ≡ None → Stands s records
+    → NoneOffends s.limits s.format records
+open_none s records none stands =
+    λ events session. nothing_offends (terms_of s.limits s.format) events
+    (clean_session s records events (is_open s records none stands) session)
 
 -- ---- the records taken
 
-pub as_some : (o : Option Verdict) (v : Verdict) → Some v ≡ option_map as_given o → (w : Verdict) × (o ≡ Some w) × (v ≡ as_given w)
+pub as_some : (o : Option Verdict) (v : Verdict) → Some v ≡ option_map as_given o
+    → (w : Verdict) × (o ≡ Some w) × (v ≡ as_given w)
 as_some None v e = absurd cc
 as_some (Some w) v e = (w, refl, same_Some _ _ e)
 
 -- what is answered on records is the No at their first event that offends, if any
 abbrev pub FirstNo : Bounds → Format → List Record → Option Verdict → Type 0
-FirstNo limits format records given = (events : List Event) → IsSession limits records events → given ≡ option_map as_given (first_no (terms_of limits format) events)
+FirstNo limits format records given =
+    (events : List Event) → IsSession limits records events
+    → given ≡ option_map as_given (first_no (terms_of limits format) events)
 
 none_given : (o : Option Verdict) → None ≡ option_map as_given o → o ≡ None
 none_given None e = refl
 none_given (Some v) e = absurd cc
 
-pub taken_refused : (limits : Bounds) (format : Format) (records : List Record) (given : Verdict) → FirstNo limits format records (Some given) → NamesFirst limits format records given
+pub taken_refused : (limits : Bounds) (format : Format) (records : List Record) (given : Verdict)
+    → FirstNo limits format records (Some given) → NamesFirst limits format records given
 taken_refused limits format records given says =
     let session = some_session limits records in
-    let v = as_some (first_no (terms_of limits format) session.0) given (says session.0 session.1) in
-    names_of limits format records given (v.0, record { events = session.0; session = session.1; offends = v.1 }, v.2)
+    let v = as_some (first_no (terms_of limits format) session.0) given
+    (says session.0 session.1) in
+    names_of limits format records given (
+      v.0,
+      record {
+        events = session.0;
+        session = session.1;
+        offends = v.1;
+      },
+      v.2,
+    )
 
-pub taken_clean : (limits : Bounds) (format : Format) (records : List Record) → FirstNo limits format records None → NoneOffends limits format records
-taken_clean limits format records says = λ events session. nothing_offends (terms_of limits format) events (none_given (first_no (terms_of limits format) events) (says events session))
+pub taken_clean : (limits : Bounds) (format : Format) (records : List Record)
+    → FirstNo limits format records None → NoneOffends limits format records
+taken_clean limits format records says =
+    λ events session. nothing_offends (terms_of limits format) events
+    (none_given (first_no (terms_of limits format) events) (says events session))
 
 -- the code's answers
-pub taken_no : {E : Type 0} (limits : Bounds) (format : Format) (records : List Record) (answer : code.Verdict) (rule number event : ℕ) (who : Who) → FirstNo limits format records (Some (verdict_view answer))
-    → (let r : Result (Option code.Verdict) E = Ok (Some answer) in r) ≡ Ok (Some (verdicts.No rule who number event)) → NamesFirst limits format records (no rule who number event)
+pub taken_no : {E : Type 0} (limits : Bounds) (format : Format) (records : List Record)
+    (answer : code.Verdict) (rule number event : ℕ) (who : Who)
+    → FirstNo limits format records (Some (verdict_view answer))
+    → (let r : Result (Option code.Verdict) E = Ok (Some answer) in r)
+    ≡ Ok (Some (verdicts.No rule who number event))
+    → NamesFirst limits format records (no rule who number event)
 taken_no limits format records answer rule number event who says e =
     let same : answer ≡ verdicts.No rule who number event = cc e in
-    taken_refused limits format records (no rule who number event) (subst (λ (a : code.Verdict). FirstNo limits format records (Some (verdict_view a))) same says)
+    taken_refused limits format records (no rule who number event)
+    (subst (λ (a : code.Verdict). FirstNo limits format records (Some (verdict_view a))) same
+    says)
 
 -- no ruling is Yes
 pub no_yes : (ruling : Ruling) (s : Summary) → verdict_in ruling ≡ Some (yes s) → ⊥

@@ -1,7 +1,7 @@
 pub mod Ruled
-pub mod NextContent
+pub mod Hearing
+pub mod Rests
 pub mod Records
-pub mod Pulling
 pub mod KeptEvents
 pub mod Answering
 pub mod LogEvents

@@ -1,441 +1,588 @@
 -- The events of a log, heard one by one up to its verdict.
-use Rattle.std.proofs.Common.{◌≡◌, ◌<◌, ◌≤◌, ◌+◌, ◌-◌, ℕ, List, [], ◌∷◌, ◌++◌, Option, Some, None, inl, inr, refl, sym, ap, subst, ◌∙◌, append_assoc, append-nil, length, length-append, arith}
-use Rattle.std.specs.List.{AllZip}
+use Rattle.std.proofs.Common.{◌≡◌, ◌<◌, ◌≤◌, ◌+◌, ◌-◌, ◌^◌, ℕ, List, [], ◌∷◌, ◌++◌, Option, Some}
+use Rattle.std.proofs.Common.{None, Result, Ok, Err, refl, sym, ap, subst, ◌∙◌}
+use Rattle.std.proofs.Common.{append_assoc, append-nil, length, length-append, arith}
+use Rattle.std.specs.Prelude.{IfOk, IfSome}
+use Rattle.lsp_types.specs.declared.memory.Memory.{Memory}
 use Rattle.lsp_frame.specs.Bounds.{Bounds, IsInRange}
 use Rattle.lsp_frame.specs.Told.{Told}
 use Rattle.lsp_frame.specs.declared.format.Format.{Format}
-use Rattle.lsp_frame.specs.declared.format.Format.TheVariants.{One, Two}
-use Rattle.lsp_docs.specs.Terms.{Terms, terms_of}
+use Rattle.lsp_session.specs.State as session
+use Rattle.lsp_docs.specs.State as docs
+use Rattle.lsp_docs.specs.Terms.{Terms}
 use Rattle.lsp_log.specs.Log.{Record, IsLog}
 use Rattle.lsp_log.specs.Reader as reader
-use Rattle.lsp_log.specs.Reader.{empty}
 use Rattle.lsp_log.specs.declared.fault.LogCode.{LogCode}
+use Rattle.lsp_events.specs.Lines.{IsHeard}
+use Rattle.lsp_events.specs.Standing.{Follows}
+use Rattle.lsp_events.specs.declared.heard.Heard.{Heard}
+use Rattle.lsp_streams.specs.LogEvents as streams
+use Rattle.lsp_streams.specs.LogEvents.{HasGiven, IsLogOf, NextIs, Reads}
+use Rattle.lsp_streams.specs.LogEvents.{Ended, flaw_of}
+use Rattle.lsp_streams.specs.Streams.{raw_view, ends_inside}
+use Rattle.lsp_streams.specs.declared.log_events.End.{End}
+use Rattle.lsp_streams.specs.declared.log_events.End.TheVariants.{Bad}
+use Rattle.lsp_streams.specs.declared.log_events.LogEvents.{LogEvents}
+use Rattle.lsp_streams.specs.declared.log_events.Next.TheVariants as next
+use Rattle.lsp_streams.specs.declared.raw.Raw as lent
+use Rattle.lsp_streams.proofs.Pulling.{reads_failures, reads_given}
 use Rattle.lsp_verdict.specs.Complete.{IsCompleteVerdict, IsFinalBy, IsVerdictBy, completed}
 use Rattle.lsp_verdict.specs.Event.{Event}
 use Rattle.lsp_verdict.specs.Given.{verdict_view, as_given}
-use Rattle.lsp_verdict.specs.Laws.{merged}
-use Rattle.lsp_verdict.specs.Outcome.{IsFinal, IsVerdict, Offends, format_or_one, log_terms}
-use Rattle.lsp_verdict.specs.Placed.{Raw, Placed, IsSession, Reads}
-use Rattle.lsp_verdict.specs.RunIo.{OfRead}
+use Rattle.lsp_verdict.specs.Outcome.{IsFinal, IsVerdict, format_or_one, log_terms}
+use Rattle.lsp_verdict.specs.Placed.{Raw, Placed, IsSession, Reads as ReadsRaw}
+use Rattle.lsp_verdict.specs.RunIo.{OfRead, BreaksOff}
 use Rattle.lsp_verdict.specs.Shown.{kept, kept_within}
-use Rattle.lsp_verdict.specs.Verdict.{Verdict, Summary, yes, no, first_no}
+use Rattle.lsp_verdict.specs.Verdict.{Verdict, Summary, yes, no, bad_log, first_no}
 use Rattle.lsp_verdict.specs.declared.completeness.Completeness.{Completeness}
 use Rattle.lsp_verdict.specs.declared.completeness.Completeness.TheVariants.{Ignored, Required}
+use Rattle.lsp_verdict.specs.declared.counts.Counts.{Counts}
 use Rattle.lsp_verdict.specs.declared.outcome.RunFault.{RunFault}
 use Rattle.lsp_verdict.specs.declared.outcome.RunFault.TheVariants as faults
 use Rattle.lsp_verdict.specs.declared.verdict.Verdict as code
 use Rattle.lsp_verdict.specs.declared.verdict.Who.{Who}
 use Rattle.lsp_verdict.proofs.Completing.{completed_other, complete_exact}
 use Rattle.lsp_verdict.proofs.ExactCounts.{events_within, exact}
-use Rattle.lsp_verdict.proofs.Logs.{some_final, known_terms}
+use Rattle.lsp_verdict.proofs.Logs.{some_final, some_verdict}
 use Rattle.lsp_verdict.proofs.OneEvent.{some_list, lists_join}
-use Rattle.lsp_verdict.proofs.Outcomes.{session_front, offends_final}
+use Rattle.lsp_verdict.proofs.Outcomes.{offends_final}
+use Rattle.lsp_verdict.proofs.PlacedLemmas.{placed_whole}
 use Rattle.lsp_verdict.proofs.RunReading.{read_map}
 use Rattle.lsp_verdict.proofs.Sessions.{same_session}
-use Rattle.lsp_verdict.proofs.Verdicts.{no_found}
-use Rattle.lsp_verdict.specs.Entries as entries
-use Rattle.lsp_verdict.specs.Entries.{IsAt, HasRecords, HasFirst, IsKnown}
-use Rattle.lsp_judge.specs.Hearing.{IsHearing, OffendsAfter, Stops}
-use Rattle.lsp_judge.specs.LogEvents.{EndsAt, EndsBy, BeginsWith, SoFar, Found, BrokeOff, IsIdle, Ready}
-use Rattle.lsp_judge.specs.Rulings.{verdict_in}
-use Rattle.lsp_judge.specs.Standing as judge
-use Rattle.lsp_judge.specs.Standing.{Keeps, IsFitted, IsRefitted, IsOpen, Stands, StandsBy, is_given}
+use Rattle.lsp_judge.specs.Ending.{end_by}
+use Rattle.lsp_judge.specs.Heard.{HasHeard, HearsOne}
+use Rattle.lsp_judge.specs.LogEvents.{EndsAt, EndsBy, BeginsWith, SoFar, HasEnded, Finishes, Found}
+use Rattle.lsp_judge.specs.LogEvents.{BrokeOff}
+use Rattle.lsp_judge.specs.Rulings.{verdict_in, IsNoAtSome}
 use Rattle.lsp_judge.specs.declared.event_reader.EventReader.{EventReader}
 use Rattle.lsp_judge.specs.declared.ruling.Ruling.{Ruling}
 use Rattle.lsp_judge.specs.declared.ruling.Ruling.TheVariants as rulings
-use Rattle.lsp_verdict.proofs.Entries.{is_first, at_start}
-use Rattle.lsp_verdict.proofs.Lists.{first_nil}
-use Rattle.lsp_judge.proofs.Answering.{no_yes}
+use Rattle.lsp_judge.proofs.Finals.{bad_final, end_final, named_end}
+use Rattle.lsp_judge.proofs.Hearing.{OffendsAfter, offends_in, stops}
 use Rattle.lsp_judge.proofs.KeptEvents.{kept_clean, kept_no, kept_more, kept_final}
-use Rattle.lsp_judge.proofs.Pulling.{open_hearing, hearing_open, hearing_session}
 
--- the events before the place of the log's verdict begin with these, and its format is the one known
-pub record BeginsBy (limits : Bounds) (known : Option Format) (heard : List Event) (log : List ℕ) : Type 0 where
+-- the events before the place of the verdict on a log of this format begin with these
+pub record BeginsBy (limits : Bounds) (format : Option Format) (heard : List Event)
+    (log : List ℕ) : Type 0 where
   pub v : Verdict
   pub later : List Event
   pub whole : IsVerdict limits log v
   pub is : kept v whole.final.events ≡ heard ++ later
-  pub is_known : IsKnown known whole.format
+  pub of : whole.format ≡ format
 
-by_any : (limits : Bounds) (known : Option Format) (heard : List Event) (log : List ℕ) → BeginsBy limits known heard log → BeginsWith limits heard log
-by_any limits known heard log b = (b.v, b.later, (b.whole, b.is))
+by_any : (limits : Bounds) (format : Option Format) (heard : List Event) (log : List ℕ)
+    → BeginsBy limits format heard log → BeginsWith limits heard log
+by_any limits format heard log b = (b.v, b.later, (b.whole, b.is))
 
--- ---- before the format is known nothing was heard
+-- ---- a log of these records
 
-none_read : (past : List Raw) (heard : List Event) → past ≡ [] → AllZip Reads past heard → heard ≡ []
-none_read [] [] e read = refl
-none_read [] (event ∷ heard) e read = absurd read
-none_read (raw ∷ past) heard e read = absurd cc
-
-pub hearing_none : (s : judge.State) (rs : List Record) (heard : List Event) → rs ≡ [] → IsHearing s rs heard → heard ≡ []
-hearing_none s rs heard none h = none_read h.past heard (first_nil h.past h.due (subst (λ (w : List Record). Placed s.limits w (h.past ++ h.due)) none h.placed)) h.read
-
-clean_known : (limits : Bounds) (own : Format) (known format : Option Format) (heard : List Event) → own ≡ format_or_one known → IsKnown known format → (known ≡ None → heard ≡ []) → first_no (terms_of limits own) heard ≡ None → first_no (log_terms limits format) heard ≡ None
-clean_known limits own known format heard is is_known early clean = elim (known_terms limits own known format is is_known) [
-  | inl none ↦ ap (first_no (log_terms limits format)) (early none)
-  | inr same ↦ ap (λ (t : Terms). first_no t heard) same ∙ clean
-]
-
-pub known_self : (format : Option Format) → IsKnown format format
-known_self None = tt
-known_self (Some f) = refl
-
-pub not_behind : (before later : List Event) (event : Event) → before ++ event ∷ later ≡ [] → ⊥
-not_behind [] later event e = absurd cc
-not_behind (x ∷ before) later event e = absurd cc
-
-offends_known : (limits : Bounds) (own : Format) (known format : Option Format) (rs : List Record) (heard : List Event) (v : Verdict) → own ≡ format_or_one known → IsKnown known format → (known ≡ None → rs ≡ []) → OffendsAfter limits own rs heard v → OffendsAfter limits (format_or_one format) rs heard v
-offends_known limits own None format rs heard v is is_known early o =
-    let none = same_session limits rs [] (heard ++ o.event ∷ o.later) [] (ap merged (early refl)) o.session ([], refl, tt) in
-    absurd (not_behind heard o.later o.event none)
-offends_known limits own (Some f) format rs heard v is is_known early o = subst (λ (g : Format). OffendsAfter limits g rs heard v) (is ∙ ap format_or_one (sym is_known)) o
-
--- ---- a log whose records begin with these
-
-module _ (limits : Bounds) (sizes : IsInRange limits) (log : List ℕ) (format : Option Format) (records more : List Record) (flaw : Option (ℕ × LogCode)) (is_log : IsLog limits log format (records ++ more) flaw) where
-  -- it has a verdict, and its events begin with those of the records
+module _ (limits : Bounds) (sizes : IsInRange limits) (log : List ℕ) (format : Option Format)
+    (records : List Record) (flaw : Option (ℕ × LogCode))
+    (is_log : IsLog limits log format records flaw) where
+  -- it has a verdict, and these events
   abbrev whole_of : (v : Verdict) × IsVerdict limits log v
-  whole_of = let final = some_final limits (format_or_one format) (records ++ more) flaw in (final.0, record { format = format; records = records ++ more; fault = flaw; is_log = is_log; final = final.1 })
+  whole_of = let final = some_final limits (format_or_one format) records flaw in (
+    final.0,
+    record {
+      format = format;
+      records = records;
+      fault = flaw;
+      is_log = is_log;
+      final = final.1;
+    },
+  )
 
-  events_front : (events : List Event) → IsSession limits records events → (later : List Event) × (whole_of.1.final.events ≡ events ++ later)
-  events_front events session = session_front limits records more events whole_of.1.final.events session whole_of.1.final.session
+  events_are : (events : List Event) → IsSession limits records events
+      → whole_of.1.final.events ≡ events
+  events_are events session =
+      same_session limits records records whole_of.1.final.events events refl
+      whole_of.1.final.session session
 
   -- what was heard stands before the verdict's place
-  pub begins_by : (known : Option Format) → IsKnown known format → (heard extra : List Event) → first_no (log_terms limits format) heard ≡ None → IsSession limits records (heard ++ extra) → BeginsBy limits known heard log
-  begins_by known is_known heard extra clean session =
-      let front = events_front (heard ++ extra) session in
-      let tail = kept_more (log_terms limits format) heard (extra ++ front.0) clean in
+  pub begins_by : (heard extra : List Event) → first_no (log_terms limits format) heard ≡ None
+      → IsSession limits records (heard ++ extra) → BeginsBy limits format heard log
+  begins_by heard extra clean session =
+      let tail = kept_more (log_terms limits format) heard extra clean in
       record {
         v = whole_of.0;
         later = tail.0;
         whole = whole_of.1;
-        is = kept_final (log_terms limits format) whole_of.1.final.events _ whole_of.0 whole_of.1.final.says ∙ ap (kept_within (log_terms limits format)) (front.1 ∙ append_assoc heard extra front.0) ∙ tail.1;
-        is_known = is_known;
+        is = kept_final (log_terms limits format) whole_of.1.final.events _ whole_of.0
+            whole_of.1.final.says ∙ ap (kept_within (log_terms limits format))
+            (events_are (heard ++ extra) session) ∙ tail.1;
+        of = refl;
       }
 
-  pub heard_few : (heard extra : List Event) → IsSession limits records (heard ++ extra) → length heard ≤ limits.log
+  pub heard_few : (heard extra : List Event) → IsSession limits records (heard ++ extra)
+      → length heard ≤ limits.log
   heard_few heard extra session =
-      let front = events_front (heard ++ extra) session in
-      omega (arith, events_within limits log format (records ++ more) flaw whole_of.1.final.events is_log whole_of.1.final.session, ap length front.1, length-append (heard ++ extra) front.0, length-append heard extra)
-
-  -- the next event offends
-  pub ends_no : (heard : List Event) (given : Verdict) → OffendsAfter limits (format_or_one format) records heard given → EndsAt limits log heard given
-  ends_no heard given o =
-      let events = heard ++ o.event ∷ o.later in
-      let offends : Offends limits (format_or_one format) records o.verdict = record { events = events; session = o.session; offends = no_found (log_terms limits format) [] heard o.later o.event o.verdict o.clean o.offends } in
-      let same : o.verdict ≡ whole_of.0 = offends_final limits (format_or_one format) records more flaw o.verdict whole_of.0 offends whole_of.1.final in
-      let named : given ≡ whole_of.0 = o.is ∙ ap as_given same ∙ exact limits sizes log whole_of.0 whole_of.1 in
-      let front = events_front events o.session in
-      subst (EndsAt limits log heard) (sym named) (
-        whole_of.1,
-        kept_final (log_terms limits format) whole_of.1.final.events _ whole_of.0 whole_of.1.final.says
-            ∙ ap (kept_within (log_terms limits format)) (front.1 ∙ append_assoc heard (o.event ∷ o.later) front.0)
-            ∙ kept_no (log_terms limits format) heard o.event (o.later ++ front.0) o.verdict o.clean o.offends,
+      omega (
+        arith,
+        events_within limits log format records flaw whole_of.1.final.events is_log
+            whole_of.1.final.session,
+        ap length (events_are (heard ++ extra) session),
+        length-append heard extra,
       )
 
--- ---- a log of just these records
+  -- the next event offends
+  pub ends_no : (heard : List Event) (given : Verdict)
+      → OffendsAfter limits (format_or_one format) records heard given
+      → EndsAt limits log heard given
+  ends_no heard given o =
+      let events = heard ++ o.event ∷ o.later in
+      let final = subst (λ (rs : List Record).
+      IsFinal limits (format_or_one format) rs flaw whole_of.0) (sym (append-nil records))
+      whole_of.1.final in
+      let same : o.verdict ≡ whole_of.0 =
+      offends_final limits (format_or_one format) records [] flaw o.verdict whole_of.0
+      (offends_in limits (format_or_one format) records heard given o) final in
+      let named : given ≡ whole_of.0 =
+      o.is ∙ ap as_given same ∙ exact limits sizes log whole_of.0 whole_of.1 in
+      subst (EndsAt limits log heard) (sym named) (
+        whole_of.1,
+        kept_final (log_terms limits format) whole_of.1.final.events _ whole_of.0
+            whole_of.1.final.says
+            ∙ ap (kept_within (log_terms limits format)) (events_are events o.session)
+            ∙ kept_no (log_terms limits format) heard o.event o.later o.verdict o.clean o.offends,
+      )
 
-pub ends_clean : (limits : Bounds) → IsInRange limits → (log : List ℕ) (format : Option Format) (records : List Record) (flaw : Option (ℕ × LogCode)) → IsLog limits log format records flaw → (heard : List Event) (given : Verdict)
-    → first_no (log_terms limits format) heard ≡ None → IsSession limits records heard → ((v : Verdict) → IsFinal limits (format_or_one format) records flaw v → given ≡ as_given v) → EndsAt limits log heard given
+-- ---- a log of just these events
+
+pub ends_clean : (limits : Bounds) → IsInRange limits
+    → (log : List ℕ) (format : Option Format) (records : List Record) (flaw : Option (ℕ × LogCode))
+    → IsLog limits log format records flaw → (heard : List Event) (given : Verdict)
+    → first_no (log_terms limits format) heard ≡ None → IsSession limits records heard
+    → ((v : Verdict) → IsFinal limits (format_or_one format) records flaw v → given ≡ as_given v)
+    → EndsAt limits log heard given
 ends_clean limits sizes log format records flaw is_log heard given clean session says =
     let final = some_final limits (format_or_one format) records flaw in
-    let whole : IsVerdict limits log final.0 = record { format = format; records = records; fault = flaw; is_log = is_log; final = final.1 } in
+    let whole : IsVerdict limits log final.0 =
+    record {
+      format = format;
+      records = records;
+      fault = flaw;
+      is_log = is_log;
+      final = final.1;
+    } in
     let named : given ≡ final.0 = says final.0 final.1 ∙ exact limits sizes log final.0 whole in
-    let events : final.1.events ≡ heard = same_session limits records records final.1.events heard refl final.1.session session in
+    let events : final.1.events ≡ heard =
+    same_session limits records records final.1.events heard refl final.1.session session in
     subst (EndsAt limits log heard) (sym named) (
       whole,
-      kept_final (log_terms limits format) final.1.events _ final.0 final.1.says ∙ ap (kept_within (log_terms limits format)) events ∙ kept_clean (log_terms limits format) heard clean,
+      kept_final (log_terms limits format) final.1.events _ final.0 final.1.says
+          ∙ ap (kept_within (log_terms limits format)) events
+          ∙ kept_clean (log_terms limits format) heard clean,
     )
 
 -- ---- whether or not the session has to be complete
 
 -- another verdict than Yes is the same
-ends_by : (completeness : Completeness) (limits : Bounds) (log : List ℕ) (heard : List Event) (v : Verdict) → ((s : Summary) → v ≡ yes s → ⊥) → EndsAt limits log heard v → EndsBy completeness limits log heard v
+ends_by : (completeness : Completeness) (limits : Bounds) (log : List ℕ) (heard : List Event)
+    (v : Verdict) → ((s : Summary) → v ≡ yes s → ⊥) → EndsAt limits log heard v
+    → EndsBy completeness limits log heard v
 ends_by Ignored limits log heard v is_other ends = ends
-ends_by Required limits log heard v is_other ends = (v, ends, completed_other ends.0.final.events v is_other)
+ends_by Required limits log heard v is_other ends =
+    (v, ends, completed_other ends.0.final.events v is_other)
 
-ends_final : (completeness : Completeness) (limits : Bounds) → IsInRange limits → (log : List ℕ) (format : Option Format) (records : List Record) (flaw : Option (ℕ × LogCode)) → IsLog limits log format records flaw → (heard : List Event) (given : Verdict)
-    → first_no (log_terms limits format) heard ≡ None → IsSession limits records heard → ((v : Verdict) → IsFinalBy completeness limits (format_or_one format) records flaw v → given ≡ as_given v) → EndsBy completeness limits log heard given
-ends_final Ignored limits sizes log format records flaw is_log heard given clean session says = ends_clean limits sizes log format records flaw is_log heard given clean session says
+ends_final : (completeness : Completeness) (limits : Bounds) → IsInRange limits
+    → (log : List ℕ) (format : Option Format) (records : List Record) (flaw : Option (ℕ × LogCode))
+    → IsLog limits log format records flaw → (heard : List Event) (given : Verdict)
+    → first_no (log_terms limits format) heard ≡ None → IsSession limits records heard
+    → ((v : Verdict) → IsFinalBy completeness limits (format_or_one format) records flaw v
+    → given ≡ as_given v) → EndsBy completeness limits log heard given
+ends_final Ignored limits sizes log format records flaw is_log heard given clean session says =
+    ends_clean limits sizes log format records flaw is_log heard given clean session says
 ends_final Required limits sizes log format records flaw is_log heard given clean session says =
     let final = some_final limits (format_or_one format) records flaw in
-    let whole : IsVerdict limits log final.0 = record { format = format; records = records; fault = flaw; is_log = is_log; final = final.1 } in
-    let complete : IsCompleteVerdict limits log (completed final.1.events final.0) = record { plain = final.0; whole = whole; says = refl } in
-    let named : given ≡ completed final.1.events final.0 = says _ (record { plain = final.0; final = final.1; says = refl }) ∙ complete_exact limits sizes log _ complete in
-    let events : final.1.events ≡ heard = same_session limits records records final.1.events heard refl final.1.session session in (
+    let whole : IsVerdict limits log final.0 =
+    record {
+      format = format;
+      records = records;
+      fault = flaw;
+      is_log = is_log;
+      final = final.1;
+    } in
+    let complete : IsCompleteVerdict limits log (completed final.1.events final.0) =
+    record { plain = final.0; whole = whole; says = refl } in
+    let named : given ≡ completed final.1.events final.0 =
+    says _ (record {
+      plain = final.0;
+      final = final.1;
+      says = refl;
+    }) ∙ complete_exact limits sizes log _ complete in
+    let events : final.1.events ≡ heard =
+    same_session limits records records final.1.events heard refl final.1.session session in (
       final.0,
       (
         whole,
-        kept_final (log_terms limits format) final.1.events _ final.0 final.1.says ∙ ap (kept_within (log_terms limits format)) events ∙ kept_clean (log_terms limits format) heard clean,
+        kept_final (log_terms limits format) final.1.events _ final.0 final.1.says
+            ∙ ap (kept_within (log_terms limits format)) events
+            ∙ kept_clean (log_terms limits format) heard clean,
       ),
       sym named,
     )
 
-ends_verdict : (completeness : Completeness) (limits : Bounds) (log : List ℕ) (heard : List Event) (v : Verdict) → EndsBy completeness limits log heard v → IsVerdictBy completeness limits log v
+ends_verdict : (completeness : Completeness) (limits : Bounds) (log : List ℕ) (heard : List Event)
+    (v : Verdict) → EndsBy completeness limits log heard v → IsVerdictBy completeness limits log v
 ends_verdict Ignored limits log heard v ends = ends.0
-ends_verdict Required limits log heard v ends = record { plain = ends.0; whole = ends.1.0; says = ends.2 }
-
--- what a judge gives for good is no Yes
-given_other : (given : Option Ruling) (v : Verdict) → Some v ≡ is_given given → (s : Summary) → v ≡ yes s → ⊥
-given_other None v is s e = let same : Some v ≡ None = is in absurd cc
-given_other (Some ruling) v is s e = no_yes ruling s (sym is ∙ ap Some e)
-
--- so a fault of the log is given whether or not the session has to be complete
-pub fault_says : (completeness : Completeness) (s : judge.State) (fault : Option (ℕ × LogCode)) (given : Option Ruling) (v : Verdict) → Some v ≡ is_given given
-    → ((records : List Record) (w : Verdict) → Stands s records → IsFinal s.limits s.format records fault w → v ≡ as_given w)
-    → (records : List Record) (w : Verdict) → Stands s records → IsFinalBy completeness s.limits s.format records fault w → v ≡ as_given w
-fault_says Ignored s fault given v is says = says
-fault_says Required s fault given v is says = λ records w stands p.
-    let named = says records p.plain stands p.final in
-    named ∙ ap as_given (sym (completed_other p.final.events p.plain (λ t e. given_other given v is _ (named ∙ ap as_given e))) ∙ p.says)
+ends_verdict Required limits log heard v ends = record {
+  plain = ends.0;
+  whole = ends.1.0;
+  says = ends.2;
+}
 
 -- ---- what is known of the log read
 
-session_of : (s : judge.State) (rs : List Record) (heard : List Event) → IsHearing s rs heard → (extra : List Event) × IsSession s.limits rs (heard ++ extra)
-session_of s rs heard h =
-    let extra = some_list h.due in
-    (extra.0, (h.past ++ h.due, h.placed, lists_join h.past h.due heard extra.0 h.read extra.1))
+ends_log : (r : reader.State) (limits : Bounds) (records : List Record)
+    (flaw : Option (ℕ × LogCode)) (log : List ℕ) → IsLogOf r limits records flaw log
+    → IsLog limits log r.format records flaw
+ends_log r limits records None log is = is
+ends_log r limits records (Some flaw) log is = is.is_log
 
-module _ (limits : Bounds) (e : EventReader) (start now : Told) (heard : List Event) (s : SoFar limits e start now heard) where
+module _ (limits : Bounds) (format : Option Format) (e : LogEvents) (m : session.State)
+    (d : docs.State) (c : Counts) (start now : Told) (records : List Record) (given due : List Raw)
+    (heard : List Event)
+    (reads : Reads limits format e start now records given due)
+    (has : HasHeard (log_terms limits format) m d c given heard) where
+  range : IsInRange limits
+  range = reads.stands.range
+
+  clean : first_no (log_terms limits format) heard ≡ None
+  clean = ap (λ (t : Terms). first_no t heard) (sym has.by) ∙ has.follows.clean
+
+  -- of a log that has these events first
+  session_in : (front : List Record) (log : List ℕ) → (h : HasGiven limits format front given log)
+      → (extra : List Event) × IsSession limits h.records (heard ++ extra)
+  session_in front log h =
+      let extra = some_list h.later in (
+        extra.0,
+        (
+          given ++ h.later,
+          h.placed,
+          lists_join given h.later heard extra.0 has.read
+              extra.1,
+        ),
+      )
+
+  begins_in : (front : List Record) (log : List ℕ) → HasGiven limits format front given log
+      → BeginsBy limits format heard log
+  begins_in front log h =
+      let all = session_in front log h in
+      begins_by limits range log format h.records h.log_fault h.is_log heard all.0 clean all.1
+
+  few_in : (front : List Record) (log : List ℕ) → HasGiven limits format front given log
+      → length heard ≤ limits.log
+  few_in front log h = let all = session_in front log h in heard_few limits range log format
+      h.records h.log_fault h.is_log heard all.0 all.1
+
+  -- reading broke off
+  broke : (fault : RunFault) (more : List Record) (last : Told)
+      → streams.BrokeOff limits start last format more given fault
+      → BrokeOff limits start last heard fault
+  broke fault more last off = record {
+    of_read = read_map limits start last (HasGiven limits format more given)
+        (BeginsWith limits heard) (λ log h. by_any limits format heard log (begins_in more log h))
+        off.of_read;
+    failures = off.failures;
+    unwritten = off.unwritten;
+  }
+
+  -- the next event offends
+  offended_in : (raw : Raw) (rule : ℕ) (by : Who) (number event : ℕ) (front : List Record)
+      (log : List ℕ) → IsNoAtSome d.terms heard (ReadsRaw raw) (rulings.No rule by number event)
+      → HasGiven limits format front (given ++ raw ∷ []) log
+      → EndsAt limits log heard (no rule by number event)
+  offended_in raw rule by number event front log named h =
+      ends_no limits range log format h.records h.log_fault h.is_log heard (no rule by number event)
+      (stops limits (format_or_one format) m d c h.records given h.later heard has raw
+      (rulings.No rule by number event)
+      (subst (Placed limits h.records) (append_assoc given (raw ∷ []) h.later) h.placed) named)
+
+-- ---- a reader of events
+
+module _ (limits : Bounds) (e : EventReader) (start now : Told) (heard : List Event)
+    (s : SoFar limits e start now heard) where
   pub so_far_range : IsInRange limits
-  so_far_range = subst IsInRange s.alike s.hears.limits.range
+  so_far_range = s.reads.stands.range
 
-  abbrev own : Format
-  own = e.judge.format
+  abbrev own : Option Format
+  own = e.log.log.format
 
-  pub so_far_clean : first_no (terms_of limits e.judge.format) heard ≡ None
-  so_far_clean = subst (λ (t : Terms). first_no t heard ≡ None) (s.hears.limits.documents ∙ ap (λ (b : Bounds). terms_of b own) s.alike) s.hears.follows.clean
+  pub so_far_clean : first_no (log_terms limits own) heard ≡ None
+  so_far_clean = clean limits own e.log e.events.session e.events.docs e.events.counts start now
+      s.records s.given s.due heard s.reads s.has
 
-  pub so_far_none : e.log.format ≡ None → heard ≡ []
-  so_far_none none = hearing_none e.judge s.records heard (s.at.early none) s.hears
-
-  clean_by : (log : List ℕ) → (has : HasFirst limits e.log.format s.records log) → first_no (log_terms limits has.format) heard ≡ None
-  clean_by log has = clean_known limits own e.log.format has.format heard s.format has.is_known so_far_none so_far_clean
-
-  session : (extra : List Event) × IsSession limits s.records (heard ++ extra)
-  session =
-      let here = session_of e.judge s.records heard s.hears in
-      (here.0, subst (λ (b : Bounds). IsSession b s.records (heard ++ here.0)) s.alike here.1)
-
-  first : OfRead limits start now (HasFirst limits e.log.format s.records)
-  first = is_first e.log limits start now s.records s.same s.at
+  first : OfRead limits start now (HasGiven limits own s.records s.given)
+  first = reads_given limits own e.log start now s.records s.given s.due s.reads
 
   -- the events before the place of its verdict begin with those heard
-  pub so_far_by : OfRead limits start now (BeginsBy limits e.log.format heard)
+  pub so_far_by : OfRead limits start now (BeginsBy limits own heard)
   so_far_by =
-      read_map limits start now (HasFirst limits e.log.format s.records) (BeginsBy limits e.log.format heard)
-      (λ log has. begins_by limits so_far_range log has.format s.records has.more has.fault has.is_log e.log.format has.is_known heard session.0 (clean_by log has) session.1) first
+      read_map limits start now (HasGiven limits own s.records s.given) (BeginsBy limits own heard)
+      (begins_in limits own e.log e.events.session e.events.docs e.events.counts start now s.records
+      s.given s.due heard s.reads s.has s.records) first
 
   pub so_far_begins : OfRead limits start now (BeginsWith limits heard)
-  so_far_begins = read_map limits start now (BeginsBy limits e.log.format heard) (BeginsWith limits heard) (by_any limits e.log.format heard) so_far_by
+  so_far_begins = read_map limits start now (BeginsBy limits own heard) (BeginsWith limits heard)
+      (by_any limits own heard) so_far_by
 
   pub so_far_few : length heard ≤ limits.log
   so_far_few =
-      let has = first.holds first.bytes ([], sym (append-nil first.bytes), λ end. refl) in
-      heard_few limits so_far_range first.bytes has.format s.records has.more has.fault has.is_log heard session.0 session.1
+      few_in limits own e.log e.events.session e.events.docs e.events.counts start now s.records
+      s.given s.due heard s.reads s.has s.records first.bytes
+      (first.holds first.bytes ([], sym (append-nil first.bytes), λ end. refl))
 
-  pub so_far_counts : (e.judge.counts.all ≡ length heard)
-  so_far_counts = omega (arith, s.hears.follows.counted.all, so_far_few, so_far_range.log_high)
+  pub so_far_counts : (e.events.counts.all ≡ length heard)
+  so_far_counts = omega (arith, s.has.follows.counted.all, so_far_few, so_far_range.log_high)
 
-  -- ---- the next event offends
+-- no read failed
+pub so_far_failures : (limits : Bounds) (e : EventReader) (start now : Told) (heard : List Event)
+    → SoFar limits e start now heard → now.failures ≡ start.failures
+so_far_failures limits e start now heard s =
+    reads_failures limits e.log.log.format e.log start now s.records s.given s.due s.reads
 
-  pub found_no : (completeness : Completeness) (rule : ℕ) (by : Who) (number event : ℕ) → OffendsAfter limits own s.records heard (no rule by number event) → Found completeness limits start now heard (no rule by number event)
-  found_no completeness rule by number event o = record {
-    of_read = read_map limits start now (HasFirst limits e.log.format s.records) (λ log. EndsBy completeness limits log heard (no rule by number event))
-        (λ log has. ends_by completeness limits log heard (no rule by number event) (λ t e. absurd cc)
-        (ends_no limits so_far_range log has.format s.records has.more has.fault has.is_log heard (no rule by number event) (offends_known limits own e.log.format has.format s.records heard (no rule by number event) s.format has.is_known s.at.early o)))
-        first;
-    failures = s.at.failures;
-  }
+-- memory was refused
+pub refused : (limits : Bounds) (e : EventReader) (start now : Told) (heard : List Event)
+    → SoFar limits e start now heard → BrokeOff limits start now heard faults.Memory
+refused limits e start now heard s = record {
+  of_read = so_far_begins limits e start now heard s;
+  failures = so_far_failures limits e start now heard s;
+  unwritten = λ same. absurd cc;
+}
 
-  -- memory was refused
-  pub refused : BrokeOff limits start now heard faults.Memory
-  refused = record { of_read = so_far_begins; failures = s.at.failures; unwritten = λ same. absurd cc }
+-- nothing was read
+pub unopened : (limits : Bounds) (start now : Told) (fault : RunFault)
+    → BreaksOff limits start now fault → BrokeOff limits start now [] fault
+unopened limits start now fault off = record {
+  of_read = read_map limits start now (λ log. Unit {0}) (BeginsWith limits [])
+      (λ log u. let whole = some_verdict limits log in
+      (whole.0, kept whole.0 whole.1.final.events, (whole.1, refl))) off.of_read;
+  failures = off.failures;
+  unwritten = off.unwritten;
+}
 
--- a ruling of the judge
-pub ruled : (completeness : Completeness) (limits : Bounds) (e : EventReader) (start now : Told) (heard : List Event) (s : SoFar limits e start now heard) (ruling : Ruling) (v : code.Verdict) → verdict_in ruling ≡ Some (verdict_view v) → Stops e.judge.limits e.judge.format s.records heard ruling
-    → Found completeness limits start now heard (verdict_view v)
-ruled completeness limits e start now heard s (rulings.No rule who number event) v is o =
-    let named : no rule who number event ≡ verdict_view v = cc is in
-    subst (Found completeness limits start now heard) named (found_no limits e start now heard s completeness rule who number event (subst (λ (b : Bounds). OffendsAfter b e.judge.format s.records heard (no rule who number event)) s.alike o))
-ruled completeness limits e start now heard s (rulings.BadLog number fault) v is o = absurd o
-ruled completeness limits e start now heard s rulings.Memory v is o = absurd cc
+-- nothing was heard yet
+pub nothing_heard : (limits : Bounds) (e : EventReader) (start now : Told)
+    → streams.Opens limits start now e.log → e.events.docs.terms ≡ log_terms limits e.log.log.format
+    → Follows e.events.session e.events.docs e.events.counts [] → SoFar limits e start now []
+nothing_heard limits e start now (records, due, reads) terms follows = record {
+  records = records;
+  given = [];
+  due = due;
+  reads = reads;
+  has = record { read = tt; by = terms; follows = follows };
+}
+
+-- ---- the next event
+
+module _ (limits : Bounds) (e : EventReader) (start mid now : Told) (heard : List Event)
+    (s : SoFar limits e start mid heard) where
+  abbrev known : Option Format
+  known = e.log.log.format
+
+  -- reading broke off
+  pub broke_next : (log : LogEvents) (fault : RunFault) → NextIs e.log log mid now (Err fault)
+      → BrokeOff limits start now heard fault
+  broke_next log fault told =
+      let off = told limits known start s.records s.given s.due s.reads in
+      broke limits known e.log e.events.session e.events.docs e.events.counts start mid s.records
+      s.given s.due heard s.reads s.has fault (s.records ++ off.0) now off.1
+
+  -- the log ends
+  pub ended_next : (log : LogEvents) (end : End) → NextIs e.log log mid now (Ok (next.End end))
+      → HasEnded limits (record e { log = log }) start now heard end
+  ended_next log end told =
+      let (more, ended) = told limits known start s.records s.given s.due s.reads in
+      let own : log.log.format ≡ known = ended.reads.format_is in
+      record {
+        records = s.records ++ more;
+        given = s.given;
+        ended = subst (λ (o : Option Format). Ended limits o log start now (s.records ++ more)
+            s.given end) (sym own) ended;
+        has = subst (λ (o : Option Format). HasHeard (log_terms limits o) e.events.session
+            e.events.docs e.events.counts s.given heard) (sym own) s.has;
+      }
+
+  module _ (log : LogEvents) (raw : lent.Raw)
+      (told : NextIs e.log log mid now (Ok (next.Event raw))) where
+    abbrev gave : (more : List Record) × (later : List Raw)
+        × Reads limits known log start now (s.records ++ more) (s.given ++ raw_view raw ∷ []) later
+    gave = told limits known start s.records s.given s.due s.reads
+
+    -- the log read has it
+    gave_first : OfRead limits start now
+        (HasGiven limits known (s.records ++ gave.0) (s.given ++ raw_view raw ∷ []))
+    gave_first = reads_given limits known log start now (s.records ++ gave.0)
+        (s.given ++ raw_view raw ∷ []) gave.1 gave.2
+
+    gave_failures : now.failures ≡ start.failures
+    gave_failures = reads_failures limits known log start now (s.records ++ gave.0)
+        (s.given ++ raw_view raw ∷ []) gave.1 gave.2
+
+    -- it offends
+    pub offended : (completeness : Completeness) (ruling : Ruling) (v : code.Verdict)
+        → verdict_in ruling ≡ Some (verdict_view v)
+        → ((so_far : List Event) → Follows e.events.session e.events.docs e.events.counts so_far
+        → IsNoAtSome e.events.docs.terms so_far (ReadsRaw (raw_view raw)) ruling)
+        → Found completeness limits start now heard (verdict_view v)
+    offended completeness (rulings.No rule by number event) v is told_no =
+        let named : no rule by number event ≡ verdict_view v = cc is in
+        subst (Found completeness limits start now heard) named (record {
+          of_read = read_map limits start now (HasGiven limits known (s.records ++ gave.0)
+              (s.given ++ raw_view raw ∷ []))
+              (λ log. EndsBy completeness limits log heard (no rule by number event))
+              (λ log h. ends_by completeness limits log heard (no rule by number event)
+              (λ t e. absurd cc)
+              (offended_in limits known e.log e.events.session e.events.docs e.events.counts start
+              mid s.records s.given s.due heard s.reads s.has (raw_view raw) rule by number
+              event (s.records ++ gave.0) log (told_no heard s.has.follows) h))
+              gave_first;
+          failures = gave_failures;
+        })
+    offended completeness (rulings.BadLog number fault) v is told_no =
+        absurd (told_no heard s.has.follows)
+    offended completeness rulings.Memory v is told_no =
+        let none : None ≡ Some (verdict_view v) = is in absurd cc
+
+    shorter : (log : List ℕ)
+        → HasGiven limits known (s.records ++ gave.0) (s.given ++ raw_view raw ∷ []) log
+        → HasGiven limits known (s.records ++ gave.0) s.given log
+    shorter log h = record {
+      records = h.records;
+      log_fault = h.log_fault;
+      later = raw_view raw ∷ h.later;
+      is_log = h.is_log;
+      goes = h.goes;
+      placed = subst (Placed limits h.records) (append_assoc s.given (raw_view raw ∷ []) h.later)
+          h.placed;
+    }
+
+    -- memory was refused for it
+    pub refused_next : BrokeOff limits start now heard faults.Memory
+    refused_next =
+        let front = read_map limits start now (HasGiven limits known (s.records ++ gave.0)
+        (s.given ++ raw_view raw ∷ [])) (HasGiven limits known (s.records ++ gave.0) s.given)
+        shorter gave_first in
+        broke limits known e.log e.events.session e.events.docs e.events.counts start mid s.records
+        s.given s.due heard s.reads s.has faults.Memory (s.records ++ gave.0) now
+        (record { of_read = front; failures = gave_failures; unwritten = λ same. absurd cc })
+
+  -- it was heard
+  pub heard_next : (f : EventReader) (raw : lent.Raw)
+      → NextIs e.log f.log mid now (Ok (next.Event raw)) → (given : Heard)
+      → ((terms : Terms) (raws : List Raw) (so_far : List Event)
+      → HasHeard terms e.events.session e.events.docs e.events.counts raws so_far
+      → HearsOne terms f.events.session f.events.docs f.events.counts raws so_far (raw_view raw)
+      given)
+      → (event : Event) × IsHeard event given × SoFar limits f start now (heard ++ event ∷ [])
+  heard_next f raw told given hears =
+      let (event, is, has) = hears (log_terms limits known) s.given heard s.has in
+      let (more, later, reads) = told limits known start s.records s.given s.due s.reads in
+      let own : f.log.log.format ≡ known = reads.format_is in (
+        event,
+        is,
+        record {
+          records = s.records ++ more;
+          given = s.given ++ raw_view raw ∷ [];
+          due = later;
+          reads = subst (λ (o : Option Format). Reads limits o f.log start now (s.records ++ more)
+              (s.given ++ raw_view raw ∷ []) later) (sym own) reads;
+          has = subst (λ (o : Option Format). HasHeard (log_terms limits o) f.events.session
+              f.events.docs f.events.counts (s.given ++ raw_view raw ∷ []) (heard ++ event ∷ []))
+              (sym own) has;
+        },
+      )
 
 -- ---- the log ends
 
--- all that was read was heard
-pub idle_ready : (limits : Bounds) (e : EventReader) (start mid : Told) (heard : List Event) → (i : IsIdle limits e start mid heard) → Ready limits e.judge e.log.format i.0.records heard
-idle_ready limits e start mid heard i = record { alike = i.0.alike; ungiven = i.0.ungiven; idle = i.1; hears = i.0.hears; fits = i.0.format; early = i.0.at.early }
+module _ (completeness : Completeness) (limits : Bounds) (e : EventReader) (start now : Told)
+    (heard : List Event) (end : End) (h : HasEnded limits e start now heard end) where
+  abbrev format : Option Format
+  format = e.log.log.format
 
-pub ready_stands : (limits : Bounds) (s : judge.State) (format : Option Format) (records : List Record) (heard : List Event) → Ready limits s format records heard → Stands s records
-ready_stands limits s format records heard r = record { limits = r.hears.limits; given = subst (λ (o : Option Ruling). StandsBy o s records) (sym r.ungiven) (hearing_open s records heard r.idle r.hears) }
+  here : IsSession limits h.records heard
+  here = (
+    h.given,
+    placed_whole limits h.records h.given [] refl h.ended.reads.stands.placed,
+    h.has.read,
+  )
 
-module _ (limits : Bounds) (s : judge.State) (format : Option Format) (records : List Record) (heard : List Event) (r : Ready limits s format records heard) (start now : Told) where
-  sizes : IsInRange limits
-  sizes = subst IsInRange r.alike r.hears.limits.range
-
-  here : IsSession limits records heard
-  here = subst (λ (b : Bounds). IsSession b records heard) r.alike (hearing_session s records heard r.idle r.hears)
-
-  own_terms : s.documents.terms ≡ terms_of limits s.format
-  own_terms = r.hears.limits.documents ∙ ap (λ (b : Bounds). terms_of b s.format) r.alike
-
-  own_clean : first_no (terms_of limits s.format) heard ≡ None
-  own_clean = subst (λ (t : Terms). first_no t heard ≡ None) own_terms r.hears.follows.clean
-
-  log_clean : first_no (log_terms limits format) heard ≡ None
-  log_clean = subst (λ (f : Format). first_no (terms_of limits f) heard ≡ None) r.fits own_clean
-
-  final_here : (completeness : Completeness) (fault : Option (ℕ × LogCode)) (w : Verdict) → IsFinalBy completeness limits (format_or_one format) records fault w → IsFinalBy completeness s.limits s.format records fault w
-  final_here completeness fault w final =
-      subst (λ (f : Format). IsFinalBy completeness s.limits f records fault w) (sym r.fits) (subst (λ (b : Bounds). IsFinalBy completeness b (format_or_one format) records fault w) (sym r.alike) final)
-
-  pub found_end : (completeness : Completeness) (fault : Option (ℕ × LogCode)) (v : Verdict) → HasRecords limits start now format records fault
-      → ((rs : List Record) (w : Verdict) → Stands s rs → IsFinalBy completeness s.limits s.format rs fault w → v ≡ as_given w) → Found completeness limits start now heard v
-  found_end completeness fault v has says = record {
-    of_read = read_map limits start now (λ log. IsLog limits log format records fault) (λ log. EndsBy completeness limits log heard v)
-        (λ log is_log. ends_final completeness limits sizes log format records fault is_log heard v log_clean here (λ w final. says records w (ready_stands limits s format records heard r) (final_here completeness fault w final)))
-        has.of_read;
-    failures = has.failures;
-  }
-
-  -- reading broke off
-  pub broke_off : (fault : RunFault) → entries.BrokeOff limits start now format records fault → BrokeOff limits start now heard fault
-  broke_off fault broke = record {
-    of_read = read_map limits start now (HasFirst limits format records) (BeginsWith limits heard)
-        (λ log has. by_any limits format heard log (begins_by limits sizes log has.format records has.more has.fault has.is_log format has.is_known heard []
-        (clean_known limits s.format format has.format heard r.fits has.is_known (λ none. hearing_none s records heard (r.early none) r.hears) own_clean)
-        (subst (IsSession limits records) (sym (append-nil heard)) here)))
-        broke.of_read;
-    failures = broke.failures;
-    unwritten = broke.unwritten;
+  -- this is the verdict on its records
+  found_end : (v : Verdict)
+      → ((w : Verdict) → IsFinalBy completeness limits (format_or_one format) h.records
+      (flaw_of end) w → v ≡ as_given w) → Found completeness limits start now heard v
+  found_end v says = record {
+    of_read = read_map limits start now (IsLogOf e.log.log limits h.records (flaw_of end))
+        (λ log. EndsBy completeness limits log heard v)
+        (λ log is. ends_final completeness limits h.ended.reads.stands.range log format h.records
+        (flaw_of end) (ends_log e.log.log limits h.records (flaw_of end) log is) heard v
+        (clean limits format e.log e.events.session e.events.docs e.events.counts start now
+        h.records h.given [] heard h.ended.reads h.has) here says)
+        h.ended.ends.of_read;
+    failures = h.ended.ends.failures;
   }
 
   -- memory was refused at the end
-  pub broke_end : (fault : Option (ℕ × LogCode)) → HasRecords limits start now format records fault → BrokeOff limits start now heard faults.Memory
-  broke_end fault has = broke_off faults.Memory (record {
-    of_read = read_map limits start now (λ log. IsLog limits log format records fault) (HasFirst limits format records)
-        (λ log is_log. record { format = format; more = []; fault = fault; is_log = subst (λ w. IsLog limits log format w fault) (sym (append-nil records)) is_log; is_known = known_self format })
-        has.of_read;
-    failures = has.failures;
-    unwritten = λ same. absurd cc;
-  })
+  pub broke_end : BrokeOff limits start now heard faults.Memory
+  broke_end =
+      broke limits format e.log e.events.session e.events.docs e.events.counts start now h.records
+      h.given [] heard h.ended.reads h.has faults.Memory h.records now
+      (record {
+        of_read = reads_given limits format e.log start now h.records h.given [] h.ended.reads;
+        failures = h.ended.ends.failures;
+        unwritten = λ same. absurd cc;
+      })
 
-  -- memory was refused for a record
-  pub broke_record : (l : reader.State) (next : Record) → l.limits ≡ limits → l.format ≡ format → IsAt l start now (records ++ next ∷ []) → BrokeOff limits start now heard faults.Memory
-  broke_record l next same alike at = broke_off faults.Memory (record {
-    of_read = read_map limits start now (HasFirst limits l.format (records ++ next ∷ [])) (HasFirst limits format records)
-        (λ log has. record {
-          format = has.format;
-          more = next ∷ has.more;
-          fault = has.fault;
-          is_log = subst (λ w. IsLog limits log has.format w has.fault) (append_assoc records (next ∷ []) has.more) has.is_log;
-          is_known = subst (λ (o : Option Format). IsKnown o has.format) alike has.is_known;
-        })
-        (is_first l limits start now (records ++ next ∷ []) same at);
-    failures = at.failures;
-    unwritten = λ same. absurd cc;
-  })
+  -- the log has a fault
+  pub found_bad : (number : ℕ) (fault : LogCode) → end ≡ Bad number fault → number < 2 ^ 64
+      → Found completeness limits start now heard (bad_log number fault)
+  found_bad number fault is small = found_end (bad_log number fault) (λ w final.
+      bad_final limits (format_or_one format) e.log.streams e.events.session e.events.docs
+      e.events.counts h.records h.given heard h.ended.reads.stands h.has completeness number
+      fault w small
+      (subst (λ (x : End). IsFinalBy completeness limits (format_or_one format) h.records
+      (flaw_of x) w) is final))
 
-  -- by the limits that the reader of the log has
-  pub entry_end : (completeness : Completeness) (own : Bounds) (fault : Option (ℕ × LogCode)) (v : Verdict) → own ≡ limits → HasRecords own start now format records fault
-      → ((rs : List Record) (w : Verdict) → Stands s rs → IsFinalBy completeness s.limits s.format rs fault w → v ≡ as_given w) → Found completeness limits start now heard v
-  entry_end completeness own fault v same has says = found_end completeness fault v (subst (λ (b : Bounds). HasRecords b start now format records fault) same has) says
+  -- it has none
+  pub found_sound : (v : Verdict) → flaw_of end ≡ None
+      → v ≡ as_given (end_by completeness e.events.docs.terms heard
+      (ends_inside e.log.streams.editor) (ends_inside e.log.streams.server))
+      → Found completeness limits start now heard v
+  found_sound v sound told = found_end v (λ w final.
+      end_final limits (format_or_one format) e.log.streams e.events.session e.events.docs
+      e.events.counts h.records h.given heard h.ended.reads.stands h.has completeness v w told
+      (subst (λ (o : Option (ℕ × LogCode)). IsFinalBy completeness limits (format_or_one format)
+      h.records o w) sound final))
 
-  pub entry_broke : (own : Bounds) (fault : RunFault) → own ≡ limits → entries.BrokeOff own start now format records fault → BrokeOff limits start now heard fault
-  entry_broke own fault same broke = broke_off fault (subst (λ (b : Bounds). entries.BrokeOff b start now format records fault) same broke)
-
-  pub entry_refused : (own : Bounds) (fault : Option (ℕ × LogCode)) → own ≡ limits → HasRecords own start now format records fault → BrokeOff limits start now heard faults.Memory
-  entry_refused own fault same has = broke_end fault (subst (λ (b : Bounds). HasRecords b start now format records fault) same has)
-
--- ---- the judge is made for the format
-
--- a judge that stands for no records has heard nothing
-stands_hearing : (s : judge.State) → s.given ≡ None → Stands s [] → IsHearing s [] [] × (s.turn ≡ None)
-stands_hearing s ungiven stands =
-    let o : IsOpen s [] = subst (λ (o : Option Ruling). StandsBy o s []) ungiven stands.given in
-    let none = same_session s.limits [] [] o.events [] refl o.is_session ([], refl, tt) in
-    (subst (IsHearing s []) none (open_hearing s [] stands.limits o), o.idle)
-
-ready_along : (limits : Bounds) (old new : judge.State) (format : Option Format) (records : List Record) (heard : List Event) → new ≡ old → Ready limits old format records heard → Ready limits new format records heard
-ready_along limits old new format records heard same r = subst (λ (s : judge.State). Ready limits s format records heard) (sym same) r
-
-module _ (limits : Bounds) (old new : judge.State) (records : List Record) (heard : List Event) where
-  -- a judge of format 1 that has heard nothing, before the format is known
-  fresh_fitted : (format : Option Format) → old.format ≡ One → records ≡ [] → Ready limits old None records heard → IsRefitted format old new → Ready limits new format records heard
-  fresh_fitted None is none r refit = ready_along limits old new None records heard refit r
-  fresh_fitted (Some One) is none r refit =
-      ready_along limits old new (Some One) records heard (refit.same is)
-      (record { alike = r.alike; ungiven = r.ungiven; idle = r.idle; hears = r.hears; fits = is; early = λ known. absurd cc })
-  fresh_fitted (Some Two) is none r refit =
-      let other = refit.other (λ e. let same : One ≡ Two = sym is ∙ e in absurd cc) in
-      let hears = stands_hearing new other.1 other.0 in
-      record {
-        alike = refit.limits ∙ r.alike;
-        ungiven = other.1;
-        idle = hears.1;
-        hears = subst (λ (es : List Event). IsHearing new records es) (sym (hearing_none old records heard none r.hears)) (subst (λ (rs : List Record). IsHearing new rs []) (sym none) hears.0);
-        fits = refit.fits;
-        early = λ known. absurd cc;
-      }
-
-  pub refitted : (known format : Option Format) → Ready limits old known records heard → IsKnown known format → IsRefitted format old new → Ready limits new format records heard
-  refitted None format r is_known refit = fresh_fitted format r.fits (r.early refl) r refit
-  refitted (Some f) format r is_known refit =
-      let fitted : IsFitted f old new = subst (λ (o : Option Format). IsRefitted o old new) is_known refit in
-      subst (λ (o : Option Format). Ready limits new o records heard) (sym is_known) (ready_along limits old new (Some f) records heard (fitted.same r.fits) r)
-
--- ---- steps
-
--- nothing was heard yet
-pub nothing_heard : (e : EventReader) (limits : Bounds) (start : Told) → e.log ≡ empty limits → reader.StandsFor e.log [] [] → e.judge.limits ≡ limits → e.judge.format ≡ One → e.judge.given ≡ None → Stands e.judge [] → SoFar limits e start start []
-nothing_heard e limits start new stands alike format ungiven judged =
-    record {
-      records = [];
-      at = at_start e.log limits start new stands;
-      same = ap (λ (s : reader.State). s.limits) new;
-      alike = alike;
-      format = format ∙ ap (λ (r : reader.State). format_or_one r.format) (sym new);
-      ungiven = ungiven;
-      hears = (stands_hearing e.judge ungiven judged).0;
-    }
-
--- the judge heard more
-pub hears_on : (limits : Bounds) (old new : EventReader) (start now : Told) (heard more : List Event) (s : SoFar limits old start now heard) → new.log ≡ old.log → Keeps old.judge new.judge → IsHearing new.judge s.records more → SoFar limits new start now more
-hears_on limits old new start now heard more s same keeps hears = record {
-  records = s.records;
-  at = subst (λ (r : reader.State). IsAt r start now s.records) (sym same) s.at;
-  same = ap (λ (r : reader.State). r.limits) same ∙ s.same;
-  alike = keeps.limits ∙ s.alike;
-  format = keeps.format ∙ s.format ∙ ap (λ (r : reader.State). format_or_one r.format) (sym same);
-  ungiven = keeps.given ∙ s.ungiven;
-  hears = hears;
-}
-
--- a record was taken
-pub takes_record : (limits : Bounds) (s : judge.State) (new : EventReader) (start now : Told) (records : List Record) (heard : List Event) (next : Record) (r : Ready limits s new.log.format records heard) → new.log.limits ≡ limits → IsAt new.log start now (records ++ next ∷ []) → Keeps s new.judge
-    → ((rs : List Record) (so_far : List Event) → s.turn ≡ None → IsHearing s rs so_far → IsHearing new.judge (rs ++ next ∷ []) so_far) → SoFar limits new start now heard
-takes_record limits s new start now records heard next r same at keeps hears = record {
-  records = records ++ next ∷ [];
-  at = at;
-  same = same;
-  alike = keeps.limits ∙ r.alike;
-  format = keeps.format ∙ r.fits;
-  ungiven = keeps.given ∙ r.ungiven;
-  hears = hears records heard r.idle r.hears;
-}
+  -- what is answered at the end
+  pub answered_end : (ruling : Ruling) (r : Result code.Verdict Memory) → flaw_of end ≡ None
+      → IfOk r (λ answer. verdict_in ruling ≡ Some (verdict_view answer))
+      → ((so_far : List Event) → Follows e.events.session e.events.docs e.events.counts so_far
+      → IfSome (verdict_in ruling)
+      (λ said. said ≡ as_given (end_by completeness e.events.docs.terms so_far
+      (ends_inside e.log.streams.editor) (ends_inside e.log.streams.server))))
+      → Finishes completeness limits start now heard r
+  answered_end ruling (Ok v) sound is told =
+      found_sound (verdict_view v) sound
+      (named_end ruling (verdict_view v)
+      (end_by completeness e.events.docs.terms heard (ends_inside e.log.streams.editor)
+      (ends_inside e.log.streams.server)) is (told heard h.has.follows))
+  answered_end ruling (Err memory) sound is told = broke_end
 
 -- ---- loops
 
 -- some events of the log were heard
-pub record Following (completeness : Completeness) (limits : Bounds) (e : EventReader) (start now : Told) : Type 0 where
+pub record Following (completeness : Completeness) (limits : Bounds) (e : EventReader)
+    (start now : Told) : Type 0 where
   pub heard : List Event
   pub so_far : SoFar limits e start now heard
   pub wanted : e.completeness ≡ completeness
 
 -- one event more leaves fewer to come
-pub fewer : (limits : Bounds) (e f : EventReader) (start mid now : Told) (heard : List Event) (event : Event) → SoFar limits e start mid heard → SoFar limits f start now (heard ++ event ∷ [])
-    → limits.log + 1 - f.judge.counts.all < limits.log + 1 - e.judge.counts.all
+pub fewer : (limits : Bounds) (e f : EventReader) (start mid now : Told) (heard : List Event)
+    (event : Event) → SoFar limits e start mid heard
+    → SoFar limits f start now (heard ++ event ∷ [])
+    → limits.log + 1 - f.events.counts.all < limits.log + 1 - e.events.counts.all
 fewer limits e f start mid now heard event s t =
     omega (
       arith,
@@ -446,20 +593,24 @@ fewer limits e f start mid now heard event s t =
     )
 
 -- what was heard before is no more than what is heard
-pub broke_early : (limits : Bounds) (start now : Told) (heard : List Event) (fault : RunFault) → BrokeOff limits start now heard fault → BrokeOff limits start now [] fault
+pub broke_early : (limits : Bounds) (start now : Told) (heard : List Event) (fault : RunFault)
+    → BrokeOff limits start now heard fault → BrokeOff limits start now [] fault
 broke_early limits start now heard fault broke = record {
-  of_read = read_map limits start now (BeginsWith limits heard) (BeginsWith limits []) (λ log begins. (begins.0, heard ++ begins.1, begins.2)) broke.of_read;
+  of_read = read_map limits start now (BeginsWith limits heard) (BeginsWith limits [])
+      (λ log begins. (begins.0, heard ++ begins.1, begins.2)) broke.of_read;
   failures = broke.failures;
   unwritten = broke.unwritten;
 }
 
 -- the verdict that was found is that of the log
-pub verdict_found : (own completeness : Completeness) (limits : Bounds) (start now : Told) (heard : List Event) (v : Verdict) → own ≡ completeness → Found own limits start now heard v
-    → OfRead limits start now (λ log. IsVerdictBy completeness limits log v) × (now.failures ≡ start.failures)
+pub verdict_found : (own completeness : Completeness) (limits : Bounds) (start now : Told)
+    (heard : List Event) (v : Verdict) → own ≡ completeness → Found own limits start now heard v
+    → OfRead limits start now (λ log. IsVerdictBy completeness limits log v)
+    × (now.failures ≡ start.failures)
 verdict_found own completeness limits start now heard v same found = (
-  read_map limits start now (λ log. EndsBy own limits log heard v) (λ log. IsVerdictBy completeness limits log v) (λ log ends. subst (λ c. IsVerdictBy c limits log v) same (ends_verdict own limits log heard v ends)) found.of_read,
+  read_map limits start now (λ log. EndsBy own limits log heard v)
+      (λ log. IsVerdictBy completeness limits log v)
+      (λ log ends. subst (λ c. IsVerdictBy c limits log v) same
+      (ends_verdict own limits log heard v ends)) found.of_read,
   found.failures,
 )
-
-pub fresh_along : (limits : Bounds) (e : EventReader) (start : Told) → e.log.limits ≡ limits → SoFar limits e start start [] → SoFar e.log.limits e start start []
-fresh_along limits e start same so_far = subst (λ (b : Bounds). SoFar b e start start []) (sym same) so_far

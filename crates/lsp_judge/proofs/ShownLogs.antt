@@ -1,5 +1,7 @@
 -- What is due where a log is shown.
-use Rattle.std.proofs.Common.{◌≡◌, ◌+◌, ℕ, true, List, [], ◌∷◌, ◌++◌, length, Option, Some, None, Result, Ok, Err, refl, sym, ap, subst, ◌∙◌, append_assoc, append-nil, length-append, arith}
+use Rattle.std.proofs.Common.{◌≡◌, ◌+◌, ℕ, true, List, [], ◌∷◌, ◌++◌, length, Option, Some, None}
+use Rattle.std.proofs.Common.{Result, Ok, Err, refl, sym, ap, subst, ◌∙◌, append_assoc, append-nil}
+use Rattle.std.proofs.Common.{length-append, arith}
 use Rattle.std.specs.Prelude.{unwrap_or, if◌then◌else◌}
 use Rattle.std.specs.List.{flat_map, cons_option}
 use Rattle.std.proofs.lemmas.List.Concat.{flat_map-append}
@@ -37,16 +39,21 @@ use Rattle.lsp_events.specs.Lines.{line_of}
 use Rattle.lsp_events.specs.declared.heard.Place.{Place}
 use Rattle.lsp_judge.specs.declared.event_reader.EventReader.{EventReader}
 use Rattle.lsp_judge.proofs.Answering.{judged_as}
-use Rattle.lsp_judge.proofs.LogEvents.{so_far_begins, so_far_few, so_far_range}
+use Rattle.lsp_judge.proofs.LogEvents.{so_far_begins, so_far_few, so_far_failures, so_far_range}
 
 -- the place of the event that comes behind these
 abbrev IsPlaceBehind : List Event → Event → Place → Type 0
-IsPlaceBehind before event place = (place.event ≡ length before + 1) × (place.number ≡ count_of (belongs_to (whose event)) before + 1)
+IsPlaceBehind before event place =
+    (place.event ≡ length before + 1)
+    × (place.number ≡ count_of (belongs_to (whose event)) before + 1)
 
 pub one_shown : OneShown
 one_shown lines limits sizes log v w out other (p, is) (q, at) =
-    let same : v ≡ w = one_verdict limits sizes log v w p q in
-    (same, is ∙ ap (show_of lines v) (same_events limits sizes log v w p q) ∙ ap (λ x. show_of lines x q.final.events) same ∙ sym at)
+    let same : v ≡ w = one_verdict limits sizes log v w p q in (
+      same,
+      is ∙ ap (show_of lines v) (same_events limits sizes log v w p q)
+          ∙ ap (λ x. show_of lines x q.final.events) same ∙ sym at,
+    )
 
 -- ---- lines
 
@@ -55,25 +62,36 @@ alone None = refl
 alone (Some line) = append-nil line
 
 module _ (lines : Lines) where
-  lines-append : (xs ys : List Event) → lines_of lines (xs ++ ys) ≡ lines_of lines xs ++ flat_map (λ shown. shown) (each_from (line_at lines) xs ys)
-  lines-append xs ys = ap (flat_map (λ shown. shown)) (each_from-append (line_at lines) [] xs ys) ∙ flat_map-append (λ shown. shown) (each_of (line_at lines) xs) (each_from (line_at lines) xs ys)
+  lines-append : (xs ys : List Event)
+      → lines_of lines (xs ++ ys)
+      ≡ lines_of lines xs ++ flat_map (λ shown. shown) (each_from (line_at lines) xs ys)
+  lines-append xs ys = ap (flat_map (λ shown. shown)) (each_from-append (line_at lines) [] xs ys)
+      ∙ flat_map-append (λ shown. shown) (each_of (line_at lines) xs)
+      (each_from (line_at lines) xs ys)
 
-  lines-snoc : (xs : List Event) (x : Event) (place : Place) → IsPlaceBehind xs x place → lines_of lines (xs ++ x ∷ []) ≡ lines_of lines xs ++ line_of lines place x
+  lines-snoc : (xs : List Event) (x : Event) (place : Place) → IsPlaceBehind xs x place
+      → lines_of lines (xs ++ x ∷ []) ≡ lines_of lines xs ++ line_of lines place x
   lines-snoc xs x place is =
       ap (flat_map (λ shown. shown)) (each_of-snoc (line_at lines) xs x)
-      ∙ flat_map-append (λ shown. shown) (each_of (line_at lines) xs) (cons_option (line_at lines xs x) [])
+      ∙ flat_map-append (λ shown. shown) (each_of (line_at lines) xs)
+      (cons_option (line_at lines xs x) [])
       ∙ ap (λ l. lines_of lines xs ++ l) (
       alone (line_at lines xs x)
-      ∙ ap (λ n. unwrap_or (event_line lines n (count_of (belongs_to (whose x)) xs + 1) x) []) (sym is.0)
+      ∙ ap (λ n. unwrap_or (event_line lines n (count_of (belongs_to (whose x)) xs + 1) x) [])
+      (sym is.0)
       ∙ ap (λ n. unwrap_or (event_line lines place.event n x) []) (sym is.1)
       )
 
 -- ---- a log
 
-ends_shown : (lines : Lines) (limits : Bounds) (heard : List Event) (v : Verdict) (log : List ℕ) → EndsAt limits log heard v → IsShown lines limits log v (lines_of lines heard ++ report v)
-ends_shown lines limits heard v log (whole, is) = (whole, sym (ap (λ es. lines_of lines es ++ report v) is))
+ends_shown : (lines : Lines) (limits : Bounds) (heard : List Event) (v : Verdict) (log : List ℕ)
+    → EndsAt limits log heard v → IsShown lines limits log v (lines_of lines heard ++ report v)
+ends_shown lines limits heard v log (whole, is) =
+    (whole, sym (ap (λ es. lines_of lines es ++ report v) is))
 
-begins_shown : (lines : Lines) (limits : Bounds) (heard : List Event) (front left : List ℕ) → lines_of lines heard ≡ front ++ left → (log : List ℕ) → BeginsWith limits heard log → BeginsShown lines limits log front
+begins_shown : (lines : Lines) (limits : Bounds) (heard : List Event) (front left : List ℕ)
+    → lines_of lines heard ≡ front ++ left → (log : List ℕ) → BeginsWith limits heard log
+    → BeginsShown lines limits log front
 begins_shown lines limits heard front left whole log (v, later, (says, is)) =
     let tail = flat_map (λ shown. shown) (each_from (line_at lines) heard later) in (
       v,
@@ -101,23 +119,37 @@ own_is (broken Server rule) = refl
 own_is (snapshot uri number text) = refl
 
 -- an event is one more of its own
-count_own : (xs : List Event) (e : Event) → count_of (belongs_to (whose e)) (xs ++ e ∷ []) ≡ count_of (belongs_to (whose e)) xs + 1
+count_own : (xs : List Event) (e : Event)
+    → count_of (belongs_to (whose e)) (xs ++ e ∷ []) ≡ count_of (belongs_to (whose e)) xs + 1
 count_own xs e =
-    let one : count_of (belongs_to (whose e)) (e ∷ []) ≡ 1 = ap (λ b. length (if b then e ∷ [] else [])) (own_is e) in
-    count-append (belongs_to (whose e)) xs (e ∷ []) ∙ ap (λ n. count_of (belongs_to (whose e)) xs + n) one
+    let one : count_of (belongs_to (whose e)) (e ∷ []) ≡ 1 =
+    ap (λ b. length (if b then e ∷ [] else [])) (own_is e) in
+    count-append (belongs_to (whose e)) xs (e ∷ [])
+    ∙ ap (λ n. count_of (belongs_to (whose e)) xs + n) one
 
 -- these events of the log were heard, and their lines written
-pub record Showing (lines : Lines) (limits : Bounds) (e : EventReader) (start now old new : Told) : Type 0 where
+pub record Showing (lines : Lines) (limits : Bounds) (e : EventReader)
+    (start now old new : Told) : Type 0 where
   pub heard : List Event
   pub so_far : SoFar limits e start now heard
   pub ignored : e.completeness ≡ Ignored
   pub wrote : Wrote old new (lines_of lines heard)
 
-pub nothing_shown : (lines : Lines) (limits : Bounds) (e : EventReader) (start old : Told) → SoFar limits e start start [] → e.completeness ≡ Ignored → Showing lines limits e start start old old
-nothing_shown lines limits e start old so_far ignored = record { heard = []; so_far = so_far; ignored = ignored; wrote = wrote_nothing old }
+pub nothing_shown : (lines : Lines) (limits : Bounds) (e : EventReader) (start now old : Told)
+    → SoFar limits e start now [] → e.completeness ≡ Ignored
+    → Showing lines limits e start now old old
+nothing_shown lines limits e start now old so_far ignored = record {
+  heard = [];
+  so_far = so_far;
+  ignored = ignored;
+  wrote = wrote_nothing old;
+}
 
-module _ (lines : Lines) (limits : Bounds) (start now old mid new : Told) (heard : List Event) (wrote : Wrote old mid (lines_of lines heard)) where
-  placed : (e : EventReader) (event : Event) (place : Place) → SoFar limits e start now (heard ++ event ∷ []) → IsPlace heard event place → IsPlaceBehind heard event place
+module _ (lines : Lines) (limits : Bounds) (start now old mid new : Told) (heard : List Event)
+    (wrote : Wrote old mid (lines_of lines heard)) where
+  placed : (e : EventReader) (event : Event) (place : Place)
+      → SoFar limits e start now (heard ++ event ∷ []) → IsPlace heard event place
+      → IsPlaceBehind heard event place
   placed e event place so_far is =
       let all = heard ++ event ∷ [] in
       let own = belongs_to (whose event) in
@@ -129,27 +161,40 @@ module _ (lines : Lines) (limits : Bounds) (start now old mid new : Told) (heard
       )
 
   -- one more event and its line
-  pub one_shown_more : (e : EventReader) (event : Event) (place : Place) → SoFar limits e start now (heard ++ event ∷ []) → e.completeness ≡ Ignored → IsPlace heard event place → Wrote mid new (line_of lines place event) → Showing lines limits e start now old new
+  pub one_shown_more : (e : EventReader) (event : Event) (place : Place)
+      → SoFar limits e start now (heard ++ event ∷ []) → e.completeness ≡ Ignored
+      → IsPlace heard event place → Wrote mid new (line_of lines place event)
+      → Showing lines limits e start now old new
   one_shown_more e event place so_far ignored counted line =
       let is = placed e event place so_far counted in
       record {
         heard = heard ++ event ∷ [];
         so_far = so_far;
         ignored = ignored;
-        wrote = subst (Wrote old new) (sym (lines-snoc lines heard event place is)) (wrote_then old mid new (lines_of lines heard) (line_of lines place event) wrote line);
+        wrote = subst (Wrote old new) (sym (lines-snoc lines heard event place is))
+            (wrote_then old mid new (lines_of lines heard) (line_of lines place event) wrote line);
       }
 
   -- its line was not written
-  pub line_failed : (e : EventReader) (event : Event) (place : Place) (fault : RunFault) → SoFar limits e start now (heard ++ event ∷ []) → IsPlace heard event place → Tells mid new (line_of lines place event) (Err fault) → ShowedPart lines limits start now old new fault
+  pub line_failed : (e : EventReader) (event : Event) (place : Place) (fault : RunFault)
+      → SoFar limits e start now (heard ++ event ∷ []) → IsPlace heard event place
+      → Tells mid new (line_of lines place event) (Err fault)
+      → ShowedPart lines limits start now old new fault
   line_failed e event place faults.Write so_far counted told =
       let is = placed e event place so_far counted in
-      let due : lines_of lines (heard ++ event ∷ []) ≡ (lines_of lines heard ++ told.front) ++ told.back = lines-snoc lines heard event place is ∙ ap (λ l. lines_of lines heard ++ l) told.whole ∙ sym (append_assoc (lines_of lines heard) told.front told.back) in
+      let due : lines_of lines (heard ++ event ∷ [])
+      ≡ (lines_of lines heard ++ told.front) ++ told.back =
+      lines-snoc lines heard event place is ∙ ap (λ l. lines_of lines heard ++ l) told.whole
+      ∙ sym (append_assoc (lines_of lines heard) told.front told.back) in
       record {
         out = lines_of lines heard ++ told.front;
         took = took_then old mid new (lines_of lines heard) told.front wrote.took told.took;
-        due = read_map limits start now (BeginsWith limits (heard ++ event ∷ [])) (λ log. BeginsShown lines limits log (lines_of lines heard ++ told.front)) (begins_shown lines limits (heard ++ event ∷ []) (lines_of lines heard ++ told.front) told.back due)
+        due = read_map limits start now (BeginsWith limits (heard ++ event ∷ []))
+            (λ log. BeginsShown lines limits log (lines_of lines heard ++ told.front))
+            (begins_shown lines limits (heard ++ event ∷ []) (lines_of lines heard ++ told.front)
+            told.back due)
             (so_far_begins limits e start now (heard ++ event ∷ []) so_far);
-        source = so_far.at.failures;
+        source = so_far_failures limits e start now (heard ++ event ∷ []) so_far;
         sink = told.failures ∙ ap after_failure wrote.failures;
       }
   line_failed e event place faults.Memory so_far counted told =
@@ -157,65 +202,113 @@ module _ (lines : Lines) (limits : Bounds) (start now old mid new : Told) (heard
       record {
         out = lines_of lines heard;
         took = subst (λ (t : Told). Took old t (lines_of lines heard)) (sym told) wrote.took;
-        due = read_map limits start now (BeginsWith limits (heard ++ event ∷ [])) (λ log. BeginsShown lines limits log (lines_of lines heard)) (begins_shown lines limits (heard ++ event ∷ []) (lines_of lines heard) (line_of lines place event) (lines-snoc lines heard event place is))
+        due = read_map limits start now (BeginsWith limits (heard ++ event ∷ []))
+            (λ log. BeginsShown lines limits log (lines_of lines heard))
+            (begins_shown lines limits (heard ++ event ∷ []) (lines_of lines heard)
+            (line_of lines place event) (lines-snoc lines heard event place is))
             (so_far_begins limits e start now (heard ++ event ∷ []) so_far);
-        source = so_far.at.failures;
+        source = so_far_failures limits e start now (heard ++ event ∷ []) so_far;
         sink = ap (λ (t : Told). t.failures) told ∙ wrote.failures;
       }
   line_failed e event place faults.Read so_far counted told = absurd told
 
-module _ (lines : Lines) (limits : Bounds) (start now old mid : Told) (heard : List Event) (wrote : Wrote old mid (lines_of lines heard)) where
+module _ (lines : Lines) (limits : Bounds) (start now old mid : Told) (heard : List Event)
+    (wrote : Wrote old mid (lines_of lines heard)) where
   -- the verdict was found
-  pub all_shown : (completeness : Completeness) (v : Verdict) → completeness ≡ Ignored → Found completeness limits start now heard v → ShowedAll lines limits start now old mid v
+  pub all_shown : (completeness : Completeness) (v : Verdict) → completeness ≡ Ignored
+      → Found completeness limits start now heard v → ShowedAll lines limits start now old mid v
   all_shown completeness v ignored found = record {
     out = lines_of lines heard;
     wrote = wrote;
-    due = read_map limits start now (λ log. EndsBy completeness limits log heard v) (λ log. IsShown lines limits log v (lines_of lines heard ++ report v)) (λ log ends. ends_shown lines limits heard v log (subst (λ c. EndsBy c limits log heard v) ignored ends)) found.of_read;
+    due = read_map limits start now (λ log. EndsBy completeness limits log heard v)
+        (λ log. IsShown lines limits log v (lines_of lines heard ++ report v))
+        (λ log ends. ends_shown lines limits heard v log
+        (subst (λ c. EndsBy c limits log heard v) ignored ends)) found.of_read;
     failures = found.failures;
   }
 
   -- the log was not read to its verdict
-  pub broke_shown : (fault : RunFault) → BrokeOff limits start now heard fault → ShowedPart lines limits start now old mid fault
+  pub broke_shown : (fault : RunFault) → BrokeOff limits start now heard fault
+      → ShowedPart lines limits start now old mid fault
   broke_shown fault broke = record {
     out = lines_of lines heard;
     took = wrote.took;
-    due = read_map limits start now (BeginsWith limits heard) (λ log. BeginsShown lines limits log (lines_of lines heard)) (begins_shown lines limits heard (lines_of lines heard) [] (sym (append-nil (lines_of lines heard)))) broke.of_read;
+    due = read_map limits start now (BeginsWith limits heard)
+        (λ log. BeginsShown lines limits log (lines_of lines heard))
+        (begins_shown lines limits heard (lines_of lines heard) []
+        (sym (append-nil (lines_of lines heard)))) broke.of_read;
     source = by_source fault broke.failures broke.unwritten;
     sink = by_sink fault wrote.failures broke.unwritten;
   }
     where
-      by_source : (f : RunFault) → now.failures ≡ failures_after f start.failures → (f ≡ faults.Write → ⊥) → now.failures ≡ failures_after f start.failures
+      by_source : (f : RunFault) → now.failures ≡ failures_after f start.failures
+          → (f ≡ faults.Write → ⊥) → now.failures ≡ failures_after f start.failures
       by_source faults.Read e unwritten = e
       by_source faults.Write e unwritten = e
       by_source faults.Memory e unwritten = e
 
-      by_sink : (f : RunFault) → mid.failures ≡ old.failures → (f ≡ faults.Write → ⊥) → mid.failures ≡ sink_failures_after f old.failures
+      by_sink : (f : RunFault) → mid.failures ≡ old.failures → (f ≡ faults.Write → ⊥)
+          → mid.failures ≡ sink_failures_after f old.failures
       by_sink faults.Read e unwritten = e
       by_sink faults.Write e unwritten = absurd (unwritten refl)
       by_sink faults.Memory e unwritten = e
 
 -- ---- the report
 
-pub verdict_read : (lines : Lines) (limits : Bounds) (start now old new : Told) (given v : code.Verdict) → ShowedAll lines limits start now old new (verdict_view given)
-    → (let outcome : Result Outcome RunFault = Ok (Judged given) in outcome) ≡ Ok (Judged v) → OfRead limits start now (λ log. IsVerdict limits log (verdict_view v))
+pub verdict_read : (lines : Lines) (limits : Bounds) (start now old new : Told)
+    (given v : code.Verdict) → ShowedAll lines limits start now old new (verdict_view given)
+    → (let outcome : Result Outcome RunFault = Ok (Judged given) in outcome) ≡ Ok (Judged v)
+    → OfRead limits start now (λ log. IsVerdict limits log (verdict_view v))
 verdict_read lines limits start now old new given v s e =
-    judged_as given v (λ w. OfRead limits start now (λ log. IsVerdict limits log (verdict_view w))) e (read_map limits start now _ (λ log. IsVerdict limits log (verdict_view given)) (λ log shown. shown.0) s.due)
+    judged_as given v (λ w. OfRead limits start now (λ log. IsVerdict limits log (verdict_view w)))
+    e (read_map limits start now _ (λ log. IsVerdict limits log (verdict_view given))
+    (λ log shown. shown.0) s.due)
 
-pub shown_read : (lines : Lines) (limits : Bounds) (start now old mid new : Told) (given v : code.Verdict) (written : List ℕ) → ShowedAll lines limits start now old mid (verdict_view given) → written ≡ report (verdict_view given) → Wrote mid new written
-    → (let outcome : Result Outcome RunFault = Ok (Judged given) in outcome) ≡ Ok (Judged v) → (out : List ℕ) × Took old new out × OfRead limits start now (λ log. IsShown lines limits log (verdict_view v) out)
+pub shown_read : (lines : Lines) (limits : Bounds) (start now old mid new : Told)
+    (given v : code.Verdict) (written : List ℕ)
+    → ShowedAll lines limits start now old mid (verdict_view given)
+    → written ≡ report (verdict_view given) → Wrote mid new written
+    → (let outcome : Result Outcome RunFault = Ok (Judged given) in outcome) ≡ Ok (Judged v)
+    → (out : List ℕ) × Took old new out
+    × OfRead limits start now (λ log. IsShown lines limits log (verdict_view v) out)
 shown_read lines limits start now old mid new given v written s is wrote e =
-    judged_as given v (λ w. (out : List ℕ) × Took old new out × OfRead limits start now (λ log. IsShown lines limits log (verdict_view w) out)) e
-    (s.out ++ report (verdict_view given), subst (λ l. Took old new (s.out ++ l)) is (took_then old mid new s.out written s.wrote.took wrote.took), s.due)
+    judged_as given v (λ w. (out : List ℕ) × Took old new out
+    × OfRead limits start now (λ log. IsShown lines limits log (verdict_view w) out)) e (
+      s.out ++ report (verdict_view given),
+      subst (λ l. Took old new (s.out ++ l)) is
+          (took_then old mid new s.out written s.wrote.took wrote.took),
+      s.due,
+    )
 
 -- memory was refused for the report
-pub lines_begun : (lines : Lines) (limits : Bounds) (start now old new : Told) (v : Verdict) → ShowedAll lines limits start now old new v → (out : List ℕ) × Took old new out × OfRead limits start now (λ log. BeginsShown lines limits log out)
-lines_begun lines limits start now old new v s = (s.out, s.wrote.took, read_map limits start now (λ log. IsShown lines limits log v (s.out ++ report v)) (λ log. BeginsShown lines limits log s.out) (λ log shown. (v, report v, shown)) s.due)
+pub lines_begun : (lines : Lines) (limits : Bounds) (start now old new : Told) (v : Verdict)
+    → ShowedAll lines limits start now old new v
+    → (out : List ℕ) × Took old new out
+    × OfRead limits start now (λ log. BeginsShown lines limits log out)
+lines_begun lines limits start now old new v s = (
+  s.out,
+  s.wrote.took,
+  read_map limits start now
+      (λ log. IsShown lines limits log v (s.out ++ report v))
+      (λ log. BeginsShown lines limits log s.out) (λ log shown. (v, report v, shown)) s.due,
+)
 
 -- the report was not written
-pub report_begun : (lines : Lines) (limits : Bounds) (start now old mid new : Told) (v : Verdict) (written : List ℕ) → ShowedAll lines limits start now old mid v → written ≡ report v → Stopped mid new written → (out : List ℕ) × Took old new out × OfRead limits start now (λ log. BeginsShown lines limits log out)
+pub report_begun : (lines : Lines) (limits : Bounds) (start now old mid new : Told) (v : Verdict)
+    (written : List ℕ) → ShowedAll lines limits start now old mid v → written ≡ report v
+    → Stopped mid new written
+    → (out : List ℕ) × Took old new out
+    × OfRead limits start now (λ log. BeginsShown lines limits log out)
 report_begun lines limits start now old mid new v written s is stopped = (
   s.out ++ stopped.front,
   took_then old mid new s.out stopped.front s.wrote.took stopped.took,
-  read_map limits start now (λ log. IsShown lines limits log v (s.out ++ report v)) (λ log. BeginsShown lines limits log (s.out ++ stopped.front))
-      (λ log shown. (v, stopped.back, subst (IsShown lines limits log v) (ap (λ l. s.out ++ l) (sym is ∙ stopped.whole) ∙ sym (append_assoc s.out stopped.front stopped.back)) shown)) s.due,
+  read_map limits start now (λ log. IsShown lines limits log v (s.out ++ report v))
+      (λ log. BeginsShown lines limits log (s.out ++ stopped.front))
+      (λ log shown. (
+        v,
+        stopped.back,
+        subst (IsShown lines limits log v)
+            (ap (λ l. s.out ++ l) (sym is ∙ stopped.whole)
+            ∙ sym (append_assoc s.out stopped.front stopped.back)) shown,
+      )) s.due,
 )

@@ -1,8 +1,8 @@
 pub mod Answered
 pub mod Rulings
+pub mod Heard
 pub mod Standing
-pub mod Next
-pub mod Hearing
+pub mod Ending
 pub mod TextAnswers
 pub mod LogEvents
 pub mod ShownLog

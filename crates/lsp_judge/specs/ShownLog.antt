@@ -1,4 +1,5 @@
--- What is written where a log is shown: a line for each event before the verdict's place, and the report.
+-- What is written where a log is shown: a line for each event before the verdict's place, and the
+-- report.
 use Rattle.std.specs.Prelude.{◌≡◌, ℕ, List, [], ◌∷◌, ◌++◌, length, Result, Ok, Err}
 use Rattle.lsp_frame.specs.Bounds.{Bounds, IsInRange}
 use Rattle.lsp_frame.specs.Sink.{Wrote}
@@ -18,29 +19,36 @@ use Rattle.lsp_events.specs.declared.heard.Place.{Place}
 
 -- ---- a log
 
--- **what is due for a log**: the lines of the events before the verdict's place, short or long, and the report
+-- **what is due for a log**: the lines of the events before the verdict's place, short or long, and
+-- the report
 abbrev pub IsShown : Lines → Bounds → List ℕ → Verdict → List ℕ → Type 0
-IsShown lines limits log v out = (whole : IsVerdict limits log v) × (out ≡ show_of lines v whole.final.events)
+IsShown lines limits log v out =
+    (whole : IsVerdict limits log v) × (out ≡ show_of lines v whole.final.events)
 
 -- these bytes begin what is due for a log
 abbrev pub BeginsShown : Lines → Bounds → List ℕ → List ℕ → Type 0
-BeginsShown lines limits log front = (v : Verdict) × (left : List ℕ) × IsShown lines limits log v (front ++ left)
+BeginsShown lines limits log front =
+    (v : Verdict) × (left : List ℕ) × IsShown lines limits log v (front ++ left)
 
 -- **One verdict is shown of a log, and with lines of one kind one output**
 abbrev pub OneShown : Type 0
-OneShown = (lines : Lines) (limits : Bounds) → IsInRange limits → (log : List ℕ) (v w : Verdict) (out other : List ℕ) → IsShown lines limits log v out → IsShown lines limits log w other → (v ≡ w) × (out ≡ other)
+OneShown = (lines : Lines) (limits : Bounds) → IsInRange limits
+    → (log : List ℕ) (v w : Verdict) (out other : List ℕ) → IsShown lines limits log v out
+    → IsShown lines limits log w other → (v ≡ w) × (out ≡ other)
 
 -- ---- all lines
 
 -- the lines are written, behind which the report is due
-pub record ShowedAll (lines : Lines) (limits : Bounds) (start now old new : Told) (v : Verdict) : Type 0 where
+pub record ShowedAll (lines : Lines) (limits : Bounds) (start now old new : Told)
+    (v : Verdict) : Type 0 where
   pub out : List ℕ
   pub wrote : Wrote old new out
   pub due : OfRead limits start now (λ log. IsShown lines limits log v (out ++ report v))
   pub failures : now.failures ≡ start.failures
 
 -- what is written before the fault begins what is due
-pub record ShowedPart (lines : Lines) (limits : Bounds) (start now old new : Told) (fault : RunFault) : Type 0 where
+pub record ShowedPart (lines : Lines) (limits : Bounds) (start now old new : Told)
+    (fault : RunFault) : Type 0 where
   pub out : List ℕ
   pub took : Took old new out
   pub due : OfRead limits start now (λ log. BeginsShown lines limits log out)
@@ -54,7 +62,10 @@ pub record IsPlace (before : List Event) (event : Event) (place : Place) : Type 
 
 -- ---- a run
 
--- the lines of the events before the verdict's place are written, or, before a fault, a prefix of what is due
-abbrev pub Shows : Lines → Bounds → Told → Told → Told → Told → Result code.Verdict RunFault → Type 0
-Shows lines limits start now old new (Ok v) = ShowedAll lines limits start now old new (verdict_view v)
+-- the lines of the events before the verdict's place are written, or, before a fault, a prefix of
+-- what is due
+abbrev pub Shows : Lines → Bounds → Told → Told → Told → Told → Result code.Verdict RunFault
+    → Type 0
+Shows lines limits start now old new (Ok v) =
+    ShowedAll lines limits start now old new (verdict_view v)
 Shows lines limits start now old new (Err fault) = ShowedPart lines limits start now old new fault

@@ -1,25 +1,22 @@
 -- For which records a judge stands.
 use Rattle.std.specs.Prelude.{◌≡◌, List, [], Option, Some, None, option_and_then}
 use Rattle.lsp_frame.specs.Bounds.{Bounds, IsInRange}
-use Rattle.lsp_frame.specs.Decoder as decoder
 use Rattle.lsp_frame.specs.declared.format.Format.{Format}
-use Rattle.lsp_types.specs.declared.side.Side.TheVariants.{Editor, Server}
 use Rattle.lsp_session.specs.State as session
 use Rattle.lsp_docs.specs.State as docs
 use Rattle.lsp_docs.specs.Terms.{terms_of}
 use Rattle.lsp_log.specs.Log.{Record}
+use Rattle.lsp_streams.specs.Streams as frames
 use Rattle.lsp_verdict.specs.declared.counts.Counts.{Counts}
-use Rattle.lsp_judge.specs.declared.heard.Turn.{Turn}
 use Rattle.lsp_judge.specs.declared.ruling.Ruling.{Ruling}
 use Rattle.lsp_judge.specs.declared.ruling.Ruling.TheVariants.{No, BadLog, Memory}
-use Rattle.lsp_verdict.specs.Drained.{IsDrained}
 use Rattle.lsp_verdict.specs.Event.{Event}
 use Rattle.lsp_verdict.specs.Given.{as_given}
 use Rattle.lsp_verdict.specs.Outcome.{Offends}
-use Rattle.lsp_verdict.specs.Placed.{IsSession, joined}
+use Rattle.lsp_verdict.specs.Placed.{Raw}
+use Rattle.lsp_judge.specs.Heard.{HasHeard}
 use Rattle.lsp_judge.specs.Rulings.{verdict_in}
 use Rattle.lsp_verdict.specs.Verdict.{Verdict, no}
-use Rattle.lsp_events.specs.Standing.{Follows}
 
 -- ---- records
 
@@ -27,39 +24,39 @@ use Rattle.lsp_events.specs.Standing.{Follows}
 pub record State : Type 0 where
   pub limits : Bounds
   pub format : Format
-  pub editor : decoder.State
-  pub server : decoder.State
+  pub streams : frames.State
   pub messages : session.State
   pub documents : docs.State
   pub counts : Counts
-  pub turn : Option Turn
   pub given : Option Ruling
 
--- nothing was given: no event of the records offends, all were heard, and each layer stands for its part of them
-pub record IsOpen (s : State) (records : List Record) : Type 0 where
-  pub idle : s.turn ≡ None
-  pub events : List Event
-  pub is_session : IsSession s.limits records events
-  pub follows : Follows s.messages s.documents s.counts events
-  pub editor : IsDrained s.editor (joined Editor records)
-  pub server : IsDrained s.server (joined Server records)
+-- **these events of the records were heard**, none of which offends, and those that are due are
+-- still to be heard
+pub record IsHearing (s : State) (records : List Record) (heard : List Event)
+    (due : List Raw) : Type 0 where
+  pub past : List Raw
+  pub stands : frames.Stands s.limits s.streams records past due
+  pub has : HasHeard (terms_of s.limits s.format) s.messages s.documents s.counts past heard
+
+-- nothing was given: no event of the records offends, and all were heard
+abbrev pub IsOpen : State → List Record → Type 0
+IsOpen s records = (events : List Event) × IsHearing s records events []
 
 -- an event of the records offends, and this is the No at the first
 abbrev pub HasOffence : Bounds → Format → List Record → Verdict → Type 0
-HasOffence limits format records given = (v : Verdict) × Offends limits format records v × (given ≡ as_given v)
+HasOffence limits format records given =
+    (v : Verdict) × Offends limits format records v × (given ≡ as_given v)
 
 -- what is left as it was by a step
 pub record Keeps (old new : State) : Type 0 where
   pub limits : new.limits ≡ old.limits
   pub format : new.format ≡ old.format
-  pub editor : new.editor.limits ≡ old.editor.limits
-  pub server : new.server.limits ≡ old.server.limits
-  pub documents : new.documents.terms ≡ old.documents.terms
   pub given : new.given ≡ old.given
 
 -- a ruling at the last of these records, unless memory ran out
 abbrev pub Rules : Bounds → Format → List Record → Ruling → Type 0
-Rules limits format records (No rule by number event) = HasOffence limits format records (no rule by number event)
+Rules limits format records (No rule by number event) =
+    HasOffence limits format records (no rule by number event)
 Rules limits format records (BadLog number code) = ⊥
 Rules limits format records Memory = Unit {0}
 
@@ -71,34 +68,16 @@ WasRefused given = given ≡ Some Memory
 abbrev pub is_given : Option Ruling → Option Verdict
 is_given given = option_and_then verdict_in given
 
--- what a judge gives, against the records taken; once it gave a fault of the log or was refused memory, it stands for none
+-- what a judge gives, against the records taken; once it gave a fault of the log or was refused
+-- memory, it stands for none
 abbrev pub StandsBy : Option Ruling → State → List Record → Type 0
 StandsBy None s records = IsOpen s records
-StandsBy (Some (No rule by number event)) s records = HasOffence s.limits s.format records (no rule by number event)
+StandsBy (Some (No rule by number event)) s records =
+    HasOffence s.limits s.format records (no rule by number event)
 StandsBy (Some (BadLog number code)) s records = ⊥
 StandsBy (Some Memory) s records = ⊥
 
--- the parts are limited alike, the documents by the format
-pub record AreLimits (s : State) : Type 0 where
-  pub range : IsInRange s.limits
-  pub editor : s.editor.limits ≡ s.limits
-  pub server : s.server.limits ≡ s.limits
-  pub documents : s.documents.terms ≡ terms_of s.limits s.format
-
 -- **the judge stands for the records taken**
 pub record Stands (s : State) (records : List Record) : Type 0 where
-  pub limits : AreLimits s
+  pub range : IsInRange s.limits
   pub given : StandsBy s.given s records
-
--- ---- the format
-
--- the judge is one for this format, made anew where it was for another
-pub record IsFitted (format : Format) (old new : State) : Type 0 where
-  pub limits : new.limits ≡ old.limits
-  pub fits : new.format ≡ format
-  pub same : old.format ≡ format → new ≡ old
-  pub other : (old.format ≡ format → ⊥) → Stands new [] × (new.given ≡ None)
-
-abbrev pub IsRefitted : Option Format → State → State → Type 0
-IsRefitted None old new = new ≡ old
-IsRefitted (Some format) old new = IsFitted format old new

@@ -17,8 +17,10 @@ ghost use Rattle.lsp_verdict.specs.Report.{report};
 ghost use Rattle.lsp_verdict.specs.RunIo.{OfRead, GaveAtMost, source_failures, sink_failures};
 ghost use Rattle.lsp_verdict.specs.Verdict.{yes, no, summary};
 
+use crate::contents::hear;
 use crate::event_reader::EventReader;
 use lsp_frame::{Format, Limits, Sink, Source, put_all};
+use lsp_streams::Next;
 use lsp_verdict::{Completeness, Outcome, RunFault, Summary, Verdict, Who, report_of};
 use std::alloc::Global;
 
@@ -30,10 +32,20 @@ fn verdict_of<R: Source>(
     completeness: Completeness,
 ) -> Result<Verdict, RunFault>
     ensures range { IsInRange limits }
-    ensures answer { GivesVerdict completeness limits (R.told reader.old) (R.told reader.new) result }
+    ensures answer { GivesVerdict completeness limits (R.told reader.old) (R.told reader.new)
+        result }
 {
-    let mut events = EventReader::new(alloc, limits, completeness);
-    events.verdict(reader)
+    let mut events = EventReader::open(alloc, reader, limits, completeness)?;
+    loop {
+        match events.log.next(reader) {
+            Err(fault) => return Err(fault),
+            Ok(Next::End(end)) => return Ok(events.finish(alloc, end)?),
+            Ok(Next::Event(raw)) => match hear(alloc, &mut events.events, raw) {
+                Ok(heard) => drop(heard),
+                Err(ruling) => return Ok(ruling.answer()?),
+            },
+        }
+    }
 }
 
 /// Reads a log up to the first event that offends, or to its end, and writes the report of the
@@ -48,15 +60,18 @@ fn check<R: Source, W: Sink>(
     ensures range { IsInRange limits }
     ensures judged { IfOk result (λ outcome. (v : Verdict) × (outcome ≡ Outcome.Judged v)) }
     ensures verdict { (v : Verdict) → result ≡ Ok (Outcome.Judged v)
-        → OfRead limits (R.told reader.old) (R.told reader.new) (λ log. IsVerdictBy completeness limits log (verdict_view v)) }
+        → OfRead limits (R.told reader.old) (R.told reader.new)
+        (λ log. IsVerdictBy completeness limits log (verdict_view v)) }
     ensures report { (v : Verdict) → result ≡ Ok (Outcome.Judged v)
         → Took (W.told writer.old) (W.told writer.new) (report (verdict_view v)) }
     ensures read_fault { result ≡ Err RunFault.Read → W.told writer.new ≡ W.told writer.old }
     ensures memory { result ≡ Err RunFault.Memory → W.told writer.new ≡ W.told writer.old }
     ensures write_fault { result ≡ Err RunFault.Write → IsReportCut completeness limits
         (R.told reader.old) (R.told reader.new) (W.told writer.old) (W.told writer.new) }
-    ensures source_failures { (R.told reader.new).failures ≡ source_failures result (R.told reader.old).failures }
-    ensures sink_failures { (W.told writer.new).failures ≡ sink_failures result (W.told writer.old).failures }
+    ensures source_failures { (R.told reader.new).failures
+        ≡ source_failures result (R.told reader.old).failures }
+    ensures sink_failures { (W.told writer.new).failures
+        ≡ sink_failures result (W.told writer.old).failures }
     ensures limit { GaveAtMost (limits.log + 1) (R.told reader.old) (R.told reader.new) }
 {
     let verdict = verdict_of(alloc, reader, limits, completeness)?;
@@ -75,38 +90,47 @@ pub fn run_check<R: Source, W: Sink>(
     writer: &mut W,
     limits: Limits,
 ) -> Result<Outcome, RunFault>
-    // The answer is the verdict on the log read, however that goes on where its end was not met; its
-    // report and nothing else is written.
+    // The answer is the verdict on the log read, however that goes on where its end was not met;
+    // its report and nothing else is written.
     ensures judged { IfOk result (λ outcome. (v : Verdict) × (outcome ≡ Outcome.Judged v)) }
     ensures verdict { (v : Verdict) → result ≡ Ok (Outcome.Judged v)
-        → OfRead limits (R.told reader.old) (R.told reader.new) (λ log. IsVerdict limits log (verdict_view v)) }
+        → OfRead limits (R.told reader.old) (R.told reader.new)
+        (λ log. IsVerdict limits log (verdict_view v)) }
     ensures report { (v : Verdict) → result ≡ Ok (Outcome.Judged v)
         → Took (W.told writer.old) (W.told writer.new) (report (verdict_view v)) }
 
     // Yes means that the log is kept, and that its end was met.
     ensures yes { (s : Summary) → result ≡ Ok (Outcome.Judged (Verdict.Yes s))
         → OfRead limits (R.told reader.old) (R.told reader.new) (λ log. IsKept limits log) }
-    ensures ended { (s : Summary) → result ≡ Ok (Outcome.Judged (Verdict.Yes s)) → IsAtEnd (R.told reader.new).bytes }
+    ensures ended { (s : Summary) → result ≡ Ok (Outcome.Judged (Verdict.Yes s))
+        → IsAtEnd (R.told reader.new).bytes }
     // A No names the first event that offends, and its least rule; or the stream that ends inside a
     // frame.
-    ensures no { (rule number event : ℕ) (who : Who) → result ≡ Ok (Outcome.Judged (Verdict.No rule who number event))
-        → OfRead limits (R.told reader.old) (R.told reader.new) (λ log. Refuses limits log (no rule who number event)) }
+    ensures no { (rule number event : ℕ) (who : Who)
+        → result ≡ Ok (Outcome.Judged (Verdict.No rule who number event))
+        → OfRead limits (R.told reader.old) (R.told reader.new)
+        (λ log. Refuses limits log (no rule who number event)) }
     // A bad log has that fault, and no event before it offends.
-    ensures bad_log { (number : ℕ) (code : LogCode) → result ≡ Ok (Outcome.Judged (Verdict.BadLog number code))
-        → OfRead limits (R.told reader.old) (R.told reader.new) (λ log. HasFault limits log number code) }
-    // Yes is answered wherever no event offends, the log has no fault, and both streams are complete
-    // frames.
+    ensures bad_log { (number : ℕ) (code : LogCode)
+        → result ≡ Ok (Outcome.Judged (Verdict.BadLog number code))
+        → OfRead limits (R.told reader.old) (R.told reader.new)
+        (λ log. HasFault limits log number code) }
+    // Yes is answered wherever no event offends, the log has no fault, and both streams are
+    // complete frames.
     ensures kept { (v : Verdict) → result ≡ Ok (Outcome.Judged v)
         → OfRead limits (R.told reader.old) (R.told reader.new)
-        (λ log. (format : Option Format) (events : List Event) → IsClean limits log format events → verdict_view v ≡ yes (summary (log_terms limits format) events)) }
+        (λ log. (format : Option Format) (events : List Event) → IsClean limits log format events
+        → verdict_view v ≡ yes (summary (log_terms limits format) events)) }
 
     // After a read fault or for want of memory nothing is written, after a write fault a prefix.
     ensures read_fault { result ≡ Err RunFault.Read → W.told writer.new ≡ W.told writer.old }
     ensures memory { result ≡ Err RunFault.Memory → W.told writer.new ≡ W.told writer.old }
     ensures write_fault { result ≡ Err RunFault.Write → IsReportCut Completeness.Ignored limits
         (R.told reader.old) (R.told reader.new) (W.told writer.old) (W.told writer.new) }
-    ensures source_failures { (R.told reader.new).failures ≡ source_failures result (R.told reader.old).failures }
-    ensures sink_failures { (W.told writer.new).failures ≡ sink_failures result (W.told writer.old).failures }
+    ensures source_failures { (R.told reader.new).failures
+        ≡ source_failures result (R.told reader.old).failures }
+    ensures sink_failures { (W.told writer.new).failures
+        ≡ sink_failures result (W.told writer.old).failures }
     // At most one byte past the limit is read.
     ensures limit { GaveAtMost (limits.log + 1) (R.told reader.old) (R.told reader.new) }
 {
@@ -124,39 +148,50 @@ pub fn run_check_complete<R: Source, W: Sink>(
     writer: &mut W,
     limits: Limits,
 ) -> Result<Outcome, RunFault>
-    // The answer is the verdict on the log read, however that goes on where its end was not met; its
-    // report and nothing else is written.
+    // The answer is the verdict on the log read, however that goes on where its end was not met;
+    // its report and nothing else is written.
     ensures judged { IfOk result (λ outcome. (v : Verdict) × (outcome ≡ Outcome.Judged v)) }
     ensures verdict { (v : Verdict) → result ≡ Ok (Outcome.Judged v)
-        → OfRead limits (R.told reader.old) (R.told reader.new) (λ log. IsCompleteVerdict limits log (verdict_view v)) }
+        → OfRead limits (R.told reader.old) (R.told reader.new)
+        (λ log. IsCompleteVerdict limits log (verdict_view v)) }
     ensures report { (v : Verdict) → result ≡ Ok (Outcome.Judged v)
         → Took (W.told writer.old) (W.told writer.new) (report (verdict_view v)) }
 
-    // Yes means that the log is kept and its session was brought to its end, and that the log's end was
-    // met.
+    // Yes means that the log is kept and its session was brought to its end, and that the log's end
+    // was met.
     ensures yes { (s : Summary) → result ≡ Ok (Outcome.Judged (Verdict.Yes s))
         → OfRead limits (R.told reader.old) (R.told reader.new) (λ log. IsComplete limits log) }
-    ensures ended { (s : Summary) → result ≡ Ok (Outcome.Judged (Verdict.Yes s)) → IsAtEnd (R.told reader.new).bytes }
+    ensures ended { (s : Summary) → result ≡ Ok (Outcome.Judged (Verdict.Yes s))
+        → IsAtEnd (R.told reader.new).bytes }
     // A No names the first event that offends, and its least rule; or the stream that ends inside a
     // frame; or what the session of a log that is kept lacks.
-    ensures no { (rule number event : ℕ) (who : Who) → result ≡ Ok (Outcome.Judged (Verdict.No rule who number event))
-        → OfRead limits (R.told reader.old) (R.told reader.new) (λ log. Refuses limits log (no rule who number event) ⊎ IsCutShort limits log (no rule who number event)) }
+    ensures no { (rule number event : ℕ) (who : Who)
+        → result ≡ Ok (Outcome.Judged (Verdict.No rule who number event))
+        → OfRead limits (R.told reader.old) (R.told reader.new)
+        (λ log. Refuses limits log (no rule who number event)
+        ⊎ IsCutShort limits log (no rule who number event)) }
     // A bad log has that fault, and no event before it offends.
-    ensures bad_log { (number : ℕ) (code : LogCode) → result ≡ Ok (Outcome.Judged (Verdict.BadLog number code))
-        → OfRead limits (R.told reader.old) (R.told reader.new) (λ log. HasFault limits log number code) }
+    ensures bad_log { (number : ℕ) (code : LogCode)
+        → result ≡ Ok (Outcome.Judged (Verdict.BadLog number code))
+        → OfRead limits (R.told reader.old) (R.told reader.new)
+        (λ log. HasFault limits log number code) }
     // Yes is answered wherever no event offends, the log has no fault, both streams are complete
     // frames, and the session was brought to its end.
     ensures kept { (v : Verdict) → result ≡ Ok (Outcome.Judged v)
         → OfRead limits (R.told reader.old) (R.told reader.new)
-        (λ log. (format : Option Format) (events : List Event) → IsClean limits log format events → IsBroughtToEnd events → verdict_view v ≡ yes (summary (log_terms limits format) events)) }
+        (λ log. (format : Option Format) (events : List Event) → IsClean limits log format events
+        → IsBroughtToEnd events → verdict_view v
+        ≡ yes (summary (log_terms limits format) events)) }
 
     // After a read fault or for want of memory nothing is written, after a write fault a prefix.
     ensures read_fault { result ≡ Err RunFault.Read → W.told writer.new ≡ W.told writer.old }
     ensures memory { result ≡ Err RunFault.Memory → W.told writer.new ≡ W.told writer.old }
     ensures write_fault { result ≡ Err RunFault.Write → IsReportCut Completeness.Required limits
         (R.told reader.old) (R.told reader.new) (W.told writer.old) (W.told writer.new) }
-    ensures source_failures { (R.told reader.new).failures ≡ source_failures result (R.told reader.old).failures }
-    ensures sink_failures { (W.told writer.new).failures ≡ sink_failures result (W.told writer.old).failures }
+    ensures source_failures { (R.told reader.new).failures
+        ≡ source_failures result (R.told reader.old).failures }
+    ensures sink_failures { (W.told writer.new).failures
+        ≡ sink_failures result (W.told writer.old).failures }
     // At most one byte past the limit is read.
     ensures limit { GaveAtMost (limits.log + 1) (R.told reader.old) (R.told reader.new) }
 {

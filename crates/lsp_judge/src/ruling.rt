@@ -1,5 +1,5 @@
 //! What a judge gives for good.
-ghost use Rattle.std.specs.Prelude.{◌≡◌, List, IfOk, OnErr, Some, None};
+ghost use Rattle.std.specs.Prelude.{◌≡◌, List, IfOk, OnErr, Some};
 ghost use Rattle.lsp_verdict.specs.Counting.{AreCounts};
 ghost use Rattle.lsp_verdict.specs.Event.{Event};
 ghost use Rattle.lsp_verdict.specs.Given.{verdict_view, as_given};

@@ -1,18 +1,25 @@
 //! Shows a log: a line for each event, and the report.
-ghost use Rattle.std.specs.Prelude.{◌≡◌, ℕ, ◌+◌, List, Ok, IfOk, OnErr};
+ghost use Rattle.std.specs.Prelude.{◌≡◌, ℕ, ◌+◌, List, [], ◌∷◌, ◌++◌, Ok, IfOk, OnErr};
 ghost use Rattle.std.specs.Io.KnownBytes.{IsAtEnd};
 ghost use Rattle.lsp_frame.specs.Bounds.{IsInRange};
 ghost use Rattle.lsp_frame.specs.Told.{Took};
+ghost use Rattle.lsp_verdict.specs.Counting.{AreCounts};
+ghost use Rattle.lsp_verdict.specs.Event.{Event};
 ghost use Rattle.lsp_verdict.specs.Given.{verdict_view};
 ghost use Rattle.lsp_verdict.specs.Outcome.{IsVerdict};
 ghost use Rattle.lsp_verdict.specs.RunIo.{OfRead, GaveAtMost, source_failures, sink_failures};
-ghost use Rattle.lsp_judge.specs.LogEvents.{IsFresh};
-ghost use Rattle.lsp_judge.specs.ShownLog.{Shows, IsShown, BeginsShown};
+ghost use Rattle.lsp_verdict.specs.Verdict as spec;
+ghost use Rattle.lsp_events.specs.Lines.{IsHeard};
+ghost use Rattle.lsp_judge.specs.ShownLog.{Shows, IsShown, BeginsShown, IsPlace};
 
-use crate::event_reader::{EventReader, Next};
-use lsp_events::write_event_line;
+use crate::contents::hear;
+use crate::event_reader::EventReader;
+use lsp_events::{Heard, Place, write_event_line};
 use lsp_frame::{Limits, Sink, Source, put_all};
-use lsp_verdict::{Completeness, Lines, Outcome, RunFault, Summary, Verdict, report_of};
+use lsp_streams::Next;
+use lsp_verdict::{
+    Completeness, Counts, Lines, Outcome, RunFault, Summary, Verdict, Who, report_of, who_of,
+};
 use std::alloc::Global;
 
 /// Reads a log up to the first event that offends, or to its end, and writes a line for each event
@@ -22,8 +29,8 @@ use std::alloc::Global;
 /// words; that of a snapshot its number, version, bytes of text and URI.
 ///
 /// # Errors
-/// `Read` is answered where the source failed, `Write` where the sink did, and `Memory` where memory
-/// was refused; what was written before stays written.
+/// `Read` is answered where the source failed, `Write` where the sink did, and `Memory` where
+/// memory was refused; what was written before stays written.
 pub fn run_show<R: Source, W: Sink>(
     alloc: Global,
     reader: &mut R,
@@ -33,28 +40,34 @@ pub fn run_show<R: Source, W: Sink>(
     // The answer is the verdict on the log read, however that goes on where its end was not met.
     ensures judged { IfOk result (λ outcome. (v : Verdict) × (outcome ≡ Outcome.Judged v)) }
     ensures verdict { (v : Verdict) → result ≡ Ok (Outcome.Judged v)
-        → OfRead limits (R.told reader.old) (R.told reader.new) (λ log. IsVerdict limits log (verdict_view v)) }
+        → OfRead limits (R.told reader.old) (R.told reader.new)
+        (λ log. IsVerdict limits log (verdict_view v)) }
     // What is due for that log is written, and nothing else.
     ensures shown { (v : Verdict) → result ≡ Ok (Outcome.Judged v)
         → (out : List ℕ) × Took (W.told writer.old) (W.told writer.new) out
-        × OfRead limits (R.told reader.old) (R.told reader.new) (λ log. IsShown Lines.Short limits log (verdict_view v) out) }
+        × OfRead limits (R.told reader.old) (R.told reader.new)
+        (λ log. IsShown Lines.Short limits log (verdict_view v) out) }
     // Yes is answered only where the end was met.
-    ensures ended { (s : Summary) → result ≡ Ok (Outcome.Judged (Verdict.Yes s)) → IsAtEnd (R.told reader.new).bytes }
+    ensures ended { (s : Summary) → result ≡ Ok (Outcome.Judged (Verdict.Yes s))
+        → IsAtEnd (R.told reader.new).bytes }
 
     // What is written before a fault begins what is due for the log.
     ensures fault { OnErr result ((out : List ℕ) × Took (W.told writer.old) (W.told writer.new) out
-        × OfRead limits (R.told reader.old) (R.told reader.new) (λ log. BeginsShown Lines.Short limits log out)) }
-    ensures source_failures { (R.told reader.new).failures ≡ source_failures result (R.told reader.old).failures }
-    ensures sink_failures { (W.told writer.new).failures ≡ sink_failures result (W.told writer.old).failures }
+        × OfRead limits (R.told reader.old) (R.told reader.new)
+        (λ log. BeginsShown Lines.Short limits log out)) }
+    ensures source_failures { (R.told reader.new).failures
+        ≡ source_failures result (R.told reader.old).failures }
+    ensures sink_failures { (W.told writer.new).failures
+        ≡ sink_failures result (W.told writer.old).failures }
     // At most one byte past the limit is read.
     ensures limit { GaveAtMost (limits.log + 1) (R.told reader.old) (R.told reader.new) }
 {
     show(alloc, reader, writer, limits, Lines::Short)
 }
 
-/// Does what [`run_show`] does, with long lines: each also has the event's number among those of its
-/// side, or among the snapshots; and of a message that opens, changes, saves or closes a document the
-/// URI, and the version that it is opened at or changed to.
+/// Does what [`run_show`] does, with long lines: each also has the event's number among those of
+/// its side, or among the snapshots; and of a message that opens, changes, saves or closes a
+/// document the URI, and the version that it is opened at or changed to.
 ///
 /// # Errors
 /// Those of [`run_show`].
@@ -67,19 +80,25 @@ pub fn run_show_long<R: Source, W: Sink>(
     // The answer is the verdict on the log read, however that goes on where its end was not met.
     ensures judged { IfOk result (λ outcome. (v : Verdict) × (outcome ≡ Outcome.Judged v)) }
     ensures verdict { (v : Verdict) → result ≡ Ok (Outcome.Judged v)
-        → OfRead limits (R.told reader.old) (R.told reader.new) (λ log. IsVerdict limits log (verdict_view v)) }
+        → OfRead limits (R.told reader.old) (R.told reader.new)
+        (λ log. IsVerdict limits log (verdict_view v)) }
     // What is due for that log is written, and nothing else.
     ensures shown { (v : Verdict) → result ≡ Ok (Outcome.Judged v)
         → (out : List ℕ) × Took (W.told writer.old) (W.told writer.new) out
-        × OfRead limits (R.told reader.old) (R.told reader.new) (λ log. IsShown Lines.Long limits log (verdict_view v) out) }
+        × OfRead limits (R.told reader.old) (R.told reader.new)
+        (λ log. IsShown Lines.Long limits log (verdict_view v) out) }
     // Yes is answered only where the end was met.
-    ensures ended { (s : Summary) → result ≡ Ok (Outcome.Judged (Verdict.Yes s)) → IsAtEnd (R.told reader.new).bytes }
+    ensures ended { (s : Summary) → result ≡ Ok (Outcome.Judged (Verdict.Yes s))
+        → IsAtEnd (R.told reader.new).bytes }
 
     // What is written before a fault begins what is due for the log.
     ensures fault { OnErr result ((out : List ℕ) × Took (W.told writer.old) (W.told writer.new) out
-        × OfRead limits (R.told reader.old) (R.told reader.new) (λ log. BeginsShown Lines.Long limits log out)) }
-    ensures source_failures { (R.told reader.new).failures ≡ source_failures result (R.told reader.old).failures }
-    ensures sink_failures { (W.told writer.new).failures ≡ sink_failures result (W.told writer.old).failures }
+        × OfRead limits (R.told reader.old) (R.told reader.new)
+        (λ log. BeginsShown Lines.Long limits log out)) }
+    ensures source_failures { (R.told reader.new).failures
+        ≡ source_failures result (R.told reader.old).failures }
+    ensures sink_failures { (W.told writer.new).failures
+        ≡ sink_failures result (W.told writer.old).failures }
     // At most one byte past the limit is read.
     ensures limit { GaveAtMost (limits.log + 1) (R.told reader.old) (R.told reader.new) }
 {
@@ -97,15 +116,21 @@ fn show<R: Source, W: Sink>(
 ) -> Result<Outcome, RunFault>
     ensures judged { IfOk result (λ outcome. (v : Verdict) × (outcome ≡ Outcome.Judged v)) }
     ensures verdict { (v : Verdict) → result ≡ Ok (Outcome.Judged v)
-        → OfRead limits (R.told reader.old) (R.told reader.new) (λ log. IsVerdict limits log (verdict_view v)) }
+        → OfRead limits (R.told reader.old) (R.told reader.new)
+        (λ log. IsVerdict limits log (verdict_view v)) }
     ensures shown { (v : Verdict) → result ≡ Ok (Outcome.Judged v)
         → (out : List ℕ) × Took (W.told writer.old) (W.told writer.new) out
-        × OfRead limits (R.told reader.old) (R.told reader.new) (λ log. IsShown lines limits log (verdict_view v) out) }
-    ensures ended { (s : Summary) → result ≡ Ok (Outcome.Judged (Verdict.Yes s)) → IsAtEnd (R.told reader.new).bytes }
+        × OfRead limits (R.told reader.old) (R.told reader.new)
+        (λ log. IsShown lines limits log (verdict_view v) out) }
+    ensures ended { (s : Summary) → result ≡ Ok (Outcome.Judged (Verdict.Yes s))
+        → IsAtEnd (R.told reader.new).bytes }
     ensures fault { OnErr result ((out : List ℕ) × Took (W.told writer.old) (W.told writer.new) out
-        × OfRead limits (R.told reader.old) (R.told reader.new) (λ log. BeginsShown lines limits log out)) }
-    ensures source_failures { (R.told reader.new).failures ≡ source_failures result (R.told reader.old).failures }
-    ensures sink_failures { (W.told writer.new).failures ≡ sink_failures result (W.told writer.old).failures }
+        × OfRead limits (R.told reader.old) (R.told reader.new)
+        (λ log. BeginsShown lines limits log out)) }
+    ensures source_failures { (R.told reader.new).failures
+        ≡ source_failures result (R.told reader.old).failures }
+    ensures sink_failures { (W.told writer.new).failures
+        ≡ sink_failures result (W.told writer.old).failures }
     ensures limit { GaveAtMost (limits.log + 1) (R.told reader.old) (R.told reader.new) }
 {
     let verdict = show_log(alloc, reader, writer, limits, lines)?;
@@ -123,32 +148,43 @@ fn show_log<R: Source, W: Sink>(
     lines: Lines,
 ) -> Result<Verdict, RunFault>
     ensures range { IsInRange limits }
-    ensures answer { Shows lines limits (R.told reader.old) (R.told reader.new) (W.told writer.old) (W.told writer.new) result }
+    ensures answer { Shows lines limits (R.told reader.old) (R.told reader.new) (W.told writer.old)
+        (W.told writer.new) result }
 {
-    let mut events = EventReader::new(alloc, limits, Completeness::Ignored);
-    show_events(alloc, &mut events, reader, writer, lines)
-}
-
-/// Hears the events of a log up to its verdict, and writes a line for each.
-fn show_events<R: Source, W: Sink>(
-    alloc: Global,
-    events: &mut EventReader,
-    reader: &mut R,
-    writer: &mut W,
-    lines: Lines,
-) -> Result<Verdict, RunFault>
-    requires fresh { IsFresh events.old (R.told reader.old) }
-    requires ignored { events.old.completeness ≡ Completeness.Ignored }
-    ensures { Shows lines events.old.log.limits (R.told reader.old) (R.told reader.new) (W.told writer.old) (W.told writer.new) result }
-{
+    let mut events = EventReader::open(alloc, reader, limits, Completeness::Ignored)?;
     let mut line = String::new(alloc);
     loop {
-        match events.next(reader)? {
-            Next::Event(heard) => {
-                let place = events.place_of(&heard);
-                write_event_line(alloc, writer, &mut line, lines, place, heard)?;
-            }
-            Next::Verdict(verdict) => return Ok(verdict),
+        match events.log.next(reader) {
+            Err(fault) => return Err(fault),
+            Ok(Next::End(end)) => return Ok(events.finish(alloc, end)?),
+            Ok(Next::Event(raw)) => match hear(alloc, &mut events.events, raw) {
+                Ok(heard) => {
+                    let place = place_of(&events.events.counts, &heard);
+                    write_event_line(alloc, writer, &mut line, lines, place, heard)?;
+                }
+                Err(ruling) => return Ok(ruling.answer()?),
+            },
         }
+    }
+}
+
+/// Where the event stands that was heard last.
+fn place_of(counts: &Counts, heard: &Heard<'_>) -> Place
+    ensures { (before : List Event) (event : Event) → AreCounts counts.now (before ++ event ∷ [])
+        → IsHeard event heard.now → IsPlace before event result }
+{
+    Place {
+        number: counts.of(whose(heard)),
+        event: counts.all,
+    }
+}
+
+/// Whose an event is.
+fn whose(heard: &Heard<'_>) -> Who
+    ensures { (event : Event) → IsHeard event heard.now → result ≡ spec.whose event }
+{
+    match heard {
+        Heard::Message { side, spoken: _ } => who_of(*side),
+        Heard::Snapshot { .. } => Who::Snapshot,
     }
 }

@@ -4,21 +4,25 @@ ghost use Rattle.lsp_frame.specs.Told.{Took};
 ghost use Rattle.lsp_verdict.specs.RunIo.{OfRead, GaveAtMost, source_failures, sink_failures};
 ghost use Rattle.lsp_verdict.specs.TextAfter.{AnswersText, BeginsText, IsText};
 ghost use Rattle.lsp_judge.specs.TextAnswers.{answer_view};
-ghost use Rattle.lsp_judge.specs.LogEvents.{IsFresh, GivesText};
+ghost use Rattle.lsp_judge.specs.LogEvents.{GivesText};
 
-use crate::event_reader::{EventReader, Next};
+use crate::contents::hear;
+use crate::event_reader::EventReader;
 use crate::text_answer::TextAnswer;
 use lsp_frame::{Limits, Sink, Source, put_all};
+use lsp_streams::Next;
 use lsp_verdict::{Completeness, Outcome, RunFault};
 use std::alloc::Global;
 
-/// Reads a log up to the editor's message of this number, from 1, and answers with the text that the
-/// server holds of a URI just after it.
+/// Reads a log up to the editor's message of this number, from 1, and answers with the text that
+/// the server holds of a URI just after it.
 ///
-/// Where that message does not come, or an event up to it offends, the log is read up to its verdict.
+/// Where that message does not come, or an event up to it offends, the log is read up to its
+/// verdict.
 ///
 /// # Errors
-/// `Read` where the source failed, `Memory` where memory was refused; `Write` is none of its answers.
+/// `Read` where the source failed, `Memory` where memory was refused; `Write` is none of its
+/// answers.
 pub fn text_after<R: Source>(
     alloc: Global,
     reader: &mut R,
@@ -31,35 +35,38 @@ pub fn text_after<R: Source>(
     ensures answer { IfOk result (λ answer. OfRead limits (R.told reader.old) (R.told reader.new)
         (λ log. AnswersText limits log number uri.now (answer_view answer))) }
     ensures no_write_fault { result ≡ Err RunFault.Write → ⊥ }
-    ensures source_failures { (R.told reader.new).failures ≡ source_failures result (R.told reader.old).failures }
+    ensures source_failures { (R.told reader.new).failures
+        ≡ source_failures result (R.told reader.old).failures }
     // At most one byte past the limit is read.
     ensures limit { GaveAtMost (limits.log + 1) (R.told reader.old) (R.told reader.new) }
 {
-    let mut events = EventReader::new(alloc, limits, Completeness::Ignored);
-    text_by(alloc, &mut events, reader, number, uri)
+    text_by(alloc, reader, limits, number, uri)
 }
 
-/// Hears the events of a log up to the editor's message of this number, and answers for the text that
-/// is held just after it.
+/// Hears the events of a log up to the editor's message of this number, and answers for the text
+/// that is held just after it.
 fn text_by<R: Source>(
     alloc: Global,
-    events: &mut EventReader,
     reader: &mut R,
+    limits: Limits,
     number: u64,
     uri: &str,
 ) -> Result<TextAnswer, RunFault>
-    requires positive { 0 < number }
-    requires fresh { IsFresh events.old (R.told reader.old) }
-    requires ignored { events.old.completeness ≡ Completeness.Ignored }
-    ensures { GivesText events.old.log.limits (R.told reader.old) (R.told reader.new) number uri.now result }
+    requires { 0 < number }
+    ensures { GivesText limits (R.told reader.old) (R.told reader.new) number uri.now result }
 {
+    let mut events = EventReader::open(alloc, reader, limits, Completeness::Ignored)?;
     loop {
-        match events.next(reader)? {
-            Next::Event(heard) => drop(heard),
-            Next::Verdict(verdict) => return Ok(TextAnswer::missing(verdict)),
+        match events.log.next(reader) {
+            Err(fault) => return Err(fault),
+            Ok(Next::End(end)) => return Ok(TextAnswer::missing(events.finish(alloc, end)?)),
+            Ok(Next::Event(raw)) => match hear(alloc, &mut events.events, raw) {
+                Ok(heard) => drop(heard),
+                Err(ruling) => return Ok(TextAnswer::missing(ruling.answer()?)),
+            },
         }
-        if events.editor_count() == number {
-            return Ok(events.text_of(alloc, uri)?);
+        if events.events.counts.editor == number {
+            return Ok(TextAnswer::held(alloc, &events.events.docs, uri)?);
         }
     }
 }
@@ -67,7 +74,8 @@ fn text_by<R: Source>(
 /// Reads a log as [`text_after`] does, and writes the text and nothing else.
 ///
 /// # Errors
-/// `Read` where the source failed, `Write` where the sink did, and `Memory` where memory was refused.
+/// `Read` where the source failed, `Write` where the sink did, and `Memory` where memory was
+/// refused.
 pub fn run_text<R: Source, W: Sink>(
     alloc: Global,
     reader: &mut R,
@@ -79,17 +87,23 @@ pub fn run_text<R: Source, W: Sink>(
     requires { 0 < number }
     // What is due for that text of the log read, however that goes on where its end was not met, is
     // written, and nothing else; the outcome is the one that is due.
-    ensures written { IfOk result (λ outcome. (out : List ℕ) × Took (W.told writer.old) (W.told writer.new) out
-        × OfRead limits (R.told reader.old) (R.told reader.new) (λ log. IsText limits log number uri.now out outcome)) }
+    ensures written { IfOk result (λ outcome. (out : List ℕ)
+        × Took (W.told writer.old) (W.told writer.new) out
+        × OfRead limits (R.told reader.old) (R.told reader.new)
+        (λ log. IsText limits log number uri.now out outcome)) }
 
-    // After a read fault or for want of memory nothing is written, after a write fault a prefix of what
-    // is due.
+    // After a read fault or for want of memory nothing is written, after a write fault a prefix of
+    // what is due.
     ensures read_fault { result ≡ Err RunFault.Read → W.told writer.new ≡ W.told writer.old }
     ensures memory { result ≡ Err RunFault.Memory → W.told writer.new ≡ W.told writer.old }
-    ensures write_fault { result ≡ Err RunFault.Write → (out : List ℕ) × Took (W.told writer.old) (W.told writer.new) out
-        × OfRead limits (R.told reader.old) (R.told reader.new) (λ log. BeginsText limits log number uri.now out) }
-    ensures source_failures { (R.told reader.new).failures ≡ source_failures result (R.told reader.old).failures }
-    ensures sink_failures { (W.told writer.new).failures ≡ sink_failures result (W.told writer.old).failures }
+    ensures write_fault { result ≡ Err RunFault.Write
+        → (out : List ℕ) × Took (W.told writer.old) (W.told writer.new) out
+        × OfRead limits (R.told reader.old) (R.told reader.new)
+        (λ log. BeginsText limits log number uri.now out) }
+    ensures source_failures { (R.told reader.new).failures
+        ≡ source_failures result (R.told reader.old).failures }
+    ensures sink_failures { (W.told writer.new).failures
+        ≡ sink_failures result (W.told writer.old).failures }
     // At most one byte past the limit is read.
     ensures limit { GaveAtMost (limits.log + 1) (R.told reader.old) (R.told reader.new) }
 {

@@ -1,29 +1,74 @@
 //! Writes a log again in format 2.
-ghost use Rattle.std.specs.Prelude.{◌≡◌, ℕ, ◌+◌, List, [], Ok, IfOk, OnErr};
+ghost use Rattle.std.specs.Prelude.{◌≡◌, ℕ, ◌+◌, List, [], None, Ok, IfOk, OnErr};
 ghost use Rattle.std.specs.Io.KnownBytes.{IsAtEnd};
-ghost use Rattle.lsp_frame.specs.Bounds.{IsInRange};
-ghost use Rattle.lsp_frame.specs.Told.{Took};
+ghost use Rattle.lsp_frame.specs.Bounds.{Bounds, IsInRange};
+ghost use Rattle.lsp_frame.specs.Told.{Told, Took};
 ghost use Rattle.lsp_verdict.specs.Given.{verdict_view};
-ghost use Rattle.lsp_verdict.specs.Outcome.{IsVerdict};
+ghost use Rattle.lsp_verdict.specs.Entries.{IsRecord};
+ghost use Rattle.lsp_verdict.specs.Outcome.{IsVerdict, format_or_one};
 ghost use Rattle.lsp_verdict.specs.RunIo.{OfRead, GaveAtMost, source_failures, sink_failures};
 ghost use Rattle.lsp_verdict.specs.Upgraded.{IsUpgraded, BeginsUpgraded};
-ghost use Rattle.lsp_judge.specs.UpgradedLog.{HasTaken, Upgrades};
+ghost use Rattle.lsp_log.specs.Log as log;
+ghost use Rattle.lsp_log.specs.Reader as reader;
+ghost use Rattle.lsp_log.specs.Records.{record_view};
+ghost use Rattle.lsp_judge.specs.Standing.{Stands};
+ghost use Rattle.lsp_judge.specs.UpgradedLog.{Accepts, IfAccepted, IsNext, Upgrades};
 
-use crate::event_reader::{Accepted, EventReader};
+use crate::judge::Judge;
 use lsp_frame::{Format, Limits, Sink, Source};
-use lsp_log::{write_head_of, write_record};
-use lsp_verdict::{Completeness, Outcome, RunFault, Summary, Verdict};
+use lsp_lined::Lined;
+use lsp_log::{LogReader, Record, write_head_of, write_record};
+use lsp_rpc::Memory;
+use lsp_verdict::{Entry, Outcome, RunFault, Summary, Verdict, next_entry};
 use std::alloc::Global;
 
+/// A log that is read record by record, and the judge of these.
+struct JudgedLog {
+    log: LogReader,
+    judge: Judge<Lined>,
+}
+
+impl Drop for JudgedLog {
+    fn drop(self) {
+        let JudgedLog { log: _, judge: _ } = self;
+    }
+}
+
+impl JudgedLog {
+    /// The log, of which the first entry was read, and with it the format.
+    fn of(alloc: Global, limits: Limits, log: LogReader) -> JudgedLog
+        ensures log { result.log ≡ log }
+        ensures limits { result.judge.limits ≡ limits }
+        ensures format { result.judge.format ≡ format_or_one log.format }
+        ensures stands { Stands result.judge [] }
+        ensures ungiven { result.judge.given ≡ None }
+    {
+        let format = log.format().unwrap_or(Format::One);
+        JudgedLog {
+            log,
+            judge: Judge::of_format(alloc, limits, format),
+        }
+    }
+}
+
+/// What comes of the next entry of a log, once all events before it were heard.
+#[derive(Drop)]
+enum Accepted {
+    /// A record that brings no event which offends.
+    Record(Record),
+    /// The verdict on the log.
+    Verdict(Verdict),
+}
+
 /// Reads a log up to the first event that offends, or to its end, and writes it again in format 2:
-/// the first line of that format, and each record that brings no event which offends, up to the first
-/// that does.
+/// the first line of that format, and each record that brings no event which offends, up to the
+/// first that does.
 ///
 /// A log of either format is judged as such, and its records are written as they are.
 ///
 /// # Errors
-/// `Read` is answered where the source failed, `Write` where the sink did, and `Memory` where memory
-/// was refused; what was written before stays written.
+/// `Read` is answered where the source failed, `Write` where the sink did, and `Memory` where
+/// memory was refused; what was written before stays written.
 pub fn run_upgrade<R: Source, W: Sink>(
     alloc: Global,
     reader: &mut R,
@@ -33,19 +78,25 @@ pub fn run_upgrade<R: Source, W: Sink>(
     // The answer is the verdict on the log read, however that goes on where its end was not met.
     ensures judged { IfOk result (λ outcome. (v : Verdict) × (outcome ≡ Outcome.Judged v)) }
     ensures verdict { (v : Verdict) → result ≡ Ok (Outcome.Judged v)
-        → OfRead limits (R.told reader.old) (R.told reader.new) (λ log. IsVerdict limits log (verdict_view v)) }
+        → OfRead limits (R.told reader.old) (R.told reader.new)
+        (λ log. IsVerdict limits log (verdict_view v)) }
     // The upgrade of that log is written, and nothing else.
     ensures written { (v : Verdict) → result ≡ Ok (Outcome.Judged v)
         → (out : List ℕ) × Took (W.told writer.old) (W.told writer.new) out
-        × OfRead limits (R.told reader.old) (R.told reader.new) (λ log. IsUpgraded limits log (verdict_view v) out) }
+        × OfRead limits (R.told reader.old) (R.told reader.new)
+        (λ log. IsUpgraded limits log (verdict_view v) out) }
     // Yes is answered only where the end was met.
-    ensures ended { (s : Summary) → result ≡ Ok (Outcome.Judged (Verdict.Yes s)) → IsAtEnd (R.told reader.new).bytes }
+    ensures ended { (s : Summary) → result ≡ Ok (Outcome.Judged (Verdict.Yes s))
+        → IsAtEnd (R.told reader.new).bytes }
 
     // What is written before a fault begins the upgrade of the log read.
     ensures fault { OnErr result ((out : List ℕ) × Took (W.told writer.old) (W.told writer.new) out
-        × OfRead limits (R.told reader.old) (R.told reader.new) (λ log. BeginsUpgraded limits log out)) }
-    ensures source_failures { (R.told reader.new).failures ≡ source_failures result (R.told reader.old).failures }
-    ensures sink_failures { (W.told writer.new).failures ≡ sink_failures result (W.told writer.old).failures }
+        × OfRead limits (R.told reader.old) (R.told reader.new)
+        (λ log. BeginsUpgraded limits log out)) }
+    ensures source_failures { (R.told reader.new).failures
+        ≡ source_failures result (R.told reader.old).failures }
+    ensures sink_failures { (W.told writer.new).failures
+        ≡ sink_failures result (W.told writer.old).failures }
     // At most one byte past the limit is read.
     ensures limit { GaveAtMost (limits.log + 1) (R.told reader.old) (R.told reader.new) }
 {
@@ -53,7 +104,8 @@ pub fn run_upgrade<R: Source, W: Sink>(
     Ok(Outcome::Judged(verdict))
 }
 
-/// Reads a log up to its verdict, and writes its upgrade.
+/// Reads a log up to its verdict, and writes its upgrade. The first entry tells the format of the
+/// log.
 fn upgrade_log<R: Source, W: Sink>(
     alloc: Global,
     reader: &mut R,
@@ -61,26 +113,57 @@ fn upgrade_log<R: Source, W: Sink>(
     limits: Limits,
 ) -> Result<Verdict, RunFault>
     ensures range { IsInRange limits }
-    ensures answer { Upgrades limits (R.told reader.old) (R.told reader.new) (W.told writer.old) (W.told writer.new) result }
+    ensures answer { Upgrades limits (R.told reader.old) (R.told reader.new) (W.told writer.old)
+        (W.told writer.new) result }
 {
-    let mut events = EventReader::new(alloc, limits, Completeness::Ignored);
-    upgrade_records(&mut events, reader, writer)
-}
-
-/// Writes the first line of format 2, and each record that is accepted.
-fn upgrade_records<R: Source, W: Sink>(
-    events: &mut EventReader,
-    reader: &mut R,
-    writer: &mut W,
-) -> Result<Verdict, RunFault>
-    requires fresh { HasTaken events.old.log.limits events.old (R.told reader.old) (R.told reader.old) [] }
-    ensures { Upgrades events.old.log.limits (R.told reader.old) (R.told reader.new) (W.told writer.old) (W.told writer.new) result }
-{
+    let mut log = LogReader::new(alloc, limits);
     write_head_of(writer, Format::Two)?;
+    let mut entry = next_entry(&mut log, reader)?;
+    let mut judged = JudgedLog::of(alloc, limits, log);
     loop {
-        match events.accept(reader)? {
+        match accept(&mut judged.judge, entry)? {
             Accepted::Record(record) => write_record(writer, &record)?,
             Accepted::Verdict(verdict) => return Ok(verdict),
         }
+        entry = next_entry(&mut judged.log, reader)?;
+    }
+}
+
+/// Hears all events of the next record, and gives a copy of it; or gives the verdict, where one of
+/// them offends or there is no record.
+fn accept(judge: &mut Judge<Lined>, entry: Entry) -> Result<Accepted, Memory>
+    requires { judge.old.given ≡ None }
+    // A record is given for a record, so that a caller's loop ends.
+    ensures record { IfOk result (λ given. IfAccepted given (IsRecord entry)) }
+    ensures answer { (limits : Bounds) (r : reader.State) (start now : Told)
+        (records : List log.Record) → IsNext limits r judge.old entry start now records
+        → Accepts limits r judge.new start now records result }
+{
+    match entry {
+        Entry::Record(record) => {
+            let copy = copy_of(&record)?;
+            match judge.take(record)? {
+                None => Ok(Accepted::Record(copy)),
+                Some(verdict) => Ok(Accepted::Verdict(verdict)),
+            }
+        }
+        Entry::End => Ok(Accepted::Verdict(judge.finish()?)),
+        Entry::Bad { number, fault } => Ok(Accepted::Verdict(judge.bad_log(number, fault))),
+    }
+}
+
+fn copy_of(next: &Record) -> Result<Record, Memory>
+    ensures { IfOk result (λ copy. record_view copy ≡ record_view next.now) }
+{
+    match next {
+        Record::Bytes { side, bytes } => Ok(Record::Bytes {
+            side: *side,
+            bytes: bytes.clone()?,
+        }),
+        Record::Snapshot { version, uri, text } => Ok(Record::Snapshot {
+            version: *version,
+            uri: uri.clone()?,
+            text: text.clone()?,
+        }),
     }
 }

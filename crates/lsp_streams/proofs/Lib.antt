@@ -3,6 +3,7 @@ pub mod Framing
 pub mod Forming
 pub mod Seeking
 pub mod Giving
+pub mod Fewer
 pub mod Streaming
 pub mod Pulling
 pub mod Resting

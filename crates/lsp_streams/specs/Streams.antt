@@ -1,5 +1,6 @@
 -- For which records, and which events of them, the streams of both sides stand.
-use Rattle.std.specs.Prelude.{◌≡◌, ℕ, ◌≤◌, List, [], ◌∷◌, ◌++◌, length, map, Bool, false, Option, Some, None, IsSome, Ok, Err, string_bytes}
+use Rattle.std.specs.Prelude.{◌≡◌, ℕ, ◌+◌, ◌<◌, ◌≤◌, List, [], ◌∷◌, ◌++◌, length, map, string_bytes}
+use Rattle.std.specs.Prelude.{Bool, false, Option, Some, None, IsSome, IfSome, Ok, Err}
 use Rattle.lsp_frame.specs.Bounds.{Bounds, IsInRange}
 use Rattle.lsp_frame.specs.Buffer.{last_of}
 use Rattle.lsp_frame.specs.Decoder as decoder
@@ -126,8 +127,27 @@ Gives limits new records given due None = (due ≡ []) × Stands limits new reco
 Gives limits new records given due (Some raw) =
     (later : List Raw) × (due ≡ raw_view raw ∷ later) × Stands limits new records (given ++ raw_view raw ∷ []) later
 
-abbrev pub NextIs : State → State → Option code.Raw → Type 0
-NextIs old new result = (limits : Bounds) (records : List Record) (given due : List Raw) → Stands limits old records given due → Gives limits new records given due result
+abbrev pub unbroken : Option ℕ → ℕ
+unbroken None = 1
+unbroken (Some rule) = 0
+
+abbrev pub unshown : Option Turn → ℕ
+unshown (Some turn.Snapshot) = 1
+unshown turn = 0
+
+-- a bound on the events that a side may still give
+abbrev pub left_of : decoder.State → ℕ
+left_of d = length d.rest + unbroken d.fault
+
+-- and on those of all
+abbrev pub left_in : State → ℕ
+left_in s = left_of s.editor + left_of s.server + unshown s.turn
+
+-- one more event was given, or there is none; an event leaves fewer to give
+pub record NextIs (old new : State) (result : Option code.Raw) : Type 0 where
+  pub gives : (limits : Bounds) (records : List Record) (given due : List Raw)
+      → Stands limits old records given due → Gives limits new records given due result
+  pub less : IfSome result (λ raw. left_in new < left_in old)
 
 -- ---- the end
 

@@ -7,8 +7,10 @@ pub returns-in_err-put_all-clause-write_fault : goal.returns-in_err-put_all-clau
 returns-in_err-put_all-clause-write_fault g c = λ e. record {
   given = verdict_view c.in_ok-verdict.verdict;
   says = c.in_ok-verdict.ensures.answer.0;
-  writes = front_of _ _ _ _ c.in_err-put_all.ensures (c.as_slice.ensures.value ∙ c.in_ok-report.ensures);
+  writes = front_of _ _ _ _ c.in_err-put_all.ensures
+      (c.as_slice.ensures.value ∙ c.in_ok-report.ensures);
 }
 
 pub returns-clause-verdict : goal.returns-clause-verdict
-returns-clause-verdict g c = λ v e. read_verdict c.args.completeness _ _ _ _ v c.in_ok-verdict.ensures.answer.0 e
+returns-clause-verdict g c =
+    λ v e. read_verdict c.args.completeness _ _ _ _ v c.in_ok-verdict.ensures.answer.0 e

@@ -10,7 +10,8 @@ returns-in-Ok-clause-ok g c = λ so_far follows.
     let h = c.in-Ok.ensures.ok so_far follows.holds in
     let event : Event = message h.sent in
     let whose = whose_content c.args.side c.args.content.now event h.reads ∙ sym c.who_of.ensures in
-    let counted = subst (λ (w : Counts). AreCounts w so_far) (sym c.in-Ok.ensures.counts) follows.counted in
+    let counted = subst (λ (w : Counts). AreCounts w so_far) (sym c.in-Ok.ensures.counts)
+    follows.counted in
     let old = c.args.events.now in
     let heard = c.hear.new.self in
     record {
@@ -18,10 +19,14 @@ returns-in-Ok-clause-ok g c = λ so_far follows.
       reads = h.reads;
       says = h.says;
       means = h.means;
-      follows = follows_on old.session heard.session old.docs heard.docs old.counts c.add.new.self so_far event follows c.in-Ok.ensures.terms h.clean h.holds (c.add.ensures so_far event counted whose);
+      follows = follows_on old.session heard.session old.docs heard.docs old.counts c.add.new.self
+          so_far event follows c.in-Ok.ensures.terms h.clean h.holds
+          (c.add.ensures so_far event counted whose);
     }
 
 pub returns-in-Err-clause-no : goal.returns-in-Err-clause-no
 returns-in-Err-clause-no g c = λ so_far follows.
-    let counted = subst (λ (w : Counts). AreCounts w so_far) (sym c.in-Err.ensures.counts) follows.counted in
-    c.refusal_of.ensures c.args.content.now c.args.events.now.docs.terms so_far counted (c.in-Err.ensures.refused so_far follows.holds)
+    let counted = subst (λ (w : Counts). AreCounts w so_far) (sym c.in-Err.ensures.counts)
+    follows.counted in
+    c.refusal_of.ensures c.args.content.now c.args.events.now.docs.terms so_far counted
+    (c.in-Err.ensures.refused so_far follows.holds)

@@ -18,9 +18,11 @@ returns-in-Ok-clause-ok g c = λ so_far follows.
     let uri = c.args.uri.now in
     let text = chars c.args.text.now in
     let old = c.args.events.now in
-    follows_on old.session old.session old.docs c.snapshot.new.self old.counts c.add.new.self so_far (snapshot uri c.args.version text) follows c.in-Ok.ensures.terms
+    follows_on old.session old.session old.docs c.snapshot.new.self old.counts c.add.new.self so_far
+    (snapshot uri c.args.version text) follows c.in-Ok.ensures.terms
     (accepted (calls so_far) follows.holds.called)
-    (shown_holds old.session c.snapshot.new.self so_far uri c.args.version text follows.holds.sent (stands (calls so_far) follows.holds.called))
+    (shown_holds old.session c.snapshot.new.self so_far uri c.args.version text follows.holds.sent
+    (stands (calls so_far) follows.holds.called))
     (c.add.ensures so_far (snapshot uri c.args.version text) follows.counted refl)
 
 pub returns-in-Err-Rule-clause-no : goal.returns-in-Err-Rule-clause-no
@@ -30,6 +32,8 @@ returns-in-Err-Rule-clause-no g c = λ so_far follows.
     let text = chars c.args.text.now in
     let old = c.args.events.now in
     let told = simp to_z-of_z at c.in-Err-Rule.ensures.rule in
-    let named : Names (call_rule old.docs.terms (calls so_far) (shows uri c.args.version text)) c.in-Err-Rule.field-0 = told (calls so_far) follows.holds.called in
+    let named : Names (call_rule old.docs.terms (calls so_far) (shows uri c.args.version text))
+    c.in-Err-Rule.field-0 = told (calls so_far) follows.holds.called in
     let breaks = rw c.in-Err-Rule.field-0-is at named in
-    ruled old.docs.terms so_far (snapshot uri c.args.version text) c.in-Err-Rule.rule _ c.no_next.result breaks refl (c.no_next.ensures so_far follows.counted)
+    ruled old.docs.terms so_far (snapshot uri c.args.version text) c.in-Err-Rule.rule _
+    c.no_next.result breaks refl (c.no_next.ensures so_far follows.counted)

@@ -1,17 +1,16 @@
 use Rattle.lsp_judge.proofs.TextRuns.{text_answered, text_failures, text_within, text_unwritten}
 use Rattle.lsp_judge.proofs.text.text_after.Goals as goal
 
-pub text_by-requires : goal.text_by-requires
-text_by-requires g c = record { positive = c.requires; fresh = c.new-events.ensures.fresh _; ignored = c.new-events.ensures.completeness }
-
 pub returns-clause-answer : goal.returns-clause-answer
-returns-clause-answer g c = text_answered _ _ _ c.args.number c.args.uri.now _ (rw c.new-events.ensures.limits at c.text_by.ensures)
+returns-clause-answer g c = text_answered _ _ _ c.args.number c.args.uri.now _ c.text_by.ensures
 
 pub returns-clause-no_write_fault : goal.returns-clause-no_write_fault
-returns-clause-no_write_fault g c = text_unwritten _ _ _ c.args.number c.args.uri.now _ c.text_by.ensures
+returns-clause-no_write_fault g c =
+    text_unwritten _ _ _ c.args.number c.args.uri.now _ c.text_by.ensures
 
 pub returns-clause-source_failures : goal.returns-clause-source_failures
-returns-clause-source_failures g c = text_failures _ _ _ c.args.number c.args.uri.now _ c.text_by.ensures
+returns-clause-source_failures g c =
+    text_failures _ _ _ c.args.number c.args.uri.now _ c.text_by.ensures
 
 pub returns-clause-limit : goal.returns-clause-limit
-returns-clause-limit g c = text_within _ _ _ c.args.number c.args.uri.now _ (rw c.new-events.ensures.limits at c.text_by.ensures)
+returns-clause-limit g c = text_within _ _ _ c.args.number c.args.uri.now _ c.text_by.ensures

@@ -9,9 +9,14 @@ use Rattle.lsp_judge.proofs.upgrade.run_upgrade.Goals as goal
 pub returns-in_err-verdict-clause-fault : goal.returns-in_err-verdict-clause-fault
 returns-in_err-verdict-clause-fault g c =
     let p = err_from_is_err_and c.from_residual.result c.from_residual.ensures.1 in
-    rw p.1 (c.in_err-verdict.ensures.answer.out, c.in_err-verdict.ensures.answer.took, c.in_err-verdict.ensures.answer.due)
+    rw p.1 (
+      c.in_err-verdict.ensures.answer.out,
+      c.in_err-verdict.ensures.answer.took,
+      c.in_err-verdict.ensures.answer.due,
+    )
 
-pub returns-in_err-verdict-clause-source_failures : goal.returns-in_err-verdict-clause-source_failures
+pub returns-in_err-verdict-clause-source_failures :
+    goal.returns-in_err-verdict-clause-source_failures
 returns-in_err-verdict-clause-source_failures g c =
     let p = err_from_is_err_and c.from_residual.result c.from_residual.ensures.1 in
     rw (p.1, p.2) c.in_err-verdict.ensures.answer.source
@@ -26,13 +31,17 @@ returns-in_err-verdict-clause-limit g c = read_within _ _ _ _ c.in_err-verdict.e
 
 -- all was written
 pub returns-clause-verdict : goal.returns-clause-verdict
-returns-clause-verdict g c = λ v e. upgrade_read _ _ _ _ _ c.in_ok-verdict.verdict v c.in_ok-verdict.ensures.answer e
+returns-clause-verdict g c =
+    λ v e. upgrade_read _ _ _ _ _ c.in_ok-verdict.verdict v c.in_ok-verdict.ensures.answer e
 
 pub returns-clause-written : goal.returns-clause-written
-returns-clause-written g c = λ v e. upgrade_written _ _ _ _ _ c.in_ok-verdict.verdict v c.in_ok-verdict.ensures.answer e
+returns-clause-written g c =
+    λ v e. upgrade_written _ _ _ _ _ c.in_ok-verdict.verdict v c.in_ok-verdict.ensures.answer e
 
 pub returns-clause-ended : goal.returns-clause-ended
-returns-clause-ended g c = λ s e. yes_at_end _ c.upgrade_log.ensures.range _ _ _ (upgrade_read _ _ _ _ _ c.in_ok-verdict.verdict (Yes s) c.in_ok-verdict.ensures.answer e)
+returns-clause-ended g c =
+    λ s e. yes_at_end _ c.upgrade_log.ensures.range _ _ _
+    (upgrade_read _ _ _ _ _ c.in_ok-verdict.verdict (Yes s) c.in_ok-verdict.ensures.answer e)
 
 pub returns-clause-source_failures : goal.returns-clause-source_failures
 returns-clause-source_failures g c = c.in_ok-verdict.ensures.answer.failures

@@ -15,13 +15,15 @@ returns-in-Some-clause-verdict g c = λ records v stands final.
 pub returns-in-None-clause-verdict : goal.returns-in-None-clause-verdict
 returns-in-None-clause-verdict g c = λ records v stands final.
     let given = ap (λ (s : State). s.given) (sym c.self.view_is) ∙ c.in-None.is in
-    log_final c.args.self.now records c.args.number c.args.fault v given c.ranges.number.fits stands final
+    log_final c.args.self.now records c.args.number c.args.fault v given c.ranges.number.fits stands
+    final
 
 pub returns-in-Some-clause-no : goal.returns-in-Some-clause-no
 returns-in-Some-clause-no g c = λ records rule count event who stands e.
     let given = ap (λ (s : State). s.given) (sym c.self.view_is) ∙ c.in-Some.is in
     let says = rw c.unwrap.ensures at c.answer.ensures.ok in
-    given_names c.args.self.now records c.in-Some.ruling (no rule who count event) given (says ∙ ap (λ a. Some (verdict_view a)) e) stands
+    given_names c.args.self.now records c.in-Some.ruling (no rule who count event) given
+    (says ∙ ap (λ a. Some (verdict_view a)) e) stands
 
 pub returns-in-None-clause-fault : goal.returns-in-None-clause-fault
 returns-in-None-clause-fault g c = λ records at code stands e.

@@ -1,16 +1,20 @@
-use Rattle.std.proofs.Common.{List, [], ◌∷◌, ◌++◌}
-use Rattle.lsp_log.specs.Log.{Record}
 use Rattle.lsp_log.specs.Records.{record_view}
-use Rattle.lsp_verdict.specs.Event.{Event}
-use Rattle.lsp_judge.specs.Hearing.{IsHearing, unheard}
-use Rattle.lsp_judge.specs.Standing.{IsOpen, AreLimits, Keeps}
+use Rattle.lsp_streams.specs.Streams.{left_in}
+use Rattle.lsp_judge.proofs.Hearing.{IsHearingOn}
 use Rattle.lsp_judge.proofs.judge.Judge.hear.Given as goal
 
-abbrev pub invariant-loop-heard : goal.invariant-loop-heard
-invariant-loop-heard g l = record {
-  keeps : Keeps l.fn.self l.self;
-  hears : (records : List Record) → AreLimits l.fn.self → IsOpen l.fn.self records → (heard : List Event) × IsHearing l.self (records ++ record_view l.fn.next ∷ []) heard;
-}
+abbrev pub invariant-loop-raw : goal.invariant-loop-raw
+invariant-loop-raw g l =
+    let i = l.self-inside in
+    IsHearingOn l.fn.self (record {
+      limits = i.limits;
+      format = i.format;
+      streams = i.streams;
+      messages = i.events.session;
+      documents = i.events.docs;
+      counts = i.events.counts;
+      given = i.given;
+    }) (record_view l.fn.next)
 
-abbrev pub decreases-loop-heard : goal.decreases-loop-heard
-decreases-loop-heard g l = unheard l.self
+abbrev pub decreases-loop-raw : goal.decreases-loop-raw
+decreases-loop-raw g l = left_in l.self-inside.streams

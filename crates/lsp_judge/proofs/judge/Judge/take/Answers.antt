@@ -1,8 +1,9 @@
-use Rattle.std.proofs.Common.{ap, sym, ◌∙◌, ◌∷◌, ◌++◌, []}
+use Rattle.std.proofs.Common.{ap, refl, sym, ◌∙◌, ◌∷◌, ◌++◌, []}
 use Rattle.lsp_log.specs.Records.{record_view}
 use Rattle.lsp_judge.specs.Standing.{State}
 use Rattle.lsp_judge.proofs.Answering.{taken_no, taken_clean}
 use Rattle.lsp_judge.proofs.Records.{given_stays, given_verdict, none_verdict, rule_verdict}
+use Rattle.lsp_judge.proofs.Records.{ruled_stands}
 use Rattle.lsp_judge.proofs.judge.Judge.take.Goals as goal
 
 pub returns-in-Some-clause-stands : goal.returns-in-Some-clause-stands
@@ -13,26 +14,43 @@ returns-in-Some-clause-stands g c = λ records stands.
 pub returns-in-Some-clause-verdict : goal.returns-in-Some-clause-verdict
 returns-in-Some-clause-verdict g c = λ records events stands session.
     let given = ap (λ (s : State). s.given) (sym c.self.view_is) ∙ c.in-Some.is in
-    given_verdict c.args.self.now records (record_view c.args.next ∷ []) c.in-Some.ruling _ events given c.in_ok-answer.ensures.ok stands session
+    given_verdict c.args.self.now records (record_view c.args.next ∷ []) c.in-Some.ruling _ events
+    given c.in_ok-answer.ensures.ok stands session
 
 pub returns-in-Ok-clause-verdict : goal.returns-in-Ok-clause-verdict
 returns-in-Ok-clause-verdict g c = λ records events stands session.
     let given = ap (λ (s : State). s.given) (sym c.self.view_is) ∙ c.in_default.is in
-    none_verdict c.args.self.now c.hear.new.self records (record_view c.args.next ∷ []) events given c.in-Ok.ensures.keeps (c.in-Ok.ensures.ok records) stands session
+    none_verdict c.args.self.now c.hear.new.self records (record_view c.args.next ∷ []) events given
+    c.in-Ok.ensures.keeps (c.in-Ok.ensures.ok records) stands session
 
 pub returns-in_ok-answer-in-Err-clause-verdict : goal.returns-in_ok-answer-in-Err-clause-verdict
 returns-in_ok-answer-in-Err-clause-verdict g c = λ records events stands session.
     let given = ap (λ (s : State). s.given) (sym c.self.view_is) ∙ c.in_default.is in
-    rule_verdict c.args.self.now records (record_view c.args.next ∷ []) c.in-Err.ruling _ events given c.in_ok-answer-in-Err.ensures.ok (c.in-Err.ensures.no records) stands session
+    rule_verdict c.args.self.now records (record_view c.args.next ∷ []) c.in-Err.ruling _ events
+    given c.in_ok-answer-in-Err.ensures.ok (c.in-Err.ensures.no records) stands session
 
 pub returns-in-Some-clause-no : goal.returns-in-Some-clause-no
 returns-in-Some-clause-no g c = λ records rule number event who stands e.
-    taken_no _ _ (records ++ record_view c.args.next ∷ []) _ rule number event who (λ events session. returns-in-Some-clause-verdict g c records events stands session) e
+    taken_no _ _ (records ++ record_view c.args.next ∷ []) _ rule number event who
+    (λ events session. returns-in-Some-clause-verdict g c records events stands session) e
 
 pub returns-in-Ok-clause-none : goal.returns-in-Ok-clause-none
 returns-in-Ok-clause-none g c = λ records stands e.
-    taken_clean _ _ (records ++ record_view c.args.next ∷ []) (λ events session. returns-in-Ok-clause-verdict g c records events stands session)
+    taken_clean _ _ (records ++ record_view c.args.next ∷ [])
+    (λ events session. returns-in-Ok-clause-verdict g c records events stands session)
 
 pub returns-in_ok-answer-in-Err-clause-no : goal.returns-in_ok-answer-in-Err-clause-no
 returns-in_ok-answer-in-Err-clause-no g c = λ records rule number event who stands e.
-    taken_no _ _ (records ++ record_view c.args.next ∷ []) _ rule number event who (λ events session. returns-in_ok-answer-in-Err-clause-verdict g c records events stands session) e
+    taken_no _ _ (records ++ record_view c.args.next ∷ []) _ rule number event who
+    (λ events session. returns-in_ok-answer-in-Err-clause-verdict g c records events stands
+    session) e
+
+pub returns-in_ok-answer-in-Err-clause-stands : goal.returns-in_ok-answer-in-Err-clause-stands
+returns-in_ok-answer-in-Err-clause-stands g c = λ records stands.
+    let given = ap (λ (s : State). s.given) (sym c.self.view_is) ∙ c.in_default.is in
+    let seen = c.self-2.view_is in
+    ruled_stands c.args.self.now _ records (record_view c.args.next ∷ []) c.in-Err.ruling _ given
+    c.in_ok-answer-in-Err.ensures.ok
+    (ap (λ (s : State). s.limits) seen ∙ c.in-Err.ensures.keeps.limits)
+    (ap (λ (s : State). s.format) seen ∙ c.in-Err.ensures.keeps.format) refl
+    (c.in-Err.ensures.no records) stands

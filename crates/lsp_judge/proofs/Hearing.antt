@@ -1,0 +1,181 @@
+-- The events of records, heard one by one.
+use Rattle.std.proofs.Common.{◌≡◌, List, [], ◌∷◌, ◌++◌, Some, None, subst}
+use Rattle.std.proofs.Common.{◌∙◌}
+use Rattle.lsp_frame.specs.Bounds.{Bounds}
+use Rattle.lsp_frame.specs.declared.format.Format.{Format}
+use Rattle.lsp_session.specs.State as session
+use Rattle.lsp_docs.specs.State as docs
+use Rattle.lsp_docs.specs.Terms.{Terms, terms_of}
+use Rattle.lsp_log.specs.Log.{Record}
+use Rattle.lsp_events.specs.Lines.{IsHeard}
+use Rattle.lsp_events.specs.Standing.{Follows}
+use Rattle.lsp_events.specs.declared.heard.Heard.{Heard}
+use Rattle.lsp_streams.specs.Streams as frames
+use Rattle.lsp_streams.specs.Streams.{raw_view}
+use Rattle.lsp_streams.specs.declared.raw.Raw as code
+use Rattle.lsp_verdict.specs.Event.{Event}
+use Rattle.lsp_verdict.specs.Given.{as_given}
+use Rattle.lsp_verdict.specs.Outcome.{Offends}
+use Rattle.lsp_verdict.specs.Placed.{Raw, Placed, Reads, IsSession}
+use Rattle.lsp_verdict.specs.Verdict.{Verdict, no, first_no, no_at}
+use Rattle.lsp_verdict.specs.declared.counts.Counts.{Counts}
+use Rattle.lsp_judge.specs.Heard.{HasHeard, HearsOne}
+use Rattle.lsp_judge.specs.Rulings.{IsNoAtSome}
+use Rattle.lsp_judge.specs.Standing.{State, IsHearing, IsOpen, Keeps, Rules}
+use Rattle.lsp_judge.specs.declared.ruling.Ruling.{Ruling}
+use Rattle.lsp_judge.specs.declared.ruling.Ruling.TheVariants.{No, BadLog, Memory}
+use Rattle.lsp_verdict.proofs.OneEvent.{some_list, lists_join}
+use Rattle.lsp_verdict.proofs.Verdicts.{no_found}
+
+-- ---- one more event
+
+-- it doesn't offend
+pub hears_one : (terms : Terms) (old_m new_m : session.State) (old_d new_d : docs.State)
+    (old_c new_c : Counts) (raws : List Raw) (heard : List Event) (raw : Raw) (event : Event)
+    (given : Heard) → HasHeard terms old_m old_d old_c raws heard
+    → Reads raw event → IsHeard event given → new_d.terms ≡ old_d.terms
+    → Follows new_m new_d new_c (heard ++ event ∷ [])
+    → HearsOne terms new_m new_d new_c raws heard raw given
+hears_one terms old_m new_m old_d new_d old_c new_c raws heard raw event given has reads is same
+    follows = (
+      event,
+      is,
+      record {
+        read = lists_join raws (raw ∷ []) heard (event ∷ []) has.read (reads, tt);
+        by = same ∙ has.by;
+        follows = follows;
+      },
+    )
+
+-- behind these events of the records, none of which offends, comes one that does, and this is the
+-- No at it
+pub record OffendsAfter (limits : Bounds) (format : Format) (records : List Record)
+    (before : List Event) (given : Verdict) : Type 0 where
+  pub event : Event
+  pub later : List Event
+  pub verdict : Verdict
+  pub session : IsSession limits records (before ++ event ∷ later)
+  pub clean : first_no (terms_of limits format) before ≡ None
+  pub offends : no_at (terms_of limits format) before event ≡ Some verdict
+  pub is : given ≡ as_given verdict
+
+abbrev pub Stops : Bounds → Format → List Record → List Event → Ruling → Type 0
+Stops limits format records before (No rule who number event) =
+    OffendsAfter limits format records before (no rule who number event)
+Stops limits format records before (BadLog number code) = ⊥
+Stops limits format records before Memory = Unit {0}
+
+-- the next event offends
+module _ (limits : Bounds) (format : Format) (m : session.State) (d : docs.State) (c : Counts)
+    (records : List Record) (past later : List Raw) (before : List Event)
+    (has : HasHeard (terms_of limits format) m d c past before) where
+  pub stops : (raw : Raw) (ruling : Ruling) → Placed limits records (past ++ raw ∷ later)
+      → IsNoAtSome d.terms before (Reads raw) ruling → Stops limits format records before ruling
+  stops raw (No rule who number at) placed (event, reads, named) =
+      let extra = some_list later in
+      record {
+        event = event;
+        later = extra.0;
+        verdict = named.0;
+        session = (
+          past ++ raw ∷ later,
+          placed,
+          lists_join past (raw ∷ later) before (event ∷ extra.0) has.read (reads, extra.1),
+        );
+        clean = subst (λ (t : Terms). first_no t before ≡ None) has.by has.follows.clean;
+        offends = subst (λ (t : Terms). no_at t before event ≡ Some named.0) has.by named.1;
+        is = named.2;
+      }
+  stops raw (BadLog number code) placed named = named
+  stops raw Memory placed named = tt
+
+-- so an event of the records offends
+pub offends_in : (limits : Bounds) (format : Format) (records : List Record) (before : List Event)
+    (given : Verdict) → (o : OffendsAfter limits format records before given)
+    → Offends limits format records o.verdict
+offends_in limits format records before given o =
+    record {
+      events = before ++ o.event ∷ o.later;
+      session = o.session;
+      offends = no_found (terms_of limits format) [] before o.later o.event o.verdict o.clean
+          o.offends;
+    }
+
+stops_rules : (limits : Bounds) (format : Format) (records : List Record) (before : List Event)
+    (ruling : Ruling) → Stops limits format records before ruling
+    → Rules limits format records ruling
+stops_rules limits format records before (No rule who number at) o =
+    (o.verdict, offends_in limits format records before (no rule who number at) o, o.is)
+stops_rules limits format records before (BadLog number code) o = o
+stops_rules limits format records before Memory o = tt
+
+-- ---- the events of a record
+
+-- events of one more record than an open judge has were heard, and some are due
+pub record IsHearingOn (old new : State) (next : Record) : Type 0 where
+  pub keeps : Keeps old new
+  pub hears : (records : List Record) → IsOpen old records
+      → (heard : List Event) × (due : List Raw) × IsHearing new (records ++ next ∷ []) heard due
+
+-- a record was pushed
+pub pushed : (s : State) (new : frames.State) (records : List Record) (next : Record)
+    → ((limits : Bounds) (rs : List Record) (given : List Raw)
+    → frames.Stands limits s.streams rs given []
+    → (due : List Raw) × frames.Stands limits new (rs ++ next ∷ []) given due)
+    → (o : IsOpen s records)
+    → (heard : List Event) × (due : List Raw) × IsHearing (record s {
+      streams = new;
+    }) (records ++ next ∷ []) heard due
+pushed s new records next pushes o =
+    let all = pushes s.limits records o.1.past o.1.stands in
+    (o.0, all.0, record { past = o.1.past; stands = all.1; has = o.1.has })
+
+-- an event of those due was heard
+pub heard_on : (s : State) (new : frames.State) (m : session.State) (d : docs.State) (c : Counts)
+    (records : List Record) (heard : List Event) (due : List Raw) (raw : code.Raw) (event : Event)
+    → (h : IsHearing s records heard due) → frames.Gives s.limits new records h.past due (Some raw)
+    → HasHeard (terms_of s.limits s.format) m d c (h.past ++ raw_view raw ∷ [])
+    (heard ++ event ∷ [])
+    → (all : List Event) × (later : List Raw) × IsHearing (record s {
+      streams = new;
+      messages = m;
+      documents = d;
+      counts = c;
+    }) records all later
+heard_on s new m d c records heard due raw event h (later, first, stands) has = (
+  heard ++ event ∷ [],
+  later,
+  record {
+    past = h.past ++ raw_view raw ∷ [];
+    stands = stands;
+    has = has;
+  },
+)
+
+-- it offends
+pub stopped : (s : State) (new : frames.State) (records : List Record) (heard : List Event)
+    (due : List Raw) (raw : code.Raw) (ruling : Ruling) → (h : IsHearing s records heard due)
+    → frames.Gives s.limits new records h.past due (Some raw)
+    → IsNoAtSome s.documents.terms heard (Reads (raw_view raw)) ruling
+    → Rules s.limits s.format records ruling
+stopped s new records heard due raw ruling h (later, first, stands) named =
+    stops_rules s.limits s.format records heard ruling
+    (stops s.limits s.format s.messages s.documents s.counts records h.past later heard h.has
+    (raw_view raw) ruling (subst (λ (w : List Raw). Placed s.limits records (h.past ++ w)) first
+    h.stands.placed) named)
+
+-- all were heard
+pub heard_all : (s : State) (new : frames.State) (records : List Record) (heard : List Event)
+    (due : List Raw) → (h : IsHearing s records heard due)
+    → frames.Gives s.limits new records h.past due None
+    → IsOpen (record s { streams = new }) records
+heard_all s new records heard due h (none, stands) =
+    (heard, record { past = h.past; stands = stands; has = h.has })
+
+-- by the limits and the format from before
+pub rules_along : (own limits : Bounds) (f format : Format) (records : List Record)
+    (ruling : Ruling) → own ≡ limits → f ≡ format → Rules own f records ruling
+    → Rules limits format records ruling
+rules_along own limits f format records ruling same alike o =
+    subst (λ (x : Format). Rules limits x records ruling) alike
+    (subst (λ (b : Bounds). Rules b f records ruling) same o)

@@ -1,0 +1,50 @@
+-- Which streams end inside a frame, where no event offends.
+use Rattle.std.proofs.Common.{◌≡◌, ℕ, List, [], ◌∷◌, ◌++◌, None, refl, ap, subst, ◌∙◌}
+use Rattle.std.specs.List.{AllZip}
+use Rattle.lsp_frame.specs.Bounds.{Bounds}
+use Rattle.lsp_types.specs.declared.side.Side.{Side}
+use Rattle.lsp_docs.specs.Terms.{Terms}
+use Rattle.lsp_log.specs.Log.{Record}
+use Rattle.lsp_streams.specs.Streams as frames
+use Rattle.lsp_streams.specs.Streams.{decoder_of, ends_inside}
+use Rattle.lsp_streams.proofs.Resting.{faults_in, side_rest, side_ends}
+use Rattle.lsp_verdict.specs.Event.{Event}
+use Rattle.lsp_verdict.specs.LookBack.{first_from}
+use Rattle.lsp_verdict.specs.Outcome.{HasRest, is_rest}
+use Rattle.lsp_verdict.specs.Placed.{Raw, content, broken, show, Reads, joined}
+use Rattle.lsp_verdict.specs.Verdict.{no_at, first_no}
+use Rattle.lsp_verdict.proofs.Below.{one_stream}
+use Rattle.lsp_verdict.proofs.LookBackLemmas.{or_none_parts}
+
+-- where no event offends, none is a fault of the frames
+clean_sound : (terms : Terms) (before events : List Event) (raws : List Raw)
+    → AllZip Reads raws events → first_from (no_at terms) before events ≡ None → faults_in raws ≡ 0
+clean_sound terms before [] [] reads none = refl
+clean_sound terms before (e ∷ events) [] reads none = absurd reads
+clean_sound terms before [] (raw ∷ raws) reads none = absurd reads
+clean_sound terms before (e ∷ events) (content side bytes ∷ raws) reads none =
+    clean_sound terms (before ++ e ∷ []) events raws reads.1
+    (or_none_parts (no_at terms before e) (first_from (no_at terms) (before ++ e ∷ []) events)
+    none).1
+clean_sound terms before (e ∷ events) (show number uri text ∷ raws) reads none =
+    clean_sound terms (before ++ e ∷ []) events raws reads.1
+    (or_none_parts (no_at terms before e) (first_from (no_at terms) (before ++ e ∷ []) events)
+    none).1
+clean_sound terms before (e ∷ events) (broken side rule ∷ raws) reads none =
+    let first = (or_none_parts (no_at terms before e)
+    (first_from (no_at terms) (before ++ e ∷ []) events) none).0 in
+    let same = subst (λ (x : Event). no_at terms before x ≡ None) reads.0 first in
+    absurd cc
+
+-- **a side's frames end inside one just where bytes are left**
+pub inside_is : (terms : Terms) (limits : Bounds) (s : frames.State) (records : List Record)
+    (raws : List Raw) (events : List Event) (side : Side) (rest : List ℕ)
+    → frames.Stands limits s records raws [] → AllZip Reads raws events
+    → first_no terms events ≡ None
+    → HasRest limits (joined side records) rest → ends_inside (decoder_of side s) ≡ is_rest rest
+inside_is terms limits s records raws events side rest h read clean has =
+    let sound = clean_sound terms [] events raws read clean in
+    let held = side_rest limits s records raws h sound side in
+    side_ends limits s records raws h sound side
+    ∙ ap is_rest (one_stream limits (joined side records) held.0 has.0 (decoder_of side s).rest
+    rest held.1 has.1 held.2 has.2).rest

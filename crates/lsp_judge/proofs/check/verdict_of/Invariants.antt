@@ -1,0 +1,11 @@
+use Rattle.std.proofs.Common.{◌+◌, ◌-◌}
+use Rattle.lsp_judge.proofs.LogEvents.{Following}
+use Rattle.lsp_judge.proofs.check.verdict_of.Given as goal
+
+abbrev pub invariant-loop-fault : goal.invariant-loop-fault
+invariant-loop-fault g l =
+    Following l.fn.completeness l.fn.limits l.events (g.R.Source.told l.fn.reader)
+    (g.R.Source.told l.reader)
+
+abbrev pub decreases-loop-fault : goal.decreases-loop-fault
+decreases-loop-fault g l = l.fn.limits.log + 1 - l.events.events.counts.all
