@@ -240,7 +240,7 @@ ALL_FACTS = [
     (WRONGS, WRONGS_EXPLAINED, b"offences 5 following 1\n"),
     (
         UNSHAKEN,
-        UNSHAKEN_LINES + rb'''event 1 editor
+        UNSHAKEN_LINES + rb'''event 1 editor request 1 "initialize"
 begins "{\"jsonrpc\":\"2.0\",\"id\":1,\"method\":\"initialize\",\"params\":[]}"
 ''',
         b"offences 3 following 2\n",
