@@ -1,6 +1,8 @@
 //! Blocks of a text, each a part that texts share.
 
-ghost use Rattle.std.specs.Prelude.{◌≡◌, ◌+◌, ◌-◌, ◌<◌, ◌≤◌, ◌^◌, ◌++◌, length, map, take, drop, None, false, MatchOption, IfSome, IfOk, OnOk, OnErr, EachIndex, slice_index};
+ghost use Rattle.std.specs.Prelude.{◌≡◌, ◌+◌, ◌-◌, ◌<◌, ◌≤◌, ◌^◌, ◌++◌, length, map, take, drop};
+ghost use Rattle.std.specs.Prelude.{None, false, MatchOption, IfSome, IfOk, OnOk, OnErr, EachIndex};
+ghost use Rattle.std.specs.Prelude.{slice_index};
 ghost use Rattle.std.specs.List.{replace_range};
 ghost use Rattle.std.specs.Str.{chars, IsUtf8, IsCharBoundary};
 ghost use Rattle.std.specs.String.{string_bytes};
@@ -8,7 +10,8 @@ ghost use Rattle.lsp_text.specs.Places.{units, place_in_line};
 ghost use Rattle.lsp_text.specs.Offsets.{IsOffset};
 ghost use Rattle.lsp_lined.specs.Ends.{ends_in, ends_with_return, moved_place, CanMove, IsLineEnd};
 ghost use Rattle.lsp_lined.specs.Sums.{sums_of};
-ghost use Rattle.lsp_lined.specs.Parts.{BeginsOtherwise, CanReplace, IsReplacedOr, KeepsEnds, IsCutInto, IsCutPlace};
+ghost use Rattle.lsp_lined.specs.Parts.{BeginsOtherwise, CanReplace, IsReplacedOr, KeepsEnds};
+ghost use Rattle.lsp_lined.specs.Parts.{IsCutInto, IsCutPlace};
 
 use crate::ends::{end_len_before, is_whole, move_places, places_of};
 use crate::part::{LineEnd, Part};
@@ -28,7 +31,8 @@ const MOST: usize = 4096;
 /// The bytes by which a copy that is edited may grow in place.
 const ROOM: usize = 64;
 
-/// A text and the places after its line ends, copied in order to be edited, so that the copy has room for more.
+/// A text and the places after its line ends, copied in order to be edited, so that the copy has
+/// room for more.
 #[derive(Drop)]
 struct BlockText {
     text: String,
@@ -37,7 +41,8 @@ struct BlockText {
 }
 
 impl Clone for BlockText {
-    ghost is_clone = { λ old copy. (string_bytes copy.text ≡ string_bytes old.text) × (copy.places.items ≡ old.places.items) };
+    ghost is_clone = { λ old copy. (string_bytes copy.text ≡ string_bytes old.text)
+        × (copy.places.items ≡ old.places.items) };
 
     ghost use Rattle.std.specs.String.{string_bytes};
 
@@ -185,7 +190,8 @@ impl Block {
     }
 }
 
-/// The sums of a block where a text takes the place of some bytes, if no line end comes, goes, or is joined.
+/// The sums of a block where a text takes the place of some bytes, if no line end comes, goes, or
+/// is joined.
 fn kept_sums(block: &Block, from: usize, to: usize, text: &str) -> Option<Sums>
     requires can { CanReplace block.now from to }
     requires room { length block.now + length text.now ≤ MOST }
@@ -220,11 +226,17 @@ fn replace_shared(
 ) -> Result<(), AllocError>
     requires can { CanReplace (string_bytes shared.old.value.text) from to }
     requires room { length (string_bytes shared.old.value.text) + length text.now ≤ MOST }
-    requires moves { EachIndex shared.old.value.places.items (λ k. CanMove from (to - from) (length text.now) (slice_index shared.old.value.places.items k)) }
-    ensures text { OnOk result (string_bytes shared.new.value.text ≡ replace_range (string_bytes shared.old.value.text) from to text.now) }
-    ensures places { OnOk result (shared.new.value.places.items ≡ map (moved_place from (to - from) (length text.now)) shared.old.value.places.items) }
-    ensures err_text { OnErr result (string_bytes shared.new.value.text ≡ string_bytes shared.old.value.text) }
-    ensures err_places { OnErr result (shared.new.value.places.items ≡ shared.old.value.places.items) }
+    requires moves { EachIndex shared.old.value.places.items
+        (λ k. CanMove from (to - from) (length text.now)
+        (slice_index shared.old.value.places.items k)) }
+    ensures text { OnOk result (string_bytes shared.new.value.text
+        ≡ replace_range (string_bytes shared.old.value.text) from to text.now) }
+    ensures places { OnOk result (shared.new.value.places.items
+        ≡ map (moved_place from (to - from) (length text.now)) shared.old.value.places.items) }
+    ensures err_text { OnErr result (string_bytes shared.new.value.text
+        ≡ string_bytes shared.old.value.text) }
+    ensures err_places { OnErr result (shared.new.value.places.items
+        ≡ shared.old.value.places.items) }
 {
     let own = Rc::make_mut(shared)?;
     own.text.replace_range(from..to, text)?;

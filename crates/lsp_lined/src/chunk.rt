@@ -1,11 +1,13 @@
 //! Blocks in chunks, which texts share.
 
-ghost use Rattle.std.specs.Prelude.{◌≡◌, ◌+◌, ◌<◌, ◌≤◌, ◌^◌, ◌++◌, length, take, drop, IfOk, OnOk, OnErr};
+ghost use Rattle.std.specs.Prelude.{◌≡◌, ◌+◌, ◌<◌, ◌≤◌, ◌^◌, ◌++◌, length, take, drop, IfOk, OnOk};
+ghost use Rattle.std.specs.Prelude.{OnErr};
 ghost use Rattle.std.specs.List.{splice};
 ghost use Rattle.std.specs.Str.{IsCharBoundary};
 ghost use Rattle.std.specs.String.{string_bytes};
 ghost use Rattle.lsp_lined.specs.Sums.{sums_of};
-ghost use Rattle.lsp_lined.specs.Parts.{joined, MakeUp, AreKept, CanReplaceIn, IsReplacedIn, IsReplacedInOr};
+ghost use Rattle.lsp_lined.specs.Parts.{joined, MakeUp, AreKept, CanReplaceIn, IsReplacedIn};
+ghost use Rattle.lsp_lined.specs.Parts.{IsReplacedInOr};
 
 use crate::block::{Block, cut_into};
 use crate::part::{
@@ -143,7 +145,9 @@ fn replace_shared(
     inserted: &str,
 ) -> Result<Option<Sums>, AllocError>
     requires { CanReplaceIn shared.old.value.items.items sums from to inserted.now }
-    ensures ok { IfOk result (IsReplacedInOr shared.old.value.items.items from to inserted.now shared.new.value.items.items) }
+    ensures ok { IfOk result
+        (IsReplacedInOr shared.old.value.items.items from to inserted.now
+        shared.new.value.items.items) }
     ensures err { OnErr result (shared.new.value.items.items ≡ shared.old.value.items.items) }
 {
     let own = Rc::make_mut(shared)?;
@@ -187,7 +191,8 @@ pub(crate) fn between(
     requires from { IsCharBoundary first.now from }
     requires to { IsCharBoundary last.now to }
     requires fits { length ((take from first.now ++ text.now) ++ drop to last.now) < 2 ^ 64 }
-    ensures { IfOk result (λ chunks. MakeUp chunks.items ((take from first.now ++ text.now) ++ drop to last.now)) }
+    ensures { IfOk result (λ chunks. MakeUp chunks.items ((take from first.now ++ text.now)
+        ++ drop to last.now)) }
 {
     let blocks = recut(
         alloc,
@@ -200,8 +205,8 @@ pub(crate) fn between(
     chunks_of(alloc, blocks)
 }
 
-/// The same of blocks. The block before the first cut and the one after the second are cut anew with the text, so
-/// that no CR and LF are kept apart.
+/// The same of blocks. The block before the first cut and the one after the second are cut anew
+/// with the text, so that no CR and LF are kept apart.
 fn recut(
     alloc: Global,
     head: &[Block],
@@ -214,7 +219,8 @@ fn recut(
     requires from { IsCharBoundary (joined head.now) from }
     requires tail { AreKept tail.now }
     requires to { IsCharBoundary (joined tail.now) to }
-    ensures { IfOk result (λ blocks. MakeUp blocks.items ((take from (joined head.now) ++ text.now) ++ drop to (joined tail.now))) }
+    ensures { IfOk result (λ blocks. MakeUp blocks.items ((take from (joined head.now) ++ text.now)
+        ++ drop to (joined tail.now))) }
 {
     let a = find_before(head, from);
     let b = find(tail, Measure::Units(Encoding::Utf8), to as u64);
@@ -240,7 +246,8 @@ fn in_one(alloc: Global, front: &str, text: &str, back: &str) -> Result<String, 
     Ok(whole)
 }
 
-/// Puts a text in the place of some bytes of chunks, in one block where it can. Answers the sums of all.
+/// Puts a text in the place of some bytes of chunks, in one block where it can. Answers the sums of
+/// all.
 pub(crate) fn replace_in_chunks(
     alloc: Global,
     chunks: &mut Vec<Chunk>,

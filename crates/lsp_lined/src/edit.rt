@@ -1,6 +1,7 @@
 //! Edits of kept lines, which see held bytes by `Lines::read` alone.
 
-ghost use Rattle.std.specs.Prelude.{◌≡◌, ◌<◌, ◌≤◌, ◌+◌, ◌*◌, ◌^◌, Ok, None, length, MatchOption, OnOk, OnErr, IfErr, IsTrue, ◌↔◌};
+ghost use Rattle.std.specs.Prelude.{◌≡◌, ◌<◌, ◌≤◌, ◌+◌, ◌*◌, ◌^◌, Ok, None, length, MatchOption};
+ghost use Rattle.std.specs.Prelude.{OnOk, OnErr, IfErr, IsTrue, ◌↔◌};
 ghost use Rattle.std.specs.Str.{chars};
 ghost use Rattle.lsp_text.specs.Places.{place_of};
 ghost use Rattle.lsp_text.specs.Offsets.{IsTextOffset};
@@ -20,13 +21,19 @@ pub(crate) fn edit(
     text: &str,
     limit: u64,
 ) -> Result<(), TextFault>
-    ensures ok { OnOk result (replaced encoding (chars lines.old) span (chars text.now) limit ≡ Ok (chars lines.new)) }
-    ensures fault { IfErr result (IsFaultOf (replaced encoding (chars lines.old) span (chars text.now) limit)) }
+    ensures ok { OnOk result (replaced encoding (chars lines.old) span (chars text.now) limit
+        ≡ Ok (chars lines.new)) }
+    ensures fault { IfErr result
+        (IsFaultOf (replaced encoding (chars lines.old) span (chars text.now) limit)) }
     ensures err { OnErr result (lines.new ≡ lines.old) }
 
     // What an edit counts is about what it has to touch.
-    ensures counted { OnOk result (RisesWithin steps.old steps.new (length text.now) (4 * touched (chars lines.old) span (chars text.now))) }
-    ensures err_counted { OnErr result (RisesWithin steps.old steps.new 0 (4 * touched (chars lines.old) span (chars text.now))) }
+    ensures counted { OnOk result
+        (RisesWithin steps.old steps.new (length text.now)
+        (4 * touched (chars lines.old) span (chars text.now))) }
+    ensures err_counted { OnErr result
+        (RisesWithin steps.old steps.new 0
+        (4 * touched (chars lines.old) span (chars text.now))) }
 {
     let Some(first) = find(lines, encoding, span.first, steps) else {
         return Err(TextFault::Rule(INSIDE_CHARACTER));
@@ -48,8 +55,10 @@ pub(crate) fn edit(
 
 /// The bytes before a position, if that is on no character's inside.
 fn find(lines: &Lines, encoding: Encoding, position: Position, steps: &mut Steps) -> Option<usize>
-    ensures found { MatchOption result (place_of encoding (chars lines.now) position ≡ None) (IsTextOffset encoding lines.now position) }
-    ensures counted { steps.new ≡ raised steps.old (line_bytes (chars lines.now) (line_number (chars lines.now) position)) }
+    ensures found { MatchOption result (place_of encoding (chars lines.now) position ≡ None)
+        (IsTextOffset encoding lines.now position) }
+    ensures counted { steps.new
+        ≡ raised steps.old (line_bytes (chars lines.now) (line_number (chars lines.now) position)) }
 {
     let number = lines.number_of(position);
     let line = lines.read(number, steps);
@@ -69,8 +78,10 @@ fn find_second(
 ) -> Option<usize>
     requires first { IsTextOffset encoding lines.now span.first first }
     requires counting { steps.old < 2 ^ 64 }
-    ensures found { MatchOption result (place_of encoding (chars lines.now) span.second ≡ None) (IsTextOffset encoding lines.now span.second) }
-    ensures counted { RisesWithin steps.old steps.new 0 (line_bytes (chars lines.now) (line_number (chars lines.now) span.second)) }
+    ensures found { MatchOption result (place_of encoding (chars lines.now) span.second ≡ None)
+        (IsTextOffset encoding lines.now span.second) }
+    ensures counted { RisesWithin steps.old steps.new 0
+        (line_bytes (chars lines.now) (line_number (chars lines.now) span.second)) }
 {
     if span.second == span.first {
         return Some(first);

@@ -86,9 +86,11 @@ pub(crate) fn is_whole(text: &str) -> bool
     FirstLine::of(text).is_none()
 }
 
-/// Moves the places after `from`, where `removed` bytes without a line end went there and others came.
+/// Moves the places after `from`, where `removed` bytes without a line end went there and others
+/// came.
 pub(crate) fn move_places(places: &mut [u16], from: u16, removed: u16, inserted: u16)
-    requires { EachIndex places.old (λ k. CanMove from removed inserted (slice_index places.old k)) }
+    requires { EachIndex places.old
+        (λ k. CanMove from removed inserted (slice_index places.old k)) }
     ensures { places.new ≡ map (moved_place from removed inserted) places.old }
 {
     for place in places.iter_mut() {

@@ -2,7 +2,8 @@
 
 pub(crate) mod lines;
 
-ghost use Rattle.std.specs.Prelude.{◌≡◌, ◌+◌, ◌*◌, ◌↔◌, length, IfOk, OnOk, OnErr, IfErr, IsTrue, MatchOption, None, Ok};
+ghost use Rattle.std.specs.Prelude.{◌≡◌, ◌+◌, ◌*◌, ◌↔◌, length, IfOk, OnOk, OnErr, IfErr, IsTrue};
+ghost use Rattle.std.specs.Prelude.{MatchOption, None, Ok};
 ghost use Rattle.std.specs.Str.{chars};
 ghost use Rattle.std.specs.String.{string_bytes};
 ghost use Rattle.lsp_text.specs.Edits.{replaced, limited, IsFaultOf};
@@ -17,8 +18,8 @@ use lsp_types::{Encoding, Memory, Position, Span};
 use std::alloc::Global;
 use std::marker::Model;
 
-/// A text in blocks with their sums, and a count of the bytes that its edits looked at and inserted. An edit is
-/// lent no lines but those of its span.
+/// A text in blocks with their sums, and a count of the bytes that its edits looked at and
+/// inserted. An edit is lent no lines but those of its span.
 #[derive(Drop)]
 pub struct Lined {
     lines: Lines,
@@ -35,8 +36,8 @@ impl Model for Lined {
 }
 
 impl Lined {
-    /// The bytes of held lines lent to edits, and the bytes inserted by them, up to 2^64 - 1. A new store and a
-    /// copy have none yet.
+    /// The bytes of held lines lent to edits, and the bytes inserted by them, up to 2^64 - 1. A new
+    /// store and a copy have none yet.
     pub fn steps(&self) -> u64
         ensures { result ≡ self.now.steps }
     {
@@ -73,13 +74,19 @@ impl TextStore for Lined {
         text: &str,
         limit: u64,
     ) -> Result<(), TextFault>
-        ensures ok { OnOk result (replaced encoding self.old.content span (chars text.now) limit ≡ Ok self.new.content) }
-        ensures fault { IfErr result (IsFaultOf (replaced encoding self.old.content span (chars text.now) limit)) }
+        ensures ok { OnOk result (replaced encoding self.old.content span (chars text.now) limit
+            ≡ Ok self.new.content) }
+        ensures fault { IfErr result
+            (IsFaultOf (replaced encoding self.old.content span (chars text.now) limit)) }
         ensures err { OnErr result (self.new.content ≡ self.old.content) }
 
         // The steps rise by about what the edit has to touch.
-        ensures counted { OnOk result (RisesWithin self.old.steps self.new.steps (length text.now) (4 * touched self.old.content span (chars text.now))) }
-        ensures err_counted { OnErr result (RisesWithin self.old.steps self.new.steps 0 (4 * touched self.old.content span (chars text.now))) }
+        ensures counted { OnOk result
+            (RisesWithin self.old.steps self.new.steps (length text.now)
+            (4 * touched self.old.content span (chars text.now))) }
+        ensures err_counted { OnErr result
+            (RisesWithin self.old.steps self.new.steps 0
+            (4 * touched self.old.content span (chars text.now))) }
     {
         edit(
             &mut self.lines,
@@ -133,7 +140,8 @@ impl TextStore for Lined {
 
 /// The bytes before a position, or `None` where it lies inside a character.
 fn offset_of(lines: &Lines, encoding: Encoding, position: Position) -> Option<usize>
-    ensures { MatchOption result (place_of encoding (chars lines.now) position ≡ None) (IsTextOffset encoding lines.now position) }
+    ensures { MatchOption result (place_of encoding (chars lines.now) position ≡ None)
+        (IsTextOffset encoding lines.now position) }
 {
     let number = lines.number_of(position);
     let line = lines.peek(number);

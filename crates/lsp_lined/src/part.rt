@@ -1,6 +1,7 @@
 //! Parts of a text, one after another: the blocks of a chunk, and the chunks of a text.
 
-ghost use Rattle.std.specs.Prelude.{◌≡◌, ◌+◌, ◌-◌, ◌<◌, ◌≤◌, ◌^◌, ◌++◌, ℕ, List, length, take, map, None, MatchOption, IfSome, IfOk, OnOk, OnErr};
+ghost use Rattle.std.specs.Prelude.{◌≡◌, ◌+◌, ◌-◌, ◌<◌, ◌≤◌, ◌^◌, ◌++◌, ℕ, List, length, take, map};
+ghost use Rattle.std.specs.Prelude.{None, MatchOption, IfSome, IfOk, OnOk, OnErr};
 ghost use Rattle.std.specs.List.{replace_range};
 ghost use Rattle.std.specs.Str.{chars, IsUtf8, IsCharBoundary};
 ghost use Rattle.std.specs.String.{string_bytes};
@@ -8,7 +9,9 @@ ghost use Rattle.lsp_text.specs.Places.{units, place_in_line};
 ghost use Rattle.lsp_text.specs.Offsets.{IsOffset};
 ghost use Rattle.lsp_lined.specs.Ends.{ends_in, IsLineEnd};
 ghost use Rattle.lsp_lined.specs.Sums.{sums_of};
-ghost use Rattle.lsp_lined.specs.Parts.{joined, AreParts, BeginsOtherwise, CanReplace, IsReplacedOr, CanReplaceIn, IsReplacedInOr, IsFound, IsFoundBefore, IsSpot};
+ghost use Rattle.lsp_lined.specs.Parts.{joined, AreParts, BeginsOtherwise, CanReplace};
+ghost use Rattle.lsp_lined.specs.Parts.{IsReplacedOr, CanReplaceIn, IsReplacedInOr, IsFound};
+ghost use Rattle.lsp_lined.specs.Parts.{IsFoundBefore, IsSpot};
 
 use crate::sums::{Measure, Sums};
 use lsp_types::Encoding;
@@ -43,20 +46,24 @@ pub(crate) trait Part: Drop {
         requires { n < ends_in (text self.now) }
         ensures { IsLineEnd (text self.now) n result };
 
-    /// The bytes before a column, as if the part were one line, or `None` where it lies inside a character.
+    /// The bytes before a column, as if the part were one line, or `None` where it lies inside a
+    /// character.
     fn offset_of(&self, encoding: Encoding, column: u64) -> Option<usize>
-        ensures { MatchOption result (place_in_line encoding (chars (text self.now)) column ≡ None) (IsOffset encoding (text self.now) column) };
+        ensures { MatchOption result (place_in_line encoding (chars (text self.now)) column ≡ None)
+            (IsOffset encoding (text self.now) column) };
 
     /// The units before a place.
     fn units_before(&self, encoding: Encoding, offset: usize) -> u64
         requires { IsCharBoundary (text self.now) offset }
         ensures { result ≡ units encoding (chars (take offset (text self.now))) };
 
-    /// Puts a text in the place of some bytes, in a part of its own, if it has room. Answers whether it did.
+    /// Puts a text in the place of some bytes, in a part of its own, if it has room. Answers
+    /// whether it did.
     fn replace(&mut self, from: usize, to: usize, inserted: &str) -> Result<bool, AllocError>
         requires can { CanReplace (text self.old) from to }
         requires fits { length (replace_range (text self.old) from to inserted.now) < 2 ^ 64 }
-        ensures ok { IfOk result (IsReplacedOr (text self.old) from to inserted.now (text self.new)) }
+        ensures ok { IfOk result
+            (IsReplacedOr (text self.old) from to inserted.now (text self.new)) }
         ensures err { OnErr result (text self.new ≡ text self.old) };
 
     /// Writes its text after another.
@@ -65,10 +72,12 @@ pub(crate) trait Part: Drop {
 
     /// What comes after its text in one that begins with it.
     fn strip<'a>(&self, whole: &'a str) -> Option<&'a str>
-        ensures { MatchOption result (BeginsOtherwise (text self.now) whole.now) (λ rest. whole.now ≡ text self.now ++ rest.now) };
+        ensures { MatchOption result (BeginsOtherwise (text self.now) whole.now)
+            (λ rest. whole.now ≡ text self.now ++ rest.now) };
 }
 
-/// A part in which a number of some measure falls: its index, the bytes before it, and what is left of the number.
+/// A part in which a number of some measure falls: its index, the bytes before it, and what is left
+/// of the number.
 #[derive(Clone, Copy)]
 pub(crate) struct Found {
     pub(crate) index: usize,
@@ -121,7 +130,8 @@ pub(crate) struct Spot {
     pub(crate) to: usize,
 }
 
-/// The part that an edit stays in, if it leaves the part's first and last bytes before and after others.
+/// The part that an edit stays in, if it leaves the part's first and last bytes before and after
+/// others.
 pub(crate) fn spot_in<T: Part>(parts: &[T], from: usize, to: usize) -> Option<Spot>
     requires some { 0 < length parts.now }
     requires fits { length (joined (map T.text parts.now)) < 2 ^ 64 }
@@ -143,8 +153,8 @@ pub(crate) fn spot_in<T: Part>(parts: &[T], from: usize, to: usize) -> Option<Sp
     })
 }
 
-/// Puts a text in the place of some bytes of one part, if the edit stays in one that has room. Answers the new sums
-/// if it did.
+/// Puts a text in the place of some bytes of one part, if the edit stays in one that has room.
+/// Answers the new sums if it did.
 pub(crate) fn replace_in<T: Part>(
     parts: &mut Vec<T>,
     sums: Sums,
@@ -153,7 +163,9 @@ pub(crate) fn replace_in<T: Part>(
     inserted: &str,
 ) -> Result<Option<Sums>, AllocError>
     requires { CanReplaceIn (map T.text parts.old.items) sums from to inserted.now }
-    ensures ok { IfOk result (IsReplacedInOr (map T.text parts.old.items) from to inserted.now (map T.text parts.new.items)) }
+    ensures ok { IfOk result
+        (IsReplacedInOr (map T.text parts.old.items) from to inserted.now
+        (map T.text parts.new.items)) }
     ensures err { OnErr result (map T.text parts.new.items ≡ map T.text parts.old.items) }
 {
     let Some(spot) = spot_in(parts, from, to) else {
@@ -202,12 +214,15 @@ pub(crate) fn line_end_in<T: Part>(parts: &[T], n: u64) -> LineEnd<'_>
     }
 }
 
-/// The bytes before a column, as if the parts were one line, or `None` where it lies inside a character.
+/// The bytes before a column, as if the parts were one line, or `None` where it lies inside a
+/// character.
 pub(crate) fn offset_in<T: Part>(parts: &[T], encoding: Encoding, column: u64) -> Option<usize>
     requires parts { AreParts (map T.text parts.now) }
     requires some { 0 < length parts.now }
     requires fits { length (joined (map T.text parts.now)) < 2 ^ 64 }
-    ensures { MatchOption result (place_in_line encoding (chars (joined (map T.text parts.now))) column ≡ None) (IsOffset encoding (joined (map T.text parts.now)) column) }
+    ensures { MatchOption result
+        (place_in_line encoding (chars (joined (map T.text parts.now))) column ≡ None)
+        (IsOffset encoding (joined (map T.text parts.now)) column) }
 {
     let found = find(parts, Measure::Units(encoding), column);
     let offset = parts[found.index].offset_of(encoding, found.left)?;
@@ -229,7 +244,8 @@ pub(crate) fn units_before_in<T: Part>(parts: &[T], encoding: Encoding, offset: 
 
 /// Writes parts after a text.
 pub(crate) fn push_all<T: Part>(parts: &[T], out: &mut String) -> Result<(), AllocError>
-    ensures { OnOk result (string_bytes out.new ≡ string_bytes out.old ++ joined (map T.text parts.now)) }
+    ensures { OnOk result (string_bytes out.new ≡ string_bytes out.old
+        ++ joined (map T.text parts.now)) }
 {
     for part in parts {
         part.push_to(out)?;
@@ -240,7 +256,8 @@ pub(crate) fn push_all<T: Part>(parts: &[T], out: &mut String) -> Result<(), All
 /// What comes after parts in a text that begins with them.
 pub(crate) fn strip_all<'a, T: Part>(parts: &[T], whole: &'a str) -> Option<&'a str>
     requires { AreParts (map T.text parts.now) }
-    ensures { MatchOption result (BeginsOtherwise (joined (map T.text parts.now)) whole.now) (λ rest. whole.now ≡ joined (map T.text parts.now) ++ rest.now) }
+    ensures { MatchOption result (BeginsOtherwise (joined (map T.text parts.now)) whole.now)
+        (λ rest. whole.now ≡ joined (map T.text parts.now) ++ rest.now) }
 {
     let mut rest = whole;
     for part in parts {

@@ -9,8 +9,9 @@ use crate::fault::TextFault;
 use crate::store::TextStore;
 use lsp_types::{Change, Encoding, Span};
 
-/// Makes a change: of the characters of a span where there is one, and else of the whole text (LSP 3.17,
-/// "TextDocumentContentChangeEvent"). The limit is in bytes of UTF-8. A refused change leaves the text.
+/// Makes a change: of the characters of a span where there is one, and else of the whole text (LSP
+/// 3.17, "TextDocumentContentChangeEvent"). The limit is in bytes of UTF-8. A refused change leaves
+/// the text.
 pub fn change<S: TextStore>(
     store: &mut S,
     encoding: Encoding,
@@ -18,8 +19,10 @@ pub fn change<S: TextStore>(
     text: &str,
     limit: u64,
 ) -> Result<(), TextFault>
-    ensures ok { OnOk result (changed encoding (S.content store.old) span (chars text.now) limit ≡ Ok (S.content store.new)) }
-    ensures fault { IfErr result (IsFaultOf (changed encoding (S.content store.old) span (chars text.now) limit)) }
+    ensures ok { OnOk result (changed encoding (S.content store.old) span (chars text.now) limit
+        ≡ Ok (S.content store.new)) }
+    ensures fault { IfErr result
+        (IsFaultOf (changed encoding (S.content store.old) span (chars text.now) limit)) }
     ensures err { OnErr result (S.content store.new ≡ S.content store.old) }
 {
     match span {
@@ -28,17 +31,22 @@ pub fn change<S: TextStore>(
     }
 }
 
-/// Makes changes in order, each of the text that the one before left (LSP 3.17, "DidChangeTextDocument").
-/// The first one that fails decides, and leaves the text that the changes before it made.
+/// Makes changes in order, each of the text that the one before left (LSP 3.17,
+/// "DidChangeTextDocument"). The first one that fails decides, and leaves the text that the changes
+/// before it made.
 pub fn change_all<S: TextStore>(
     store: &mut S,
     encoding: Encoding,
     changes: &[Change],
     limit: u64,
 ) -> Result<(), TextFault>
-    ensures ok { OnOk result (applied limit encoding (S.content store.old) (edits_of changes.now) ≡ Ok (S.content store.new)) }
-    ensures fault { IfErr result (IsFaultOf (applied limit encoding (S.content store.old) (edits_of changes.now))) }
-    ensures err { IfErr result (FailsAfter limit encoding (S.content store.old) (edits_of changes.now) (S.content store.new)) }
+    ensures ok { OnOk result (applied limit encoding (S.content store.old) (edits_of changes.now)
+        ≡ Ok (S.content store.new)) }
+    ensures fault { IfErr result
+        (IsFaultOf (applied limit encoding (S.content store.old) (edits_of changes.now))) }
+    ensures err { IfErr result
+        (FailsAfter limit encoding (S.content store.old) (edits_of changes.now)
+        (S.content store.new)) }
 {
     for made in changes {
         change(store, encoding, made.span, made.text.as_str(), limit)?;

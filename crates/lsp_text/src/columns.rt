@@ -18,7 +18,8 @@ struct Skipped {
 
 /// The bytes of a line before a column, or `None` where the column lies inside a character.
 pub fn offset_in_line(line: &str, encoding: Encoding, column: u32) -> Option<usize>
-    ensures { MatchOption result (place_in_line encoding (chars line.now) column ≡ None) (IsOffset encoding line.now column) }
+    ensures { MatchOption result (place_in_line encoding (chars line.now) column ≡ None)
+        (IsOffset encoding line.now column) }
 {
     match encoding {
         Encoding::Utf8 => offset_of_byte(line, column),
@@ -28,7 +29,8 @@ pub fn offset_in_line(line: &str, encoding: Encoding, column: u32) -> Option<usi
 
 /// The same under UTF-8, where a column counts bytes.
 fn offset_of_byte(line: &str, column: u32) -> Option<usize>
-    ensures { MatchOption result (place_in_line Encoding.Utf8 (chars line.now) column ≡ None) (IsOffset Encoding.Utf8 line.now column) }
+    ensures { MatchOption result (place_in_line Encoding.Utf8 (chars line.now) column ≡ None)
+        (IsOffset Encoding.Utf8 line.now column) }
 {
     let offset = line.len().min(column as usize);
     if line.is_char_boundary(offset) {
@@ -41,7 +43,8 @@ fn offset_of_byte(line: &str, column: u32) -> Option<usize>
 /// The same by whole blocks, and then by characters.
 fn offset_past_blocks(line: &str, encoding: Encoding, column: u32) -> Option<usize>
     requires { encoding ≢ Encoding.Utf8 }
-    ensures { MatchOption result (place_in_line encoding (chars line.now) column ≡ None) (IsOffset encoding line.now column) }
+    ensures { MatchOption result (place_in_line encoding (chars line.now) column ≡ None)
+        (IsOffset encoding line.now column) }
 {
     let skipped = skip_blocks(line, encoding, column);
     let (_, rest) = line.split_at(skipped.bytes);
@@ -103,7 +106,8 @@ pub(crate) fn units_of(c: char, encoding: Encoding) -> u32
 
 /// The bytes of a text before a column, character by character.
 fn offset_by_chars(text: &str, encoding: Encoding, column: u32) -> Option<usize>
-    ensures { MatchOption result (place_in_line encoding (chars text.now) column ≡ None) (IsOffset encoding text.now column) }
+    ensures { MatchOption result (place_in_line encoding (chars text.now) column ≡ None)
+        (IsOffset encoding text.now column) }
 {
     let mut left = column;
     let mut offset = 0;

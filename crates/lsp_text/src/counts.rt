@@ -14,8 +14,8 @@ pub struct Counts {
     pub utf16: u64,
 }
 
-/// Counts a text's characters and its units of UTF-16 (LSP 3.17, "PositionEncodingKind"), in one pass over
-/// its bytes.
+/// Counts a text's characters and its units of UTF-16 (LSP 3.17, "PositionEncodingKind"), in one
+/// pass over its bytes.
 pub fn measure(text: &str) -> Counts
     ensures chars { result.chars ≡ length (chars text.now) }
     ensures utf16 { result.utf16 ≡ units Encoding.Utf16 (chars text.now) }

@@ -1,10 +1,13 @@
 //! The place at which two texts first differ.
 
-ghost use Rattle.std.specs.Prelude.{◌≡◌, ◌+◌, ◌-◌, ◌^◌, ◌≤◌, ◌↔◌, Some, length, take, drop, min, slice_get, IsTrue, IfNone, IfSome, MatchOption};
+ghost use Rattle.std.specs.Prelude.{◌≡◌, ◌+◌, ◌-◌, ◌^◌, ◌≤◌, ◌↔◌, Some, length, take, drop, min};
+ghost use Rattle.std.specs.Prelude.{slice_get, IsTrue, IfNone, IfSome, MatchOption};
 ghost use Rattle.std.specs.Str.{chars, IsCharBoundary};
 ghost use Rattle.lsp_text.specs.Lines.{spelled, line_at};
-ghost use Rattle.lsp_text.specs.Difference.{IsFirstDifference, DifferFirst, line_around, position_at};
-ghost use Rattle.lsp_text.specs.Parting.{AreSameTo, IsParting, IsInsideEnd, IsSearchEnd, IsLineStart};
+ghost use Rattle.lsp_text.specs.Difference.{IsFirstDifference, DifferFirst, line_around};
+ghost use Rattle.lsp_text.specs.Difference.{position_at};
+ghost use Rattle.lsp_text.specs.Parting.{AreSameTo, IsParting, IsInsideEnd, IsSearchEnd};
+ghost use Rattle.lsp_text.specs.Parting.{IsLineStart};
 
 use crate::cut::FirstLine;
 use crate::plain::count_lines;
@@ -15,33 +18,41 @@ use memchr::memrchr2;
 /// How many bytes are compared at once.
 const BLOCK: usize = 256;
 
-/// Where a held text and another one first differ: at the first character that is not the same in both, or where
-/// one of them ends and the other goes on. The characters before that place are the same.
+/// Where a held text and another one first differ: at the first character that is not the same in
+/// both, or where one of them ends and the other goes on. The characters before that place are the
+/// same.
 #[derive(Clone, Copy, Debug, PartialEq, Eq)]
 pub struct Difference<'a, 'b> {
-    /// The place in the held text. The column counts units of the encoding. Where the place lies between a CR and
-    /// a LF, these end the place's line together, and the column counts the CR, as one unit. A number past
-    /// 2^32 - 1 is told as that one.
+    /// The place in the held text. The column counts units of the encoding. Where the place lies
+    /// between a CR and a LF, these end the place's line together, and the column counts the CR, as
+    /// one unit. A number past 2^32 - 1 is told as that one.
     pub at: Position,
-    /// The line of the held text in which the place lies, its line end included. The end of a text lies in the
-    /// last line, which is empty behind a line end.
+    /// The line of the held text in which the place lies, its line end included. The end of a text
+    /// lies in the last line, which is empty behind a line end.
     pub held: &'a str,
-    /// The same of the other text. Its number differs where the place lies between a CR and a LF in one of the
-    /// texts, and so behind a CR that ends a line by itself in the other.
+    /// The same of the other text. Its number differs where the place lies between a CR and a LF in
+    /// one of the texts, and so behind a CR that ends a line by itself in the other.
     pub other: &'b str,
 }
 
-/// Where a held text and another one first differ, or `None` where they are equal. It goes once over the bytes that
-/// are the same, once more to count the lines that end there, and over one line of each text.
+/// Where a held text and another one first differ, or `None` where they are equal. It goes once
+/// over the bytes that are the same, once more to count the lines that end there, and over one line
+/// of each text.
 pub fn first_difference<'a, 'b>(
     held: &'a str,
     other: &'b str,
     encoding: Encoding,
 ) -> Option<Difference<'a, 'b>>
     ensures equal { IfNone result (chars held.now ≡ chars other.now) }
-    ensures at { IfSome result (λ d. DifferFirst (chars held.now) (chars other.now) (λ n. d.at ≡ position_at encoding (chars held.now) n)) }
-    ensures held { IfSome result (λ d. DifferFirst (chars held.now) (chars other.now) (λ n. chars d.held.now ≡ line_around (chars held.now) n)) }
-    ensures other { IfSome result (λ d. DifferFirst (chars held.now) (chars other.now) (λ n. chars d.other.now ≡ line_around (chars other.now) n)) }
+    ensures at { IfSome result
+        (λ d. DifferFirst (chars held.now) (chars other.now)
+        (λ n. d.at ≡ position_at encoding (chars held.now) n)) }
+    ensures held { IfSome result
+        (λ d. DifferFirst (chars held.now) (chars other.now)
+        (λ n. chars d.held.now ≡ line_around (chars held.now) n)) }
+    ensures other { IfSome result
+        (λ d. DifferFirst (chars held.now) (chars other.now)
+        (λ n. chars d.other.now ≡ line_around (chars other.now) n)) }
 {
     let offset = parting(held, other)?;
     Some(Difference {
@@ -99,7 +110,8 @@ fn is_same_block(a: &[u8], b: &[u8], at: usize) -> bool
 /// Where the place behind so many bytes lies, in lines and in units of the encoding.
 fn position_of(text: &str, offset: usize, encoding: Encoding) -> Position
     requires { IsCharBoundary text.now offset }
-    ensures { result ≡ position_at encoding (chars text.now) (length (chars (take offset text.now))) }
+    ensures { result ≡ position_at encoding (chars text.now)
+        (length (chars (take offset text.now))) }
 {
     let start = line_start(text, offset);
     let (lines, line) = text.split_at(start);
@@ -120,7 +132,8 @@ fn capped(n: u64) -> u32
 /// The line in which the place behind so many bytes lies, with its line end.
 fn line_of(text: &str, offset: usize) -> &str
     requires { IsCharBoundary text.now offset }
-    ensures { chars result.now ≡ line_around (chars text.now) (length (chars (take offset text.now))) }
+    ensures { chars result.now
+        ≡ line_around (chars text.now) (length (chars (take offset text.now))) }
 {
     let (_, line) = text.split_at(line_start(text, offset));
     first_line(line)
@@ -149,7 +162,8 @@ fn line_start(text: &str, offset: usize) -> usize
     }
 }
 
-/// The bytes before a place in which a line end is looked for: not its own CR where it lies before a LF.
+/// The bytes before a place in which a line end is looked for: not its own CR where it lies before
+/// a LF.
 fn search_end(bytes: &[u8], offset: usize) -> usize
     requires { offset ≤ length bytes.now }
     ensures { IsSearchEnd bytes.now offset result }

@@ -16,7 +16,8 @@ const LEAD: u8 = 0xC0;
 /// The least byte that begins a character of four bytes.
 const LEAD_OF_FOUR: u8 = 0xF0;
 
-/// How many bytes lie below the continuation bytes, below the lead bytes, and below the lead bytes of four.
+/// How many bytes lie below the continuation bytes, below the lead bytes, and below the lead bytes
+/// of four.
 #[derive(Clone, Copy)]
 pub(crate) struct BytesBelow {
     pub(crate) continuations: usize,

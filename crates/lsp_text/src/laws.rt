@@ -3,16 +3,18 @@
 ghost use Rattle.lsp_text.specs.Difference.{OneDifference, PlacesHavePositions};
 ghost use Rattle.lsp_text.specs.InsideCharacter.{PositionsLieInside};
 ghost use Rattle.lsp_text.specs.Lines.{LinesAreTheCut, LinesOfJoined};
-ghost use Rattle.lsp_text.specs.Places.{PlacesAreDenoted, OnePlaceAtMost, NoneInsideLineEnd, CharactersDenote};
+ghost use Rattle.lsp_text.specs.Places.{PlacesAreDenoted, OnePlaceAtMost, NoneInsideLineEnd};
+ghost use Rattle.lsp_text.specs.Places.{CharactersDenote};
 
-/// Every text has exactly one cut into lines, as LSP 3.17, "Text Documents", has them: each line but the
-/// last ends with CR LF, LF or CR, none has a line end inside, and no CR before a LF ends a line by itself.
+/// Every text has exactly one cut into lines, as LSP 3.17, "Text Documents", has them: each line
+/// but the last ends with CR LF, LF or CR, none has a line end inside, and no CR before a LF ends a
+/// line by itself.
 pub fn lines_are_the_cut()
     ensures { LinesAreTheCut }
 {}
 
-/// The law of re-cutting: where a text ends with a line end, and no CR at its end meets a LF, its lines stay
-/// when a text follows, and that text's lines come after them.
+/// The law of re-cutting: where a text ends with a line end, and no CR at its end meets a LF, its
+/// lines stay when a text follows, and that text's lines come after them.
 pub fn lines_of_joined()
     ensures { LinesOfJoined }
 {}
@@ -42,13 +44,14 @@ pub fn one_difference()
     ensures { OneDifference }
 {}
 
-/// The position of a place denotes it, unless the place lies between a CR and a LF, or the line's number or
-/// the column is past 2^32 - 1.
+/// The position of a place denotes it, unless the place lies between a CR and a LF, or the line's
+/// number or the column is past 2^32 - 1.
 pub fn places_have_positions()
     ensures { PlacesHavePositions }
 {}
 
-/// A position denotes no place exactly where it lies inside a character, and it lies inside at most one.
+/// A position denotes no place exactly where it lies inside a character, and it lies inside at most
+/// one.
 pub fn positions_lie_inside()
     ensures { PositionsLieInside }
 {}

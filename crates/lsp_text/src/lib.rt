@@ -1,11 +1,11 @@
 //! Texts as lists of characters: the places that positions denote, and stores that are edited.
 //!
-//! [`TextStore`] says what a store of a text is, and [`change`] and [`change_all`] make the changes of
-//! a `textDocument/didChange` in any of them. [`Plain`] keeps a text in one `String`; `lsp_lined` has a
-//! store that keeps its lines. [`measure`] counts characters and units of UTF-16, [`first_difference`]
-//! tells where two texts first differ, and [`line_at`], [`width_of`], [`char_inside`] and [`size_with`]
-//! read a text by its lines and columns. A store of one's own cuts lines with [`FirstLine`] and finds
-//! columns with [`offset_in_line`].
+//! [`TextStore`] says what a store of a text is, and [`change`] and [`change_all`] make the changes
+//! of a `textDocument/didChange` in any of them. [`Plain`] keeps a text in one `String`;
+//! `lsp_lined` has a store that keeps its lines. [`measure`] counts characters and units of UTF-16,
+//! [`first_difference`] tells where two texts first differ, and [`line_at`], [`width_of`],
+//! [`char_inside`] and [`size_with`] read a text by its lines and columns. A store of one's own
+//! cuts lines with [`FirstLine`] and finds columns with [`offset_in_line`].
 #![tactic(auto)]
 
 mod changes;

@@ -15,8 +15,8 @@ use lsp_types::{Encoding, Memory, Position, Span};
 use std::alloc::Global;
 use std::marker::Model;
 
-/// A text in one `String`. A position costs a look at the lines up to its own, and an edit moves the bytes
-/// behind it.
+/// A text in one `String`. A position costs a look at the lines up to its own, and an edit moves
+/// the bytes behind it.
 #[derive(Drop)]
 pub struct Plain {
     text: String,
@@ -122,7 +122,8 @@ pub(crate) fn count_lines(text: &str) -> u64
 
 /// The bytes of a text before a position, or `None` where it lies inside a character.
 pub(crate) fn offset_of(text: &str, encoding: Encoding, position: Position) -> Option<usize>
-    ensures { MatchOption result (place_of encoding (chars text.now) position ≡ None) (IsTextOffset encoding text.now position) }
+    ensures { MatchOption result (place_of encoding (chars text.now) position ≡ None)
+        (IsTextOffset encoding text.now position) }
 {
     let mut start = 0;
     let mut rest = text;

@@ -1,5 +1,5 @@
-//! What is read of a text by itself: a line by its number, the units of a text, the character inside which a position
-//! lies, and the bytes that a change would lead to.
+//! What is read of a text by itself: a line by its number, the units of a text, the character
+//! inside which a position lies, and the bytes that a change would lead to.
 
 ghost use Rattle.std.specs.Prelude.{◌≡◌, true, Some, option_map, slice_get, is_some, MatchOption};
 ghost use Rattle.std.specs.Str.{chars};
@@ -14,10 +14,11 @@ use crate::cut::FirstLine;
 use crate::plain::offset_of;
 use lsp_types::{Encoding, Position, Span};
 
-/// The line of this number, from 0, without its line end, or `None` where the text has no such line (LSP 3.17, "Text
-/// Documents").
+/// The line of this number, from 0, without its line end, or `None` where the text has no such line
+/// (LSP 3.17, "Text Documents").
 pub fn line_at(text: &str, number: u32) -> Option<&str>
-    ensures { option_map (λ line. chars line.now) result ≡ option_map (λ line. line.text) (slice_get (lines_of (chars text.now)) number) }
+    ensures { option_map (λ line. chars line.now) result
+        ≡ option_map (λ line. line.text) (slice_get (lines_of (chars text.now)) number) }
 {
     let mut rest = text;
     for i in 0..number {
@@ -43,10 +44,11 @@ pub fn width_of(text: &str, encoding: Encoding) -> u64
     }
 }
 
-/// The character inside which a position lies, or `None` where the position denotes a place: at an edge of a
-/// character, past the end of its line, or past the last line.
+/// The character inside which a position lies, or `None` where the position denotes a place: at an
+/// edge of a character, past the end of its line, or past the last line.
 pub fn char_inside(text: &str, encoding: Encoding, position: Position) -> Option<char>
-    ensures { MatchOption result (is_some (place_of encoding (chars text.now) position) ≡ true) (LiesInside encoding (chars text.now) position) }
+    ensures { MatchOption result (is_some (place_of encoding (chars text.now) position) ≡ true)
+        (LiesInside encoding (chars text.now) position) }
 {
     let Some(line) = line_at(text, position.line) else {
         return None;
@@ -56,7 +58,8 @@ pub fn char_inside(text: &str, encoding: Encoding, position: Position) -> Option
 
 /// The same in a line.
 fn char_in_line(line: &str, encoding: Encoding, column: u32) -> Option<char>
-    ensures { MatchOption result (is_some (place_in_line encoding (chars line.now) column) ≡ true) (FallsInside encoding (chars line.now) column) }
+    ensures { MatchOption result (is_some (place_in_line encoding (chars line.now) column) ≡ true)
+        (FallsInside encoding (chars line.now) column) }
 {
     let mut left = column;
     for c in line.chars() {
@@ -72,11 +75,12 @@ fn char_in_line(line: &str, encoding: Encoding, column: u32) -> Option<char>
     None
 }
 
-/// The bytes of UTF-8 that a text would have with a change: with an insertion in the place of a span, or of the whole
-/// text where there is none. `None` where no limit lets the change be made: a position lies inside a character, or the
-/// span is reversed.
+/// The bytes of UTF-8 that a text would have with a change: with an insertion in the place of a
+/// span, or of the whole text where there is none. `None` where no limit lets the change be made: a
+/// position lies inside a character, or the span is reversed.
 pub fn size_with(text: &str, encoding: Encoding, span: Option<Span>, insertion: &str) -> Option<u64>
-    ensures { MatchOption result (IsNeverMade encoding (chars text.now) span (chars insertion.now)) (IsSizeWith encoding (chars text.now) span (chars insertion.now)) }
+    ensures { MatchOption result (IsNeverMade encoding (chars text.now) span (chars insertion.now))
+        (IsSizeWith encoding (chars text.now) span (chars insertion.now)) }
 {
     match span {
         Some(span) => size_between(text, encoding, span, insertion),
@@ -86,7 +90,9 @@ pub fn size_with(text: &str, encoding: Encoding, span: Option<Span>, insertion: 
 
 /// The same with an insertion in the place of a span.
 fn size_between(text: &str, encoding: Encoding, span: Span, insertion: &str) -> Option<u64>
-    ensures { MatchOption result (IsNeverMade encoding (chars text.now) (Some span) (chars insertion.now)) (IsSizeWith encoding (chars text.now) (Some span) (chars insertion.now)) }
+    ensures { MatchOption result
+        (IsNeverMade encoding (chars text.now) (Some span) (chars insertion.now))
+        (IsSizeWith encoding (chars text.now) (Some span) (chars insertion.now)) }
 {
     let first = offset_of(text, encoding, span.first)?;
     let second = offset_of(text, encoding, span.second)?;

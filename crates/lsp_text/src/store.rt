@@ -11,16 +11,17 @@ use crate::fault::TextFault;
 use lsp_types::{Encoding, Memory, Position, Span};
 use std::alloc::Global;
 
-/// A place in a text, between two characters or at its ends: the characters (Unicode scalar values) before it.
+/// A place in a text, between two characters or at its ends: the characters (Unicode scalar values)
+/// before it.
 #[derive(Clone, Copy, Debug, PartialEq, Eq)]
 pub struct Place {
     pub chars: u64,
 }
 
-/// A text, seen as its characters, however it is kept. Its lines are those of LSP 3.17, "Text Documents":
-/// they end with CR LF, LF or CR, and lines and columns count from zero. A refused call leaves the text as
-/// it was. `from_text`, `replace`, `replace_all`, `to_text` and `copy` may answer `Memory`, only where a
-/// growth was refused; the other calls take no memory.
+/// A text, seen as its characters, however it is kept. Its lines are those of LSP 3.17, "Text
+/// Documents": they end with CR LF, LF or CR, and lines and columns count from zero. A refused call
+/// leaves the text as it was. `from_text`, `replace`, `replace_all`, `to_text` and `copy` may
+/// answer `Memory`, only where a growth was refused; the other calls take no memory.
 pub trait TextStore: Drop {
     /// Its characters.
     ghost content: { Self → List ℕ };
@@ -29,15 +30,16 @@ pub trait TextStore: Drop {
     fn from_text(alloc: Global, text: &str) -> Result<Self, Memory>
         ensures { IfOk result (λ store. content store ≡ chars text.now) };
 
-    /// The place that a position denotes (LSP 3.17, "Position" and "PositionEncodingKind"). The column counts
-    /// units of the encoding: bytes of UTF-8, units of UTF-16, or characters. A column past its line denotes
-    /// the line's end, before its line end, and a line past the last one the end of the text. A column inside
-    /// a character is refused by rule 605.
+    /// The place that a position denotes (LSP 3.17, "Position" and "PositionEncodingKind"). The
+    /// column counts units of the encoding: bytes of UTF-8, units of UTF-16, or characters. A
+    /// column past its line denotes the line's end, before its line end, and a line past the last
+    /// one the end of the text. A column inside a character is refused by rule 605.
     fn resolve(&self, encoding: Encoding, position: Position) -> Result<Place, TextFault>
         ensures { IsPlaceOr605 (place_of encoding (content self.now) position) result };
 
-    /// Puts a text in the place of the characters of a span. Rule 605 refuses a position inside a character,
-    /// then 606 a first place after the second, then 607 a result of more bytes of UTF-8 than the limit.
+    /// Puts a text in the place of the characters of a span. Rule 605 refuses a position inside a
+    /// character, then 606 a first place after the second, then 607 a result of more bytes of UTF-8
+    /// than the limit.
     fn replace(
         &mut self,
         encoding: Encoding,
@@ -45,11 +47,14 @@ pub trait TextStore: Drop {
         text: &str,
         limit: u64,
     ) -> Result<(), TextFault>
-        ensures ok { OnOk result (replaced encoding (content self.old) span (chars text.now) limit ≡ Ok (content self.new)) }
-        ensures fault { IfErr result (IsFaultOf (replaced encoding (content self.old) span (chars text.now) limit)) }
+        ensures ok { OnOk result (replaced encoding (content self.old) span (chars text.now) limit
+            ≡ Ok (content self.new)) }
+        ensures fault { IfErr result
+            (IsFaultOf (replaced encoding (content self.old) span (chars text.now) limit)) }
         ensures err { OnErr result (content self.new ≡ content self.old) };
 
-    /// Puts a text in the place of the whole text. Rule 607 refuses one of more bytes of UTF-8 than the limit.
+    /// Puts a text in the place of the whole text. Rule 607 refuses one of more bytes of UTF-8 than
+    /// the limit.
     fn replace_all(&mut self, text: &str, limit: u64) -> Result<(), TextFault>
         ensures ok { OnOk result (limited limit (chars text.now) ≡ Ok (content self.new)) }
         ensures fault { IfErr result (IsFaultOf (limited limit (chars text.now))) }

@@ -1,6 +1,7 @@
 //! The lines of a text, and the count of the bytes lent from them.
 
-ghost use Rattle.std.specs.Prelude.{◌≡◌, ◌+◌, ◌<◌, ◌≤◌, ◌-◌, ◌^◌, ◌↔◌, None, length, take, drop, MatchOption, IfOk, OnOk, OnErr, IsTrue};
+ghost use Rattle.std.specs.Prelude.{◌≡◌, ◌+◌, ◌<◌, ◌≤◌, ◌-◌, ◌^◌, ◌↔◌, None, length, take, drop};
+ghost use Rattle.std.specs.Prelude.{MatchOption, IfOk, OnOk, OnErr, IsTrue};
 ghost use Rattle.std.specs.List.{replace_range};
 ghost use Rattle.std.specs.Str.{chars, IsUtf8, IsCharBoundary};
 ghost use Rattle.std.specs.String.{string_bytes};
@@ -9,7 +10,8 @@ ghost use Rattle.lsp_text.specs.Offsets.{IsAtLine};
 ghost use Rattle.lsp_lined.specs.Steps.{raised, line_bytes, line_number};
 ghost use Rattle.lsp_lined.specs.Ends.{IsNear};
 ghost use Rattle.lsp_lined.specs.Parts.{CanReplace};
-ghost use Rattle.lsp_lined.specs.LentLines.{IsLentLine, IsHeldLine, IsEndOf, IsOffsetIn, NoOffsetIn};
+ghost use Rattle.lsp_lined.specs.LentLines.{IsLentLine, IsHeldLine, IsEndOf, IsOffsetIn};
+ghost use Rattle.lsp_lined.specs.LentLines.{NoOffsetIn};
 
 use crate::chunk::{Chunk, chunks_in, replace_in_chunks};
 use crate::part::{
@@ -207,8 +209,9 @@ impl Lines {
     }
 }
 
-/// A line with its end that is lent: where it begins, where its end begins, and where that ends. Beside it what comes
-/// after its start in the same block, and whether each of those characters has one byte.
+/// A line with its end that is lent: where it begins, where its end begins, and where that ends.
+/// Beside it what comes after its start in the same block, and whether each of those characters has
+/// one byte.
 #[derive(Drop)]
 pub(crate) struct LentLine<'a> {
     chunks: &'a [Chunk],
@@ -228,10 +231,12 @@ impl<'a> LentLine<'a> {
         self.after - self.start
     }
 
-    /// The bytes of the text before a column of the line, or `None` where it lies inside a character.
+    /// The bytes of the text before a column of the line, or `None` where it lies inside a
+    /// character.
     pub(crate) fn offset_of(&self, encoding: Encoding, column: u32) -> Option<usize>
         requires { IsHeldLine self.now }
-        ensures { MatchOption result (NoOffsetIn encoding self.now column) (IsOffsetIn encoding self.now column) }
+        ensures { MatchOption result (NoOffsetIn encoding self.now column)
+            (IsOffsetIn encoding self.now column) }
     {
         let len = self.end - self.start;
         if self.near.len() < len {
@@ -248,7 +253,8 @@ impl<'a> LentLine<'a> {
     /// The same of a line that goes over several blocks.
     fn offset_of_far(&self, encoding: Encoding, column: u32) -> Option<usize>
         requires { IsHeldLine self.now }
-        ensures { MatchOption result (NoOffsetIn encoding self.now column) (IsOffsetIn encoding self.now column) }
+        ensures { MatchOption result (NoOffsetIn encoding self.now column)
+            (IsOffsetIn encoding self.now column) }
     {
         let before = units_before_in(self.chunks, encoding, self.start);
         let through = units_before_in(self.chunks, encoding, self.end);
