@@ -1,53 +1,30 @@
 -- Units of a text, byte by byte.
-use Rattle.std.proofs.Common.{◌≡◌, ◌≢◌, ◌<◌, ◌≤◌, ◌+◌, ◌-◌, ℕ, Bool, false, cond, ltb, List, [], ◌∷◌, length, take, drop, get_or, refl, sym, ap, subst, ◌∙◌, ⊎_elim, arith, take-add}
+use Rattle.std.proofs.Common.{◌≡◌, ◌≢◌, ◌<◌, ◌≤◌, ◌+◌, ◌-◌, ℕ, Bool, false, List, length, take}
+use Rattle.std.proofs.Common.{drop, get_or, refl, sym, ap, subst, ◌∙◌, ⊎_elim, arith, take-add}
 use Rattle.std.proofs.lemmas.List.{take_more}
-use Rattle.std.proofs.lemmas.List.Sums.{sum_by-cons, sum_by-append, sum_by_push}
+use Rattle.std.proofs.lemmas.List.Sums.{sum_by-append, sum_by_push}
 use Rattle.std.proofs.lemmas.Bool.{cases_lt, false≢true}
 use Rattle.std.specs.Bool.{IsTrue}
 use Rattle.std.proofs.lemmas.Bool.Decides.{nat_tests}
 use Rattle.std.proofs.lemmas.Str.{IsUtf8-take}
-use Rattle.std.specs.List.{sum_by, count_by}
-use Rattle.std.specs.Str.{chars, IsUtf8, IsCharBoundary}
+use Rattle.std.specs.List.{sum_by}
+use Rattle.std.specs.Str.{IsUtf8, IsCharBoundary}
 use Rattle.lsp_types.specs.declared.position.Encoding.{Encoding}
 use Rattle.lsp_types.specs.declared.position.Encoding.TheVariants.{Utf8, Utf16, Utf32}
-use Rattle.lsp_text.specs.Places.{units}
 use Rattle.lsp_text.specs.Offsets.{byte_units, IsPassed, IsSkipped}
-use Rattle.lsp_text.proofs.ByteCounts.{counts_of_text}
-use Rattle.lsp_text.proofs.Widths.{units-utf32}
-
-count-cons : (top x : ℕ) (xs : List ℕ) → count_by (λ y. ltb y top) (x ∷ xs) ≡ cond (ltb x top) 1 0 + count_by (λ y. ltb y top) xs
-count-cons top x xs = sum_by-cons (λ y. cond (ltb y top) 1 0) x xs
-
-byte_utf16 : (x : ℕ) → byte_units Utf16 x + cond (ltb x 192) 1 0 + cond (ltb x 240) 1 0 ≡ cond (ltb x 128) 1 0 + 2
-byte_utf16 x = grind (arith, nat_tests)
-
-byte_utf32 : (x : ℕ) → byte_units Utf32 x + cond (ltb x 192) 1 0 ≡ cond (ltb x 128) 1 0 + 1
-byte_utf32 x = grind (arith, nat_tests)
-
--- the units that bytes bring, from three counts of them
-pub sum_utf16 : (xs : List ℕ) → sum_by (byte_units Utf16) xs + count_by (λ y. ltb y 192) xs + count_by (λ y. ltb y 240) xs ≡ count_by (λ y. ltb y 128) xs + (length xs + length xs)
-sum_utf16 [] = refl
-sum_utf16 (x ∷ xs) = omega (arith, sum_utf16 xs, byte_utf16 x, sum_by-cons (byte_units Utf16) x xs, count-cons 128 x xs, count-cons 192 x xs, count-cons 240 x xs)
-
-pub sum_utf32 : (xs : List ℕ) → sum_by (byte_units Utf32) xs + count_by (λ y. ltb y 192) xs ≡ count_by (λ y. ltb y 128) xs + length xs
-sum_utf32 [] = refl
-sum_utf32 (x ∷ xs) = omega (arith, sum_utf32 xs, byte_utf32 x, sum_by-cons (byte_units Utf32) x xs, count-cons 128 x xs, count-cons 192 x xs)
-
-pub sum_utf8 : (xs : List ℕ) → sum_by (byte_units Utf8) xs ≡ length xs
-sum_utf8 [] = refl
-sum_utf8 (x ∷ xs) = omega (arith, sum_utf8 xs, sum_by-cons (byte_units Utf8) x xs)
-
--- outside UTF-8 they are those of its characters
-units_by_bytes : (enc : Encoding) (bs : List ℕ) → enc ≢ Utf8 → IsUtf8 bs → units enc (chars bs) ≡ sum_by (byte_units enc) bs
-units_by_bytes Utf8 bs wide u = absurd (wide refl)
-units_by_bytes Utf16 bs wide u = let h = counts_of_text bs _ _ _ u refl refl refl in omega (arith, h.one, h.wide, sum_utf16 bs)
-units_by_bytes Utf32 bs wide u = let h = counts_of_text bs _ _ (count_by (λ y. ltb y 240) bs) u refl refl refl in omega (arith, h.one, sum_utf32 bs, units-utf32 (chars bs))
+use Rattle.lsp_text.proofs.ByteUnits.{units_by_bytes}
 
 pub none_passed : (enc : Encoding) (bs : List ℕ) (column : ℕ) → IsPassed enc bs column 0 column
-none_passed enc bs column = record { within = omega arith; left_is = (let e : 0 + column ≡ column = omega arith in e) }
+none_passed enc bs column = record {
+  within = omega arith;
+  left_is = (let e : 0 + column ≡ column = omega arith in e);
+}
 
 -- one more block
-pub block_passed : (enc : Encoding) (bs : List ℕ) (column at left width : ℕ) → IsPassed enc bs column at left → at + 32 ≤ length bs → width ≡ sum_by (byte_units enc) (take 32 (drop at bs)) → width ≤ left → IsPassed enc bs column (at + 32) (left - width)
+pub block_passed : (enc : Encoding) (bs : List ℕ) (column at left width : ℕ)
+    → IsPassed enc bs column at left → at + 32 ≤ length bs
+    → width ≡ sum_by (byte_units enc) (take 32 (drop at bs)) → width ≤ left
+    → IsPassed enc bs column (at + 32) (left - width)
 block_passed enc bs column at left width h within is le =
     record {
       within = within;
@@ -68,7 +45,9 @@ inside_byte Utf8 x wide low high = absurd (wide refl)
 inside_byte Utf16 x wide low high = grind (arith, nat_tests)
 inside_byte Utf32 x wide low high = grind (arith, nat_tests)
 
-pub byte_passed : (enc : Encoding) (bs : List ℕ) (column at left : ℕ) → enc ≢ Utf8 → IsPassed enc bs column at left → at < length bs → 128 ≤ get_or bs at 0 → get_or bs at 0 < 192 → IsPassed enc bs column (at + 1) left
+pub byte_passed : (enc : Encoding) (bs : List ℕ) (column at left : ℕ) → enc ≢ Utf8
+    → IsPassed enc bs column at left → at < length bs → 128 ≤ get_or bs at 0 → get_or bs at 0 < 192
+    → IsPassed enc bs column (at + 1) left
 byte_passed enc bs column at left wide h lt low high =
     let x = get_or bs at 0 in
     record {
@@ -84,21 +63,32 @@ byte_passed enc bs column at left wide h lt low high =
     }
 
 -- at the end of a character
-passed_whole : (enc : Encoding) (bs : List ℕ) (column at left : ℕ) → enc ≢ Utf8 → IsUtf8 bs → IsPassed enc bs column at left → IsCharBoundary bs at → IsSkipped enc bs column at left
-passed_whole enc bs column at left wide u h b = record { boundary = b; left_is = omega (arith, h.left_is, units_by_bytes enc (take at bs) wide (IsUtf8-take bs at u b)) }
+passed_whole : (enc : Encoding) (bs : List ℕ) (column at left : ℕ) → IsUtf8 bs
+    → IsPassed enc bs column at left → IsCharBoundary bs at → IsSkipped enc bs column at left
+passed_whole enc bs column at left u h b = record {
+  boundary = b;
+  left_is = omega (arith, h.left_is, units_by_bytes enc (take at bs) (IsUtf8-take bs at u b));
+}
 
 -- a byte that does not go on with a character begins one
 begins : (b : Bool) (x : ℕ) → ((128 ≤ x) × (x < 192) → IsTrue b) → b ≡ false → 128 ≤ x → 192 ≤ x
-begins b x all off low = ⊎_elim (λ lt. absurd (false≢true (sym off ∙ all (low, lt)))) (λ ge. ge) (cases_lt x 192)
+begins b x all off low =
+    ⊎_elim (λ lt. absurd (false≢true (sym off ∙ all (low, lt)))) (λ ge. ge) (cases_lt x 192)
 
-pub passed_at_start : (enc : Encoding) (line bs : List ℕ) (column at left : ℕ) (b : Bool) → enc ≢ Utf8 → IsUtf8 line → bs ≡ line → IsPassed enc bs column at left → at < length bs →
-    ((128 ≤ get_or bs at 0) × (get_or bs at 0 < 192) → IsTrue b) → b ≡ false → IsSkipped enc line column at left
-passed_at_start enc line bs column at left b wide u same h lt all off =
+pub passed_at_start : (enc : Encoding) (line bs : List ℕ) (column at left : ℕ) (b : Bool)
+    → IsUtf8 line → bs ≡ line → IsPassed enc bs column at left → at < length bs →
+    ((128 ≤ get_or bs at 0) × (get_or bs at 0 < 192) → IsTrue b) → b ≡ false
+    → IsSkipped enc line column at left
+passed_at_start enc line bs column at left b u same h lt all off =
     subst (λ (x : List ℕ). IsSkipped enc x column at left) same
-    (passed_whole enc bs column at left wide (subst (λ (x : List ℕ). IsUtf8 x) (sym same) u) h (h.within, λ less low. begins b (get_or bs at 0) all off low))
+    (passed_whole enc bs column at left (subst (λ (x : List ℕ). IsUtf8 x) (sym same) u) h
+    (h.within, λ less low. begins b (get_or bs at 0) all off low))
 
-pub passed_at_end : (enc : Encoding) (line bs : List ℕ) (column at left : ℕ) → enc ≢ Utf8 → IsUtf8 line → bs ≡ line → IsPassed enc bs column at left → length bs ≤ at → IsSkipped enc line column at left
-passed_at_end enc line bs column at left wide u same h ge =
+pub passed_at_end : (enc : Encoding) (line bs : List ℕ) (column at left : ℕ) → IsUtf8 line
+    → bs ≡ line → IsPassed enc bs column at left → length bs ≤ at
+    → IsSkipped enc line column at left
+passed_at_end enc line bs column at left u same h ge =
     let w = h.within in
     subst (λ (x : List ℕ). IsSkipped enc x column at left) same
-    (passed_whole enc bs column at left wide (subst (λ (x : List ℕ). IsUtf8 x) (sym same) u) h (w, λ less. absurd (omega (arith, less, ge))))
+    (passed_whole enc bs column at left (subst (λ (x : List ℕ). IsUtf8 x) (sym same) u) h
+    (w, λ less. absurd (omega (arith, less, ge))))

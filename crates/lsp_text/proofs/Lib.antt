@@ -4,8 +4,8 @@ pub mod Counting
 pub mod Positions
 pub mod Splices
 pub mod JoinedLines
-pub mod ByteCounts
-pub mod AsciiCounts
+pub mod ByteUnits
+pub mod Starts
 pub mod Denoting
 pub mod Edits
 pub mod Widths

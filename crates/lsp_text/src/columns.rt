@@ -1,11 +1,11 @@
 //! Columns of a line, which count units of an encoding, as offsets in its bytes.
 
-ghost use Rattle.std.specs.Prelude.{◌≡◌, ◌≢◌, ◌<◌, ◌≤◌, ◌↔◌, IsTrue, None, MatchOption};
+ghost use Rattle.std.specs.Prelude.{◌≡◌, ◌≢◌, None, MatchOption};
 ghost use Rattle.std.specs.Str.{chars};
 ghost use Rattle.lsp_text.specs.Places.{units, units_of_char, place_in_line};
 ghost use Rattle.lsp_text.specs.Offsets.{IsOffset, IsSkipped, IsPassed};
 
-use crate::lanes::units_in;
+use crate::lanes::{is_continuation, units_in};
 use lsp_types::Encoding;
 use std::simd::u8x32;
 
@@ -67,13 +67,6 @@ fn skip_blocks(line: &str, encoding: Encoding, column: u32) -> Skipped
         bytes: at,
         left: passed.left,
     }
-}
-
-/// Whether a byte goes on with a character.
-fn is_continuation(byte: u8) -> bool
-    ensures { IsTrue result ↔ ((128 ≤ byte) × (byte < 192)) }
-{
-    (0x80..0xC0).contains(&byte)
 }
 
 /// Whole blocks before a column.

@@ -4,7 +4,7 @@ ghost use Rattle.std.specs.Prelude.{◌≡◌, length};
 ghost use Rattle.std.specs.Str.{chars};
 ghost use Rattle.lsp_text.specs.Places.{units};
 
-use crate::lanes::count_below;
+use crate::lanes::count;
 use lsp_types::Encoding;
 
 /// How many characters (Unicode scalar values) a text has, and how many units of UTF-16.
@@ -20,12 +20,5 @@ pub fn measure(text: &str) -> Counts
     ensures chars { result.chars ≡ length (chars text.now) }
     ensures utf16 { result.utf16 ≡ units Encoding.Utf16 (chars text.now) }
 {
-    let bytes = text.as_bytes();
-    let below = count_below(bytes);
-    let chars = bytes.len() - (below.leads - below.continuations);
-    let utf16 = chars + (bytes.len() - below.leads_of_four);
-    Counts {
-        chars: chars as u64,
-        utf16: utf16 as u64,
-    }
+    count(text.as_bytes())
 }

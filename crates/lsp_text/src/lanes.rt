@@ -1,9 +1,10 @@
 //! Bytes of UTF-8 counted 32 at a time.
 
-ghost use Rattle.std.specs.Prelude.{◌≡◌, ◌+◌, ◌≤◌, ◌↔◌, length, take, count_by, nat_lt, IsTrue};
+ghost use Rattle.std.specs.Prelude.{◌≡◌, ◌<◌, ◌≤◌, ◌↔◌, length, take, map, count_by, nat_lt, IsTrue};
 ghost use Rattle.std.specs.List.{sum_by};
 ghost use Rattle.lsp_text.specs.Offsets.{byte_units};
 
+use crate::counts::Counts;
 use lsp_types::Encoding;
 use std::simd::u8x32;
 
@@ -16,42 +17,25 @@ const LEAD: u8 = 0xC0;
 /// The least byte that begins a character of four bytes.
 const LEAD_OF_FOUR: u8 = 0xF0;
 
-/// How many bytes lie below the continuation bytes, below the lead bytes, and below the lead bytes
-/// of four.
-#[derive(Clone, Copy)]
-pub(crate) struct BytesBelow {
-    pub(crate) continuations: usize,
-    pub(crate) leads: usize,
-    pub(crate) leads_of_four: usize,
-}
-
-/// Counts the bytes below each bound, in one pass.
-pub(crate) fn count_below(bytes: &[u8]) -> BytesBelow
-    ensures continuations { result.continuations ≡ count_by (λ x. nat_lt x CONTINUATION) bytes.now }
-    ensures leads { result.leads ≡ count_by (λ x. nat_lt x LEAD) bytes.now }
-    ensures leads_of_four { result.leads_of_four ≡ count_by (λ x. nat_lt x LEAD_OF_FOUR) bytes.now }
+/// The characters and the units of UTF-16 that bytes bring, in one pass.
+pub(crate) fn count(bytes: &[u8]) -> Counts
+    ensures chars { result.chars ≡ sum_by (byte_units Encoding.Utf32) bytes.now }
+    ensures utf16 { result.utf16 ≡ sum_by (byte_units Encoding.Utf16) bytes.now }
 {
     let mut at = ascii_front(bytes);
-    let mut continuations = at;
-    let mut leads = at;
-    let mut leads_of_four = at;
+    let mut chars = at as u64;
+    let mut utf16 = at as u64;
     while at + 32 <= bytes.len() {
         let block = u8x32::from_slice(&bytes[at..]);
-        continuations += count_in(block, CONTINUATION) as usize;
-        leads += count_in(block, LEAD) as usize;
-        leads_of_four += count_in(block, LEAD_OF_FOUR) as usize;
+        chars += units_in(block, Encoding::Utf32) as u64;
+        utf16 += units_in(block, Encoding::Utf16) as u64;
         at += 32;
     }
     for byte in &bytes[at..] {
-        continuations += (*byte < CONTINUATION) as usize;
-        leads += (*byte < LEAD) as usize;
-        leads_of_four += (*byte < LEAD_OF_FOUR) as usize;
+        chars += units_of_byte(*byte, Encoding::Utf32) as u64;
+        utf16 += units_of_byte(*byte, Encoding::Utf16) as u64;
     }
-    BytesBelow {
-        continuations,
-        leads,
-        leads_of_four,
-    }
+    Counts { chars, utf16 }
 }
 
 /// The bytes of the blocks at the front that hold ASCII alone.
@@ -71,36 +55,65 @@ fn is_ascii(block: u8x32) -> bool
     requires { length block ≡ 32 }
     ensures { IsTrue result ↔ (count_by (λ x. nat_lt x CONTINUATION) block ≡ 32) }
 {
-    count_in(block, CONTINUATION) == 32
+    ascii_in(block) == 32
 }
 
-/// The units that 32 bytes of UTF-8 bring.
+/// How many of 32 bytes are ASCII.
+fn ascii_in(block: u8x32) -> u32
+    requires { length block ≡ 32 }
+    ensures { result ≡ count_by (λ x. nat_lt x CONTINUATION) block }
+{
+    block
+        .simd_lt(u8x32::splat(CONTINUATION))
+        .to_bitmask()
+        .count_ones()
+}
+
+/// The units that a byte brings.
+fn units_of_byte(byte: u8, encoding: Encoding) -> u32
+    ensures { result ≡ byte_units encoding byte }
+{
+    match encoding {
+        Encoding::Utf8 => 1,
+        Encoding::Utf16 => !is_continuation(byte) as u32 + (byte >= LEAD_OF_FOUR) as u32,
+        Encoding::Utf32 => !is_continuation(byte) as u32,
+    }
+}
+
+/// Whether a byte goes on with a character.
+pub(crate) fn is_continuation(byte: u8) -> bool
+    ensures { IsTrue result ↔ ((128 ≤ byte) × (byte < 192)) }
+{
+    (CONTINUATION..LEAD).contains(&byte)
+}
+
+/// The units that 32 bytes bring.
 pub(crate) fn units_in(block: u8x32, encoding: Encoding) -> u32
     requires { length block ≡ 32 }
     ensures { result ≡ sum_by (byte_units encoding) block }
 {
     match encoding {
         Encoding::Utf8 => 32,
-        Encoding::Utf16 => {
-            let chars = count_in(block, CONTINUATION) + count_in_from(block, LEAD);
-            chars + count_in_from(block, LEAD_OF_FOUR)
-        }
-        Encoding::Utf32 => count_in(block, CONTINUATION) + count_in_from(block, LEAD),
+        Encoding::Utf16 => utf16_starts(block).strict_reduce_sum() as u32,
+        Encoding::Utf32 => starts(block).strict_reduce_sum() as u32,
     }
 }
 
-/// How many of 32 bytes lie at a bound or above it.
-fn count_in_from(block: u8x32, bound: u8) -> u32
+/// For each byte the units of UTF-16 of the character that it begins, or 0.
+fn utf16_starts(block: u8x32) -> u8x32
     requires { length block ≡ 32 }
-    ensures { result + count_by (λ x. nat_lt x bound) block ≡ 32 }
+    ensures { result ≡ map (byte_units Encoding.Utf16) block }
 {
-    32 - count_in(block, bound)
+    let wide = block.simd_ge(u8x32::splat(LEAD_OF_FOUR));
+    starts(block).strict_add(wide.select(u8x32::splat(1), u8x32::splat(0)))
 }
 
-/// How many of 32 bytes lie below a bound.
-fn count_in(block: u8x32, bound: u8) -> u32
+/// For each byte 1 where it begins a character, else 0.
+fn starts(block: u8x32) -> u8x32
     requires { length block ≡ 32 }
-    ensures { result ≡ count_by (λ x. nat_lt x bound) block }
+    ensures { result ≡ map (byte_units Encoding.Utf32) block }
 {
-    block.simd_lt(u8x32::splat(bound)).to_bitmask().count_ones()
+    let ascii = block.simd_lt(u8x32::splat(CONTINUATION));
+    let leads = block.simd_ge(u8x32::splat(LEAD));
+    (ascii | leads).select(u8x32::splat(1), u8x32::splat(0))
 }

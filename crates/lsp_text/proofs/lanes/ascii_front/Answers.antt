@@ -1,6 +1,6 @@
-use Rattle.std.proofs.Common.{refl, sym}
+use Rattle.std.proofs.Common.{refl, sym, ltb, cond}
 use Rattle.std.proofs.lemmas.Simd.{length-chunk}
-use Rattle.lsp_text.proofs.ByteCounts.{count_block}
+use Rattle.lsp_text.proofs.ByteUnits.{sum_block}
 use Rattle.lsp_text.proofs.lanes.ascii_front.Goals as goal
 
 pub is_ascii-requires : goal.is_ascii-requires
@@ -11,5 +11,6 @@ loop-at-preserved c =
     let at = c.loop-at.at in
     record {
       within = c.loop-at-test.true;
-      ascii = sym (count_block 0x80 c.args.bytes.now at at 32 (sym c.loop-at.invariant.ascii) (sym (c.if-is_ascii.ensures.0 refl)));
+      ascii = sym (sum_block (λ x. cond (ltb x 0x80) 1 0) c.args.bytes.now at at 32
+          (sym c.loop-at.invariant.ascii) (sym (c.if-is_ascii.ensures.0 refl)));
     }
