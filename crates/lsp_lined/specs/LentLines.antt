@@ -7,6 +7,7 @@ use Rattle.lsp_types.specs.declared.position.Encoding.{Encoding}
 use Rattle.lsp_text.specs.Places.{place_in_line}
 use Rattle.lsp_text.specs.Offsets.{IsOffset, IsAtLine}
 use Rattle.lsp_lined.specs.Ends.{IsNear}
+use Rattle.lsp_lined.specs.Sums.{sums_of}
 use Rattle.lsp_lined.specs.Parts.{joined, AreParts}
 use Rattle.lsp_lined.specs.declared.lined.lines.LentLine.{LentLine}
 
@@ -20,13 +21,15 @@ pub record IsOffsetFrom (enc : Encoding) (bs : List ℕ) (start end column offse
   pub in_line : IsOffset enc (bytes_between bs start end) column (offset - start)
 
 abbrev pub NoOffsetFrom : Encoding → List ℕ → ℕ → ℕ → ℕ → Type 0
-NoOffsetFrom enc bs start end column = place_in_line enc (chars (bytes_between bs start end)) column ≡ None
+NoOffsetFrom enc bs start end column =
+    place_in_line enc (chars (bytes_between bs start end)) column ≡ None
 
--- a line stands in the text of its chunks, and some of it near by
+-- a line stands in the text of its chunks, whose sums are known, and some of it near by
 pub record IsHeldLine (l : LentLine) : Type 0 where
   pub parts : AreParts l.chunks.now
   pub some : 0 < length l.chunks.now
   pub fits : length (joined l.chunks.now) < 2 ^ 64
+  pub sums : l.sums ≡ sums_of (joined l.chunks.now)
   pub order : l.start ≤ l.end
   pub start : IsCharBoundary (joined l.chunks.now) l.start
   pub end : IsCharBoundary (joined l.chunks.now) l.end
@@ -38,7 +41,8 @@ IsOffsetIn enc l column offset = IsOffsetFrom enc (joined l.chunks.now) l.start 
 abbrev pub NoOffsetIn : Encoding → LentLine → ℕ → Type 0
 NoOffsetIn enc l column = NoOffsetFrom enc (joined l.chunks.now) l.start l.end column
 
--- line `i` of a text: where it begins, where its end begins, where that ends, and the text in whose chunks it is
+-- line `i` of a text: where it begins, where its end begins, where that ends, and the text in whose
+-- chunks it is
 pub record IsLentLine (bs : List ℕ) (i : ℕ) (l : LentLine) : Type 0 where
   pub held : IsHeldLine l
   pub text : joined l.chunks.now ≡ bs
@@ -46,7 +50,10 @@ pub record IsLentLine (bs : List ℕ) (i : ℕ) (l : LentLine) : Type 0 where
   pub at : IsAtLine bs i l.start (drop l.start bs)
   pub end_order : l.end ≤ l.after
   pub after : IsCharBoundary bs l.after
-  pub line : line_at i (chars bs) ≡ record { text = chars (bytes_between bs l.start l.end); end = chars (bytes_between bs l.end l.after) }
+  pub line : line_at i (chars bs) ≡ record {
+    text = chars (bytes_between bs l.start l.end);
+    end = chars (bytes_between bs l.end l.after);
+  }
 
 -- where the end of line `i` begins, and where it ends
 pub record IsEndOf (bs : List ℕ) (i first last : ℕ) : Type 0 where
@@ -54,4 +61,5 @@ pub record IsEndOf (bs : List ℕ) (i first last : ℕ) : Type 0 where
   pub end : IsCharBoundary bs first
   pub after : IsCharBoundary bs last
   pub end_is : (line_at i (chars bs)).end ≡ chars (bytes_between bs first last)
-  pub front : chars (take first bs) ≡ text_of (take i (lines_of (chars bs))) ++ (line_at i (chars bs)).text
+  pub front : chars (take first bs)
+      ≡ text_of (take i (lines_of (chars bs))) ++ (line_at i (chars bs)).text

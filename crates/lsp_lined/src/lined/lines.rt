@@ -6,10 +6,11 @@ ghost use Rattle.std.specs.List.{replace_range};
 ghost use Rattle.std.specs.Str.{chars, IsUtf8, IsCharBoundary};
 ghost use Rattle.std.specs.String.{string_bytes};
 ghost use Rattle.lsp_text.specs.Lines.{lines_of};
+ghost use Rattle.lsp_text.specs.Places.{units};
 ghost use Rattle.lsp_text.specs.Offsets.{IsAtLine};
 ghost use Rattle.lsp_lined.specs.Steps.{raised, line_bytes, line_number};
 ghost use Rattle.lsp_lined.specs.Ends.{IsNear};
-ghost use Rattle.lsp_lined.specs.Parts.{CanReplace};
+ghost use Rattle.lsp_lined.specs.Parts.{joined, CanReplace};
 ghost use Rattle.lsp_lined.specs.LentLines.{IsLentLine, IsHeldLine, IsEndOf, IsOffsetIn};
 ghost use Rattle.lsp_lined.specs.LentLines.{NoOffsetIn};
 
@@ -17,7 +18,7 @@ use crate::chunk::{Chunk, chunks_in, replace_in_chunks};
 use crate::part::{
     Part, line_end_in, offset_in, push_all, share_into, strip_all, sums_in, units_before_in,
 };
-use crate::sums::Sums;
+use crate::sums::{Measure, Sums};
 use lsp_text::offset_in_line;
 use lsp_types::{Encoding, Position};
 use std::alloc::{AllocError, Global};
@@ -136,6 +137,7 @@ impl Lines {
         let (end, after) = self.end_of(i);
         LentLine {
             chunks: &self.chunks,
+            sums: self.sums,
             start,
             end,
             after,
@@ -210,11 +212,12 @@ impl Lines {
 }
 
 /// A line with its end that is lent: where it begins, where its end begins, and where that ends.
-/// Beside it what comes after its start in the same block, and whether each of those characters has
-/// one byte.
+/// Beside it the sums of the text, what comes after its start in the same block, and whether each
+/// of those characters has one byte.
 #[derive(Drop)]
 pub(crate) struct LentLine<'a> {
     chunks: &'a [Chunk],
+    sums: Sums,
     start: usize,
     end: usize,
     after: usize,
@@ -256,12 +259,27 @@ impl<'a> LentLine<'a> {
         ensures { MatchOption result (NoOffsetIn encoding self.now column)
             (IsOffsetIn encoding self.now column) }
     {
-        let before = units_before_in(self.chunks, encoding, self.start);
-        let through = units_before_in(self.chunks, encoding, self.end);
+        let before = self.units_before(encoding, self.start);
+        let through = self.units_before(encoding, self.end);
         if through - before <= column as u64 {
             return Some(self.end);
         }
         offset_in(self.chunks, encoding, before + column as u64)
+    }
+
+    /// The units of the text before a place.
+    fn units_before(&self, encoding: Encoding, place: usize) -> u64
+        requires line { IsHeldLine self.now }
+        requires place { IsCharBoundary (joined self.now.chunks.now) place }
+        ensures { result ≡ units encoding (chars (take place (joined self.now.chunks.now))) }
+    {
+        if place == 0 {
+            return 0;
+        }
+        if place as u64 == self.sums.bytes {
+            return self.sums.by(Measure::Units(encoding));
+        }
+        units_before_in(self.chunks, encoding, place)
     }
 }
 
