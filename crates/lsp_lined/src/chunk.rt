@@ -37,7 +37,7 @@ impl Clone for Blocks {
     ghost is_clone = { λ old copy. copy.items.items ≡ old.items.items };
 
     fn clone(&self) -> Result<Blocks, AllocError> {
-        let mut items = Vec::with_capacity(self.alloc, self.items.len())?;
+        let mut items = Vec::new(self.alloc);
         share_into(&mut items, &self.items)?;
         Ok(Blocks {
             items,

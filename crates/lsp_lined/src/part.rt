@@ -270,8 +270,9 @@ pub(crate) fn strip_all<'a, T: Part>(parts: &[T], whole: &'a str) -> Option<&'a 
 pub(crate) fn share_into<T: Part>(to: &mut Vec<T>, parts: &[T]) -> Result<(), AllocError>
     ensures { OnOk result (to.new.items ≡ to.old.items ++ parts.now) }
 {
+    to.reserve(parts.len())?;
     for part in parts {
-        to.push(part.share()?)?;
+        to.push_reserved(part.share()?);
     }
     Ok(())
 }

@@ -72,7 +72,7 @@ impl Lines {
     pub(super) fn copy(&self, alloc: Global) -> Result<Lines, AllocError>
         ensures { IfOk result (λ lines. lines ≡ self.now) }
     {
-        let mut chunks = Vec::with_capacity(alloc, self.chunks.len())?;
+        let mut chunks = Vec::new(alloc);
         share_into(&mut chunks, &self.chunks)?;
         Ok(Lines {
             alloc,
