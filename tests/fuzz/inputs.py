@@ -5,10 +5,12 @@ import json
 import random
 from pathlib import Path
 
-EXAMPLES = Path(__file__).resolve().parent.parent / "examples"
+EXAMPLES = Path(__file__).resolve().parent.parent.parent / "examples"
 HEADS = [b"lsp-session 1\n", b"lsp-session 2\n"]
 LOGS = [head + path.read_bytes()[len(head) :] for path in sorted(EXAMPLES.glob("*.log")) for head in HEADS]
 STREAMS = [path.read_bytes() for path in sorted(EXAMPLES.glob("*.bin"))]
+if not LOGS or not STREAMS:
+    raise FileNotFoundError(f"there are no examples in {EXAMPLES}")
 URIS = ["file:///a", "file:///b", "untitled:\u00e9", "", "file:///a%20b"]
 TEXTS = ["", "a", "ab\r\ncd", "a\rb\n", "\U0001f600a\u00e9\n", "x" * 300, "\n" * 50, "\u0000", "\ud7ff"]
 NUMBERS = [0, 1, 2, 3, -1, 7, 99, 2147483647, 2147483648, -2147483649, 1.5, 1e300, None, "1", [], {}, True]

@@ -4,7 +4,7 @@ import json
 import sys
 from pathlib import Path
 
-sys.path.insert(0, str(Path(__file__).resolve().parent.parent / "commands"))
+sys.path.insert(0, str(Path(__file__).resolve().parent.parent / "cli"))
 sys.dont_write_bytecode = True
 
 import sessions  # noqa: E402

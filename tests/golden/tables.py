@@ -32,7 +32,7 @@ import sys
 from pathlib import Path
 
 FOLDER = Path(__file__).resolve().parent
-sys.path.insert(0, str(FOLDER.parent / "commands"))
+sys.path.insert(0, str(FOLDER.parent / "cli"))
 sys.dont_write_bytecode = True
 
 from sessions import HEAD, HEAD_TWO, frame  # noqa: E402
@@ -282,7 +282,7 @@ RULES = {
     *["L1", "L2", "L3", "L4", "L5"],
 }
 
-# What takes a text over the limit, so it is explained by commands/sizes.py.
+# What takes a text over the limit, so it is explained by tests/cli/sizes.py.
 OF_SIZE = {"607", "bytes", "limit"}
 
 

@@ -4,7 +4,7 @@ since the gate takes each `.rt` file for a part of a crate that it proves."""
 import shutil
 from pathlib import Path
 
-TOP = Path(__file__).resolve().parent.parent
+TOP = Path(__file__).resolve().parent.parent.parent
 
 
 def crates():
