@@ -4,7 +4,7 @@ use crate::tally::Tally;
 use lsp_frame::{Failed, Source};
 use std::alloc::{AllocError, Global};
 use std::io;
-use std::io::{BufReader, Read};
+use std::io::{BufRead, BufReader, Read};
 
 /// How many bytes are asked for at once.
 const GATHERED: usize = 65_536;
@@ -54,10 +54,10 @@ impl<R: Read + Drop> Inlet<R> {
 }
 
 impl<R: Read> Source for Inlet<R> {
-    ghost use Rattle.std.specs.Prelude.{◌≡◌, ◌<◌, ◌++◌, IfOk, OnErr, length, take};
-    ghost use Rattle.std.specs.Io.{ReadsAtMost};
+    ghost use Rattle.std.specs.Prelude.{◌≡◌, ◌<◌, ◌≤◌, ◌++◌, IfOk, OnOk, OnErr, length, take, vec_capacity};
+    ghost use Rattle.std.specs.Io.{ReadsAtMost, appended_bytes};
     ghost use Rattle.std.specs.Io.KnownBytes.{IsAtEnd};
-    ghost use Rattle.lsp_frame.specs.Told.{CountsFailure, Gave, KeepsBytes};
+    ghost use Rattle.lsp_frame.specs.Told.{CountsFailure, Gave, GaveOnto, KeepsBytes};
     ghost use Rattle.lsp_command.specs.Ports.{first_bytes};
 
     ghost told = { λ s. record {
@@ -82,5 +82,30 @@ impl<R: Read> Source for Inlet<R> {
         let count = self.tally.count(answer)?;
         self.beginning.keep(&buffer[..count]);
         Ok(count)
+    }
+
+    /// Puts bytes after those of the buffer as the trait says, straight from what was read ahead.
+    fn pull_onto(&mut self, buffer: &mut Vec<u8>, most: usize) -> Result<usize, Failed>
+        ensures room { vec_capacity buffer.old ≤ vec_capacity buffer.new }
+        ensures gave { IfOk result (λ n. GaveOnto (⟦<Inlet<R> as Source>⟧.told self.old)
+            (⟦<Inlet<R> as Source>⟧.told self.new) buffer.old.items buffer.new.items most n) }
+        ensures end { IfOk result (λ n.
+            n ≡ 0 → 0 < most → IsAtEnd (⟦<Inlet<R> as Source>⟧.told self.new).bytes) }
+        ensures same { OnErr result (buffer.new.items ≡ buffer.old.items) }
+        ensures err { OnErr result (KeepsBytes (⟦<Inlet<R> as Source>⟧.told self.old)
+            (⟦<Inlet<R> as Source>⟧.told self.new)) }
+        ensures failures { CountsFailure (⟦<Inlet<R> as Source>⟧.told self.old).failures
+            (⟦<Inlet<R> as Source>⟧.told self.new).failures result }
+        // The first bytes are kept.
+        ensures first { OnOk result (first_bytes self.new
+            ≡ take 32 (first_bytes self.old ++ appended_bytes buffer.old.items buffer.new.items)) }
+        ensures same_first { OnErr result (first_bytes self.new ≡ first_bytes self.old) }
+    {
+        let ahead = self.tally.heed(self.reader.fill_buf())?;
+        let count = ahead.len().min(most);
+        buffer.extend_from_slice(&ahead[..count]).unwrap();
+        self.beginning.keep(&ahead[..count]);
+        self.reader.consume(count);
+        self.tally.count(Ok(count))
     }
 }

@@ -1,9 +1,11 @@
 //! Where bytes come from and where they go. A contract can name the bytes of both, where they are
 //! known.
-ghost use Rattle.std.specs.Prelude.{◌≡◌, ◌⊎◌, ◌<◌, Ok, IfOk, OnErr, IsErr, length, take};
+ghost use Rattle.std.specs.Prelude.{◌≡◌, ◌⊎◌, ◌<◌, ◌≤◌, ◌+◌, Ok, IfOk, OnErr, IsErr, length, take};
+ghost use Rattle.std.specs.Prelude.{vec_len, vec_capacity};
 ghost use Rattle.std.specs.Io.{ReadsAtMost, WritesAtMost};
 ghost use Rattle.std.specs.Io.KnownBytes.{IsAtEnd};
-ghost use Rattle.lsp_frame.specs.Told.{Told, Gave, Took, KeepsBytes, CountsFailure, Raises};
+ghost use Rattle.lsp_frame.specs.Told.{Told, Gave, GaveOnto, Took, KeepsBytes, CountsFailure};
+ghost use Rattle.lsp_frame.specs.Told.{Raises};
 
 use std::io;
 use std::io::{Read, Write};
@@ -29,6 +31,26 @@ pub trait Source {
             n ≡ 0 → 0 < length buffer.new → IsAtEnd (told self.new).bytes) }
         ensures err { OnErr result (KeepsBytes (told self.old) (told self.new)) }
         ensures failures { CountsFailure (told self.old).failures (told self.new).failures result };
+
+    /// Appends the next bytes of the source to the buffer, and says how many: at most `most`, for
+    /// which the buffer must have room, and none only at the end, or if none are wanted. A source
+    /// that reads ahead copies them straight from what it holds.
+    fn pull_onto(&mut self, buffer: &mut Vec<u8>, most: usize) -> Result<usize, Failed>
+        requires room { vec_len buffer.old + most ≤ vec_capacity buffer.old }
+        ensures room { vec_capacity buffer.old ≤ vec_capacity buffer.new }
+        ensures gave { IfOk result (λ n.
+            GaveOnto (told self.old) (told self.new) buffer.old.items buffer.new.items most n) }
+        ensures end { IfOk result (λ n. n ≡ 0 → 0 < most → IsAtEnd (told self.new).bytes) }
+        ensures same { OnErr result (buffer.new.items ≡ buffer.old.items) }
+        ensures err { OnErr result (KeepsBytes (told self.old) (told self.new)) }
+        ensures failures { CountsFailure (told self.old).failures (told self.new).failures result }
+    {
+        let start = buffer.len();
+        buffer.resize(start + most, 0).unwrap();
+        let answer = self.pull(&mut buffer[start..]);
+        buffer.truncate(start + answer.unwrap_or(0));
+        answer
+    }
 }
 
 /// What takes bytes, as `std::io::Write` does.

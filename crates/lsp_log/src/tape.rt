@@ -1,6 +1,7 @@
 //! The bytes of a reader, a few of them looked at before they are given.
-ghost use Rattle.std.specs.Prelude.{◌≡◌, ◌≤◌, ◌-◌, length, take, drop, IfOk, []};
-ghost use Rattle.lsp_log.specs.Tape.{PullAnswer, BufferAnswer, FillAnswer, ReachAnswer, LineAnswer};
+ghost use Rattle.std.specs.Prelude.{◌≡◌, ◌≤◌, ◌-◌, length, take, drop, IfOk, OnOk, []};
+ghost use Rattle.std.specs.Prelude.{vec_len, vec_capacity};
+ghost use Rattle.lsp_log.specs.Tape.{PullAnswer, UpAnswer, FillAnswer, ReachAnswer, LineAnswer};
 ghost use Rattle.lsp_log.specs.Tape.{TakeAnswer, PartAnswer, CutAnswer};
 
 use lsp_frame::{Failed, Source};
@@ -86,26 +87,32 @@ fn pull_within<R: Source>(
     Ok(count)
 }
 
-/// Reads until the buffer is full or no more can be read, and gives the number of bytes.
-fn fill_buffer<R: Source>(
+/// Appends what is read to the bytes, until there are `len`, for which there is room, or no more
+/// can be read.
+fn fill_up<R: Source>(
     reader: &mut R,
     left: &mut u64,
-    buffer: &mut [u8],
-) -> Result<usize, Failed>
-    ensures len { length buffer.new ≡ length buffer.old }
-    ensures count { IfOk result (λ n. n ≤ length buffer.new) }
-    ensures bytes { BufferAnswer left.old left.new
-        (R.told reader.old) (R.told reader.new) buffer.new result }
+    bytes: &mut Vec<u8>,
+    len: usize,
+) -> Result<(), Failed>
+    requires room { len ≤ vec_capacity bytes.old }
+    requires within { vec_len bytes.old ≤ len }
+    ensures within { OnOk result (length bytes.new.items ≤ len) }
+    ensures bytes { UpAnswer left.old left.new (R.told reader.old) (R.told reader.new)
+        bytes.old.items bytes.new.items len result }
 {
-    let mut filled = 0;
-    while filled < buffer.len() {
-        let count = pull_within(reader, left, &mut buffer[filled..])?;
-        if count == 0 {
-            return Ok(filled);
+    while bytes.len() < len {
+        let most = (*left).min((len - bytes.len()) as u64) as usize;
+        if most == 0 {
+            return Ok(());
         }
-        filled += count;
+        let count = reader.pull_onto(bytes, most)?;
+        if count == 0 {
+            return Ok(());
+        }
+        *left -= count as u64;
     }
-    Ok(filled)
+    Ok(())
 }
 
 /// Moves the bytes between two places to the front.
@@ -226,10 +233,9 @@ impl Tape {
         let held = near.len().min(len);
         let mut bytes = Vec::with_capacity(alloc, len)?;
         bytes.extend_from_slice(&near[..held])?;
-        bytes.resize(len, 0)?;
         self.skip(held);
-        let count = fill_buffer(reader, &mut self.left, &mut bytes[held..])?;
-        if held + count < len {
+        fill_up(reader, &mut self.left, &mut bytes, len)?;
+        if bytes.len() < len {
             return Err(PartFault::Short);
         }
         Ok(bytes)
