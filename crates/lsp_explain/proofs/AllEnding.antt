@@ -11,7 +11,7 @@ use Rattle.lsp_frame.specs.Told.{Told, after_failure}
 use Rattle.lsp_frame.proofs.Telling.{took_then}
 use Rattle.lsp_frame.proofs.Writing.{wrote_then}
 use Rattle.lsp_log.specs.Log.{Record}
-use Rattle.lsp_log.specs.Reader.{KeepsFormat}
+use Rattle.lsp_streams.specs.LogEvents.{GoesBehind}
 use Rattle.lsp_log.specs.declared.fault.LogCode.{LogCode}
 use Rattle.lsp_session.specs.Handshake.{was_sent}
 use Rattle.lsp_session.specs.Incomplete.{incomplete, is_any_open}
@@ -19,7 +19,7 @@ use Rattle.lsp_session.specs.Negotiation.{first_row}
 use Rattle.lsp_session.specs.Requests.{open_requests}
 use Rattle.lsp_session.specs.Sent.{is_exit}
 use Rattle.lsp_notes.specs.Asking.{Numbered, numbered}
-use Rattle.lsp_survey.specs.Reads.{GoesBehind, Ended, EndedBehind, IsSurveyOf}
+use Rattle.lsp_survey.specs.Reads.{Ended, EndedBehind, IsSurveyOf}
 use Rattle.lsp_survey.specs.Reported.{IsTally, IsYes}
 use Rattle.lsp_survey.specs.declared.survey_reader.End.{End}
 use Rattle.lsp_survey.specs.declared.survey_reader.SurveyReader.{SurveyReader}
@@ -52,6 +52,7 @@ use Rattle.lsp_explain.specs.Explained.{Heard, Explained, Explains, raws_of, not
 use Rattle.lsp_facts.specs.Fact.{Fact}
 use Rattle.lsp_facts.specs.FlawFacts.{Rests}
 use Rattle.lsp_explain.specs.RunSteps.{RestsBehind, flaw_held, rests_held, summary_behind}
+use Rattle.lsp_explain.specs.Standing.{terms_in}
 use Rattle.lsp_explain.proofs.AllCauses.{said_under}
 use Rattle.lsp_explain.proofs.AllTelling.{IsTelling, lines, lines_append}
 use Rattle.lsp_explain.proofs.EndOfLog.{ends_are, flaw_said}
@@ -59,17 +60,16 @@ use Rattle.lsp_explain.proofs.Judged.{some_by}
 
 -- ---- the log ended
 
-pub ended_telling : (completeness : Completeness) (limits : Bounds) (e f : SurveyReader) (t : Tally) (start mid now old new : Told) (inv : IsTelling completeness limits e t start mid old new) (end : End) → KeepsFormat e.log.format f.log.format
+pub ended_telling : (completeness : Completeness) (limits : Bounds) (e f : SurveyReader) (t : Tally) (start mid now old new : Told) (inv : IsTelling completeness limits e t start mid old new) (end : End) → f.walk.events.docs.terms ≡ e.walk.events.docs.terms
     → Ended e.completeness limits f start now (raws_of inv.hs) (notes_of inv.hs) inv.found end → EndedBehind inv.so_far.records e.completeness limits f start now (raws_of inv.hs) (notes_of inv.hs) inv.found end → CausesTold completeness limits f t start now old new end
-ended_telling completeness limits e f t start mid now old new inv end keeps ended behind = record {
+ended_telling completeness limits e f t start mid now old new inv end stays ended behind = record {
   hs = inv.hs;
   said = inv.said;
   found = inv.found;
   ended = subst (λ (c : Completeness). Ended c limits f start now (raws_of inv.hs) (notes_of inv.hs) inv.found end) inv.same ended;
   records = inv.so_far.records;
   ended_behind = subst (λ (c : Completeness). EndedBehind inv.so_far.records c limits f start now (raws_of inv.hs) (notes_of inv.hs) inv.found end) inv.same behind;
-  are_said = subst (λ (ts : Terms). AreSaid limits inv.so_far.records ts (causes ts inv.hs) inv.said) (sym ended.terms_are)
-      (said_under limits e start mid inv.hs (notes_of inv.hs) inv.found inv.so_far _ f.log.format inv.so_far.records inv.said keeps refl inv.are_said);
+  are_said = said_under limits inv.so_far.records inv.hs (terms_in e) (terms_in f) inv.said (sym stays) inv.are_said;
   tally = inv.tally;
   wrote = inv.wrote;
 }
@@ -134,7 +134,7 @@ module _ (completeness : Completeness) (limits : Bounds) (e : SurveyReader) (t :
   events = events_of (notes_of hs)
 
   abbrev terms : Terms
-  terms = e.survey.walk.events.docs.terms
+  terms = terms_in e
 
   abbrev sent : List Numbered
   sent = numbered terms events
@@ -278,11 +278,6 @@ text_more rests sent xs i x at old added new grown is before =
     grown ∙ ap (λ w. old ++ w) is ∙ ap (λ w. w ++ cause_lines (end_explained rests sent (offence_view x).no)) before ∙ sym (ends_more rests sent xs i x at)
 
 -- ---- the run
-
--- a run says the same of a reader with these limits
-pub tells_by : (k m : Completeness) (a b : Bounds) (start now old new : Told) (r : Result code_verdict.Verdict RunFault) → k ≡ m → a ≡ b → TellsAll k a start now old new r → TellsAll m b start now old new r
-tells_by k m a b start now old new r same alike p =
-    subst (λ (c : Completeness). TellsAll c b start now old new r) same (subst (λ (x : Bounds). TellsAll k x start now old new r) alike p)
 
 -- the survey that is explained
 pub survey_in_all : (completeness : Completeness) (limits : Bounds) (log : List ℕ) (found : List Offence) (explained : List Explained) (b : Option Verdict) (f : List Fact) (t : Summary) → AreAllSaid completeness limits log found explained b f t → IsSurvey completeness limits log found b t

@@ -15,7 +15,7 @@ use Rattle.lsp_types.specs.declared.side.Side.{Side}
 use Rattle.lsp_types.specs.declared.side.Side.TheVariants.{Editor, Server}
 use Rattle.lsp_notes.specs.Asking.{Numbered, numbered}
 use Rattle.lsp_survey.specs.Reads.{IsSurveyOf, KnowsFlaw, Ended}
-use Rattle.lsp_survey.specs.Surveys.{stream_of}
+use Rattle.lsp_streams.specs.Streams.{decoder_of}
 use Rattle.lsp_survey.specs.declared.survey_reader.End.{End}
 use Rattle.lsp_survey.specs.declared.survey_reader.SurveyReader.{SurveyReader}
 use Rattle.lsp_verdict.specs.Event.{Event}
@@ -62,16 +62,16 @@ no_fault : (terms : Terms) (side : Side) (notes : List Noted) → offences terms
 no_fault terms side notes none = no_frame_fault terms side [] (events_of notes) ((nothing_listed terms notes).0 none)
 
 -- what is held of them
-pub held_rest : (e : SurveyReader) (side : Side) → (stream_of e.survey side).decoder.rest ≡ rest_of (rests_held e) side
+pub held_rest : (e : SurveyReader) (side : Side) → (decoder_of side e.log.streams).rest ≡ rest_of (rests_held e) side
 held_rest e Editor = refl
 held_rest e Server = refl
 
 -- and of the fault of a log
-pub flaw_said : (e : SurveyReader) (limits : Bounds) (log : List ℕ) (format : Option Format) (records : List Record) (bad : Option Verdict) (flaw : Option (ℕ × LogCode)) → bad ≡ bad_log_of flaw → KnowsFlaw e.log limits log format records flaw
+pub flaw_said : (e : SurveyReader) (limits : Bounds) (log : List ℕ) (format : Option Format) (records : List Record) (bad : Option Verdict) (flaw : Option (ℕ × LogCode)) → bad ≡ bad_log_of flaw → KnowsFlaw e.log.log limits log format records flaw
     → flaw_held e bad ≡ log_facts limits log format records flaw
 flaw_said e limits log format records bad None is known = ap (flaw_held e) is
 flaw_said e limits log format records bad (Some (number, code)) is known =
-    ap (flaw_held e) is ∙ ap (λ n. flaw_facts number n (shown_by e.log)) known.0 ∙ ap (flaw_facts number (place_of format records)) known.1
+    ap (flaw_held e) is ∙ ap (λ n. flaw_facts number n (shown_by e.log.log)) known.0 ∙ ap (flaw_facts number (place_of format records)) known.1
 
 module _ (e : SurveyReader) (completeness : Completeness) (limits : Bounds) (log : List ℕ) (found : List Offence) (bad : Option Verdict) (terms : Terms) (hs : List Heard) where
   abbrev said : List Numbered
@@ -116,7 +116,7 @@ module _ (e : SurveyReader) (completeness : Completeness) (limits : Bounds) (log
 
 module _ (completeness : Completeness) (limits : Bounds) (e : SurveyReader) (start now : Told) (hs : List Heard) (end : End) (ended : Ended completeness limits e start now (raws_of hs) (notes_of hs) [] end) (x : Explanation) where
   abbrev terms : Terms
-  terms = e.survey.walk.events.docs.terms
+  terms = terms_in e
 
   abbrev Explained_ : Type 0
   Explained_ = OfRead limits start now (λ log. IsExplanation completeness limits log (verdict_view x.verdict) (string_bytes x.text))

@@ -1,20 +1,18 @@
 -- What a run tells of the first offence that it finds.
 use Rattle.std.proofs.Common.{◌≡◌, ℕ, ◌+◌, ◌<◌, ◌^◌, suc, true, List, [], ◌∷◌, ◌++◌, length, Option, Some, refl, sym, ap, ◌∙◌, subst, string_bytes}
-use Rattle.lsp_docs.specs.Terms.{Terms, terms_of}
+use Rattle.lsp_docs.specs.Terms.{Terms}
 use Rattle.lsp_frame.specs.Bounds.{Bounds}
 use Rattle.lsp_frame.specs.Told.{Told}
 use Rattle.lsp_log.specs.Log.{Record}
 use Rattle.lsp_types.specs.declared.side.Side.{Side}
 use Rattle.lsp_types.specs.declared.side.Side.TheVariants.{Editor, Server}
 use Rattle.lsp_notes.specs.Marking.{number_next}
-use Rattle.lsp_survey.specs.Reads.{SoFar, Finds, GaveEvent, found_in}
-use Rattle.lsp_survey.specs.Surveys.{HasEnded, ShowsFront, stream_of}
+use Rattle.lsp_survey.specs.Reads.{SoFar, Finds, GaveEvent, HasEnded, IsBroken, ShowsFront, found_in}
 use Rattle.lsp_survey.specs.Walking.{IsOffending}
 use Rattle.lsp_survey.specs.declared.offending.Found.{Found}
 use Rattle.lsp_survey.specs.declared.offending.Heard.TheVariants as heard
 use Rattle.lsp_survey.specs.declared.offending.Offending.{Offending}
 use Rattle.lsp_survey.specs.declared.offending.Offending.TheVariants as what
-use Rattle.lsp_survey.specs.declared.survey.Survey.{Survey}
 use Rattle.lsp_survey.specs.declared.survey_reader.SurveyReader.{SurveyReader}
 use Rattle.lsp_verdict.specs.Event.{Event}
 use Rattle.lsp_verdict.specs.Given.{offence_view, verdict_view}
@@ -56,17 +54,17 @@ SaidOf e found rest said =
 abbrev pub SeenOf : SurveyReader → Found → List ℕ → Type 0
 SeenOf e found rest =
     (limits : Bounds) (start now : Told) (past : List Raw) (notes : List Noted) (prior : List Offence) → (so : SoFar limits e start now past notes prior)
-    → (stream_of e.survey (side_of found.offending)).ended ≡ true → ShowsFront limits (side_of found.offending) so.records rest
+    → IsBroken e (side_of found.offending) → ShowsFront limits (side_of found.offending) so.records rest
 
 rest_at : (limits : Bounds) (records : List Record) (rests : Rests) (side : Side) (behind : RestsBehind limits records rests) → HasRest limits (joined side (records ++ behind.more)) (rest_of rests side)
 rest_at limits records rests Editor behind = behind.editor
 rest_at limits records rests Server behind = behind.server
 
 -- so the fault that was found is shown
-fault_shown : (limits : Bounds) (s : Survey) (records : List Record) (rests : Rests) (rest : List ℕ) (terms : Terms) (kept : List Event) (rule : ℕ) (raw : Raw) (o : Offending) → IsOffending raw terms kept rule o → HasEnded s raw
-    → ((stream_of s (side_of o)).ended ≡ true → ShowsFront limits (side_of o) records rest) → RestsBehind limits records rests → ShowsFault rests o rest
+fault_shown : (limits : Bounds) (s : SurveyReader) (records : List Record) (rests : Rests) (rest : List ℕ) (terms : Terms) (kept : List Event) (rule : ℕ) (raw : Raw) (o : Offending) → IsOffending raw terms kept rule o → HasEnded s raw
+    → (IsBroken s (side_of o) → ShowsFront limits (side_of o) records rest) → RestsBehind limits records rests → ShowsFault rests o rest
 fault_shown limits s records rests rest terms kept rule (broken side code) (what.Frames by) is ended seen behind =
-    seen (ap (λ w. (stream_of s w).ended) is ∙ ended) behind.more (rest_of rests by) (rest_at limits records rests by behind)
+    seen (subst (IsBroken s) (sym is) ended) behind.more (rest_of rests by) (rest_at limits records rests by behind)
 fault_shown limits s records rests rest terms kept rule (content side bytes) (what.Frames by) is ended seen behind = absurd is
 fault_shown limits s records rests rest terms kept rule (show number uri text) (what.Frames by) is ended seen behind = absurd is
 fault_shown limits s records rests rest terms kept rule raw (what.Content by given) is ended seen behind = tt
@@ -110,13 +108,11 @@ module _ (e : SurveyReader) (found : Found) (x : Explanation) (rest said : List 
         }
 
   pub tells : SeenOf e found rest → (limits : Bounds) (start now : Told) (hs : List Heard) (prior : List Offence) (given : GaveEvent limits e start now (raws_of hs) (notes_of hs) prior (heard.Offence found))
-      → Tells limits given.so_far.records (terms_of limits e.survey.format) hs (record { raw = given.raw; note = given.n }) found x
+      → Tells limits given.so_far.records (terms_in e) hs (record { raw = given.raw; note = given.n }) found x
   tells seen limits start now hs prior given =
-      let terms = terms_of limits e.survey.format in
-      let same : terms ≡ terms_in e = sym given.so_far.surveys.terms in
+      let terms = terms_in e in
       let f = given.is_heard in
-      let offends : rule_at (terms_in e) (events_of (notes_of hs)) given.n.event ≡ Some f.rule = subst (λ t. rule_at t (events_of (notes_of hs)) given.n.event ≡ Some f.rule) same f.offends in
       let shows_fault : (rests : Rests) → RestsBehind limits given.so_far.records rests → ShowsFault rests found.offending rest = λ rests behind.
-      fault_shown limits e.survey given.so_far.records rests rest terms (kept_of terms (events_of (notes_of hs))) f.rule given.raw found.offending f.is_such given.ends (seen limits start now _ _ _ given.so_far) behind in
-      under limits given.so_far.records hs (record { raw = given.raw; note = given.n }) given.is_noted.0 (few_before limits e start now (raws_of hs ++ given.raw ∷ []) (notes_of hs) given.n (prior ++ found_in (heard.Offence found)) given.so_far) shows_fault terms same f
-      (stands_before e (notes_of hs) given.n f.rule given.so_far.surveys.walks offends)
+      fault_shown limits e given.so_far.records rests rest terms (kept_of terms (events_of (notes_of hs))) f.rule given.raw found.offending f.is_such given.ends (seen limits start now _ _ _ given.so_far) behind in
+      under limits given.so_far.records hs (record { raw = given.raw; note = given.n }) given.is_noted.0 (few_before limits e start now (raws_of hs ++ given.raw ∷ []) (notes_of hs) given.n (prior ++ found_in (heard.Offence found)) given.so_far) shows_fault terms refl f
+      (stands_before e (notes_of hs) given.n f.rule given.so_far.walks f.offends)

@@ -2,7 +2,7 @@
 use Rattle.std.specs.Prelude.{◌≡◌, ℕ, ◌<◌, ◌^◌, List, [], ◌++◌, map, filter, length, Option, option_map, Result, Ok, Err, string_bytes}
 use Rattle.std.specs.Io.KnownBytes.{IsAtEnd}
 use Rattle.std.specs.List.{AllZip, cons_option, flat_map}
-use Rattle.lsp_docs.specs.Terms.{Terms, terms_of}
+use Rattle.lsp_docs.specs.Terms.{Terms}
 use Rattle.lsp_frame.specs.Bounds.{Bounds}
 use Rattle.lsp_frame.specs.Sink.{Wrote, Stopped}
 use Rattle.lsp_frame.specs.Told.{Told, Took}
@@ -52,7 +52,7 @@ TellsCause limits records terms hs h old new (Err faults.Read) = ⊥
 abbrev pub TellsHeard : SurveyReader → code_heard.Heard → Told → Told → Result (Unit {0}) RunFault → Type 0
 TellsHeard e given old new result =
     (limits : Bounds) (start now : Told) (hs : List Heard) (prior : List Offence) (gave : GaveEvent limits e start now (raws_of hs) (notes_of hs) prior given)
-    → TellsCause limits gave.so_far.records (terms_of limits e.survey.format) hs (record { raw = gave.raw; note = gave.n }) old new result
+    → TellsCause limits gave.so_far.records (terms_in e) hs (record { raw = gave.raw; note = gave.n }) old new result
 
 -- ---- a log
 
@@ -84,7 +84,7 @@ pub record CausesTold (completeness : Completeness) (limits : Bounds) (e : Surve
   pub ended : Ended completeness limits e start now (raws_of hs) (notes_of hs) found end
   pub records : List Record
   pub ended_behind : EndedBehind records completeness limits e start now (raws_of hs) (notes_of hs) found end
-  pub are_said : AreSaid limits records e.survey.walk.events.docs.terms (causes e.survey.walk.events.docs.terms hs) said
+  pub are_said : AreSaid limits records (terms_in e) (causes (terms_in e) hs) said
   pub tally : IsTally t found
   pub wrote : Wrote old new (flat_map cause_lines said)
 

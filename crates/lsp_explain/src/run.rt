@@ -5,7 +5,7 @@ ghost use Rattle.lsp_frame.specs.Bounds.{Bounds, IsInRange};
 ghost use Rattle.lsp_frame.specs.Told.{Told, Took};
 ghost use Rattle.lsp_log.specs.Reader.{shown_by};
 ghost use Rattle.lsp_notes.specs.Asking.{numbered};
-ghost use Rattle.lsp_survey.specs.Reads.{SoFar};
+ghost use Rattle.lsp_survey.specs.Reads.{IsFresh, SoFar};
 ghost use Rattle.lsp_verdict.specs.Complete.{IsVerdictBy};
 ghost use Rattle.lsp_verdict.specs.Event.{Event};
 ghost use Rattle.lsp_verdict.specs.Given.{offence_view, verdict_view};
@@ -86,7 +86,7 @@ fn explain<R: Source>(
     ensures range { IsInRange limits }
     ensures answer { ExplainsLog completeness limits (R.told reader.old) (R.told reader.new) result }
 {
-    let mut events = SurveyReader::new(alloc, limits, completeness);
+    let mut events = SurveyReader::open(alloc, reader, limits, completeness)?;
     explain_first(alloc, &mut events, reader)
 }
 
@@ -96,8 +96,9 @@ fn explain_first<R: Source>(
     events: &mut SurveyReader,
     reader: &mut R,
 ) -> Result<Explanation, RunFault>
-    requires fresh { SoFar events.old.survey.limits events.old (R.told reader.old) (R.told reader.old) [] [] [] }
-    ensures answer { ExplainsLog events.old.completeness events.old.survey.limits (R.told reader.old) (R.told reader.new) result }
+    requires fresh { IsFresh events.old (R.told reader.old) }
+    ensures answer { (limits : Bounds) (start : Told) → SoFar limits events.old start (R.told reader.old) [] [] []
+        → ExplainsLog events.old.completeness limits start (R.told reader.new) result }
 {
     loop {
         match events.next(reader)? {
@@ -238,7 +239,7 @@ fn push_flaw(
     events: &SurveyReader,
     number: u64,
 ) -> Result<(), Memory>
-    ensures { OnOk result (string_bytes lines.new ≡ string_bytes lines.old ++ fact_lines (flaw_facts number events.now.log.place (shown_by events.now.log))) }
+    ensures { OnOk result (string_bytes lines.new ≡ string_bytes lines.old ++ fact_lines (flaw_facts number events.now.log.log.place (shown_by events.now.log.log))) }
 {
     let facts = flaw_facts(alloc, number, events.place(), events.found())?;
     push_facts(alloc, lines, facts.as_slice())

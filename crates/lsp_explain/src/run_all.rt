@@ -5,7 +5,7 @@ ghost use Rattle.std.specs.List.{flat_map};
 ghost use Rattle.lsp_frame.specs.Bounds.{Bounds, IsInRange};
 ghost use Rattle.lsp_frame.specs.Told.{Told, Took};
 ghost use Rattle.lsp_notes.specs.Asking.{numbered};
-ghost use Rattle.lsp_survey.specs.Reads.{SoFar, found_in};
+ghost use Rattle.lsp_survey.specs.Reads.{IsFresh, SoFar, found_in};
 ghost use Rattle.lsp_survey.specs.Reported.{IsTally};
 ghost use Rattle.lsp_verdict.specs.Complete.{IsVerdictBy};
 ghost use Rattle.lsp_verdict.specs.Event.{Event};
@@ -81,7 +81,7 @@ fn explain_all<R: Source, W: Sink>(
     ensures range { IsInRange limits }
     ensures tells { TellsAll completeness limits (R.told reader.old) (R.told reader.new) (W.told writer.old) (W.told writer.new) result }
 {
-    let mut events = SurveyReader::new(alloc, limits, completeness);
+    let mut events = SurveyReader::open(alloc, reader, limits, completeness)?;
     explain_log(alloc, &mut events, reader, writer)
 }
 
@@ -92,9 +92,9 @@ fn explain_log<R: Source, W: Sink>(
     reader: &mut R,
     writer: &mut W,
 ) -> Result<Verdict, RunFault>
-    requires range { IsInRange events.old.survey.limits }
-    requires fresh { SoFar events.old.survey.limits events.old (R.told reader.old) (R.told reader.old) [] [] [] }
-    ensures { TellsAll events.old.completeness events.old.survey.limits (R.told reader.old) (R.told reader.new) (W.told writer.old) (W.told writer.new) result }
+    requires fresh { IsFresh events.old (R.told reader.old) }
+    ensures { (limits : Bounds) (start : Told) → SoFar limits events.old start (R.told reader.old) [] [] []
+        → TellsAll events.old.completeness limits start (R.told reader.new) (W.told writer.old) (W.told writer.new) result }
 {
     let mut tally = Tally::new();
     let end = explain_events(alloc, events, reader, writer, &mut tally)?;
@@ -110,9 +110,9 @@ fn explain_events<R: Source, W: Sink>(
     tally: &mut Tally,
 ) -> Result<End, RunFault>
     requires tally { IsTally tally.old [] }
-    requires range { IsInRange events.old.survey.limits }
-    requires fresh { SoFar events.old.survey.limits events.old (R.told reader.old) (R.told reader.old) [] [] [] }
-    ensures { TellsCauses events.old.completeness events.old.survey.limits events.new tally.new (R.told reader.old) (R.told reader.new) (W.told writer.old) (W.told writer.new) result }
+    requires fresh { IsFresh events.old (R.told reader.old) }
+    ensures { (limits : Bounds) (start : Told) → SoFar limits events.old start (R.told reader.old) [] [] []
+        → TellsCauses events.old.completeness limits events.new tally.new start (R.told reader.new) (W.told writer.old) (W.told writer.new) result }
 {
     loop {
         match events.next(reader)? {

@@ -5,7 +5,7 @@ ghost use Rattle.lsp_frame.specs.Bounds.{Bounds};
 ghost use Rattle.lsp_frame.specs.Told.{Told};
 ghost use Rattle.lsp_frame.specs.declared.format.Format.{Format};
 ghost use Rattle.lsp_log.specs.Log as log;
-ghost use Rattle.lsp_log.specs.Reader.{KeepsFormat};
+ghost use Rattle.lsp_log.specs.Reader.{KeepsFormat, shown_by};
 ghost use Rattle.lsp_verdict.specs.Placed as placed;
 ghost use Rattle.lsp_verdict.specs.RunIo.{BreaksOff};
 ghost use Rattle.lsp_streams.specs.LogEvents.{Finds, HoldsStep, IsIdle, Opens, Reads, Takes, unread};
@@ -102,11 +102,35 @@ impl LogEvents {
         }
     }
 
+    /// The bytes of a side after its last whole frame. After a fault of its frames they go at least as
+    /// far as that is seen.
+    pub fn rest(&self, side: Side) -> &[u8]
+        ensures { result.now ≡ (decoder_of side self.now.streams).rest }
+    {
+        self.streams.rest(side)
+    }
+
     /// Whether a side's frames, of which none has a fault, end inside one.
     pub fn ends_inside(&self, side: Side) -> bool
         ensures { result ≡ ends_inside (decoder_of side self.now.streams) }
     {
         self.streams.ends_inside(side)
+    }
+
+    /// After a fault of the log, how many of its bytes precede that: the bad record begins there; 0
+    /// where the first line is missing.
+    pub fn place(&self) -> u64
+        ensures { result ≡ self.now.log.place }
+    {
+        self.log.place()
+    }
+
+    /// After a fault of the log, the line at its place, its LF included, as far as the log's first 64
+    /// bytes from there on go, and 14 of a log whose first line is missing.
+    pub fn found(&self) -> &[u8]
+        ensures { result.now ≡ shown_by self.now.log }
+    {
+        self.log.found()
     }
 
     /// Goes past the next event of the log.

@@ -1,6 +1,5 @@
 -- How a walk hears a content, a fault of the frames, and a snapshot.
-use Rattle.std.specs.Prelude.{unwrap_or, string_bytes, String, chars, ℤ}
-use Rattle.std.specs.Global.{Global}
+use Rattle.std.specs.Prelude.{unwrap_or, chars, ℤ}
 use Rattle.std.proofs.Common.{◌≡◌, ℕ, Bool, false, List, [], ◌∷◌, ◌++◌, Option, Some, None, refl, sym, ap, subst, ◌∙◌}
 use Rattle.lsp_docs.specs.Calls.{Call, shows}
 use Rattle.lsp_docs.specs.Answer.{answer_of}
@@ -24,7 +23,7 @@ use Rattle.lsp_notes.specs.SessionNoting.{AreNotes, SaysOn}
 use Rattle.lsp_notes.specs.declared.marks.Marks.{Marks}
 use Rattle.lsp_notes.specs.declared.session_notes.SessionNotes.{SessionNotes}
 use Rattle.lsp_notes.specs.Notes.{AreAfter, asks_of}
-use Rattle.lsp_survey.specs.Walking.{Walks, Counted, IsUnread, PassesOver, IsOffending, Hears}
+use Rattle.lsp_survey.specs.Walking.{Walks, Counted, IsShown, IsUnread, PassesOver, IsOffending, Hears}
 use Rattle.lsp_survey.specs.declared.offending.Heard.{Heard}
 use Rattle.lsp_survey.specs.declared.offending.Heard.TheVariants as heard
 use Rattle.lsp_survey.specs.declared.offending.Offending.{Offending}
@@ -138,33 +137,33 @@ module _ (old mid new : Walk) (notes : List Noted) (side : Side) (bytes : List �
 
 -- ---- snapshots
 
-module _ (old mid new : Walk) (notes : List Noted) (number : ℤ) (uri text : String Global) (given : Heard) (walks : Walks old notes)
+module _ (old mid new : Walk) (notes : List Noted) (number : ℤ) (uri text : List ℕ) (given : Heard) (walks : Walks old notes)
     (counts : mid.events.counts ≡ old.events.counts) (same : mid.notes ≡ old.notes) (broken_is : mid.broken ≡ old.broken) (marks_are : mid.marks ≡ old.marks) (said_are : mid.said ≡ old.said) (same_terms : mid.events.docs.terms ≡ old.events.docs.terms) where
   abbrev raw : Raw
-  raw = show number (string_bytes uri) (string_bytes text)
+  raw = show number uri text
 
   abbrev shown : Noted
-  shown = record { event = snapshot (string_bytes uri) number (chars (string_bytes text)); asks = false }
+  shown = record { event = snapshot uri number (chars text); asks = false }
 
   abbrev says : Encoding → SyncKind → Option Call
-  says e k = Some (shows (string_bytes uri) number (chars (string_bytes text)))
+  says e k = Some (shows uri number (chars text))
 
   pub late_heard : (rule : ℕ) → Holds mid.events.session mid.events.docs (kept_of old.events.docs.terms (events_of notes)) → rule_at old.events.docs.terms (events_of notes) shown.event ≡ Some rule
-      → PassesOver mid new who.Snapshot rule false says (λ o. o ≡ what.Snapshot number uri text) given → Hears raw old.events.docs.terms new notes given
+      → PassesOver mid new who.Snapshot rule false says (IsShown number uri text) given → Hears raw old.events.docs.terms new notes given
   late_heard rule holds is passes =
-      passed_over raw old mid new notes shown who.Snapshot rule says Utf16 Nothing (λ o. o ≡ what.Snapshot number uri text) given walks counts same broken_is marks_are said_are same_terms holds (refl, refl) refl is refl
-      (λ o e. subst (IsOffending raw old.events.docs.terms (kept_of old.events.docs.terms (events_of notes)) rule) (sym e) (refl, refl, refl)) passes
+      passed_over raw old mid new notes shown who.Snapshot rule says Utf16 Nothing (IsShown number uri text) given walks counts same broken_is marks_are said_are same_terms holds (refl, refl) refl is refl
+      (λ o is. is) passes
 
   pub shown_heard : Holds mid.events.session mid.events.docs (kept_of old.events.docs.terms (events_of notes) ++ shown.event ∷ []) → rule_at old.events.docs.terms (events_of notes) shown.event ≡ None
       → given ≡ heard.Kept → Counted mid new who.Snapshot None false → AreAfter None (says Utf16 Nothing) mid.notes.map.entries new.notes.map.entries
-      → (answer : Match) → answer ≡ answer_of number (kept_versions old.events.docs.terms (string_bytes uri) (calls (kept_of old.events.docs.terms (events_of notes)))) (held old.events.docs.terms (string_bytes uri) (calls (kept_of old.events.docs.terms (events_of notes))))
-      → ((events : List Event) → AreCounts mid.events.counts events → ShownBy (number_next events) (string_bytes uri) number answer mid.marks.map.entries new.marks.map.entries)
+      → (answer : Match) → answer ≡ answer_of number (kept_versions old.events.docs.terms uri (calls (kept_of old.events.docs.terms (events_of notes)))) (held old.events.docs.terms uri (calls (kept_of old.events.docs.terms (events_of notes))))
+      → ((events : List Event) → AreCounts mid.events.counts events → ShownBy (number_next events) uri number answer mid.marks.map.entries new.marks.map.entries)
       → new.said ≡ mid.said → Hears raw old.events.docs.terms new notes given
   shown_heard holds is is_kept counted noted answer answers does unsaid =
       let terms = old.events.docs.terms in
       let events = events_of notes in
       kept_on raw old mid new notes shown who.Snapshot 0 says Utf16 Nothing (λ o. Unit {0}) given walks counts same broken_is same_terms holds (refl, refl) refl is refl is_kept counted noted
-      (shown_done terms mid.marks.map.entries new.marks.map.entries events (string_bytes uri) number (chars (string_bytes text)) (number_next events) answer
+      (shown_done terms mid.marks.map.entries new.marks.map.entries events uri number (chars text) (number_next events) answer
       (subst (λ (m : Marks). AreMarks terms m.map.entries events) (sym marks_are) walks.marked) is refl answers
       (does events (subst (λ (c : Counts). AreCounts c events) (sym counts) walks.counted)))
       (other_unsaid terms new.said events shown.event (subst (λ (m : SessionNotes). AreNotes terms m events) (sym (unsaid ∙ said_are)) walks.said) refl)

@@ -9,7 +9,7 @@ use Rattle.lsp_frame.specs.Bounds.{Bounds, IsInRange}
 use Rattle.lsp_frame.specs.Sink.{Wrote, Stopped}
 use Rattle.lsp_frame.specs.Told.{Told, Took, after_failure}
 use Rattle.lsp_frame.proofs.Telling.{took_then}
-use Rattle.lsp_frame.proofs.Writing.{stopped_before, stopped_then, wrote_then}
+use Rattle.lsp_frame.proofs.Writing.{stopped_before, stopped_then, wrote_nothing, wrote_then}
 use Rattle.lsp_survey.specs.Reads.{BeginsSurvey, SoFar, BrokeOff}
 use Rattle.lsp_survey.specs.Reported.{is_every, IsReported, BeginsReported, lines_of, closing, IsYes, sink_after, IsTally, AllReported, PartReported, Reports}
 use Rattle.lsp_verdict.specs.declared.listing.Listing.{Listing}
@@ -103,6 +103,10 @@ pub record IsListing (completeness : Completeness) (limits : Bounds) (listing : 
   pub same : e.completeness ≡ completeness
   pub tally : IsTally t found
   pub wrote : Wrote old new (lines_of listing found)
+
+pub wrote_none : (listing : Listing) (t : Told) → Wrote t t (lines_of listing [])
+wrote_none Every t = wrote_nothing t
+wrote_none Causes t = wrote_nothing t
 
 module _ (completeness : Completeness) (limits : Bounds) (listing : Listing) (start now old mid new : Told) (found : List Offence) (wrote : Wrote old mid (lines_of listing found)) where
   -- the log was not read to its end
@@ -299,14 +303,6 @@ each_failed listing xs i x old mid new fault at wrote told = by_fault fault told
     by_fault faults.Read t = absurd t
 
 -- ---- the run
-
--- a run says the same of a reader with these limits
-pub reports_by : (k m : Completeness) (a b : Bounds) (listing : Listing) (start now old new : Told) (r : Result verdicts.Verdict RunFault) → k ≡ m → a ≡ b → Reports k a listing start now old new r → Reports m b listing start now old new r
-reports_by k m a b listing start now old new r same alike p =
-    subst (λ (c : Completeness). Reports c b listing start now old new r) same (subst (λ (x : Bounds). Reports k x listing start now old new r) alike p)
-
-pub fresh_at : (a b : Bounds) (e : SurveyReader) (start : Told) → a ≡ b → SoFar a e start start [] [] [] → SoFar b e start start [] [] []
-fresh_at a b e start same so = subst (λ (x : Bounds). SoFar x e start start [] [] []) same so
 
 -- the verdict with which the report comes is that on the log
 pub reported_verdict : (completeness : Completeness) (limits : Bounds) → IsInRange limits → (listing : Listing) (log : List ℕ) (v : Verdict) (out : List ℕ) → IsReported completeness limits listing log v out → IsVerdictBy completeness limits log v

@@ -1,5 +1,5 @@
 -- What a walk over the events of a session holds, and how one more event is heard.
-use Rattle.std.specs.Prelude.{◌≡◌, ℕ, List, [], ◌∷◌, ◌++◌, Bool, false, ◌&&◌, ◌||◌, Option, Some, None, is_some, string_bytes}
+use Rattle.std.specs.Prelude.{◌≡◌, ℕ, ℤ, List, [], ◌∷◌, ◌++◌, Bool, false, ◌&&◌, ◌||◌, Option, Some, None, is_some, string_bytes}
 use Rattle.lsp_docs.specs.Calls.{Call}
 use Rattle.lsp_docs.specs.Terms.{Terms}
 use Rattle.lsp_events.specs.Standing.{Holds, RefusesMessage}
@@ -67,6 +67,11 @@ abbrev pub IsUnread : Side → List ℕ → Offending → Type 0
 IsUnread side bytes (what.Content by given) = (by ≡ side) × (given.items ≡ bytes)
 IsUnread side bytes other = ⊥
 
+-- this text of the editor's was found
+abbrev pub IsShown : ℤ → List ℕ → List ℕ → Offending → Type 0
+IsShown number uri text (what.Snapshot version name shown) = (version ≡ number) × (string_bytes name ≡ uri) × (string_bytes shown ≡ text)
+IsShown number uri text other = ⊥
+
 -- an event of theirs that offends by this rule was passed over: it says this of a document, under what was agreed, and is such as was found
 pub record PassesOver (old new : Walk) (by : Who) (rule : ℕ) (asks : Bool) (says : Encoding → SyncKind → Option Call) (IsSuch : Offending → Type 0) (given : Heard) : Type 0 where
   pub found : Found
@@ -87,7 +92,7 @@ IsOffending (broken side code) terms kept rule (what.Frames by) = by ≡ side
 IsOffending (content side bytes) terms kept rule (what.Content by given) = (by ≡ side) × (given.items ≡ bytes) × ReadsAs side bytes (fault side rule)
 IsOffending (content side bytes) terms kept rule (what.Message by spoken) =
     (by ≡ side) × RefusesMessage side bytes (message_view spoken.message) (act_view spoken.act) terms kept rule
-IsOffending (show number uri text) terms kept rule (what.Snapshot version name shown) = (version ≡ number) × (string_bytes name ≡ uri) × (string_bytes shown ≡ text)
+IsOffending (show number uri text) terms kept rule found = IsShown number uri text found
 IsOffending raw terms kept rule other = ⊥
 
 -- the event offends behind these, and this is its offence

@@ -11,7 +11,7 @@
 
 mod offending;
 mod run;
-mod survey;
+mod session_end;
 mod survey_reader;
 mod tally;
 mod walk;

@@ -4,7 +4,7 @@ ghost use Rattle.std.specs.Io.KnownBytes.{IsAtEnd};
 ghost use Rattle.lsp_events.specs.Standing.{Follows};
 ghost use Rattle.lsp_frame.specs.Bounds.{Bounds, IsInRange};
 ghost use Rattle.lsp_frame.specs.Told.{Told, Took};
-ghost use Rattle.lsp_survey.specs.Reads.{SoFar, found_in};
+ghost use Rattle.lsp_survey.specs.Reads.{IsFresh, SoFar, found_in};
 ghost use Rattle.lsp_survey.specs.Reported.{BeginsReported, IsReported, IsTally, Listed, Lists, Reports, closing, is_every, lines_of};
 ghost use Rattle.lsp_verdict.specs.Complete.{IsVerdictBy};
 ghost use Rattle.lsp_verdict.specs.Given.{as_given, offence_view, verdict_view};
@@ -88,11 +88,11 @@ fn report_all<R: Source, W: Sink>(
     ensures range { IsInRange limits }
     ensures reports { Reports completeness limits listing (R.told reader.old) (R.told reader.new) (W.told writer.old) (W.told writer.new) result }
 {
-    let mut events = SurveyReader::new(alloc, limits, completeness);
+    let mut events = SurveyReader::open(alloc, reader, limits, completeness)?;
     report_events(alloc, &mut events, reader, writer, listing)
 }
 
-/// Writes the report of all that is wrong with a log, of which nothing was read, and gives its verdict.
+/// Writes the report of all that is wrong with a log, of which no event was heard, and gives its verdict.
 fn report_events<R: Source, W: Sink>(
     alloc: Global,
     events: &mut SurveyReader,
@@ -100,9 +100,9 @@ fn report_events<R: Source, W: Sink>(
     writer: &mut W,
     listing: Listing,
 ) -> Result<Verdict, RunFault>
-    requires range { IsInRange events.old.survey.limits }
-    requires fresh { SoFar events.old.survey.limits events.old (R.told reader.old) (R.told reader.old) [] [] [] }
-    ensures { Reports events.old.completeness events.old.survey.limits listing (R.told reader.old) (R.told reader.new) (W.told writer.old) (W.told writer.new) result }
+    requires fresh { IsFresh events.old (R.told reader.old) }
+    ensures { (limits : Bounds) (start : Told) → SoFar limits events.old start (R.told reader.old) [] [] []
+        → Reports events.old.completeness limits listing start (R.told reader.new) (W.told writer.old) (W.told writer.new) result }
 {
     let mut tally = Tally::new();
     let end = list_events(alloc, events, reader, writer, listing, &mut tally)?;
@@ -119,9 +119,9 @@ fn list_events<R: Source, W: Sink>(
     tally: &mut Tally,
 ) -> Result<End, RunFault>
     requires tally { IsTally tally.old [] }
-    requires range { IsInRange events.old.survey.limits }
-    requires fresh { SoFar events.old.survey.limits events.old (R.told reader.old) (R.told reader.old) [] [] [] }
-    ensures { Lists events.old.completeness events.old.survey.limits listing events.new tally.new (R.told reader.old) (R.told reader.new) (W.told writer.old) (W.told writer.new) result }
+    requires fresh { IsFresh events.old (R.told reader.old) }
+    ensures { (limits : Bounds) (start : Told) → SoFar limits events.old start (R.told reader.old) [] [] []
+        → Lists events.old.completeness limits listing events.new tally.new start (R.told reader.new) (W.told writer.old) (W.told writer.new) result }
 {
     loop {
         match events.next(reader)? {
@@ -225,10 +225,10 @@ fn closing_of(
     bad: Option<Verdict>,
 ) -> Result<Closing, Memory>
     ensures { IfOk result (λ closed. (found : List SpecOffence) (notes : List Noted) → IsTally tally.now found
-        → (found ≡ [] → Follows events.old.survey.walk.events.session events.old.survey.walk.events.docs events.old.survey.walk.events.counts (events_of notes))
-        → length found < 2 ^ 64 → as_given (yes (summary events.old.survey.walk.events.docs.terms (events_of notes))) ≡ yes (summary events.old.survey.walk.events.docs.terms (events_of notes))
-        → (string_bytes closed.text ≡ closing found (option_map verdict_view bad) (summary events.old.survey.walk.events.docs.terms (events_of notes)))
-        × (verdict_view closed.verdict ≡ first_verdict found (option_map verdict_view bad) (summary events.old.survey.walk.events.docs.terms (events_of notes)))) }
+        → (found ≡ [] → Follows events.old.walk.events.session events.old.walk.events.docs events.old.walk.events.counts (events_of notes))
+        → length found < 2 ^ 64 → as_given (yes (summary events.old.walk.events.docs.terms (events_of notes))) ≡ yes (summary events.old.walk.events.docs.terms (events_of notes))
+        → (string_bytes closed.text ≡ closing found (option_map verdict_view bad) (summary events.old.walk.events.docs.terms (events_of notes)))
+        × (verdict_view closed.verdict ≡ first_verdict found (option_map verdict_view bad) (summary events.old.walk.events.docs.terms (events_of notes)))) }
 {
     match tally.first {
         Some(first) => Ok(Closing {

@@ -1,7 +1,8 @@
 //! The events of a session, of which those that offend are passed over.
-ghost use Rattle.std.specs.Prelude.{◌≡◌, ◌&&◌, ◌||◌, [], Bool, List, None, Some, false, IfOk, OnOk, chars, string_bytes};
+ghost use Rattle.std.specs.Prelude.{◌≡◌, ◌&&◌, ◌||◌, [], Bool, List, None, Some, false, IfOk, OnOk, chars};
 ghost use Rattle.lsp_docs.specs.Calls.{shows};
 ghost use Rattle.lsp_docs.specs.Terms.{terms_of};
+ghost use Rattle.lsp_events.specs.Standing.{Holds};
 ghost use Rattle.lsp_rpc.specs.View.{act_view, message_view};
 ghost use Rattle.lsp_session.specs.Handshake.{phase};
 ghost use Rattle.lsp_session.specs.Sent.{Sent};
@@ -19,7 +20,9 @@ ghost use Rattle.lsp_notes.specs.Marking.{number_next};
 ghost use Rattle.lsp_notes.specs.Marks.{DoneBy, ShownBy};
 ghost use Rattle.lsp_notes.specs.Notes.{AreAfter, asks_of};
 ghost use Rattle.lsp_notes.specs.SessionNoting.{SaysOn};
-ghost use Rattle.lsp_survey.specs.Walking.{Counted, Hears, IsUnread, PassesOver, Walks, offence_of};
+ghost use Rattle.lsp_streams.specs.Streams.{raw_view};
+ghost use Rattle.lsp_survey.specs.Ending.{lack_by};
+ghost use Rattle.lsp_survey.specs.Walking.{Counted, Hears, IsShown, IsUnread, PassesOver, Walks, offence_of};
 
 use crate::offending::{Found, Heard, Offending};
 use lsp_docs::{DocFault, Match};
@@ -31,7 +34,8 @@ use lsp_notes::{
     note_kept_act, note_refused, note_refused_act, wants_handshake, wants_text,
 };
 use lsp_rpc::{Memory, Side, Spoken};
-use lsp_verdict::{Counts, Offence, Who, who_of};
+use lsp_streams::Raw;
+use lsp_verdict::{Completeness, Counts, Offence, Who, who_of};
 use std::alloc::Global;
 
 /// What the events of a session have come to, where each that offends is passed over.
@@ -64,13 +68,32 @@ impl Walk {
         }
     }
 
+    /// Hears the next event.
+    pub(crate) fn hear(&mut self, alloc: Global, raw: Raw<'_>) -> Result<Heard, Memory>
+        ensures terms { self.new.events.docs.terms ≡ self.old.events.docs.terms }
+        ensures heard { IfOk result (λ heard. (before : List Noted) → Walks self.old before
+            → Hears (raw_view raw.entry) self.old.events.docs.terms self.new before heard) }
+    {
+        match raw {
+            Raw::Content { side, content } => self.content(alloc, side, content),
+            Raw::Broken { side, rule } => Ok(self.frames(side, rule)),
+            Raw::Snapshot { version, uri, text } => self.snapshot(alloc, version, uri, text),
+        }
+    }
+
+    /// What the session lacks to be complete, by its rule, where it has to be.
+    pub(crate) fn lack(&self, completeness: Completeness) -> Option<u16>
+        ensures { (kept : List Event) → Holds self.now.events.session self.now.events.docs kept
+            → result ≡ lack_by completeness kept }
+    {
+        match completeness {
+            Completeness::Ignored => None,
+            Completeness::Required => self.events.session.incomplete(),
+        }
+    }
+
     /// Hears a content of a side.
-    pub(crate) fn content(
-        &mut self,
-        alloc: Global,
-        side: Side,
-        content: &[u8],
-    ) -> Result<Heard, Memory>
+    fn content(&mut self, alloc: Global, side: Side, content: &[u8]) -> Result<Heard, Memory>
         ensures terms { self.new.events.docs.terms ≡ self.old.events.docs.terms }
         ensures heard { IfOk result (λ heard. (before : List Noted) → Walks self.old before
             → Hears (placed.content side content.now) self.old.events.docs.terms self.new before heard) }
@@ -84,29 +107,26 @@ impl Walk {
     }
 
     /// Hears a text that the editor showed.
-    pub(crate) fn snapshot(
+    fn snapshot(
         &mut self,
+        alloc: Global,
         version: i32,
-        uri: String,
-        text: String,
+        uri: &str,
+        text: &str,
     ) -> Result<Heard, Memory>
         ensures terms { self.new.events.docs.terms ≡ self.old.events.docs.terms }
         ensures heard { IfOk result (λ heard. (before : List Noted) → Walks self.old before
-            → Hears (placed.show version (string_bytes uri) (string_bytes text)) self.old.events.docs.terms self.new before heard) }
+            → Hears (placed.show version uri.now text.now) self.old.events.docs.terms self.new before heard) }
     {
-        match self
-            .events
-            .docs
-            .snapshot(uri.as_str(), version, text.as_str())
-        {
-            Ok(answer) => self.keep_snapshot(uri.as_str(), version, answer),
-            Err(DocFault::Rule(rule)) => self.refuse_snapshot(rule, version, uri, text),
+        match self.events.docs.snapshot(uri, version, text) {
+            Ok(answer) => self.keep_snapshot(uri, version, answer),
+            Err(DocFault::Rule(rule)) => self.refuse_snapshot(alloc, rule, version, uri, text),
             Err(DocFault::Memory) => Err(Memory),
         }
     }
 
     /// Hears a fault of the frames of a side.
-    pub(crate) fn frames(&mut self, side: Side, rule: u16) -> Heard
+    fn frames(&mut self, side: Side, rule: u16) -> Heard
         ensures terms { self.new.events.docs.terms ≡ self.old.events.docs.terms }
         ensures heard { (before : List Noted) → Walks self.old before
             → Hears (placed.broken side rule) self.old.events.docs.terms self.new before result }
@@ -210,18 +230,21 @@ impl Walk {
     /// Passes over a snapshot that offends by this rule.
     fn refuse_snapshot(
         &mut self,
+        alloc: Global,
         rule: u16,
         version: i32,
-        uri: String,
-        text: String,
+        uri: &str,
+        text: &str,
     ) -> Result<Heard, Memory>
         ensures terms { self.new.events.docs.terms ≡ self.old.events.docs.terms }
         ensures passes { IfOk result (PassesOver self.old self.new Who.Snapshot rule false
-            (λ enc kind. Some (shows (string_bytes uri) version (chars (string_bytes text)))) (λ what. what ≡ Offending.Snapshot version uri text)) }
+            (λ enc kind. Some (shows uri.now version (chars text.now))) (IsShown version uri.now text.now)) }
     {
-        let on_lost = self.notes.get(uri.as_str()).lost;
+        let on_lost = self.notes.get(uri).lost;
         let offence = self.refuse(rule, Who::Snapshot, false, on_lost);
-        note_refused(&mut self.notes, rule, uri.as_str(), false)?;
+        note_refused(&mut self.notes, rule, uri, false)?;
+        let uri = String::from_str(alloc, uri)?;
+        let text = String::from_str(alloc, text)?;
         Ok(Heard::Offence(Found {
             offence,
             offending: Offending::Snapshot { version, uri, text },
