@@ -19,8 +19,8 @@ abbrev pub lack_by : Completeness → List Event → Option ℕ
 lack_by Ignored kept = None
 lack_by Required kept = incomplete (sent_in kept)
 
--- **what is listed of the end of a log without a fault**: 107 for each side whose stream ends inside
--- a frame; where there is none, what the kept events lack
+-- **what is listed of the end of a log without a fault**: 107 for each side whose stream ends
+-- inside a frame; where there is none, what the kept events lack
 abbrev pub ends_by : Completeness → List Event → List Event → Bool → Bool → List Verdict
 ends_by completeness events kept editor server =
     first_ends None (rests_listed events editor server) (lacks_listed completeness events kept)

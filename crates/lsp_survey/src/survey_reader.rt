@@ -12,7 +12,8 @@ ghost use Rattle.lsp_verdict.specs.Placed.{Raw};
 ghost use Rattle.lsp_verdict.specs.RunIo.{BreaksOff, OfRead};
 ghost use Rattle.lsp_verdict.specs.Survey.{first_verdict};
 ghost use Rattle.lsp_verdict.specs.Verdict.{summary, yes};
-ghost use Rattle.lsp_survey.specs.Reads.{EndIs, EndsAre, GivesBehind, IsBroken, Pulls, ShowsFront, SoFar};
+ghost use Rattle.lsp_survey.specs.Reads.{EndIs, EndsAre, GivesBehind, IsBroken, Pulls, ShowsFront};
+ghost use Rattle.lsp_survey.specs.Reads.{SoFar};
 
 use crate::offending::Heard;
 use crate::session_end::ends;
@@ -67,8 +68,8 @@ pub struct End {
 }
 
 impl SurveyReader {
-    /// A reader that heard nothing, of a log that is read up to its first record, so that its format is
-    /// known.
+    /// A reader that heard nothing, of a log that is read up to its first record, so that its
+    /// format is known.
     ///
     /// # Errors
     /// `Read` where the source failed, and `Memory` where memory was refused.
@@ -100,14 +101,26 @@ impl SurveyReader {
     pub fn next<R: Source>(&mut self, reader: &mut R) -> Result<Next, RunFault>
         ensures completeness { self.new.completeness ≡ self.old.completeness }
         ensures terms { self.new.walk.events.docs.terms ≡ self.old.walk.events.docs.terms }
-        ensures answer { (limits : Bounds) (start : Told) (past : List Raw) (before : List Noted) (found : List SpecOffence) → SoFar limits self.old start (R.told reader.old) past before found
-            → Pulls self.old.completeness limits self.new start (R.told reader.new) past before found result }
+        ensures answer { (limits : Bounds) (start : Told) (past : List Raw) (before : List Noted)
+            (found : List SpecOffence)
+            → SoFar limits self.old start (R.told reader.old) past before found
+            → Pulls self.old.completeness limits self.new start
+            (R.told reader.new) past before found result }
         // The records of the log go on behind those before.
-        ensures later { IfOk result (λ next. (limits : Bounds) (start : Told) (past : List Raw) (before : List Noted) (found : List SpecOffence) → (so : SoFar limits self.old start (R.told reader.old) past before found)
-            → GivesBehind so.records self.old.completeness limits self.new start (R.told reader.new) past before found next) }
-        // Where reading breaks off, the log read begins with the records before, and the events heard of them.
-        ensures broke { OnErr result ((limits : Bounds) (start : Told) (past : List Raw) (before : List Noted) (found : List SpecOffence) → (so : SoFar limits self.old start (R.told reader.old) past before found)
-            → OfRead limits start (R.told reader.new) (HasGiven limits self.old.log.log.format so.records past)) }
+        ensures later { IfOk result
+            (λ next. (limits : Bounds) (start : Told) (past : List Raw) (before : List Noted)
+            (found : List SpecOffence)
+            → (so : SoFar limits self.old start (R.told reader.old) past before found)
+            → GivesBehind so.records self.old.completeness limits self.new start
+            (R.told reader.new) past before found next) }
+        // Where reading breaks off, the log read begins with the records before, and the events
+        // heard of them.
+        ensures broke { OnErr result
+            ((limits : Bounds) (start : Told) (past : List Raw) (before : List Noted)
+            (found : List SpecOffence)
+            → (so : SoFar limits self.old start (R.told reader.old) past before found)
+            → OfRead limits start (R.told reader.new)
+            (HasGiven limits self.old.log.log.format so.records past)) }
     {
         match self.log.next(reader) {
             Err(fault) => Err(fault),
@@ -119,9 +132,12 @@ impl SurveyReader {
     /// The verdict where nothing is listed: the fault of the log, else Yes.
     pub fn sound(&mut self, bad: Option<Verdict>) -> Result<Verdict, Memory>
         ensures { IfOk result (λ verdict. (notes : List Noted)
-            → Follows self.old.walk.events.session self.old.walk.events.docs self.old.walk.events.counts (events_of notes)
-            → as_given (yes (summary self.old.walk.events.docs.terms (events_of notes))) ≡ yes (summary self.old.walk.events.docs.terms (events_of notes))
-            → verdict_view verdict ≡ first_verdict [] (option_map verdict_view bad) (summary self.old.walk.events.docs.terms (events_of notes))) }
+            → Follows self.old.walk.events.session self.old.walk.events.docs
+            self.old.walk.events.counts (events_of notes)
+            → as_given (yes (summary self.old.walk.events.docs.terms (events_of notes)))
+            ≡ yes (summary self.old.walk.events.docs.terms (events_of notes))
+            → verdict_view verdict ≡ first_verdict [] (option_map verdict_view bad)
+            (summary self.old.walk.events.docs.terms (events_of notes))) }
     {
         match bad {
             Some(verdict) => Ok(verdict),
@@ -150,8 +166,8 @@ impl SurveyReader {
         &self.walk.marks
     }
 
-    /// By which of the kept events heard so far requests were asked and answered, and which led to the
-    /// phase of the session.
+    /// By which of the kept events heard so far requests were asked and answered, and which led to
+    /// the phase of the session.
     pub fn session_notes(&self) -> &SessionNotes
         ensures { result.now ≡ self.now.walk.said }
     {
@@ -160,27 +176,28 @@ impl SurveyReader {
 
     /// The bytes of a side behind its last whole frame.
     ///
-    /// Behind a fault of its frames they go at least as far as that is seen, so that the header part is known
-    /// which has it; where there is none they are all that was read.
+    /// Behind a fault of its frames they go at least as far as that is seen, so that the header
+    /// part is known which has it; where there is none they are all that was read.
     pub fn rest(&self, side: Side) -> &[u8]
         ensures held { result.now ≡ (decoder_of side self.now.log.streams).rest }
-        ensures broken { (limits : Bounds) (start now : Told) (past : List Raw) (notes : List Noted) (found : List SpecOffence)
+        ensures broken { (limits : Bounds) (start now : Told) (past : List Raw)
+            (notes : List Noted) (found : List SpecOffence)
             → (so : SoFar limits self.now start now past notes found) → IsBroken self.now side
             → ShowsFront limits side so.records result.now }
     {
         self.log.rest(side)
     }
 
-    /// Behind a fault of the log, how many of its bytes stand before that: the bad record begins there; 0
-    /// where the first line is missing.
+    /// Behind a fault of the log, how many of its bytes stand before that: the bad record begins
+    /// there; 0 where the first line is missing.
     pub fn place(&self) -> u64
         ensures { result ≡ self.now.log.log.place }
     {
         self.log.place()
     }
 
-    /// Behind a fault of the log, the line that stands at its place, its LF included, as far as the log's first
-    /// 64 bytes from there on go, and 14 of a log whose first line is missing.
+    /// Behind a fault of the log, the line that stands at its place, its LF included, as far as the
+    /// log's first 64 bytes from there on go, and 14 of a log whose first line is missing.
     pub fn found(&self) -> &[u8]
         ensures { result.now ≡ shown_by self.now.log.log }
     {

@@ -26,8 +26,10 @@ returns-in_err-heard g c =
     let mid = g.W.Sink.told c.loop-heard.writer in
     rw (p.1, p.2) (λ limits start so.
     let inv = c.loop-heard.invariant limits start so in
-    broke_listing k limits c.args.listing start now (g.W.Sink.told c.args.writer.now) mid mid inv.found inv.wrote _
-    (broke_by c.loop-heard.events.completeness k limits start now inv.found _ inv.same (c.in_err-heard.ensures.answer limits start inv.past inv.notes inv.found inv.so_far)))
+    broke_listing k limits c.args.listing start now (g.W.Sink.told c.args.writer.now) mid mid
+    inv.found inv.wrote _
+    (broke_by c.loop-heard.events.completeness k limits start now inv.found _ inv.same
+    (c.in_err-heard.ensures.answer limits start inv.past inv.notes inv.found inv.so_far)))
 
 pub loop-heard-smaller : goal.loop-heard-smaller
 loop-heard-smaller g c =
@@ -35,16 +37,21 @@ loop-heard-smaller g c =
     let start = c.requires.fresh.1 in
     let so = c.requires.fresh.2 in
     let inv = c.loop-heard.invariant limits start so in
-    let gave = rw c.in-Event.is at (c.in_ok-heard.ensures.answer limits start inv.past inv.notes inv.found inv.so_far) in
-    subst (λ (b : Bounds). b.log + 1 - c.next.new.self.walk.events.counts.all < b.log + 1 - c.loop-heard.events.walk.events.counts.all) (sym so.reads.same)
-    (fewer limits c.loop-heard.events c.next.new.self start (g.R.Source.told c.loop-heard.reader) (g.R.Source.told c.next.new.reader) inv.past (inv.past ++ gave.raw ∷ []) inv.notes gave.n inv.found (inv.found ++ found_in c.in-Event.heard) inv.so_far gave.so_far)
+    let gave = rw c.in-Event.is at (c.in_ok-heard.ensures.answer limits start inv.past inv.notes
+    inv.found inv.so_far) in
+    subst (λ (b : Bounds). b.log + 1 - c.next.new.self.walk.events.counts.all < b.log + 1 -
+    c.loop-heard.events.walk.events.counts.all) (sym so.reads.same)
+    (fewer limits c.loop-heard.events c.next.new.self start (g.R.Source.told c.loop-heard.reader)
+    (g.R.Source.told c.next.new.reader) inv.past (inv.past ++ gave.raw ∷ []) inv.notes gave.n
+    inv.found (inv.found ++ found_in c.in-Event.heard) inv.so_far gave.so_far)
 
 pub loop-heard-preserved : goal.loop-heard-preserved
 loop-heard-preserved g c = λ limits start so.
     let inv = c.loop-heard.invariant limits start so in
     let k = c.args.events.now.completeness in
     let now = g.R.Source.told c.next.new.reader in
-    let gave = rw c.in-Event.is at (c.in_ok-heard.ensures.answer limits start inv.past inv.notes inv.found inv.so_far) in
+    let gave = rw c.in-Event.is at (c.in_ok-heard.ensures.answer limits start inv.past inv.notes
+    inv.found inv.so_far) in
     let listed = c.in_ok-list_heard-in-Event.ensures in
     record {
       past = inv.past ++ gave.raw ∷ [];
@@ -53,7 +60,9 @@ loop-heard-preserved g c = λ limits start so.
       so_far = gave.so_far;
       same = c.in_ok-heard.ensures.completeness ∙ inv.same;
       tally = listed.tally inv.found inv.tally;
-      wrote = more_wrote k limits c.args.listing start now (g.W.Sink.told c.args.writer.now) (g.W.Sink.told c.loop-heard.writer) (g.W.Sink.told c.list_heard.new.writer) inv.found inv.wrote (found_in c.in-Event.heard) listed.tells;
+      wrote = more_wrote k limits c.args.listing start now (g.W.Sink.told c.args.writer.now)
+          (g.W.Sink.told c.loop-heard.writer) (g.W.Sink.told c.list_heard.new.writer) inv.found
+          inv.wrote (found_in c.in-Event.heard) listed.tells;
     }
 
 pub returns-in_err-list_heard-in-Event : goal.returns-in_err-list_heard-in-Event
@@ -65,21 +74,29 @@ returns-in_err-list_heard-in-Event g c =
     let more = found_in c.in-Event.heard in
     rw (p.1, p.2) (λ limits start so.
     let inv = c.loop-heard.invariant limits start so in
-    let gave = rw c.in-Event.is at (c.in_ok-heard.ensures.answer limits start inv.past inv.notes inv.found inv.so_far) in
-    let begins = so_far_begins k limits c.next.new.self start now (inv.past ++ gave.raw ∷ []) (inv.notes ++ gave.n ∷ []) (inv.found ++ more) gave.so_far in
-    let failures = so_far_failures k limits c.next.new.self start now (inv.past ++ gave.raw ∷ []) (inv.notes ++ gave.n ∷ []) (inv.found ++ more) gave.so_far in
-    lines_failed k limits c.args.listing start now (g.W.Sink.told c.args.writer.now) (g.W.Sink.told c.loop-heard.writer) (g.W.Sink.told c.list_heard.new.writer) inv.found inv.wrote more _ begins failures c.in_err-list_heard-in-Event.ensures.tells)
+    let gave = rw c.in-Event.is at (c.in_ok-heard.ensures.answer limits start inv.past inv.notes
+    inv.found inv.so_far) in
+    let begins = so_far_begins k limits c.next.new.self start now (inv.past ++ gave.raw ∷ [])
+    (inv.notes ++ gave.n ∷ []) (inv.found ++ more) gave.so_far in
+    let failures = so_far_failures k limits c.next.new.self start now (inv.past ++ gave.raw ∷ [])
+    (inv.notes ++ gave.n ∷ []) (inv.found ++ more) gave.so_far in
+    lines_failed k limits c.args.listing start now (g.W.Sink.told c.args.writer.now)
+    (g.W.Sink.told c.loop-heard.writer) (g.W.Sink.told c.list_heard.new.writer) inv.found
+    inv.wrote more _ begins failures c.in_err-list_heard-in-Event.ensures.tells)
 
 pub returns-in-End : goal.returns-in-End
 returns-in-End g c = λ limits start so.
     let inv = c.loop-heard.invariant limits start so in
     let k = c.args.events.now.completeness in
-    let gave = rw c.in-End.is at (c.in_ok-heard.ensures.answer limits start inv.past inv.notes inv.found inv.so_far) in
+    let gave = rw c.in-End.is at (c.in_ok-heard.ensures.answer limits start inv.past inv.notes
+    inv.found inv.so_far) in
     record {
       past = inv.past;
       notes = inv.notes;
       found = inv.found;
-      ended = gives_by c.loop-heard.events.completeness k limits c.next.new.self start (g.R.Source.told c.next.new.reader) inv.past inv.notes inv.found (next.End c.in-End.end) inv.same gave;
+      ended = gives_by c.loop-heard.events.completeness k limits c.next.new.self start
+          (g.R.Source.told c.next.new.reader) inv.past inv.notes inv.found (next.End c.in-End.end)
+          inv.same gave;
       tally = inv.tally;
       wrote = inv.wrote;
     }

@@ -6,4 +6,6 @@ use Rattle.lsp_survey.proofs.survey_reader.SurveyReader.open.Goals as goal
 
 pub returns-clause-fresh : goal.returns-clause-fresh
 returns-clause-fresh g c =
-    nothing_heard _ _ _ _ c.in_ok-log.ensures.ok (c.new.ensures.terms ∙ ap (terms_of c.args.limits) (judged_by _ _ _ c.unwrap_or-format.ensures c.format.ensures)) c.new.ensures.walks
+    nothing_heard _ _ _ _ c.in_ok-log.ensures.ok
+    (c.new.ensures.terms ∙ ap (terms_of c.args.limits)
+    (judged_by _ _ _ c.unwrap_or-format.ensures c.format.ensures)) c.new.ensures.walks

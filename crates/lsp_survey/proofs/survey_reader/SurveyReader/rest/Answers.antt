@@ -6,4 +6,5 @@ use Rattle.lsp_survey.proofs.survey_reader.SurveyReader.rest.Goals as goal
 
 pub returns-clause-broken : goal.returns-clause-broken
 returns-clause-broken c = λ limits start now past notes found so broken.
-    subst (λ (w : List ℕ). ShowsFront limits c.args.side so.records w) (sym c.rest.ensures) (front_shown limits _ so.records past so.due c.args.side so.reads.stands broken)
+    subst (λ (w : List ℕ). ShowsFront limits c.args.side so.records w) (sym c.rest.ensures)
+    (front_shown limits _ so.records past so.due c.args.side so.reads.stands broken)

@@ -22,10 +22,24 @@ returns-clause-passes c =
     record {
       found = _;
       is_given = refl;
-      is_such = (to_z-of_z w32 c.args.version fits, c.in_ok-uri.ensures.ok, c.in_ok-text.ensures.ok);
-      counted = record { session = refused.counted.session; documents = refused.counted.documents; counts = refused.counted.counts; is_broken = refused.counted.is_broken };
-      noted = λ enc kind. subst (λ (w : Notes). AreAfter (Some c.args.rule) (Some call) w.map.entries c.note_refused.new.notes.map.entries) refused.notes (c.in_ok-note_refused.ensures call refl refl);
+      is_such = (
+        to_z-of_z w32 c.args.version fits,
+        c.in_ok-uri.ensures.ok,
+        c.in_ok-text.ensures.ok,
+      );
+      counted = record {
+        session = refused.counted.session;
+        documents = refused.counted.documents;
+        counts = refused.counted.counts;
+        is_broken = refused.counted.is_broken;
+      };
+      noted = λ enc kind. subst (λ (w : Notes).
+          AreAfter (Some c.args.rule) (Some call) w.map.entries
+          c.note_refused.new.notes.map.entries) refused.notes
+          (c.in_ok-note_refused.ensures call refl refl);
       marks = refused.marks;
       said = refused.said;
-      offence = λ enc kind notes w. refused.offence notes w ∙ ap (λ b. given_offence (offence_of old.events.docs.terms notes who.Snapshot c.args.rule b)) is_lost;
+      offence = λ enc kind notes w. refused.offence notes w
+          ∙ ap (λ b. given_offence (offence_of old.events.docs.terms notes who.Snapshot c.args.rule
+          b)) is_lost;
     }

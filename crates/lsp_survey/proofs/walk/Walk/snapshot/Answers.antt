@@ -33,10 +33,14 @@ returns-in-Ok-clause-heard c =
     if_ok_snapshot c.keep_snapshot.result _ _ _ _
     (λ given is counted marks before walks.
     let kept = kept_of old.events.docs.terms (events_of before) in
-    shown_heard old mid c.keep_snapshot.new.self before c.args.version c.args.uri.now c.args.text.now given walks refl refl refl refl refl c.in-Ok.ensures.terms
-    (shown_holds old.events.session c.snapshot.new.self kept uri c.args.version text walks.holds.sent (stands (calls kept) walks.holds.called))
+    shown_heard old mid c.keep_snapshot.new.self before c.args.version c.args.uri.now
+    c.args.text.now given walks refl refl refl refl refl c.in-Ok.ensures.terms
+    (shown_holds old.events.session c.snapshot.new.self kept uri c.args.version text
+    walks.holds.sent (stands (calls kept) walks.holds.called))
     (accepted (calls kept) walks.holds.called) is counted
-    (subst (λ (w : Notes). AreAfter None (Some (shows uri c.args.version text)) old.notes.map.entries w.map.entries) (sym c.keep_snapshot.ensures.notes) (notes_stay None (shows uri c.args.version text) old.notes.map.entries refl))
+    (subst (λ (w : Notes). AreAfter None (Some (shows uri c.args.version text))
+    old.notes.map.entries w.map.entries) (sym c.keep_snapshot.ensures.notes)
+    (notes_stay None (shows uri c.args.version text) old.notes.map.entries refl))
     c.in-Ok.answer (answer (calls kept) walks.holds.called) marks c.keep_snapshot.ensures.said)
     c.keep_snapshot.ensures.kept c.keep_snapshot.ensures.counted marked
 
@@ -51,7 +55,11 @@ returns-in-Err-Rule-clause-heard c =
     (λ given p before walks.
     let kept = kept_of old.events.docs.terms (events_of before) in
     let call = shows c.args.uri.now c.args.version (chars c.args.text.now) in
-    let named = subst (λ (f : DocFault). Names (call_rule old.events.docs.terms (calls kept) call) f) c.in-Err-Rule.field-0-is (rule (calls kept) walks.holds.called) in
-    late_heard old mid c.refuse_snapshot.new.self before c.args.version c.args.uri.now c.args.text.now given walks refl refl refl refl refl c.in-Err-Rule.ensures.terms c.in-Err-Rule.rule
-    (subst (λ (d : docs.State). Holds old.events.session d kept) (sym c.in-Err-Rule.ensures.err) walks.holds) named p)
+    let named = subst (λ (f : DocFault). Names (call_rule old.events.docs.terms (calls kept) call)
+    f) c.in-Err-Rule.field-0-is (rule (calls kept) walks.holds.called) in
+    late_heard old mid c.refuse_snapshot.new.self before c.args.version c.args.uri.now
+    c.args.text.now given walks refl refl refl refl refl c.in-Err-Rule.ensures.terms
+    c.in-Err-Rule.rule
+    (subst (λ (d : docs.State). Holds old.events.session d kept) (sym c.in-Err-Rule.ensures.err)
+    walks.holds) named p)
     passes
