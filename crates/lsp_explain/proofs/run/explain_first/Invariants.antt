@@ -6,7 +6,9 @@ use Rattle.lsp_explain.specs.RunSteps.{IsFollowing}
 use Rattle.lsp_explain.proofs.run.explain_first.Given as goal
 
 abbrev pub invariant-loop-heard : goal.invariant-loop-heard
-invariant-loop-heard g l = (limits : Bounds) (start : Told) → SoFar limits l.fn.events start (g.R.Source.told l.fn.reader) [] [] []
+invariant-loop-heard g l =
+    (limits : Bounds) (start : Told)
+    → SoFar limits l.fn.events start (g.R.Source.told l.fn.reader) [] [] []
     → IsFollowing l.fn.events.completeness limits l.events start (g.R.Source.told l.reader) []
 
 abbrev pub decreases-loop-heard : goal.decreases-loop-heard

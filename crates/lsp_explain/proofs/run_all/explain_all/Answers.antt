@@ -12,9 +12,15 @@ returns-in_err-events-clause-tells g c =
     rw (p.1, p.2) (never_told c.args.completeness c.args.limits _ _ _ _ c.in_err-events.ensures.err)
 
 pub explain_log-requires : goal.explain_log-requires
-explain_log-requires g c = record { fresh = (c.args.limits, g.R.Source.told c.args.reader.now, c.in_ok-events.ensures.fresh) }
+explain_log-requires g c = record {
+  fresh = (c.args.limits, g.R.Source.told c.args.reader.now, c.in_ok-events.ensures.fresh);
+}
 
 pub returns-clause-tells : goal.returns-clause-tells
 returns-clause-tells g c =
-    subst (λ (k : Completeness). TellsAll k c.args.limits (g.R.Source.told c.args.reader.now) (g.R.Source.told c.explain_log.new.reader) (g.W.Sink.told c.args.writer.now) (g.W.Sink.told c.explain_log.new.writer) c.explain_log.result) c.in_ok-events.ensures.completeness
-    (c.explain_log.ensures c.args.limits (g.R.Source.told c.args.reader.now) c.in_ok-events.ensures.fresh)
+    subst (λ (k : Completeness). TellsAll k c.args.limits (g.R.Source.told c.args.reader.now)
+    (g.R.Source.told c.explain_log.new.reader) (g.W.Sink.told c.args.writer.now)
+    (g.W.Sink.told c.explain_log.new.writer) c.explain_log.result)
+    c.in_ok-events.ensures.completeness
+    (c.explain_log.ensures c.args.limits (g.R.Source.told c.args.reader.now)
+    c.in_ok-events.ensures.fresh)

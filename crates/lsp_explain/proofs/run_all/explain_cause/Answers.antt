@@ -11,8 +11,12 @@ use Rattle.lsp_explain.proofs.run_all.explain_cause.Goals as goal
 pub returns-then-found : goal.returns-then-found
 returns-then-found g c = λ limits start now hs prior gave.
     let terms = terms_in c.args.events.now in
-    let none = cause_follows terms hs (record { raw = gave.raw; note = gave.n }) c.args.found.now gave.is_heard c.if-found.true in
-    ([], (λ rests behind. subst (λ w. AllZip (Explains rests terms) w []) (sym none) tt), wrote_nothing _)
+    let none = cause_follows terms hs (record { raw = gave.raw; note = gave.n }) c.args.found.now
+    gave.is_heard c.if-found.true in (
+      [],
+      (λ rests behind. subst (λ w. AllZip (Explains rests terms) w []) (sym none) tt),
+      wrote_nothing _,
+    )
 
 pub returns-in_err-put_all : goal.returns-in_err-put_all
 returns-in_err-put_all g c =
@@ -20,13 +24,25 @@ returns-in_err-put_all g c =
     let p = err_from_is_err_and from.result from.ensures.1 in
     rw (p.1, p.2) (λ limits start now hs prior gave.
     let terms = terms_in c.args.events.now in
-    let told = cause_told terms hs (record { raw = gave.raw; note = gave.n }) c.args.found.now gave.is_heard limits gave.so_far.records c.in_ok-explanation.explanation c.if-found.false
-    (c.in_ok-explanation.ensures limits start now hs prior gave) in
-    (told.0, told.1, subst (Stopped (g.W.Sink.told c.args.writer.now) (g.W.Sink.told c.put_all.new.writer)) (c.as_bytes.ensures.value ∙ told.2) c.in_err-put_all.ensures))
+    let told = cause_told terms hs (record { raw = gave.raw; note = gave.n }) c.args.found.now
+    gave.is_heard limits gave.so_far.records c.in_ok-explanation.explanation c.if-found.false
+    (c.in_ok-explanation.ensures limits start now hs prior gave) in (
+      told.0,
+      told.1,
+      subst (Stopped (g.W.Sink.told c.args.writer.now)
+          (g.W.Sink.told c.put_all.new.writer)) (c.as_bytes.ensures.value ∙ told.2)
+          c.in_err-put_all.ensures,
+    ))
 
 pub returns : goal.returns
 returns g c = λ limits start now hs prior gave.
     let terms = terms_in c.args.events.now in
-    let told = cause_told terms hs (record { raw = gave.raw; note = gave.n }) c.args.found.now gave.is_heard limits gave.so_far.records c.in_ok-explanation.explanation c.if-found.false
-    (c.in_ok-explanation.ensures limits start now hs prior gave) in
-    (told.0, told.1, subst (Wrote (g.W.Sink.told c.args.writer.now) (g.W.Sink.told c.put_all.new.writer)) (c.as_bytes.ensures.value ∙ told.2) c.in_ok-put_all.ensures)
+    let told = cause_told terms hs (record { raw = gave.raw; note = gave.n }) c.args.found.now
+    gave.is_heard limits gave.so_far.records c.in_ok-explanation.explanation c.if-found.false
+    (c.in_ok-explanation.ensures limits start now hs prior gave) in (
+      told.0,
+      told.1,
+      subst (Wrote (g.W.Sink.told c.args.writer.now)
+          (g.W.Sink.told c.put_all.new.writer)) (c.as_bytes.ensures.value ∙ told.2)
+          c.in_ok-put_all.ensures,
+    )

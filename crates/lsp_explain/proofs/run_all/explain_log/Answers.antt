@@ -8,4 +8,6 @@ returns-in_err-end g c =
 
 pub returns : goal.returns
 returns g c = λ limits start so.
-    c.close.ensures c.args.events.now.completeness limits start (g.R.Source.told c.explain_events.new.reader) (g.W.Sink.told c.args.writer.now) (c.in_ok-end.ensures limits start so)
+    c.close.ensures c.args.events.now.completeness limits start
+    (g.R.Source.told c.explain_events.new.reader) (g.W.Sink.told c.args.writer.now)
+    (c.in_ok-end.ensures limits start so)
