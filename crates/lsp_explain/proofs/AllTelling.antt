@@ -156,7 +156,7 @@ never_told completeness limits start now told fault off = record {
         log_fault = l.2;
         later = raws.0;
         is_log = l.3;
-        goes = ([], sym (append-nil l.1));
+        goes = (l.1, refl);
         placed = raws.1;
       } in
       inl ([], first_said limits [] tt l.0 [] [] (λ rests behind. tt) log all, [], refl))

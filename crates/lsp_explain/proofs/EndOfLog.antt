@@ -43,7 +43,7 @@ use Rattle.lsp_explain.specs.Explained.{end_explained, explanation, flaw_lines, 
 use Rattle.lsp_explain.specs.Explained.{IsExplained, IsExplanation}
 use Rattle.lsp_facts.specs.FlawFacts.{Rests, rest_of, flaw_facts, log_facts}
 use Rattle.lsp_explain.specs.RunSteps.{IsSound, flaw_held, rests_held, summary_behind}
-use Rattle.lsp_explain.specs.Standing.{StandsAfter}
+use Rattle.lsp_explain.specs.Standing.{StandsAfter, terms_in}
 use Rattle.lsp_explain.specs.declared.run.Explanation.{Explanation}
 use Rattle.lsp_explain.proofs.Explaining.{offence_of, offences_are}
 use Rattle.lsp_explain.proofs.Standing.{stands_after}
