@@ -18,10 +18,15 @@ id_in-outline (response id (result value)) = refl
 id_in-outline (response id (error code)) = refl
 
 abbrev message_event_of : ℕ → Side → List ℕ → List ℕ
-message_event_of number side words = line (codes "event" ∷ decimal number ∷ side_name side ∷ words ∷ [])
+message_event_of number side words =
+    line (codes "event" ∷ decimal number ∷ side_name side ∷ words ∷ [])
 
--- the line of a message that was heard without its params and, in some cases, without the value of its result
-pub same_line : (m : Sent) (side : Side) (said : Message) (number : ℕ) → m.side ≡ side → outline m.message ≡ outline said → message_event number m.side m.message ≡ message_event number side said
+-- the line of a message that was heard without its params and, in some cases, without the value of
+-- its result
+pub same_line : (m : Sent) (side : Side) (said : Message) (number : ℕ) → m.side ≡ side
+    → outline m.message ≡ outline said
+    → message_event number m.side m.message ≡ message_event number side said
 same_line m side said number by same =
     ap (λ s. message_event number s m.message) by
-    ∙ ap (λ words. message_event_of number side words) (words_by_outline m.message ∙ ap words_of same ∙ sym (words_by_outline said))
+    ∙ ap (λ words. message_event_of number side words)
+    (words_by_outline m.message ∙ ap words_of same ∙ sym (words_by_outline said))

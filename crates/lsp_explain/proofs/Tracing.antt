@@ -13,19 +13,27 @@ use Rattle.lsp_notes.specs.Asking.{numbered}
 use Rattle.lsp_notes.specs.Marking.{Step, agreed, brought}
 use Rattle.lsp_facts.specs.Fact.{Fact, shown_by}
 use Rattle.lsp_facts.specs.MessageFacts.{id_in}
-use Rattle.lsp_explain.specs.Traced.{act_call, agreed_facts, call_traced, document_traced, session_trace, traced, with_brought}
+use Rattle.lsp_explain.specs.Traced.{act_call, agreed_facts, call_traced, document_traced}
+use Rattle.lsp_explain.specs.Traced.{session_trace, traced, with_brought}
 use Rattle.lsp_explain.proofs.Spoken.{id_in-outline}
 
 module _ (terms : Terms) (before : List Event) (rule : ℕ) (plain : List Fact) where
   -- what is added, where the rule is one on messages or not
   abbrev added : Bool → Side → Message → Act → List Fact
-  added b side said act = if b then plain ++ session_trace rule (numbered terms before) side (id_in said) else call_traced terms before rule (act_call terms before act) plain
+  added b side said act = if b then plain ++ session_trace rule (numbered terms before) side
+      (id_in said) else call_traced terms before rule (act_call terms before act) plain
 
   -- below 601 the rule is one on messages
-  pub added_to_messages : (side : Side) (said : Message) (act : Act) → rule < 601 → added (nat_lt rule 601) side said act ≡ plain ++ session_trace rule (numbered terms before) side (id_in said)
-  added_to_messages side said act less = let below : nat_lt rule 601 ≡ true = grind (arith, nat_tests) in ap (λ (b : Bool). added b side said act) below
+  pub added_to_messages : (side : Side) (said : Message) (act : Act) → rule < 601
+      → added (nat_lt rule 601) side said act
+      ≡ plain ++ session_trace rule (numbered terms before) side (id_in said)
+  added_to_messages side said act less =
+      let below : nat_lt rule 601 ≡ true =
+      grind (arith, nat_tests) in ap (λ (b : Bool). added b side said act) below
 
-  pub same_traced : (m : Sent) (side : Side) (said : Message) (act : Act) → m.side ≡ side → outline m.message ≡ outline said → m.act ≡ act → added (nat_lt rule 601) side said act ≡ traced terms before (message m) rule plain
+  pub same_traced : (m : Sent) (side : Side) (said : Message) (act : Act) → m.side ≡ side
+      → outline m.message ≡ outline said → m.act ≡ act
+      → added (nat_lt rule 601) side said act ≡ traced terms before (message m) rule plain
   same_traced m side said act by same means = by_test (nat_lt rule 601)
     where
       ids : id_in said ≡ id_in m.message
@@ -33,11 +41,17 @@ module _ (terms : Terms) (before : List Event) (rule : ℕ) (plain : List Fact) 
 
       by_test : (b : Bool) → added b side said act ≡ added b m.side m.message m.act
       by_test true = λ i. plain ++ session_trace rule (numbered terms before) (sym by i) (ids i)
-      by_test false = ap (λ (a : Act). call_traced terms before rule (act_call terms before a) plain) (sym means)
+      by_test false = ap (λ (a : Act). call_traced terms before rule (act_call terms before a)
+          plain) (sym means)
 
 -- under another rule than 702 no snapshot that differs is named
-pub names_no_texts : (done : List Step) (ns ms : List ℕ) (rule : ℕ) (plain : List Fact) → (rule ≡ 702 → ⊥) → document_traced done ns rule plain ≡ document_traced done ms rule plain
+pub names_no_texts : (done : List Step) (ns ms : List ℕ) (rule : ℕ) (plain : List Fact)
+    → (rule ≡ 702 → ⊥) → document_traced done ns rule plain ≡ document_traced done ms rule plain
 names_no_texts done ns ms rule plain other =
     let is : (rule == 702) ≡ false = grind (arith, nat_tests) in
-    ap (λ (b : Bool). with_brought (brought done) plain ++ (if b then map shown_by ns ++ agreed_facts (agreed done) else (if rule == 608 then agreed_facts (agreed done) else []))) is
-    ∙ sym (ap (λ (b : Bool). with_brought (brought done) plain ++ (if b then map shown_by ms ++ agreed_facts (agreed done) else (if rule == 608 then agreed_facts (agreed done) else []))) is)
+    ap (λ (b : Bool). with_brought (brought done)
+    plain ++ (if b then map shown_by ns ++ agreed_facts (agreed done) else
+    (if rule == 608 then agreed_facts (agreed done) else []))) is
+    ∙ sym (ap (λ (b : Bool). with_brought (brought done)
+    plain ++ (if b then map shown_by ms ++ agreed_facts (agreed done) else
+    (if rule == 608 then agreed_facts (agreed done) else []))) is)

@@ -32,8 +32,8 @@ use std::alloc::Global;
 /// A stream that ends inside a frame.
 const ENDS_INSIDE: u16 = 107;
 
-/// The facts on what offends by this rule, the event of this number. The reader stands for the events
-/// before it, and the rest is of its side.
+/// The facts on what offends by this rule, the event of this number. The reader stands for the
+/// events before it, and the rest is of its side.
 fn facts_of(
     alloc: Global,
     events: &SurveyReader,
@@ -42,10 +42,15 @@ fn facts_of(
     number: u64,
     rule: u16,
 ) -> Result<Vec<Fact>, Memory>
-    ensures { IfOk result (λ facts. (raw : Raw) (event : Event) (before : List Event) → StandsAfter events.now before → number ≡ number_next before → Reads raw event
-        → IsOffending raw (terms_in events.now) (kept_of (terms_in events.now) before) rule offending.now → rule_at (terms_in events.now) before event ≡ Some rule
+    ensures { IfOk result (λ facts. (raw : Raw) (event : Event) (before : List Event)
+        → StandsAfter events.now before → number ≡ number_next before → Reads raw event
+        → IsOffending raw (terms_in events.now)
+        (kept_of (terms_in events.now) before) rule offending.now
+        → rule_at (terms_in events.now) before event ≡ Some rule
         → (rests : Rests) → ShowsFault rests offending.now rest.now
-        → AreTraced (AreFacts rests (terms_in events.now) (kept_of (terms_in events.now) before) raw event rule) (terms_in events.now) before event rule (facts_view facts.items)) }
+        → AreTraced (AreFacts rests (terms_in events.now)
+        (kept_of (terms_in events.now) before) raw event rule)
+        (terms_in events.now) before event rule (facts_view facts.items)) }
 {
     match offending {
         Offending::Frames(_) => frame_facts(alloc, rest),
@@ -76,7 +81,8 @@ fn push_event(
     number: u64,
     offending: &Offending,
 ) -> Result<(), Memory>
-    ensures { OnOk result ((raw : Raw) (event : Event) (terms : Terms) (kept : List Event) (rule : ℕ) → Reads raw event
+    ensures { OnOk result ((raw : Raw) (event : Event) (terms : Terms) (kept : List Event)
+        (rule : ℕ) → Reads raw event
         → IsOffending raw terms kept rule offending.now
         → string_bytes lines.new ≡ string_bytes lines.old ++ event_line number raw) }
 {
@@ -97,8 +103,8 @@ fn push_event(
     }
 }
 
-/// Adds what is said of an offence. The reader stands for the events before it, and the rest is of its
-/// side.
+/// Adds what is said of an offence. The reader stands for the events before it, and the rest is of
+/// its side.
 pub(crate) fn push_said(
     alloc: Global,
     lines: &mut String,
@@ -106,13 +112,19 @@ pub(crate) fn push_said(
     rest: &[u8],
     found: &Found,
 ) -> Result<(), Memory>
-    ensures { OnOk result ((raw : Raw) (event : Event) (before : List Event) → StandsAfter events.now before → found.now.offence.event ≡ number_next before → Reads raw event
-        → IsOffending raw (terms_in events.now) (kept_of (terms_in events.now) before) found.now.offence.rule found.now.offending
+    ensures { OnOk result ((raw : Raw) (event : Event) (before : List Event)
+        → StandsAfter events.now before → found.now.offence.event ≡ number_next before
+        → Reads raw event
+        → IsOffending raw (terms_in events.now)
+        (kept_of (terms_in events.now) before) found.now.offence.rule found.now.offending
         → rule_at (terms_in events.now) before event ≡ Some found.now.offence.rule
         → (facts : List SpecFact)
         × ((rests : Rests) → ShowsFault rests found.now.offending rest.now
-        → AreTraced (AreFacts rests (terms_in events.now) (kept_of (terms_in events.now) before) raw event found.now.offence.rule) (terms_in events.now) before event found.now.offence.rule facts)
-        × (string_bytes lines.new ≡ string_bytes lines.old ++ (event_line found.now.offence.event raw ++ fact_lines facts))) }
+        → AreTraced (AreFacts rests (terms_in events.now)
+        (kept_of (terms_in events.now) before) raw event found.now.offence.rule)
+        (terms_in events.now) before event found.now.offence.rule facts)
+        × (string_bytes lines.new ≡ string_bytes lines.old
+        ++ (event_line found.now.offence.event raw ++ fact_lines facts))) }
 {
     let Found { offence, offending } = found;
     push_event(alloc, lines, offence.event, offending)?;
@@ -120,17 +132,19 @@ pub(crate) fn push_said(
     push_facts(alloc, lines, facts.as_slice())
 }
 
-/// The facts on how a session ends that breaks this rule: 107 has those on the rest of a side, 303 and 407
-/// those on what the session lacks. The reader stands for all its events.
+/// The facts on how a session ends that breaks this rule: 107 has those on the rest of a side, 303
+/// and 407 those on what the session lacks. The reader stands for all its events.
 fn end_facts(
     alloc: Global,
     events: &SurveyReader,
     rest: &[u8],
     rule: u16,
 ) -> Result<Vec<Fact>, Memory>
-    ensures { IfOk result (λ facts. (rests : Rests) (before : List Event) (who : Who) (number event : ℕ) → StandsAfter events.now before
+    ensures { IfOk result (λ facts. (rests : Rests) (before : List Event) (who : Who)
+        (number event : ℕ) → StandsAfter events.now before
         → rest.now ≡ rest_of rests (side_by who)
-        → facts_view facts.items ≡ end_facts rests (numbered (terms_in events.now) before) (no rule who number event)) }
+        → facts_view facts.items
+        ≡ end_facts rests (numbered (terms_in events.now) before) (no rule who number event)) }
 {
     if rule == ENDS_INSIDE {
         return unfinished_facts(alloc, rest);
@@ -138,8 +152,8 @@ fn end_facts(
     lack_traced(alloc, events)
 }
 
-/// Adds what is said of how a session ends. The reader stands for all its events, and the rest is of the
-/// side that it is said of.
+/// Adds what is said of how a session ends. The reader stands for all its events, and the rest is
+/// of the side that it is said of.
 pub(crate) fn push_end(
     alloc: Global,
     lines: &mut String,
@@ -149,7 +163,9 @@ pub(crate) fn push_end(
 ) -> Result<(), Memory>
     ensures { OnOk result ((rests : Rests) (before : List Event) → StandsAfter events.now before
         → rest.now ≡ rest_of rests (side_by end.now.who)
-        → string_bytes lines.new ≡ string_bytes lines.old ++ said_of (end_explained rests (numbered (terms_in events.now) before) (offence_view end.now).no)) }
+        → string_bytes lines.new ≡ string_bytes lines.old
+        ++ said_of (end_explained rests (numbered (terms_in events.now) before)
+        (offence_view end.now).no)) }
 {
     push_end_event(lines, end.event, end.who)?;
     let facts = end_facts(alloc, events, rest, end.rule)?;

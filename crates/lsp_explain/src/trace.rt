@@ -1,5 +1,7 @@
 //! Which event brought what: facts on an offence that name earlier events.
-ghost use Rattle.std.specs.Prelude.{◌≡◌, ◌≤◌, ◌++◌, ℕ, Some, chars, nat_lt, if◌then◌else◌, ◌∷◌, [], List, true, IfOk, OnOk, map, slice_get, vec_len, option_and_then};
+ghost use Rattle.std.specs.Prelude.{◌≡◌, ◌≤◌, ◌++◌, ℕ, Some, chars, nat_lt, if◌then◌else◌, ◌∷◌, []};
+ghost use Rattle.std.specs.Prelude.{List, true, IfOk, OnOk, map, slice_get, vec_len};
+ghost use Rattle.std.specs.Prelude.{option_and_then};
 ghost use Rattle.lsp_docs.specs.Calls.{Call, shows};
 ghost use Rattle.lsp_docs.specs.Terms.{Terms};
 ghost use Rattle.lsp_rpc.specs.View.{act_view, message_view};
@@ -14,7 +16,8 @@ ghost use Rattle.lsp_notes.specs.Marking.{number_next, steps, waiting_for};
 ghost use Rattle.lsp_notes.specs.Marks.{AreMarks};
 ghost use Rattle.lsp_notes.specs.SessionNoting.{AreNotes};
 ghost use Rattle.lsp_facts.specs.EventFacts.{AreCallFacts, AreMessageFacts};
-ghost use Rattle.lsp_facts.specs.Fact.{answered_by, asked_by, fact_view, facts_view, led_by, shown_by};
+ghost use Rattle.lsp_facts.specs.Fact.{answered_by, asked_by, fact_view, facts_view, led_by};
+ghost use Rattle.lsp_facts.specs.Fact.{shown_by};
 ghost use Rattle.lsp_facts.specs.MessageFacts.{id_in};
 ghost use Rattle.lsp_facts.specs.Refuting.{refuting};
 ghost use Rattle.lsp_explain.specs.Standing.{StandsAfter, terms_in};
@@ -44,9 +47,13 @@ pub(crate) fn message_traced(
     spoken: &Spoken,
     rule: u16,
 ) -> Result<Vec<Fact>, Memory>
-    ensures { IfOk result (λ facts. (content : List ℕ) (before : List Event) → StandsAfter events.now before
-        → (refused : RefusesMessage side content (message_view spoken.now.message) (act_view spoken.now.act) (terms_in events.now) (kept_of (terms_in events.now) before) rule)
-        → spec.AreTraced (AreMessageFacts (terms_in events.now) (kept_of (terms_in events.now) before) refused.sent rule)
+    ensures { IfOk result (λ facts. (content : List ℕ) (before : List Event)
+        → StandsAfter events.now before
+        → (refused : RefusesMessage side content (message_view spoken.now.message)
+        (act_view spoken.now.act) (terms_in events.now)
+        (kept_of (terms_in events.now) before) rule)
+        → spec.AreTraced (AreMessageFacts (terms_in events.now)
+        (kept_of (terms_in events.now) before) refused.sent rule)
         (terms_in events.now) before (message refused.sent) rule (facts_view facts.items)) }
 {
     let session = events.session();
@@ -66,10 +73,15 @@ pub(crate) fn shown_traced(
     text: &str,
     rule: u16,
 ) -> Result<Vec<Fact>, Memory>
-    ensures { IfOk result (λ facts. (before : List Event) → StandsAfter events.now before → number ≡ number_next before
-        → rule_at (terms_in events.now) before (snapshot uri.now version (chars text.now)) ≡ Some rule
-        → spec.AreTraced (AreCallFacts (terms_in events.now) (kept_of (terms_in events.now) before) rule (Some (shows uri.now version (chars text.now))))
-        (terms_in events.now) before (snapshot uri.now version (chars text.now)) rule (facts_view facts.items)) }
+    ensures { IfOk result (λ facts. (before : List Event) → StandsAfter events.now before
+        → number ≡ number_next before
+        → rule_at (terms_in events.now) before (snapshot uri.now version (chars text.now))
+        ≡ Some rule
+        → spec.AreTraced (AreCallFacts (terms_in events.now)
+        (kept_of (terms_in events.now) before) rule
+        (Some (shows uri.now version (chars text.now))))
+        (terms_in events.now) before (snapshot uri.now version (chars text.now)) rule
+        (facts_view facts.items)) }
 {
     let session = events.session();
     let mut facts = shown_facts(alloc, session, events.docs(), version, uri, text, rule)?;
@@ -77,8 +89,8 @@ pub(crate) fn shown_traced(
     Ok(facts)
 }
 
-/// Adds to the facts on a message of a side that breaks this rule the events that brought it. The reader
-/// stands for the events before it.
+/// Adds to the facts on a message of a side that breaks this rule the events that brought it. The
+/// reader stands for the events before it.
 fn trace_spoken(
     alloc: Global,
     facts: &mut Vec<Fact>,
@@ -89,8 +101,11 @@ fn trace_spoken(
 ) -> Result<(), Memory>
     ensures { OnOk result ((before : List Event) → StandsAfter events.now before
         → facts_view facts.new.items ≡ (if nat_lt rule 601
-        then facts_view facts.old.items ++ spec.session_trace rule (numbered (terms_in events.now) before) side (id_in (message_view spoken.now.message))
-        else spec.call_traced (terms_in events.now) before rule (spec.act_call (terms_in events.now) before (act_view spoken.now.act)) (facts_view facts.old.items))) }
+        then facts_view facts.old.items ++ spec.session_trace rule
+        (numbered (terms_in events.now) before) side (id_in (message_view spoken.now.message))
+        else spec.call_traced (terms_in events.now) before rule
+        (spec.act_call (terms_in events.now) before (act_view spoken.now.act))
+        (facts_view facts.old.items))) }
 {
     if rule < FIRST_ON_DOCUMENTS {
         let said = events.session_notes();
@@ -100,8 +115,8 @@ fn trace_spoken(
 }
 
 /// Adds to the facts on an act that breaks this rule on documents the event that brought the held
-/// version; under 702 the snapshots that wait for the version in it and have another text; under 608 and
-/// 702 the snapshot that was found equal last.
+/// version; under 702 the snapshots that wait for the version in it and have another text; under
+/// 608 and 702 the snapshot that was found equal last.
 fn trace_act(
     alloc: Global,
     facts: &mut Vec<Fact>,
@@ -110,7 +125,9 @@ fn trace_act(
     rule: u16,
 ) -> Result<(), Memory>
     ensures { OnOk result ((before : List Event) → StandsAfter events.now before
-        → facts_view facts.new.items ≡ spec.call_traced (terms_in events.now) before rule (spec.act_call (terms_in events.now) before (act_view act.now))
+        → facts_view facts.new.items
+        ≡ spec.call_traced (terms_in events.now) before rule
+        (spec.act_call (terms_in events.now) before (act_view act.now))
         (facts_view facts.old.items)) }
 {
     match act {
@@ -138,8 +155,10 @@ fn trace_text(
 ) -> Result<(), Memory>
     ensures { OnOk result ((before : List Event) (call : Call) → StandsAfter events.now before
         → spec.act_call (terms_in events.now) before (act_view act.now) ≡ Some call
-        → facts_view facts.new.items ≡ spec.document_traced (steps (terms_in events.now) uri.now before)
-        (refuting (terms_in events.now) (calls (kept_of (terms_in events.now) before)) call (waiting_for version (steps (terms_in events.now) uri.now before)))
+        → facts_view facts.new.items
+        ≡ spec.document_traced (steps (terms_in events.now) uri.now before)
+        (refuting (terms_in events.now) (calls (kept_of (terms_in events.now) before)) call
+        (waiting_for version (steps (terms_in events.now) uri.now before)))
         rule (facts_view facts.old.items)) }
 {
     let marks = events.marks();
@@ -160,15 +179,18 @@ fn trace_snapshot(
     uri: &str,
     rule: u16,
 ) -> Result<(), Memory>
-    ensures { OnOk result ((terms : Terms) (before : List Event) → AreMarks terms marks.now.map.entries before
-        → facts_view facts.new.items ≡ spec.document_traced (steps terms uri.now before) (event ∷ []) rule (facts_view facts.old.items)) }
+    ensures { OnOk result ((terms : Terms) (before : List Event)
+        → AreMarks terms marks.now.map.entries before
+        → facts_view facts.new.items
+        ≡ spec.document_traced (steps terms uri.now before) (event ∷ []) rule
+        (facts_view facts.old.items)) }
 {
     trace_document(facts, marks, uri, &[event], rule)
 }
 
-/// Adds to the facts on a message of a side that breaks this rule, 301 to 504, under 301 and 302 the
-/// event that answered a request of its id before, under 302 also the one that asked the request that is
-/// open, under 401 to 412 the one that led to the phase.
+/// Adds to the facts on a message of a side that breaks this rule, 301 to 504, under 301 and 302
+/// the event that answered a request of its id before, under 302 also the one that asked the
+/// request that is open, under 401 to 412 the one that led to the phase.
 fn trace_message(
     facts: &mut Vec<Fact>,
     said: &SessionNotes,
@@ -177,7 +199,9 @@ fn trace_message(
     rule: u16,
 ) -> Result<(), Memory>
     ensures { OnOk result ((terms : Terms) (before : List Event) → AreNotes terms said.now before
-        → facts_view facts.new.items ≡ facts_view facts.old.items ++ spec.session_trace rule (numbered terms before) side (id_in (message_view message.now))) }
+        → facts_view facts.new.items ≡ facts_view facts.old.items
+        ++ spec.session_trace rule (numbered terms before) side
+        (id_in (message_view message.now))) }
 {
     match rule {
         301 => push_answered(facts, answered(said, other_side(side), message)),
@@ -193,7 +217,8 @@ fn trace_message(
 /// The event that answered a request of this side with the id of a message last.
 fn answered(said: &SessionNotes, side: Side, message: &Message) -> Option<u64>
     ensures { (terms : Terms) (before : List Event) → AreNotes terms said.now before
-        → result ≡ option_and_then (λ id. answered side id (numbered terms before)) (id_in (message_view message.now)) }
+        → result ≡ option_and_then
+        (λ id. answered side id (numbered terms before)) (id_in (message_view message.now)) }
 {
     match id_in(message) {
         Some(id) => said.answered(side, id),
@@ -204,7 +229,8 @@ fn answered(said: &SessionNotes, side: Side, message: &Message) -> Option<u64>
 /// The event that asked the open request of this side with the id of a message.
 fn asked(said: &SessionNotes, side: Side, message: &Message) -> Option<u64>
     ensures { (terms : Terms) (before : List Event) → AreNotes terms said.now before
-        → result ≡ option_and_then (λ id. asked side id (numbered terms before)) (id_in (message_view message.now)) }
+        → result ≡ option_and_then
+        (λ id. asked side id (numbered terms before)) (id_in (message_view message.now)) }
 {
     match id_in(message) {
         Some(id) => said.asked(side, id),
@@ -229,8 +255,11 @@ fn trace_document(
     snapshots: &[u64],
     rule: u16,
 ) -> Result<(), Memory>
-    ensures { OnOk result ((terms : Terms) (before : List Event) → AreMarks terms marks.now.map.entries before
-        → facts_view facts.new.items ≡ spec.document_traced (steps terms uri.now before) snapshots.now rule (facts_view facts.old.items)) }
+    ensures { OnOk result ((terms : Terms) (before : List Event)
+        → AreMarks terms marks.now.map.entries before
+        → facts_view facts.new.items
+        ≡ spec.document_traced (steps terms uri.now before) snapshots.now rule
+        (facts_view facts.old.items)) }
 {
     put_brought(facts, marks.brought(uri))?;
     push_texts(facts, marks.agreed(uri), snapshots, rule)
@@ -238,7 +267,8 @@ fn trace_document(
 
 /// Puts the event that brought the held version behind that version.
 fn put_brought(facts: &mut Vec<Fact>, brought: Option<u64>) -> Result<(), Memory>
-    ensures { OnOk result (facts_view facts.new.items ≡ spec.with_brought brought (facts_view facts.old.items)) }
+    ensures { OnOk result (facts_view facts.new.items
+        ≡ spec.with_brought brought (facts_view facts.old.items)) }
 {
     let Some(event) = brought else {
         return Ok(());
@@ -267,7 +297,8 @@ fn push_texts(
     snapshots: &[u64],
     rule: u16,
 ) -> Result<(), Memory>
-    ensures { OnOk result (facts_view facts.new.items ≡ facts_view facts.old.items ++ spec.texts_traced agreed snapshots.now rule) }
+    ensures { OnOk result (facts_view facts.new.items ≡ facts_view facts.old.items
+        ++ spec.texts_traced agreed snapshots.now rule) }
 {
     if rule == SNAPSHOT_DIFFERS {
         push_snapshots(facts, snapshots)?;
@@ -280,7 +311,8 @@ fn push_texts(
 }
 
 fn push_snapshots(facts: &mut Vec<Fact>, snapshots: &[u64]) -> Result<(), Memory>
-    ensures { OnOk result (facts_view facts.new.items ≡ facts_view facts.old.items ++ map shown_by snapshots.now) }
+    ensures { OnOk result (facts_view facts.new.items ≡ facts_view facts.old.items
+        ++ map shown_by snapshots.now) }
 {
     for event in snapshots {
         facts.push(Fact::Snapshot(*event))?;
@@ -289,7 +321,8 @@ fn push_snapshots(facts: &mut Vec<Fact>, snapshots: &[u64]) -> Result<(), Memory
 }
 
 fn push_agreed(facts: &mut Vec<Fact>, agreed: Option<Shown>) -> Result<(), Memory>
-    ensures { OnOk result (facts_view facts.new.items ≡ facts_view facts.old.items ++ spec.agreed_facts agreed) }
+    ensures { OnOk result (facts_view facts.new.items ≡ facts_view facts.old.items
+        ++ spec.agreed_facts agreed) }
 {
     let Some(Shown { event, version }) = agreed else {
         return Ok(());
@@ -298,7 +331,8 @@ fn push_agreed(facts: &mut Vec<Fact>, agreed: Option<Shown>) -> Result<(), Memor
 }
 
 fn push_answered(facts: &mut Vec<Fact>, event: Option<u64>) -> Result<(), Memory>
-    ensures { OnOk result (facts_view facts.new.items ≡ facts_view facts.old.items ++ spec.number_facts answered_by event) }
+    ensures { OnOk result (facts_view facts.new.items ≡ facts_view facts.old.items
+        ++ spec.number_facts answered_by event) }
 {
     let Some(event) = event else {
         return Ok(());
@@ -307,7 +341,8 @@ fn push_answered(facts: &mut Vec<Fact>, event: Option<u64>) -> Result<(), Memory
 }
 
 fn push_asked(facts: &mut Vec<Fact>, event: Option<u64>) -> Result<(), Memory>
-    ensures { OnOk result (facts_view facts.new.items ≡ facts_view facts.old.items ++ spec.number_facts asked_by event) }
+    ensures { OnOk result (facts_view facts.new.items ≡ facts_view facts.old.items
+        ++ spec.number_facts asked_by event) }
 {
     let Some(event) = event else {
         return Ok(());
@@ -316,7 +351,8 @@ fn push_asked(facts: &mut Vec<Fact>, event: Option<u64>) -> Result<(), Memory>
 }
 
 fn push_since(facts: &mut Vec<Fact>, event: Option<u64>) -> Result<(), Memory>
-    ensures { OnOk result (facts_view facts.new.items ≡ facts_view facts.old.items ++ spec.number_facts led_by event) }
+    ensures { OnOk result (facts_view facts.new.items ≡ facts_view facts.old.items
+        ++ spec.number_facts led_by event) }
 {
     let Some(event) = event else {
         return Ok(());
@@ -324,9 +360,9 @@ fn push_since(facts: &mut Vec<Fact>, event: Option<u64>) -> Result<(), Memory>
     Ok(facts.push(Fact::Since(event))?)
 }
 
-/// What is said of a session that ends where it lacks something: the requests of the editor's that wait,
-/// in order of asking, with the events that asked them; how far the session has come, and the event that
-/// led there. The reader stands for all its events.
+/// What is said of a session that ends where it lacks something: the requests of the editor's that
+/// wait, in order of asking, with the events that asked them; how far the session has come, and the
+/// event that led there. The reader stands for all its events.
 ///
 /// # Errors
 /// `Memory` where memory was refused.
@@ -344,7 +380,8 @@ pub(crate) fn lack_traced(alloc: Global, events: &SurveyReader) -> Result<Vec<Fa
 
 /// The requests that wait, with the events that asked them.
 fn requests(alloc: Global, pending: &Pending, said: &SessionNotes) -> Result<Vec<Fact>, Memory>
-    ensures { IfOk result (λ facts. (terms : Terms) (before : List Event) → AreNotes terms said.now before
+    ensures { IfOk result (λ facts. (terms : Terms) (before : List Event)
+        → AreNotes terms said.now before
         → facts_view facts.items ≡ map (spec.waiting_by (numbered terms before)) pending.now) }
 {
     let mut facts = Vec::new(alloc);
@@ -356,7 +393,8 @@ fn requests(alloc: Global, pending: &Pending, said: &SessionNotes) -> Result<Vec
 }
 
 fn request_by(alloc: Global, request: &OpenRequest, said: &SessionNotes) -> Result<Fact, Memory>
-    ensures { IfOk result (λ fact. (terms : Terms) (before : List Event) → AreNotes terms said.now before
+    ensures { IfOk result (λ fact. (terms : Terms) (before : List Event)
+        → AreNotes terms said.now before
         → fact_view fact ≡ spec.waiting_by (numbered terms before) (request_view request.now)) }
 {
     let id = copy_id(&request.id)?;

@@ -3,8 +3,6 @@ pub mod Hearing
 pub mod OkParts
 pub mod FrameRules
 pub mod Rests
-pub mod Streaming
-pub mod Taking
 pub mod Ending
 pub mod Reading
 pub mod LogEnds

@@ -1,4 +1,4 @@
 pub mod Walking
-pub mod Surveys
+pub mod Ending
 pub mod Reads
 pub mod Reported

@@ -1,7 +1,7 @@
-use Rattle.std.proofs.Common.{ap, subst, ◌∙◌, ◌++◌, string_bytes}
+use Rattle.std.proofs.Common.{ap, subst, sym, ◌∙◌, ◌++◌, string_bytes}
 use Rattle.lsp_verdict.specs.Report.{report}
 use Rattle.lsp_facts.specs.Lines.{event_line, fact_lines}
-use Rattle.lsp_survey.specs.Surveys.{ShowsFront, stream_of}
+use Rattle.lsp_survey.specs.Reads.{IsBroken, ShowsFront}
 use Rattle.lsp_explain.proofs.Telling.{SeenOf, tells}
 use Rattle.lsp_explain.proofs.run.explain_found.Goals as goal
 
@@ -10,11 +10,14 @@ returns c =
     let found = c.args.found.now in
     let said = string_bytes c.push_said.new.lines in
     let text =
-    c.in_ok-push_str.ensures.bytes ∙ ap (λ w. string_bytes c.in_ok-text.text ++ w) c.as_str.ensures.value
+    c.in_ok-push_str.ensures.bytes
+    ∙ ap (λ w. string_bytes c.in_ok-text.text ++ w) c.as_str.ensures.value
     ∙ ap (λ w. w ++ said) (c.in_ok-text.ensures ∙ ap report c.verdict-verdict.ensures) in
-    let seen : SeenOf c.args.events.now found c.rest-rest.result.now = λ limits start now past notes prior so ended.
+    let seen : SeenOf c.args.events.now found c.rest-rest.result.now =
+    λ limits start now past notes prior so ended.
     subst (λ s. ShowsFront limits s so.records c.rest-rest.result.now) c.side_of.ensures
-    (c.rest-rest.ensures.broken limits start now past notes prior so (ap (λ s. (stream_of c.args.events.now.survey s).ended) c.side_of.ensures ∙ ended)) in
+    (c.rest-rest.ensures.broken limits start now past notes prior so
+    (subst (IsBroken c.args.events.now) (sym c.side_of.ensures) ended)) in
     tells c.args.events.now found _ c.rest-rest.result.now said text c.verdict-verdict.ensures
     (λ raw event before stands number reads is offends.
     let r = c.in_ok-push_said.ensures raw event before stands number reads is offends in

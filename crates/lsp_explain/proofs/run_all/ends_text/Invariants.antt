@@ -14,6 +14,10 @@ use Rattle.lsp_explain.proofs.run_all.ends_text.Given as goal
 
 abbrev pub invariant-loop-offence : goal.invariant-loop-offence
 invariant-loop-offence l = record {
-  tally : (found : List Offence) → IsTally l.fn.tally found → IsTally l.tally (found ++ map offence_view (take l.offence-index l.listed));
-  text : (before : List Event) → StandsAfter l.events before → string_bytes l.text ≡ flat_map cause_lines (ends_said (rests_held l.events) (numbered (terms_in l.events) before) (take l.offence-index l.listed));
+  tally : (found : List Offence) → IsTally l.fn.tally found
+      → IsTally l.tally (found ++ map offence_view (take l.offence-index l.listed));
+  text : (before : List Event) → StandsAfter l.events before
+      → string_bytes l.text ≡ flat_map cause_lines
+      (ends_said (rests_held l.events) (numbered (terms_in l.events) before)
+      (take l.offence-index l.listed));
 }

@@ -19,12 +19,19 @@ returns c = λ before stands.
     let e = c.args.events.now in
     let terms = terms_in e in
     let said = numbered terms before in
-    let noted = subst (λ (s : SessionNotes). AreNotes terms s before) (sym c.session_notes-said.ensures) stands.noted in
-    let sent = subst (λ (ms : List Sent). Stands c.session-session.result.now ms) (sym (sents-numbered terms before)) (subst (λ s. Stands s (sent_in (kept_of terms before))) (sym c.session-session.ensures) stands.holds.sent) in
-    let asked = c.in_ok-facts.ensures terms before noted ∙ ap (map (waiting_by said)) (c.pending.ensures (sents said) sent) in
+    let noted = subst (λ (s : SessionNotes). AreNotes terms s before)
+    (sym c.session_notes-said.ensures) stands.noted in
+    let sent = subst (λ (ms : List Sent). Stands c.session-session.result.now ms)
+    (sym (sents-numbered terms before))
+    (subst (λ s. Stands s (sent_in (kept_of terms before))) (sym c.session-session.ensures)
+    stands.holds.sent) in
+    let asked = c.in_ok-facts.ensures terms before noted
+    ∙ ap (map (waiting_by said)) (c.pending.ensures (sents said) sent) in
     let phase = c.phase.ensures (sents said) sent in
     c.in_ok-push_since.ensures
-    ∙ ap (λ (o : Option ℕ). facts_view c.push.new.self.items ++ number_facts led_by o) (c.since.ensures terms before noted)
+    ∙ ap (λ (o : Option ℕ). facts_view c.push.new.self.items ++ number_facts led_by o)
+    (c.since.ensures terms before noted)
     ∙ ap (λ (l : List Fact). l ++ number_facts led_by (since said))
-    (ap facts_view c.in_ok-push.ensures.items ∙ map-append fact_view c.in_ok-facts.facts.items _ ∙ (λ i. asked i ++ in_phase (phase i) ∷ []))
+    (ap facts_view c.in_ok-push.ensures.items ∙ map-append fact_view c.in_ok-facts.facts.items _
+    ∙ (λ i. asked i ++ in_phase (phase i) ∷ []))
     ∙ append_assoc _ _ (number_facts led_by (since said))

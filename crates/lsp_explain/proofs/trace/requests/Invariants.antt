@@ -8,4 +8,6 @@ use Rattle.lsp_explain.specs.Traced.{waiting_by}
 use Rattle.lsp_explain.proofs.trace.requests.Given as goal
 
 abbrev pub invariant-loop-index : goal.invariant-loop-index
-invariant-loop-index l = (terms : Terms) (before : List Event) → AreNotes terms l.said before → facts_view l.facts.items ≡ map (waiting_by (numbered terms before)) (take l.index l.pending)
+invariant-loop-index l =
+    (terms : Terms) (before : List Event) → AreNotes terms l.said before
+    → facts_view l.facts.items ≡ map (waiting_by (numbered terms before)) (take l.index l.pending)

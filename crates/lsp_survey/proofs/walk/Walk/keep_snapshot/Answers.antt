@@ -8,4 +8,6 @@ pub returns-clause-marked : goal.returns-clause-marked
 returns-clause-marked c =
     let fits : SFits w32 c.args.version = c.ranges.version in
     let shown = simp to_z-of_z at c.in_ok-keep_snapshot.ensures in
-    λ events counts. subst (λ (n : ℕ). ShownBy n c.args.uri.now c.args.version c.args.answer c.args.self.now.marks.map.entries c.keep_snapshot.new.self.map.entries) (c.number_next-number.ensures events counts) shown
+    λ events counts. subst (λ (n : ℕ). ShownBy n c.args.uri.now c.args.version c.args.answer
+    c.args.self.now.marks.map.entries c.keep_snapshot.new.self.map.entries)
+    (c.number_next-number.ensures events counts) shown

@@ -17,9 +17,12 @@ returns-clause-said c =
     let number = c.number_next-number.ensures events counts in
     let behind = c.phase-phase.ensures sents stands in
     record {
-      editor = subst (λ (n : ℕ). Exchanges Editor n c.args.side said old.editor new.editor) number editor;
-      server = subst (λ (n : ℕ). Exchanges Server n c.args.side said old.server new.server) number server;
+      editor = subst (λ (n : ℕ). Exchanges Editor n c.args.side said old.editor new.editor) number
+          editor;
+      server = subst (λ (n : ℕ). Exchanges Server n c.args.side said old.server new.server) number
+          server;
       phase_is = c.keep.ensures.phase ∙ behind;
-      since_is = c.keep.ensures.since ∙ (λ i. unwrap_or (leads (number i) old.phase (behind i)) old.since);
+      since_is = c.keep.ensures.since ∙ (λ i.
+          unwrap_or (leads (number i) old.phase (behind i)) old.since);
     })
     c.keep.ensures.editor c.keep.ensures.server
