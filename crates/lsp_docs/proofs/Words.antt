@@ -1,5 +1,5 @@
 -- Small lemmas on Booleans, lists and counts.
-use Rattle.std.proofs.Common.{◌≡◌, Option, Some, None, ℕ, List, [], ◌∷◌, map, inl, inr, Bool, true, false, ◌||◌, refl, sym, ap, ◌∙◌, filter, arith, ◌+◌, ◌&&◌}
+use Rattle.std.proofs.Common.{◌≡◌, Option, Some, None, is_some, true≢false, ℕ, List, [], ◌∷◌, map, inl, inr, Bool, true, false, ◌||◌, refl, sym, ap, ◌∙◌, filter, arith, ◌+◌, ◌&&◌}
 use Rattle.std.proofs.lemmas.Int.{ints}
 use Rattle.std.specs.Prelude.{ℤ, int_lt, min, ◌-◌, ◌^◌, option_map}
 use Rattle.std.specs.List.{list_any}
@@ -77,3 +77,7 @@ int_is m n h = (Decides-int_eq m n).0 h
 pub unchanged : {A : Type 0} (o : Option A) → option_or (option_map (λ v. v) o) None ≡ o
 unchanged None = refl
 unchanged (Some v) = refl
+
+pub no_some : {A : Type 0} (o : Option A) → is_some o ≡ false → o ≡ None
+no_some None h = refl
+no_some (Some x) h = absurd (true≢false h)

@@ -5,8 +5,7 @@ ghost use Rattle.lsp_session.specs.Entry.{request_view, has_id, IdsDiffer, entry
 ghost use Rattle.lsp_session.specs.Refusal.{Names};
 
 use crate::refusal::Refusal;
-use indexmap::IndexMap;
-use lsp_order::Order;
+use lsp_order::OrderedMap;
 use lsp_rpc::{Id, Memory, copy_id};
 use std::alloc::Global;
 use std::marker::Model;
@@ -25,22 +24,18 @@ pub struct OpenRequest {
 /// The open requests of one side, in the order in which they were asked. Contracts see the list.
 #[derive(Drop)]
 pub struct Pending {
-    /// The ids in the order of asking, since a map that keeps an order moves all entries behind one
-    /// that it gives away.
-    order: Order<Id>,
-    requests: IndexMap<Id, OpenRequest>,
+    requests: OrderedMap<Id, OpenRequest>,
 }
 
 impl Model for Pending {
     ghost use Rattle.std.specs.Prelude.{List};
-    ghost use Rattle.lsp_session.specs.Entry.{Entry};
-    ghost use Rattle.lsp_session.specs.Held.{entries_of, request_of, IsHeld};
+    ghost use Rattle.lsp_session.specs.Entry.{Entry, entries_in, AllNamed};
 
     ghost Value = { List Entry };
 
-    ghost view = { λ p. entries_of p.order (request_of p.requests.entries) };
+    ghost view = { λ p. entries_in p.requests };
 
-    ghost invariant = { λ p. IsHeld p.order (request_of p.requests.entries) };
+    ghost invariant = { λ p. AllNamed p.requests };
 }
 
 fn new_request(alloc: Global, id: &Id, method: &str) -> Result<OpenRequest, Memory>
@@ -60,8 +55,7 @@ impl Pending {
         ensures { result ≡ [] }
     {
         Pending {
-            order: Order::new(alloc),
-            requests: IndexMap::new(alloc),
+            requests: OrderedMap::new(alloc),
         }
     }
 
@@ -70,7 +64,7 @@ impl Pending {
         ensures count { result ≡ length self.now }
         ensures differ { IdsDiffer self.now }
     {
-        self.order.len()
+        self.requests.len()
     }
 
     /// The open request at this index, the one asked first at 0.
@@ -78,8 +72,8 @@ impl Pending {
         ensures { option_map (λ request. request_view request.now) result
             ≡ slice_get self.now index }
     {
-        let id = self.order.at(index)?;
-        self.requests.get(id)
+        let (_, request) = self.requests.at(index)?;
+        Some(request)
     }
 
     pub(crate) fn contains(&self, id: &Id) -> bool
@@ -101,15 +95,9 @@ impl Pending {
         if self.contains(id) {
             return Err(Refusal::Rule(302));
         }
-        let last = copy_id(id)?;
-        let same = copy_id(id)?;
         let key = copy_id(id)?;
-        let request = new_request(*self.requests.allocator(), id, method)?;
-        self.order.push(last, same)?;
-        let Ok(_) = self.requests.insert(key, request) else {
-            self.order.remove(id);
-            return Err(Refusal::Memory);
-        };
+        let request = new_request(self.requests.allocator(), id, method)?;
+        self.requests.push(key, request)?;
         Ok(())
     }
 
@@ -134,9 +122,7 @@ impl Pending {
         ensures found { option_map request_view result ≡ entry_of (id_view id.now) self.old }
         ensures left { self.new ≡ without (id_view id.now) self.old }
     {
-        let request = self.requests.swap_remove(id)?;
-        self.order.remove(id);
-        Some(request)
+        self.requests.remove(id)
     }
 
     /// Makes ready for a walk over all open requests: after it, until one is answered, [`Pending::at`]
@@ -144,6 +130,6 @@ impl Pending {
     pub fn pack(&mut self)
         ensures { self.new ≡ self.old }
     {
-        self.order.pack();
+        self.requests.pack();
     }
 }
