@@ -1,12 +1,14 @@
 //! The documents that are open, in order of opening.
 
-ghost use Rattle.std.specs.Prelude.{◌≡◌, [], ◌++◌, ◌∷◌, None, true, false, length, map, slice_get, is_some, IfErr, OnOk, OnErr, option_map};
+ghost use Rattle.std.specs.Prelude.{◌≡◌, [], ◌++◌, ◌∷◌, None, true, false, length, map, slice_get};
+ghost use Rattle.std.specs.Prelude.{is_some, IfErr, OnOk, OnErr, option_map};
 ghost use Rattle.lsp_text.specs.Changes.{edit_of};
 ghost use Rattle.lsp_text.specs.Edits.{applied};
 ghost use Rattle.lsp_docs.specs.Documents.{versioned};
 ghost use Rattle.lsp_docs.specs.Fault.{Breaks};
 ghost use Rattle.lsp_docs.specs.Opened.{IsSet, or_nothing};
-ghost use Rattle.lsp_docs.specs.State.{KeepsNone, KeepsOn, KeepsSame, held_in, kept_in, set_in, text_in, without};
+ghost use Rattle.lsp_docs.specs.State.{KeepsNone, KeepsOn, KeepsSame, held_in, kept_in, set_in};
+ghost use Rattle.lsp_docs.specs.State.{text_in, without};
 
 use crate::document::Document;
 use crate::fault::DocFault;
@@ -57,7 +59,8 @@ impl<S: TextStore> OpenDocuments<S> {
 
     /// The URI at this place in order of opening, from 0.
     pub(crate) fn at(&self, index: usize) -> Option<&str>
-        ensures { option_map (λ uri. uri.now) result ≡ slice_get (map (λ h. h.uri) self.now.held) index }
+        ensures { option_map (λ uri. uri.now) result
+            ≡ slice_get (map (λ h. h.uri) self.now.held) index }
     {
         let (uri, _) = self.documents.at(index)?;
         Some(uri.as_str())
@@ -72,8 +75,11 @@ impl<S: TextStore> OpenDocuments<S> {
     }
 
     pub(crate) fn get(&self, uri: &str) -> Option<&Document<S>>
-        ensures held { option_map (λ d. versioned d.now.held.version (S.content d.now.held.store)) result ≡ held_in uri.now self.now.held }
-        ensures kept { or_nothing (option_map (λ d. d.now.kept) result) ≡ kept_in uri.now self.now.kept }
+        ensures held { option_map
+            (λ d. versioned d.now.held.version (S.content d.now.held.store)) result
+            ≡ held_in uri.now self.now.held }
+        ensures kept { or_nothing (option_map (λ d. d.now.kept) result)
+            ≡ kept_in uri.now self.now.kept }
     {
         self.documents.get_str(uri)
     }
@@ -111,8 +117,10 @@ impl<S: TextStore> OpenDocuments<S> {
         store: S,
     ) -> Result<(), AllocError>
         requires { is_some (held_in uri.now self.old.held) ≡ true }
-        ensures held { OnOk result (self.new.held ≡ set_in uri.now (versioned version (S.content store)) self.old.held) }
-        ensures kept { OnOk result (KeepsOn most uri.now (held_in uri.now self.old.held) self.old.kept self.new.kept) }
+        ensures held { OnOk result (self.new.held
+            ≡ set_in uri.now (versioned version (S.content store)) self.old.held) }
+        ensures kept { OnOk result
+            (KeepsOn most uri.now (held_in uri.now self.old.held) self.old.kept self.new.kept) }
         ensures err { OnErr result (self.new ≡ self.old) }
     {
         let document = self.documents.get_str_mut(uri).unwrap();
@@ -130,9 +138,12 @@ impl<S: TextStore> OpenDocuments<S> {
     ) -> Result<(), DocFault>
         requires { is_some (held_in uri.now self.old.held) ≡ true }
         ensures ok { OnOk result (IsSet self.old.held self.new.held uri.now version
-            (applied limit encoding (text_in (held_in uri.now self.old.held)) (edit_of change.now ∷ []))) }
+            (applied limit encoding (text_in (held_in uri.now self.old.held))
+            (edit_of change.now ∷ []))) }
         ensures kept { self.new.kept ≡ self.old.kept }
-        ensures fault { IfErr result (Breaks (applied limit encoding (text_in (held_in uri.now self.old.held)) (edit_of change.now ∷ []))) }
+        ensures fault { IfErr result
+            (Breaks (applied limit encoding (text_in (held_in uri.now self.old.held))
+            (edit_of change.now ∷ []))) }
         ensures err { OnErr result (self.new ≡ self.old) }
     {
         let document = self.documents.get_str_mut(uri).unwrap();

@@ -1,6 +1,7 @@
 //! The map: its entries, and the order in which their keys entered.
 
-ghost use Rattle.std.specs.Prelude.{◌≡◌, [], ◌++◌, ◌∷◌, length, is_some, slice_get, None, OnOk, OnErr, option_map};
+ghost use Rattle.std.specs.Prelude.{◌≡◌, [], ◌++◌, ◌∷◌, length, is_some, slice_get, None, OnOk};
+ghost use Rattle.std.specs.Prelude.{OnErr, option_map};
 ghost use Rattle.std.specs.Borrow.{sem};
 ghost use Rattle.std.specs.List.{IsDistinct};
 ghost use Rattle.std.specs.Map.{lookup, keys_of, remove_entry};
@@ -16,9 +17,9 @@ use std::alloc::{AllocError, Global};
 use std::hash::Hash;
 use std::marker::Model;
 
-/// A map that keeps its keys in the order in which they entered. A key enters at the end, and may leave
-/// at any time; what that costs does not depend on how many there are. Contracts see the list of the
-/// keys with their values.
+/// A map that keeps its keys in the order in which they entered. A key enters at the end, and may
+/// leave at any time; what that costs does not depend on how many there are. Contracts see the list
+/// of the keys with their values.
 #[derive(Drop)]
 pub struct OrderedMap<K: Eq + Hash, V> {
     /// The entries. Where one leaves, the last takes its place.
@@ -62,8 +63,8 @@ impl<K: Eq + Hash + Drop, V: Drop> OrderedMap<K, V> {
         self.entries.len()
     }
 
-    /// The key at this place in the order, from 0, and its value. Where keys have left since the map was
-    /// last packed, this goes past those before it, one by one.
+    /// The key at this place in the order, from 0, and its value. Where keys have left since the
+    /// map was last packed, this goes past those before it, one by one.
     pub fn at(&self, index: usize) -> Option<(&K, &V)>
         ensures { option_map deref_pair result ≡ slice_get self.now index }
     {
@@ -87,7 +88,8 @@ impl<K: Eq + Hash + Drop, V: Drop> OrderedMap<K, V> {
 
     /// The value of a key, to be written.
     pub fn get_mut(&mut self, key: &K) -> Option<&mut V>
-        ensures* writes_back { sem 𝓛 (lends_value K.row V.row K.Hash self.entry (K.eq key.now) result) }
+        ensures* writes_back { sem 𝓛
+            (lends_value K.row V.row K.Hash self.entry (K.eq key.now) result) }
         ensures value { option_copied_mut result ≡ lookup (K.eq key.now) self.old }
         ensures differ { IsDistinct K.eq (keys_of self.old) }
     {
@@ -117,8 +119,8 @@ impl<K: Eq + Hash + Drop, V: Drop> OrderedMap<K, V> {
         Some(value)
     }
 
-    /// Makes ready for a walk over all keys: after it, until one leaves, [`OrderedMap::at`] finds each at
-    /// once.
+    /// Makes ready for a walk over all keys: after it, until one leaves, [`OrderedMap::at`] finds
+    /// each at once.
     pub fn pack(&mut self)
         ensures { self.new ≡ self.old }
     {
@@ -136,7 +138,9 @@ impl<V: Drop> OrderedMap<String, V> {
 
     /// The value of a key, by its text, to be written.
     pub fn get_str_mut(&mut self, key: &str) -> Option<&mut V>
-        ensures* writes_back { sem 𝓛 (lends_value text_row V.row ⟦<String as Hash>⟧ self.entry (is_text key.now) result) }
+        ensures* writes_back { sem 𝓛
+            (lends_value text_row V.row ⟦<String as Hash>⟧ self.entry
+            (is_text key.now) result) }
         ensures value { option_copied_mut result ≡ lookup (is_text key.now) self.old }
         ensures differ { IsDistinct string_eq (keys_of self.old) }
     {

@@ -1,17 +1,18 @@
 //! The order in which the keys of a map entered it, by the places of their entries.
 
-ghost use Rattle.std.specs.Prelude.{◌≡◌, [], ◌++◌, ◌∷◌, ◌+◌, ◌-◌, ◌<◌, length, option_and_then, slice_get, vec_len, IfSome, OnOk, OnErr};
+ghost use Rattle.std.specs.Prelude.{◌≡◌, [], ◌++◌, ◌∷◌, ◌+◌, ◌-◌, ◌<◌, length, option_and_then};
+ghost use Rattle.std.specs.Prelude.{slice_get, vec_len, IfSome, OnOk, OnErr};
 ghost use Rattle.lsp_order.specs.Places.{places_in, refilled, without_place, AreTied, IsOrder};
 
 use std::alloc::{AllocError, Global};
 use std::marker::Model;
 
-/// The places of a map's entries, from 0 on, in the order in which their keys entered. Contracts see
-/// the list of the places.
+/// The places of a map's entries, from 0 on, in the order in which their keys entered. Contracts
+/// see the list of the places.
 #[derive(Drop)]
 pub(crate) struct Order {
-    /// The places in order. A key that leaves leaves its slot empty; the empty slots are given up once
-    /// more than half of all are empty.
+    /// The places in order. A key that leaves leaves its slot empty; the empty slots are given up
+    /// once more than half of all are empty.
     slots: Vec<Option<usize>>,
     /// The slot of each place.
     slot_of: Vec<usize>,
@@ -40,8 +41,8 @@ impl Order {
         }
     }
 
-    /// The place that stands here in the order, from 0. Where keys have left since the slots were last
-    /// packed, this looks through the slots in front of it.
+    /// The place that stands here in the order, from 0. Where keys have left since the slots were
+    /// last packed, this looks through the slots in front of it.
     pub(crate) fn at(&self, index: usize) -> Option<usize>
         ensures { result ≡ slice_get self.now index }
     {

@@ -1,7 +1,9 @@
 //! The requests of one side that wait for their responses (JSON-RPC 2.0, sections 4 and 5).
-ghost use Rattle.std.specs.Prelude.{None, IfErr, IfOk, ◌≡◌, ◌++◌, ◌∷◌, [], length, OnOk, OnErr, option_map, slice_get};
+ghost use Rattle.std.specs.Prelude.{None, IfErr, IfOk, ◌≡◌, ◌++◌, ◌∷◌, [], length, OnOk, OnErr};
+ghost use Rattle.std.specs.Prelude.{option_map, slice_get};
 ghost use Rattle.lsp_rpc.specs.Ident.{id_view};
-ghost use Rattle.lsp_session.specs.Entry.{request_view, has_id, IdsDiffer, entry_of, without, cancel, ask_rule, new_entry};
+ghost use Rattle.lsp_session.specs.Entry.{request_view, has_id, IdsDiffer, entry_of, without};
+ghost use Rattle.lsp_session.specs.Entry.{cancel, ask_rule, new_entry};
 ghost use Rattle.lsp_session.specs.Refusal.{Names};
 
 use crate::refusal::Refusal;
@@ -82,8 +84,8 @@ impl Pending {
         self.requests.contains_key(id)
     }
 
-    /// Adds a request at the end. Rule 302: one with this id is open. A refusal changes nothing, and
-    /// memory is asked for only where no request has the id.
+    /// Adds a request at the end. Rule 302: one with this id is open. A refusal changes nothing,
+    /// and memory is asked for only where no request has the id.
     pub fn ask(&mut self, id: &Id, method: &str) -> Result<(), Refusal>
         ensures added { OnOk result
             (self.new ≡ self.old ++ new_entry (id_view id.now) method.now ∷ []) }
@@ -125,8 +127,8 @@ impl Pending {
         self.requests.remove(id)
     }
 
-    /// Makes ready for a walk over all open requests: after it, until one is answered, [`Pending::at`]
-    /// finds each at once.
+    /// Makes ready for a walk over all open requests: after it, until one is answered,
+    /// [`Pending::at`] finds each at once.
     pub fn pack(&mut self)
         ensures { self.new ≡ self.old }
     {
