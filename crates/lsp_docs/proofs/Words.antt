@@ -11,14 +11,6 @@ use Rattle.std.proofs.lemmas.Slice.Eq.{bytes_eq-Decides}
 use Rattle.std.proofs.lemmas.Bool.{cases_Bool}
 use Rattle.lsp_docs.specs.State.{capped}
 
-pub filter-map : {A B : Type 0} (f : A → B) (p : B → Bool) (xs : List A) → map f (filter (λ x. p (f x)) xs) ≡ filter p (map f xs)
-filter-map f p [] = refl
-filter-map f p (x ∷ xs) =
-    elim (cases_Bool (p (f x))) [
-      | inl h ↦ rw h (ap (λ l. f x ∷ l) (filter-map f p xs))
-      | inr h ↦ rw h (filter-map f p xs)
-    ]
-
 pub filter-none : {A : Type 0} (xs : List A) → filter (λ _. false) xs ≡ []
 filter-none [] = refl
 filter-none (x ∷ xs) = filter-none xs

@@ -29,7 +29,7 @@ use crate::fault::{
 use crate::kind::fits_kind;
 use crate::opened::OpenDocuments;
 use crate::revision::has_text;
-use crate::snapshot::{Match, any_differs, any_is_not};
+use crate::snapshot::Match;
 use crate::waiting::Waiting;
 use lsp_frame::{Format, Limits};
 use lsp_text::{TextStore, change_all};
@@ -176,7 +176,10 @@ impl<S: TextStore> Docs<S> {
             → texts_of result.now ≡ texts_at version
             (versions_of uri.now (waiting self.now.terms calls)) }
     {
-        self.waiting.texts(uri, version)
+        match self.waiting.texts(uri, version) {
+            Some(texts) => texts.as_slice(),
+            None => &[],
+        }
     }
 
     /// How many snapshots may still be compared, at most 2^64 - 1.
@@ -402,7 +405,10 @@ impl<S: TextStore> Docs<S> {
         ensures { result ≡ list_any (differs (versioned version (chars text.now)))
             (queue_of uri.now self.now.waits.queues) }
     {
-        any_is_not(self.waiting.texts(uri, version), text)
+        match self.waiting.texts(uri, version) {
+            Some(texts) => texts.any_is_not(text),
+            None => false,
+        }
     }
 
     /// Whether a snapshot that waits for this version has another text.
@@ -410,7 +416,10 @@ impl<S: TextStore> Docs<S> {
         ensures { result ≡ list_any (differs (versioned version (S.content store.now)))
             (queue_of uri.now self.now.waits.queues) }
     {
-        any_differs(self.waiting.texts(uri, version), store)
+        match self.waiting.texts(uri, version) {
+            Some(texts) => texts.any_differs(store),
+            None => false,
+        }
     }
 
     /// The rule that a change breaks, whatever text it leads to.

@@ -1,15 +1,16 @@
 //! The snapshots of one URI that wait for their versions.
 
 ghost use Rattle.std.specs.Prelude.{◌≡◌, [], ◌++◌, ◌∷◌, None, true, length, filter, int_lt};
-ghost use Rattle.std.specs.Prelude.{if◌then◌else◌, IfOk, OnOk, OnErr};
+ghost use Rattle.std.specs.Prelude.{if◌then◌else◌, unwrap_or, IfOk, OnOk, OnErr};
 ghost use Rattle.std.specs.List.{list_any};
 ghost use Rattle.std.specs.Map.{lookup};
+ghost use Rattle.std.specs.Option.{option_copied};
 ghost use Rattle.std.specs.Ordering.{int_eq, int_cmp};
 ghost use Rattle.std.specs.BTreeMap.{IsOrdered};
 ghost use Rattle.lsp_docs.specs.Documents.{versioned, is_after, is_at, is_before};
 ghost use Rattle.lsp_docs.specs.Snapshots.{texts_at};
 ghost use Rattle.lsp_docs.specs.State.{SameOrder, SameVersions, capped};
-ghost use Rattle.lsp_docs.specs.Stored.{text_of, texts_of, versions_in, is_first_within, rest_of};
+ghost use Rattle.lsp_docs.specs.Stored.{text_of, versions_in, is_first_within, rest_of};
 ghost use Rattle.lsp_docs.specs.Stored.{first_before};
 
 use crate::snapshot::Texts;
@@ -89,13 +90,10 @@ impl SnapshotQueue {
     }
 
     /// The texts of those that wait for this version, in the order in which they came.
-    pub(crate) fn texts(&self, version: i32) -> &[String]
-        ensures { texts_of result.now ≡ texts_at version self.now }
+    pub(crate) fn texts(&self, version: i32) -> Option<&Texts>
+        ensures { unwrap_or (option_copied result) [] ≡ texts_at version self.now }
     {
-        match self.texts.get(&version) {
-            Some(texts) => texts.as_slice(),
-            None => &[],
-        }
+        self.texts.get(&version)
     }
 
     /// Lets go of those that wait no more at a version, and counts those of lesser ones, at most

@@ -1,6 +1,7 @@
 //! The snapshots that wait for their versions.
 
 ghost use Rattle.std.specs.Prelude.{◌≡◌, ◌+◌, [], length, filter, None, OnOk, OnErr, string_bytes};
+ghost use Rattle.std.specs.Prelude.{unwrap_or};
 ghost use Rattle.std.specs.List.{list_any};
 ghost use Rattle.std.specs.Map.{lookup};
 ghost use Rattle.std.specs.Option.{option_copied};
@@ -9,9 +10,10 @@ ghost use Rattle.lsp_docs.specs.Documents.{versioned, is_after, is_at, is_before
 ghost use Rattle.lsp_docs.specs.Snapshots.{texts_at};
 ghost use Rattle.lsp_docs.specs.State.{capped, queue_of, keep_in, IsAdded, IsReleased, total};
 ghost use Rattle.lsp_docs.specs.State.{reached, missed_one};
-ghost use Rattle.lsp_docs.specs.Stored.{text_of, texts_of, queues_in};
+ghost use Rattle.lsp_docs.specs.Stored.{text_of, queues_in};
 
 use crate::queue::SnapshotQueue;
+use crate::snapshot::Texts;
 use indexmap::IndexMap;
 use std::alloc::{AllocError, Global};
 use std::marker::Model;
@@ -57,12 +59,13 @@ impl Waiting {
 
     /// The texts of the snapshots of a URI that wait for this version, in the order in which they
     /// came.
-    pub(crate) fn texts(&self, uri: &str, version: i32) -> &[String]
-        ensures { texts_of result.now ≡ texts_at version (queue_of uri.now self.now.queues) }
+    pub(crate) fn texts(&self, uri: &str, version: i32) -> Option<&Texts>
+        ensures { unwrap_or (option_copied result) []
+            ≡ texts_at version (queue_of uri.now self.now.queues) }
     {
         match queue_for(&self.snapshots, uri) {
             Some(queue) => queue.texts(version),
-            None => &[],
+            None => None,
         }
     }
 
