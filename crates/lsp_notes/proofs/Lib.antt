@@ -1,4 +1,5 @@
 pub mod Noting
+pub mod Putting
 pub mod Exchanging
 pub mod Marking
 pub mod MarkSteps

@@ -10,9 +10,7 @@ use Rattle.lsp_docs.specs.Documents.{held}
 use Rattle.lsp_docs.specs.Kept.{kept}
 use Rattle.lsp_docs.specs.declared.snapshot.Match.{Match}
 use Rattle.lsp_docs.specs.declared.snapshot.Match.TheVariants.{Equal, Waits, Missed}
-use Rattle.lsp_docs.specs.Opened.{held_by}
 use Rattle.lsp_docs.specs.Terms.{Terms}
-use Rattle.lsp_docs.proofs.Entries.{PutsUnder}
 use Rattle.lsp_docs.proofs.Words.{uri_flip, uri_is}
 use Rattle.lsp_session.specs.Negotiation.{encoding, sync_kind}
 use Rattle.lsp_session.specs.Sent.{Sent}
@@ -23,11 +21,13 @@ use Rattle.lsp_types.specs.declared.position.Encoding.TheVariants.{Utf16}
 use Rattle.lsp_verdict.specs.Calls.{call_of, calls}
 use Rattle.lsp_verdict.specs.Event.{Event, message, snapshot, sent_in}
 use Rattle.lsp_verdict.specs.Offences.{kept_of, rule_at, said_at}
+use Rattle.lsp_notes.specs.ByUri.{held_by}
 use Rattle.lsp_notes.specs.Marking.{Step, touches, closed, shown_step, Marked, marked, unmarked, stepped, steps, step_at, step_by, step_of, number_next}
 use Rattle.lsp_notes.specs.Marks.{AreMarks, DoneBy, ShownBy, StepsOn, mark_view, marked_in}
 use Rattle.lsp_notes.specs.declared.mark.Mark.{Mark}
 use Rattle.lsp_notes.specs.declared.mark.Touch.TheVariants.{Reached, Compared, Awaited}
 use Rattle.lsp_notes.proofs.Marking.{marked-push, steps-push}
+use Rattle.lsp_notes.proofs.Putting.{PutsUnder}
 
 abbrev Entries : Type 0
 Entries = List (String Global × Mark)

@@ -6,11 +6,11 @@ use Rattle.std.specs.Str.{bytes_eq}
 use Rattle.std.proofs.lemmas.Bool.Decides.{nat_tests}
 use Rattle.std.proofs.Common.{arith, ◌<◌, ◌≡◌, ℕ, Bool, true, false, List, [], ◌∷◌, Option, Some, None, refl, sym, ap, ◌∙◌}
 use Rattle.lsp_docs.specs.Calls.{Call, uri_of, changes as changes_by}
-use Rattle.lsp_docs.specs.Opened.{held_by}
-use Rattle.lsp_docs.proofs.Entries.{PutsUnder}
 use Rattle.lsp_rpc.specs.View.{changes_view}
+use Rattle.lsp_notes.specs.ByUri.{held_by}
 use Rattle.lsp_notes.specs.Notes.{nothing, note_in, SetsNote, AreAfter}
 use Rattle.lsp_notes.specs.declared.note.Note.{Note}
+use Rattle.lsp_notes.proofs.Putting.{PutsUnder}
 use Rattle.lsp_text.specs.Edits.{Edit}
 use Rattle.lsp_types.specs.declared.change.Change.{Change}
 use Rattle.lsp_types.specs.declared.change.SyncKind.{SyncKind}

@@ -1,3 +1,4 @@
+pub mod ByUri
 pub mod Notes
 pub mod Asking
 pub mod Marking

@@ -8,9 +8,9 @@ use Rattle.std.specs.declared.vec.Vec.{Vec}
 use Rattle.lsp_docs.specs.Calls.{Call, opens, changes, closes, saves, shows}
 use Rattle.lsp_docs.specs.declared.snapshot.Match.{Match}
 use Rattle.lsp_docs.specs.declared.snapshot.Match.TheVariants.{Equal, Waits, Missed}
-use Rattle.lsp_docs.specs.Opened.{held_by}
 use Rattle.lsp_docs.specs.Terms.{Terms}
 use Rattle.lsp_verdict.specs.Event.{Event}
+use Rattle.lsp_notes.specs.ByUri.{held_by}
 use Rattle.lsp_notes.specs.Marking.{Step, touches, closed, Marked, marked, unmarked, stepped, steps}
 use Rattle.lsp_notes.specs.declared.mark.Mark.{Mark}
 use Rattle.lsp_notes.specs.declared.mark.Touch.TheVariants.{Reached, Compared, Awaited}

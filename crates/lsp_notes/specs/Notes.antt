@@ -3,11 +3,11 @@ use Rattle.std.specs.Prelude.{◌≡◌, ℕ, List, Bool, false, ◌&&◌, ◌||
 use Rattle.std.specs.Global.{Global}
 use Rattle.std.specs.Str.{bytes_eq}
 use Rattle.lsp_docs.specs.Calls.{Call, uri_of}
-use Rattle.lsp_docs.specs.Opened.{held_by}
 use Rattle.lsp_docs.specs.Terms.{Terms}
 use Rattle.lsp_rpc.specs.Message.{Message}
 use Rattle.lsp_types.specs.declared.side.Side.{Side}
 use Rattle.lsp_types.specs.declared.side.Side.TheVariants.{Editor, Server}
+use Rattle.lsp_notes.specs.ByUri.{held_by}
 use Rattle.lsp_notes.specs.declared.note.Note.{Note}
 use Rattle.lsp_verdict.specs.Event.{Event}
 use Rattle.lsp_verdict.specs.Offences.{asks_handshake, is_within, left_lost, is_lost}

@@ -29,8 +29,8 @@ pub fn asks_handshake(side: Side, message: &Message) -> bool
     }
 }
 
-/// Whether a content of a side that was refused is a request `initialize` of the editor's: reads it again,
-/// for its method alone.
+/// Whether a content of a side that was refused is a request `initialize` of the editor's: reads it
+/// again, for its method alone.
 ///
 /// # Errors
 /// `Memory` where memory was refused.

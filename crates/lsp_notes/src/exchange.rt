@@ -57,7 +57,8 @@ impl Exchange {
     /// The event of this number asks a request.
     pub(crate) fn ask(&mut self, id: &Id, event: u64) -> Result<(), Memory>
         ensures asked { OnOk result ((k : AnId) → asked_in self.new.asked.entries (id_view k)
-            ≡ (if same_id (id_view id.now) (id_view k) then Some event else asked_in self.old.asked.entries (id_view k))) }
+            ≡ (if same_id (id_view id.now)
+            (id_view k) then Some event else asked_in self.old.asked.entries (id_view k))) }
         ensures replies { self.new.replies ≡ self.old.replies }
     {
         put(&mut self.asked, id, event)
@@ -66,9 +67,12 @@ impl Exchange {
     /// The event of this number answers a request.
     pub(crate) fn answer(&mut self, id: &Id, event: u64) -> Result<(), Memory>
         ensures asked { (k : AnId) → asked_in self.new.asked.entries (id_view k)
-            ≡ (if same_id (id_view id.now) (id_view k) then None else asked_in self.old.asked.entries (id_view k)) }
-        ensures replies { OnOk result ((given : List Reply) → replies_in self.old ≡ last_ones most_replies given
-            → replies_in self.new ≡ last_ones most_replies (given ++ replied event (id_view id.now) ∷ [])) }
+            ≡ (if same_id (id_view id.now)
+            (id_view k) then None else asked_in self.old.asked.entries (id_view k)) }
+        ensures replies { OnOk result ((given : List Reply)
+            → replies_in self.old ≡ last_ones most_replies given
+            → replies_in self.new ≡ last_ones most_replies (given
+            ++ replied event (id_view id.now) ∷ [])) }
     {
         forget(&mut self.asked, id);
         push(&mut self.replies, id, event)
@@ -78,7 +82,8 @@ impl Exchange {
 /// Puts the event of a request.
 fn put(asked: &mut IndexMap<Id, u64>, id: &Id, event: u64) -> Result<(), Memory>
     ensures { OnOk result ((k : AnId) → asked_in asked.new.entries (id_view k)
-        ≡ (if same_id (id_view id.now) (id_view k) then Some event else asked_in asked.old.entries (id_view k))) }
+        ≡ (if same_id (id_view id.now) (id_view k) then Some event else asked_in asked.old.entries
+        (id_view k))) }
 {
     let key = copy_id(id)?;
     asked.insert(key, event)?;
@@ -88,15 +93,18 @@ fn put(asked: &mut IndexMap<Id, u64>, id: &Id, event: u64) -> Result<(), Memory>
 /// Takes the event of a request away.
 fn forget(asked: &mut IndexMap<Id, u64>, id: &Id)
     ensures { (k : AnId) → asked_in asked.new.entries (id_view k)
-        ≡ (if same_id (id_view id.now) (id_view k) then None else asked_in asked.old.entries (id_view k)) }
+        ≡ (if same_id (id_view id.now) (id_view k) then None else asked_in asked.old.entries
+        (id_view k)) }
 {
     let _ = asked.swap_remove(id);
 }
 
 /// Adds an answer behind the others, of which the last ones stay.
 fn push(replies: &mut VecDeque<Given>, id: &Id, event: u64) -> Result<(), Memory>
-    ensures { OnOk result ((given : List Reply) → map given_view replies.old.items ≡ last_ones most_replies given
-        → map given_view replies.new.items ≡ last_ones most_replies (given ++ replied event (id_view id.now) ∷ [])) }
+    ensures { OnOk result ((given : List Reply)
+        → map given_view replies.old.items ≡ last_ones most_replies given
+        → map given_view replies.new.items
+        ≡ last_ones most_replies (given ++ replied event (id_view id.now) ∷ [])) }
 {
     let id = copy_id(id)?;
     make_room(replies);

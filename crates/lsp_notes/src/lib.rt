@@ -1,10 +1,11 @@
-//! What is noted of the events of a session beside what session and documents hold. No event is judged here, and
-//! no log is read.
+//! What is noted of the events of a session beside what session and documents hold. No event is
+//! judged here, and no log is read.
 //!
-//! [`Notes`] say which documents are lost: an offence left the held text another than the sender's. [`Marks`]
-//! say which events left a document as it is, and [`SessionNotes`] by which events requests were asked and
-//! answered, and which led to the phase. Of an offence, [`wants_handshake`] and [`wants_text`] say whether it may
-//! follow from an earlier one, and [`breaks_handshake`] whether it leaves the handshake lost.
+//! [`Notes`] say which documents are lost: an offence left the held text another than the sender's.
+//! [`Marks`] say which events left a document as it is, and [`SessionNotes`] by which events
+//! requests were asked and answered, and which led to the phase. Of an offence, [`wants_handshake`]
+//! and [`wants_text`] say whether it may follow from an earlier one, and [`breaks_handshake`]
+//! whether it leaves the handshake lost.
 #![tactic(auto)]
 
 mod asks;

@@ -1,9 +1,11 @@
 //! What left a document as it is: which event brought its version, which equal snapshot has the
 //! greatest version, and which snapshots wait.
-ghost use Rattle.std.specs.Prelude.{◌≡◌, ◌++◌, ◌∷◌, [], None, OnOk, if◌then◌else◌, ℤ, false, int_lt, not};
+ghost use Rattle.std.specs.Prelude.{◌≡◌, ◌++◌, ◌∷◌, [], None, OnOk, if◌then◌else◌, ℤ, false};
+ghost use Rattle.std.specs.Prelude.{int_lt, not};
 ghost use Rattle.std.specs.Map.{lookup};
 ghost use Rattle.std.specs.Ordering.{int_eq};
-ghost use Rattle.lsp_notes.specs.Marking.{above, last_shown, newer, newer_of, stepped, touches, unmarked};
+ghost use Rattle.lsp_notes.specs.Marking.{above, last_shown, newer, newer_of, stepped, touches};
+ghost use Rattle.lsp_notes.specs.Marking.{unmarked};
 ghost use Rattle.lsp_notes.specs.Marks.{is_first_reached, mark_view, rest_of, waiting_in};
 
 use lsp_rpc::Memory;
@@ -85,7 +87,8 @@ impl Mark {
         event: u64,
         version: i32,
     ) -> Result<(), Memory>
-        ensures { OnOk result (mark_view self.new ≡ stepped (touches touch event version) (mark_view self.old)) }
+        ensures { OnOk result (mark_view self.new
+            ≡ stepped (touches touch event version) (mark_view self.old)) }
     {
         match touch {
             Touch::Reached => {
@@ -138,7 +141,8 @@ fn newer(earlier: Shown, later: Shown) -> Shown
 /// Adds a snapshot of a version behind its others.
 fn add(waiting: &mut WaitMap, alloc: Global, version: i32, event: u64) -> Result<(), Memory>
     ensures { OnOk result ((number : ℤ) → waiting_in waiting.new.entries number
-        ≡ waiting_in waiting.old.entries number ++ (if int_eq version number then event ∷ [] else [])) }
+        ≡ waiting_in waiting.old.entries number
+        ++ (if int_eq version number then event ∷ [] else [])) }
 {
     let mut events = waiting.remove(&version).unwrap_or(Vec::new(alloc));
     events.push(event)?;
@@ -148,7 +152,8 @@ fn add(waiting: &mut WaitMap, alloc: Global, version: i32, event: u64) -> Result
 
 /// Drops the snapshots of versions that are reached.
 fn drop_reached(waiting: &mut WaitMap, version: i32)
-    ensures { (number : ℤ) → waiting_in waiting.new.entries number ≡ above version (waiting_in waiting.old.entries) number }
+    ensures { (number : ℤ) → waiting_in waiting.new.entries number
+        ≡ above version (waiting_in waiting.old.entries) number }
 {
     while is_reached(waiting, version) {
         drop_first(waiting);
@@ -165,7 +170,8 @@ fn drop_first(waiting: &mut WaitMap)
 /// Whether the least version is reached.
 fn is_reached(waiting: &WaitMap, version: i32) -> bool
     ensures first { result ≡ is_first_reached version waiting.now.entries }
-    ensures above { result ≡ false → (number : ℤ) → int_lt version number ≡ false → lookup (int_eq number) waiting.now.entries ≡ None }
+    ensures above { result ≡ false → (number : ℤ) → int_lt version number ≡ false
+        → lookup (int_eq number) waiting.now.entries ≡ None }
 {
     match waiting.first_key_value() {
         Some((least, _)) => is_within(least, version),

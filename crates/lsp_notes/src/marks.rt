@@ -6,7 +6,8 @@ ghost use Rattle.lsp_types.specs.declared.change.SyncKind.{SyncKind};
 ghost use Rattle.lsp_types.specs.declared.position.Encoding.{Encoding};
 ghost use Rattle.lsp_verdict.specs.Calls.{call_of};
 ghost use Rattle.lsp_verdict.specs.Event.{Event};
-ghost use Rattle.lsp_notes.specs.Marking.{agreed, brought, closed, steps, touches, unmarked, waiting_for};
+ghost use Rattle.lsp_notes.specs.Marking.{agreed, brought, closed, steps, touches, unmarked};
+ghost use Rattle.lsp_notes.specs.Marking.{waiting_for};
 ghost use Rattle.lsp_notes.specs.Marks.{AreMarks, DoneBy, ShownBy, StepsOn, marked_in};
 
 use crate::mark::{Mark, Shown, Touch};
@@ -49,8 +50,8 @@ impl Marks {
         }
     }
 
-    /// Of the snapshots that were found equal in the standing opening of a URI, that of the greatest
-    /// version, the last of several; none where none was.
+    /// Of the snapshots that were found equal in the standing opening of a URI, that of the
+    /// greatest version, the last of several; none where none was.
     pub fn agreed(&self, uri: &str) -> Option<Shown>
         ensures { (terms : Terms) (events : List Event) → AreMarks terms self.now.map.entries events
             → result ≡ agreed (steps terms uri.now events) }
@@ -78,7 +79,8 @@ impl Marks {
     /// `Memory` where memory was refused; nothing is then known of the marks.
     pub fn keep_act(&mut self, event: u64, act: &Act) -> Result<(), Memory>
         ensures { OnOk result ((enc : Encoding) (kind : SyncKind)
-            → DoneBy event (call_of enc kind (act_view act.now)) self.old.map.entries self.new.map.entries) }
+            → DoneBy event (call_of enc kind
+            (act_view act.now)) self.old.map.entries self.new.map.entries) }
     {
         match act {
             Act::DidOpen { uri, version, .. } => {
@@ -106,7 +108,8 @@ impl Marks {
         version: i32,
         answer: Match,
     ) -> Result<(), Memory>
-        ensures { OnOk result (ShownBy event uri.now version answer self.old.map.entries self.new.map.entries) }
+        ensures { OnOk result (ShownBy event uri.now version answer self.old.map.entries
+            self.new.map.entries) }
     {
         match answer {
             Match::Equal => touch(&mut self.map, uri, Touch::Compared, event, version),
@@ -118,7 +121,8 @@ impl Marks {
 
 /// Marks that the event of this number touches a document, at this version.
 fn touch(map: &mut MarkMap, uri: &str, touch: Touch, event: u64, version: i32) -> Result<(), Memory>
-    ensures { OnOk result (StepsOn uri.now (touches touch event version) map.old.entries map.new.entries) }
+    ensures { OnOk result (StepsOn uri.now
+        (touches touch event version) map.old.entries map.new.entries) }
 {
     let alloc = *map.allocator();
     let Some(mark) = map.get_mut(uri) else {
@@ -136,7 +140,8 @@ fn touch_first(
     version: i32,
 ) -> Result<(), Memory>
     requires { marked_in map.old.entries uri.now ≡ unmarked }
-    ensures { OnOk result (StepsOn uri.now (touches touch event version) map.old.entries map.new.entries) }
+    ensures { OnOk result (StepsOn uri.now
+        (touches touch event version) map.old.entries map.new.entries) }
 {
     let alloc = *map.allocator();
     let mut mark = Mark::new(alloc);

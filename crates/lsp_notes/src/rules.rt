@@ -1,6 +1,8 @@
-//! What rules say of an offence: whether it may follow from an earlier one, and what it leaves behind.
+//! What rules say of an offence: whether it may follow from an earlier one, and what it leaves
+//! behind.
 ghost use Rattle.std.specs.Prelude.{◌≡◌};
-ghost use Rattle.lsp_verdict.specs.Offences.{breaks_handshake, is_within, wants_handshake, wants_text};
+ghost use Rattle.lsp_verdict.specs.Offences.{breaks_handshake, is_within, wants_handshake};
+ghost use Rattle.lsp_verdict.specs.Offences.{wants_text};
 ghost use Rattle.lsp_notes.specs.Notes.{loses_by};
 
 fn is_within(least: u16, most: u16, rule: u16) -> bool
@@ -32,8 +34,8 @@ pub fn wants_text(rule: u16) -> bool
     rule == 702
 }
 
-/// Whether an event that breaks the rule leaves the handshake lost: an `initialize` that doesn't have
-/// its shape, or an answer to one that is refused.
+/// Whether an event that breaks the rule leaves the handshake lost: an `initialize` that doesn't
+/// have its shape, or an answer to one that is refused.
 pub fn breaks_handshake(asks: bool, rule: u16) -> bool
     ensures { result ≡ breaks_handshake asks rule }
 {
@@ -43,8 +45,8 @@ pub fn breaks_handshake(asks: bool, rule: u16) -> bool
     is_within(501, 503, rule)
 }
 
-/// Whether what is said of a document, with changes or without, leaves the held text another than the
-/// sender's where it breaks the rule.
+/// Whether what is said of a document, with changes or without, leaves the held text another than
+/// the sender's where it breaks the rule.
 pub(crate) fn loses(rule: u16, has_changes: bool) -> bool
     ensures { result ≡ loses_by rule has_changes }
 {

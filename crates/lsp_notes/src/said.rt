@@ -15,7 +15,9 @@ use lsp_rpc::{Act, Change, Memory};
 
 /// The URI of the document that an act speaks of.
 fn uri_in(act: &Act) -> Option<&str>
-    ensures { (enc : Encoding) (kind : SyncKind) → option_map (λ uri. uri.now) result ≡ option_map uri_of (call_of enc kind (act_view act.now)) }
+    ensures { (enc : Encoding) (kind : SyncKind)
+        → option_map (λ uri. uri.now) result
+        ≡ option_map uri_of (call_of enc kind (act_view act.now)) }
 {
     match act {
         Act::DidOpen { uri, .. } => Some(uri.as_str()),
@@ -28,7 +30,8 @@ fn uri_in(act: &Act) -> Option<&str>
 
 /// Whether the document that an act speaks of is lost.
 pub fn is_on_lost(notes: &Notes, act: &Act) -> bool
-    ensures { (enc : Encoding) (kind : SyncKind) → result ≡ is_noted_lost notes.now.map.entries (call_of enc kind (act_view act.now)) }
+    ensures { (enc : Encoding) (kind : SyncKind)
+        → result ≡ is_noted_lost notes.now.map.entries (call_of enc kind (act_view act.now)) }
 {
     match uri_in(act) {
         Some(uri) => notes.get(uri).lost,
@@ -71,7 +74,8 @@ fn note_renewed(notes: &mut Notes, uri: &str) -> Result<(), Memory>
 /// `Memory` where memory was refused; nothing is then known of the notes.
 pub fn note_refused_act(notes: &mut Notes, rule: u16, act: &Act) -> Result<(), Memory>
     ensures { OnOk result ((enc : Encoding) (kind : SyncKind)
-        → AreAfter (Some rule) (call_of enc kind (act_view act.now)) notes.old.map.entries notes.new.map.entries) }
+        → AreAfter (Some rule) (call_of enc kind
+        (act_view act.now)) notes.old.map.entries notes.new.map.entries) }
 {
     match act {
         Act::DidOpen { uri, .. } => note_refused(notes, rule, uri.as_str(), false),
@@ -90,7 +94,8 @@ pub fn note_refused_act(notes: &mut Notes, rule: u16, act: &Act) -> Result<(), M
 /// `Memory` where memory was refused; nothing is then known of the notes.
 pub fn note_kept_act(notes: &mut Notes, act: &Act) -> Result<(), Memory>
     ensures { OnOk result ((enc : Encoding) (kind : SyncKind)
-        → AreAfter None (call_of enc kind (act_view act.now)) notes.old.map.entries notes.new.map.entries) }
+        → AreAfter None (call_of enc kind
+        (act_view act.now)) notes.old.map.entries notes.new.map.entries) }
 {
     match act {
         Act::DidOpen { uri, .. } => note_renewed(notes, uri.as_str()),

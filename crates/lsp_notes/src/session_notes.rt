@@ -12,8 +12,8 @@ use lsp_rpc::{Id, Memory, Message, Side};
 use lsp_session::Phase;
 use std::alloc::Global;
 
-/// By which events the requests of both sides were asked and answered, and which one led to the phase
-/// of the session. Of the answers to a side's requests the last 1,024 are held.
+/// By which events the requests of both sides were asked and answered, and which one led to the
+/// phase of the session. Of the answers to a side's requests the last 1,024 are held.
 ///
 /// It stands for the events of a session of which those that offend are passed over.
 #[derive(Drop)]
@@ -48,8 +48,8 @@ impl SessionNotes {
         }
     }
 
-    /// The number of the event that answered a request of this side with this id last, from 1, where
-    /// it is among the last 1,024 answers to requests of this side.
+    /// The number of the event that answered a request of this side with this id last, from 1,
+    /// where it is among the last 1,024 answers to requests of this side.
     pub fn answered(&self, side: Side, id: &Id) -> Option<u64>
         ensures { (terms : Terms) (events : List Event) → AreNotes terms self.now events
             → result ≡ answered side (id_view id.now) (numbered terms events) }
@@ -60,8 +60,8 @@ impl SessionNotes {
         }
     }
 
-    /// The number of the event that led to the phase of the session, from 1; none where it is that of
-    /// the start.
+    /// The number of the event that led to the phase of the session, from 1; none where it is that
+    /// of the start.
     pub fn since(&self) -> Option<u64>
         ensures { (terms : Terms) (events : List Event) → AreNotes terms self.now events
             → result ≡ since (numbered terms events) }
@@ -81,10 +81,15 @@ impl SessionNotes {
         message: &Message,
         phase: Phase,
     ) -> Result<(), Memory>
-        ensures editor { OnOk result (Exchanges Side.Editor event side (message_view message.now) self.old.editor self.new.editor) }
-        ensures server { OnOk result (Exchanges Side.Server event side (message_view message.now) self.old.server self.new.server) }
+        ensures editor { OnOk result
+            (Exchanges Side.Editor event side
+            (message_view message.now) self.old.editor self.new.editor) }
+        ensures server { OnOk result
+            (Exchanges Side.Server event side
+            (message_view message.now) self.old.server self.new.server) }
         ensures phase { self.new.phase ≡ phase }
-        ensures since { self.new.since ≡ unwrap_or (leads event self.old.phase phase) self.old.since }
+        ensures since { self.new.since
+            ≡ unwrap_or (leads event self.old.phase phase) self.old.since }
     {
         if !is_same(self.phase, phase) {
             self.since = Some(event);
@@ -95,8 +100,12 @@ impl SessionNotes {
 
     /// Notes what a message asks or answers.
     fn exchange(&mut self, event: u64, side: Side, message: &Message) -> Result<(), Memory>
-        ensures editor { OnOk result (Exchanges Side.Editor event side (message_view message.now) self.old.editor self.new.editor) }
-        ensures server { OnOk result (Exchanges Side.Server event side (message_view message.now) self.old.server self.new.server) }
+        ensures editor { OnOk result
+            (Exchanges Side.Editor event side
+            (message_view message.now) self.old.editor self.new.editor) }
+        ensures server { OnOk result
+            (Exchanges Side.Server event side
+            (message_view message.now) self.old.server self.new.server) }
         ensures phase { self.new.phase ≡ self.old.phase }
         ensures since { self.new.since ≡ self.old.since }
     {

@@ -1,5 +1,5 @@
 use Rattle.std.proofs.Common.{None, refl}
-use Rattle.lsp_docs.proofs.Entries.{puts}
+use Rattle.lsp_notes.proofs.Putting.{puts}
 use Rattle.lsp_notes.specs.Marking.{closed}
 use Rattle.lsp_notes.specs.Marks.{mark_view}
 use Rattle.lsp_notes.proofs.MarkSteps.{steps_on}
@@ -10,4 +10,4 @@ returns c =
     let old = c.args.map.now.entries in
     let new = c.swap_remove.new.self.entries in
     let updates = c.swap_remove.ensures.updates in
-    steps_on c.args.uri.now closed None old new (puts mark_view c.args.uri.now None old new updates.1 updates.3) refl
+    steps_on c.args.uri.now closed None old new (puts mark_view None old new c.args.uri.now updates.1 updates.3) refl

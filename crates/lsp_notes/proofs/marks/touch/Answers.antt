@@ -3,7 +3,7 @@ use Rattle.std.specs.Prelude.{IsSome}
 use Rattle.std.proofs.lemmas.Int.{to_z-of_z}
 use mir.Val.{SFits}
 use Rattle.std.proofs.lemmas.Result.{on_ok_weaker}
-use Rattle.lsp_docs.proofs.Entries.{puts}
+use Rattle.lsp_notes.proofs.Putting.{puts}
 use Rattle.lsp_notes.specs.Marking.{touches}
 use Rattle.lsp_notes.specs.Marks.{mark_view}
 use Rattle.lsp_notes.proofs.MarkSteps.{step_there}
@@ -18,6 +18,6 @@ returns c =
     let now = c.touch.new.self in
     let old = c.args.map.now.entries in
     let updates = (c.get_mut.follows.holds now).3 (subst (λ o. IsSome o) c.in-Some.ensures.value refl) in
-    let put = puts mark_view uri (Some now) old _ updates.1 updates.3 in
+    let put = puts mark_view (Some now) old _ uri updates.1 updates.3 in
     let made = simp to_z-of_z at c.touch.ensures in
     on_ok_weaker c.touch.result (λ is. step_there uri step was now old _ (ap (option_map mark_view) (sym c.in-Some.ensures.value)) is put) made

@@ -1,7 +1,7 @@
 use Rattle.std.proofs.Common.{Some, sym, ap, ◌∙◌, w32}
 use Rattle.std.proofs.lemmas.Int.{to_z-of_z}
 use mir.Val.{SFits}
-use Rattle.lsp_docs.proofs.Entries.{puts-key}
+use Rattle.lsp_notes.proofs.Putting.{puts-key}
 use Rattle.lsp_notes.specs.Marking.{stepped, touches}
 use Rattle.lsp_notes.specs.Marks.{mark_view}
 use Rattle.lsp_notes.proofs.MarkSteps.{steps_on}
@@ -17,5 +17,6 @@ returns c =
     let new = c.insert.new.self.entries in
     let updates = c.in_ok-insert.ensures.updates in
     let made = simp to_z-of_z at c.in_ok-touch.ensures in
-    steps_on uri step (Some (mark_view mark)) old new (puts-key mark_view c.in_ok-key.key uri c.in_ok-key.ensures.ok (Some mark) old new updates.1 updates.3)
+    steps_on uri step (Some (mark_view mark)) old new (puts-key mark_view (Some mark) old new c.in_ok-key.key uri c.in_ok-key.ensures.ok updates.1
+    updates.3)
     (made ∙ ap (stepped step) (c.new-mark.ensures ∙ sym c.requires))

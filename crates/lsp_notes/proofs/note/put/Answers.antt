@@ -1,5 +1,5 @@
 use Rattle.std.proofs.Common.{Some}
-use Rattle.lsp_docs.proofs.Entries.{puts-key}
+use Rattle.lsp_notes.proofs.Putting.{puts-key}
 use Rattle.lsp_notes.specs.declared.note.Note.{Note}
 use Rattle.lsp_notes.proofs.Noting.{note_put}
 use Rattle.lsp_notes.proofs.note.put.Goals as goal
@@ -10,4 +10,6 @@ returns c =
     let old = c.args.map.now.entries in
     let new = c.insert.new.self.entries in
     let updates = c.in_ok-insert.ensures.updates in
-    note_put uri (Some c.args.note) old new (puts-key (λ (n : Note). n) c.in_ok-key.key uri c.in_ok-key.ensures.ok (Some c.args.note) old new updates.1 updates.3)
+    let key = c.in_ok-key.key in
+    note_put uri (Some c.args.note) old new (puts-key (λ (n : Note). n) (Some c.args.note) old new
+    key uri c.in_ok-key.ensures.ok updates.1 updates.3)
