@@ -1,10 +1,12 @@
 -- What a message that changes the documents, read token by token, has told so far.
-use Rattle.std.specs.Prelude.{◌≡◌, ℕ, ℤ, List, Bool, if◌then◌else◌, Option, Some, None, option_map, option_and_then, string_bytes, codes}
+use Rattle.std.specs.Prelude.{◌≡◌, ℕ, ℤ, List, Bool, if◌then◌else◌, Option, Some, None, option_map}
+use Rattle.std.specs.Prelude.{option_and_then, string_bytes, codes}
 use Rattle.serde_json.specs.Data.{Data, Members, object, string}
 use Rattle.lsp_rpc.specs.Act.{Text, Act, Change, did_open, did_change, did_close}
 use Rattle.lsp_rpc.specs.Message.{Message}
 use Rattle.lsp_rpc.specs.Outline.{without_params}
-use Rattle.lsp_rpc.specs.Params.{required, all_three, array_of, change_at, uri_at, version_at, text_at, act_at}
+use Rattle.lsp_rpc.specs.Params.{required, all_three, array_of, change_at, uri_at, version_at}
+use Rattle.lsp_rpc.specs.Params.{text_at, act_at}
 use Rattle.lsp_rpc.specs.Reading.{IsMessage}
 use Rattle.lsp_rpc.specs.Shape.{member}
 use Rattle.lsp_rpc.specs.View.{changes_view}
@@ -59,10 +61,12 @@ told_view parts = record {
 -- what the notice means
 abbrev pub act_in : Notice → Told → Option Act
 act_in Opened told = option_and_then (λ d. all_three did_open d.uri d.version d.text) told.document
-act_in Changed told = option_and_then (λ d. all_three did_change d.uri d.version told.changes) told.document
+act_in Changed told = option_and_then (λ d. all_three did_change d.uri d.version told.changes)
+    told.document
 act_in Closed told = option_and_then (λ d. option_map did_close d.uri) told.document
 
 -- the members are those of a message of the editor that is this without its params, and means this
 abbrev pub Says : Members → Message → Act → Type 0
 Says ms said act =
-    (whole : Message) × IsMessage (object ms) whole × (said ≡ without_params whole) × (act_at Editor whole ≡ Some act)
+    (whole : Message) × IsMessage (object ms) whole × (said ≡ without_params whole)
+        × (act_at Editor whole ≡ Some act)

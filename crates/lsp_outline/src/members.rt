@@ -1,5 +1,5 @@
-//! Objects read without a tree of values: the members that are wanted are gathered as they come, and
-//! the others are gone past.
+//! Objects read without a tree of values: the members that are wanted are gathered as they come,
+//! and the others are gone past.
 ghost use Rattle.std.specs.Prelude.{◌≡◌, ◌^◌, ℕ, ◌<◌, ◌≤◌, length, pos, Some, IfSome};
 ghost use Rattle.serde_json.specs.Data.{Data, Members, object, string, no_members, put};
 ghost use Rattle.lsp_rpc.specs.Shape.{as_integer};

@@ -1,6 +1,7 @@
 //! Reading the messages that change documents member by member, with what they mean (LSP 3.17, Text
 //! Document Synchronization).
-ghost use Rattle.std.specs.Prelude.{◌≡◌, ◌≤◌, ℕ, length, None, Some, IfSome, codes, option_map, string_bytes};
+ghost use Rattle.std.specs.Prelude.{◌≡◌, ◌≤◌, ℕ, length, None, Some, IfSome, codes, option_map};
+ghost use Rattle.std.specs.Prelude.{string_bytes};
 ghost use Rattle.serde_json.specs.Data.{Members, object, string};
 ghost use Rattle.serde_json.specs.Find.{get_member};
 ghost use Rattle.serde_json.specs.Read.{read as read_text};
@@ -173,7 +174,8 @@ fn opened(document: DocumentParts) -> Option<Act>
 fn changed(document: DocumentParts, changes: Option<Vec<Change>>) -> Option<Act>
     ensures { let told = spec.document_view document in
         option_map (λ act. act_view act) result
-        ≡ params.all_three did_change told.uri told.version (option_map (λ v. changes_view v.items) changes) }
+        ≡ params.all_three did_change told.uri told.version
+            (option_map (λ v. changes_view v.items) changes) }
 {
     Some(Act::DidChange {
         uri: document.uri?,
@@ -212,7 +214,8 @@ struct MessageParts {
 impl Gathered for MessageParts {
     ghost gathers = { λ ms parts.
         (get_member (codes "jsonrpc") ms ≡ spec.once parts.has_version (codes "2.0"))
-        × (get_member (codes "method") ms ≡ option_map (λ n. string (spec.method_of n)) parts.notice)
+        × (get_member (codes "method") ms
+        ≡ option_map (λ n. string (spec.method_of n)) parts.notice)
         × (option_map spec.told_of (get_member (codes "params") ms)
         ≡ option_map spec.told_view parts.params)
         × (get_member (codes "id") ms ≡ None) };
@@ -258,7 +261,8 @@ impl Gathered for MessageParts {
 
 /// What the parts of the message tell, where they are all there.
 fn spoken_in(alloc: Global, parts: MessageParts) -> Option<Spoken>
-    ensures { IfSome result (λ spoken. (ms : Members) → ⟦<MessageParts as Gathered>⟧.gathers ms parts
+    ensures { IfSome result (λ spoken. (ms : Members)
+        → ⟦<MessageParts as Gathered>⟧.gathers ms parts
         → spec.Says ms (message_view spoken.message) (act_view spoken.act)) }
 {
     if !parts.has_version {

@@ -9,4 +9,5 @@ returns-then-n-clause-read c =
     let d = c.args.text.now in
     let n = c.in_ok-n.n in
     let end = c.in_ok-n.end in
-    (number (unsigned n), numeral_value d c.args.from end n (rw (← c.as_bytes.ensures.value) c.in_ok-n.ensures), small_natural n (omega arith))
+    (number (unsigned n), numeral_value d c.args.from end n
+        (rw (← c.as_bytes.ensures.value) c.in_ok-n.ensures), small_natural n (omega arith))

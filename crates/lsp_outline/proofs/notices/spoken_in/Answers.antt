@@ -1,4 +1,5 @@
-use Rattle.std.proofs.Common.{◌≡◌, None, true, codes, option_map, string_bytes, subst, sym, ap, ◌∙◌, rules, arith}
+use Rattle.std.proofs.Common.{◌≡◌, None, true, codes, option_map, string_bytes, subst, sym, ap, ◌∙◌}
+use Rattle.std.proofs.Common.{rules, arith}
 use Rattle.serde_json.specs.Data.{string}
 use Rattle.lsp_rpc.specs.Message.{Message, notification}
 use Rattle.lsp_outline.specs.Notice.{Says, method_of, once, told_view}
