@@ -58,20 +58,20 @@ pub none_marked : (v : List ℕ) → length v ≡ 16 → mask_l (map is_stop v) 
     → 16 ≡ prefix_len is_plain v
 none_marked v long none =
     ap (λ b. cond b 16 (count_trailing_zeros 64 (mask_l (map is_stop v))))
-        (sym (eq-eqb (mask_l (map is_stop v)) 0 none))
+    (sym (eq-eqb (mask_l (map is_stop v)) 0 none))
     ∙ first_set_mask_l is_stop v 16 long (omega arith)
 
 pub some_marked : (v : List ℕ) → length v ≡ 16 → (mask_l (map is_stop v) ≡ 0 → ⊥)
     → count_trailing_zeros 64 (mask_l (map is_stop v)) ≡ prefix_len is_plain v
 some_marked v long some =
     ap (λ b. cond b 16 (count_trailing_zeros 64 (mask_l (map is_stop v))))
-        (sym (ne_eqb (mask_l (map is_stop v)) 0 some))
+    (sym (ne_eqb (mask_l (map is_stop v)) 0 some))
     ∙ first_set_mask_l is_stop v 16 long (omega arith)
 
 parted : (d : List ℕ) (i : ℕ) → prefix_len is_plain (drop i d)
     ≡ cond (eqb (prefix_len is_plain (chunk i 16 d)) (length (chunk i 16 d)))
     (length (chunk i 16 d) + prefix_len is_plain (drop (i + 16) d))
-        (prefix_len is_plain (chunk i 16 d))
+    (prefix_len is_plain (chunk i 16 d))
 parted d i = ap (prefix_len is_plain) (chunk-drop i 16 d)
     ∙ prefix_len-append is_plain (chunk i 16 d) (drop (i + 16) d)
 
@@ -82,7 +82,7 @@ run_through d i room all =
     let c = chunk i 16 d in
     let long = length-chunk i 16 d room in
     parted d i ∙ ap (λ b. cond b (length c + prefix_len is_plain (drop (i + 16) d))
-        (prefix_len is_plain c)) (eq-eqb _ _ (all ∙ sym long))
+    (prefix_len is_plain c)) (eq-eqb _ _ (all ∙ sym long))
     ∙ ap (λ k. k + prefix_len is_plain (drop (i + 16) d)) long
 
 -- the run ends among them
@@ -92,5 +92,5 @@ run_ends d i room less =
     let c = chunk i 16 d in
     let long = length-chunk i 16 d room in
     parted d i ∙ ap (λ b. cond b (length c + prefix_len is_plain (drop (i + 16) d))
-        (prefix_len is_plain c))
+    (prefix_len is_plain c))
     (ne_eqb _ _ (λ (e : prefix_len is_plain c ≡ length c). omega (arith, less, e, long)))

@@ -38,16 +38,23 @@ by_rows : (rows : List Row) → AreSteady rows → (method : List ℕ) (params :
 by_rows [] steady method params act h = h
 by_rows (row ∷ rows) steady method params act h =
     either_way (bytes_eq method row.method) (row.act None) (act_by rows method None)
-        (row.act params) (act_by rows method params) act
+    (row.act params) (act_by rows method params) act
     (steady.0 params act) (by_rows rows steady.1 method params act) h
 
 steady_editor_requests : AreSteady editor_requests
 steady_editor_requests = (steady_reads _, (steady_means _, tt))
 
 steady_editor_notifications : AreSteady editor_notifications
-steady_editor_notifications =
-    (steady_means _, (steady_means _, (steady_reads _,
-    (steady_reads _, (steady_reads _, (steady_reads _, (steady_reads _, tt)))))))
+steady_editor_notifications = (
+  steady_means _,
+  (
+    steady_means _,
+    (
+      steady_reads _,
+      (steady_reads _, (steady_reads _, (steady_reads _, (steady_reads _, tt)))),
+    ),
+  ),
+)
 
 steady_server_requests : AreSteady server_requests
 steady_server_requests = (steady_means _, (steady_reads _, tt))

@@ -1,14 +1,17 @@
 -- What an object that is read token by token tells, member by member, and an array of changes, item
 -- by item.
-use Rattle.std.proofs.Common.{◌≡◌, ℕ, pos, ◌^◌, ◌<◌, List, [], ◌∷◌, ◌++◌, true, false, Option, Some}
+use Rattle.std.proofs.Common.{◌≡◌, ℕ, ℤ, pos, ◌^◌, ◌<◌, List, [], ◌∷◌, ◌++◌, true, false, Option}
+use Rattle.std.proofs.Common.{Some}
 use Rattle.std.proofs.Common.{None, option_map, nat_lt, bytes_eq, refl, sym, ap, ◌∙◌, append_assoc}
 use Rattle.std.proofs.Common.{arith}
 use Rattle.std.proofs.lemmas.Bool.Decides.{nat_tests}
-use Rattle.serde_json.specs.Data.{Data, number, unsigned, Items, item, Members, put}
+use Rattle.serde_json.specs.Data.{Data, null, boolean, number, string, array, object, unsigned}
+use Rattle.serde_json.specs.Data.{Items, item, Members, put}
 use Rattle.serde_json.specs.Find.{get_member}
 use Rattle.serde_json.proofs.Views.{get_member-put, get_member-put_other}
+use Rattle.lsp_rpc.specs.Ident as ident
 use Rattle.lsp_rpc.specs.Params.{all_of}
-use Rattle.lsp_rpc.specs.Shape.{as_integer}
+use Rattle.lsp_rpc.specs.Shape.{as_id, as_integer}
 use Rattle.lsp_outline.proofs.Outlining.{differ}
 
 pub small_natural : (n : ℕ) → n < 2 ^ 31 → as_integer (number (unsigned n)) ≡ Some (pos n)
@@ -16,6 +19,15 @@ small_natural n h =
     let long : nat_lt n (2 ^ 63) ≡ true = grind (arith, nat_tests) in
     let short : nat_lt n (2 ^ 31) ≡ true = grind (arith, nat_tests) in
     rw (long, short)
+
+-- an integer is an id
+pub number_id : (d : Data) (z : ℤ) → as_integer d ≡ Some z → as_id d ≡ Some (ident.number z)
+number_id null z h = absurd (cc)
+number_id (boolean b) z h = absurd (cc)
+number_id (number n) z h = ap (option_map ident.number) h
+number_id (string s) z h = absurd (cc)
+number_id (array ds) z h = absurd (cc)
+number_id (object ms) z h = absurd (cc)
 
 -- ---- members
 
@@ -33,6 +45,12 @@ stays f name k d ms x other h = ap f (get_member-put_other name k d ms other) �
 -- a name that is not this one
 pub not_this : (name this k : List ℕ) → bytes_eq name this ≡ false → k ≡ this → name ≡ k → ⊥
 not_this name this k apart is h = differ name this apart (h ∙ is)
+
+-- one of another name stays, where the name that came is known
+pub beside : {X : Type 0} (f : Option Data → X) (name this k : List ℕ) (d : Data) (ms : Members)
+    (x : X) → bytes_eq name this ≡ false → k ≡ this → f (get_member name ms) ≡ x
+    → f (get_member name (put k d ms)) ≡ x
+beside f name this k d ms x apart is = stays f name k d ms x (not_this name this k apart is)
 
 -- of two names
 module _ {X Y : Type 0} (f : Option Data → X) (g : Option Data → Y) (a b k : List ℕ) (d : Data)
@@ -77,6 +95,6 @@ pub one_more : {X : Type 0} (shape : Data → Option X) (front : Items → Items
     ≡ option_map (λ more. (done ++ x ∷ []) ++ more) (all_of shape rest)
 one_more shape front done d x reads before rest =
     let read : all_of shape (item d rest) ≡ option_map (λ more. x ∷ more) (all_of shape rest) =
-        rw reads in
+    rw reads in
     before (item d rest) ∙ ap (option_map (λ more. done ++ more)) read
-        ∙ behind done x (all_of shape rest)
+    ∙ behind done x (all_of shape rest)

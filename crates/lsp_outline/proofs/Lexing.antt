@@ -56,7 +56,7 @@ lex_plain x xs is =
     let none = or_parts ((x == 34) || (x == 92)) (nat_lt x 32) (not-true _ is) in
     let tests = or_parts (x == 34) (x == 92) none.0 in
     no_mark (x == 34) (x == 92) (is_operator x) (is_space x) x xs (λ next. lex next xs) tests.0
-        tests.1
+    tests.1
 
 run_byte : (p : Bool) (x n : ℕ) (xs : List ℕ) → p ≡ is_plain x
     → lex in_string xs ≡ lex in_string (drop n xs)

@@ -39,43 +39,84 @@ module _ (d : Data) (ms : Members) where
   Put k = parts_of (object (put k d ms)) ≡ with_part (part_named k) d (parts_of (object ms))
 
   put_version : Put (codes "jsonrpc")
-  put_version = let k = codes "jsonrpc" in rw
-      (here k, there (codes "method") k refl, there (codes "id") k refl,
-      there (codes "params") k refl, there (codes "result") k refl, there (codes "error") k refl)
+  put_version = let k = codes "jsonrpc" in rw (
+    here k,
+    there (codes "method") k refl,
+    there (codes "id") k refl,
+    there (codes "params") k refl,
+    there (codes "result") k refl,
+    there (codes "error") k refl,
+  )
 
   put_method : Put (codes "method")
-  put_method = let k = codes "method" in rw
-      (here k, there (codes "jsonrpc") k refl, there (codes "id") k refl,
-      there (codes "params") k refl, there (codes "result") k refl, there (codes "error") k refl)
+  put_method = let k = codes "method" in rw (
+    here k,
+    there (codes "jsonrpc") k refl,
+    there (codes "id") k refl,
+    there (codes "params") k refl,
+    there (codes "result") k refl,
+    there (codes "error") k refl,
+  )
 
   put_id : Put (codes "id")
-  put_id = let k = codes "id" in rw (here k, there (codes "jsonrpc") k refl,
-      there (codes "method") k refl, there (codes "params") k refl, there (codes "result") k refl,
-      there (codes "error") k refl)
+  put_id = let k = codes "id" in rw (
+    here k,
+    there (codes "jsonrpc") k refl,
+    there (codes "method") k refl,
+    there (codes "params") k refl,
+    there (codes "result") k refl,
+    there (codes "error") k refl,
+  )
 
   put_params : Put (codes "params")
-  put_params = let k = codes "params" in rw
-      (here k, there (codes "jsonrpc") k refl, there (codes "method") k refl,
-      there (codes "id") k refl, there (codes "result") k refl, there (codes "error") k refl)
+  put_params = let k = codes "params" in rw (
+    here k,
+    there (codes "jsonrpc") k refl,
+    there (codes "method") k refl,
+    there (codes "id") k refl,
+    there (codes "result") k refl,
+    there (codes "error") k refl,
+  )
 
   put_result : Put (codes "result")
-  put_result = let k = codes "result" in rw
-      (here k, there (codes "jsonrpc") k refl, there (codes "method") k refl,
-      there (codes "id") k refl, there (codes "params") k refl, there (codes "error") k refl)
+  put_result = let k = codes "result" in rw (
+    here k,
+    there (codes "jsonrpc") k refl,
+    there (codes "method") k refl,
+    there (codes "id") k refl,
+    there (codes "params") k refl,
+    there (codes "error") k refl,
+  )
 
   put_error : Put (codes "error")
-  put_error = let k = codes "error" in rw
-      (here k, there (codes "jsonrpc") k refl, there (codes "method") k refl,
-      there (codes "id") k refl, there (codes "params") k refl, there (codes "result") k refl)
+  put_error = let k = codes "error" in rw (
+    here k,
+    there (codes "jsonrpc") k refl,
+    there (codes "method") k refl,
+    there (codes "id") k refl,
+    there (codes "params") k refl,
+    there (codes "result") k refl,
+  )
 
   put_other : (k : List ℕ) → bytes_eq k (codes "jsonrpc") ≡ false
       → bytes_eq k (codes "method") ≡ false → bytes_eq k (codes "id") ≡ false
       → bytes_eq k (codes "params") ≡ false → bytes_eq k (codes "result") ≡ false
       → bytes_eq k (codes "error") ≡ false → Put k
   put_other k v m i p r e =
-      rw (v, m, i, p, r, e, away (codes "jsonrpc") k v, away (codes "method") k m,
-          away (codes "id") k i, away (codes "params") k p, away (codes "result") k r,
-          away (codes "error") k e)
+      rw (
+        v,
+        m,
+        i,
+        p,
+        r,
+        e,
+        away (codes "jsonrpc") k v,
+        away (codes "method") k m,
+        away (codes "id") k i,
+        away (codes "params") k p,
+        away (codes "result") k r,
+        away (codes "error") k e,
+      )
 
   known : (k name : List ℕ) → Put name → bytes_eq k name ≡ true → Put k
   known k name h e = subst Put (sym ((bytes_eq-Decides k name).0 e)) h
@@ -189,11 +230,14 @@ pub outlined : (ms : Members) (m : Message)
     → (whole : Message) × IsMessage (object ms) whole × (m ≡ outline whole)
 outlined ms m good keeps is =
     let p = parts_of (object ms) in
-    let whole = made p.version p.method p.id p.params p.result p.error m is in
-    (whole.0, record {
-      keeps_rules = ap least_broken (sym (rules_kept (parts_of (object ms)) good)) ∙ keeps;
-      made = whole.1;
-    }, whole.2)
+    let whole = made p.version p.method p.id p.params p.result p.error m is in (
+      whole.0,
+      record {
+        keeps_rules = ap least_broken (sym (rules_kept (parts_of (object ms)) good)) ∙ keeps;
+        made = whole.1;
+      },
+      whole.2,
+    )
 
 -- a message and its outline have the same words
 pub same_words : (m whole : Message) → IsOrIsOutline m whole → words_of m ≡ words_of whole

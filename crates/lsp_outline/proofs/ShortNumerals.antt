@@ -64,12 +64,12 @@ short_natural s some short alone =
     let digits : AreDigits s = as_digits s ∙ alone in
     let all : AllDigits 10 s = own.to s digits in
     let first : (get_or s 0 0 == 45) ≡ false =
-        ne_eqb _ 45 (not_in_digits own s 45 digits (λ r. omega (arith, r.0)) 0 some) in
+    ne_eqb _ 45 (not_in_digits own s 45 digits (λ r. omega (arith, r.0)) 0 some) in
     let small : 10 ^ 18 < 2 ^ 64 = lit< tt in
     let same : digits_value 10 (s ++ []) ≡ digits_value 10 s =
-        ap (digits_value 10) (append-nil s) in
+    ap (digits_value 10) (append-nil s) in
     let fits : digits_value 10 (s ++ []) < 2 ^ 64 =
-        omega (arith, same, digits_value_short own s 18 digits short, small) in
+    omega (arith, same, digits_value_short own s 18 digits short, small) in
     rw (first, read_alone s all, lt-ltb 0 (length s) some, lt-ltb _ _ fits, same)
 
 pub short_in_range : (s : List ℕ) → 0 < length s → length s ≤ 18 → list_all is_ascii_digit s ≡ true
@@ -96,8 +96,8 @@ whole_digits s true all some (inl one) = ap Some (drop_all 1 s (omega arith))
 whole_digits s true all some (inr none) = absurd (cc)
 whole_digits s false all some one =
     ap (λ n. cond (n == 0) None (Some (drop n s))) (same_all s all)
-        ∙ ap (λ b. cond b None (Some (drop (length s) s))) (ne_eqb (length s) 0 (λ e. omega arith))
-        ∙ ap Some (drop_all (length s) s (omega arith))
+    ∙ ap (λ b. cond b None (Some (drop (length s) s))) (ne_eqb (length s) 0 (λ e. omega arith))
+    ∙ ap Some (drop_all (length s) s (omega arith))
 
 no_minus : (x : ℕ) → is_ascii_digit x ≡ true → (x == 45) ≡ false
 no_minus x digit = ne_eqb x 45 (λ e. true≢false (sym digit ∙ ap is_ascii_digit e))
@@ -110,7 +110,7 @@ digits_number (x ∷ xs) all some one =
     let s = x ∷ xs in
     let both = and_parts (is_ascii_digit x) (list_all is_ascii_digit xs) all in
     ap (λ b. option_and_then after_exponent
-        (option_and_then after_fraction (after_whole (cond b xs s)))) (no_minus x both.0)
+    (option_and_then after_fraction (after_whole (cond b xs s)))) (no_minus x both.0)
     ∙ ap (λ w. option_and_then after_exponent (option_and_then after_fraction w))
     (whole_digits s (x == 48) all some one)
 
@@ -138,7 +138,7 @@ digits_numeral : (d : List ℕ) (from end : ℕ) → list_all is_ascii_digit (pa
     → ends_word (drop end d) ≡ true → end ≤ length d → IsNumeral d from end
 digits_numeral d from end digits some short one ended within =
     let none : from < end = lt_of_not-le (λ h.
-        omega (arith, some, ap (λ n. length (take n (drop from d))) (zero_from end from h))) in
+    omega (arith, some, ap (λ n. length (take n (drop from d))) (zero_from end from h))) in
     record {
       number = digits_number (part d from end) digits some one;
       fits = short_in_range (part d from end) some short digits;
@@ -155,8 +155,8 @@ pub short_numeral : (d : List ℕ) (from end : ℕ)
 short_numeral d from end is some short one ended within =
     let count : prefix_len is_ascii_digit (drop from d) ≡ end - from = omega arith in
     let digits : list_all is_ascii_digit (part d from end) ≡ true =
-        ap (λ n. list_all is_ascii_digit (take n (drop from d))) (sym count)
-        ∙ run_of_digits (drop from d) in
+    ap (λ n. list_all is_ascii_digit (take n (drop from d))) (sym count)
+    ∙ run_of_digits (drop from d) in
     digits_numeral d from end digits some short one ended within
 
 -- ---- at most nine digits, one after another
@@ -165,8 +165,11 @@ pub few_below : (d : List ℕ) (from end n : ℕ) → AreFewDigits d from end n 
     → n < 100000001
 few_below d from end n old less =
     let short : length (part d from end) ≤ 8 =
-        omega (arith, length-take-le (end - from) (drop from d)
-        (omega (arith, old.within, old.forward, length-drop from d))) in
+    omega (
+      arith,
+      length-take-le (end - from) (drop from d)
+          (omega (arith, old.within, old.forward, length-drop from d)),
+    ) in
     let below = few_value (part d from end) 8 short old.digits in
     let power : 10 ^ 8 < 100000001 = lit< tt in
     omega (arith, old.value, below, power)
@@ -182,12 +185,12 @@ one_digit_more d from end n more old less within digit is =
     let next : end + 1 - from ≡ i + 1 = omega (arith, old.forward) in
     let place : from + i ≡ end = omega (arith, old.forward) in
     let there : get_or s i 0 ≡ get_or d end 0 =
-        get_or-drop from d i 0 ∙ ap (λ k. get_or d k 0) place in
+    get_or-drop from d i 0 ∙ ap (λ k. get_or d k 0) place in
     let same : part d from (end + 1) ≡ take (i + 1) s = ap (λ k. take k s) next in
     let written : digits_value 10 (part d from (end + 1))
-        ≡ digits_value 10 (part d from end) * 10 + digit_value (get_or d end 0) =
+    ≡ digits_value 10 (part d from end) * 10 + digit_value (get_or d end 0) =
     ap (digits_value 10) same ∙ digits_value_more 10 s i room
-        ∙ ap (λ x. digits_value 10 (take i s) * 10 + digit_value x) there in
+    ∙ ap (λ x. digits_value 10 (take i s) * 10 + digit_value x) there in
     record {
       digits = ap (list_all is_ascii_digit) same ∙ list_all_more is_ascii_digit s i 0 room
           ∙ ap₂ (λ a b. a && b) old.digits (ap is_ascii_digit there ∙ digit);
@@ -213,10 +216,10 @@ pub ends_at : (d : List ℕ) (end : ℕ)
     → (end < length d) × (ends_word (drop end d) ≡ true)
 ends_at d end h =
     let within : end < length d =
-        lt_of_not-le (λ past. true≢false (sym h
-        ∙ ap (λ x. is_operator x || is_space x) (get_or_past d end 0 past))) in
+    lt_of_not-le (λ past. true≢false (sym h
+    ∙ ap (λ x. is_operator x || is_space x) (get_or_past d end 0 past))) in
     let here : get_or (drop end d) 0 32 ≡ get_or d end 0 =
-        ap (λ l. get_or l 0 32) (drop_more d end 0 within) in
+    ap (λ l. get_or l 0 32) (drop_more d end 0 within) in
     (within, ap (λ x. is_operator x || is_space x) here ∙ h)
 
 no_number : IsNumber [] → ⊥
@@ -230,8 +233,8 @@ pub some_numeral : (d : List ℕ) (from end : ℕ) (s : List ℕ) → s ≡ part
 some_numeral d from end s same number fits le ended =
     let ends = ends_at d end ended in
     let some : from < end = lt_of_not-le (λ h.
-        no_number (subst IsNumber (same ∙ ap (λ n. take n (drop from d)) (zero_from end from h))
-        number)) in
+    no_number (subst IsNumber (same ∙ ap (λ n. take n (drop from d)) (zero_from end from h))
+    number)) in
     record {
       number = subst IsNumber same number;
       fits = ap (λ t. is_some (number_of t)) (sym same) ∙ fits;
@@ -247,13 +250,13 @@ one_digit d from first comma =
     let after = ends_at d (from + 1) (ap (λ x. is_operator x || is_space x) comma) in
     let one : from + 1 - from ≡ 1 = omega arith in
     let same : get_or d from 0 ∷ [] ≡ part d from (from + 1) =
-        ap (take 1) (sym (drop_more d from 0 (omega (arith, after.0))))
-        ∙ ap (λ n. take n (drop from d)) (sym one) in
+    ap (take 1) (sym (drop_more d from 0 (omega (arith, after.0))))
+    ∙ ap (λ n. take n (drop from d)) (sym one) in
     let digits : list_all is_ascii_digit (get_or d from 0 ∷ []) ≡ true =
-        ap (λ b. b && true) first in
+    ap (λ b. b && true) first in
     some_numeral d from (from + 1) _ same (digits_number _ digits (omega arith) (inl refl))
-        (short_in_range _ (omega arith) (omega arith) digits) (omega arith)
-        (ap (λ x. is_operator x || is_space x) comma)
+    (short_in_range _ (omega arith) (omega arith) digits) (omega arith)
+    (ap (λ x. is_operator x || is_space x) comma)
 
 pub two_digits : (d : List ℕ) (from : ℕ) → is_ascii_digit (get_or d from 0) ≡ true
     → (get_or d from 0 == 48) ≡ false → is_ascii_digit (get_or d (from + 1) 0) ≡ true
@@ -265,10 +268,10 @@ two_digits d from first some second comma =
     let pair = get_or d from 0 ∷ get_or d (from + 1) 0 ∷ [] in
     let there : drop from d ≡ get_or d from 0 ∷ get_or d (from + 1) 0 ∷ drop (from + 1 + 1) d =
     drop_more d from 0 (omega (arith, after.0))
-        ∙ ap (λ l. get_or d from 0 ∷ l) (drop_more d (from + 1) 0 (omega (arith, after.0))) in
+    ∙ ap (λ l. get_or d from 0 ∷ l) (drop_more d (from + 1) 0 (omega (arith, after.0))) in
     let same : pair ≡ part d from (from + 2) =
-        ap (take 2) (sym there) ∙ ap (λ n. take n (drop from d)) (sym two) in
+    ap (take 2) (sym there) ∙ ap (λ n. take n (drop from d)) (sym two) in
     let digits : list_all is_ascii_digit pair ≡ true = ap₂ (λ a b. a && (b && true)) first second in
     some_numeral d from (from + 2) _ same (digits_number pair digits (omega arith) (inr some))
-        (short_in_range pair (omega arith) (omega arith) digits) (omega arith)
-        (ap (λ x. is_operator x || is_space x) comma)
+    (short_in_range pair (omega arith) (omega arith) digits) (omega arith)
+    (ap (λ x. is_operator x || is_space x) comma)

@@ -65,16 +65,18 @@ pub number_passed : (depth : ℕ) (digits : List ℕ) (ts : List Token)
     → is_some (number_of digits) ≡ true
     → (n : Num) × (converted of_json (value depth (Token.number digits ∷ ts)) ≡ Some (number n, ts))
 number_passed depth digits ts h =
-    let read = some_of (number_of digits) h in
-    (read.0, ap (converted of_json) (value_is depth (Token.number digits ∷ ts))
-        ∙ ap (λ n. option_map {U = Data × List Token} (λ d. (d, ts)) (option_map number n)) read.1)
+    let read = some_of (number_of digits) h in (
+      read.0,
+      ap (converted of_json) (value_is depth (Token.number digits ∷ ts))
+          ∙ ap (λ n. option_map {U = Data × List Token} (λ d. (d, ts)) (option_map number n)) read.1,
+    )
 
 pub array_passed : (depth : ℕ) (ts rest : List Token) (ds : Items) → 0 < depth
     → converted of_items (items (value (depth - 1)) (length ts) ts) ≡ Some (ds, rest)
     → converted of_json (value depth (Token.begin_array ∷ ts)) ≡ Some (array ds, rest)
 array_passed depth ts rest ds some read =
     ap (converted of_json) (value-begin_array depth ts some)
-        ∙ as_array (items (value (depth - 1)) (length ts) ts) ∙ ap (parse_map array) read
+    ∙ as_array (items (value (depth - 1)) (length ts) ts) ∙ ap (parse_map array) read
 
 pub object_passed : (depth : ℕ) (ts rest : List Token) (ms : Members) → 0 < depth
     → converted (λ js. of_members js no_members) (members (value (depth - 1)) (length ts) ts)
@@ -82,7 +84,7 @@ pub object_passed : (depth : ℕ) (ts rest : List Token) (ms : Members) → 0 < 
     → converted of_json (value depth (Token.begin_object ∷ ts)) ≡ Some (object ms, rest)
 object_passed depth ts rest ms some read =
     ap (converted of_json) (value-begin_object depth ts some)
-        ∙ as_object (members (value (depth - 1)) (length ts) ts) ∙ ap (parse_map object) read
+    ∙ as_object (members (value (depth - 1)) (length ts) ts) ∙ ap (parse_map object) read
 
 -- ---- items and members
 
@@ -115,7 +117,7 @@ module _ (p : Parse json.Json) where
   member_passed old n k ts s r d some key e =
       let j = converted_some of_json (p s) d r e in
       ap (converted (λ ms. of_members ms old)) (members_more p n k ts s r j.0 some key j.1)
-          ∙ with_member k j.0 d old j.2 _
+      ∙ with_member k j.0 d old j.2 _
 
   pub members_passed : (old : Members) (n : ℕ) (ts r : List Token) → length ts ≤ n
       → read_key ts ≡ Some (None, r)

@@ -52,8 +52,8 @@ spaces_ended d from end is = by (cases_Bool (is_space (get_or d end 0)))
     by (inr none) = none
     by (inl some) =
         let within : end < length d =
-            lt_of_not-le (λ past. true≢false (sym some ∙ ap is_space (get_or_past d end 0 past))) in
+        lt_of_not-le (λ past. true≢false (sym some ∙ ap is_space (get_or_past d end 0 past))) in
         let there : get_or (drop from d) (prefix_len is_space (drop from d)) 0 ≡ get_or d end 0 =
-            get_or-drop from d _ 0 ∙ ap (λ k. get_or d k 0) (sym is) in
+        get_or-drop from d _ 0 ∙ ap (λ k. get_or d k 0) (sym is) in
         let stops = prefix_len_stops is_space (drop from d) 0 (omega (arith, length-drop from d)) in
         ap is_space (sym there) ∙ stops

@@ -23,8 +23,8 @@ use Rattle.lsp_outline.proofs.Lexing.{lex_close, lex_plain, lex_run}
 pub content-after_backslash : (d : List ℕ) (i : ℕ) → i < length d
     → content after_backslash (drop i d)
     ≡ cond (get_or d i 0 == 117) (content after_u (drop (i + 1) d))
-        (option_and_then (λ c. prepend (c ∷ []) (content plain (drop (i + 1) d)))
-        (short_escape (get_or d i 0)))
+    (option_and_then (λ c. prepend (c ∷ []) (content plain (drop (i + 1) d)))
+    (short_escape (get_or d i 0)))
 unfolding content
 content-after_backslash d i h = ap (content after_backslash) (drop_more d i 0 h)
 
@@ -33,16 +33,16 @@ four : (d : List ℕ) (i : ℕ) → i + 4 ≤ length d
     (i + 4) d
 four d i h =
     let more : (j k : ℕ) → k ≡ j + 1 → j < length d → drop j d ≡ get_or d j 0 ∷ drop k d =
-        λ j k e l. drop_more d j 0 l ∙ ap (λ n. get_or d j 0 ∷ drop n d) (sym e) in
+    λ j k e l. drop_more d j 0 l ∙ ap (λ n. get_or d j 0 ∷ drop n d) (sym e) in
     more i (i + 1) refl (omega arith)
-        ∙ ap (λ l. get_or d i 0 ∷ l)
-        (more (i + 1) (i + 2) (omega arith) (omega arith) ∙ ap (λ l. get_or d (i + 1) 0 ∷ l)
+    ∙ ap (λ l. get_or d i 0 ∷ l)
+    (more (i + 1) (i + 2) (omega arith) (omega arith) ∙ ap (λ l. get_or d (i + 1) 0 ∷ l)
     (more (i + 2) (i + 3) (omega arith) (omega arith)
-        ∙ ap (λ l. get_or d (i + 2) 0 ∷ l) (more (i + 3) (i + 4) (omega arith) (omega arith))))
+    ∙ ap (λ l. get_or d (i + 2) 0 ∷ l) (more (i + 3) (i + 4) (omega arith) (omega arith))))
 
 pub content-after_u : (d : List ℕ) (i : ℕ) → i + 4 ≤ length d → content after_u (drop i d)
     ≡ option_and_then (λ u. cond (is_high_surrogate u) (content (after_high u) (drop (i + 4) d))
-        (cond (is_low_surrogate u) None (prepend (encode_utf8 u) (content plain (drop (i + 4) d)))))
+    (cond (is_low_surrogate u) None (prepend (encode_utf8 u) (content plain (drop (i + 4) d)))))
     (code_unit (get_or d i 0) (get_or d (i + 1) 0) (get_or d (i + 2) 0) (get_or d (i + 3) 0))
 unfolding content
 content-after_u d i h = ap (content after_u) (four d i h)
@@ -51,21 +51,21 @@ pub content-after_high : (d : List ℕ) (i high : ℕ) → i + 6 ≤ length d
     → content (after_high high) (drop i d)
     ≡ cond ((get_or d i 0 == 92) && (get_or d (i + 1) 0 == 117))
     (option_and_then (λ l. cond (is_low_surrogate l)
-        (prepend (encode_utf8 (surrogate_pair high l)) (content plain (drop (i + 6) d))) None)
+    (prepend (encode_utf8 (surrogate_pair high l)) (content plain (drop (i + 6) d))) None)
     (code_unit (get_or d (i + 2) 0) (get_or d (i + 2 + 1) 0) (get_or d (i + 2 + 2) 0)
-        (get_or d (i + 2 + 3) 0))) None
+    (get_or d (i + 2 + 3) 0))) None
 unfolding content
 content-after_high d i high h =
     let two : i + 1 + 1 ≡ i + 2 = omega arith in
     let six : i + 2 + 4 ≡ i + 6 = omega arith in
     let last = four d (i + 2) (omega arith)
-        ∙ ap (λ n. get_or d (i + 2) 0 ∷ get_or d (i + 2 + 1) 0 ∷ get_or d (i + 2 + 2) 0 ∷ get_or d
-        (i + 2 + 3) 0 ∷ drop n d) six in
+    ∙ ap (λ n. get_or d (i + 2) 0 ∷ get_or d (i + 2 + 1) 0 ∷ get_or d (i + 2 + 2) 0 ∷ get_or d
+    (i + 2 + 3) 0 ∷ drop n d) six in
     ap (content (after_high high))
-        (drop_more d i 0 (omega arith)
-        ∙ ap (λ l. get_or d i 0 ∷ l)
-        (drop_more d (i + 1) 0 (omega arith)
-        ∙ ap (λ l. get_or d (i + 1) 0 ∷ l) (ap (λ n. drop n d) two ∙ last)))
+    (drop_more d i 0 (omega arith)
+    ∙ ap (λ l. get_or d i 0 ∷ l)
+    (drop_more d (i + 1) 0 (omega arith)
+    ∙ ap (λ l. get_or d (i + 1) 0 ∷ l) (ap (λ n. drop n d) two ∙ last)))
 
 pub content-nil : (w : Within) → content w [] ≡ None
 unfolding content
@@ -118,7 +118,7 @@ run_byte true x n xs e ih =
     let none = or_parts ((x == 34) || (x == 92)) _ (not-true _ (sym e)) in
     let tests = or_parts (x == 34) _ none.0 in
     (λ i. cond (tests.0 i) (Some []) (cond (tests.1 i) (content after_backslash xs)
-        (cond (none.1 i) None (prepend (x ∷ []) (ih i)))))
+    (cond (none.1 i) None (prepend (x ∷ []) (ih i)))))
     ∙ prepend-prepend (x ∷ []) (take n xs) _
     ∙ ap (λ k. prepend (take k (x ∷ xs)) (content plain (drop k (x ∷ xs)))) next
 
@@ -144,18 +144,22 @@ pub run_on : (d : List ℕ) (from at stop : ℕ) (s : List ℕ) → IsRun d from
 run_on d from at stop s run is =
     let n : prefix_len is_plain (drop at d) ≡ stop - at = omega arith in
     let there : drop (prefix_len is_plain (drop at d)) (drop at d) ≡ drop stop d =
-        drop-drop _ at d ∙ ap (λ k. drop k d) (sym is) in
+    drop-drop _ at d ∙ ap (λ k. drop k d) (sym is) in
     let front = take (stop - at) (drop at d) in
     let plainly : content plain (drop at d) ≡ prepend front (content plain (drop stop d)) =
     content-run (drop at d) ∙ ap (λ l. prepend (take (prefix_len is_plain (drop at d)) (drop at d))
-        (content plain l)) there
-        ∙ ap (λ k. prepend (take k (drop at d)) (content plain (drop stop d))) n in
+    (content plain l)) there
+    ∙ ap (λ k. prepend (take k (drop at d)) (content plain (drop stop d))) n in
     record {
       text = run.text ∙ ap (prepend s) plainly ∙ prepend-prepend s front _;
       passed = run.passed ∙ lex_run (drop at d) ∙ ap (lex in_string) there;
       forward = omega (arith, run.forward);
-      within = omega (arith, prefix_len-le-length is_plain (drop at d), length-drop at d,
-          run.within);
+      within = omega (
+        arith,
+        prefix_len-le-length is_plain (drop at d),
+        length-drop at d,
+        run.within,
+      );
     }
 
 at_quote : (d : List ℕ) (i : ℕ) → i < length d → get_or d i 0 ≡ 34
@@ -176,7 +180,7 @@ pub closed : (d : List ℕ) (from stop : ℕ) (s : List ℕ) → IsRun d from st
     → IsText d from (stop + 1) s
 closed d from stop s run is =
     let within : stop < length d =
-        lt_of_not-le (λ past. omega (arith, get_or_past d stop 0 past)) in
+    lt_of_not-le (λ past. omega (arith, get_or_past d stop 0 past)) in
     let quoted = at_quote d stop within is in
     record {
       text = run.text ∙ ap (prepend s) quoted.0 ∙ ap Some (append-nil s);
@@ -191,7 +195,7 @@ pub escaped : (d : List ℕ) (from stop c next : ℕ) (s : List ℕ) → IsRun d
     → IsRun d from next (s ++ encode_utf8 c)
 escaped d from stop c next s run is escape passed =
     let within : stop < length d =
-        lt_of_not-le (λ past. omega (arith, get_or_past d stop 0 past)) in
+    lt_of_not-le (λ past. omega (arith, get_or_past d stop 0 past)) in
     let slash = at_backslash d stop within is in
     record {
       text = run.text ∙ ap (prepend s) (slash.0 ∙ escape.0) ∙ prepend-prepend s _ _;
@@ -237,4 +241,4 @@ pub slash_passed : (d : List ℕ) (i : ℕ) → i + 1 < length d → get_or d i 
 slash_passed d i h e =
     let two : i + 1 + 1 ≡ i + 2 = omega arith in
     (at_backslash d i (omega arith) e).1 ∙ escape_passed d (i + 1) h
-        ∙ ap (λ k. lex in_string (drop k d)) two
+    ∙ ap (λ k. lex in_string (drop k d)) two

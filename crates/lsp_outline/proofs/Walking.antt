@@ -55,7 +55,7 @@ text_at : (d : List ℕ) (from end : ℕ) (s : List ℕ) → get_or d from 0 ≡
 text_at d from end s is text =
     let here = byte d from 34 is (omega arith) in
     ap (lex between) here.1 ∙ lex_quote _
-        ∙ ap₂ (λ o ls. token (string_token o) ∷ ls) text.text text.passed
+    ∙ ap₂ (λ o ls. token (string_token o) ∷ ls) text.text text.passed
 
 -- ---- what is no colon
 
@@ -89,15 +89,15 @@ unfolding lex
 no_colon [] spaced none = refl
 no_colon (x ∷ xs) spaced none =
     no_colon_class (x == 34) (x == 92) (is_operator x) (is_space x) x xs (λ next. lex next xs)
-        spaced
+    spaced
     (λ h. no_colon_operator (x == 123) (x == 125) (x == 91) (x == 93) (x == 58) (x == 44)
-        (lex between xs) h none)
+    (lex between xs) h none)
 
 pub no_colon_at : (d : List ℕ) (i : ℕ) → is_space (get_or d i 0) ≡ false
     → (get_or d i 0 == 58) ≡ false → begins_colon (lex between (drop i d)) ≡ false
 no_colon_at d i spaced none =
     let here : get_or (drop i d) 0 0 ≡ get_or d i 0 =
-        get_or-drop i d 0 0 ∙ ap (λ k. get_or d k 0) (add-zero i) in
+    get_or-drop i d 0 0 ∙ ap (λ k. get_or d k 0) (add-zero i) in
     no_colon (drop i d) (ap is_space here ∙ spaced) (ap (λ x. x == 58) here ∙ none)
 
 -- ---- values
@@ -109,7 +109,7 @@ pub string_value : (d : List ℕ) (from close end : ℕ) (s : List ℕ) → get_
 string_value d from close end s first text same ended le within depth =
     let ls = lex between (drop end d) in
     let lexed : lex between (drop from d) ≡ token (token_of.string s) ∷ ls =
-        text_at d from close s first text ∙ ap (λ l. token (token_of.string s) ∷ l) (sym same) in
+    text_at d from close s first text ∙ ap (λ l. token (token_of.string s) ∷ l) (sym same) in
     record {
       read = λ p may. ap (λ l. converted of_json (value depth (punctuate p l))) lexed
           ∙ ap (λ ts. converted of_json (value depth ts)) (string_first p s ls ended may)
@@ -123,7 +123,7 @@ slice : (d : List ℕ) (from end : ℕ) → from ≤ end → drop from d ≡ par
 slice d from end le =
     let there : from + (end - from) ≡ end = omega arith in
     sym (take-append-drop (end - from) (drop from d))
-        ∙ ap (λ l. part d from end ++ l) (drop-drop (end - from) from d ∙ ap (λ k. drop k d) there)
+    ∙ ap (λ l. part d from end ++ l) (drop-drop (end - from) from d ∙ ap (λ k. drop k d) there)
 
 pub number_value : (depth : ℕ) (d : List ℕ) (from end : ℕ) → IsNumeral d from end
     → kind_at (get_or d from 0) ≡ kinds.Plain → (x : Data) × IsValue depth d from end x
@@ -131,8 +131,8 @@ number_value depth d from end is kind =
     let s = part d from end in
     let ls = lex between (drop end d) in
     let lexed : lex between (drop from d) ≡ token (token_of.number s) ∷ ls =
-        ap (lex between) (slice d from end (omega (arith, is.forward)))
-        ∙ lex-number s (drop end d) is.number is.ended in
+    ap (lex between) (slice d from end (omega (arith, is.forward)))
+    ∙ lex-number s (drop end d) is.number is.ended in
     let passed = number_passed depth s (punctuate after_value ls) is.fits in (
       tree.number passed.0,
       record {
@@ -153,8 +153,8 @@ natural_value depth d from end n is reads kind =
     let ls = lex between (drop end d) in
     let rest = punctuate after_value ls in
     let lexed : lex between (drop from d) ≡ token (token_of.number s) ∷ ls =
-        ap (lex between) (slice d from end (omega (arith, is.forward)))
-        ∙ lex-number s (drop end d) is.number is.ended in
+    ap (lex between) (slice d from end (omega (arith, is.forward)))
+    ∙ lex-number s (drop end d) is.number is.ended in
     record {
       read = λ p may. ap (λ l. converted of_json (value depth (punctuate p l))) lexed
           ∙ ap (λ ts. converted of_json (value depth ts))
@@ -174,8 +174,8 @@ plain_kind x a b c = λ i. cond (ne_eqb x 123 a i || ne_eqb x 91 b i) kinds.Stru
 pub digit_kind : (x : ℕ) → is_ascii_digit x ≡ true → kind_at x ≡ kinds.Plain
 digit_kind x digit =
     plain_kind x (λ e. true≢false (sym digit ∙ ap is_ascii_digit e))
-        (λ e. true≢false (sym digit ∙ ap is_ascii_digit e))
-        (λ e. true≢false (sym digit ∙ ap is_ascii_digit e))
+    (λ e. true≢false (sym digit ∙ ap is_ascii_digit e))
+    (λ e. true≢false (sym digit ∙ ap is_ascii_digit e))
 
 -- a number begins with none of these
 not_first : (x : ℕ) (rest : List ℕ) → is_ascii_digit x ≡ false → (x == 45) ≡ false
@@ -199,8 +199,8 @@ numeral_kind d from end is =
     let some : from < length d = omega (arith, is.forward, is.within) in
     let n : end - from ≡ suc (end - from - 1) = omega (arith, is.forward) in
     let front : part d from end ≡ get_or d from 0 ∷ take (end - from - 1) (drop (from + 1) d) =
-        ap (λ k. take k (drop from d)) n
-        ∙ ap (take (suc (end - from - 1))) (drop_more d from 0 some) in
+    ap (λ k. take k (drop from d)) n
+    ∙ ap (take (suc (end - from - 1))) (drop_more d from 0 some) in
     number_kind (get_or d from 0) _ (subst IsNumber front is.number)
 
 pub numeral_value : (d : List ℕ) (from end n : ℕ) → IsNatural d from end n → (depth : ℕ)
@@ -213,9 +213,9 @@ named : (d : List ℕ) (from : ℕ) (name : List ℕ) → starts_with nat_eq (dr
     → drop from d ≡ name ++ drop (from + length name) d
 named d from name h =
     let front : name ≡ take (length name) (drop from d) =
-        (bytes_eq-Decides name (take (length name) (drop from d))).0 h in
+    (bytes_eq-Decides name (take (length name) (drop from d))).0 h in
     sym (take-append-drop (length name) (drop from d))
-        ∙ ap₂ (λ a b. a ++ b) (sym front) (drop-drop (length name) from d)
+    ∙ ap₂ (λ a b. a ++ b) (sym front) (drop-drop (length name) from d)
 
 abbrev true_text : List ℕ
 true_text = 116 ∷ 114 ∷ 117 ∷ 101 ∷ []
@@ -249,7 +249,7 @@ module _ (depth : ℕ) (d : List ℕ) (from end : ℕ) where
       → IsValue depth d from end (tree.boolean true)
   true_value first is =
       let lexed = ap (lex between) (named d from true_text is.named
-          ∙ ap (λ k. true_text ++ drop k d) (sym is.is)) ∙ lex_true (drop end d) is.ended in
+      ∙ ap (λ k. true_text ++ drop k d) (sym is.is)) ∙ lex_true (drop end d) is.ended in
       record {
         read = λ p may. ap (λ l. converted of_json (value depth (punctuate p l))) lexed
             ∙ ap (λ ts. converted of_json (value depth ts))
@@ -264,7 +264,7 @@ module _ (depth : ℕ) (d : List ℕ) (from end : ℕ) where
       → IsValue depth d from end (tree.boolean false)
   false_value first is =
       let lexed = ap (lex between) (named d from false_text is.named
-          ∙ ap (λ k. false_text ++ drop k d) (sym is.is)) ∙ lex_false (drop end d) is.ended in
+      ∙ ap (λ k. false_text ++ drop k d) (sym is.is)) ∙ lex_false (drop end d) is.ended in
       record {
         read = λ p may. ap (λ l. converted of_json (value depth (punctuate p l))) lexed
             ∙ ap (λ ts. converted of_json (value depth ts))
@@ -279,7 +279,7 @@ module _ (depth : ℕ) (d : List ℕ) (from end : ℕ) where
       → IsValue depth d from end tree.null
   null_value first is =
       let lexed = ap (lex between) (named d from null_text is.named
-          ∙ ap (λ k. null_text ++ drop k d) (sym is.is)) ∙ lex_null (drop end d) is.ended in
+      ∙ ap (λ k. null_text ++ drop k d) (sym is.is)) ∙ lex_null (drop end d) is.ended in
       record {
         read = λ p may. ap (λ l. converted of_json (value depth (punctuate p l))) lexed
             ∙ ap (λ ts. converted of_json (value depth ts)) (word_first p token_of.null _ refl may)
@@ -325,7 +325,7 @@ pub key_value : (d : List ℕ) (from close end : ℕ) (k : List ℕ) → get_or 
 key_value d from close end k first text passed less within =
     let ls = lex between (drop end d) in
     let lexed : lex between (drop from d) ≡ token (token_of.string k) ∷ colon ∷ ls =
-        text_at d from close k first text ∙ ap (λ l. token (token_of.string k) ∷ l) passed in
+    text_at d from close k first text ∙ ap (λ l. token (token_of.string k) ∷ l) passed in
     record {
       read = λ p may. ap (λ l. read_key (punctuate p l)) lexed ∙ ap read_key (key_first p k ls may);
       forward = omega (arith, text.forward);
@@ -377,7 +377,7 @@ pub comma_behind : (d : List ℕ) (end next at : ℕ)
     → tokens_from after_value d end ≡ tokens_from after_comma d at
 comma_behind d end next at same is after =
     ap (punctuate after_value) (sym same ∙ operator_at d next 44 is (omega arith) refl)
-        ∙ comma_next _ ∙ ap (punctuate after_comma) (sym after)
+    ∙ comma_next _ ∙ ap (punctuate after_comma) (sym after)
 
 pub bracket_behind : (p : Place) (d : List ℕ) (end next : ℕ)
     → lex between (drop next d) ≡ lex between (drop end d) → get_or d next 0 ≡ 93
@@ -398,8 +398,8 @@ module _ (depth : ℕ) (d : List ℕ) (from : ℕ) where
       → from ≤ at → at ≤ length d → SomeItems depth d from at
   no_items_yet at same le within =
       let reads : List Lexeme → Option (Items × List Token) =
-          λ ls. converted of_items (items (value depth) (length (tokens_from fresh d from))
-          (punctuate fresh ls)) in
+      λ ls. converted of_items (items (value depth) (length (tokens_from fresh d from))
+      (punctuate fresh ls)) in
       record {
         place = fresh;
         begins = refl;
@@ -424,7 +424,7 @@ module _ (depth : ℕ) (d : List ℕ) (from : ℕ) where
       let took = taken depth ts r x passed in
       let behind = comma_behind d end next then same is after in
       let turn = item_passed (value depth) old.turns ts r x
-          (omega (arith, took.shorter, old.enough)) took.going passed in
+      (omega (arith, took.shorter, old.enough)) took.going passed in
       let front : Items → Items = λ xs. old.front (item x xs) in
       record {
         place = after_comma;
@@ -460,9 +460,9 @@ module _ (depth : ℕ) (d : List ℕ) (from : ℕ) where
       let here = byte d next 93 is (omega arith) in
       let behind = bracket_behind after_value d end next same is ∙ array_last after_value _ refl in
       let turn = item_passed (value depth) old.turns ts r x
-          (omega (arith, took.shorter, old.enough)) took.going passed in
+      (omega (arith, took.shorter, old.enough)) took.going passed in
       let over = items_passed (value depth) (old.turns - 1) r (tokens_from after_value d (next + 1))
-          (omega (arith, took.shorter, old.enough)) (ap after_end_array behind) in (
+      (omega (arith, took.shorter, old.enough)) (ap after_end_array behind) in (
         old.front (item x no_items),
         record {
           read = old.same ∙ ap (parse_map old.front) (turn ∙ ap (parse_map (item x)) over);
@@ -488,8 +488,8 @@ module _ (depth : ℕ) (d : List ℕ) (from : ℕ) where
       → at ≤ length d → SomeMembers depth d from at no_members
   no_members_yet at same le within =
       let reads : List Lexeme → Option (Members × List Token) =
-          λ ls. converted (λ ms. of_members ms no_members)
-          (members (value depth) (length (tokens_from fresh d from)) (punctuate fresh ls)) in
+      λ ls. converted (λ ms. of_members ms no_members)
+      (members (value depth) (length (tokens_from fresh d from)) (punctuate fresh ls)) in
       record {
         place = fresh;
         begins = refl;
@@ -515,7 +515,7 @@ module _ (depth : ℕ) (d : List ℕ) (from : ℕ) where
       let took = taken depth s r x passed in
       let behind = comma_behind d end next then same is after in
       let turn = member_passed (value depth) found old.turns k ts s r x
-          (omega (arith, less, old.enough)) spelled passed in
+      (omega (arith, less, old.enough)) spelled passed in
       record {
         place = after_comma;
         begins = refl;
@@ -542,10 +542,10 @@ module _ (depth : ℕ) (d : List ℕ) (from : ℕ) where
       let here = byte d next 125 is (omega arith) in
       let behind = brace_behind after_value d end next same is ∙ object_last after_value _ refl in
       let turn = member_passed (value depth) found old.turns k ts s r x
-          (omega (arith, less, old.enough)) spelled passed in
+      (omega (arith, less, old.enough)) spelled passed in
       let over = members_passed (value depth) (put k x found) (old.turns - 1) r
-          (tokens_from after_value d (next + 1)) (omega (arith, less, took.shorter, old.enough))
-          (ap read_key behind) in
+      (tokens_from after_value d (next + 1)) (omega (arith, less, took.shorter, old.enough))
+      (ap read_key behind) in
       record {
         read = old.same ∙ turn ∙ over;
         forward = omega (arith, old.forward, key.forward, here_read.forward);
@@ -580,7 +580,7 @@ pub whole_value : (d : List ℕ) (from end last : ℕ) (x : Data)
 whole_value d from end last x before found behind past =
     whole_passed d x
     (ap (λ ls. converted of_json (value max_depth (punctuate fresh ls))) (sym before)
-        ∙ found.read fresh refl ∙ ap (λ ts. Some (x, ts)) (over d end last behind past))
+    ∙ found.read fresh refl ∙ ap (λ ts. Some (x, ts)) (over d end last behind past))
 
 pub whole_object : (d : List ℕ) (from end last : ℕ) (ms : Members)
     → lex between (drop from d) ≡ lex between d → get_or d from 0 ≡ 123
@@ -589,7 +589,7 @@ pub whole_object : (d : List ℕ) (from end last : ℕ) (ms : Members)
     → read d ≡ Some (tree.object ms)
 whole_object d from end last ms before first rest behind past =
     whole_value d from end last (tree.object ms) before
-        (object_value max_depth d from end ms first (omega arith) rest) behind past
+    (object_value max_depth d from end ms first (omega arith) rest) behind past
 
 -- what reads as JSON has a byte at least
 pub some_content : (content : List ℕ) (x : Data) → read content ≡ Some x → 0 < length content

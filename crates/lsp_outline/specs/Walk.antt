@@ -103,8 +103,8 @@ pub record SomeItems (depth : ℕ) (d : List ℕ) (from at : ℕ) : Type 0 where
   pub enough : length (tokens_from place d at) ≤ turns
   pub same : let ts = tokens_from fresh d from in
       converted of_items (items (value depth) (length ts) ts)
-          ≡ parse_map front (converted of_items (items (value depth) turns
-          (tokens_from place d at)))
+      ≡ parse_map front (converted of_items (items (value depth) turns
+      (tokens_from place d at)))
   pub forward : from ≤ at
   pub within : at ≤ length d
 
@@ -116,8 +116,8 @@ pub record SomeMembers (depth : ℕ) (d : List ℕ) (from at : ℕ) (found : Mem
   pub enough : length (tokens_from place d at) ≤ turns
   pub same : let ts = tokens_from fresh d from in
       converted (λ ms. of_members ms no_members) (members (value depth) (length ts) ts)
-          ≡ converted (λ ms. of_members ms found)
-          (members (value depth) turns (tokens_from place d at))
+      ≡ converted (λ ms. of_members ms found)
+      (members (value depth) turns (tokens_from place d at))
   pub forward : from ≤ at
   pub within : at ≤ length d
 

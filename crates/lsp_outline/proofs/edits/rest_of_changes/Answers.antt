@@ -44,8 +44,8 @@ changes-preserved c =
       item_turn c.args.depth c.args.text.now c.args.from l.at c.in_ok-change.end next.result
           again.result (object read.0) some read.1
           (rw (← bytes) next.ensures.same) (rw (← bytes) (grind arith))
-              (rw (← bytes) again.ensures.same) next.ensures.forward again.ensures.forward
-              (rw (← bytes) again.ensures.within),
+          (rw (← bytes) again.ensures.same) next.ensures.forward again.ensures.forward
+          (rw (← bytes) again.ensures.within),
       (λ rest. one_more change_at some.front (changes_view l.found.items) (object read.0)
           (change_view change) read.2 l.invariant.1 rest
           ∙ ap (λ done. option_map (λ more. done ++ more) (all_of change_at rest)) (sym seen)),
@@ -63,8 +63,8 @@ returns-then-mark-eq93 c =
     let pushed : c.push.new.self.items ≡ l.found.items ++ change ∷ [] = grind arith in
     let seen = ap changes_view pushed ∙ map-append change_view l.found.items (change ∷ []) in
     let last = last_item c.args.depth c.args.text.now c.args.from l.at c.in_ok-change.end
-        next.result (object read.0) some read.1 (rw (← bytes) next.ensures.same)
-        (rw (← bytes) (grind arith)) next.ensures.forward in (
+    next.result (object read.0) some read.1 (rw (← bytes) next.ensures.same)
+    (rw (← bytes) (grind arith)) next.ensures.forward in (
       last.0,
       last.1,
       one_more change_at some.front (changes_view l.found.items) (object read.0)

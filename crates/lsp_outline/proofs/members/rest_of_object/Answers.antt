@@ -37,8 +37,8 @@ members-preserved g c =
       member_turn c.args.depth c.args.text.now c.args.from l.at name.begin c.in_ok-end.end
           next.result again.result k taken.0 l.invariant.0 l.invariant.1 name.ensures taken.1
           (rw (← bytes) next.ensures.same) (rw (← bytes) (grind arith))
-              (rw (← bytes) again.ensures.same) next.ensures.forward again.ensures.forward
-              (rw (← bytes) again.ensures.within),
+          (rw (← bytes) again.ensures.same) next.ensures.forward again.ensures.forward
+          (rw (← bytes) again.ensures.within),
       taken.2 l.invariant.0 l.invariant.2,
     )
 

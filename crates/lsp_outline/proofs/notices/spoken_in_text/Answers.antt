@@ -12,7 +12,7 @@ returns c =
     let begin = c.spaces_end-from in
     let last = c.spaces_end in
     let read = whole_value d begin.result c.in_ok-parts.end last.result (object found.0)
-        (rw (← bytes) begin.ensures.same) found.1 (rw (← bytes) last.ensures.same)
-        (rw (← bytes) (omega arith)) in
+    (rw (← bytes) begin.ensures.same) found.1 (rw (← bytes) last.ensures.same)
+    (rw (← bytes) (omega arith)) in
     IfSome_then c.spoken_in.result c.spoken_in.ensures
-        (λ spoken told. (found.0, read, told found.0 found.2))
+    (λ spoken told. (found.0, read, told found.0 found.2))

@@ -22,6 +22,10 @@ returns-in_err-c-clause-value c =
 
 pub returns-clause-value : goal.returns-clause-value
 returns-clause-value c =
-    let last : c.args.at + 4 - 1 ≡ c.args.at + 3 = omega arith in
-    (grind (arith, content-after_u c.args.bytes.now c.args.at (omega arith)), omega arith,
-        omega arith, omega (arith, len_utf8-le c.in_ok-c.c), rw last c.in_ok-unit.ensures.bounds.1)
+    let last : c.args.at + 4 - 1 ≡ c.args.at + 3 = omega arith in (
+      grind (arith, content-after_u c.args.bytes.now c.args.at (omega arith)),
+      omega arith,
+      omega arith,
+      omega (arith, len_utf8-le c.in_ok-c.c),
+      rw last c.in_ok-unit.ensures.bounds.1,
+    )

@@ -14,43 +14,57 @@ value_end-returns-in-34 t c =
 pub value_end-returns-else-depth-eq0 : goal.value_end-returns-else-depth-eq0
 value_end-returns-else-depth-eq0 t c =
     IfSome_then c.items_end.result c.items_end.ensures
-        (λ end h. (array h.0, array_value c.args.depth c.args.bytes.now c.args.from end h.0
-        (grind arith) (grind arith) h.1))
+    (λ end h. (
+      array h.0,
+      array_value c.args.depth c.args.bytes.now c.args.from end h.0
+          (grind arith) (grind arith) h.1,
+    ))
 
 pub value_end-returns-else-depth-eq0-2 : goal.value_end-returns-else-depth-eq0-2
 value_end-returns-else-depth-eq0-2 t c =
     IfSome_then c.members_end.result c.members_end.ensures
-        (λ end h. (object h.0, object_value c.args.depth c.args.bytes.now c.args.from end h.0
-        (grind arith) (grind arith) h.1))
+    (λ end h. (
+      object h.0,
+      object_value c.args.depth c.args.bytes.now c.args.from end h.0
+          (grind arith) (grind arith) h.1,
+    ))
 
 pub value_end-returns-in-116 : goal.value_end-returns-in-116
 value_end-returns-in-116 t c =
     IfSome_then c.literal_end.result c.literal_end.ensures
-        (λ end h. (boolean true, true_value c.args.depth c.args.bytes.now c.args.from end
-        (grind arith) h))
+    (λ end h. (
+      boolean true,
+      true_value c.args.depth c.args.bytes.now c.args.from end
+          (grind arith) h,
+    ))
 
 pub value_end-returns-in-102 : goal.value_end-returns-in-102
 value_end-returns-in-102 t c =
     IfSome_then c.literal_end-in-102.result c.literal_end-in-102.ensures
-        (λ end h. (boolean false, false_value c.args.depth c.args.bytes.now c.args.from end
-        (grind arith) h))
+    (λ end h. (
+      boolean false,
+      false_value c.args.depth c.args.bytes.now c.args.from end
+          (grind arith) h,
+    ))
 
 pub value_end-returns-in-110 : goal.value_end-returns-in-110
 value_end-returns-in-110 t c =
     IfSome_then c.literal_end-in-110.result c.literal_end-in-110.ensures
-        (λ end h. (null, null_value c.args.depth c.args.bytes.now c.args.from end (grind arith) h))
+    (λ end h. (null, null_value c.args.depth c.args.bytes.now c.args.from end (grind arith) h))
 
 pub value_end-returns-in_default : goal.value_end-returns-in_default
 value_end-returns-in_default t c =
     IfSome_then c.number_end.result c.number_end.ensures
     (λ end h. number_value c.args.depth c.args.bytes.now c.args.from end h
-        (plain_kind (get_or c.args.bytes.now c.args.from 0) (λ e. grind arith) (λ e. grind arith)
-        (λ e. grind arith)))
+    (plain_kind (get_or c.args.bytes.now c.args.from 0) (λ e. grind arith) (λ e. grind arith)
+    (λ e. grind arith)))
 
 pub items_end-returns-then-byte_at-eq93 : goal.items_end-returns-then-byte_at-eq93
-items_end-returns-then-byte_at-eq93 t c =
-    (no_items, without_items c.args.depth c.args.bytes.now c.args.from c.spaces_end-at.result
-        c.spaces_end-at.ensures.same (grind arith) c.spaces_end-at.ensures.forward)
+items_end-returns-then-byte_at-eq93 t c = (
+  no_items,
+  without_items c.args.depth c.args.bytes.now c.args.from c.spaces_end-at.result
+      c.spaces_end-at.ensures.same (grind arith) c.spaces_end-at.ensures.forward,
+)
 
 pub items_end-items-init : goal.items_end-items-init
 items_end-items-init t c =
@@ -64,10 +78,10 @@ items_end-items-preserved t c =
     let next = c.spaces_end-next in
     let again = c.spaces_end-at-in-items in
     item_turn c.args.depth c.args.bytes.now c.args.from begin.result c.in_ok-end.end next.result
-        again.result found.0 (begin.ensures.passed c.args.depth c.args.from c.items.invariant)
-        found.1
+    again.result found.0 (begin.ensures.passed c.args.depth c.args.from c.items.invariant)
+    found.1
     next.ensures.same (grind arith) again.ensures.same next.ensures.forward again.ensures.forward
-        again.ensures.within
+    again.ensures.within
 
 pub items_end-returns-then-mark-eq93 : goal.items_end-returns-then-mark-eq93
 items_end-returns-then-mark-eq93 t c =
@@ -75,18 +89,22 @@ items_end-returns-then-mark-eq93 t c =
     let begin = c.tiny_items_end-begin in
     let next = c.spaces_end-next in
     last_item c.args.depth c.args.bytes.now c.args.from begin.result c.in_ok-end.end next.result
-        found.0 (begin.ensures.passed c.args.depth c.args.from c.items.invariant) found.1
-        next.ensures.same (grind arith) next.ensures.forward
+    found.0 (begin.ensures.passed c.args.depth c.args.from c.items.invariant) found.1
+    next.ensures.same (grind arith) next.ensures.forward
 
 pub members_end-returns-then-byte_at-eq125 : goal.members_end-returns-then-byte_at-eq125
-members_end-returns-then-byte_at-eq125 t c =
-    (no_members, without_members c.args.depth c.args.bytes.now c.args.from c.spaces_end-at.result
-        c.spaces_end-at.ensures.same (grind arith) c.spaces_end-at.ensures.forward)
+members_end-returns-then-byte_at-eq125 t c = (
+  no_members,
+  without_members c.args.depth c.args.bytes.now c.args.from c.spaces_end-at.result
+      c.spaces_end-at.ensures.same (grind arith) c.spaces_end-at.ensures.forward,
+)
 
 pub members_end-members-init : goal.members_end-members-init
-members_end-members-init t c =
-    (no_members, no_members_yet c.args.depth c.args.bytes.now c.args.from c.spaces_end-at.result
-    c.spaces_end-at.ensures.same c.spaces_end-at.ensures.forward c.spaces_end-at.ensures.within)
+members_end-members-init t c = (
+  no_members,
+  no_members_yet c.args.depth c.args.bytes.now c.args.from c.spaces_end-at.result
+      c.spaces_end-at.ensures.same c.spaces_end-at.ensures.forward c.spaces_end-at.ensures.within,
+)
 
 pub members_end-members-preserved : goal.members_end-members-preserved
 members_end-members-preserved t c =
@@ -96,9 +114,9 @@ members_end-members-preserved t c =
       member_turn c.args.depth c.args.bytes.now c.args.from c.members.at c.in_ok-begin.begin
           c.in_ok-end.end c.spaces_end-next.result c.spaces_end-at-in-members.result key.0 found.0
           c.members.invariant.0 c.members.invariant.1 key.1 found.1 c.spaces_end-next.ensures.same
-              (grind arith) c.spaces_end-at-in-members.ensures.same
-              c.spaces_end-next.ensures.forward c.spaces_end-at-in-members.ensures.forward
-              c.spaces_end-at-in-members.ensures.within,
+          (grind arith) c.spaces_end-at-in-members.ensures.same
+          c.spaces_end-next.ensures.forward c.spaces_end-at-in-members.ensures.forward
+          c.spaces_end-at-in-members.ensures.within,
     )
 
 pub members_end-returns-then-mark-eq125 : goal.members_end-returns-then-mark-eq125
@@ -109,5 +127,5 @@ members_end-returns-then-mark-eq125 t c =
       last_member c.args.depth c.args.bytes.now c.args.from c.members.at c.in_ok-begin.begin
           c.in_ok-end.end c.spaces_end-next.result key.0 found.0
           c.members.invariant.0 c.members.invariant.1 key.1 found.1 c.spaces_end-next.ensures.same
-              (grind arith) c.spaces_end-next.ensures.forward,
+          (grind arith) c.spaces_end-next.ensures.forward,
     )

@@ -14,5 +14,5 @@ returns c =
     let first : get_or d c.args.from 0 ≡ 34 = rw (← bytes) (grind arith) in
     let end = c.in_ok-end.ensures in
     key_value d c.args.from c.in_ok-name.close c.in_ok-end.end c.in_ok-name.name.now first
-        c.in_ok-name.ensures
+    c.in_ok-name.ensures
     (rw (← bytes) end.passed) end.forward (rw (← bytes) end.within)

@@ -14,5 +14,5 @@ returns c =
     let first : get_or d c.args.from 0 ≡ 34 = rw (← bytes) (grind arith) in
     let end = c.in_ok-end.ensures in
     string_value d c.args.from c.in_ok-copy.close c.in_ok-end.end (string_bytes c.in_ok-copy.copy)
-        first c.in_ok-copy.ensures
+    first c.in_ok-copy.ensures
     (rw (← bytes) end.same) (rw (← bytes) end.ended) end.forward (rw (← bytes) end.within)

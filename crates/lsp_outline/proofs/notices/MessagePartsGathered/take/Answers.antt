@@ -46,7 +46,8 @@ returns-in_ok-params-in-params c =
     let found = c.in_ok-params-in-params in
     let read = found.ensures in
     let d = object read.0 in
-    let told : told_of d ≡ told_view found.params = rw (read.2.0, read.2.1) in
+    let told : told_of d ≡ told_view found.params =
+    rw (read.2.0, read.2.1, read.2.2, read.2.3, read.2.4) in
     let is = c.in-params.is in (
       d,
       read.1,
