@@ -20,7 +20,7 @@ use Rattle.lsp_session.specs.Incomplete.{incomplete, is_any_open}
 use Rattle.lsp_session.specs.Negotiation.{first_row}
 use Rattle.lsp_session.specs.Requests.{open_requests}
 use Rattle.lsp_session.specs.Sent.{is_exit}
-use Rattle.lsp_notes.specs.Asking.{Numbered, numbered}
+use Rattle.lsp_survey.specs.Asking.{Numbered, numbered}
 use Rattle.lsp_survey.specs.Reads.{Ended, EndedBehind, IsSurveyOf}
 use Rattle.lsp_survey.specs.Reported.{IsTally, IsYes}
 use Rattle.lsp_survey.specs.declared.survey_reader.End.{End}

@@ -14,7 +14,7 @@ use Rattle.lsp_log.specs.Place.{place_of}
 use Rattle.lsp_log.specs.Reader.{shown_by}
 use Rattle.lsp_types.specs.declared.side.Side.{Side}
 use Rattle.lsp_types.specs.declared.side.Side.TheVariants.{Editor, Server}
-use Rattle.lsp_notes.specs.Asking.{Numbered, numbered}
+use Rattle.lsp_survey.specs.Asking.{Numbered, numbered}
 use Rattle.lsp_survey.specs.Reads.{IsSurveyOf, KnowsFlaw, Ended}
 use Rattle.lsp_streams.specs.Streams.{decoder_of}
 use Rattle.lsp_survey.specs.declared.survey_reader.End.{End}

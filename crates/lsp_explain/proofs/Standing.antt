@@ -5,14 +5,14 @@ use Rattle.std.proofs.lemmas.List.{length-map}
 use Rattle.lsp_events.specs.Standing.{Holds}
 use Rattle.lsp_frame.specs.Bounds.{Bounds}
 use Rattle.lsp_frame.specs.Told.{Told}
-use Rattle.lsp_notes.specs.Marks.{AreMarks}
+use Rattle.lsp_survey.specs.Marks.{AreMarks}
 use Rattle.lsp_survey.specs.Reads.{SoFar}
-use Rattle.lsp_notes.specs.SessionNoting.{AreNotes}
+use Rattle.lsp_survey.specs.SessionNoting.{AreNotes}
 use Rattle.lsp_survey.specs.Walking.{Walks}
 use Rattle.lsp_survey.specs.declared.survey_reader.SurveyReader.{SurveyReader}
-use Rattle.lsp_notes.proofs.MarkSteps.{refused_marks}
+use Rattle.lsp_survey.proofs.MarkSteps.{refused_marks}
 use Rattle.lsp_survey.proofs.Reading.{so_far_few}
-use Rattle.lsp_notes.proofs.SessionSteps.{refused_notes}
+use Rattle.lsp_survey.proofs.SessionSteps.{refused_notes}
 use Rattle.lsp_verdict.specs.Offences.{Noted, Offence, events_of, kept_of, rule_at}
 use Rattle.lsp_verdict.specs.Placed.{Raw}
 use Rattle.lsp_verdict.specs.declared.completeness.Completeness.TheVariants.{Ignored}

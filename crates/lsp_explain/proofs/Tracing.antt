@@ -9,8 +9,8 @@ use Rattle.lsp_rpc.specs.Outline.{outline}
 use Rattle.lsp_session.specs.Sent.{Sent}
 use Rattle.lsp_types.specs.declared.side.Side.{Side}
 use Rattle.lsp_verdict.specs.Event.{Event, message}
-use Rattle.lsp_notes.specs.Asking.{numbered}
-use Rattle.lsp_notes.specs.Marking.{Step, agreed, brought}
+use Rattle.lsp_survey.specs.Asking.{numbered}
+use Rattle.lsp_survey.specs.Marking.{Step, agreed, brought}
 use Rattle.lsp_facts.specs.Fact.{Fact, shown_by}
 use Rattle.lsp_facts.specs.MessageFacts.{id_in}
 use Rattle.lsp_explain.specs.Traced.{act_call, agreed_facts, call_traced, document_traced}

@@ -8,7 +8,7 @@ use Rattle.lsp_frame.specs.Bounds.{Bounds}
 use Rattle.lsp_frame.specs.Sink.{Wrote, Stopped}
 use Rattle.lsp_frame.specs.Told.{Told, Took}
 use Rattle.lsp_log.specs.Log.{Record}
-use Rattle.lsp_notes.specs.Asking.{Numbered, numbered}
+use Rattle.lsp_survey.specs.Asking.{Numbered, numbered}
 use Rattle.lsp_survey.specs.Reads.{GaveEvent, Ended, EndedBehind}
 use Rattle.lsp_survey.specs.Reported.{IsTally, IsYes, sink_after}
 use Rattle.lsp_survey.specs.declared.offending.Heard as code_heard

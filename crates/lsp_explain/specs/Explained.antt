@@ -23,7 +23,7 @@ use Rattle.lsp_facts.specs.Fact.{Fact}
 use Rattle.lsp_facts.specs.FlawFacts.{Rests, rest_of, side_by, unfinished_facts, log_facts}
 use Rattle.lsp_facts.specs.Lines.{fact_lines, event_line, end_event}
 use Rattle.lsp_explain.specs.Traced.{AreTraced, lack_traced}
-use Rattle.lsp_notes.specs.Asking.{Numbered, numbered}
+use Rattle.lsp_survey.specs.Asking.{Numbered, numbered}
 
 -- ---- an event that offends
 

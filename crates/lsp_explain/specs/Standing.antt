@@ -4,8 +4,8 @@ use Rattle.lsp_docs.specs.Terms.{Terms}
 use Rattle.lsp_events.specs.Standing.{Holds}
 use Rattle.lsp_verdict.specs.Event.{Event}
 use Rattle.lsp_verdict.specs.Offences.{kept_of}
-use Rattle.lsp_notes.specs.Marks.{AreMarks}
-use Rattle.lsp_notes.specs.SessionNoting.{AreNotes}
+use Rattle.lsp_survey.specs.Marks.{AreMarks}
+use Rattle.lsp_survey.specs.SessionNoting.{AreNotes}
 use Rattle.lsp_survey.specs.declared.survey_reader.SurveyReader.{SurveyReader}
 
 -- the terms of its log

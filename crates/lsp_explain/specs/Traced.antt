@@ -19,9 +19,9 @@ use Rattle.lsp_types.specs.declared.side.Side.TheVariants.{Editor}
 use Rattle.lsp_verdict.specs.Calls.{call_of, calls}
 use Rattle.lsp_verdict.specs.Event.{Event, message, fault, snapshot, sent_in}
 use Rattle.lsp_verdict.specs.Offences.{is_within, kept_of, said_at}
-use Rattle.lsp_notes.specs.Asking.{Numbered, answered, asked, numbered, sents, since}
-use Rattle.lsp_notes.specs.Marking.{Step, agreed, brought, number_next, steps, waiting_for}
-use Rattle.lsp_notes.specs.declared.mark.Shown.{Shown}
+use Rattle.lsp_survey.specs.Asking.{Numbered, answered, asked, numbered, sents, since}
+use Rattle.lsp_survey.specs.Marking.{Step, agreed, brought, number_next, steps, waiting_for}
+use Rattle.lsp_survey.specs.declared.notes.mark.Shown.{Shown}
 use Rattle.lsp_facts.specs.Fact.{Fact, holds, waits, waits_since, brought_by, shown_by, agreed_by}
 use Rattle.lsp_facts.specs.Fact.{answered_by, asked_by, led_by, in_phase}
 use Rattle.lsp_facts.specs.MessageFacts.{id_in}

@@ -5,7 +5,7 @@ ghost use Rattle.std.specs.Io.KnownBytes.{IsAtEnd};
 ghost use Rattle.lsp_frame.specs.Bounds.{Bounds, IsInRange};
 ghost use Rattle.lsp_frame.specs.Told.{Told, Took};
 ghost use Rattle.lsp_log.specs.Reader.{shown_by};
-ghost use Rattle.lsp_notes.specs.Asking.{numbered};
+ghost use Rattle.lsp_survey.specs.Asking.{numbered};
 ghost use Rattle.lsp_survey.specs.Reads.{IsFresh, SoFar};
 ghost use Rattle.lsp_verdict.specs.Complete.{IsVerdictBy};
 ghost use Rattle.lsp_verdict.specs.Event.{Event};

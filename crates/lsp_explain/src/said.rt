@@ -1,8 +1,8 @@
 //! What is said of an offence: the line that names its event, and the facts on it.
 ghost use Rattle.std.specs.Prelude.{◌≡◌, ◌++◌, ℕ, List, Some, IfOk, OnOk, string_bytes};
 ghost use Rattle.lsp_docs.specs.Terms.{Terms};
-ghost use Rattle.lsp_notes.specs.Asking.{numbered};
-ghost use Rattle.lsp_notes.specs.Marking.{number_next};
+ghost use Rattle.lsp_survey.specs.Asking.{numbered};
+ghost use Rattle.lsp_survey.specs.Marking.{number_next};
 ghost use Rattle.lsp_survey.specs.Walking.{IsOffending};
 ghost use Rattle.lsp_verdict.specs.Event.{Event};
 ghost use Rattle.lsp_verdict.specs.Given.{offence_view};

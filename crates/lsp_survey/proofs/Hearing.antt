@@ -18,12 +18,12 @@ use Rattle.lsp_session.specs.Negotiation.{encoding, sync_kind}
 use Rattle.lsp_session.specs.Handshake.{phase}
 use Rattle.lsp_session.specs.Sent.{Sent}
 use Rattle.lsp_session.specs.State as session
-use Rattle.lsp_notes.specs.Marking.{number_next}
-use Rattle.lsp_notes.specs.Marks.{AreMarks, DoneBy, ShownBy}
-use Rattle.lsp_notes.specs.SessionNoting.{AreNotes, SaysOn}
-use Rattle.lsp_notes.specs.declared.marks.Marks.{Marks}
-use Rattle.lsp_notes.specs.declared.session_notes.SessionNotes.{SessionNotes}
-use Rattle.lsp_notes.specs.Notes.{AreAfter, asks_of}
+use Rattle.lsp_survey.specs.Marking.{number_next}
+use Rattle.lsp_survey.specs.Marks.{AreMarks, DoneBy, ShownBy}
+use Rattle.lsp_survey.specs.SessionNoting.{AreNotes, SaysOn}
+use Rattle.lsp_survey.specs.declared.notes.marks.Marks.{Marks}
+use Rattle.lsp_survey.specs.declared.notes.session_notes.SessionNotes.{SessionNotes}
+use Rattle.lsp_survey.specs.Notes.{AreAfter, asks_of}
 use Rattle.lsp_survey.specs.Walking.{Walks, Counted, IsShown, IsUnread, PassesOver, IsOffending}
 use Rattle.lsp_survey.specs.Walking.{Hears}
 use Rattle.lsp_survey.specs.declared.offending.Heard.{Heard}
@@ -49,9 +49,9 @@ use Rattle.lsp_verdict.specs.declared.verdict.Who.{Who}
 use Rattle.lsp_verdict.specs.declared.verdict.Who.TheVariants as who
 use Rattle.lsp_verdict.proofs.Offences.Surveying.{by_asking}
 use Rattle.lsp_verdict.proofs.Offences.Steps.{kept-push}
-use Rattle.lsp_notes.proofs.MarkSteps.{act_done, shown_done}
+use Rattle.lsp_survey.proofs.MarkSteps.{act_done, shown_done}
 use Rattle.lsp_survey.proofs.Passing.{passed_over, kept_on}
-use Rattle.lsp_notes.proofs.SessionSteps.{message_noted, other_unsaid}
+use Rattle.lsp_survey.proofs.SessionSteps.{message_noted, other_unsaid}
 
 -- ---- an `initialize`
 

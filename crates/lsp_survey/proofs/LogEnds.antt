@@ -1,10 +1,10 @@
--- The end of a log behind the events heard.
+-- The end of a log after the events heard.
 use Rattle.std.specs.Prelude.{map, option_map, option_to_list}
 use Rattle.std.specs.Io.KnownBytes.{IsAtEnd}
 use Rattle.std.specs.List.{AllZip, cons_option}
 use Rattle.std.proofs.Common.{◌≡◌, ℕ, ◌+◌, ◌<◌, ◌≤◌, ◌^◌, Bool, true, false, List, [], ◌∷◌, ◌++◌}
 use Rattle.std.proofs.Common.{length, length-append, Option, Some, None, Ok, refl, sym, ap, subst}
-use Rattle.std.proofs.Common.{◌∙◌, append-nil, append_assoc, arith}
+use Rattle.std.proofs.Common.{◌∙◌, append-nil, arith}
 use Rattle.std.proofs.lemmas.List.{length-map}
 use Rattle.lsp_docs.specs.Terms.{Terms}
 use Rattle.lsp_events.specs.Standing.{Follows, Holds}
@@ -35,7 +35,6 @@ use Rattle.lsp_verdict.specs.Offences.{Noted, Offence, IsNoted, events_of, kept_
 use Rattle.lsp_verdict.specs.Offences.{offences}
 use Rattle.lsp_verdict.specs.Outcome.{HasRest, ending, is_rest, log_terms}
 use Rattle.lsp_verdict.specs.Placed.{Raw, Placed, joined}
-use Rattle.lsp_verdict.specs.RunIo.{OfRead}
 use Rattle.lsp_verdict.specs.Survey.{IsSurvey, by_itself, ends_listed, first_ends, lacks_listed}
 use Rattle.lsp_verdict.specs.Survey.{rests_listed}
 use Rattle.lsp_verdict.specs.Survey as survey

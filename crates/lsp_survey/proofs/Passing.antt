@@ -7,18 +7,18 @@ use Rattle.lsp_docs.specs.State as docs
 use Rattle.lsp_docs.specs.Terms.{Terms}
 use Rattle.lsp_events.specs.Standing.{Holds}
 use Rattle.lsp_session.specs.State as session
-use Rattle.lsp_notes.specs.Notes.{note_in, note_of, note_after, AreAfter, is_noted_lost}
-use Rattle.lsp_notes.specs.Marks.{AreMarks}
-use Rattle.lsp_notes.specs.SessionNoting.{AreNotes}
+use Rattle.lsp_survey.specs.Notes.{note_in, note_of, note_after, AreAfter, is_noted_lost}
+use Rattle.lsp_survey.specs.Marks.{AreMarks}
+use Rattle.lsp_survey.specs.SessionNoting.{AreNotes}
 use Rattle.lsp_survey.specs.Walking.{WalksBy, Walks, breaks_by, Counted, offence_of, PassesOver}
 use Rattle.lsp_survey.specs.Walking.{IsOffending, Offends, IsHeard, Hears}
-use Rattle.lsp_notes.specs.declared.marks.Marks.{Marks}
-use Rattle.lsp_notes.specs.declared.note.Note.{Note}
-use Rattle.lsp_notes.specs.declared.note.Notes.{Notes}
+use Rattle.lsp_survey.specs.declared.notes.marks.Marks.{Marks}
+use Rattle.lsp_survey.specs.declared.notes.note.Note.{Note}
+use Rattle.lsp_survey.specs.declared.notes.note.Notes.{Notes}
 use Rattle.lsp_survey.specs.declared.offending.Heard.{Heard}
 use Rattle.lsp_survey.specs.declared.offending.Heard.TheVariants as heard
 use Rattle.lsp_survey.specs.declared.offending.Offending.{Offending}
-use Rattle.lsp_notes.specs.declared.session_notes.SessionNotes.{SessionNotes}
+use Rattle.lsp_survey.specs.declared.notes.session_notes.SessionNotes.{SessionNotes}
 use Rattle.lsp_survey.specs.declared.walk.Walk.{Walk}
 use Rattle.lsp_types.specs.declared.change.SyncKind.{SyncKind}
 use Rattle.lsp_types.specs.declared.position.Encoding.{Encoding}
@@ -32,8 +32,8 @@ use Rattle.lsp_verdict.specs.Placed.{Raw}
 use Rattle.lsp_verdict.specs.Verdict.{whose}
 use Rattle.lsp_verdict.specs.declared.counts.Counts.{Counts}
 use Rattle.lsp_verdict.specs.declared.verdict.Who.{Who}
-use Rattle.lsp_notes.proofs.MarkSteps.{refused_leaves}
-use Rattle.lsp_notes.proofs.SessionSteps.{refused_unsaid}
+use Rattle.lsp_survey.proofs.MarkSteps.{refused_leaves}
+use Rattle.lsp_survey.proofs.SessionSteps.{refused_unsaid}
 use Rattle.lsp_verdict.proofs.Offences.Steps.{broken-push, events_of-push, is_lost-push, kept-push}
 use Rattle.lsp_verdict.proofs.Offences.Steps.{kept-refused}
 
@@ -133,7 +133,7 @@ walks_on terms old mid new notes n rule said walks s =
 
 -- ---- an event that offends
 
--- what is kept is as it was behind it
+-- what is kept is as it was after it
 pub kept_holds : (terms : Terms) (notes : List Noted) (n : Noted) (rule : ℕ) (m : session.State)
     (d : docs.State) → rule_at terms (events_of notes) n.event ≡ Some rule
     → Holds m d (kept_of terms (events_of notes))
@@ -142,7 +142,7 @@ kept_holds terms notes n rule m d is holds =
     subst (Holds m d) (sym (ap (kept_of terms) (events_of-push notes n)
     ∙ kept-refused terms (events_of notes) n.event rule is)) holds
 
--- and holds it too behind one that is kept
+-- and holds it too after one that is kept
 pub more_holds : (terms : Terms) (notes : List Noted) (n : Noted) (m : session.State)
     (d : docs.State) → rule_at terms (events_of notes) n.event ≡ None
     → Holds m d (kept_of terms (events_of notes) ++ n.event ∷ [])

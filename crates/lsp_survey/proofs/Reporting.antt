@@ -16,7 +16,6 @@ use Rattle.lsp_frame.proofs.Writing.{stopped_before, stopped_then, wrote_nothing
 use Rattle.lsp_survey.specs.Reads.{BeginsSurvey, SoFar, BrokeOff}
 use Rattle.lsp_survey.specs.Reported.{is_every, IsReported, BeginsReported, lines_of, closing}
 use Rattle.lsp_survey.specs.Reported.{IsYes, sink_after, IsTally, AllReported, PartReported}
-use Rattle.lsp_survey.specs.Reported.{Reports}
 use Rattle.lsp_verdict.specs.declared.listing.Listing.{Listing}
 use Rattle.lsp_verdict.specs.declared.listing.Listing.TheVariants.{Causes, Every}
 use Rattle.lsp_survey.specs.declared.survey_reader.SurveyReader.{SurveyReader}
@@ -326,7 +325,7 @@ filter_few (x ∷ xs) = by_test x.follows (filter_few xs)
     by_test true h = omega (arith, h)
     by_test false h = omega (arith, h)
 
--- what stands behind the lines where something was found
+-- what comes after the lines where something was found
 pub closed_some : (t : Tally) (found : List Offence) (first : code.Offence) (bad : Option Verdict)
     (s : Summary) (text : List ℕ) (v : Verdict) → t.first ≡ Some first → IsTally t found
     → length found < 2 ^ 64

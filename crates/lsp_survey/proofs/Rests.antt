@@ -1,4 +1,4 @@
--- The bytes of a side behind its last whole frame, where its frames have a fault.
+-- The bytes of a side after its last whole frame, where its frames have a fault.
 use Rattle.std.specs.Prelude.{if◌then◌else◌}
 use Rattle.std.proofs.Common.{◌≡◌, ℕ, Bool, true, false, List, [], ◌∷◌, ◌++◌, Option, Some, None}
 use Rattle.std.proofs.Common.{IsSome, refl, sym, ap, subst, ◌∙◌, append_assoc}
@@ -41,7 +41,7 @@ joined-append side (chunk by b ∷ rs) more = by_side (same_side side by) (joine
     by_side false e = e
 joined-append side (shown n uri t ∷ rs) more = joined-append side rs more
 
--- **behind a fault of a side's frames the header part that has it is known from what is held,
+-- **after a fault of a side's frames the header part that has it is known from what is held,
 -- whatever records follow**
 pub front_shown : (limits : Bounds) (s : State) (rs : List Record) (past due : List Raw)
     (side : Side) → Stands limits s rs past due → IsSome (decoder_of side s).fault

@@ -1,3 +1,9 @@
+pub mod ByUri
+pub mod Notes
+pub mod Asking
+pub mod Marking
+pub mod Marks
+pub mod SessionNoting
 pub mod Walking
 pub mod Ending
 pub mod Reads

@@ -9,7 +9,7 @@ use Rattle.lsp_frame.specs.Bounds.{Bounds}
 use Rattle.lsp_frame.specs.Front.{header_front}
 use Rattle.lsp_frame.specs.Told.{Told}
 use Rattle.lsp_frame.specs.declared.format.Format.{Format}
-use Rattle.lsp_log.specs.Log.{Record, IsLog}
+use Rattle.lsp_log.specs.Log.{Record}
 use Rattle.lsp_log.specs.Place.{place_of, found_behind}
 use Rattle.lsp_log.specs.Reader as reader
 use Rattle.lsp_log.specs.Reader.{shown_by}
@@ -70,7 +70,7 @@ pub record SoFar (limits : Bounds) (e : SurveyReader) (start now : Told) (past :
 abbrev pub IsFresh : SurveyReader → Told → Type 0
 IsFresh e now = (limits : Bounds) × (start : Told) × SoFar limits e start now [] [] []
 
--- the event offends behind these, and this is its offence
+-- the event offends after these, and this is its offence
 pub record Finds (raw : Raw) (terms : Terms) (before : List Noted) (n : Noted)
     (found : Found) : Type 0 where
   pub rule : ℕ
@@ -91,7 +91,7 @@ found_in (heard.Offence found) = offence_view found.offence ∷ []
 abbrev pub IsBroken : SurveyReader → Side → Type 0
 IsBroken e side = IsSome (decoder_of side e.log.streams).fault
 
--- behind a fault of its frames a side has ended
+-- after a fault of its frames a side has ended
 abbrev pub HasEnded : SurveyReader → Raw → Type 0
 HasEnded e (content side bytes) = Unit {0}
 HasEnded e (broken side rule) = IsBroken e side
@@ -119,7 +119,7 @@ abbrev pub HoldsRest : streams.State → List Noted → Side → List ℕ → Ty
 HoldsRest s notes side rest =
     list_any (is_frame_fault side) (events_of notes) ≡ false → rest ≡ (decoder_of side s).rest
 
--- where a log has a fault behind these records, its reader knows how many bytes stand before that,
+-- where a log has a fault after these records, its reader knows how many bytes stand before that,
 -- and the line that stands there
 abbrev pub KnowsFlaw : reader.State → Bounds → List ℕ → Option Format → List Record
     → Option (ℕ × LogCode) → Type 0
@@ -140,7 +140,7 @@ pub record IsSurveyOf (e : SurveyReader) (completeness : Completeness) (limits :
   pub server_held : HoldsRest e.log.streams notes Server survey.server
   pub flaw_known : KnowsFlaw e.log.log limits log survey.format survey.records survey.log_fault
 
--- **the log ended behind these events**
+-- **the log ended after these events**
 pub record Ended (completeness : Completeness) (limits : Bounds) (e : SurveyReader)
     (start now : Told) (past : List Raw) (notes : List Noted) (found : List Offence)
     (end : End) : Type 0 where
@@ -161,7 +161,7 @@ pub record Ended (completeness : Completeness) (limits : Bounds) (e : SurveyRead
   pub exact : as_given (yes (summary e.walk.events.docs.terms (events_of notes)))
       ≡ yes (summary e.walk.events.docs.terms (events_of notes))
 
--- reading broke off behind these offences
+-- reading broke off after these offences
 pub record BrokeOff (completeness : Completeness) (limits : Bounds) (start now : Told)
     (found : List Offence) (fault : RunFault) : Type 0 where
   pub of_read : OfRead limits start now (BeginsSurvey completeness limits found)
@@ -202,7 +202,7 @@ EndIs e (Bad number fault) end = (end.listed.items ≡ []) × (end.bad ≡ Some 
 
 -- ---- records that go on
 
--- one more event was heard, of records that go on behind these
+-- one more event was heard, of records that go on after these
 abbrev pub GaveBehind : List Record → Bounds → SurveyReader → Told → Told → List Raw → List Noted
     → List Offence → Heard → Type 0
 GaveBehind front limits e start now past before found given =

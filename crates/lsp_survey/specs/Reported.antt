@@ -65,7 +65,7 @@ sink_after faults.Memory before = before
 abbrev pub lines_of : Listing → List Offence → List ℕ
 lines_of listing found = flat_map offence_lines (shown_of (is_every listing) found)
 
--- what stands behind the lines of the offences
+-- what comes after the lines of the offences
 abbrev pub closing : List Offence → Option Verdict → Summary → List ℕ
 closing [] bad s = report (first_verdict [] bad s)
 closing (o ∷ found) bad s = bad_lines bad ++ found_line (o ∷ found)

@@ -5,9 +5,9 @@ use Rattle.lsp_docs.specs.Calls.{Call}
 use Rattle.lsp_docs.specs.Terms.{Terms}
 use Rattle.lsp_events.specs.Standing.{Holds, RefusesMessage}
 use Rattle.lsp_rpc.specs.View.{act_view, message_view}
-use Rattle.lsp_notes.specs.Marks.{AreMarks}
-use Rattle.lsp_notes.specs.SessionNoting.{AreNotes}
-use Rattle.lsp_notes.specs.Notes.{note_in, note_of, AreAfter, is_noted_lost}
+use Rattle.lsp_survey.specs.Marks.{AreMarks}
+use Rattle.lsp_survey.specs.SessionNoting.{AreNotes}
+use Rattle.lsp_survey.specs.Notes.{note_in, note_of, AreAfter, is_noted_lost}
 use Rattle.lsp_survey.specs.declared.offending.Found.{Found}
 use Rattle.lsp_survey.specs.declared.offending.Heard.{Heard}
 use Rattle.lsp_survey.specs.declared.offending.Heard.TheVariants as heard
@@ -40,7 +40,7 @@ pub record WalksBy (terms : Terms) (w : Walk) (notes : List Noted) : Type 0 wher
   pub marked : AreMarks terms w.marks.map.entries (events_of notes)
   pub said : AreNotes terms w.said (events_of notes)
 
--- **a walk has heard these events**, and passed over each that offends behind the kept ones before
+-- **a walk has heard these events**, and passed over each that offends after the kept ones before
 -- it
 abbrev pub Walks : Walk → List Noted → Type 0
 Walks w notes = WalksBy w.events.docs.terms w notes
@@ -100,7 +100,7 @@ pub record PassesOver (old new : Walk) (by : Who) (rule : ℕ) (asks : Bool)
 
 -- ---- what was heard
 
--- what was found is this event, which offends by the rule behind these kept events
+-- what was found is this event, which offends by the rule after these kept events
 abbrev pub IsOffending : Raw → Terms → List Event → ℕ → Offending → Type 0
 IsOffending (broken side code) terms kept rule (what.Frames by) = by ≡ side
 IsOffending (content side bytes) terms kept rule (what.Content by given) =
@@ -111,7 +111,7 @@ IsOffending (content side bytes) terms kept rule (what.Message by spoken) =
 IsOffending (show number uri text) terms kept rule found = IsShown number uri text found
 IsOffending raw terms kept rule other = ⊥
 
--- the event offends behind these, and this is its offence
+-- the event offends after these, and this is its offence
 pub record Offends (raw : Raw) (terms : Terms) (before : List Noted) (n : Noted)
     (found : Found) : Type 0 where
   pub rule : ℕ
@@ -123,7 +123,7 @@ abbrev pub IsHeard : Raw → Terms → List Noted → Noted → Heard → Type 0
 IsHeard raw terms before n heard.Kept = rule_at terms (events_of before) n.event ≡ None
 IsHeard raw terms before n (heard.Offence found) = Offends raw terms before n found
 
--- **one more event was heard behind these**
+-- **one more event was heard after these**
 pub record Hears (raw : Raw) (terms : Terms) (w : Walk) (before : List Noted) (given : Heard) : Type
     0 where
   pub n : Noted

@@ -34,13 +34,12 @@ use std::alloc::Global;
 /// Of a log with nothing wrong it is the report of the verdict.
 ///
 /// An event that offends is passed over, as if it had not been sent, and the next is judged after
-/// those that keep the rules. Behind a fault of a side's frames the other side is read on. The
-/// lines of an offence are written when it is found.
+/// those that keep the rules. After a fault of a side's frames the other side is read on. The lines
+/// of an offence are written when it is found.
 ///
 /// # Errors
 /// `Read` is answered where the source failed, `Write` where the sink did, and `Memory` where
-/// memory was
-/// refused; what was written before stays written.
+/// memory was refused; what was written before stays written.
 pub fn run_survey<R: Source, W: Sink>(
     alloc: Global,
     reader: &mut R,
@@ -80,7 +79,7 @@ pub fn run_survey<R: Source, W: Sink>(
     Ok(Outcome::Judged(verdict))
 }
 
-/// What stands behind the lines of the offences, and the verdict.
+/// What comes after the lines of the offences, and the verdict.
 #[derive(Drop)]
 struct Closing {
     text: String,
@@ -222,7 +221,7 @@ fn list_each<W: Sink>(
     Ok(())
 }
 
-/// Lists the end of a log behind the offences of its events, and closes the report.
+/// Lists the end of a log after the offences of its events, and closes the report.
 fn close<W: Sink>(
     alloc: Global,
     events: &mut SurveyReader,
@@ -242,7 +241,7 @@ fn close<W: Sink>(
     Ok(closing.verdict)
 }
 
-/// What stands behind the lines of the offences, and the verdict.
+/// What comes after the lines of the offences, and the verdict.
 fn closing_of(
     alloc: Global,
     events: &mut SurveyReader,

@@ -13,7 +13,7 @@ use lsp_rpc::Memory;
 use lsp_verdict::{Completeness, Counts, Offence, Who};
 use std::alloc::Global;
 
-/// What is listed of the end of a log without a fault, behind the events heard: 107 for each side
+/// What is listed of the end of a log without a fault, after the events heard: 107 for each side
 /// whose stream ends inside a frame, the editor's first; where there is none, what the session
 /// lacks to be complete.
 pub(crate) fn ends(

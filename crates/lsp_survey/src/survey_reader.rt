@@ -15,6 +15,7 @@ ghost use Rattle.lsp_verdict.specs.Verdict.{summary, yes};
 ghost use Rattle.lsp_survey.specs.Reads.{EndIs, EndsAre, GivesBehind, IsBroken, Pulls, ShowsFront};
 ghost use Rattle.lsp_survey.specs.Reads.{SoFar};
 
+use crate::notes::{Marks, SessionNotes};
 use crate::offending::Heard;
 use crate::session_end::ends;
 use crate::walk::Walk;
@@ -22,7 +23,6 @@ use lsp_docs::Docs;
 use lsp_events::summary_of;
 use lsp_frame::{Format, Limits, Source};
 use lsp_lined::Lined;
-use lsp_notes::{Marks, SessionNotes};
 use lsp_rpc::{Memory, Side};
 use lsp_session::Session;
 use lsp_streams as streams;
@@ -94,7 +94,7 @@ impl SurveyReader {
         })
     }
 
-    /// Hears the next event of the log, or gives its end, behind which there is none.
+    /// Hears the next event of the log, or gives its end, after which there is none.
     ///
     /// # Errors
     /// `Read` where the source failed, and `Memory` where memory was refused.
@@ -106,7 +106,7 @@ impl SurveyReader {
             → SoFar limits self.old start (R.told reader.old) past before found
             → Pulls self.old.completeness limits self.new start
             (R.told reader.new) past before found result }
-        // The records of the log go on behind those before.
+        // The records of the log go on after those before.
         ensures later { IfOk result
             (λ next. (limits : Bounds) (start : Told) (past : List Raw) (before : List Noted)
             (found : List SpecOffence)
@@ -174,10 +174,10 @@ impl SurveyReader {
         &self.walk.said
     }
 
-    /// The bytes of a side behind its last whole frame.
+    /// The bytes of a side after its last whole frame.
     ///
-    /// Behind a fault of its frames they go at least as far as that is seen, so that the header
-    /// part is known which has it; where there is none they are all that was read.
+    /// After a fault of its frames they go at least as far as that is seen, so that the header part
+    /// is known which has it; where there is none they are all that was read.
     pub fn rest(&self, side: Side) -> &[u8]
         ensures held { result.now ≡ (decoder_of side self.now.log.streams).rest }
         ensures broken { (limits : Bounds) (start now : Told) (past : List Raw)
@@ -188,7 +188,7 @@ impl SurveyReader {
         self.log.rest(side)
     }
 
-    /// Behind a fault of the log, how many of its bytes stand before that: the bad record begins
+    /// After a fault of the log, how many of its bytes stand before that: the bad record begins
     /// there; 0 where the first line is missing.
     pub fn place(&self) -> u64
         ensures { result ≡ self.now.log.log.place }
@@ -196,7 +196,7 @@ impl SurveyReader {
         self.log.place()
     }
 
-    /// Behind a fault of the log, the line that stands at its place, its LF included, as far as the
+    /// After a fault of the log, the line that stands at its place, its LF included, as far as the
     /// log's first 64 bytes from there on go, and 14 of a log whose first line is missing.
     pub fn found(&self) -> &[u8]
         ensures { result.now ≡ shown_by self.now.log.log }

@@ -1,5 +1,5 @@
 //! How many offences were found.
-ghost use Rattle.std.specs.Prelude.{◌≡◌, ◌++◌, ◌∷◌, [], List};
+ghost use Rattle.std.specs.Prelude.{◌++◌, ◌∷◌, [], List};
 ghost use Rattle.lsp_survey.specs.Reported.{IsTally};
 ghost use Rattle.lsp_verdict.specs.Given.{offence_view};
 ghost use Rattle.lsp_verdict.specs.Offences.{Offence as SpecOffence};

@@ -18,24 +18,24 @@ ghost use Rattle.lsp_verdict.specs.Offences.{Asks, Noted, breaks_handshake, is_h
 ghost use Rattle.lsp_verdict.specs.Offences.{wants_handshake, wants_text};
 ghost use Rattle.lsp_verdict.specs.Placed as placed;
 ghost use Rattle.lsp_verdict.specs.Verdict as spec;
-ghost use Rattle.lsp_notes.specs.Marking.{number_next};
-ghost use Rattle.lsp_notes.specs.Marks.{DoneBy, ShownBy};
-ghost use Rattle.lsp_notes.specs.Notes.{AreAfter, asks_of};
-ghost use Rattle.lsp_notes.specs.SessionNoting.{SaysOn};
+ghost use Rattle.lsp_survey.specs.Marking.{number_next};
+ghost use Rattle.lsp_survey.specs.Marks.{DoneBy, ShownBy};
+ghost use Rattle.lsp_survey.specs.Notes.{AreAfter, asks_of};
+ghost use Rattle.lsp_survey.specs.SessionNoting.{SaysOn};
 ghost use Rattle.lsp_streams.specs.Streams.{raw_view};
 ghost use Rattle.lsp_survey.specs.Ending.{lack_by};
 ghost use Rattle.lsp_survey.specs.Walking.{Counted, Hears, IsShown, IsUnread, PassesOver, Walks};
 ghost use Rattle.lsp_survey.specs.Walking.{offence_of};
 
+use crate::notes::{
+    Marks, Notes, SessionNotes, asks_again, asks_handshake, breaks_handshake, is_on_lost,
+    note_kept_act, note_refused, note_refused_act, wants_handshake, wants_text,
+};
 use crate::offending::{Found, Heard, Offending};
 use lsp_docs::{DocFault, Match};
 use lsp_events::{Events, Refused};
 use lsp_frame::{Format, Limits};
 use lsp_lined::Lined;
-use lsp_notes::{
-    Marks, Notes, SessionNotes, asks_again, asks_handshake, breaks_handshake, is_on_lost,
-    note_kept_act, note_refused, note_refused_act, wants_handshake, wants_text,
-};
 use lsp_rpc::{Memory, Side, Spoken};
 use lsp_streams::Raw;
 use lsp_verdict::{Completeness, Counts, Offence, Who, who_of};

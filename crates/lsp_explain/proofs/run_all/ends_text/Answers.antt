@@ -2,7 +2,7 @@ use Rattle.std.specs.Prelude.{take, string_bytes}
 use Rattle.std.proofs.Common.{◌++◌, map, ap, subst, ◌∙◌}
 use Rattle.std.proofs.lemmas.List.{take_all}
 use Rattle.std.proofs.lemmas.Option.{slice_get-get_or}
-use Rattle.lsp_notes.specs.Asking.{numbered}
+use Rattle.lsp_survey.specs.Asking.{numbered}
 use Rattle.lsp_survey.specs.Reported.{IsTally}
 use Rattle.lsp_streams.specs.Streams.{decoder_of}
 use Rattle.lsp_survey.proofs.Reporting.{tally_more}

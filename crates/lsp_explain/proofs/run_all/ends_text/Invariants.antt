@@ -1,7 +1,7 @@
 use Rattle.std.specs.Prelude.{take, string_bytes}
 use Rattle.std.specs.List.{flat_map}
 use Rattle.std.proofs.Common.{◌≡◌, List, ◌++◌, map}
-use Rattle.lsp_notes.specs.Asking.{numbered}
+use Rattle.lsp_survey.specs.Asking.{numbered}
 use Rattle.lsp_survey.specs.Reported.{IsTally}
 use Rattle.lsp_verdict.specs.Event.{Event}
 use Rattle.lsp_verdict.specs.Given.{offence_view}

@@ -5,10 +5,10 @@ use Rattle.lsp_session.specs.Sent.{Sent}
 use Rattle.lsp_session.specs.State.{Stands}
 use Rattle.lsp_verdict.specs.Event.{sent_in}
 use Rattle.lsp_verdict.specs.Offences.{kept_of}
-use Rattle.lsp_notes.specs.Asking.{numbered, sents, since}
-use Rattle.lsp_notes.specs.SessionNoting.{AreNotes}
-use Rattle.lsp_notes.specs.declared.session_notes.SessionNotes.{SessionNotes}
-use Rattle.lsp_notes.proofs.SessionSteps.{sents-numbered}
+use Rattle.lsp_survey.specs.Asking.{numbered, sents, since}
+use Rattle.lsp_survey.specs.SessionNoting.{AreNotes}
+use Rattle.lsp_survey.specs.declared.notes.session_notes.SessionNotes.{SessionNotes}
+use Rattle.lsp_survey.proofs.SessionSteps.{sents-numbered}
 use Rattle.lsp_facts.specs.Fact.{Fact, facts_view, fact_view, in_phase, led_by}
 use Rattle.lsp_explain.specs.Standing.{terms_in}
 use Rattle.lsp_explain.specs.Traced.{number_facts, waiting_by}

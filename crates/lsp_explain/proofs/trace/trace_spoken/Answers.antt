@@ -1,7 +1,7 @@
 use Rattle.std.proofs.Common.{sym, subst, ◌∙◌}
 use Rattle.std.proofs.lemmas.Result.{on_ok_weaker}
-use Rattle.lsp_notes.specs.SessionNoting.{AreNotes}
-use Rattle.lsp_notes.specs.declared.session_notes.SessionNotes.{SessionNotes}
+use Rattle.lsp_survey.specs.SessionNoting.{AreNotes}
+use Rattle.lsp_survey.specs.declared.notes.session_notes.SessionNotes.{SessionNotes}
 use Rattle.lsp_rpc.specs.View.{act_view, message_view}
 use Rattle.lsp_facts.specs.Fact.{facts_view}
 use Rattle.lsp_explain.specs.Standing.{terms_in}

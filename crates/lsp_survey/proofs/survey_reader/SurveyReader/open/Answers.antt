@@ -1,5 +1,4 @@
 use Rattle.std.proofs.Common.{◌∙◌, ap}
-use Rattle.std.proofs.lemmas.Result.{err_from_is_err_and}
 use Rattle.lsp_docs.specs.Terms.{terms_of}
 use Rattle.lsp_survey.proofs.Reading.{judged_by, nothing_heard}
 use Rattle.lsp_survey.proofs.survey_reader.SurveyReader.open.Goals as goal

@@ -1,8 +1,8 @@
 use Rattle.std.proofs.Common.{Some, None, refl, sym, subst}
-use Rattle.lsp_notes.specs.Notes.{AreAfter}
-use Rattle.lsp_notes.specs.declared.note.Notes.{Notes}
+use Rattle.lsp_survey.specs.Notes.{AreAfter}
+use Rattle.lsp_survey.specs.declared.notes.note.Notes.{Notes}
 use Rattle.lsp_survey.proofs.Hearing.{frames_heard}
-use Rattle.lsp_notes.proofs.Noting.{nothing_said}
+use Rattle.lsp_survey.proofs.Noting.{nothing_said}
 use Rattle.lsp_survey.proofs.walk.Walk.frames.Goals as goal
 
 pub returns-clause-heard : goal.returns-clause-heard

@@ -1,7 +1,7 @@
 use Rattle.std.proofs.Common.{ℕ, subst, w32}
 use Rattle.std.proofs.lemmas.Int.{to_z-of_z}
 use mir.Val.{SFits}
-use Rattle.lsp_notes.specs.Marks.{ShownBy}
+use Rattle.lsp_survey.specs.Marks.{ShownBy}
 use Rattle.lsp_survey.proofs.walk.Walk.keep_snapshot.Goals as goal
 
 pub returns-clause-marked : goal.returns-clause-marked

@@ -2,8 +2,8 @@ use Rattle.std.specs.Prelude.{unwrap_or}
 use Rattle.std.proofs.Common.{ℕ, subst, ◌∙◌}
 use Rattle.lsp_rpc.specs.View.{message_view}
 use Rattle.lsp_types.specs.declared.side.Side.TheVariants.{Editor, Server}
-use Rattle.lsp_notes.specs.Asking.{leads}
-use Rattle.lsp_notes.specs.SessionNoting.{Exchanges}
+use Rattle.lsp_survey.specs.Asking.{leads}
+use Rattle.lsp_survey.specs.SessionNoting.{Exchanges}
 use Rattle.lsp_survey.proofs.walk.Walk.note.Goals as goal
 use Rattle.lsp_docs.proofs.Faults.{on_ok_two}
 

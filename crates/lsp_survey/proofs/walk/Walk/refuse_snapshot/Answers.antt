@@ -1,12 +1,12 @@
-use Rattle.std.specs.Prelude.{string_bytes, chars}
-use Rattle.std.proofs.Common.{Some, refl, sym, ap, subst, ◌∙◌, w32}
+use Rattle.std.specs.Prelude.{chars}
+use Rattle.std.proofs.Common.{Some, refl, ap, subst, ◌∙◌, w32}
 use Rattle.std.proofs.lemmas.Int.{to_z-of_z}
 use mir.Val.{SFits}
 use Rattle.lsp_docs.specs.Calls.{shows}
-use Rattle.lsp_notes.specs.Notes.{AreAfter, note_in}
+use Rattle.lsp_survey.specs.Notes.{AreAfter}
 use Rattle.lsp_survey.specs.Walking.{offence_of}
-use Rattle.lsp_notes.specs.declared.note.Note.{Note}
-use Rattle.lsp_notes.specs.declared.note.Notes.{Notes}
+use Rattle.lsp_survey.specs.declared.notes.note.Note.{Note}
+use Rattle.lsp_survey.specs.declared.notes.note.Notes.{Notes}
 use Rattle.lsp_survey.specs.declared.offending.Offending.TheVariants.{Snapshot}
 use Rattle.lsp_verdict.specs.Given.{given_offence}
 use Rattle.lsp_verdict.specs.declared.verdict.Who.TheVariants as who

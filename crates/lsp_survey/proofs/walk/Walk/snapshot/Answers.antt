@@ -13,10 +13,10 @@ use Rattle.lsp_verdict.specs.Calls.{calls}
 use Rattle.lsp_verdict.specs.Offences.{events_of, kept_of}
 use Rattle.lsp_events.proofs.Following.{shown_holds}
 use Rattle.lsp_survey.proofs.Hearing.{late_heard, shown_heard}
-use Rattle.lsp_notes.proofs.Noting.{notes_stay}
+use Rattle.lsp_survey.proofs.Noting.{notes_stay}
 use Rattle.lsp_survey.proofs.OkParts.{if_ok_snapshot}
-use Rattle.lsp_notes.specs.Notes.{AreAfter}
-use Rattle.lsp_notes.specs.declared.note.Notes.{Notes}
+use Rattle.lsp_survey.specs.Notes.{AreAfter}
+use Rattle.lsp_survey.specs.declared.notes.note.Notes.{Notes}
 use Rattle.lsp_survey.proofs.walk.Walk.snapshot.Goals as goal
 
 pub returns-in-Ok-clause-heard : goal.returns-in-Ok-clause-heard
