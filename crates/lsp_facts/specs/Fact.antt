@@ -36,8 +36,8 @@ pub data Fact : Type 0 where
   -- the id of a message, null where there is none
   has_id : Option Ident → Fact
   in_phase : Phase → Fact
-  -- the encodings that are offered, and the one that is picked
-  offers : List (List ℕ) → Fact
+  -- the first encodings that are offered and how many more there are, and the one that is picked
+  offers : List (List ℕ) → ℕ → Fact
   picks : List ℕ → Fact
   -- a method that is to be registered
   registers : List ℕ → Fact
@@ -77,7 +77,7 @@ fact_view (facts.SavedLine text) = saved_line (chars (string_bytes text))
 fact_view (facts.Kept numbers) = keeps numbers.items
 fact_view (facts.Id id) = has_id (option_map id_view id)
 fact_view (facts.Phase phase) = in_phase phase
-fact_view (facts.Offered names) = offers (texts_view names.items)
+fact_view (facts.Offered names more) = offers (texts_view names.items) more
 fact_view (facts.Picked name) = picks (string_bytes name)
 fact_view (facts.Registers method) = registers (string_bytes method)
 fact_view (facts.Request id method) = waits (id_view id) (string_bytes method)

@@ -1,5 +1,5 @@
 -- The lines of an explanation.
-use Rattle.std.specs.Prelude.{ℕ, ℤ, List, [], ◌∷◌, ◌++◌, if◌then◌else◌, Option, Some, None, is_none, option_and_then, chars, codes, decimal}
+use Rattle.std.specs.Prelude.{ℕ, ℤ, List, [], ◌∷◌, ◌++◌, if◌then◌else◌, ◌==◌, Option, Some, None, is_none, option_and_then, chars, codes, decimal}
 use Rattle.std.specs.List.{flat_map}
 use Rattle.std.specs.Fmt.{signed_decimal}
 use Rattle.std.specs.Str.{is_utf8}
@@ -43,6 +43,10 @@ abbrev pub span_words : Option Span → List ℕ
 span_words None = spaced (codes "whole")
 span_words (Some span) = position_words span.first ++ position_words span.second
 
+-- how many are left out of a list, where any are
+abbrev pub more_words : ℕ → List ℕ
+more_words count = if count == 0 then [] else spaced (codes "and") ++ spaced (decimal count)
+
 -- characters, as JSON text
 abbrev pub quoted_text : List ℕ → List ℕ
 quoted_text text = quoted (encodes text)
@@ -67,7 +71,8 @@ fact_line (saved_line text) = line (codes "saved" ∷ quoted_text text ∷ [])
 fact_line (keeps numbers) = codes "kept" ++ flat_map (λ number. spaced (signed_decimal number)) numbers ++ 10 ∷ []
 fact_line (has_id id) = line (codes "id" ∷ response_id_text id ∷ [])
 fact_line (in_phase phase) = line (codes "phase" ∷ phase_name phase ∷ [])
-fact_line (offers names) = codes "offered" ++ flat_map (λ name. spaced (quoted name)) names ++ 10 ∷ []
+fact_line (offers names more) =
+    codes "offered" ++ flat_map (λ name. spaced (quoted name)) names ++ more_words more ++ 10 ∷ []
 fact_line (picks name) = line (codes "picked" ∷ quoted name ∷ [])
 fact_line (registers method) = line (codes "registers" ∷ quoted method ∷ [])
 fact_line (waits id method) = line (codes "request" ∷ id_text id ∷ quoted method ∷ [])

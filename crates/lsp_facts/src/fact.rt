@@ -41,8 +41,9 @@ pub enum Fact {
     Id(Option<Id>),
     /// How far the session has come.
     Phase(Phase),
-    /// The encodings that the open `initialize` offers (LSP 3.17, ClientCapabilities). None where it names none.
-    Offered(Vec<String>),
+    /// The encodings that the open `initialize` offers (LSP 3.17, ClientCapabilities): the first ones,
+    /// and how many more there are.
+    Offered { names: Vec<String>, more: u64 },
     /// The encoding that the result of `initialize` picks (LSP 3.17, ServerCapabilities).
     Picked(String),
     /// A method of text synchronisation that is to be registered (LSP 3.17, "Register Capability").

@@ -1,6 +1,7 @@
 //! The lines of an explanation.
 ghost use Rattle.std.specs.Prelude.{◌≡◌, ◌++◌, ◌∷◌, [], OnOk, string_bytes, option_map, decimal};
 ghost use Rattle.std.specs.Fmt.{signed_decimal};
+ghost use Rattle.std.specs.List.{flat_map};
 ghost use Rattle.std.specs.Str.{chars};
 ghost use Rattle.json.specs.Print.{quoted};
 ghost use Rattle.lsp_rpc.specs.Ident.{id_view};
@@ -171,14 +172,40 @@ fn push_spaced_version(lines: &mut String, version: i32) -> Result<(), Memory>
     Ok(())
 }
 
-fn push_names(alloc: Global, lines: &mut String, names: &[String]) -> Result<(), Memory>
-    ensures { OnOk result (string_bytes lines.new ≡ string_bytes lines.old ++ spec.fact_line (offers (texts_view names.now))) }
+fn push_offer(
+    alloc: Global,
+    lines: &mut String,
+    names: &[String],
+    more: u64,
+) -> Result<(), Memory>
+    ensures { OnOk result (string_bytes lines.new
+        ≡ string_bytes lines.old ++ spec.fact_line (offers (texts_view names.now) more)) }
 {
     lines.push_str("offered")?;
+    push_names(alloc, lines, names)?;
+    push_more(lines, more)?;
+    Ok(lines.push_str("\n")?)
+}
+
+fn push_names(alloc: Global, lines: &mut String, names: &[String]) -> Result<(), Memory>
+    ensures { OnOk result (string_bytes lines.new
+        ≡ string_bytes lines.old ++ flat_map (λ name. spec.spaced (quoted name)) (texts_view names.now)) }
+{
     for name in names {
         push_spaced_name(alloc, lines, name.as_str())?;
     }
-    Ok(lines.push_str("\n")?)
+    Ok(())
+}
+
+/// Adds how many are left out of a list, where any are.
+fn push_more(lines: &mut String, more: u64) -> Result<(), Memory>
+    ensures { OnOk result (string_bytes lines.new ≡ string_bytes lines.old ++ spec.more_words more) }
+{
+    if more == 0 {
+        return Ok(());
+    }
+    write!(lines, " and {more}")?;
+    Ok(())
 }
 
 fn push_spaced_name(alloc: Global, lines: &mut String, name: &str) -> Result<(), Memory>
@@ -210,7 +237,7 @@ fn push_fact(alloc: Global, lines: &mut String, fact: &Fact) -> Result<(), Memor
         Fact::Kept(versions) => push_versions(lines, versions.as_slice()),
         Fact::Id(id) => push_message_id(alloc, lines, id.as_ref()),
         Fact::Phase(phase) => push_phase(lines, *phase),
-        Fact::Offered(names) => push_names(alloc, lines, names.as_slice()),
+        Fact::Offered { names, more } => push_offer(alloc, lines, names.as_slice(), *more),
         Fact::Picked(name) => push_text(alloc, lines, "picked", name.as_str()),
         Fact::Registers(method) => push_text(alloc, lines, "registers", method.as_str()),
         Fact::Request { id, method } => push_request(alloc, lines, id, method.as_str()),

@@ -22,6 +22,9 @@ use std::str::from_utf8;
 /// How many bytes of a content that is no message are looked at.
 const SHOWN_BYTES: usize = 64;
 
+/// How many bytes are shown of the names that an `initialize` offers, a byte more counted for each.
+const OFFERED_BYTES: usize = 256;
+
 /// One fact alone.
 fn only(alloc: Global, fact: Fact) -> Result<Vec<Fact>, Memory>
     ensures { IfOk result (λ facts. facts_view facts.items ≡ fact_view fact ∷ []) }
@@ -90,13 +93,41 @@ fn copy_names(alloc: Global, names: &[String]) -> Result<Vec<String>, Memory>
     Ok(copy)
 }
 
+/// How many of the first names fit into the bytes that are shown of them.
+fn count_fitting(names: &[String]) -> usize
+    ensures within { result ≤ length names.now }
+    ensures count { result ≡ spec.names_fitting spec.offered_bytes (texts_view names.now) }
+{
+    let mut room = OFFERED_BYTES;
+    let mut count = 0;
+    for name in names {
+        let size = name.as_str().len();
+        if size >= room {
+            return count;
+        }
+        room -= size + 1;
+        count += 1;
+    }
+    count
+}
+
+/// As many of the first names as fit, and how many more there are.
+fn offer_of(alloc: Global, names: &[String]) -> Result<Fact, Memory>
+    ensures { IfOk result (λ fact. fact_view fact ≡ spec.offer_fact (texts_view names.now)) }
+{
+    let count = count_fitting(names);
+    let more = (names.len() - count) as u64;
+    let names = copy_names(alloc, &names[..count])?;
+    Ok(Fact::Offered { names, more })
+}
+
 /// The encodings that are offered; none where none is named.
-fn names_in(alloc: Global, offer: &Offer) -> Result<Vec<String>, Memory>
-    ensures { IfOk result (λ names. texts_view names.items ≡ unwrap_or (offer_view offer.now).encodings []) }
+fn offered(alloc: Global, offer: &Offer) -> Result<Fact, Memory>
+    ensures { IfOk result (λ fact. fact_view fact ≡ spec.offer_fact (unwrap_or (offer_view offer.now).encodings [])) }
 {
     match &offer.encodings {
-        Some(encodings) => copy_names(alloc, encodings.as_slice()),
-        None => Ok(Vec::new(alloc)),
+        Some(encodings) => offer_of(alloc, encodings.as_slice()),
+        None => offer_of(alloc, &[]),
     }
 }
 
@@ -124,7 +155,7 @@ fn settled_facts(
     let Some((offer, value)) = session.settled(side, message) else {
         return Ok(Vec::new(alloc));
     };
-    let mut facts = only(alloc, Fact::Offered(names_in(alloc, offer)?))?;
+    let mut facts = only(alloc, offered(alloc, offer)?)?;
     push_picked(alloc, &mut facts, value)?;
     Ok(facts)
 }

@@ -45,8 +45,8 @@ of_a_difference : fact_lines (differs_at (at 10 4) ∷ held_line (codes "int x;\
 unfolding digits escape_byte encode
 of_a_difference = refl
 
-of_lists : fact_lines (keeps (pos 3 ∷ pos 4 ∷ pos 7 ∷ []) ∷ offers (codes "utf-8" ∷ codes "utf-16" ∷ []) ∷ offers [] ∷ in_record 12 ∷ [])
-    ≡ codes "kept 3 4 7\noffered \"utf-8\" \"utf-16\"\noffered\nrecord 12\n"
+of_lists : fact_lines (keeps (pos 3 ∷ pos 4 ∷ pos 7 ∷ []) ∷ offers (codes "utf-8" ∷ codes "utf-16" ∷ []) 0 ∷ offers [] 0 ∷ offers (codes "a" ∷ []) 12 ∷ in_record 12 ∷ [])
+    ≡ codes "kept 3 4 7\noffered \"utf-8\" \"utf-16\"\noffered\noffered \"a\" and 12\nrecord 12\n"
 unfolding digits escape_byte
 of_lists = refl
 
