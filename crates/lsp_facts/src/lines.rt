@@ -172,12 +172,7 @@ fn push_spaced_version(lines: &mut String, version: i32) -> Result<(), Memory>
     Ok(())
 }
 
-fn push_offer(
-    alloc: Global,
-    lines: &mut String,
-    names: &[String],
-    more: u64,
-) -> Result<(), Memory>
+fn push_offer(alloc: Global, lines: &mut String, names: &[String], more: u64) -> Result<(), Memory>
     ensures { OnOk result (string_bytes lines.new
         ≡ string_bytes lines.old ++ spec.fact_line (offers (texts_view names.now) more)) }
 {
