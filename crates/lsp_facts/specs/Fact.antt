@@ -1,4 +1,5 @@
--- What an explanation says, apart from where its texts lie in memory. A URI, a name and the text of an id are the bytes of their UTF-8; what stands in a document are its characters.
+-- What an explanation says, apart from where its texts lie in memory. A URI, a name and the text of
+-- an id are the bytes of their UTF-8; what stands in a document are its characters.
 use Rattle.std.specs.Prelude.{ℕ, ℤ, List, map, Option, option_map, string_bytes}
 use Rattle.std.specs.Str.{chars}
 use Rattle.lsp_types.specs.declared.change.SyncKind.{SyncKind}
@@ -44,7 +45,8 @@ pub data Fact : Type 0 where
   -- a request that waits, with its method
   waits : Ident → List ℕ → Fact
   waits_since : Ident → List ℕ → ℕ → Fact
-  -- the event that brought the held version, that of a snapshot, and the snapshot that was found equal last
+  -- the event that brought the held version, that of a snapshot, and the snapshot that was found
+  -- equal last
   brought_by : ℕ → Fact
   shown_by : ℕ → Fact
   agreed_by : ℕ → ℤ → Fact

@@ -1,5 +1,6 @@
 -- The lines of an explanation.
-use Rattle.std.specs.Prelude.{ℕ, ℤ, List, [], ◌∷◌, ◌++◌, if◌then◌else◌, ◌==◌, Option, Some, None, is_none, option_and_then, chars, codes, decimal}
+use Rattle.std.specs.Prelude.{ℕ, ℤ, List, [], ◌∷◌, ◌++◌, if◌then◌else◌, ◌==◌, Option, Some, None}
+use Rattle.std.specs.Prelude.{is_none, option_and_then, chars, codes, decimal}
 use Rattle.std.specs.List.{flat_map}
 use Rattle.std.specs.Fmt.{signed_decimal}
 use Rattle.std.specs.Str.{is_utf8}
@@ -19,7 +20,11 @@ use Rattle.lsp_verdict.specs.Placed.{Raw, content, broken, show}
 use Rattle.lsp_verdict.specs.Report.{line, side_name, who_name, kind_name}
 use Rattle.lsp_verdict.specs.Shown.{snapshot_words}
 use Rattle.lsp_verdict.specs.declared.verdict.Who.{Who}
-use Rattle.lsp_facts.specs.Fact.{Fact, of_uri, holds, sends, has_changes, has_kind, fails, line_has, falls_inside, would_have, may_have, differs_at, held_line, recorded_line, saved_line, keeps, has_id, in_phase, offers, picks, registers, waits, waits_since, brought_by, shown_by, agreed_by, answered_by, asked_by, led_by, begins, in_record, at_byte, finds}
+use Rattle.lsp_facts.specs.Fact.{Fact, of_uri, holds, sends, has_changes, has_kind, fails, line_has}
+use Rattle.lsp_facts.specs.Fact.{falls_inside, would_have, may_have, differs_at, held_line}
+use Rattle.lsp_facts.specs.Fact.{recorded_line, saved_line, keeps, has_id, in_phase, offers, picks}
+use Rattle.lsp_facts.specs.Fact.{registers, waits, waits_since, brought_by, shown_by, agreed_by}
+use Rattle.lsp_facts.specs.Fact.{answered_by, asked_by, led_by, begins, in_record, at_byte, finds}
 
 -- ---- words
 
@@ -59,7 +64,8 @@ fact_line (holds number) = line (codes "held" ∷ signed_decimal number ∷ [])
 fact_line (sends number) = line (codes "sent" ∷ signed_decimal number ∷ [])
 fact_line (has_changes count) = line (codes "changes" ∷ decimal count ∷ [])
 fact_line (has_kind kind) = line (codes "sync" ∷ kind_name (Some kind) ∷ [])
-fact_line (fails which span) = codes "change" ++ spaced (decimal which) ++ span_words span ++ 10 ∷ []
+fact_line (fails which span) =
+    codes "change" ++ spaced (decimal which) ++ span_words span ++ 10 ∷ []
 fact_line (line_has units) = line (codes "length" ∷ decimal units ∷ [])
 fact_line (falls_inside text) = line (codes "inside" ∷ quoted_text text ∷ [])
 fact_line (would_have count) = line (codes "bytes" ∷ decimal count ∷ [])
@@ -68,7 +74,8 @@ fact_line (differs_at place) = line (codes "at" ∷ decimal place.line ∷ decim
 fact_line (held_line text) = line (codes "held" ∷ quoted_text text ∷ [])
 fact_line (recorded_line text) = line (codes "recorded" ∷ quoted_text text ∷ [])
 fact_line (saved_line text) = line (codes "saved" ∷ quoted_text text ∷ [])
-fact_line (keeps numbers) = codes "kept" ++ flat_map (λ number. spaced (signed_decimal number)) numbers ++ 10 ∷ []
+fact_line (keeps numbers) =
+    codes "kept" ++ flat_map (λ number. spaced (signed_decimal number)) numbers ++ 10 ∷ []
 fact_line (has_id id) = line (codes "id" ∷ response_id_text id ∷ [])
 fact_line (in_phase phase) = line (codes "phase" ∷ phase_name phase ∷ [])
 fact_line (offers names more) =
@@ -76,10 +83,12 @@ fact_line (offers names more) =
 fact_line (picks name) = line (codes "picked" ∷ quoted name ∷ [])
 fact_line (registers method) = line (codes "registers" ∷ quoted method ∷ [])
 fact_line (waits id method) = line (codes "request" ∷ id_text id ∷ quoted method ∷ [])
-fact_line (waits_since id method event) = line (codes "request" ∷ id_text id ∷ quoted method ∷ decimal event ∷ [])
+fact_line (waits_since id method event) =
+    line (codes "request" ∷ id_text id ∷ quoted method ∷ decimal event ∷ [])
 fact_line (brought_by event) = line (codes "brought" ∷ decimal event ∷ [])
 fact_line (shown_by event) = line (codes "snapshot" ∷ decimal event ∷ [])
-fact_line (agreed_by event number) = line (codes "agreed" ∷ decimal event ∷ signed_decimal number ∷ [])
+fact_line (agreed_by event number) =
+    line (codes "agreed" ∷ decimal event ∷ signed_decimal number ∷ [])
 fact_line (answered_by event) = line (codes "answered" ∷ decimal event ∷ [])
 fact_line (asked_by event) = line (codes "asked" ∷ decimal event ∷ [])
 fact_line (led_by event) = line (codes "since" ∷ decimal event ∷ [])
@@ -95,14 +104,16 @@ fact_lines facts = flat_map fact_line facts
 
 -- a message of this number, as it is shown
 abbrev pub message_event : ℕ → Side → Message → List ℕ
-message_event number side said = line (codes "event" ∷ decimal number ∷ side_name side ∷ words_of said ∷ [])
+message_event number side said =
+    line (codes "event" ∷ decimal number ∷ side_name side ∷ words_of said ∷ [])
 
 -- where no message can be named, the side alone is
 abbrev pub side_event : ℕ → Side → List ℕ
 side_event number side = line (codes "event" ∷ decimal number ∷ side_name side ∷ [])
 
 abbrev pub snapshot_event : ℕ → List ℕ → ℤ → List ℕ → List ℕ
-snapshot_event number uri version text = line (codes "event" ∷ snapshot_words number uri version text)
+snapshot_event number uri version text =
+    line (codes "event" ∷ snapshot_words number uri version text)
 
 -- the message that a value is, where it keeps the rules 202 to 208
 abbrev pub value_message : Data → Option Message
@@ -117,8 +128,8 @@ abbrev pub content_event : ℕ → Side → Option Message → List ℕ
 content_event number side (Some said) = message_event number side said
 content_event number side None = side_event number side
 
--- **the line that names the event of this number**: as it is shown; of a content that is no message,
--- and of a fault of the frames, the side alone
+-- **the line that names the event of this number**: as it is shown; of a content that is no
+-- message, and of a fault of the frames, the side alone
 abbrev pub event_line : ℕ → Raw → List ℕ
 event_line number (content side bytes) = content_event number side (content_message bytes)
 event_line number (broken side rule) = side_event number side

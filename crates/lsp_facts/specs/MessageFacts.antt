@@ -1,5 +1,6 @@
 -- What is said of a message that offends, read off the messages before.
-use Rattle.std.specs.Prelude.{ℕ, suc, ◌-◌, nat_lt, List, [], ◌∷◌, length, take, if◌then◌else◌, Option, Some, None, option_map, option_to_list, unwrap_or}
+use Rattle.std.specs.Prelude.{ℕ, suc, ◌-◌, nat_lt, List, [], ◌∷◌, length, take, if◌then◌else◌}
+use Rattle.std.specs.Prelude.{Option, Some, None, option_map, option_to_list, unwrap_or}
 use Rattle.std.specs.Str.Lossy.{utf8_valid_len}
 use Rattle.lsp_rpc.specs.Act.{Text, Act, Picked, register}
 use Rattle.lsp_rpc.specs.Ident.{Ident}
@@ -48,7 +49,8 @@ names_fitting room (name ∷ names) =
 -- as many of the first names as fit, and how many more there are
 abbrev pub offer_fact : List Text → Fact
 offer_fact names =
-    let count = names_fitting offered_bytes names in offers (take count names) (length names - count)
+    let count = names_fitting offered_bytes names in offers (take count names)
+        (length names - count)
 
 -- the encodings that were offered, and the one that is picked where the result has the shape
 abbrev pub settled_facts : Option Settled → List Fact
@@ -59,7 +61,8 @@ settled_facts (Some settled) =
 -- the first of the methods that is one of text synchronisation
 abbrev pub first_synchronisation : List Text → Option Text
 first_synchronisation [] = None
-first_synchronisation (method ∷ methods) = if is_synchronisation method then Some method else first_synchronisation methods
+first_synchronisation (method ∷ methods) =
+    if is_synchronisation method then Some method else first_synchronisation methods
 
 abbrev pub registered : Act → Option Text
 registered (register methods) = first_synchronisation methods

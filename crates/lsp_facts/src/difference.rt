@@ -28,7 +28,8 @@ pub(crate) fn difference(
     other: &str,
     against: Against,
 ) -> Result<FactList, Memory>
-    ensures { IfOk result (λ facts. chars held.now ≢ chars other.now → AreApart encoding (chars held.now) (chars other.now) (line_fact against) facts) }
+    ensures { IfOk result (λ facts. chars held.now ≢ chars other.now
+        → AreApart encoding (chars held.now) (chars other.now) (line_fact against) facts) }
 {
     let mut facts = FactList::new(alloc);
     let Some(found) = first_difference(held, other, encoding) else {

@@ -3,8 +3,8 @@ use lsp_rpc::Id;
 use lsp_session::Phase;
 use lsp_types::{Position, Span, SyncKind};
 
-/// One thing that an explanation says of an offence. Lines and columns count from 0, columns in units of the
-/// encoding that the session agreed on.
+/// One thing that an explanation says of an offence. Lines and columns count from 0, columns in
+/// units of the encoding that the session agreed on.
 #[derive(Debug, Drop, PartialEq, Eq)]
 pub enum Fact {
     /// The document of which the message or the snapshot speaks, as it writes its URI.
@@ -17,7 +17,8 @@ pub enum Fact {
     Changes(u64),
     /// How changes are sent, as agreed (LSP 3.17, TextDocumentSyncKind).
     Sync(SyncKind),
-    /// The change that fails, from 1, and its span, if it has one (LSP 3.17, TextDocumentContentChangeEvent).
+    /// The change that fails, from 1, and its span, if it has one (LSP 3.17,
+    /// TextDocumentContentChangeEvent).
     Change { which: u64, span: Option<Span> },
     /// The units of a line of the text that this change meets, its line end not counted.
     Length(u64),
@@ -41,8 +42,8 @@ pub enum Fact {
     Id(Option<Id>),
     /// How far the session has come.
     Phase(Phase),
-    /// The encodings that the open `initialize` offers (LSP 3.17, ClientCapabilities): the first ones,
-    /// and how many more there are.
+    /// The encodings that the open `initialize` offers (LSP 3.17, ClientCapabilities): the first
+    /// ones, and how many more there are.
     Offered { names: Vec<String>, more: u64 },
     /// The encoding that the result of `initialize` picks (LSP 3.17, ServerCapabilities).
     Picked(String),
@@ -56,7 +57,8 @@ pub enum Fact {
     Brought(u64),
     /// The number of the event of a snapshot that has another text, from 1.
     Snapshot(u64),
-    /// The snapshot of the standing opening that was found equal last: the number of its event, from 1, and its version.
+    /// The snapshot of the standing opening that was found equal last: the number of its event,
+    /// from 1, and its version.
     Agreed { event: u64, version: i32 },
     /// The number of the event that answered a request of this id, from 1.
     Answered(u64),

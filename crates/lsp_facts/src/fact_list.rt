@@ -2,7 +2,8 @@
 
 ghost use Rattle.std.specs.Prelude.{◌≡◌, ◌<◌, ◌^◌, ◌+◌, [], ◌∷◌, ◌++◌, OnOk};
 ghost use Rattle.std.specs.Str.{chars};
-ghost use Rattle.lsp_facts.specs.Fact.{of_uri, fails, held_line, recorded_line, saved_line, falls_inside, fact_view, facts_view};
+ghost use Rattle.lsp_facts.specs.Fact.{of_uri, fails, held_line, recorded_line, saved_line};
+ghost use Rattle.lsp_facts.specs.Fact.{falls_inside, fact_view, facts_view};
 ghost use Rattle.lsp_facts.specs.DocumentFacts.{line_length, first_length};
 
 use crate::fact::Fact;
@@ -119,7 +120,8 @@ impl FactList {
         encoding: Encoding,
         position: Position,
     ) -> Result<(), Memory>
-        ensures { OnOk result (self.new ≡ self.old ++ line_length encoding (chars text.now) position) }
+        ensures { OnOk result (self.new ≡ self.old
+            ++ line_length encoding (chars text.now) position) }
     {
         let Some(line) = line_at(text, position.line) else {
             return Ok(());
@@ -127,7 +129,8 @@ impl FactList {
         self.push(Fact::Length(width_of(line, encoding)))
     }
 
-    /// Adds the length of the line in which a span begins, where there is one and the text has that line.
+    /// Adds the length of the line in which a span begins, where there is one and the text has that
+    /// line.
     pub(crate) fn push_first_length(
         &mut self,
         text: &str,

@@ -1,12 +1,13 @@
-//! Facts on an event that offends, read off the events before it, and the line of each. No run reads a log
-//! here, and nothing is written to a sink.
+//! Facts on an event that offends, read off the events before it, and the line of each. No run
+//! reads a log here, and nothing is written to a sink.
 //!
-//! A [`Fact`] is one thing that an explanation says. Of a message [`message_facts`] says them, of a snapshot
-//! [`shown_facts`]: by their rules [`session_facts`], or [`act_facts`] and [`snapshot_facts`], which say what
-//! a call on a document lacks. [`content_facts`] are on a content that is no message, [`frame_facts`] and
-//! [`unfinished_facts`] on a stream whose frames have a fault or an end inside one, [`flaw_facts`] on a log
-//! that has a fault. [`refuting`] finds the snapshots whose texts refute a call. [`push_facts`] writes the lines of facts, and what stands beside it the line that names
-//! an event.
+//! A [`Fact`] is one thing that an explanation says. Of a message [`message_facts`] says them, of a
+//! snapshot [`shown_facts`]: by their rules [`session_facts`], or [`act_facts`] and
+//! [`snapshot_facts`], which say what a call on a document lacks. [`content_facts`] are on a
+//! content that is no message, [`frame_facts`] and [`unfinished_facts`] on a stream whose frames
+//! have a fault or an end inside one, [`flaw_facts`] on a log that has a fault. [`refuting`] finds
+//! the snapshots whose texts refute a call. [`push_facts`] writes the lines of facts, and what
+//! stands beside it the line that names an event.
 #![tactic(auto)]
 
 mod difference;

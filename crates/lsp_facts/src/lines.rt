@@ -8,7 +8,9 @@ ghost use Rattle.lsp_rpc.specs.Ident.{id_view};
 ghost use Rattle.lsp_docs.specs.Texts.{byte_len};
 ghost use Rattle.lsp_rpc.specs.View.{message_view, texts_view};
 ghost use Rattle.lsp_verdict.specs.Report.{line};
-ghost use Rattle.lsp_facts.specs.Fact.{fact_view, facts_view, has_kind, differs_at, fails, in_phase, has_id, waits, waits_since, agreed_by, keeps, offers};
+ghost use Rattle.lsp_facts.specs.Fact.{fact_view, facts_view, has_kind, differs_at, fails};
+ghost use Rattle.lsp_facts.specs.Fact.{in_phase, has_id, waits, waits_since, agreed_by, keeps};
+ghost use Rattle.lsp_facts.specs.Fact.{offers};
 ghost use Rattle.lsp_facts.specs.Lines as spec;
 
 use crate::fact::Fact;
@@ -33,14 +35,16 @@ fn phase_name(phase: Phase) -> &'static str
 }
 
 fn push_number(lines: &mut String, key: &str, number: u64) -> Result<(), Memory>
-    ensures { OnOk result (string_bytes lines.new ≡ string_bytes lines.old ++ line (key.now ∷ decimal number ∷ [])) }
+    ensures { OnOk result (string_bytes lines.new ≡ string_bytes lines.old
+        ++ line (key.now ∷ decimal number ∷ [])) }
 {
     writeln!(lines, "{key} {number}")?;
     Ok(())
 }
 
 fn push_version(lines: &mut String, key: &str, version: i32) -> Result<(), Memory>
-    ensures { OnOk result (string_bytes lines.new ≡ string_bytes lines.old ++ line (key.now ∷ signed_decimal version ∷ [])) }
+    ensures { OnOk result (string_bytes lines.new ≡ string_bytes lines.old
+        ++ line (key.now ∷ signed_decimal version ∷ [])) }
 {
     writeln!(lines, "{key} {version}")?;
     Ok(())
@@ -48,7 +52,8 @@ fn push_version(lines: &mut String, key: &str, version: i32) -> Result<(), Memor
 
 /// Adds a key and a text as JSON.
 fn push_text(alloc: Global, lines: &mut String, key: &str, text: &str) -> Result<(), Memory>
-    ensures { OnOk result (string_bytes lines.new ≡ string_bytes lines.old ++ line (key.now ∷ quoted text.now ∷ [])) }
+    ensures { OnOk result (string_bytes lines.new ≡ string_bytes lines.old
+        ++ line (key.now ∷ quoted text.now ∷ [])) }
 {
     write!(lines, "{key} ")?;
     push_quoted(alloc, lines, text)?;
@@ -57,13 +62,15 @@ fn push_text(alloc: Global, lines: &mut String, key: &str, text: &str) -> Result
 
 /// Adds a key and a text of a document as JSON.
 fn push_characters(alloc: Global, lines: &mut String, key: &str, text: &str) -> Result<(), Memory>
-    ensures { OnOk result (string_bytes lines.new ≡ string_bytes lines.old ++ line (key.now ∷ spec.quoted_text (chars text.now) ∷ [])) }
+    ensures { OnOk result (string_bytes lines.new ≡ string_bytes lines.old
+        ++ line (key.now ∷ spec.quoted_text (chars text.now) ∷ [])) }
 {
     push_text(alloc, lines, key, text)
 }
 
 fn push_kind(lines: &mut String, kind: SyncKind) -> Result<(), Memory>
-    ensures { OnOk result (string_bytes lines.new ≡ string_bytes lines.old ++ spec.fact_line (has_kind kind)) }
+    ensures { OnOk result (string_bytes lines.new ≡ string_bytes lines.old
+        ++ spec.fact_line (has_kind kind)) }
 {
     let name = kind_name(Some(kind));
     writeln!(lines, "sync {name}")?;
@@ -71,7 +78,8 @@ fn push_kind(lines: &mut String, kind: SyncKind) -> Result<(), Memory>
 }
 
 fn push_place(lines: &mut String, place: Position) -> Result<(), Memory>
-    ensures { OnOk result (string_bytes lines.new ≡ string_bytes lines.old ++ spec.fact_line (differs_at place)) }
+    ensures { OnOk result (string_bytes lines.new ≡ string_bytes lines.old
+        ++ spec.fact_line (differs_at place)) }
 {
     let Position { line, column } = place;
     writeln!(lines, "at {line} {column}")?;
@@ -79,7 +87,8 @@ fn push_place(lines: &mut String, place: Position) -> Result<(), Memory>
 }
 
 fn push_position(lines: &mut String, position: Position) -> Result<(), Memory>
-    ensures { OnOk result (string_bytes lines.new ≡ string_bytes lines.old ++ spec.position_words position) }
+    ensures { OnOk result (string_bytes lines.new ≡ string_bytes lines.old
+        ++ spec.position_words position) }
 {
     let Position { line, column } = position;
     write!(lines, " {line} {column}")?;
@@ -87,7 +96,8 @@ fn push_position(lines: &mut String, position: Position) -> Result<(), Memory>
 }
 
 fn push_change(lines: &mut String, which: u64, span: Option<Span>) -> Result<(), Memory>
-    ensures { OnOk result (string_bytes lines.new ≡ string_bytes lines.old ++ spec.fact_line (fails which span)) }
+    ensures { OnOk result (string_bytes lines.new ≡ string_bytes lines.old
+        ++ spec.fact_line (fails which span)) }
 {
     let Some(span) = span else {
         writeln!(lines, "change {which} whole")?;
@@ -100,7 +110,8 @@ fn push_change(lines: &mut String, which: u64, span: Option<Span>) -> Result<(),
 }
 
 fn push_phase(lines: &mut String, phase: Phase) -> Result<(), Memory>
-    ensures { OnOk result (string_bytes lines.new ≡ string_bytes lines.old ++ spec.fact_line (in_phase phase)) }
+    ensures { OnOk result (string_bytes lines.new ≡ string_bytes lines.old
+        ++ spec.fact_line (in_phase phase)) }
 {
     let name = phase_name(phase);
     writeln!(lines, "phase {name}")?;
@@ -109,7 +120,8 @@ fn push_phase(lines: &mut String, phase: Phase) -> Result<(), Memory>
 
 fn push_message_id(alloc: Global, lines: &mut String, id: Option<&Id>) -> Result<(), Memory>
     ensures { OnOk result (string_bytes lines.new
-        ≡ string_bytes lines.old ++ spec.fact_line (has_id (option_map (λ i. id_view i.now) id.entry))) }
+        ≡ string_bytes lines.old
+        ++ spec.fact_line (has_id (option_map (λ i. id_view i.now) id.entry))) }
 {
     lines.push_str("id ")?;
     match id {
@@ -138,7 +150,8 @@ fn push_request_by(
     event: u64,
 ) -> Result<(), Memory>
     ensures { OnOk result (string_bytes lines.new
-        ≡ string_bytes lines.old ++ spec.fact_line (waits_since (id_view id.now) method.now event)) }
+        ≡ string_bytes lines.old
+        ++ spec.fact_line (waits_since (id_view id.now) method.now event)) }
 {
     lines.push_str("request ")?;
     push_id(alloc, lines, id)?;
@@ -149,14 +162,16 @@ fn push_request_by(
 }
 
 fn push_agreed(lines: &mut String, event: u64, version: i32) -> Result<(), Memory>
-    ensures { OnOk result (string_bytes lines.new ≡ string_bytes lines.old ++ spec.fact_line (agreed_by event version)) }
+    ensures { OnOk result (string_bytes lines.new ≡ string_bytes lines.old
+        ++ spec.fact_line (agreed_by event version)) }
 {
     writeln!(lines, "agreed {event} {version}")?;
     Ok(())
 }
 
 fn push_versions(lines: &mut String, versions: &[i32]) -> Result<(), Memory>
-    ensures { OnOk result (string_bytes lines.new ≡ string_bytes lines.old ++ spec.fact_line (keeps versions.now)) }
+    ensures { OnOk result (string_bytes lines.new ≡ string_bytes lines.old
+        ++ spec.fact_line (keeps versions.now)) }
 {
     lines.push_str("kept")?;
     for version in versions {
@@ -166,7 +181,8 @@ fn push_versions(lines: &mut String, versions: &[i32]) -> Result<(), Memory>
 }
 
 fn push_spaced_version(lines: &mut String, version: i32) -> Result<(), Memory>
-    ensures { OnOk result (string_bytes lines.new ≡ string_bytes lines.old ++ spec.spaced (signed_decimal version)) }
+    ensures { OnOk result (string_bytes lines.new ≡ string_bytes lines.old
+        ++ spec.spaced (signed_decimal version)) }
 {
     write!(lines, " {version}")?;
     Ok(())
@@ -184,7 +200,8 @@ fn push_offer(alloc: Global, lines: &mut String, names: &[String], more: u64) ->
 
 fn push_names(alloc: Global, lines: &mut String, names: &[String]) -> Result<(), Memory>
     ensures { OnOk result (string_bytes lines.new
-        ≡ string_bytes lines.old ++ flat_map (λ name. spec.spaced (quoted name)) (texts_view names.now)) }
+        ≡ string_bytes lines.old
+        ++ flat_map (λ name. spec.spaced (quoted name)) (texts_view names.now)) }
 {
     for name in names {
         push_spaced_name(alloc, lines, name.as_str())?;
@@ -194,7 +211,8 @@ fn push_names(alloc: Global, lines: &mut String, names: &[String]) -> Result<(),
 
 /// Adds how many are left out of a list, where any are.
 fn push_more(lines: &mut String, more: u64) -> Result<(), Memory>
-    ensures { OnOk result (string_bytes lines.new ≡ string_bytes lines.old ++ spec.more_words more) }
+    ensures { OnOk result (string_bytes lines.new ≡ string_bytes lines.old
+        ++ spec.more_words more) }
 {
     if more == 0 {
         return Ok(());
@@ -204,7 +222,8 @@ fn push_more(lines: &mut String, more: u64) -> Result<(), Memory>
 }
 
 fn push_spaced_name(alloc: Global, lines: &mut String, name: &str) -> Result<(), Memory>
-    ensures { OnOk result (string_bytes lines.new ≡ string_bytes lines.old ++ spec.spaced (quoted name.now)) }
+    ensures { OnOk result (string_bytes lines.new ≡ string_bytes lines.old
+        ++ spec.spaced (quoted name.now)) }
 {
     lines.push_str(" ")?;
     push_quoted(alloc, lines, name)
@@ -212,7 +231,8 @@ fn push_spaced_name(alloc: Global, lines: &mut String, name: &str) -> Result<(),
 
 /// Adds the line of a fact.
 fn push_fact(alloc: Global, lines: &mut String, fact: &Fact) -> Result<(), Memory>
-    ensures { OnOk result (string_bytes lines.new ≡ string_bytes lines.old ++ spec.fact_line (fact_view fact.now)) }
+    ensures { OnOk result (string_bytes lines.new ≡ string_bytes lines.old
+        ++ spec.fact_line (fact_view fact.now)) }
 {
     match fact {
         Fact::Uri(uri) => push_text(alloc, lines, "uri", uri.as_str()),
@@ -257,7 +277,8 @@ fn push_fact(alloc: Global, lines: &mut String, fact: &Fact) -> Result<(), Memor
 /// # Errors
 /// `Memory` where memory was refused.
 pub fn push_facts(alloc: Global, lines: &mut String, facts: &[Fact]) -> Result<(), Memory>
-    ensures { OnOk result (string_bytes lines.new ≡ string_bytes lines.old ++ spec.fact_lines (facts_view facts.now)) }
+    ensures { OnOk result (string_bytes lines.new ≡ string_bytes lines.old
+        ++ spec.fact_lines (facts_view facts.now)) }
 {
     for fact in facts {
         push_fact(alloc, lines, fact)?;
@@ -265,7 +286,8 @@ pub fn push_facts(alloc: Global, lines: &mut String, facts: &[Fact]) -> Result<(
     Ok(())
 }
 
-/// Adds the line of an event that is a message: its number, from 1, the side that sent it, and its words.
+/// Adds the line of an event that is a message: its number, from 1, the side that sent it, and its
+/// words.
 ///
 /// # Errors
 /// `Memory` where memory was refused.
@@ -285,8 +307,8 @@ pub fn push_message_event(
     Ok(())
 }
 
-/// Adds the line of an event that is a content: its number, from 1, the side that sent it, and the words
-/// of the message that it is, whatever its params; of a content that is no message no words.
+/// Adds the line of an event that is a content: its number, from 1, the side that sent it, and the
+/// words of the message that it is, whatever its params; of a content that is no message no words.
 ///
 /// # Errors
 /// `Memory` where memory was refused.
@@ -298,7 +320,8 @@ pub fn push_content_event(
     content: &[u8],
 ) -> Result<(), Memory>
     ensures { OnOk result (string_bytes lines.new
-        ≡ string_bytes lines.old ++ spec.content_event number side (spec.content_message content.now)) }
+        ≡ string_bytes lines.old
+        ++ spec.content_event number side (spec.content_message content.now)) }
 {
     match read(alloc, content) {
         Ok(message) => push_owned_event(alloc, lines, number, side, message),
@@ -325,7 +348,8 @@ fn push_owned_event(
 /// # Errors
 /// `Memory` where memory was refused.
 pub fn push_side_event(lines: &mut String, number: u64, side: Side) -> Result<(), Memory>
-    ensures { OnOk result (string_bytes lines.new ≡ string_bytes lines.old ++ spec.side_event number side) }
+    ensures { OnOk result (string_bytes lines.new ≡ string_bytes lines.old
+        ++ spec.side_event number side) }
 {
     let name = side_name(side);
     writeln!(lines, "event {number} {name}")?;
@@ -338,7 +362,8 @@ fn byte_count(text: &str) -> usize
     text.len()
 }
 
-/// Adds the line of an event that is a snapshot: its number, from 1, and its version, bytes and URI.
+/// Adds the line of an event that is a snapshot: its number, from 1, and its version, bytes and
+/// URI.
 ///
 /// # Errors
 /// `Memory` where memory was refused.
@@ -359,12 +384,14 @@ pub fn push_snapshot_event(
     Ok(lines.push_str("\n")?)
 }
 
-/// Adds the line of a place at which no event stands: its number, from 1, and whose the next one would be.
+/// Adds the line of a place at which no event stands: its number, from 1, and whose the next one
+/// would be.
 ///
 /// # Errors
 /// `Memory` where memory was refused.
 pub fn push_end_event(lines: &mut String, number: u64, who: Who) -> Result<(), Memory>
-    ensures { OnOk result (string_bytes lines.new ≡ string_bytes lines.old ++ spec.end_event number who) }
+    ensures { OnOk result (string_bytes lines.new ≡ string_bytes lines.old
+        ++ spec.end_event number who) }
 {
     let name = who_name(who);
     writeln!(lines, "event {number} {name}")?;

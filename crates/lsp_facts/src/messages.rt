@@ -1,5 +1,6 @@
 //! Facts on messages, and on contents that are none.
-ghost use Rattle.std.specs.Prelude.{◌≡◌, ◌≤◌, List, [], ◌∷◌, ◌++◌, IfOk, OnOk, length, take, option_map, unwrap_or};
+ghost use Rattle.std.specs.Prelude.{◌≡◌, ◌≤◌, List, [], ◌∷◌, ◌++◌, IfOk, OnOk, length, take};
+ghost use Rattle.std.specs.Prelude.{option_map, unwrap_or};
 ghost use Rattle.std.specs.Str.{IsUtf8};
 ghost use Rattle.serde_json.specs.View.{view};
 ghost use Rattle.lsp_rpc.specs.Ident.{id_view};
@@ -74,7 +75,8 @@ pub fn id_in(message: &Message) -> Option<&Id>
 }
 
 fn id_facts(alloc: Global, message: &Message) -> Result<Vec<Fact>, Memory>
-    ensures { IfOk result (λ facts. facts_view facts.items ≡ has_id (spec.id_in (message_view message.now)) ∷ []) }
+    ensures { IfOk result (λ facts. facts_view facts.items
+        ≡ has_id (spec.id_in (message_view message.now)) ∷ []) }
 {
     let id = match id_in(message) {
         Some(id) => Some(copy_id(id)?),
@@ -123,7 +125,8 @@ fn offer_of(alloc: Global, names: &[String]) -> Result<Fact, Memory>
 
 /// The encodings that are offered; none where none is named.
 fn offered(alloc: Global, offer: &Offer) -> Result<Fact, Memory>
-    ensures { IfOk result (λ fact. fact_view fact ≡ spec.offer_fact (unwrap_or (offer_view offer.now).encodings [])) }
+    ensures { IfOk result (λ fact. fact_view fact
+        ≡ spec.offer_fact (unwrap_or (offer_view offer.now).encodings [])) }
 {
     match &offer.encodings {
         Some(encodings) => offer_of(alloc, encodings.as_slice()),
@@ -133,7 +136,8 @@ fn offered(alloc: Global, offer: &Offer) -> Result<Fact, Memory>
 
 /// Adds what the result of `initialize` picks, where it has the shape.
 fn push_picked(alloc: Global, facts: &mut Vec<Fact>, value: &Value) -> Result<(), Memory>
-    ensures { OnOk result (facts_view facts.new.items ≡ facts_view facts.old.items ++ spec.pick_facts (picked_at (view value.now))) }
+    ensures { OnOk result (facts_view facts.new.items ≡ facts_view facts.old.items
+        ++ spec.pick_facts (picked_at (view value.now))) }
 {
     match picked_of(alloc, value) {
         Ok(picked) => Ok(facts.push(Fact::Picked(picked.encoding))?),
@@ -150,7 +154,9 @@ fn settled_facts(
     message: &Message,
 ) -> Result<Vec<Fact>, Memory>
     ensures { IfOk result (λ facts. (before : List Sent) → Stands session.now before
-        → facts_view facts.items ≡ spec.settled_facts (settled_among (open_initializes before) side (message_view message.now))) }
+        → facts_view facts.items
+        ≡ spec.settled_facts (settled_among (open_initializes before) side
+            (message_view message.now))) }
 {
     let Some((offer, value)) = session.settled(side, message) else {
         return Ok(Vec::new(alloc));
@@ -182,7 +188,8 @@ fn registered(act: &Act) -> Option<&str>
 }
 
 fn register_facts(alloc: Global, act: &Act) -> Result<Vec<Fact>, Memory>
-    ensures { IfOk result (λ facts. facts_view facts.items ≡ spec.register_facts (act_view act.now)) }
+    ensures { IfOk result (λ facts. facts_view facts.items
+        ≡ spec.register_facts (act_view act.now)) }
 {
     match registered(act) {
         Some(method) => only(alloc, Fact::Registers(String::from_str(alloc, method)?)),
@@ -190,10 +197,10 @@ fn register_facts(alloc: Global, act: &Act) -> Result<Vec<Fact>, Memory>
     }
 }
 
-/// What is said of a message that breaks this rule, 301 to 504, after the messages of the session: of
-/// 301 and 302 its id, of 401 to 412 how far the session has come, of 501 to 503 the encodings that the
-/// open `initialize` offers and the one that its result picks, of 504 the first method of text
-/// synchronisation that is to be registered. The act is what the message means on its side.
+/// What is said of a message that breaks this rule, 301 to 504, after the messages of the session:
+/// of 301 and 302 its id, of 401 to 412 how far the session has come, of 501 to 503 the encodings
+/// that the open `initialize` offers and the one that its result picks, of 504 the first method of
+/// text synchronisation that is to be registered. The act is what the message means on its side.
 ///
 /// # Errors
 /// `Memory` where memory was refused.
