@@ -21,9 +21,10 @@ use Rattle.lsp_docs.specs.Documents.{Version, versioned, held}
 use Rattle.lsp_docs.specs.Kept.{kept}
 use Rattle.lsp_docs.specs.Snapshots.{texts_at, waiting, versions_of}
 use Rattle.lsp_docs.specs.Others.{other_than}
-use Rattle.lsp_facts.specs.Fact.{Fact, of_uri, holds, sends, has_changes, has_kind, fails, line_has}
-use Rattle.lsp_facts.specs.Fact.{falls_inside, would_have, may_have, differs_at, held_line}
-use Rattle.lsp_facts.specs.Fact.{recorded_line, saved_line, keeps}
+use Rattle.lsp_facts.specs.Fact.{Fact, of_uri, holds, sends, shows_version, has_changes}
+use Rattle.lsp_facts.specs.Fact.{has_kind, counts_in, fails, line_has}
+use Rattle.lsp_facts.specs.Fact.{falls_inside, would_have, may_have, differs_at, by_messages}
+use Rattle.lsp_facts.specs.Fact.{in_editor, saved_line, keeps}
 use Rattle.lsp_facts.specs.Refuting.{first_other}
 
 -- ---- what is said under each rule
@@ -33,13 +34,13 @@ abbrev pub held_fact : Option Version → List Fact
 held_fact None = []
 held_fact (Some v) = holds v.number ∷ []
 
--- the version that was sent, and how many changes
+-- the version that was sent, and how many changes; or that of a snapshot
 abbrev pub sent_facts : Call → List Fact
 sent_facts (opens uri number text) = sends number ∷ []
 sent_facts (changes enc kind uri number edits) = sends number ∷ has_changes (length edits) ∷ []
 sent_facts (closes uri) = []
 sent_facts (saves uri text) = []
-sent_facts (shows uri number text) = sends number ∷ []
+sent_facts (shows uri number text) = shows_version number ∷ []
 
 abbrev pub head_facts : Option Version → Call → List Fact
 head_facts h call = of_uri (uri_of call) ∷ (held_fact h ++ sent_facts call)
@@ -77,7 +78,8 @@ made_length enc span (Err rule) = []
 abbrev pub misfit_facts : ℕ → Encoding → Text → List Edit → ℕ → Option Edit → List Fact
 misfit_facts limit enc t cs n None = []
 misfit_facts limit enc t cs n (Some edit) =
-    fails (n + 1) edit.span ∷ made_length enc edit.span (applied limit enc t (take n cs))
+    counts_in enc ∷ fails (n + 1) edit.span ∷ made_length enc edit.span
+    (applied limit enc t (take n cs))
 
 abbrev pub kind_facts : ℕ → Encoding → SyncKind → Text → List Edit → List Fact
 kind_facts limit enc kind t cs =
@@ -91,12 +93,12 @@ stray enc t span = if is_some (place_of enc t span.first) then span.second else 
 
 -- 605: the line of that position, and the character
 pub record IsStray (enc : Encoding) (t : Text) (span : Option Span) (facts : List Fact) : Type 0
-    where
-  pub of : Span
-  pub there : span ≡ Some of
-  pub char : ℕ
-  pub lies : LiesInside enc t (stray enc t of) char
-  pub are : facts ≡ line_length enc t (stray enc t of) ++ falls_inside (char ∷ []) ∷ []
+  where
+    pub of : Span
+    pub there : span ≡ Some of
+    pub char : ℕ
+    pub lies : LiesInside enc t (stray enc t of) char
+    pub are : facts ≡ line_length enc t (stray enc t of) ++ falls_inside (char ∷ []) ∷ []
 
 -- 607: the bytes that the text would have, and how many it may have
 pub record IsTooLong (limit : ℕ) (enc : Encoding) (t : Text) (edit : Edit)
@@ -124,7 +126,7 @@ pub record IsRefused (limit : ℕ) (enc : Encoding) (t : Text) (n : ℕ) (edit :
     (facts : List Fact) : Type 0 where
   pub reason : List Fact
   pub says : IsReason limit enc t edit rule reason
-  pub are : facts ≡ fails (n + 1) edit.span ∷ reason
+  pub are : facts ≡ counts_in enc ∷ fails (n + 1) edit.span ∷ reason
 
 -- the first change that fails, by this rule, on the text that those before it make
 pub record IsFailing (limit : ℕ) (enc : Encoding) (t : Text) (cs : List Edit) (rule : ℕ)
@@ -142,7 +144,8 @@ pub record IsFailing (limit : ℕ) (enc : Encoding) (t : Text) (cs : List Edit) 
 -- where they first differ, and the line of each there
 abbrev pub difference_facts : Encoding → Text → Text → (Text → Fact) → ℕ → List Fact
 difference_facts enc t other line n =
-    differs_at (position_at enc t n) ∷ held_line (line_around t n) ∷ line (line_around other n) ∷ []
+    counts_in enc ∷ differs_at (position_at enc t n) ∷ by_messages (line_around t n)
+    ∷ line (line_around other n) ∷ []
 
 abbrev pub AreApart : Encoding → Text → Text → (Text → Fact) → List Fact → Type 0
 AreApart enc t other line facts =
@@ -153,14 +156,14 @@ pub record IsRefuted (enc : Encoding) (waits : List Version) (v : Version)
     (facts : List Fact) : Type 0 where
   pub other : Text
   pub waiting : first_other v.text (texts_at v.number waits) ≡ Some other
-  pub apart : AreApart enc v.text other recorded_line facts
+  pub apart : AreApart enc v.text other in_editor facts
 
 -- the text that is held or kept of the snapshot's version is another
 pub record IsRefuting (enc : Encoding) (kept : List Version) (h : Option Version) (s : Version)
     (facts : List Fact) : Type 0 where
   pub text : Text
   pub other : other_than s kept h ≡ Some text
-  pub apart : AreApart enc text s.text recorded_line facts
+  pub apart : AreApart enc text s.text in_editor facts
 
 -- ---- by what was called
 
@@ -227,4 +230,4 @@ pub record AreFactsOf (terms : Terms) (enc : Encoding) (h : Option Version)
 abbrev pub AreDocumentFacts : Terms → Encoding → List Call → Call → ℕ → List Fact → Type 0
 AreDocumentFacts terms enc before call rule facts =
     AreFactsOf terms enc (held terms (uri_of call) before) (kept terms (uri_of call) before)
-        (versions_of (uri_of call) (waiting terms before)) call rule facts
+    (versions_of (uri_of call) (waiting terms before)) call rule facts

@@ -50,7 +50,7 @@ names_fitting room (name ∷ names) =
 abbrev pub offer_fact : List Text → Fact
 offer_fact names =
     let count = names_fitting offered_bytes names in offers (take count names)
-        (length names - count)
+    (length names - count)
 
 -- the encodings that were offered, and the one that is picked where the result has the shape
 abbrev pub settled_facts : Option Settled → List Fact

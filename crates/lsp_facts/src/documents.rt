@@ -117,10 +117,10 @@ pub fn snapshot_facts<S: TextStore>(
     ensures { IfOk result (λ facts. (calls : List Call) → Stands docs.now calls
         → call_rule docs.now.terms calls (shows uri.now version (chars text.now)) ≡ Some rule
         → AreDocumentFacts docs.now.terms encoding calls
-            (shows uri.now version (chars text.now)) rule (facts_view facts.items)) }
+        (shows uri.now version (chars text.now)) rule (facts_view facts.items)) }
 {
     let mut facts = head(alloc, docs, uri)?;
-    facts.push(Fact::Sent(version))?;
+    facts.push(Fact::Version(version))?;
     facts.append(of_snapshot(alloc, docs, encoding, uri, version, text, rule)?)?;
     Ok(facts.into_facts())
 }
@@ -151,7 +151,7 @@ fn opening<S: TextStore>(
     ensures { IfOk result (λ facts. (calls : List Call) → Stands docs.now calls
         → call_rule docs.now.terms calls (opens uri.now version (chars text.now)) ≡ Some rule
         → AreDocumentFacts docs.now.terms encoding calls
-            (opens uri.now version (chars text.now)) rule (facts_view facts.items)) }
+        (opens uri.now version (chars text.now)) rule (facts_view facts.items)) }
 {
     let mut facts = head(alloc, docs, uri)?;
     facts.push(Fact::Sent(version))?;
@@ -172,8 +172,8 @@ fn of_opening<S: TextStore>(
     ensures { IfOk result (λ facts. (calls : List Call) → Stands docs.now calls
         → call_rule docs.now.terms calls (opens uri.now version (chars text.now)) ≡ Some rule
         → AreOfOpening docs.now.terms.limit encoding
-            (versions_of uri.now (waiting docs.now.terms calls))
-            (versioned version (chars text.now)) rule facts) }
+        (versions_of uri.now (waiting docs.now.terms calls))
+        (versioned version (chars text.now)) rule facts) }
 {
     let mut facts = FactList::new(alloc);
     if rule == OVER_LIMIT {
@@ -198,9 +198,9 @@ fn refuted<S: TextStore>(
 ) -> Result<FactList, Memory>
     ensures { IfOk result (λ facts. (calls : List Call) → Stands docs.now calls
         → list_any (differs (versioned version (chars text.now)))
-            (versions_of uri.now (waiting docs.now.terms calls)) ≡ true
+        (versions_of uri.now (waiting docs.now.terms calls)) ≡ true
         → IsRefuted encoding (versions_of uri.now (waiting docs.now.terms calls))
-            (versioned version (chars text.now)) facts) }
+        (versioned version (chars text.now)) facts) }
 {
     let Some(other) = first_other(docs.waiting_texts(uri, version), text) else {
         return Ok(FactList::new(alloc));
@@ -222,10 +222,10 @@ fn changing<S: TextStore>(
 ) -> Result<Vec<Fact>, Memory>
     ensures { IfOk result (λ facts. (calls : List Call) → Stands docs.now calls
         → call_rule docs.now.terms calls
-            (changes_by encoding kind uri.now version (edits_of changes.now)) ≡ Some rule
+        (changes_by encoding kind uri.now version (edits_of changes.now)) ≡ Some rule
         → AreDocumentFacts docs.now.terms encoding calls
-            (changes_by encoding kind uri.now version (edits_of changes.now)) rule
-            (facts_view facts.items)) }
+        (changes_by encoding kind uri.now version (edits_of changes.now)) rule
+        (facts_view facts.items)) }
 {
     let mut facts = head(alloc, docs, uri)?;
     facts.push(Fact::Sent(version))?;
@@ -247,10 +247,10 @@ fn of_change<S: TextStore>(
 ) -> Result<FactList, Memory>
     ensures { IfOk result (λ facts. (calls : List Call) → Stands docs.now calls
         → call_rule docs.now.terms calls
-            (changes_by encoding kind uri.now version (edits_of changes.now)) ≡ Some rule
+        (changes_by encoding kind uri.now version (edits_of changes.now)) ≡ Some rule
         → AreOfChange docs.now.terms.limit encoding kind
-            (versions_of uri.now (waiting docs.now.terms calls)) version (edits_of changes.now)
-            (held docs.now.terms uri.now calls) rule facts) }
+        (versions_of uri.now (waiting docs.now.terms calls)) version (edits_of changes.now)
+        (held docs.now.terms uri.now calls) rule facts) }
 {
     let Some(store) = docs.store_of(uri) else {
         return Ok(FactList::new(alloc));
@@ -290,7 +290,7 @@ fn closing<S: TextStore>(
     ensures { IfOk result (λ facts. (calls : List Call) (rule : ℕ) → Stands docs.now calls
         → call_rule docs.now.terms calls (closes uri.now) ≡ Some rule
         → AreDocumentFacts docs.now.terms encoding calls (closes uri.now) rule
-            (facts_view facts.items)) }
+        (facts_view facts.items)) }
 {
     let facts = head(alloc, docs, uri)?;
     Ok(facts.into_facts())
@@ -307,7 +307,7 @@ fn saving<S: TextStore>(
     ensures { IfOk result (λ facts. (calls : List Call) (rule : ℕ) → Stands docs.now calls
         → call_rule docs.now.terms calls (saves uri.now (Some (chars text.now))) ≡ Some rule
         → AreDocumentFacts docs.now.terms encoding calls
-            (saves uri.now (Some (chars text.now))) rule (facts_view facts.items)) }
+        (saves uri.now (Some (chars text.now))) rule (facts_view facts.items)) }
 {
     let mut facts = head(alloc, docs, uri)?;
     facts.append(of_save(alloc, docs, encoding, uri, text)?)?;
@@ -346,7 +346,7 @@ fn of_snapshot<S: TextStore>(
     ensures { IfOk result (λ facts. (calls : List Call) → Stands docs.now calls
         → call_rule docs.now.terms calls (shows uri.now version (chars text.now)) ≡ Some rule
         → AreOfSnapshot encoding (kept docs.now.terms uri.now calls)
-            (held docs.now.terms uri.now calls) (versioned version (chars text.now)) rule facts) }
+        (held docs.now.terms uri.now calls) (versioned version (chars text.now)) rule facts) }
 {
     if rule == LATE_SNAPSHOT {
         return kept_facts(alloc, docs, uri);

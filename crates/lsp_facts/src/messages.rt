@@ -156,7 +156,7 @@ fn settled_facts(
     ensures { IfOk result (λ facts. (before : List Sent) → Stands session.now before
         → facts_view facts.items
         ≡ spec.settled_facts (settled_among (open_initializes before) side
-            (message_view message.now))) }
+        (message_view message.now))) }
 {
     let Some((offer, value)) = session.settled(side, message) else {
         return Ok(Vec::new(alloc));

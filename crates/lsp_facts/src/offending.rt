@@ -36,7 +36,7 @@ pub fn message_facts<S: TextStore>(
     ensures { IfOk result (λ facts. (content : List ℕ) (kept : List Event)
         → Holds session.now docs.now kept
         → (refused : RefusesMessage side content (message_view spoken.now.message)
-            (act_view spoken.now.act) docs.now.terms kept rule)
+        (act_view spoken.now.act) docs.now.terms kept rule)
         → AreMessageFacts docs.now.terms kept refused.sent rule (facts_view facts.items)) }
 {
     if rule < FIRST_ON_DOCUMENTS {
@@ -64,7 +64,7 @@ pub fn shown_facts<S: TextStore>(
     ensures { IfOk result (λ facts. (kept : List Event) → Holds session.now docs.now kept
         → offence docs.now.terms kept (snapshot uri.now version (chars text.now)) ≡ Some rule
         → AreCallFacts docs.now.terms kept rule (Some (shows uri.now version (chars text.now)))
-            (facts_view facts.items)) }
+        (facts_view facts.items)) }
 {
     let encoding = session.encoding().unwrap_or(Encoding::Utf16);
     snapshot_facts(alloc, docs, encoding, uri, version, text, rule)

@@ -59,11 +59,11 @@ fn misfit_at<S: TextStore>(
     requires { count < length changes.now }
     ensures { IfOk result (λ facts. facts
         ≡ misfit_facts limit encoding (S.content store.now) (edits_of changes.now) count
-            (slice_get (edits_of changes.now) count)) }
+        (slice_get (edits_of changes.now) count)) }
 {
     let mut facts = FactList::new(alloc);
     let span = changes[count].span;
-    facts.push_change(count, span)?;
+    facts.push_change(encoding, count, span)?;
     let made = make(alloc, store, encoding, &changes[..count], limit)?;
     if made.count < count {
         return Ok(facts);
@@ -106,11 +106,11 @@ pub(crate) fn refused(
 ) -> Result<FactList, Memory>
     requires { count + 1 < 2 ^ 64 }
     ensures { IfOk result (λ facts. changed encoding (chars text.now) change.now.span
-            (chars (string_bytes change.now.text)) limit ≡ Err rule
+        (chars (string_bytes change.now.text)) limit ≡ Err rule
         → IsRefused limit encoding (chars text.now) count (edit_of change.now) rule facts) }
 {
     let mut facts = FactList::new(alloc);
-    facts.push_change(count, change.span)?;
+    facts.push_change(encoding, count, change.span)?;
     facts.append(reason(alloc, encoding, text, change, rule, limit)?)?;
     Ok(facts)
 }
@@ -125,7 +125,7 @@ fn reason(
     limit: u64,
 ) -> Result<FactList, Memory>
     ensures { IfOk result (λ facts. changed encoding (chars text.now) change.now.span
-            (chars (string_bytes change.now.text)) limit ≡ Err rule
+        (chars (string_bytes change.now.text)) limit ≡ Err rule
         → IsReason limit encoding (chars text.now) (edit_of change.now) rule facts) }
 {
     if rule == INSIDE_CHARACTER {
@@ -181,7 +181,7 @@ fn size_facts(
     limit: u64,
 ) -> Result<FactList, Memory>
     ensures { IfOk result (λ facts. changed encoding (chars text.now) change.now.span
-            (chars (string_bytes change.now.text)) limit ≡ Err OVER_LIMIT
+        (chars (string_bytes change.now.text)) limit ≡ Err OVER_LIMIT
         → IsTooLong limit encoding (chars text.now) (edit_of change.now) facts) }
 {
     let mut facts = FactList::new(alloc);

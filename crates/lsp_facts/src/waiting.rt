@@ -71,7 +71,7 @@ fn made_text<S: TextStore>(
     ensures { IfOk result (λ made. (calls : List Call) → Stands docs.now calls
         → option_map text_of made
         ≡ spec.made_text docs.now.terms encoding (edits_of changes.now)
-            (held docs.now.terms uri.now calls)) }
+        (held docs.now.terms uri.now calls)) }
 {
     let Some(store) = docs.store_of(uri) else {
         return Ok(None);
