@@ -110,17 +110,17 @@ pathless = codes "{\"jsonrpc\":\"2.0\",\"method\":\"textDocument/didClose\",\"pa
 of_refused_params : event_line 4 who.Editor 3 (placed.content Editor pathless)
     ≡ codes "event 4 editor 3 notification \"textDocument/didClose\"\n"
 unfolding value punctuate lex content word after_number number_of scan_numeral chars is_utf8 digits
-escape_byte encode
+    escape_byte encode
 of_refused_params = refl
 
 of_no_message : event_line 4 who.Server 1
     (placed.content Server (codes "{\"jsonrpc\":\"2.0\"}")) ≡ codes "event 4 server 1\n"
 unfolding value punctuate lex content word after_number number_of scan_numeral chars is_utf8 digits
-escape_byte encode
+    escape_byte encode
 of_no_message = refl
 
 of_no_json : event_line 4 who.Server 1 (placed.content Server (codes "ready"))
     ≡ codes "event 4 server 1\n"
 unfolding value punctuate lex content word after_number number_of scan_numeral chars is_utf8 digits
-escape_byte encode
+    escape_byte encode
 of_no_json = refl
