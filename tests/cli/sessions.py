@@ -175,90 +175,108 @@ TAKEN = HEAD + INITIALIZE + ANSWER + INITIALIZED + HOVER + HOVER
 TAKEN_REPORT = b"no 302 editor 4 event 5\nid is already open\n"
 
 URI_LINE = b'uri "file:///a"\n'
-STAYS_FACTS = b'event 5 editor notification "textDocument/didChange"\n' + URI_LINE + b"held 1\nbrought 4\nsent 1\nchanges 0\n"
-REVERSED_FACTS = b'event 5 editor notification "textDocument/didChange"\n' + URI_LINE
-REVERSED_FACTS += b"held 1\nbrought 4\nsent 2\nchanges 1\nchange 1 0 2 0 1\nlength 2\n"
-DIFFERS_FACTS = b'event 6 snapshot 3 3 "file:///a"\n' + URI_LINE
-DIFFERS_FACTS += b'held 3\nbrought 5\nsent 3\nat 0 0\nheld "new"\nrecorded "old"\nsnapshot 6\n'
-PARTS_FACTS = b'event 7 snapshot 3 3 "file:///a"\n' + URI_LINE
-PARTS_FACTS += b'held 3\nbrought 6\nsent 3\nat 0 0\nheld "new"\nrecorded "old"\nsnapshot 7\nagreed 5 1\n'
+STAYS_FACTS = b'event 5 editor 4 notification "textDocument/didChange"\n' + URI_LINE
+STAYS_FACTS += b"held 1 event 4\nsent 1\nchanges 0\nusually editor\n"
+REVERSED_FACTS = b'event 5 editor 4 notification "textDocument/didChange"\n' + URI_LINE
+REVERSED_FACTS += b"held 1 event 4\nsent 2\nchanges 1\nencoding utf-16\nchange 1 0 2 0 1\nlength 2\n"
+REVERSED_FACTS += b"usually editor\n"
+APART = b'version 3\nencoding utf-16\nat 0 0\nby-messages "new"\nin-editor "old"\n'
+DIFFERS_FACTS = b"event 6 snapshot 1\n" + URI_LINE + b"held 3 event 5\n" + APART
+DIFFERS_FACTS += b"snapshot event 6\nusually editor\n"
+PARTS_FACTS = b"event 7 snapshot 2\n" + URI_LINE + b"held 3 event 6\n" + APART
+PARTS_FACTS += b"snapshot event 7\nequal 1 event 5\nusually editor\n"
+EXITS_FACTS = b'event 9 editor 6 notification "exit"\nphase exited\nsince event 8\nusually editor\n'
+TAKEN_FACTS = b'event 5 editor 4 request 1 "textDocument/hover"\nid 1\nasked event 4\n'
+TAKEN_FACTS += b"answered event 2\nusually editor\n"
+REST_FACTS = b'end 1 editor\nbegins "abc"\nusually recorder\n'
 
 # Of logs with a no: what is written after its two lines.
 FACTS = [
     (WRONGS, STAYS, STAYS_FACTS),
     (REVERSES, REVERSES_REPORT, REVERSED_FACTS),
     (DIFFERS, DIFFERS_REPORT, DIFFERS_FACTS),
-    (EXITS, EXITS_REPORT, b'event 9 editor notification "exit"\nphase exited\nsince 8\n'),
+    (EXITS, EXITS_REPORT, EXITS_FACTS),
     (PARTS, PARTS_REPORT, PARTS_FACTS),
-    (AGAIN, AGAIN_REPORT, b"event 3 server result 1\nid 1\nanswered 2\n"),
-    (TAKEN, TAKEN_REPORT, b'event 5 editor request 1 "textDocument/hover"\nid 1\nasked 4\nanswered 2\n'),
-    (REST, REST_REPORT, b'event 1 editor\nbegins "abc"\n'),
-    (BROKEN, BROKEN_REPORT, rb'''event 1 editor
+    (AGAIN, AGAIN_REPORT, b"event 3 server 2 result 1\nid 1\nanswered event 2\nusually server\n"),
+    (TAKEN, TAKEN_REPORT, TAKEN_FACTS),
+    (REST, REST_REPORT, REST_FACTS),
+    (BROKEN, BROKEN_REPORT, rb'''event 1 editor 1
 begins "\r\n\r\n"
+usually editor
 '''),
-    (MISSPELT, MISSPELT_REPORT, rb'''event 1 server
+    (MISSPELT, MISSPELT_REPORT, rb'''event 1 server 1
 begins "Content-Lenght: 2\r\n\r\n"
+usually server
 '''),
 ]
 
+UNANSWERED_FACTS = b'end 8 editor\nrequest 2 "shutdown" event 6\nphase exited\nsince event 7\n'
+UNANSWERED_FACTS += b"usually server\n"
+
 # The same for sessions that must be complete.
 LACK_FACTS = [
-    (UNANSWERED, UNANSWERED_REPORT, b'event 8 editor\nrequest 2 "shutdown" 6\nphase exited\nsince 7\n'),
-    (KILLED, KILLED_REPORT, b"event 8 editor\nphase stopping\nsince 6\n"),
+    (UNANSWERED, UNANSWERED_REPORT, UNANSWERED_FACTS),
+    (KILLED, KILLED_REPORT, b"end 8 editor\nphase stopping\nsince event 6\nusually editor\n"),
 ]
 
 # Of logs with several: what explains each that follows from no earlier one, and how many offences there are.
 WRONGS_EXPLAINED = STAYS + STAYS_FACTS + rb'''no 606 editor 5 event 7
 range is reversed
-event 7 editor notification "textDocument/didChange"
+event 7 editor 5 notification "textDocument/didChange"
 uri "file:///a"
-held 1
-brought 4
+held 1 event 4
 sent 2
 changes 1
+encoding utf-16
 change 1 0 2 0 1
 length 2
+usually editor
 no 702 snapshot 3 event 10
 snapshot differs
-event 10 snapshot 3 3 "file:///a"
+event 10 snapshot 3
 uri "file:///a"
-held 3
-brought 9
-sent 3
+held 3 event 9
+version 3
+encoding utf-16
 at 0 0
-held "new"
-recorded "old"
-snapshot 10
-agreed 6 1
+by-messages "new"
+in-editor "old"
+snapshot event 10
+equal 1 event 6
+usually editor
 no 406 editor 9 event 14
 editor message after exit
-event 14 editor notification "exit"
+event 14 editor 9 notification "exit"
 phase exited
-since 13
+since event 13
+usually editor
 '''
 ALL_FACTS = [
     (WRONGS, WRONGS_EXPLAINED, b"offences 5 following 1\n"),
     (
         UNSHAKEN,
-        UNSHAKEN_LINES + rb'''event 1 editor request 1 "initialize"
+        UNSHAKEN_LINES + rb'''event 1 editor 1 request 1 "initialize"
 begins "{\"jsonrpc\":\"2.0\",\"id\":1,\"method\":\"initialize\",\"params\":[]}"
+usually editor
 ''',
         b"offences 3 following 2\n",
     ),
-    (EXITS, EXITS_REPORT + b'event 9 editor notification "exit"\nphase exited\nsince 8\n', b"offences 1 following 0\n"),
+    (EXITS, EXITS_REPORT + EXITS_FACTS, b"offences 1 following 0\n"),
     (
         RESTS,
-        REST_REPORT + b'event 1 editor\nbegins "abc"\n' + REST_REPORT.replace(b"editor", b"server") + b'event 1 server\nbegins "abc"\n',
+        (REST_REPORT + REST_FACTS) + (REST_REPORT + REST_FACTS).replace(b"editor", b"server"),
         b"offences 2 following 0\n",
     ),
     (
         BROKEN,
-        BROKEN_REPORT + rb'''event 1 editor
+        BROKEN_REPORT + rb'''event 1 editor 1
 begins "\r\n\r\n"
+usually editor
 no 301 server 1 event 2
 response to no open request
-event 2 server result 2
+event 2 server 1 result 2
 id 2
+usually server
 ''',
         b"offences 2 following 0\n",
     ),

@@ -184,12 +184,13 @@ def explained_texts(size=TEXT):
     """An opening with a byte too many, and a change that makes a text of the greatest size longer by one, with what
     explains the refusal of each."""
     uri, over = "file:///a", size + 1
-    sizes = f"bytes {over}\nlimit {size}\n"
+    sizes = f"bytes {over}\nlimit {size}\nusually outside\n"
     opened = START + did_open(uri, 1, "a" * over)
-    told = 'event 4 editor notification "textDocument/didOpen"\nuri "file:///a"\nsent 1\n'
+    told = 'event 4 editor 3 notification "textDocument/didOpen"\nuri "file:///a"\nsent 1\n'
     yield opened, f"no 607 editor 3 event 4\ndocument over the limit\n{told}{sizes}".encode()
     log = START + did_open(uri, 1, ("a" * 63 + "\n") * (size // 64))
-    told = 'event 5 editor notification "textDocument/didChange"\nuri "file:///a"\nheld 1\nbrought 4\nsent 2\nchanges 1\n'
+    told = 'event 5 editor 4 notification "textDocument/didChange"\nuri "file:///a"\n'
+    told += "held 1 event 4\nsent 2\nchanges 1\nencoding utf-16\n"
     report = f"no 607 editor 4 event 5\ndocument over the limit\n{told}"
     changed = log + did_change(uri, 2, [replaced((1, 63), (1, 63), "x")])
     yield changed, f"{report}change 1 1 63 1 63\nlength 63\n{sizes}".encode()

@@ -27,11 +27,11 @@ use Rattle.lsp_verdict.proofs.PlacedLemmas.{one_placed}
 use Rattle.lsp_verdict.proofs.Sessions.{some_placed}
 use Rattle.lsp_facts.specs.Fact.{Fact}
 use Rattle.lsp_facts.specs.FlawFacts.{Rests, log_facts}
-use Rattle.lsp_facts.specs.Lines.{event_line}
 use Rattle.lsp_facts.proofs.OneFacts.{one_facts}
 use Rattle.lsp_facts.proofs.SomeFacts.{some_facts}
 use Rattle.lsp_explain.specs.AllExplained.{all_explanation, causes, is_cause, IsAllExplained}
 use Rattle.lsp_explain.specs.Explained.{Heard, Breach, Explained, Explains, breach, breach_at}
+use Rattle.lsp_explain.specs.Explained.{event_of}
 use Rattle.lsp_explain.specs.Explained.{breaches, raws_of, notes_of, end_explained, explanation}
 use Rattle.lsp_explain.specs.Explained.{IsExplanation}
 use Rattle.lsp_explain.specs.ExplainLaws.{SomeExplanation, OneExplanation, SomeExplanationOfAll}
@@ -87,7 +87,7 @@ module _ (rests : Rests) (terms : Terms) where
       all.0 in
       let own : Explained = record {
         no = no_by before b.here.note.event b.rule;
-        event = event_line (length b.before + 1) b.here.raw;
+        event = event_of (no_by before b.here.note.event b.rule) b.here.raw;
         facts = traced terms before b.here.note.event b.rule plain.0;
       } in
       let rest = some_each bs all.1 in (
@@ -121,7 +121,7 @@ module _ (rests : Rests) (terms : Terms) where
         no = e.no;
         event = l;
         facts = d.facts;
-      } in x) (p.event_is ∙ sym q.event_is)
+      } in x) (p.event_is ∙ ap (λ v. event_of v b.here.raw) (p.no_is ∙ sym q.no_is) ∙ sym q.event_is)
       ∙ ap (λ fs. let x : Explained = record { no = e.no; event = e.event; facts = fs } in x) facts
 
   one_each : (bs : List Breach) (ds es : List Explained) → AllZip (Explains rests terms) bs ds

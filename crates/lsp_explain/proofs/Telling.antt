@@ -1,5 +1,5 @@
 -- What a run tells of the first offence that it finds.
-use Rattle.std.proofs.Common.{◌≡◌, ℕ, ◌+◌, ◌<◌, ◌^◌, suc, true, List, [], ◌∷◌, ◌++◌, length, Option}
+use Rattle.std.proofs.Common.{◌≡◌, ℕ, ◌+◌, ◌<◌, ◌^◌, true, List, [], ◌∷◌, ◌++◌, length, Option}
 use Rattle.std.proofs.Common.{Some, refl, sym, ap, ◌∙◌, subst, string_bytes}
 use Rattle.lsp_docs.specs.Terms.{Terms}
 use Rattle.lsp_frame.specs.Bounds.{Bounds}
@@ -29,7 +29,7 @@ use Rattle.lsp_explain.specs.Explained.{Heard, Explained, raws_of, notes_of}
 use Rattle.lsp_facts.specs.EventFacts.{AreFacts}
 use Rattle.lsp_facts.specs.Fact.{Fact}
 use Rattle.lsp_facts.specs.FlawFacts.{Rests, rest_of}
-use Rattle.lsp_facts.specs.Lines.{event_line, fact_lines}
+use Rattle.lsp_facts.specs.Lines.{detail_lines, event_line}
 use Rattle.lsp_explain.specs.RunSteps.{RestsBehind, ShowsFault, Tells, side_of}
 use Rattle.lsp_explain.specs.Standing.{StandsAfter, terms_in}
 use Rattle.lsp_explain.specs.Traced.{AreTraced}
@@ -38,10 +38,6 @@ use Rattle.lsp_explain.proofs.Standing.{few_before, stands_before}
 
 pub same_no : (r s : ℕ) (a b : Who) (m n k l : ℕ) → no r a m k ≡ no s b n l → (r ≡ s) × (k ≡ l)
 same_no r s a b m n k l e = (cc e, cc e)
-
-length_events : (hs : List Heard) → length (events_of (notes_of hs)) ≡ length hs
-length_events [] = refl
-length_events (h ∷ hs) = ap (λ n. suc n) (length_events hs)
 
 -- what is said of what was found, where the reader stands for the events before it, and these bytes
 -- of its side are held
@@ -55,7 +51,8 @@ SaidOf e found rest said =
     × ((rests : Rests) → ShowsFault rests found.offending rest
     → AreTraced (AreFacts rests (terms_in e) (kept_of (terms_in e) before) raw event
     found.offence.rule) (terms_in e) before event found.offence.rule facts)
-    × (said ≡ event_line found.offence.event raw ++ fact_lines facts)
+    × (said ≡ event_line found.offence.event found.offence.who found.offence.number raw
+    ++ detail_lines facts (offence_view found.offence).no)
 
 -- behind a fault of its frames these bytes show the header part that has it, whatever records
 -- follow
@@ -126,7 +123,7 @@ module _ (e : SurveyReader) (found : Found) (x : Explanation) (rest said : List 
         (subst (λ t. rule_at t before h.note.event ≡ Some found.offence.rule) same offends) in
         let y : Explained = record {
           no = (offence_view found.offence).no;
-          event = event_line found.offence.event h.raw;
+          event = event_line found.offence.event found.offence.who found.offence.number h.raw;
           facts = told.0;
         } in record {
           rule = f.rule;
@@ -134,7 +131,7 @@ module _ (e : SurveyReader) (found : Found) (x : Explanation) (rest said : List 
           told = y;
           explains = λ rests behind. record {
             no_is = ap (λ (o : Offence). o.no) f.is;
-            event_is = ap (λ n. event_line n h.raw) (parts.1 ∙ ap (λ n. n + 1) (length_events hs));
+            event_is = refl;
             facts_are = subst (λ r. AreAll rests terms r told.0) parts.0
                 (subst (λ t. AreAll rests t found.offence.rule told.0) (sym same)
                 (told.1 rests (shows_fault rests behind)));

@@ -1,6 +1,6 @@
 -- What is said of a log that offends: with its offences, the events that offend and the facts on
 -- them.
-use Rattle.std.specs.Prelude.{◌≡◌, ℕ, ◌+◌, List, [], ◌∷◌, ◌++◌, map, take, length, ◌==◌}
+use Rattle.std.specs.Prelude.{◌≡◌, ℕ, List, [], ◌∷◌, ◌++◌, map, take, ◌==◌}
 use Rattle.std.specs.Prelude.{if◌then◌else◌, Option, Some, option_map}
 use Rattle.std.specs.List.{AllZip, flat_map}
 use Rattle.lsp_frame.specs.Bounds.{Bounds}
@@ -21,7 +21,7 @@ use Rattle.lsp_verdict.specs.declared.completeness.Completeness.{Completeness}
 use Rattle.lsp_facts.specs.EventFacts.{AreFacts}
 use Rattle.lsp_facts.specs.Fact.{Fact}
 use Rattle.lsp_facts.specs.FlawFacts.{Rests, rest_of, side_by, unfinished_facts, log_facts}
-use Rattle.lsp_facts.specs.Lines.{fact_lines, event_line, end_event}
+use Rattle.lsp_facts.specs.Lines.{detail_lines, event_line, end_event}
 use Rattle.lsp_explain.specs.Traced.{AreTraced, lack_traced}
 use Rattle.lsp_survey.specs.Asking.{Numbered, numbered}
 
@@ -57,7 +57,13 @@ breaches terms heard = each_of (breach_at terms) heard
 
 -- ---- what is said of it
 
--- the No, the line that names the event, and the facts, with the events that brought it
+-- the line of the event of a No
+abbrev pub event_of : Verdict → Raw → List ℕ
+event_of (no rule by count event) raw = event_line event by count raw
+event_of (yes s) raw = []
+event_of (bad_log at code) raw = []
+
+-- the No, the line of its event, and the facts, with the events that brought it
 pub record Explained : Type 0 where
   pub no : Verdict
   pub event : List ℕ
@@ -65,7 +71,7 @@ pub record Explained : Type 0 where
 
 pub record Explains (rests : Rests) (terms : Terms) (b : Breach) (e : Explained) : Type 0 where
   pub no_is : e.no ≡ no_by (events_of (notes_of b.before)) b.here.note.event b.rule
-  pub event_is : e.event ≡ event_line (length b.before + 1) b.here.raw
+  pub event_is : e.event ≡ event_of e.no b.here.raw
   pub facts_are : AreTraced
       (AreFacts rests terms (kept_of terms (events_of (notes_of b.before))) b.here.raw
       b.here.note.event b.rule) terms (events_of (notes_of b.before)) b.here.note.event b.rule
@@ -92,11 +98,11 @@ end_explained rests said v = record { no = v; event = end_line v; facts = end_fa
 -- ---- the report
 
 abbrev pub said_of : Explained → List ℕ
-said_of e = e.event ++ fact_lines e.facts
+said_of e = e.event ++ detail_lines e.facts e.no
 
 -- what is said of the fault of a log
 abbrev pub flaw_lines : Option Verdict → List Fact → List ℕ
-flaw_lines (Some (bad_log at code)) flaw = fact_lines flaw
+flaw_lines (Some (bad_log at code)) flaw = detail_lines flaw (bad_log at code)
 flaw_lines _ flaw = []
 
 -- **the explanation**: where nothing offends the report, and of a bad log what is said of its

@@ -1,6 +1,6 @@
 -- Which event brought what: what is added to the facts on an offence, read off all events before
 -- it.
-use Rattle.std.specs.Prelude.{◌≡◌, ℕ, List, [], ◌∷◌, ◌++◌, map, insert, slice_get, nat_lt, Bool}
+use Rattle.std.specs.Prelude.{◌≡◌, ℕ, List, [], ◌∷◌, ◌++◌, map, nat_lt, Bool}
 use Rattle.std.specs.Prelude.{true, false, ◌==◌, if◌then◌else◌, Option, Some, None, option_map}
 use Rattle.std.specs.Prelude.{option_and_then, option_to_list, unwrap_or}
 use Rattle.lsp_docs.specs.Calls.{Call, opens, changes, closes, saves, shows, uri_of}
@@ -22,7 +22,7 @@ use Rattle.lsp_verdict.specs.Offences.{is_within, kept_of, said_at}
 use Rattle.lsp_survey.specs.Asking.{Numbered, answered, asked, numbered, sents, since}
 use Rattle.lsp_survey.specs.Marking.{Step, agreed, brought, number_next, steps, waiting_for}
 use Rattle.lsp_survey.specs.declared.notes.mark.Shown.{Shown}
-use Rattle.lsp_facts.specs.Fact.{Fact, holds, waits, waits_since, brought_by, shown_by, agreed_by}
+use Rattle.lsp_facts.specs.Fact.{Fact, holds, waits, waits_since, holds_by, shown_by, equal_by}
 use Rattle.lsp_facts.specs.Fact.{answered_by, asked_by, led_by, in_phase}
 use Rattle.lsp_facts.specs.MessageFacts.{id_in}
 use Rattle.lsp_facts.specs.Refuting.{refuting}
@@ -33,19 +33,19 @@ number_facts says n = option_to_list (option_map says n)
 
 -- ---- documents
 
-abbrev pub is_holding : Option Fact → Bool
-is_holding (Some (holds number)) = true
-is_holding _ = false
+-- the version that is held, with the event that set it; another fact as it is
+abbrev pub held_by : ℕ → Fact → Fact
+held_by n (holds number) = holds_by number n
+held_by n fact = fact
 
--- behind the version that is held, which stands second, the event that brought it
-abbrev pub with_brought : Option ℕ → List Fact → List Fact
-with_brought None facts = facts
-with_brought (Some n) facts =
-    if is_holding (slice_get facts 1) then insert facts 2 (brought_by n) else facts
+-- so the second fact, which says the version
+abbrev pub with_setter : Option ℕ → List Fact → List Fact
+with_setter (Some n) (uri ∷ held ∷ facts) = uri ∷ held_by n held ∷ facts
+with_setter brought facts = facts
 
-abbrev pub agreed_facts : Option Shown → List Fact
-agreed_facts None = []
-agreed_facts (Some shown) = agreed_by shown.event shown.version ∷ []
+abbrev pub equal_facts : Option Shown → List Fact
+equal_facts None = []
+equal_facts (Some shown) = equal_by shown.version shown.event ∷ []
 
 -- the snapshots that differ from the text of a call behind these, by their events: of those that
 -- wait for its version the ones with another text, or it is one itself, by this event
@@ -61,12 +61,12 @@ differing terms before done n (shows uri number text) = n ∷ []
 -- 702: these snapshots; and with 608 the one that was found equal last
 abbrev pub texts_traced : Option Shown → List ℕ → ℕ → List Fact
 texts_traced equal snapshots rule =
-    if rule == 702 then map shown_by snapshots ++ agreed_facts equal
-    else (if rule == 608 then agreed_facts equal else [])
+    if rule == 702 then map shown_by snapshots ++ equal_facts equal
+    else (if rule == 608 then equal_facts equal else [])
 
 abbrev pub document_traced : List Step → List ℕ → ℕ → List Fact → List Fact
 document_traced done snapshots rule plain =
-    with_brought (brought done) plain ++ texts_traced (agreed done) snapshots rule
+    with_setter (brought done) plain ++ texts_traced (agreed done) snapshots rule
 
 -- what an act says of a document behind these events, under what was agreed
 abbrev pub act_call : Terms → List Event → Act → Option Call

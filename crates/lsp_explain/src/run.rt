@@ -1,6 +1,6 @@
 //! Explains the verdict on a log.
 ghost use Rattle.std.specs.Prelude.{◌≡◌, ◌+◌, ◌++◌, List, [], ℕ, None, Ok, Err, IfOk, IfSome, OnOk};
-ghost use Rattle.std.specs.Prelude.{option_map, string_bytes};
+ghost use Rattle.std.specs.Prelude.{option_map, codes, string_bytes};
 ghost use Rattle.std.specs.Io.KnownBytes.{IsAtEnd};
 ghost use Rattle.lsp_frame.specs.Bounds.{Bounds, IsInRange};
 ghost use Rattle.lsp_frame.specs.Told.{Told, Took};
@@ -17,13 +17,13 @@ ghost use Rattle.lsp_verdict.specs.Survey.{first_verdict};
 ghost use Rattle.lsp_explain.specs.Explained.{BeginsExplanation, IsExplanation, end_explained};
 ghost use Rattle.lsp_explain.specs.Explained.{flaw_lines, said_of};
 ghost use Rattle.lsp_facts.specs.FlawFacts.{Rests, flaw_facts, rest_of, side_by};
-ghost use Rattle.lsp_facts.specs.Lines.{fact_lines};
+ghost use Rattle.lsp_facts.specs.Lines.{fact_lines, usual_line};
 ghost use Rattle.lsp_explain.specs.RunSteps.{EndsWhole, ExplainsLog, IsSound, TellsEnd, TellsOf};
 ghost use Rattle.lsp_explain.specs.RunSteps.{flaw_held, side_of, summary_behind};
 ghost use Rattle.lsp_explain.specs.Standing.{StandsAfter, terms_in};
 
 use crate::said::{push_end, push_said};
-use lsp_facts::{flaw_facts, push_facts};
+use lsp_facts::{flaw_facts, push_details};
 use lsp_frame::{Limits, Sink, Source, put_all};
 use lsp_rpc::{Memory, Side};
 use lsp_survey::{End, Found, Heard, Next, Offending, SurveyReader};
@@ -268,8 +268,9 @@ fn push_flaw(
     number: u64,
 ) -> Result<(), Memory>
     ensures { OnOk result (string_bytes lines.new ≡ string_bytes lines.old
-        ++ fact_lines (flaw_facts number events.now.log.log.place (shown_by events.now.log.log))) }
+        ++ (fact_lines (flaw_facts number events.now.log.log.place (shown_by events.now.log.log))
+        ++ usual_line (codes "recorder"))) }
 {
     let facts = flaw_facts(alloc, number, events.place(), events.found())?;
-    push_facts(alloc, lines, facts.as_slice())
+    push_details(alloc, lines, facts.as_slice(), "recorder")
 }

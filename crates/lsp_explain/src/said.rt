@@ -14,15 +14,15 @@ ghost use Rattle.lsp_explain.specs.Explained.{end_explained, end_facts, said_of}
 ghost use Rattle.lsp_facts.specs.EventFacts.{AreFacts};
 ghost use Rattle.lsp_facts.specs.Fact.{Fact as SpecFact, facts_view};
 ghost use Rattle.lsp_facts.specs.FlawFacts.{Rests, rest_of, side_by};
-ghost use Rattle.lsp_facts.specs.Lines.{event_line, fact_lines};
+ghost use Rattle.lsp_facts.specs.Lines.{detail_lines, event_line};
 ghost use Rattle.lsp_explain.specs.RunSteps.{ShowsFault};
 ghost use Rattle.lsp_explain.specs.Standing.{StandsAfter, terms_in};
 ghost use Rattle.lsp_explain.specs.Traced.{AreTraced};
 
 use crate::trace::{lack_traced, message_traced, shown_traced};
 use lsp_facts::{
-    Fact, content_facts, frame_facts, push_content_event, push_end_event, push_facts,
-    push_message_event, push_side_event, push_snapshot_event, unfinished_facts,
+    Fact, content_facts, frame_facts, push_bare_event, push_content_event, push_details,
+    push_end_event, push_message_event, unfinished_facts, usual,
 };
 use lsp_rpc::Memory;
 use lsp_survey::{Found, Offending, SurveyReader};
@@ -74,32 +74,30 @@ fn facts_of(
     }
 }
 
-/// Adds the line that names the event of this number.
+/// Adds the line of the event of an offence.
 fn push_event(
     alloc: Global,
     lines: &mut String,
-    number: u64,
+    offence: &Offence,
     offending: &Offending,
 ) -> Result<(), Memory>
     ensures { OnOk result ((raw : Raw) (event : Event) (terms : Terms) (kept : List Event)
-        (rule : ℕ) → Reads raw event
-        → IsOffending raw terms kept rule offending.now
-        → string_bytes lines.new ≡ string_bytes lines.old ++ event_line number raw) }
+        (rule : ℕ) → Reads raw event → IsOffending raw terms kept rule offending.now
+        → string_bytes lines.new ≡ string_bytes lines.old
+        ++ event_line offence.now.event offence.now.who offence.now.number raw) }
 {
+    let event = offence.event;
+    let by = offence.who;
+    let number = offence.number;
     match offending {
-        Offending::Frames(side) => push_side_event(lines, number, *side),
-        Offending::Content { side, content } => {
-            let side = *side;
-            push_content_event(alloc, lines, number, side, content.as_slice())
+        Offending::Frames(_) => push_bare_event(lines, event, by, number),
+        Offending::Content { content, .. } => {
+            push_content_event(alloc, lines, event, by, number, content.as_slice())
         }
-        Offending::Message { side, spoken } => {
-            let side = *side;
-            push_message_event(alloc, lines, number, side, &spoken.message)
+        Offending::Message { spoken, .. } => {
+            push_message_event(alloc, lines, event, by, number, &spoken.message)
         }
-        Offending::Snapshot { version, uri, text } => {
-            let version = *version;
-            push_snapshot_event(alloc, lines, number, uri.as_str(), version, text.as_str())
-        }
+        Offending::Snapshot { .. } => push_bare_event(lines, event, by, number),
     }
 }
 
@@ -124,12 +122,14 @@ pub(crate) fn push_said(
         (kept_of (terms_in events.now) before) raw event found.now.offence.rule)
         (terms_in events.now) before event found.now.offence.rule facts)
         × (string_bytes lines.new ≡ string_bytes lines.old
-        ++ (event_line found.now.offence.event raw ++ fact_lines facts))) }
+        ++ (event_line found.now.offence.event found.now.offence.who found.now.offence.number raw
+        ++ detail_lines facts (offence_view found.now.offence).no))) }
 {
     let Found { offence, offending } = found;
-    push_event(alloc, lines, offence.event, offending)?;
+    push_event(alloc, lines, offence, offending)?;
     let facts = facts_of(alloc, events, rest, offending, offence.event, offence.rule)?;
-    push_facts(alloc, lines, facts.as_slice())
+    let usual = usual(offence.rule, offence.who);
+    push_details(alloc, lines, facts.as_slice(), usual)
 }
 
 /// The facts on how a session ends that breaks this rule: 107 has those on the rest of a side, 303
@@ -169,5 +169,6 @@ pub(crate) fn push_end(
 {
     push_end_event(lines, end.event, end.who)?;
     let facts = end_facts(alloc, events, rest, end.rule)?;
-    push_facts(alloc, lines, facts.as_slice())
+    let usual = usual(end.rule, end.who);
+    push_details(alloc, lines, facts.as_slice(), usual)
 }

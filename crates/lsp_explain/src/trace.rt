@@ -1,6 +1,6 @@
 //! Which event brought what: facts on an offence that name earlier events.
 ghost use Rattle.std.specs.Prelude.{◌≡◌, ◌≤◌, ◌++◌, ℕ, Some, chars, nat_lt, if◌then◌else◌, ◌∷◌, []};
-ghost use Rattle.std.specs.Prelude.{List, true, IfOk, OnOk, map, slice_get, vec_len};
+ghost use Rattle.std.specs.Prelude.{List, IfOk, OnOk, map, vec_len};
 ghost use Rattle.std.specs.Prelude.{option_and_then};
 ghost use Rattle.lsp_docs.specs.Calls.{Call, shows};
 ghost use Rattle.lsp_docs.specs.Terms.{Terms};
@@ -114,7 +114,7 @@ fn trace_spoken(
     trace_act(alloc, facts, events, &spoken.act, rule)
 }
 
-/// Adds to the facts on an act that breaks this rule on documents the event that brought the held
+/// Adds to the facts on an act that breaks this rule on documents the event that set the held
 /// version; under 702 the snapshots that wait for the version in it and have another text; under
 /// 608 and 702 the snapshot that was found equal last.
 fn trace_act(
@@ -261,51 +261,60 @@ fn trace_document(
         ≡ spec.document_traced (steps terms uri.now before) snapshots.now rule
         (facts_view facts.old.items)) }
 {
-    put_brought(facts, marks.brought(uri))?;
+    put_setter(facts, marks.brought(uri))?;
     push_texts(facts, marks.agreed(uri), snapshots, rule)
 }
 
-/// Puts the event that brought the held version behind that version.
-fn put_brought(facts: &mut Vec<Fact>, brought: Option<u64>) -> Result<(), Memory>
+/// Puts the event that set the held version beside that version.
+fn put_setter(facts: &mut Vec<Fact>, brought: Option<u64>) -> Result<(), Memory>
     ensures { OnOk result (facts_view facts.new.items
-        ≡ spec.with_brought brought (facts_view facts.old.items)) }
+        ≡ spec.with_setter brought (facts_view facts.old.items)) }
 {
     let Some(event) = brought else {
         return Ok(());
     };
-    if names_held(facts) {
-        facts.insert(2, Fact::Brought(event))?;
+    if facts.len() < 2 {
+        return Ok(());
     }
-    Ok(())
+    set_second(facts, event)
 }
 
-/// Whether the second fact is the version that is held.
-fn names_held(facts: &Vec<Fact>) -> bool
-    ensures holding { result ≡ spec.is_holding (slice_get (facts_view facts.now.items) 1) }
-    ensures long { result ≡ true → 2 ≤ vec_len facts.now }
+/// Puts the event that set the held version beside that version, if the second fact says that.
+fn set_second(facts: &mut Vec<Fact>, event: u64) -> Result<(), Memory>
+    requires { 2 ≤ vec_len facts.old }
+    ensures { OnOk result (facts_view facts.new.items
+        ≡ spec.with_setter (Some event) (facts_view facts.old.items)) }
 {
-    match facts.as_slice().get(1) {
-        Some(fact) => matches!(fact, Fact::Held(_)),
-        None => false,
+    let fact = held_by(facts.remove(1), event);
+    Ok(facts.insert(1, fact)?)
+}
+
+/// The version that is held, with the event that set it; another fact as it is.
+fn held_by(fact: Fact, event: u64) -> Fact
+    ensures { fact_view result ≡ spec.held_by event (fact_view fact) }
+{
+    if let Fact::Held(version) = fact {
+        return Fact::HeldBy { version, event };
     }
+    fact
 }
 
 /// Adds the snapshots that differ, and the one that was found equal last.
 fn push_texts(
     facts: &mut Vec<Fact>,
-    agreed: Option<Shown>,
+    equal: Option<Shown>,
     snapshots: &[u64],
     rule: u16,
 ) -> Result<(), Memory>
     ensures { OnOk result (facts_view facts.new.items ≡ facts_view facts.old.items
-        ++ spec.texts_traced agreed snapshots.now rule) }
+        ++ spec.texts_traced equal snapshots.now rule) }
 {
     if rule == SNAPSHOT_DIFFERS {
         push_snapshots(facts, snapshots)?;
-        return push_agreed(facts, agreed);
+        return push_equal(facts, equal);
     }
     if rule == SAVED_TEXT_DIFFERS {
-        return push_agreed(facts, agreed);
+        return push_equal(facts, equal);
     }
     Ok(())
 }
@@ -320,14 +329,14 @@ fn push_snapshots(facts: &mut Vec<Fact>, snapshots: &[u64]) -> Result<(), Memory
     Ok(())
 }
 
-fn push_agreed(facts: &mut Vec<Fact>, agreed: Option<Shown>) -> Result<(), Memory>
+fn push_equal(facts: &mut Vec<Fact>, equal: Option<Shown>) -> Result<(), Memory>
     ensures { OnOk result (facts_view facts.new.items ≡ facts_view facts.old.items
-        ++ spec.agreed_facts agreed) }
+        ++ spec.equal_facts equal) }
 {
-    let Some(Shown { event, version }) = agreed else {
+    let Some(Shown { event, version }) = equal else {
         return Ok(());
     };
-    Ok(facts.push(Fact::Agreed { event, version })?)
+    Ok(facts.push(Fact::Equal { version, event })?)
 }
 
 fn push_answered(facts: &mut Vec<Fact>, event: Option<u64>) -> Result<(), Memory>

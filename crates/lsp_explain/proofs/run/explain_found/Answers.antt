@@ -1,6 +1,7 @@
 use Rattle.std.proofs.Common.{ap, subst, sym, ◌∙◌, ◌++◌, string_bytes}
+use Rattle.lsp_verdict.specs.Given.{offence_view}
 use Rattle.lsp_verdict.specs.Report.{report}
-use Rattle.lsp_facts.specs.Lines.{event_line, fact_lines}
+use Rattle.lsp_facts.specs.Lines.{detail_lines, event_line}
 use Rattle.lsp_survey.specs.Reads.{IsBroken, ShowsFront}
 use Rattle.lsp_explain.proofs.Telling.{SeenOf, tells}
 use Rattle.lsp_explain.proofs.run.explain_found.Goals as goal
@@ -21,9 +22,9 @@ returns c =
     tells c.args.events.now found _ c.rest-rest.result.now said text c.verdict-verdict.ensures
     (λ raw event before stands number reads is offends.
     let r = c.in_ok-push_said.ensures raw event before stands number reads is offends in
-    let line = event_line found.offence.event raw in (
+    let line = event_line found.offence.event found.offence.who found.offence.number raw in (
       r.0,
       λ rests shows. r.1 rests shows,
-      r.2 ∙ ap (λ w. w ++ (line ++ fact_lines r.0)) c.new-said.ensures.bytes,
+      r.2 ∙ ap (λ w. w ++ (line ++ detail_lines r.0 (offence_view found.offence).no)) c.new-said.ensures.bytes,
     ))
     seen
