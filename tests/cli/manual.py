@@ -1,4 +1,5 @@
-"""The manual page beside the texts of help: commands, what each takes, options and statuses."""
+"""Compares the manual page with the texts of help: the commands, what each takes, options and
+statuses."""
 
 import re
 
@@ -27,7 +28,7 @@ def synopsis(page):
 
 
 def version(page):
-    """The version that the page is of."""
+    """The version that the page describes."""
     return re.search(r"^\.TH .*lspcheck (\d[.\d]*)", page, re.M)[1]
 
 

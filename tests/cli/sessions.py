@@ -1,6 +1,7 @@
 """Sessions, byte by byte, and what must be reported about them.
 
-The messages and what the commands answer are worked out by hand from LSP 3.17 and the pages in docs.
+The messages and the answers of the commands are worked out by hand from LSP 3.17 and the pages in
+docs.
 """
 
 
@@ -21,7 +22,7 @@ def server(content):
 
 
 def content(record):
-    """What the one frame of a record holds."""
+    """The content of the only frame of a record."""
     return record.partition(b"\r\n\r\n")[2][:-1]
 
 
@@ -69,7 +70,8 @@ WHOLE_LINES = b"""1 editor request 1 "initialize"
 8 editor notification "exit"
 """
 
-# The same with the number among those of the side, and of a message on a document which and which version.
+# The same with the number of each event among those of its side, and the URI and version of
+# documents.
 WHOLE_LONG = b"""1 editor request 1 "initialize" 1
 2 server result 1 1
 3 editor notification "initialized" 2
@@ -80,7 +82,7 @@ WHOLE_LONG = b"""1 editor request 1 "initialize" 1
 8 editor notification "exit" 5
 """
 
-# What each of its events holds.
+# The content of each of its events.
 WHOLE_CONTENTS = [content(INITIALIZE), content(ANSWER), content(INITIALIZED), content(OPEN), b"ab"]
 WHOLE_CONTENTS += [content(SHUTDOWN), content(STOPPED), content(EXIT)]
 
@@ -97,7 +99,7 @@ KILLED_REPORT = b"no 407 editor 5 event 8\nexit is missing\n"
 REST = HEAD + b"E 3\nabc\n"
 REST_REPORT = b"no 107 editor 1 event 1\nstream ends inside a frame\n"
 
-# A header part that is none, and after it a message of either side.
+# An invalid header part, and after it a message of either side.
 BROKEN = HEAD + b"E 4\n\r\n\r\n\n" + EXIT + STOPPED
 BROKEN_REPORT = b"no 102 editor 1 event 1\nbad header line\n"
 
@@ -136,10 +138,11 @@ UNSHAKEN_LINES = b"no 209 editor 1 event 1\nbad params of an interpreted method\
 UNSHAKEN_FOLLOW = b"no 301 server 1 event 2 follows\nresponse to no open request\n"
 UNSHAKEN_FOLLOW += b"no 401 editor 2 event 3 follows\neditor message before initialize\n"
 
-# Rests of both sides.
+# What is left of both sides.
 RESTS = REST + b"S 3\nabc\n"
 
-# What is listed of a log: of the causes, of every offence, and how many there are; with the status of the first.
+# What is listed for a log: the causes, all offences, and how many there are; with the status of the
+# first.
 OFFENCES = [
     (WRONGS, WRONG_LINES + WRONG_LATER, WRONG_LINES + WRONG_FOLLOWS + WRONG_LATER, b"offences 5 following 1\n"),
     (UNSHAKEN, UNSHAKEN_LINES, UNSHAKEN_LINES + UNSHAKEN_FOLLOW, b"offences 3 following 2\n"),
@@ -190,7 +193,7 @@ TAKEN_FACTS = b'event 5 editor 4 request 1 "textDocument/hover"\nid 1\nasked eve
 TAKEN_FACTS += b"answered event 2\nusually editor\n"
 REST_FACTS = b'end 1 editor\nbegins "abc"\nusually recorder\n'
 
-# Of logs with a no: what is written after its two lines.
+# For logs with a no: what is written after its two lines.
 FACTS = [
     (WRONGS, STAYS, STAYS_FACTS),
     (REVERSES, REVERSES_REPORT, REVERSED_FACTS),
@@ -219,7 +222,8 @@ LACK_FACTS = [
     (KILLED, KILLED_REPORT, b"end 8 editor\nphase stopping\nsince event 6\nusually editor\n"),
 ]
 
-# Of logs with several: what explains each that follows from no earlier one, and how many offences there are.
+# For logs with several offences: what explains each that follows from no earlier one, and how many
+# there are.
 WRONGS_EXPLAINED = STAYS + STAYS_FACTS + rb'''no 606 editor 5 event 7
 range is reversed
 event 7 editor 5 notification "textDocument/didChange"
@@ -311,7 +315,7 @@ BAD_LOGS = {
     b"T 1 1 1\na\n\xff\n": b"bad log L5 record 1\nsnapshot is not UTF-8\n",
 }
 
-# The lines that stand at the places of these faults, as JSON text.
+# The lines at the places of these faults, as JSON text.
 BAD_LINES = {
     b"E 0\n": rb'"E 0\n"',
     b"E 1048577\n": rb'"E 1048577\n"',
@@ -324,7 +328,7 @@ BAD_LINES = {
 
 BAD_FIRST_LINE = b"bad log L1 record 0\nbad first line\n"
 
-# What doesn't begin as a log does, and a word of the hint that must be given.
+# What does not begin as a log does, and a word of the hint that must be given.
 NO_LOGS = {
     b"": b"is empty",
     b"Content-Length: 2\r\n\r\n{}": b"lspcheck frames",

@@ -1,4 +1,5 @@
-"""Sessions of a size, made here, and what must be reported about them, worked out from what was put in.
+"""Large sessions, generated here, and what must be reported about them, derived from what was put
+in.
 
 Each is a name, the words of the run, the input, the status, and both outputs.
 """
@@ -8,7 +9,7 @@ import random
 
 from sessions import ANSWER, HEAD, INITIALIZE, INITIALIZED
 
-# The greatest sizes of the profile: a record's bytes, a snapshot's URI and text, a content.
+# The maximum sizes of the profile: a record's bytes, a snapshot's URI and text, a content.
 CHUNK, URI, TEXT, CONTENT = 1_048_576, 8_192, 16_777_216, 67_108_864
 
 START = HEAD + INITIALIZE + ANSWER + INITIALIZED
@@ -24,12 +25,12 @@ def framed(content):
 
 
 def message(side, **members):
-    """The records of a message, as many as it takes."""
+    """The records of a message, as many as it needs."""
     return cut(side, framed(compact({"jsonrpc": "2.0", **members}).encode()))
 
 
 def cut(side, data):
-    """Bytes as records that are full but for the last."""
+    """Bytes as records that are all full except the last."""
     pieces = (data[at : at + CHUNK] for at in range(0, len(data), CHUNK))
     return b"".join(b"%s %d\n%s\n" % (side, len(piece), piece) for piece in pieces)
 
@@ -54,7 +55,7 @@ def did_close(uri):
 
 
 def replaced(first, second, text):
-    """A change of the text from one line and column up to another."""
+    """A change of the text from one line and column to another."""
     start, end = ({"line": line, "character": column} for line, column in (first, second))
     return {"range": {"start": start, "end": end}, "text": text}
 
@@ -66,7 +67,8 @@ def yes(messages, snapshots, lines):
 
 
 def many_documents(count=2000):
-    """Documents that are opened in order, of which every third is closed and some are opened again: 1,400 are left."""
+    """Documents that are opened in order; every third is closed, and some are opened again: 1,400
+    are left."""
     log, held, sent = [START], {}, 2
     for number in range(count):
         held[f"file:///{number}"] = (number, f"text {number}\n")
@@ -83,7 +85,8 @@ def many_documents(count=2000):
 
 
 def many_requests(count=2400):
-    """Requests of both sides, answered in another order; some are cancelled, and 1,200 of each side stay open."""
+    """Requests of both sides, answered in another order; some are cancelled, and 1,200 of each side
+    stay open."""
     log, numbers = [START], list(range(10, 10 + count))
     for number in numbers:
         log.append(message(b"E", id=number, method="textDocument/hover", params={}))
@@ -104,7 +107,8 @@ def many_requests(count=2400):
 
 
 def many_snapshots(count=1000):
-    """Snapshots that come before their versions, in another order, and others whose version never comes."""
+    """Snapshots that come before their versions, in another order, and others whose version never
+    comes."""
     log, uri = [START], "file:///a"
     for version in random.Random(2).sample(range(2, 2 + count), count):
         log.append(snapshot(version, uri, f"text {version}"))
@@ -123,13 +127,13 @@ def units(text):
 
 
 class Lines:
-    """A text as a list of lines that end with LF, which can only replace some lines by others."""
+    """A text as a list of lines that end with LF. Its only edit replaces lines by others."""
 
     def __init__(self, lines):
         self.lines = lines
 
     def replace(self, rng):
-        """Makes a scattered change, and gives it as the editor sends it."""
+        """Makes a scattered change, and returns it as the editor sends it."""
         first = rng.randrange(len(self.lines))
         last = min(len(self.lines) - 1, first + rng.choice([0, 0, 0, 1, 3]))
         before = self.lines[first][: rng.randrange(len(self.lines[first]) + 1)]
@@ -145,8 +149,8 @@ class Lines:
 
 
 def long_document(count, changes=300):
-    """A document of so many lines, scattered changes, and a snapshot of what is left. Gives the log, the report and the
-    text."""
+    """A document of this many lines, scattered changes, and a snapshot of the result: the log, the
+    report and the text."""
     rng, uri = random.Random(count), "file:///a"
     document = Lines([f"line {number} é\U0001f600 x" if number % 7 == 0 else f"let x{number} = {number};" for number in range(count)])
     log = [START, did_open(uri, 0, document.text())]
@@ -160,7 +164,8 @@ def long_document(count, changes=300):
 
 
 def long_texts(size=TEXT):
-    """A text of the greatest size, in one line and in lines of 64 letters, whose ends are changed; and with one byte more."""
+    """A text of the maximum size, in one line and in lines of 64 letters, whose ends are changed;
+    and one of a byte more."""
     for text in ["a" * size, ("a" * 63 + "\n") * (size // 64)]:
         uri = "file:///" + "u" * (URI - 8)
         line, column = text.count("\n"), len(text) - text.rfind("\n") - 1
@@ -181,8 +186,8 @@ def long_texts(size=TEXT):
 
 
 def explained_texts(size=TEXT):
-    """An opening with a byte too many, and a change that makes a text of the greatest size longer by one, with what
-    explains the refusal of each."""
+    """An opening with a byte too many, and a change that makes a text of the maximum size longer by
+    one, with the explanation of each refusal."""
     uri, over = "file:///a", size + 1
     sizes = f"bytes {over}\nlimit {size}\nusually outside\n"
     opened = START + did_open(uri, 1, "a" * over)
@@ -199,13 +204,13 @@ def explained_texts(size=TEXT):
 
 
 def padded(size):
-    """The content of a message of the server that has so many bytes."""
+    """The content of a message of the server, of this many bytes."""
     front, back = b'{"jsonrpc":"2.0","method":"window/logMessage","params":{"type":3,"message":"', b'"}}'
     return front + b"m" * (size - len(front) - len(back)) + back
 
 
 def small():
-    """Sessions of more than a thousand of each kind, and of records of the greatest size."""
+    """Sessions of more than a thousand items of each kind, and of records of the maximum size."""
     for name, (log, report) in [
         ("many documents", many_documents()),
         ("many requests", many_requests()),
@@ -227,7 +232,7 @@ def small():
 
 
 def large():
-    """Texts and contents of the greatest size, and of one byte more."""
+    """Texts and contents of the maximum size, and of one byte more."""
     for number, (log, report) in enumerate(long_texts()):
         yield "a text of the greatest size", ["check"], log, number % 2, report, b""
     for log, told in explained_texts():

@@ -1,4 +1,5 @@
-"""The program with one of its calls failing: the library that fails it, and a run of the program with that loaded."""
+"""The program with one of its calls failing: the library that makes it fail, and a run with that
+library."""
 
 import os
 import shutil
@@ -9,7 +10,7 @@ from pathlib import Path
 
 SOURCE = Path(__file__).resolve().parent / "faults.c"
 
-# The status and the words of each fault. A write that takes nothing has failed.
+# The status and the words of each fault. A write that takes nothing counts as failed.
 FAULTS = {
     "allocation": (4, b"lspcheck: out of memory\n"),
     "read": (3, b"lspcheck: read fault\n"),
@@ -19,7 +20,7 @@ FAULTS = {
 
 
 def library(folder):
-    """The path of the library, built in this folder. Without a compiler the script ends here."""
+    """The path of the library, built in this folder. Without a compiler, the script ends here."""
     if shutil.which("cc") is None:
         sys.exit(f"{sys.argv[0]}: no C compiler: there is no `cc` on the PATH, which builds {SOURCE.name}")
     path = folder / "faults.so"
@@ -32,8 +33,8 @@ def library(folder):
 
 
 def answer(program, words, preload, kind, most, at=0, given=None):
-    """The status, the output and the errors of one run, and how many calls of the kind it made. Each of its reads or
-    writes takes so many bytes at most, where a number is given."""
+    """The status, the output and the errors of one run, and how many calls of the kind it made. If
+    `most` is given, each read or write takes at most that many bytes."""
     with tempfile.NamedTemporaryFile() as count:
         settings = {"LD_PRELOAD": preload, "FAULT_KIND": kind, "FAULT_AT": str(at), "FAULT_COUNT": count.name}
         if kind != "allocation" and most is not None:

@@ -1,4 +1,4 @@
-"""Worked sessions, streams and contents, small ones, on which each call of the libraries is tried."""
+"""Small worked sessions, streams and contents, on which each call of the libraries is tried."""
 
 import json
 import sys
@@ -97,7 +97,7 @@ LOGS = {
     "a change refused": START + opened(1, "ab") + changed(2, *IN_ORDER, part(0, 1, 0, 0, "")),
     "an early snapshot": LATER + changed(5, whole("b")),
     "a snapshot that differs": LATER + changed(5, whole("c")),
-    "a version passed over": LATER + changed(6, whole("b")),
+    "a skipped version": LATER + changed(6, whole("b")),
     "a request cancelled": START + CANCELLED,
     "a request answered": START + CANCELLED + REFUSED,
     "a request answered twice": START + CANCELLED + REFUSED + REFUSED,

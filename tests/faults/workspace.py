@@ -1,5 +1,6 @@
-"""A workspace of copies of the crates and of one crate more, whose files have the ending `.rattle` where they are kept,
-since the gate takes each `.rt` file for a part of a crate that it proves."""
+"""A workspace with copies of the crates and one more crate. The files of that crate are kept with
+the extension `.rattle`, since the gate takes each `.rt` file for a part of a crate that it proves.
+"""
 
 import shutil
 from pathlib import Path
@@ -8,7 +9,7 @@ TOP = Path(__file__).resolve().parent.parent.parent
 
 
 def crates():
-    """The crates that each crate of crates.txt depends on."""
+    """For each crate of crates.txt, the crates that it depends on."""
     return dict(line.split(": ") for line in (TOP / "crates.txt").read_text().splitlines() if ": " in line)
 
 
@@ -21,7 +22,8 @@ def below(crate):
 
 
 def lay_out(folder, copied, name, stands_on, files, left_out):
-    """Copies these crates without what is left out of them, makes a crate of these files, and gives its folder."""
+    """Copies these crates, without what is to be left out of them; makes a crate of these files,
+    and returns its folder."""
     for other in copied:
         copy = folder / "crates" / other
         shutil.rmtree(copy, ignore_errors=True)

@@ -1,5 +1,6 @@
-"""Damaged sessions and raw streams, each a function of a seed: what was whole is made from a few messages, or is
-one of the recorded examples, and is then cut, damaged, repeated, or put in another order."""
+"""Damaged sessions and raw streams, each a function of a seed. An undamaged input is generated from
+a few messages, or is one of the recorded examples; it is then cut, damaged, repeated, or put in
+another order."""
 
 import json
 import random
@@ -97,7 +98,7 @@ def frame(rng, content):
 
 
 def session(rng):
-    """The opening of a session that keeps the rules, and messages that may not."""
+    """The beginning of a session that keeps the rules, and messages that may not."""
     sync = rng.randrange(3)
     yield b"E", b'{"jsonrpc":"2.0","id":0,"method":"initialize","params":{"capabilities":{}}}'
     yield b"S", b'{"jsonrpc":"2.0","id":0,"result":{"capabilities":{"textDocumentSync":%d}}}' % sync
@@ -134,7 +135,7 @@ def generated_stream(rng):
 
 
 def damaged(rng, data):
-    """The bytes with up to four damages."""
+    """The bytes with up to four changes."""
     data = bytearray(data)
     for _ in range(rng.choice([0, 0, 0, 1, 1, 2, 4])):
         if not data:

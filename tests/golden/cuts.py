@@ -55,12 +55,12 @@ TOO_EARLY_REPORT = b"no 401 editor 1 event 1\neditor message before initialize\n
 # The frames that the editor sends in the session, and the line that `frames` writes for each.
 FRAMES = [("I 1", "1 75"), ("N1", "2 52"), ('OPEN 1 "ab"', "3 136"), ("SH", "4 58"), ("EX", "5 33")]
 
-# What takes the place of a byte.
+# What a byte is replaced by.
 BYTES = [0x00, 0x0A, 0x7B, 0xFF]
 
 
 def verdicts(records):
-    """The first line that is reported of a log of these records for each lesser length."""
+    """The first line of the report on a log of these records, for each shorter length."""
     yield from ["bad log L1 record 0"] * FIRST_LINE
     for first, last, size, between in records:
         for record in range(first, last + 1):
@@ -69,7 +69,8 @@ def verdicts(records):
 
 
 def cuts():
-    """Logs that are cut, with the verdict on each, and how many bytes a read takes of it at most, if that is limited."""
+    """Logs that are cut, the verdict on each, and how many bytes a read takes at most, if that is
+    limited."""
     log, of_one_byte = log_of(SESSION), log_of(SESSION, 1)
     for records, whole, reads in [(RECORDS, log, [1, 7, None]), (RECORDS_OF_ONE_BYTE, of_one_byte, [7])]:
         wanted = [*verdicts(records)]
@@ -82,7 +83,7 @@ def cuts():
 
 
 def clean():
-    """Logs that hold no offence yet: a session is cut before its last event is whole."""
+    """Logs without an offence so far: a session that is cut before its last event is whole."""
     log = log_of(DIFFERENT)
     return [log[:length] for length in range(len(log))]
 
@@ -94,7 +95,7 @@ def spoilt():
 
 
 def streams():
-    """The editor's stream cut at each length, with the status of each and all that is written."""
+    """The editor's stream cut at each length, with the status and the whole output for each."""
     stream, lines = b"", ""
     for number, (words, line) in enumerate(FRAMES, 1):
         whole = frame(content_of(words))

@@ -73,7 +73,7 @@ ESCAPES = [(b"\\\\", b"\\"), (b"\\r", b"\r"), (b"\\n", b"\n"), (b"\\xff", b"\xff
 
 
 def filled(words):
-    """The template of the first word with the others in the places of its `@`."""
+    """The template that the first word names, with the other words in the places of its `@`."""
     name, *given = words.split()
     pieces = TEMPLATES[name].split("@")
     if len(pieces) != len(given) + 1:
@@ -82,7 +82,7 @@ def filled(words):
 
 
 def content_of(words):
-    """The content that these words name, or are."""
+    """The content that these words name, or that they are."""
     if words.startswith("{"):
         return words
     first, *others = words.split(" / ")
@@ -99,7 +99,7 @@ def unescaped(text):
 
 
 def long(words):
-    """A frame whose header part has a field of so many letters."""
+    """A frame whose header part has a field of this many letters."""
     return b"Content-Length: 2\r\nX: " + b"a" * int(words.removeprefix("LONG ")) + b"\r\n\r\n{}"
 
 
@@ -110,7 +110,7 @@ class Log:
         self.bytes, self.most = b"", sys.maxsize
 
     def record(self, side, whole):
-        """Bytes of a side, in records of so many at most."""
+        """The bytes of a side, in records of a limited size."""
         for at in range(0, len(whole), self.most):
             piece = whole[at : at + self.most]
             self.bytes += b"%s %d\n%s\n" % (side.encode(), len(piece), piece)
@@ -146,7 +146,7 @@ class Log:
 
 
 def log_of(lines, most=sys.maxsize):
-    """The log that these lines build, whose records of bytes have so many bytes at most."""
+    """The log that these lines build, with at most this many bytes in a record of bytes."""
     log = Log()
     log.most = most
     for line in lines.splitlines():
@@ -155,7 +155,7 @@ def log_of(lines, most=sys.maxsize):
     return log.bytes
 
 
-# The words of each run, but for a text, an event and a mode.
+# The words of each run, except for `text` and `event`.
 RUNS = {
     "=": ["check"],
     "complete": ["check", "--complete"],
@@ -173,10 +173,10 @@ RUNS = {
     **{mode: ["frames", "--as", mode] for mode in ["lengths", "kinds", "canonical"]},
 }
 
-# How many words of their own these take.
+# How many more words these take.
 TAKES = {"text": 2, "event": 1}
 
-# The status for each word for how a run ends, and what standard error has if there is no output.
+# For each word for how a run ends: the status, and what standard error has if there is no output.
 ENDS = {
     "yes": (0, b""),
     "done": (0, b""),
@@ -190,7 +190,7 @@ ENDS = {
 }
 
 
-# What an input that is something else seems to be.
+# The hints about what an input may be that is not what the command reads.
 HINTS = {
     "stream": b"this looks like one raw stream of frames: try 'lspcheck frames'",
     "log": b"this looks like the log of a session: try 'lspcheck check'",
@@ -200,7 +200,7 @@ HINTS = {
 
 
 class Row:
-    """A run: its words and input, and what it has to give."""
+    """A run: its words and input, and what it must give."""
 
     def __init__(self, name, words, given, out, err, hint, end):
         self.name, self.words, self.given, self.out = name, words, given, out
@@ -209,7 +209,7 @@ class Row:
 
 
 def run_of(word, rest):
-    """The words of the run that a line asks for and the word for how it ends, or None."""
+    """The words of the run that a line names, and the word for how it ends; or None."""
     if word in RUNS:
         return RUNS[word], rest
     if word in TAKES:
@@ -219,7 +219,7 @@ def run_of(word, rest):
 
 
 def rows_of(name, table):
-    """The runs of a table, which has at least one."""
+    """The runs of a table. There must be at least one."""
     log, out, err, hint, count = Log(), b"", b"", b"", 0
     for number, line in table:
         word, _, rest = line.partition(" ")
@@ -258,7 +258,7 @@ def tables_of(path):
 
 
 def rows_in(path):
-    """The runs of the tables of a file, which has at least one."""
+    """The runs of the tables of a file. There must be at least one table."""
     tables = [*tables_of(path)]
     if not tables:
         raise ValueError(f"{path.name}: no table")
@@ -267,7 +267,7 @@ def rows_in(path):
 
 
 def rows():
-    """The runs of every table in this folder, which has at least one file of them."""
+    """The runs of every table in this folder. There must be at least one file."""
     paths = sorted(FOLDER.glob("*.txt"))
     if not paths:
         raise ValueError(f"{FOLDER}: no tables")
@@ -275,14 +275,14 @@ def rows():
         yield from rows_in(path)
 
 
-# The rules and the codes of a log that an explanation can be of. L6 takes a log of 2^40 bytes.
+# The rules and the faults of a log that can be explained. L6 takes a log of 2^40 bytes.
 RULES = {
     *map(str, [*range(101, 108), *range(201, 210), *range(301, 304), *range(401, 408), 411, 412]),
     *map(str, [*range(501, 505), *range(601, 609), 701, 702]),
     *["L1", "L2", "L3", "L4", "L5"],
 }
 
-# What takes a text over the limit, so it is explained by tests/cli/sizes.py.
+# What needs a text over the limit, and so is explained in tests/cli/sizes.py.
 OF_SIZE = {"607", "bytes", "limit"}
 
 
