@@ -18,10 +18,6 @@ IsArg rule arg = (rule_of arg ≡ rule) × (arg.global ≡ false)
 abbrev pub flag : Text → Rule
 flag name = record (new_rule name) { long = Some name; action = Some SetTrue }
 
--- whether no progress is shown
-abbrev pub quiet : Rule
-quiet = flag (codes "quiet")
-
 -- an argument that may be left out
 abbrev pub argument : Text → Rule
 argument name = record (new_rule name) { value_names = 1 }
@@ -61,29 +57,28 @@ command name rules = record (new_shape name) { rules = rules }
 
 abbrev pub check : Shape
 check = command (codes "check")
-    (flag (codes "complete") ∷ flag (codes "all") ∷ flag (codes "every") ∷ quiet ∷ file ∷ [])
+    (flag (codes "complete") ∷ flag (codes "all") ∷ flag (codes "every") ∷ file ∷ [])
 
 abbrev pub explain : Shape
-explain = command (codes "explain")
-    (flag (codes "complete") ∷ flag (codes "all") ∷ quiet ∷ file ∷ [])
+explain = command (codes "explain") (flag (codes "complete") ∷ flag (codes "all") ∷ file ∷ [])
 
 abbrev pub show : Shape
-show = command (codes "show") (flag (codes "long") ∷ quiet ∷ file ∷ [])
+show = command (codes "show") (flag (codes "long") ∷ file ∷ [])
 
 abbrev pub text : Shape
-text = command (codes "text") (number ∷ uri ∷ quiet ∷ file ∷ [])
+text = command (codes "text") (number ∷ uri ∷ file ∷ [])
 
 abbrev pub event : Shape
-event = command (codes "event") (number ∷ quiet ∷ file ∷ [])
+event = command (codes "event") (number ∷ file ∷ [])
 
 abbrev pub normal : Shape
-normal = command (codes "normal") (quiet ∷ file ∷ [])
+normal = command (codes "normal") (file ∷ [])
 
 abbrev pub upgrade : Shape
-upgrade = command (codes "upgrade") (quiet ∷ file ∷ [])
+upgrade = command (codes "upgrade") (file ∷ [])
 
 abbrev pub frames : Modes → Shape
-frames modes = command (codes "frames") (mode modes ∷ quiet ∷ file ∷ [])
+frames modes = command (codes "frames") (mode modes ∷ file ∷ [])
 
 -- the program asks for one of its commands
 abbrev pub program : Shape

@@ -1,9 +1,7 @@
 //! The commands and options of the command line, and the words of their help.
 ghost use Rattle.std.specs.Prelude.{◌≡◌, [], IfOk, IsOkAnd, true};
 ghost use Rattle.clap.specs.Words.{AddsSubcommand, app_of, shape_of};
-ghost use Rattle.lsp_words.specs.CommandLine.{AreModes, IsArg, IsCommandLine, Modes, check, event};
-ghost use Rattle.lsp_words.specs.CommandLine.{explain, file, flag, frames, mode, normal, number};
-ghost use Rattle.lsp_words.specs.CommandLine.{program, quiet, show, text, upgrade, uri};
+ghost use Rattle.lsp_words.specs.CommandLine.{AreModes, IsArg, IsCommandLine, Modes, check, event, explain, file, flag, frames, mode, normal, number, program, show, text, upgrade, uri};
 
 use clap::{Arg, ArgAction, Command, value_parser};
 use std::alloc::{AllocError, Global};
@@ -62,13 +60,6 @@ fn flag<'a>(alloc: Global, name: &'static str, help: &'static str) -> Arg<'a>
         .help(help)
 }
 
-/// The option that turns off the progress line.
-fn quiet<'a>(alloc: Global) -> Arg<'a>
-    ensures { IsArg quiet result }
-{
-    flag(alloc, "quiet", "Shows no progress on a terminal")
-}
-
 /// The argument that numbers a message or an event, from 1.
 fn number<'a>(alloc: Global, help: &'static str) -> Arg<'a>
     ensures { IsArg number result }
@@ -122,7 +113,6 @@ fn check<'a>(alloc: Global) -> Result<Command<'a>, AllocError>
             "every",
             "Lists every violation, consequences included",
         ))?
-        .arg(quiet(alloc))?
         .arg(log_file(alloc))
 }
 
@@ -141,7 +131,6 @@ fn explain<'a>(alloc: Global) -> Result<Command<'a>, AllocError>
             "all",
             "Explains every violation that check --all lists",
         ))?
-        .arg(quiet(alloc))?
         .arg(log_file(alloc))
 }
 
@@ -155,7 +144,6 @@ fn show<'a>(alloc: Global) -> Result<Command<'a>, AllocError>
             "long",
             "Adds each side's own numbers, and the URI and version of documents",
         ))?
-        .arg(quiet(alloc))?
         .arg(log_file(alloc))
 }
 
@@ -166,7 +154,6 @@ fn text<'a>(alloc: Global) -> Result<Command<'a>, AllocError>
         .about("Writes the text that the server should hold after a message of the editor")
         .arg(number(alloc, "The number of the editor's message, from 1"))?
         .arg(uri(alloc))?
-        .arg(quiet(alloc))?
         .arg(log_file(alloc))
 }
 
@@ -176,7 +163,6 @@ fn event<'a>(alloc: Global) -> Result<Command<'a>, AllocError>
     Command::new(alloc, "event")
         .about("Writes the content of one event of a recorded session")
         .arg(number(alloc, "The number of the event, from 1"))?
-        .arg(quiet(alloc))?
         .arg(log_file(alloc))
 }
 
@@ -185,7 +171,6 @@ fn normal<'a>(alloc: Global) -> Result<Command<'a>, AllocError>
 {
     Command::new(alloc, "normal")
         .about("Writes the normal form of a log")
-        .arg(quiet(alloc))?
         .arg(log_file(alloc))
 }
 
@@ -194,7 +179,6 @@ fn upgrade<'a>(alloc: Global) -> Result<Command<'a>, AllocError>
 {
     Command::new(alloc, "upgrade")
         .about("Writes a log in format 2")
-        .arg(quiet(alloc))?
         .arg(log_file(alloc))
 }
 
@@ -205,7 +189,6 @@ fn frames<'a>(alloc: Global) -> Result<Command<'a>, AllocError>
     Command::new(alloc, "frames")
         .about("Reads one raw stream of frames")
         .arg(mode(alloc))?
-        .arg(quiet(alloc))?
         .arg(file(alloc, "The stream; standard input if absent or '-'"))
 }
 

@@ -34,6 +34,4 @@ pub struct Request<'a> {
     pub task: Task<'a>,
     /// The file to read, or standard input.
     pub file: Option<&'a str>,
-    /// Whether no progress is shown.
-    pub quiet: bool,
 }
