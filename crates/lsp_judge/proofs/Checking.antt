@@ -121,7 +121,7 @@ reported completeness limits sizes io v written says same is wrote = record {
 pub faulted : (completeness : Completeness) (limits : Bounds) (io : Ports) (fault : RunFault)
     → (fault ≡ faults.Read → IsSilent io) → (fault ≡ faults.Memory → IsSilent io)
     → (fault ≡ faults.Write → IsReportCut completeness limits io.source_before io.source_after
-      io.sink_before io.sink_after)
+    io.sink_before io.sink_after)
     → io.source_after.failures ≡ failures_after fault io.source_before.failures
     → io.sink_after.failures ≡ sink_failures_after fault io.sink_before.failures
     → GaveAtMost (limits.log + 1) io.source_before io.source_after

@@ -28,7 +28,7 @@ pub judges : (limits : Bounds) → IsInRange limits → (io : Ports)
     → OfInput limits io (λ log. IsRight log (verdict_view v))
     → OutputFor limits io (λ log. IsDue log (verdict_view v))
     → ((log : List ℕ) (s : spec.Summary) → IsRight log (spec.yes s)
-      → IsVerdict limits log (spec.yes s))
+    → IsVerdict limits log (spec.yes s))
     → io.source_after.failures ≡ io.source_before.failures
     → io.sink_after.failures ≡ io.sink_before.failures
     → Judges limits io IsRight IsDue Begins (Ok (Judged v))

@@ -340,6 +340,7 @@ text_broke limits start now told n uri fault never source limit = record {
   same : (let r : Result Outcome RunFault = Err fault in r) ≡ Err faults.Write
       → fault ≡ faults.Write
   same e = cc e
+
   unwritten : (f : RunFault) → (f ≡ faults.Write → ⊥)
       → told.failures ≡ sink_failures_after f told.failures
   unwritten faults.Read never = refl

@@ -65,8 +65,8 @@ pub record Checked (completeness : Completeness) (limits : Bounds) (io : Ports)
   -- frames, and the session ends as it has to.
   pub kept : (v : Verdict) → result ≡ Ok (Judged v)
       → OfInput limits io (λ log. (format : Option Format) (events : List Event)
-        → IsClean limits log format events → EndsAsDue completeness events
-        → verdict_view v ≡ spec.yes (spec.summary (log_terms limits format) events))
+      → IsClean limits log format events → EndsAsDue completeness events
+      → verdict_view v ≡ spec.yes (spec.summary (log_terms limits format) events))
   -- After a read fault or for want of memory nothing is written, after a write fault a prefix.
   pub read_fault : result ≡ Err Read → IsSilent io
   pub memory : result ≡ Err Memory → IsSilent io
