@@ -1,4 +1,4 @@
-"""Recorded sessions made for measuring: each function yields the pieces of one log, from a fixed seed."""
+"""Generated sessions for measuring: each function yields the pieces of one log, from a fixed seed."""
 import json
 import random
 
@@ -64,7 +64,7 @@ def opens(uri, text):
 
 
 def changes(uri, version, change):
-    # By hand, since most of a workload is made of these.
+    # Written out, since most of a workload consists of these.
     return records(b"E", '{"jsonrpc":"2.0","method":"textDocument/didChange","params":{"textDocument":{"uri":"%s","version":%d},'
                    '"contentChanges":[%s]}}' % (uri, version, change))
 
@@ -85,7 +85,7 @@ class Document:
         return "\n".join(self.lines)
 
     def key(self, rng, line_ends=4):
-        """One key: a letter, a backspace, or, so many times in a hundred, a line end more or less."""
+        """One key: a letter, a backspace, or, with this percentage, an added or removed line end."""
         self.version += 1
         what = rng.randrange(100)
         if rng.randrange(100) == 0:
@@ -255,7 +255,7 @@ def in_format(pieces, format):
 
 
 def write(name, size, path, format=1):
-    """Writes the workload of this name, of about so many bytes, as a log of the format."""
+    """Writes the workload of this name, of about this many bytes, as a log of the format."""
     rng = random.Random(1)
     written = 0
     with open(path, "wb") as out:

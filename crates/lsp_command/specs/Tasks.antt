@@ -3,24 +3,23 @@ use Rattle.std.specs.Prelude.{◌≡◌, ◌⊎◌, ℕ, List, [], Result, Ok, E
 use Rattle.std.specs.Io.KnownBytes.{IsAtEnd}
 use Rattle.std.specs.Int.NonZero.{non_zero_u64_get}
 use Rattle.lsp_frame.specs.Bounds.{Bounds}
-use Rattle.lsp_frame.specs.Told.{Told, KeepsBytes, Took, after_failure}
-use Rattle.lsp_judge.specs.Answered.{IsReportCut}
+use Rattle.lsp_frame.specs.Told.{Told, KeepsBytes, after_failure}
 use Rattle.lsp_verdict.specs.Given.{verdict_view}
 use Rattle.lsp_streams.specs.Event.{IsEvent, BeginsEvent}
 use Rattle.lsp_streams.specs.Normal.{EndsNormal, BeginsNormal}
 use Rattle.lsp_verdict.specs.Complete.{IsVerdictBy}
-use Rattle.lsp_verdict.specs.Report.{report}
-use Rattle.lsp_verdict.specs.RunIo.{OfRead, source_failures, sink_failures}
-use Rattle.lsp_judge.specs.ShownLog.{IsShown, BeginsShown}
+use Rattle.lsp_judge.specs.Ports.{IsOutput, IsSilent, OfInput, Ports}
+use Rattle.lsp_verdict.specs.RunIo.{source_failures, sink_failures}
+use Rattle.lsp_judge.specs.Checked.{Checked}
+use Rattle.lsp_judge.specs.ShownLog.{Showed}
+use Rattle.lsp_judge.specs.TextAnswers.{WritesText}
+use Rattle.lsp_judge.specs.UpgradedLog.{UpgradesLog}
 use Rattle.lsp_streams.specs.StreamRun.{IsRun, BeginsRun}
 use Rattle.lsp_explain.specs.AllExplained.{IsAllExplained, BeginsAllExplained}
 use Rattle.lsp_explain.specs.Explained.{IsExplanation, BeginsExplanation}
 use Rattle.lsp_survey.specs.Reported.{IsReported, BeginsReported}
 use Rattle.lsp_verdict.specs.declared.listing.Listing.{Listing}
-use Rattle.lsp_verdict.specs.TextAfter.{BeginsText, IsText}
-use Rattle.lsp_verdict.specs.Upgraded.{IsUpgraded, BeginsUpgraded}
 use Rattle.lsp_verdict.specs.declared.completeness.Completeness.{Completeness}
-use Rattle.lsp_verdict.specs.declared.lines.Lines.{Lines}
 use Rattle.lsp_verdict.specs.declared.outcome.Mode.{Mode}
 use Rattle.lsp_verdict.specs.declared.outcome.Outcome.{Outcome}
 use Rattle.lsp_verdict.specs.declared.outcome.Outcome.TheVariants as outcomes
@@ -36,106 +35,54 @@ use Rattle.lsp_command.specs.declared.task_outcome.TaskOutcome.{TaskOutcome}
 use Rattle.lsp_words.specs.declared.task.Task.{Task}
 use Rattle.lsp_words.specs.declared.task.Task.TheVariants.{Check, Survey, Explain, ExplainAll, Show, Text, Event, Normal, Upgrade, Frames}
 
--- what a source and a sink tell before a run and after it
-pub record Ports : Type 0 where
-  pub source_before : Told
-  pub source_after : Told
-  pub sink_before : Told
-  pub sink_after : Told
-
--- this holds of the bytes read, however they go on where their end was not met
-abbrev pub Read : Bounds → Ports → (List ℕ → Type 0) → Type 0
-Read limits p Holds = OfRead limits p.source_before p.source_after Holds
-
--- these bytes were written, and no other
-abbrev pub Wrote : Ports → List ℕ → Type 0
-Wrote p out = Took p.sink_before p.sink_after out
-
--- nothing was written
-abbrev pub IsSilent : Ports → Type 0
-IsSilent p = p.sink_after ≡ p.sink_before
-
--- `check`: the verdict on the log read, whose session has to be complete or not, and its report
-pub record Checked (completeness : Completeness) (limits : Bounds) (p : Ports) (result : Result Outcome RunFault) : Type 0 where
-  pub judged : IfOk result (λ outcome. (v : Verdict) × (outcome ≡ outcomes.Judged v))
-  pub verdict : (v : Verdict) → result ≡ Ok (outcomes.Judged v) → Read limits p (λ log. IsVerdictBy completeness limits log (verdict_view v))
-  pub report : (v : Verdict) → result ≡ Ok (outcomes.Judged v) → Wrote p (report (verdict_view v))
-  pub ended : (s : Summary) → result ≡ Ok (outcomes.Judged (verdicts.Yes s)) → IsAtEnd p.source_after.bytes
-  pub read_fault : result ≡ Err faults.Read → IsSilent p
-  pub memory : result ≡ Err faults.Memory → IsSilent p
-  pub write_fault : result ≡ Err faults.Write → IsReportCut completeness limits p.source_before p.source_after p.sink_before p.sink_after
-
 -- `check --all`: the verdict on the log read, whose session has to be complete or not, and the report of all that is wrong with it, or after a fault what begins that
 pub record Surveyed (completeness : Completeness) (listing : Listing) (limits : Bounds) (p : Ports) (result : Result Outcome RunFault) : Type 0 where
   pub judged : IfOk result (λ outcome. (v : Verdict) × (outcome ≡ outcomes.Judged v))
-  pub verdict : (v : Verdict) → result ≡ Ok (outcomes.Judged v) → Read limits p (λ log. IsVerdictBy completeness limits log (verdict_view v))
+  pub verdict : (v : Verdict) → result ≡ Ok (outcomes.Judged v) → OfInput limits p (λ log. IsVerdictBy completeness limits log (verdict_view v))
   pub written : (v : Verdict) → result ≡ Ok (outcomes.Judged v)
-      → (out : List ℕ) × Wrote p out × Read limits p (λ log. IsReported completeness limits listing log (verdict_view v) out)
+      → (out : List ℕ) × IsOutput p out × OfInput limits p (λ log. IsReported completeness limits listing log (verdict_view v) out)
   pub ended : (s : Summary) → result ≡ Ok (outcomes.Judged (verdicts.Yes s)) → IsAtEnd p.source_after.bytes
-  pub fault : OnErr result ((out : List ℕ) × Wrote p out × Read limits p (λ log. BeginsReported completeness limits listing log out))
+  pub fault : OnErr result ((out : List ℕ) × IsOutput p out × OfInput limits p (λ log. BeginsReported completeness limits listing log out))
 
 -- `explain`: the verdict on the log read, whose session has to be complete or not, and what explains it
 pub record Explained (completeness : Completeness) (limits : Bounds) (p : Ports) (result : Result Outcome RunFault) : Type 0 where
   pub judged : IfOk result (λ outcome. (v : Verdict) × (outcome ≡ outcomes.Judged v))
-  pub verdict : (v : Verdict) → result ≡ Ok (outcomes.Judged v) → Read limits p (λ log. IsVerdictBy completeness limits log (verdict_view v))
+  pub verdict : (v : Verdict) → result ≡ Ok (outcomes.Judged v) → OfInput limits p (λ log. IsVerdictBy completeness limits log (verdict_view v))
   pub written : (v : Verdict) → result ≡ Ok (outcomes.Judged v)
-      → (out : List ℕ) × Wrote p out × Read limits p (λ log. IsExplanation completeness limits log (verdict_view v) out)
+      → (out : List ℕ) × IsOutput p out × OfInput limits p (λ log. IsExplanation completeness limits log (verdict_view v) out)
   pub ended : (s : Summary) → result ≡ Ok (outcomes.Judged (verdicts.Yes s)) → IsAtEnd p.source_after.bytes
   pub read_fault : result ≡ Err faults.Read → IsSilent p
   pub memory : result ≡ Err faults.Memory → IsSilent p
-  pub write_fault : result ≡ Err faults.Write → (out : List ℕ) × Wrote p out × Read limits p (λ log. BeginsExplanation completeness limits log out)
+  pub write_fault : result ≡ Err faults.Write → (out : List ℕ) × IsOutput p out × OfInput limits p (λ log. BeginsExplanation completeness limits log out)
 
 -- `explain --all`: the verdict on the log read, whose session has to be complete or not, and what explains all that is wrong with it, or after a fault what begins that
 pub record AllExplained (completeness : Completeness) (limits : Bounds) (p : Ports) (result : Result Outcome RunFault) : Type 0 where
   pub judged : IfOk result (λ outcome. (v : Verdict) × (outcome ≡ outcomes.Judged v))
-  pub verdict : (v : Verdict) → result ≡ Ok (outcomes.Judged v) → Read limits p (λ log. IsVerdictBy completeness limits log (verdict_view v))
+  pub verdict : (v : Verdict) → result ≡ Ok (outcomes.Judged v) → OfInput limits p (λ log. IsVerdictBy completeness limits log (verdict_view v))
   pub written : (v : Verdict) → result ≡ Ok (outcomes.Judged v)
-      → (out : List ℕ) × Wrote p out × Read limits p (λ log. IsAllExplained completeness limits log (verdict_view v) out)
+      → (out : List ℕ) × IsOutput p out × OfInput limits p (λ log. IsAllExplained completeness limits log (verdict_view v) out)
   pub ended : (s : Summary) → result ≡ Ok (outcomes.Judged (verdicts.Yes s)) → IsAtEnd p.source_after.bytes
-  pub fault : OnErr result ((out : List ℕ) × Wrote p out × Read limits p (λ log. BeginsAllExplained completeness limits log out))
-
--- `show`: the verdict on the log read, the lines of the events before its place, short or long, and its report
-pub record Showed (lines : Lines) (limits : Bounds) (p : Ports) (result : Result Outcome RunFault) : Type 0 where
-  pub judged : IfOk result (λ outcome. (v : Verdict) × (outcome ≡ outcomes.Judged v))
-  pub shown : (v : Verdict) → result ≡ Ok (outcomes.Judged v)
-      → (out : List ℕ) × Wrote p out × Read limits p (λ log. IsShown lines limits log (verdict_view v) out)
-  pub ended : (s : Summary) → result ≡ Ok (outcomes.Judged (verdicts.Yes s)) → IsAtEnd p.source_after.bytes
-  pub fault : OnErr result ((out : List ℕ) × Wrote p out × Read limits p (λ log. BeginsShown lines limits log out))
-
--- `text`: what is due for the text of the URI after the editor's message of the number, or after a write fault what begins it
-pub record ToldText (limits : Bounds) (p : Ports) (number : ℕ) (uri : List ℕ) (result : Result Outcome RunFault) : Type 0 where
-  pub written : IfOk result (λ outcome. (out : List ℕ) × Wrote p out × Read limits p (λ log. IsText limits log number uri out outcome))
-  pub read_fault : result ≡ Err faults.Read → IsSilent p
-  pub memory : result ≡ Err faults.Memory → IsSilent p
-  pub write_fault : result ≡ Err faults.Write → (out : List ℕ) × Wrote p out × Read limits p (λ log. BeginsText limits log number uri out)
+  pub fault : OnErr result ((out : List ℕ) × IsOutput p out × OfInput limits p (λ log. BeginsAllExplained completeness limits log out))
 
 -- `event`: what is due for the event of the number, or after a fault what begins it
 pub record GaveEvent (limits : Bounds) (p : Ports) (number : ℕ) (result : Result EventOutcome RunFault) : Type 0 where
-  pub written : IfOk result (λ outcome. (out : List ℕ) × Wrote p out × Read limits p (λ log. IsEvent limits log number out outcome))
+  pub written : IfOk result (λ outcome. (out : List ℕ) × IsOutput p out × OfInput limits p (λ log. IsEvent limits log number out outcome))
   pub ended : result ≡ Ok events.FewerEvents → IsAtEnd p.source_after.bytes
-  pub fault : OnErr result ((out : List ℕ) × Wrote p out × Read limits p (λ log. BeginsEvent limits log number out))
+  pub fault : OnErr result ((out : List ℕ) × IsOutput p out × OfInput limits p (λ log. BeginsEvent limits log number out))
   pub read_fault : result ≡ Err faults.Read → IsSilent p
   pub memory : result ≡ Err faults.Memory → IsSilent p
 
 -- `normal`: the normal form of the log read, or after a fault what begins it
 pub record Normalized (limits : Bounds) (p : Ports) (result : Result Outcome RunFault) : Type 0 where
-  pub written : IfOk result (λ outcome. (out : List ℕ) × Wrote p out × Read limits p (λ log. EndsNormal limits log out outcome))
+  pub written : IfOk result (λ outcome. (out : List ℕ) × IsOutput p out × OfInput limits p (λ log. EndsNormal limits log out outcome))
   pub done : result ≡ Ok outcomes.Done → IsAtEnd p.source_after.bytes
-  pub fault : OnErr result ((out : List ℕ) × Wrote p out × Read limits p (λ log. BeginsNormal limits log out))
-
--- `upgrade`: the verdict on the log read, and what upgrade writes of it, or after a fault what begins it
-pub record Upgraded (limits : Bounds) (p : Ports) (result : Result Outcome RunFault) : Type 0 where
-  pub judged : IfOk result (λ outcome. (v : Verdict) × (outcome ≡ outcomes.Judged v))
-  pub written : (v : Verdict) → result ≡ Ok (outcomes.Judged v)
-      → (out : List ℕ) × Wrote p out × Read limits p (λ log. IsUpgraded limits log (verdict_view v) out)
-  pub ended : (s : Summary) → result ≡ Ok (outcomes.Judged (verdicts.Yes s)) → IsAtEnd p.source_after.bytes
-  pub fault : OnErr result ((out : List ℕ) × Wrote p out × Read limits p (λ log. BeginsUpgraded limits log out))
+  pub fault : OnErr result ((out : List ℕ) × IsOutput p out × OfInput limits p (λ log. BeginsNormal limits log out))
 
 -- `frames`: what is due in the mode for the stream read, or after a fault what begins it
 pub record Framed (limits : Bounds) (p : Ports) (mode : Mode) (result : Result Outcome RunFault) : Type 0 where
-  pub written : IfOk result (λ outcome. (out : List ℕ) × Wrote p out × Read limits p (λ stream. IsRun limits mode stream out outcome))
+  pub written : IfOk result (λ outcome. (out : List ℕ) × IsOutput p out × OfInput limits p (λ stream. IsRun limits mode stream out outcome))
   pub done : result ≡ Ok outcomes.Done → IsAtEnd p.source_after.bytes
-  pub fault : OnErr result ((out : List ℕ) × Wrote p out × Read limits p (λ stream. BeginsRun limits mode stream out))
+  pub fault : OnErr result ((out : List ℕ) × IsOutput p out × OfInput limits p (λ stream. BeginsRun limits mode stream out))
 
 -- the run over a log or a stream answers so, and the task as it does
 abbrev pub EndsRun : (Result Outcome RunFault → Type 0) → Result TaskOutcome RunFault → Type 0
@@ -148,10 +95,10 @@ Answers limits (Survey completeness listing) p result = EndsRun (Surveyed comple
 Answers limits (Explain completeness) p result = EndsRun (Explained completeness limits p) result
 Answers limits (ExplainAll completeness) p result = EndsRun (AllExplained completeness limits p) result
 Answers limits (Show lines) p result = EndsRun (Showed lines limits p) result
-Answers limits (Text number uri) p result = EndsRun (ToldText limits p (non_zero_u64_get number) uri.now) result
+Answers limits (Text number uri) p result = EndsRun (WritesText limits p (non_zero_u64_get number) uri.now) result
 Answers limits (Event number) p result = (ended : Result EventOutcome RunFault) × (result ≡ of_event ended) × GaveEvent limits p (non_zero_u64_get number) ended
 Answers limits Normal p result = EndsRun (Normalized limits p) result
-Answers limits Upgrade p result = EndsRun (Upgraded limits p) result
+Answers limits Upgrade p result = EndsRun (UpgradesLog limits p) result
 Answers limits (Frames mode) p result = EndsRun (Framed limits p mode) result
 
 -- what a task answered is the answer, or it ended well and what it wrote could not be handed on: a write fault

@@ -1,10 +1,18 @@
 //! What a run reads: a file or standard input.
+ghost use Rattle.std.specs.Prelude.{◌≡◌, ◌<◌, ◌≤◌, ◌↔◌, ◌+◌, ◌++◌, [], IfOk, OnOk, OnErr, IsSome};
+ghost use Rattle.std.specs.Prelude.{length, take, vec_len, vec_capacity};
+ghost use Rattle.std.specs.Io.{ReadsAtMost, appended_bytes};
+ghost use Rattle.std.specs.Io.KnownBytes.{Consumes, IsAtEnd};
+ghost use Rattle.lsp_frame.specs.Told.{CountsFailure, Gave, GaveOnto, KeepsBytes};
+ghost use Rattle.lsp_command.specs.Beginnings.{kept};
+ghost use Rattle.lsp_command.specs.Ports.{first_bytes, input_error};
+
 use crate::beginning::Beginning;
 use crate::tally::Tally;
 use lsp_frame::{Failed, Source};
 use std::alloc::{AllocError, Global};
 use std::io;
-use std::io::{BufReader, Read};
+use std::io::{BufRead, BufReader, Read};
 
 /// How many bytes are asked for at once.
 const GATHERED: usize = 65_536;
@@ -19,16 +27,13 @@ pub struct Inlet<R> {
 }
 
 impl<R: Read + Drop> Inlet<R> {
-    ghost use Rattle.std.specs.Prelude.{◌≡◌, ◌<◌, ◌↔◌, [], IfOk, IsSome};
-    ghost use Rattle.std.specs.Io.KnownBytes.{Consumes};
-    ghost use Rattle.lsp_command.specs.Beginnings.{kept};
-    ghost use Rattle.lsp_command.specs.Ports.{first_bytes, input_error};
-
     /// A source that has not failed and gave nothing yet.
     pub fn new(alloc: Global, reader: R) -> Result<Inlet<R>, AllocError>
-        ensures remaining { IfOk result (λ inlet. Consumes (R.remaining reader) (⟦<Inlet<R> as Source>⟧.told inlet).bytes []) }
+        ensures remaining { IfOk result (λ inlet.
+            Consumes (R.remaining reader) (⟦<Inlet<R> as Source>⟧.told inlet).bytes []) }
         ensures first { IfOk result (λ inlet. first_bytes inlet ≡ []) }
-        ensures failures { IfOk result (λ inlet. (⟦<Inlet<R> as Source>⟧.told inlet).failures ≡ 0) }
+        ensures failures { IfOk result (λ inlet.
+            (⟦<Inlet<R> as Source>⟧.told inlet).failures ≡ 0) }
     {
         Ok(Inlet {
             reader: BufReader::with_capacity(alloc, GATHERED, reader).map_err(|_| AllocError)?,
@@ -54,28 +59,29 @@ impl<R: Read + Drop> Inlet<R> {
 }
 
 impl<R: Read> Source for Inlet<R> {
-    ghost use Rattle.std.specs.Prelude.{◌≡◌, ◌<◌, ◌++◌, IfOk, OnErr, length, take};
-    ghost use Rattle.std.specs.Io.{ReadsAtMost};
-    ghost use Rattle.std.specs.Io.KnownBytes.{IsAtEnd};
-    ghost use Rattle.lsp_frame.specs.Told.{CountsFailure, Gave, KeepsBytes};
-    ghost use Rattle.lsp_command.specs.Ports.{first_bytes};
-
     ghost told = { λ s. record {
       bytes = ⟦<BufReader<R> as Read>⟧.remaining s.reader;
       count = s.tally.bytes;
       failures = s.tally.failures;
     } };
 
-    /// Fills the front of the buffer as the trait says. It fails where the reader does, which is asked
-    /// only where nothing is left of what was read ahead.
+    /// Fills the front of the buffer as the trait says. It fails where the reader does, which is
+    /// asked only if nothing is left of what was read ahead.
     fn pull(&mut self, buffer: &mut [u8]) -> Result<usize, Failed>
         ensures count { ReadsAtMost result buffer.new }
-        ensures gave { IfOk result (λ n. Gave (⟦<Inlet<R> as Source>⟧.told self.old) (⟦<Inlet<R> as Source>⟧.told self.new) (take n buffer.new)) }
-        ensures end { IfOk result (λ n. n ≡ 0 → 0 < length buffer.new → IsAtEnd (⟦<Inlet<R> as Source>⟧.told self.new).bytes) }
-        ensures err { OnErr result (KeepsBytes (⟦<Inlet<R> as Source>⟧.told self.old) (⟦<Inlet<R> as Source>⟧.told self.new)) }
-        ensures failures { CountsFailure (⟦<Inlet<R> as Source>⟧.told self.old).failures (⟦<Inlet<R> as Source>⟧.told self.new).failures result }
+        ensures gave { IfOk result (λ n.
+            Gave (⟦<Inlet<R> as Source>⟧.told self.old) (⟦<Inlet<R> as Source>⟧.told self.new)
+            (take n buffer.new)) }
+        ensures end { IfOk result (λ n.
+            n ≡ 0 → 0 < length buffer.new → IsAtEnd (⟦<Inlet<R> as Source>⟧.told self.new).bytes) }
+        ensures err { OnErr result
+            (KeepsBytes (⟦<Inlet<R> as Source>⟧.told self.old)
+            (⟦<Inlet<R> as Source>⟧.told self.new)) }
+        ensures failures { CountsFailure (⟦<Inlet<R> as Source>⟧.told self.old).failures
+            (⟦<Inlet<R> as Source>⟧.told self.new).failures result }
         // The first bytes are kept.
-        ensures first { IfOk result (λ n. first_bytes self.new ≡ take 32 (first_bytes self.old ++ take n buffer.new)) }
+        ensures first { IfOk result (λ n.
+            first_bytes self.new ≡ take 32 (first_bytes self.old ++ take n buffer.new)) }
         ensures same_first { OnErr result (first_bytes self.new ≡ first_bytes self.old) }
     {
         let answer = self.reader.read(buffer);
@@ -83,4 +89,66 @@ impl<R: Read> Source for Inlet<R> {
         self.beginning.keep(&buffer[..count]);
         Ok(count)
     }
+
+    /// Appends bytes to the buffer as the trait says: those that were read ahead, straight from
+    /// there, or if there are none, at most [`GATHERED`] from the reader.
+    fn pull_onto(&mut self, buffer: &mut Vec<u8>, most: usize) -> Result<usize, Failed>
+        requires room { vec_len buffer.old + most ≤ vec_capacity buffer.old }
+        ensures room { vec_capacity buffer.old ≤ vec_capacity buffer.new }
+        ensures gave { IfOk result (λ n.
+            GaveOnto (⟦<Inlet<R> as Source>⟧.told self.old) (⟦<Inlet<R> as Source>⟧.told self.new)
+            buffer.old.items buffer.new.items most n) }
+        ensures end { IfOk result (λ n.
+            n ≡ 0 → 0 < most → IsAtEnd (⟦<Inlet<R> as Source>⟧.told self.new).bytes) }
+        ensures same { OnErr result (buffer.new.items ≡ buffer.old.items) }
+        ensures err { OnErr result
+            (KeepsBytes (⟦<Inlet<R> as Source>⟧.told self.old)
+            (⟦<Inlet<R> as Source>⟧.told self.new)) }
+        ensures failures { CountsFailure (⟦<Inlet<R> as Source>⟧.told self.old).failures
+            (⟦<Inlet<R> as Source>⟧.told self.new).failures result }
+        // The first bytes are kept.
+        ensures first { OnOk result (first_bytes self.new
+            ≡ take 32 (first_bytes self.old ++ appended_bytes buffer.old.items buffer.new.items)) }
+        ensures same_first { OnErr result (first_bytes self.new ≡ first_bytes self.old) }
+    {
+        let count = self.reader.buffer().len().min(most);
+        if count == 0 {
+            return pull_fresh(self, buffer, most);
+        }
+        let ahead = &self.reader.buffer()[..count];
+        buffer.extend_from_slice(ahead).unwrap();
+        self.beginning.keep(ahead);
+        self.reader.consume(count);
+        self.tally.count(Ok(count))
+    }
+}
+
+/// Appends what one call of the input gives, at most so many bytes and [`GATHERED`].
+fn pull_fresh<R: Read>(
+    inlet: &mut Inlet<R>,
+    buffer: &mut Vec<u8>,
+    most: usize,
+) -> Result<usize, Failed>
+    requires room { vec_len buffer.old + most ≤ vec_capacity buffer.old }
+    ensures room { vec_capacity buffer.old ≤ vec_capacity buffer.new }
+    ensures gave { IfOk result (λ n.
+        GaveOnto (⟦<Inlet<R> as Source>⟧.told inlet.old) (⟦<Inlet<R> as Source>⟧.told inlet.new)
+        buffer.old.items buffer.new.items most n) }
+    ensures end { IfOk result (λ n.
+        n ≡ 0 → 0 < most → IsAtEnd (⟦<Inlet<R> as Source>⟧.told inlet.new).bytes) }
+    ensures same { OnErr result (buffer.new.items ≡ buffer.old.items) }
+    ensures err { OnErr result
+        (KeepsBytes (⟦<Inlet<R> as Source>⟧.told inlet.old)
+        (⟦<Inlet<R> as Source>⟧.told inlet.new)) }
+    ensures failures { CountsFailure (⟦<Inlet<R> as Source>⟧.told inlet.old).failures
+        (⟦<Inlet<R> as Source>⟧.told inlet.new).failures result }
+    ensures first { OnOk result (first_bytes inlet.new
+        ≡ take 32 (first_bytes inlet.old ++ appended_bytes buffer.old.items buffer.new.items)) }
+    ensures same_first { OnErr result (first_bytes inlet.new ≡ first_bytes inlet.old) }
+{
+    let start = buffer.len();
+    buffer.resize(start + most.min(GATHERED), 0).unwrap();
+    let answer = inlet.pull(&mut buffer[start..]);
+    buffer.truncate(start + answer.unwrap_or(0));
+    answer
 }

@@ -17,13 +17,12 @@ use Rattle.lsp_docs.specs.Documents.{Version, versioned, is_after, text_or, held
 use Rattle.lsp_docs.specs.Kept.{past, kept}
 use Rattle.lsp_docs.specs.Snapshots.{is_ahead, waits, shown_entry, waiting_in, waiting, versions_of}
 use Rattle.lsp_docs.specs.Rules.{differs, version_rule, show_rule, call_rule, AreAcceptedFrom, AreAccepted}
-use Rattle.lsp_docs.proofs.Words.{unchanged, uri_is, uri_same}
+use Rattle.lsp_docs.proofs.Words.{no_some, unchanged, uri_is, uri_same}
 use Rattle.lsp_docs.proofs.HeldSteps.{next_held, held-snoc}
 use Rattle.lsp_docs.proofs.WaitingSteps.{none_row, change_parts, versions_of-append}
 use Rattle.lsp_docs.proofs.Accepted.{accepted-split, risen}
 use Rattle.lsp_docs.proofs.Rising.{Among, among-none, among-below, among-last}
 use Rattle.lsp_docs.proofs.Past.{past-rises-to, was-held}
-use Rattle.lsp_order.proofs.SlotLemmas.{no_some}
 
 -- where the held version is the snapshot's, the texts agree
 abbrev pub Agrees : Terms → Bytes → ℤ → Text → List Call → Type 0

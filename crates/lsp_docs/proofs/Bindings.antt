@@ -13,11 +13,10 @@ use Rattle.lsp_docs.specs.Calls.{Bytes, Call, opens, changes, closes, saves, sho
 use Rattle.lsp_docs.specs.Documents.{Version, opening, held_since, held}
 use Rattle.lsp_docs.specs.Rules.{call_rule, AreAcceptedFrom, AreAccepted}
 use Rattle.lsp_docs.specs.Binding.{standing, next_opening, binding}
-use Rattle.lsp_docs.proofs.Words.{uri_is}
+use Rattle.lsp_docs.proofs.Words.{no_some, uri_is}
 use Rattle.lsp_docs.proofs.HeldSteps.{next_held, held-snoc}
 use Rattle.lsp_docs.proofs.Accepted.{accepted-split}
 use Rattle.lsp_docs.proofs.Agreeing.{agrees-behind, agrees-before}
-use Rattle.lsp_order.proofs.SlotLemmas.{no_some}
 
 -- ---- two ways to cut a list
 

@@ -17,7 +17,7 @@ use Rattle.lsp_docs.specs.Snapshots.{texts_at}
 use Rattle.lsp_docs.specs.State.{SameOrder, SameVersions, capped}
 use Rattle.lsp_docs.specs.Stored.{versions_in, is_first_within, rest_of, first_before}
 use Rattle.std.proofs.lemmas.Bool.Decides.{nat_tests}
-use Rattle.std.specs.Prelude.{nat_lt}
+use Rattle.std.specs.Prelude.{nat_lt, unwrap_or}
 use Rattle.std.proofs.lemmas.Bool.Decides.{Decides-int_eq}
 use Rattle.std.proofs.lemmas.Bool.{cases_Bool, not-true, not-false}
 use Rattle.std.proofs.lemmas.List.Elements.{filter-append}
@@ -182,6 +182,13 @@ texts-there n (y ∷ es) ts s h =
 
 pub texts-absent : (n : ℤ) (es : Entries) → IsStrictlySortedBy int_cmp (keys_of es) → lookup (int_eq n) es ≡ None → texts_at n (versions_in es) ≡ []
 texts-absent n es s h = none-at n (versions_in es) (sym (due-absent n es s h))
+
+-- what is found of its number, or nothing
+pub texts-found : (n : ℤ) (es : Entries) (o : Option (List Text))
+    → IsStrictlySortedBy int_cmp (keys_of es) → lookup (int_eq n) es ≡ o
+    → unwrap_or o [] ≡ texts_at n (versions_in es)
+texts-found n es None sorted at = sym (texts-absent n es sorted at)
+texts-found n es (Some ts) sorted at = sym (texts-there n es ts sorted at)
 
 -- ---- what goes
 

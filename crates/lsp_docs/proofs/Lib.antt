@@ -1,4 +1,5 @@
 pub mod Words
+pub mod Mixed
 pub mod SameVersions
 pub mod Queues
 pub mod Due

@@ -16,12 +16,11 @@ use Rattle.lsp_docs.specs.Kept.{past_entry, past_in, past, last_of, kept}
 use Rattle.lsp_docs.specs.Snapshots.{is_ahead, holds_number, has_number, comes_to, is_compared}
 use Rattle.lsp_docs.specs.Rules.{show_rule, call_rule, AreAcceptedFrom, AreAccepted}
 use Rattle.lsp_docs.specs.Laws.{rises, held_rule}
-use Rattle.lsp_docs.proofs.Words.{int_is, unchanged, uri_is, equal_behind, less_behind}
+use Rattle.lsp_docs.proofs.Words.{no_some, int_is, unchanged, uri_is, equal_behind, less_behind}
 use Rattle.lsp_docs.proofs.HeldSteps.{next_held, held-snoc}
 use Rattle.lsp_docs.proofs.WaitingSteps.{none_row, change_parts}
 use Rattle.lsp_docs.proofs.Accepted.{next}
 use Rattle.lsp_docs.proofs.Rising.{Among, among-front, among-back, among-split, among-drop, among-below, any-among, rises-snoc, last-none, last-empty, last-rises}
-use Rattle.lsp_order.proofs.SlotLemmas.{no_some}
 
 -- ---- one more call
 

@@ -19,7 +19,7 @@ use Rattle.lsp_docs.specs.Kept.{past, kept}
 use Rattle.lsp_docs.specs.Snapshots.{holds_number, has_number, sets, comes_to, is_compared}
 use Rattle.lsp_docs.specs.Rules.{show_rule, call_rule, AreAcceptedFrom, AreAccepted}
 use Rattle.lsp_docs.specs.Binding.{standing, next_opening, binding, IsSet}
-use Rattle.lsp_docs.proofs.Words.{int_is, unchanged, uri_is}
+use Rattle.lsp_docs.proofs.Words.{no_some, int_is, unchanged, uri_is}
 use Rattle.lsp_docs.proofs.HeldSteps.{next_held, held-snoc}
 use Rattle.lsp_docs.proofs.WaitingSteps.{none_row, change_parts}
 use Rattle.lsp_docs.proofs.Accepted.{accepted-split, risen}
@@ -28,7 +28,6 @@ use Rattle.lsp_docs.proofs.Past.{WasHeld, past-held, past-rises-to, was-held}
 use Rattle.lsp_docs.proofs.Agreeing.{shown-late}
 use Rattle.lsp_docs.proofs.Unmatched.{set_opens}
 use Rattle.lsp_docs.proofs.Bindings.{mapped, Cuts, earlier, later, cuts, held-standing, any_behind, behind, ahead}
-use Rattle.lsp_order.proofs.SlotLemmas.{no_some}
 
 -- ---- the opening that stands after more calls
 

@@ -15,12 +15,11 @@ use Rattle.lsp_docs.specs.Snapshots.{Shown, shown_entry, waiting, versions_of}
 use Rattle.lsp_docs.specs.Rules.{call_rule, AreAcceptedFrom, AreAccepted}
 use Rattle.lsp_docs.specs.Missed.{ends_waiting, missed_at, missed}
 use Rattle.lsp_docs.specs.State.{Queue, Waits, held_in, queue_of, keep_in, total, capped, reached, missed_one, SameOrder, SameVersions, IsAdded, IsReleased, AreWaits}
-use Rattle.lsp_docs.proofs.Words.{filter-none, filter-all, capped-add, uri_is, uri_same, uri_flip, and_first}
+use Rattle.lsp_docs.proofs.Words.{no_some, filter-none, filter-all, capped-add, uri_is, uri_same, uri_flip, and_first}
 use Rattle.lsp_docs.proofs.DocumentSteps.{after_call, stays, documents-push, held-documents, IsDistinct, all_stay}
 use Rattle.lsp_docs.proofs.WaitingSteps.{still, waiting-push, missed-push, missed-quiet, versions-kept, count-kept, count-ended, versions_of-append, none_row}
 use Rattle.lsp_docs.proofs.QueueSteps.{queue-kept, queue-others, total-kept}
 use Rattle.lsp_docs.proofs.SameVersions.{order-of, order-then, order-behind, order-filtered, same-of, same-then, same-length, same-behind, same-filtered}
-use Rattle.lsp_order.proofs.SlotLemmas.{no_some}
 
 -- ---- accepted calls
 

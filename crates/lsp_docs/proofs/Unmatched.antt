@@ -16,13 +16,12 @@ use Rattle.lsp_docs.specs.Kept.{kept}
 use Rattle.lsp_docs.specs.Snapshots.{Shown, is_ahead, shown_entry, waiting_in, waiting, has_number, sets, comes_to, is_compared, unmatched_entry, unmatched_in, unmatched}
 use Rattle.lsp_docs.specs.Rules.{call_rule, AreAcceptedFrom, AreAccepted}
 use Rattle.lsp_docs.specs.Missed.{ends_waiting, missed_at, missed}
-use Rattle.lsp_docs.proofs.Words.{int_is, uri_is, uri_flip, equal_behind}
+use Rattle.lsp_docs.proofs.Words.{no_some, int_is, uri_is, uri_flip, equal_behind}
 use Rattle.lsp_docs.proofs.HeldSteps.{next_held, held-snoc}
 use Rattle.lsp_docs.proofs.WaitingSteps.{still, still_at, ahead-step, none_row, change_parts, waiting-push, missed-push}
 use Rattle.lsp_docs.proofs.Standing.{accepted-push}
 use Rattle.lsp_docs.proofs.Past.{reached-number}
 use Rattle.lsp_docs.proofs.Stepping.{held-shown}
-use Rattle.lsp_order.proofs.SlotLemmas.{no_some}
 
 -- the call brings the snapshot's URI to its version
 abbrev meets : Call → Shown → Bool

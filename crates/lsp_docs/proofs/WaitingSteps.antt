@@ -20,9 +20,8 @@ use Rattle.lsp_docs.specs.Documents.{Version, versioned, revised, held}
 use Rattle.lsp_docs.specs.Snapshots.{Shown, is_ahead, waits, shown_entry, waiting_in, waiting, is_of, versions_of}
 use Rattle.lsp_docs.specs.Rules.{fits_kind, version_rule, text_rule, change_rule, call_rule}
 use Rattle.lsp_docs.specs.Missed.{ends_waiting, missed_at, missed_from, missed}
-use Rattle.lsp_docs.proofs.Words.{uri_is, uri_flip, lt_trans}
+use Rattle.lsp_docs.proofs.Words.{no_some, uri_is, uri_flip, lt_trans}
 use Rattle.lsp_docs.proofs.HeldSteps.{next_held, held-snoc}
-use Rattle.lsp_order.proofs.SlotLemmas.{no_some}
 
 -- a snapshot of the URI and version waits on after the call
 abbrev pub still_at : Call → Bytes → ℤ → Bool

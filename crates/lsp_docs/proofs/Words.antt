@@ -1,5 +1,5 @@
 -- Small lemmas on Booleans, lists and counts.
-use Rattle.std.proofs.Common.{◌≡◌, Option, Some, None, ℕ, List, [], ◌∷◌, map, inl, inr, Bool, true, false, ◌||◌, refl, sym, ap, ◌∙◌, filter, arith, ◌+◌, ◌&&◌}
+use Rattle.std.proofs.Common.{◌≡◌, Option, Some, None, is_some, true≢false, ℕ, List, [], ◌∷◌, map, inl, inr, Bool, true, false, ◌||◌, refl, sym, ap, ◌∙◌, filter, arith, ◌+◌, ◌&&◌}
 use Rattle.std.proofs.lemmas.Int.{ints}
 use Rattle.std.specs.Prelude.{ℤ, int_lt, min, ◌-◌, ◌^◌, option_map}
 use Rattle.std.specs.List.{list_any}
@@ -10,14 +10,6 @@ use Rattle.std.proofs.lemmas.Bool.Decides.{Decides-int_eq}
 use Rattle.std.proofs.lemmas.Slice.Eq.{bytes_eq-Decides}
 use Rattle.std.proofs.lemmas.Bool.{cases_Bool}
 use Rattle.lsp_docs.specs.State.{capped}
-
-pub filter-map : {A B : Type 0} (f : A → B) (p : B → Bool) (xs : List A) → map f (filter (λ x. p (f x)) xs) ≡ filter p (map f xs)
-filter-map f p [] = refl
-filter-map f p (x ∷ xs) =
-    elim (cases_Bool (p (f x))) [
-      | inl h ↦ rw h (ap (λ l. f x ∷ l) (filter-map f p xs))
-      | inr h ↦ rw h (filter-map f p xs)
-    ]
 
 pub filter-none : {A : Type 0} (xs : List A) → filter (λ _. false) xs ≡ []
 filter-none [] = refl
@@ -77,3 +69,7 @@ int_is m n h = (Decides-int_eq m n).0 h
 pub unchanged : {A : Type 0} (o : Option A) → option_or (option_map (λ v. v) o) None ≡ o
 unchanged None = refl
 unchanged (Some v) = refl
+
+pub no_some : {A : Type 0} (o : Option A) → is_some o ≡ false → o ≡ None
+no_some None h = refl
+no_some (Some x) h = absurd (true≢false h)

@@ -1,7 +1,8 @@
 -- Snapshots, apart from where their texts lie in memory.
 use Rattle.std.specs.Prelude.{ℕ, ℤ, ◌+◌, int_lt, not, Bool, false, if◌then◌else◌, List, [], ◌∷◌, ◌++◌, map, length, string_bytes, String}
 use Rattle.std.specs.Global.{Global}
-use Rattle.std.specs.Str.{chars}
+use Rattle.std.specs.List.{list_any}
+use Rattle.std.specs.Str.{bytes_eq, chars}
 use Rattle.lsp_docs.specs.Texts.{Text}
 use Rattle.lsp_docs.specs.Documents.{Version, versioned}
 use Rattle.lsp_docs.specs.State.{Queue}
@@ -11,6 +12,11 @@ text_of s = chars (string_bytes s)
 
 abbrev pub texts_of : List (String Global) → List Text
 texts_of ss = map text_of ss
+
+-- one of the texts is another than the first
+abbrev pub are_mixed : List Text → Bool
+are_mixed [] = false
+are_mixed (first ∷ texts) = list_any (λ text. not (bytes_eq text first)) texts
 
 -- the snapshots of a queue, which are kept as the texts of each version, the least first
 abbrev pub versions_in : List (ℤ × List Text) → List Version

@@ -1,6 +1,8 @@
 //! The open documents of a session.
 
-ghost use Rattle.std.specs.Prelude.{◌≡◌, [], ◌++◌, ◌∷◌, List, None, Some, Ok, Err, true, false, length, not, map, slice_get, is_some, nat_lt, IfErr, IfOk, OnOk, OnErr, option_map};
+ghost use Rattle.std.specs.Prelude.{◌≡◌, [], ◌++◌, ◌∷◌, List, None, Some, Ok, Err, true, false};
+ghost use Rattle.std.specs.Prelude.{length, not, map, slice_get, is_some, nat_lt, IfErr, IfOk};
+ghost use Rattle.std.specs.Prelude.{OnOk, OnErr, option_map};
 ghost use Rattle.std.specs.List.{list_any};
 ghost use Rattle.std.specs.Str.{chars};
 ghost use Rattle.lsp_docs.specs.Texts.{byte_len};
@@ -13,7 +15,8 @@ ghost use Rattle.lsp_docs.specs.Snapshots.{texts_at, waiting, unmatched, version
 ghost use Rattle.lsp_docs.specs.Others.{other_than};
 ghost use Rattle.lsp_docs.specs.Rules.{differs, show_rule, text_rule, call_rule};
 ghost use Rattle.lsp_docs.specs.Stored.{texts_of};
-ghost use Rattle.lsp_docs.specs.State.{capped, held_in, kept_in, queue_of, set_in, changed_at, early_rule, IsChanged, with_held, rule_at, Stands};
+ghost use Rattle.lsp_docs.specs.State.{capped, held_in, kept_in, queue_of, set_in, changed_at};
+ghost use Rattle.lsp_docs.specs.State.{early_rule, IsChanged, with_held, rule_at, Stands};
 ghost use Rattle.lsp_docs.specs.Fault.{Names, IsRule, Breaks};
 ghost use Rattle.lsp_text.specs.Changes.{edits_of, edit_of};
 ghost use Rattle.lsp_docs.specs.Answer.{answer_of};
@@ -26,7 +29,7 @@ use crate::fault::{
 use crate::kind::fits_kind;
 use crate::opened::OpenDocuments;
 use crate::revision::has_text;
-use crate::snapshot::{Match, any_differs, any_is_not};
+use crate::snapshot::Match;
 use crate::waiting::Waiting;
 use lsp_frame::{Format, Limits};
 use lsp_text::{TextStore, change_all};
@@ -36,8 +39,9 @@ use std::marker::Model;
 
 /// The open documents in order of opening, and the snapshots that wait for their versions.
 ///
-/// It stands for the list of the calls that it accepted (LSP 3.17, "Text Document Synchronization"). URIs compare byte for
-/// byte. A refused call, also one refused for want of memory, changes nothing.
+/// It stands for the list of the calls that it accepted (LSP 3.17, "Text Document
+/// Synchronization"). URIs compare byte for byte. A refused call, also one refused for want of
+/// memory, changes nothing.
 #[derive(Drop)]
 pub struct Docs<S: TextStore> {
     limit: u64,
@@ -85,7 +89,8 @@ impl<S: TextStore> Docs<S> {
 
     /// How many documents are open.
     pub fn len(&self) -> usize
-        ensures { (calls : List Call) → Stands self.now calls → result ≡ length (documents self.now.terms calls) }
+        ensures { (calls : List Call) → Stands self.now calls
+            → result ≡ length (documents self.now.terms calls) }
     {
         self.documents.len()
     }
@@ -93,7 +98,8 @@ impl<S: TextStore> Docs<S> {
     /// The URI of the document at this place in order of opening, from 0.
     pub fn at(&self, index: usize) -> Option<&str>
         ensures { (calls : List Call) → Stands self.now calls
-            → option_map (λ uri. uri.now) result ≡ slice_get (map (λ h. h.uri) (documents self.now.terms calls)) index }
+            → option_map (λ uri. uri.now) result
+            ≡ slice_get (map (λ h. h.uri) (documents self.now.terms calls)) index }
     {
         self.documents.at(index)
     }
@@ -120,7 +126,8 @@ impl<S: TextStore> Docs<S> {
     /// The text that the server holds of a URI, if it is open.
     pub fn store_of(&self, uri: &str) -> Option<&S>
         ensures { (calls : List Call) → Stands self.now calls
-            → option_map (λ store. S.content store.now) result ≡ option_map (λ v. v.text) (held self.now.terms uri.now calls) }
+            → option_map (λ store. S.content store.now) result
+            ≡ option_map (λ v. v.text) (held self.now.terms uri.now calls) }
     {
         match self.get(uri) {
             Some(document) => Some(&document.held.store),
@@ -135,8 +142,8 @@ impl<S: TextStore> Docs<S> {
         self.limit
     }
 
-    /// The numbers of the versions that are kept of a URI before the held one, the oldest first; none where it is not
-    /// open.
+    /// The numbers of the versions that are kept of a URI before the held one, the oldest first;
+    /// none where it is not open.
     pub fn kept_versions(&self, uri: &str) -> Result<Vec<i32>, Memory>
         ensures { IfOk result (λ numbers. (calls : List Call) → Stands self.now calls
             → numbers.items ≡ map (λ v. v.number) (kept self.now.terms uri.now calls)) }
@@ -148,11 +155,13 @@ impl<S: TextStore> Docs<S> {
         }
     }
 
-    /// The text that the server holds of a URI at this version, or that is kept of it, where it is another than this
-    /// one: what refuses a snapshot by 702.
+    /// The text that the server holds of a URI at this version, or that is kept of it, where it is
+    /// another than this one: what refuses a snapshot by 702.
     pub fn other_of(&self, uri: &str, version: i32, text: &str) -> Option<&S>
-        ensures { (calls : List Call) → Stands self.now calls → option_map (λ store. S.content store.now) result
-            ≡ other_than (versioned version (chars text.now)) (kept self.now.terms uri.now calls) (held self.now.terms uri.now calls) }
+        ensures { (calls : List Call) → Stands self.now calls
+            → option_map (λ store. S.content store.now) result
+            ≡ other_than (versioned version (chars text.now)) (kept self.now.terms uri.now calls)
+            (held self.now.terms uri.now calls) }
     {
         match self.get(uri) {
             Some(document) => document.other(version, text),
@@ -160,34 +169,40 @@ impl<S: TextStore> Docs<S> {
         }
     }
 
-    /// The texts of the snapshots that wait for this version of a URI, in the order in which they came: one that is
-    /// another text refuses an opening or a change by 702.
+    /// The texts of the snapshots that wait for this version of a URI, in the order in which they
+    /// came: one that is another text refuses an opening or a change by 702.
     pub fn waiting_texts(&self, uri: &str, version: i32) -> &[String]
         ensures { (calls : List Call) → Stands self.now calls
-            → texts_of result.now ≡ texts_at version (versions_of uri.now (waiting self.now.terms calls)) }
+            → texts_of result.now ≡ texts_at version
+            (versions_of uri.now (waiting self.now.terms calls)) }
     {
-        self.waiting.texts(uri, version)
+        match self.waiting.texts(uri, version) {
+            Some(texts) => texts.as_slice(),
+            None => &[],
+        }
     }
 
     /// How many snapshots may still be compared, at most 2^64 - 1.
     pub fn waiting(&self) -> u64
-        ensures { (calls : List Call) → Stands self.now calls → result ≡ capped (length (waiting self.now.terms calls)) }
+        ensures { (calls : List Call) → Stands self.now calls
+            → result ≡ capped (length (waiting self.now.terms calls)) }
     {
         self.waiting.len()
     }
 
     /// How many snapshots were never compared so far, those that wait included, at most 2^64 - 1.
     pub fn unmatched(&self) -> u64
-        ensures { (calls : List Call) → Stands self.now calls → result ≡ capped (unmatched self.now.terms calls) }
+        ensures { (calls : List Call) → Stands self.now calls
+            → result ≡ capped (unmatched self.now.terms calls) }
     {
         self.waiting.unmatched()
     }
 
     /// Opens a document (LSP 3.17, "DidOpenTextDocument Notification").
     ///
-    /// Refused by 601 where the URI is open, 607 where the text has more bytes of UTF-8 than the limit, 702 where a snapshot
-    /// that waits for this version has another text; by the least of them. Memory is asked for only where none of them
-    /// applies.
+    /// Refused by 601 where the URI is open, 607 where the text has more bytes of UTF-8 than the
+    /// limit, 702 where a snapshot that waits for this version has another text; by the least of
+    /// them. Memory is asked for only where none of them applies.
     pub fn did_open(&mut self, uri: &str, version: i32, text: &str) -> Result<(), DocFault>
         ensures stands { OnOk result ((calls : List Call) → Stands self.old calls
             → Stands self.new (calls ++ opens uri.now version (chars text.now) ∷ [])) }
@@ -195,7 +210,8 @@ impl<S: TextStore> Docs<S> {
             → call_rule self.old.terms calls (opens uri.now version (chars text.now)) ≡ None) }
         ensures terms { self.new.terms ≡ self.old.terms }
         ensures rule { IfErr result (λ fault. (calls : List Call) → Stands self.old calls
-            → Names (call_rule self.old.terms calls (opens uri.now version (chars text.now))) fault) }
+            → Names (call_rule self.old.terms calls
+            (opens uri.now version (chars text.now))) fault) }
         ensures memory { result ≡ Err DocFault.Memory → ((calls : List Call) → Stands self.old calls
             → call_rule self.old.terms calls (opens uri.now version (chars text.now)) ≡ None) }
         ensures err { OnErr result (self.new ≡ self.old) }
@@ -209,13 +225,15 @@ impl<S: TextStore> Docs<S> {
         Ok(())
     }
 
-    /// Makes the changes in order, each in the text that the one before left (LSP 3.17, "DidChangeTextDocument
-    /// Notification"). Columns count units of the encoding. The version is that of the text after all of them.
+    /// Makes the changes in order, each in the text that the one before left (LSP 3.17,
+    /// "DidChangeTextDocument Notification"). Columns count units of the encoding. The version is
+    /// that of the text after all of them.
     ///
-    /// Refused by 602 where the URI is not open, 603 where the version is not greater than the held one, 604 where the kind
-    /// allows no changes, or none with a span and one has it; then by the first change that fails: 605 a position inside a
-    /// character, 606 a reversed span, 607 a text over the limit; then by 702 where a snapshot that waits for this version
-    /// has another text. Memory is asked for only where 602 to 604 don't apply.
+    /// Refused by 602 where the URI is not open, 603 where the version is not greater than the held
+    /// one, 604 where the kind allows no changes, or none with a span and one has it; then by the
+    /// first change that fails: 605 a position inside a character, 606 a reversed span, 607 a text
+    /// over the limit; then by 702 where a snapshot that waits for this version has another text.
+    /// Memory is asked for only where 602 to 604 don't apply.
     pub fn did_change(
         &mut self,
         encoding: Encoding,
@@ -225,14 +243,18 @@ impl<S: TextStore> Docs<S> {
         changes: &[Change],
     ) -> Result<(), DocFault>
         ensures stands { OnOk result ((calls : List Call) → Stands self.old calls
-            → Stands self.new (calls ++ changes_by encoding kind uri.now version (edits_of changes.now) ∷ [])) }
+            → Stands self.new (calls
+            ++ changes_by encoding kind uri.now version (edits_of changes.now) ∷ [])) }
         ensures accepted { OnOk result ((calls : List Call) → Stands self.old calls
-            → call_rule self.old.terms calls (changes_by encoding kind uri.now version (edits_of changes.now)) ≡ None) }
+            → call_rule self.old.terms calls
+            (changes_by encoding kind uri.now version (edits_of changes.now)) ≡ None) }
         ensures terms { self.new.terms ≡ self.old.terms }
         ensures rule { IfErr result (λ fault. (calls : List Call) → Stands self.old calls
-            → Names (call_rule self.old.terms calls (changes_by encoding kind uri.now version (edits_of changes.now))) fault) }
+            → Names (call_rule self.old.terms calls
+            (changes_by encoding kind uri.now version (edits_of changes.now))) fault) }
         ensures memory { result ≡ Err DocFault.Memory → ((calls : List Call) → Stands self.old calls
-            → early_rule kind version (edits_of changes.now) (held self.old.terms uri.now calls) ≡ None) }
+            → early_rule kind version (edits_of changes.now) (held self.old.terms uri.now calls)
+            ≡ None) }
         ensures err { OnErr result (self.new ≡ self.old) }
     {
         if let Some(rule) = self.change_rule(kind, uri, version, changes) {
@@ -243,7 +265,8 @@ impl<S: TextStore> Docs<S> {
         Ok(())
     }
 
-    /// Closes a document, and ends the waiting of its snapshots (LSP 3.17, "DidCloseTextDocument Notification").
+    /// Closes a document, and ends the waiting of its snapshots (LSP 3.17, "DidCloseTextDocument
+    /// Notification").
     ///
     /// Refused by 602 where the URI is not open.
     pub fn did_close(&mut self, uri: &str) -> Result<(), DocFault>
@@ -266,14 +289,18 @@ impl<S: TextStore> Docs<S> {
 
     /// Judges a saved text against the held one (LSP 3.17, "DidSaveTextDocument Notification").
     ///
-    /// Refused by 608 where the document is open, a text is given and it is another than the held one.
+    /// Refused by 608 where the document is open, a text is given and it is another than the held
+    /// one.
     pub fn did_save(&self, uri: &str, text: Option<&str>) -> Result<(), DocFault>
         ensures stands { OnOk result ((calls : List Call) → Stands self.now calls
-            → Stands self.now (calls ++ saves uri.now (option_map (λ t. chars t.now) text.entry) ∷ [])) }
+            → Stands self.now (calls
+            ++ saves uri.now (option_map (λ t. chars t.now) text.entry) ∷ [])) }
         ensures accepted { OnOk result ((calls : List Call) → Stands self.now calls
-            → call_rule self.now.terms calls (saves uri.now (option_map (λ t. chars t.now) text.entry)) ≡ None) }
+            → call_rule self.now.terms calls
+            (saves uri.now (option_map (λ t. chars t.now) text.entry)) ≡ None) }
         ensures rule { IfErr result (λ fault. (calls : List Call) → Stands self.now calls
-            → Names (call_rule self.now.terms calls (saves uri.now (option_map (λ t. chars t.now) text.entry))) fault) }
+            → Names (call_rule self.now.terms calls
+            (saves uri.now (option_map (λ t. chars t.now) text.entry))) fault) }
         ensures rule_only { IfErr result IsRule }
     {
         let Some(text) = text else {
@@ -289,25 +316,30 @@ impl<S: TextStore> Docs<S> {
         }
     }
 
-    /// Takes a snapshot: it is compared at once where its version is held or kept, and waits for a version that is still
-    /// to come. One whose version lies between kept ones is missed.
+    /// Takes a snapshot: it is compared at once where its version is held or kept, and waits for a
+    /// version that is still to come. One whose version lies between kept ones is missed.
     ///
-    /// Refused by 701 where its version is below the held one and each kept one, and by 702 where its version is held or
-    /// kept with another text. Memory is asked for only where it has to wait.
+    /// Refused by 701 where its version is below the held one and each kept one, and by 702 where
+    /// its version is held or kept with another text. Memory is asked for only where it has to
+    /// wait.
     pub fn snapshot(&mut self, uri: &str, version: i32, text: &str) -> Result<Match, DocFault>
         ensures stands { OnOk result ((calls : List Call) → Stands self.old calls
             → Stands self.new (calls ++ shows uri.now version (chars text.now) ∷ [])) }
         ensures accepted { OnOk result ((calls : List Call) → Stands self.old calls
             → call_rule self.old.terms calls (shows uri.now version (chars text.now)) ≡ None) }
         ensures answer { IfOk result (λ answer. (calls : List Call) → Stands self.old calls
-            → answer ≡ answer_of version (kept self.old.terms uri.now calls) (held self.old.terms uri.now calls)) }
+            → answer ≡ answer_of version (kept self.old.terms uri.now calls)
+            (held self.old.terms uri.now calls)) }
         ensures terms { self.new.terms ≡ self.old.terms }
         ensures rule { IfErr result (λ fault. (calls : List Call) → Stands self.old calls
-            → Names (call_rule self.old.terms calls (shows uri.now version (chars text.now))) fault) }
+            → Names (call_rule self.old.terms calls
+            (shows uri.now version (chars text.now))) fault) }
         ensures memory { result ≡ Err DocFault.Memory → ((calls : List Call) → Stands self.old calls
             → call_rule self.old.terms calls (shows uri.now version (chars text.now)) ≡ None) }
-        ensures memory_waits { result ≡ Err DocFault.Memory → ((calls : List Call) → Stands self.old calls
-            → answer_of version (kept self.old.terms uri.now calls) (held self.old.terms uri.now calls)
+        ensures memory_waits { result ≡ Err DocFault.Memory
+            → ((calls : List Call) → Stands self.old calls
+            → answer_of version (kept self.old.terms uri.now calls)
+            (held self.old.terms uri.now calls)
             ≡ Match.Waits) }
         ensures err { OnErr result (self.new ≡ self.old) }
     {
@@ -326,9 +358,15 @@ impl<S: TextStore> Docs<S> {
 
     /// Judges a snapshot by what is held and kept of its URI.
     fn judge(&self, uri: &str, version: i32, text: &str) -> Result<Match, DocFault>
-        ensures answer { IfOk result (λ answer. answer ≡ answer_of version (kept_in uri.now self.now.kept) (held_in uri.now self.now.documents)) }
-        ensures allowed { OnOk result (show_rule version (chars text.now) (kept_in uri.now self.now.kept) (held_in uri.now self.now.documents) ≡ None) }
-        ensures rule { IfErr result (Names (show_rule version (chars text.now) (kept_in uri.now self.now.kept) (held_in uri.now self.now.documents))) }
+        ensures answer { IfOk result
+            (λ answer. answer ≡ answer_of version (kept_in uri.now self.now.kept)
+            (held_in uri.now self.now.documents)) }
+        ensures allowed { OnOk result
+            (show_rule version (chars text.now) (kept_in uri.now self.now.kept)
+            (held_in uri.now self.now.documents) ≡ None) }
+        ensures rule { IfErr result
+            (Names (show_rule version (chars text.now) (kept_in uri.now self.now.kept)
+            (held_in uri.now self.now.documents))) }
         ensures rule_only { IfErr result IsRule }
     {
         match self.get(uri) {
@@ -338,8 +376,11 @@ impl<S: TextStore> Docs<S> {
     }
 
     fn get(&self, uri: &str) -> Option<&Document<S>>
-        ensures held { option_map (λ d. versioned d.now.held.version (S.content d.now.held.store)) result ≡ held_in uri.now self.now.documents }
-        ensures kept { or_nothing (option_map (λ d. d.now.kept) result) ≡ kept_in uri.now self.now.kept }
+        ensures held { option_map
+            (λ d. versioned d.now.held.version (S.content d.now.held.store)) result
+            ≡ held_in uri.now self.now.documents }
+        ensures kept { or_nothing (option_map (λ d. d.now.kept) result)
+            ≡ kept_in uri.now self.now.kept }
     {
         self.documents.get(uri)
     }
@@ -361,16 +402,24 @@ impl<S: TextStore> Docs<S> {
 
     /// Whether a snapshot that waits for this version has another text than this one.
     fn contradicts(&self, uri: &str, version: i32, text: &str) -> bool
-        ensures { result ≡ list_any (differs (versioned version (chars text.now))) (queue_of uri.now self.now.waits.queues) }
+        ensures { result ≡ list_any (differs (versioned version (chars text.now)))
+            (queue_of uri.now self.now.waits.queues) }
     {
-        any_is_not(self.waiting.texts(uri, version), text)
+        match self.waiting.texts(uri, version) {
+            Some(texts) => texts.any_is_not(text),
+            None => false,
+        }
     }
 
     /// Whether a snapshot that waits for this version has another text.
     fn refutes(&self, uri: &str, version: i32, store: &S) -> bool
-        ensures { result ≡ list_any (differs (versioned version (S.content store.now))) (queue_of uri.now self.now.waits.queues) }
+        ensures { result ≡ list_any (differs (versioned version (S.content store.now)))
+            (queue_of uri.now self.now.waits.queues) }
     {
-        any_differs(self.waiting.texts(uri, version), store)
+        match self.waiting.texts(uri, version) {
+            Some(texts) => texts.any_differs(store),
+            None => false,
+        }
     }
 
     /// The rule that a change breaks, whatever text it leads to.
@@ -381,7 +430,8 @@ impl<S: TextStore> Docs<S> {
         version: i32,
         changes: &[Change],
     ) -> Option<u16>
-        ensures { result ≡ early_rule kind version (edits_of changes.now) (held_in uri.now self.now.documents) }
+        ensures { result ≡ early_rule kind version (edits_of changes.now)
+            (held_in uri.now self.now.documents) }
     {
         let Some(document) = self.get(uri) else {
             return Some(NOT_OPEN);
@@ -404,10 +454,13 @@ impl<S: TextStore> Docs<S> {
         changes: &[Change],
     ) -> Result<(), DocFault>
         requires { is_some (held_in uri.now self.old.documents) ≡ true }
-        ensures ok { OnOk result (IsChanged self.old self.new uri.now version (changed_at self.old encoding uri.now (edits_of changes.now))) }
+        ensures ok { OnOk result
+            (IsChanged self.old self.new uri.now version
+            (changed_at self.old encoding uri.now (edits_of changes.now))) }
         ensures allowed { OnOk result (text_rule (queue_of uri.now self.old.waits.queues) version
             (changed_at self.old encoding uri.now (edits_of changes.now)) ≡ None) }
-        ensures rule { IfErr result (Names (text_rule (queue_of uri.now self.old.waits.queues) version
+        ensures rule { IfErr result
+            (Names (text_rule (queue_of uri.now self.old.waits.queues) version
             (changed_at self.old encoding uri.now (edits_of changes.now)))) }
         ensures err { OnErr result (self.new ≡ self.old) }
     {
@@ -418,7 +471,8 @@ impl<S: TextStore> Docs<S> {
         }
     }
 
-    /// Makes one change in the held store, which a refused change leaves as it is, where no version is kept.
+    /// Makes one change in the held store, which a refused change leaves as it is, where no version
+    /// is kept.
     fn change_held(
         &mut self,
         encoding: Encoding,
@@ -428,15 +482,19 @@ impl<S: TextStore> Docs<S> {
     ) -> Result<(), DocFault>
         requires open { is_some (held_in uri.now self.old.documents) ≡ true }
         requires none { self.old.terms.kept ≡ 0 }
-        ensures ok { OnOk result (IsChanged self.old self.new uri.now version (changed_at self.old encoding uri.now (edit_of change.now ∷ []))) }
-        ensures fault { IfErr result (Breaks (changed_at self.old encoding uri.now (edit_of change.now ∷ []))) }
+        ensures ok { OnOk result
+            (IsChanged self.old self.new uri.now version
+            (changed_at self.old encoding uri.now (edit_of change.now ∷ []))) }
+        ensures fault { IfErr result
+            (Breaks (changed_at self.old encoding uri.now (edit_of change.now ∷ []))) }
         ensures err { OnErr result (self.new ≡ self.old) }
     {
         self.documents
             .change(self.limit, encoding, uri, version, change)
     }
 
-    /// Makes the changes in a copy, which takes the place of the held store if no waiting snapshot contradicts it.
+    /// Makes the changes in a copy, which takes the place of the held store if no waiting snapshot
+    /// contradicts it.
     fn change_copy(
         &mut self,
         encoding: Encoding,
@@ -445,10 +503,13 @@ impl<S: TextStore> Docs<S> {
         changes: &[Change],
     ) -> Result<(), DocFault>
         requires { is_some (held_in uri.now self.old.documents) ≡ true }
-        ensures ok { OnOk result (IsChanged self.old self.new uri.now version (changed_at self.old encoding uri.now (edits_of changes.now))) }
+        ensures ok { OnOk result
+            (IsChanged self.old self.new uri.now version
+            (changed_at self.old encoding uri.now (edits_of changes.now))) }
         ensures allowed { OnOk result (text_rule (queue_of uri.now self.old.waits.queues) version
             (changed_at self.old encoding uri.now (edits_of changes.now)) ≡ None) }
-        ensures rule { IfErr result (Names (text_rule (queue_of uri.now self.old.waits.queues) version
+        ensures rule { IfErr result
+            (Names (text_rule (queue_of uri.now self.old.waits.queues) version
             (changed_at self.old encoding uri.now (edits_of changes.now)))) }
         ensures err { OnErr result (self.new ≡ self.old) }
     {
@@ -468,8 +529,11 @@ impl<S: TextStore> Docs<S> {
         changes: &[Change],
     ) -> Result<S, DocFault>
         requires { is_some (held_in uri.now self.now.documents) ≡ true }
-        ensures ok { IfOk result (λ store. changed_at self.now encoding uri.now (edits_of changes.now) ≡ Ok (S.content store)) }
-        ensures fault { IfErr result (Breaks (changed_at self.now encoding uri.now (edits_of changes.now))) }
+        ensures ok { IfOk result
+            (λ store. changed_at self.now encoding uri.now (edits_of changes.now)
+            ≡ Ok (S.content store)) }
+        ensures fault { IfErr result
+            (Breaks (changed_at self.now encoding uri.now (edits_of changes.now))) }
     {
         let document = self.get(uri).unwrap();
         let mut store = document.held.store.copy(self.documents.alloc())?;

@@ -1,6 +1,7 @@
 //! One open document.
 
-ghost use Rattle.std.specs.Prelude.{◌≡◌, ◌≤◌, None, Some, [], ◌++◌, ◌∷◌, length, option_map, IfErr, IfOk, OnOk, OnErr};
+ghost use Rattle.std.specs.Prelude.{◌≡◌, ◌≤◌, None, Some, [], ◌++◌, ◌∷◌, length, option_map, IfErr};
+ghost use Rattle.std.specs.Prelude.{IfOk, OnOk, OnErr};
 ghost use Rattle.std.specs.Str.{chars};
 ghost use Rattle.lsp_docs.specs.Documents.{versioned};
 ghost use Rattle.lsp_docs.specs.Kept.{last_of};
@@ -41,7 +42,8 @@ impl<S: TextStore> Document<S> {
         ensures version { OnOk result (self.new.held.version ≡ version) }
         ensures store { OnOk result (S.content self.new.held.store ≡ S.content store) }
         ensures kept { OnOk result (length self.old.kept ≤ most
-            → self.new.kept ≡ last_of most (self.old.kept ++ versioned self.old.held.version (S.content self.old.held.store) ∷ [])) }
+            → self.new.kept ≡ last_of most (self.old.kept
+            ++ versioned self.old.held.version (S.content self.old.held.store) ∷ [])) }
         ensures err { OnErr result (self.new ≡ self.old) }
     {
         let next = Revision { version, store };
@@ -54,9 +56,15 @@ impl<S: TextStore> Document<S> {
 
     /// Judges a snapshot by what is held and kept.
     pub(crate) fn judge(&self, version: i32, text: &str) -> Result<Match, DocFault>
-        ensures answer { IfOk result (λ answer. answer ≡ answer_of version self.now.kept (Some (versioned self.now.held.version (S.content self.now.held.store)))) }
-        ensures allowed { OnOk result (show_rule version (chars text.now) self.now.kept (Some (versioned self.now.held.version (S.content self.now.held.store))) ≡ None) }
-        ensures rule { IfErr result (Names (show_rule version (chars text.now) self.now.kept (Some (versioned self.now.held.version (S.content self.now.held.store))))) }
+        ensures answer { IfOk result
+            (λ answer. answer ≡ answer_of version self.now.kept
+            (Some (versioned self.now.held.version (S.content self.now.held.store)))) }
+        ensures allowed { OnOk result
+            (show_rule version (chars text.now) self.now.kept
+            (Some (versioned self.now.held.version (S.content self.now.held.store))) ≡ None) }
+        ensures rule { IfErr result
+            (Names (show_rule version (chars text.now) self.now.kept
+            (Some (versioned self.now.held.version (S.content self.now.held.store))))) }
         ensures rule_only { IfErr result IsRule }
     {
         match self.rule(version, text) {
@@ -68,7 +76,8 @@ impl<S: TextStore> Document<S> {
     /// The text that is held or kept at a version, where it is another than this one.
     pub(crate) fn other(&self, version: i32, text: &str) -> Option<&S>
         ensures { option_map (λ store. S.content store.now) result
-            ≡ other_than (versioned version (chars text.now)) self.now.kept (Some (versioned self.now.held.version (S.content self.now.held.store))) }
+            ≡ other_than (versioned version (chars text.now)) self.now.kept
+            (Some (versioned self.now.held.version (S.content self.now.held.store))) }
     {
         match self.kept.other(version, text) {
             Some(store) => Some(store),
@@ -78,7 +87,8 @@ impl<S: TextStore> Document<S> {
 
     /// The rule that a snapshot breaks.
     fn rule(&self, version: i32, text: &str) -> Option<u16>
-        ensures { result ≡ show_rule version (chars text.now) self.now.kept (Some (versioned self.now.held.version (S.content self.now.held.store))) }
+        ensures { result ≡ show_rule version (chars text.now) self.now.kept
+            (Some (versioned self.now.held.version (S.content self.now.held.store))) }
     {
         if self.kept.is_after(version) && version < self.held.version {
             Some(LATE_SNAPSHOT)
@@ -91,7 +101,8 @@ impl<S: TextStore> Document<S> {
 
     /// What a snapshot that breaks no rule comes to.
     fn answer(&self, version: i32) -> Match
-        ensures { result ≡ answer_of version self.now.kept (Some (versioned self.now.held.version (S.content self.now.held.store))) }
+        ensures { result ≡ answer_of version self.now.kept
+            (Some (versioned self.now.held.version (S.content self.now.held.store))) }
     {
         if self.kept.has(version) || self.held.version == version {
             Match::Equal

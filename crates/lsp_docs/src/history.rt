@@ -1,6 +1,7 @@
 //! The versions that a document had before the present one.
 
-ghost use Rattle.std.specs.Prelude.{◌≡◌, ◌≤◌, [], ◌++◌, ◌∷◌, length, map, option_map, IfOk, OnOk, OnErr};
+ghost use Rattle.std.specs.Prelude.{◌≡◌, ◌≤◌, [], ◌++◌, ◌∷◌, length, map, option_map, IfOk, OnOk};
+ghost use Rattle.std.specs.Prelude.{OnErr};
 ghost use Rattle.std.specs.List.{find, list_all, list_any};
 ghost use Rattle.std.specs.Str.{chars};
 ghost use Rattle.lsp_docs.specs.Documents.{versioned, is_after, is_at};
@@ -62,7 +63,8 @@ impl<S: TextStore> History<S> {
 
     /// The text of the one that is of this version and has another text.
     pub(crate) fn other(&self, version: i32, text: &str) -> Option<&S>
-        ensures { option_map (λ store. S.content store.now) result ≡ other_in (versioned version (chars text.now)) self.now }
+        ensures { option_map (λ store. S.content store.now) result
+            ≡ other_in (versioned version (chars text.now)) self.now }
     {
         first_other(self.revisions.as_slice(), version, text)
     }
@@ -74,8 +76,8 @@ impl<S: TextStore> History<S> {
         numbers_of(self.revisions.as_slice(), alloc)
     }
 
-    /// Puts a version in the place of the held one, which is kept from now on as the last of at most
-    /// so many.
+    /// Puts a version in the place of the held one, which is kept from now on as the last of at
+    /// most so many.
     pub(crate) fn revise(
         &mut self,
         most: usize,
@@ -84,7 +86,8 @@ impl<S: TextStore> History<S> {
     ) -> Result<(), AllocError>
         ensures held { OnOk result (held.new ≡ next) }
         ensures kept { OnOk result (length self.old ≤ most
-            → self.new ≡ last_of most (self.old ++ versioned held.old.version (S.content held.old.store) ∷ [])) }
+            → self.new ≡ last_of most (self.old
+            ++ versioned held.old.version (S.content held.old.store) ∷ [])) }
         ensures err { OnErr result ((self.new ≡ self.old) × (held.new ≡ held.old)) }
     {
         self.revisions.reserve(1)?;
@@ -99,21 +102,25 @@ impl<S: TextStore> History<S> {
 
 /// Whether one is of this version.
 fn any_at<S: TextStore>(revisions: &[Revision<S>], version: i32) -> bool
-    ensures { result ≡ list_any (λ r. is_at version (versioned r.version (S.content r.store))) revisions.now }
+    ensures { result ≡ list_any
+        (λ r. is_at version (versioned r.version (S.content r.store))) revisions.now }
 {
     revisions.iter().any(|r| r.version == version)
 }
 
 /// Whether each is of a greater version.
 fn all_after<S: TextStore>(revisions: &[Revision<S>], version: i32) -> bool
-    ensures { result ≡ list_all (λ r. is_after version (versioned r.version (S.content r.store))) revisions.now }
+    ensures { result ≡ list_all
+        (λ r. is_after version (versioned r.version (S.content r.store))) revisions.now }
 {
     revisions.iter().all(|r| version < r.version)
 }
 
 /// Whether one is of this version and has another text.
 fn any_differs<S: TextStore>(revisions: &[Revision<S>], version: i32, text: &str) -> bool
-    ensures { result ≡ list_any (λ r. differs (versioned r.version (S.content r.store)) (versioned version (chars text.now))) revisions.now }
+    ensures { result ≡ list_any
+        (λ r. differs (versioned r.version (S.content r.store))
+        (versioned version (chars text.now))) revisions.now }
 {
     revisions.iter().any(|r| r.differs(version, text))
 }
@@ -125,7 +132,9 @@ fn first_other<'a, S: TextStore>(
     text: &str,
 ) -> Option<&'a S>
     ensures { option_map (λ store. S.content store.now) result
-        ≡ option_map (λ r. S.content r.store) (find (λ r. differs_from (versioned version (chars text.now)) (versioned r.version (S.content r.store))) revisions.now) }
+        ≡ option_map (λ r. S.content r.store)
+        (find (λ r. differs_from (versioned version (chars text.now))
+        (versioned r.version (S.content r.store))) revisions.now) }
 {
     for revision in revisions {
         if revision.differs(version, text) {

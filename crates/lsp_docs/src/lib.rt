@@ -1,9 +1,11 @@
-//! The documents that an editor has open, as its messages leave them, and snapshots of what it really had.
+//! The documents that an editor has open, as its messages leave them, and snapshots of what it
+//! really had.
 //!
-//! [`Docs`] follows `didOpen`, `didChange`, `didClose` and `didSave` (LSP 3.17, "Text Document Synchronization") over any
-//! store of texts. A snapshot is a URI, a version and a text: it is compared with what is held at that version, at once or
-//! when the version comes, or with a kept version, and otherwise counted as unmatched. A call that breaks a rule is refused with the rule's number
-//! and changes nothing.
+//! [`Docs`] follows `didOpen`, `didChange`, `didClose` and `didSave` (LSP 3.17, "Text Document
+//! Synchronization") over any store of texts. A snapshot is a URI, a version and a text: it is
+//! compared with what is held at that version, at once or when the version comes, or with a kept
+//! version, and otherwise counted as unmatched. A call that breaks a rule is refused with the
+//! rule's number and changes nothing.
 #![tactic(auto)]
 
 mod docs;

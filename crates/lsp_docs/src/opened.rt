@@ -1,17 +1,18 @@
 //! The documents that are open, in order of opening.
 
-ghost use Rattle.std.specs.Prelude.{◌≡◌, [], ◌++◌, ◌∷◌, None, true, false, length, map, slice_get, is_some, IfErr, OnOk, OnErr, option_map};
+ghost use Rattle.std.specs.Prelude.{◌≡◌, [], ◌++◌, ◌∷◌, None, true, false, length, map, slice_get};
+ghost use Rattle.std.specs.Prelude.{is_some, IfErr, OnOk, OnErr, option_map};
 ghost use Rattle.lsp_text.specs.Changes.{edit_of};
 ghost use Rattle.lsp_text.specs.Edits.{applied};
 ghost use Rattle.lsp_docs.specs.Documents.{versioned};
 ghost use Rattle.lsp_docs.specs.Fault.{Breaks};
 ghost use Rattle.lsp_docs.specs.Opened.{IsSet, or_nothing};
-ghost use Rattle.lsp_docs.specs.State.{KeepsNone, KeepsOn, KeepsSame, held_in, kept_in, set_in, text_in, without};
+ghost use Rattle.lsp_docs.specs.State.{KeepsNone, KeepsOn, KeepsSame, held_in, kept_in, set_in};
+ghost use Rattle.lsp_docs.specs.State.{text_in, without};
 
 use crate::document::Document;
 use crate::fault::DocFault;
-use indexmap::IndexMap;
-use lsp_order::Order;
+use lsp_order::OrderedMap;
 use lsp_text::TextStore;
 use lsp_types::{Change, Encoding};
 use std::alloc::{AllocError, Global};
@@ -20,25 +21,19 @@ use std::marker::Model;
 /// The open documents. Contracts see their list, in order of opening, and what is kept of each URI.
 #[derive(Drop)]
 pub(crate) struct OpenDocuments<S: TextStore> {
-    /// The URIs in order of opening, since a map that keeps an order moves all entries behind one
-    /// that it gives away.
-    order: Order<String>,
-    documents: IndexMap<String, Document<S>>,
+    documents: OrderedMap<String, Document<S>>,
 }
 
 impl<S: TextStore> Model for OpenDocuments<S> {
-    ghost use Rattle.std.specs.Prelude.{map, string_bytes};
     ghost use Rattle.lsp_docs.specs.Documents.{versioned};
-    ghost use Rattle.lsp_docs.specs.Opened.{Opened, held_by, kept_of, listed, AreHeld};
+    ghost use Rattle.lsp_docs.specs.Opened.{Opened, held_of, kept_of};
 
     ghost Value = { Opened };
 
     ghost view = { λ d. record {
-      held = listed (map string_bytes d.order) (held_by (λ e. versioned e.held.version (S.content e.held.store)) d.documents.entries);
-      kept = kept_of (map string_bytes d.order) (held_by (λ e. e.kept) d.documents.entries);
+      held = held_of (λ e. versioned e.held.version (S.content e.held.store)) d.documents;
+      kept = kept_of (λ e. e.kept) d.documents;
     } };
-
-    ghost invariant = { λ d. AreHeld (map string_bytes d.order) (held_by (λ e. versioned e.held.version (S.content e.held.store)) d.documents.entries) };
 }
 
 impl<S: TextStore> OpenDocuments<S> {
@@ -47,27 +42,27 @@ impl<S: TextStore> OpenDocuments<S> {
         ensures { result ≡ record { held = []; kept = [] } }
     {
         OpenDocuments {
-            order: Order::new(alloc),
-            documents: IndexMap::new(alloc),
+            documents: OrderedMap::new(alloc),
         }
     }
 
     pub(crate) fn alloc(&self) -> Global {
-        *self.documents.allocator()
+        self.documents.allocator()
     }
 
     /// How many are open.
     pub(crate) fn len(&self) -> usize
         ensures { result ≡ length self.now.held }
     {
-        self.order.len()
+        self.documents.len()
     }
 
     /// The URI at this place in order of opening, from 0.
     pub(crate) fn at(&self, index: usize) -> Option<&str>
-        ensures { option_map (λ uri. uri.now) result ≡ slice_get (map (λ h. h.uri) self.now.held) index }
+        ensures { option_map (λ uri. uri.now) result
+            ≡ slice_get (map (λ h. h.uri) self.now.held) index }
     {
-        let uri = self.order.at(index)?;
+        let (uri, _) = self.documents.at(index)?;
         Some(uri.as_str())
     }
 
@@ -76,14 +71,17 @@ impl<S: TextStore> OpenDocuments<S> {
     pub(crate) fn pack(&mut self)
         ensures { self.new ≡ self.old }
     {
-        self.order.pack();
+        self.documents.pack();
     }
 
     pub(crate) fn get(&self, uri: &str) -> Option<&Document<S>>
-        ensures held { option_map (λ d. versioned d.now.held.version (S.content d.now.held.store)) result ≡ held_in uri.now self.now.held }
-        ensures kept { or_nothing (option_map (λ d. d.now.kept) result) ≡ kept_in uri.now self.now.kept }
+        ensures held { option_map
+            (λ d. versioned d.now.held.version (S.content d.now.held.store)) result
+            ≡ held_in uri.now self.now.held }
+        ensures kept { or_nothing (option_map (λ d. d.now.kept) result)
+            ≡ kept_in uri.now self.now.kept }
     {
-        self.documents.get(uri)
+        self.documents.get_str(uri)
     }
 
     /// Adds a document that is not open.
@@ -94,17 +92,10 @@ impl<S: TextStore> OpenDocuments<S> {
         ensures kept { OnOk result (KeepsSame self.old.kept self.new.kept) }
         ensures err { OnErr result (self.new ≡ self.old) }
     {
-        let alloc = *self.documents.allocator();
-        let last = String::from_str(alloc, uri)?;
-        let same = String::from_str(alloc, uri)?;
+        let alloc = self.documents.allocator();
         let key = String::from_str(alloc, uri)?;
         self.documents
-            .insert(key, Document::new(alloc, version, store))?;
-        if let Err(refused) = self.order.push(last, same) {
-            let _ = self.documents.swap_remove(uri);
-            return Err(refused);
-        }
-        Ok(())
+            .push(key, Document::new(alloc, version, store))
     }
 
     /// Takes a document out, and tells whether it was open.
@@ -114,11 +105,7 @@ impl<S: TextStore> OpenDocuments<S> {
         ensures held { self.new.held ≡ without uri.now self.old.held }
         ensures kept { KeepsNone uri.now self.old.kept self.new.kept }
     {
-        let Some((key, _)) = self.documents.swap_remove_entry(uri) else {
-            return false;
-        };
-        self.order.remove(&key);
-        true
+        self.documents.remove_str(uri).is_some()
     }
 
     /// Puts a version in the place of the held one, which is kept as the last of at most so many.
@@ -130,11 +117,13 @@ impl<S: TextStore> OpenDocuments<S> {
         store: S,
     ) -> Result<(), AllocError>
         requires { is_some (held_in uri.now self.old.held) ≡ true }
-        ensures held { OnOk result (self.new.held ≡ set_in uri.now (versioned version (S.content store)) self.old.held) }
-        ensures kept { OnOk result (KeepsOn most uri.now (held_in uri.now self.old.held) self.old.kept self.new.kept) }
+        ensures held { OnOk result (self.new.held
+            ≡ set_in uri.now (versioned version (S.content store)) self.old.held) }
+        ensures kept { OnOk result
+            (KeepsOn most uri.now (held_in uri.now self.old.held) self.old.kept self.new.kept) }
         ensures err { OnErr result (self.new ≡ self.old) }
     {
-        let document = self.documents.get_mut(uri).unwrap();
+        let document = self.documents.get_str_mut(uri).unwrap();
         document.revise(most, version, store)
     }
 
@@ -149,12 +138,15 @@ impl<S: TextStore> OpenDocuments<S> {
     ) -> Result<(), DocFault>
         requires { is_some (held_in uri.now self.old.held) ≡ true }
         ensures ok { OnOk result (IsSet self.old.held self.new.held uri.now version
-            (applied limit encoding (text_in (held_in uri.now self.old.held)) (edit_of change.now ∷ []))) }
+            (applied limit encoding (text_in (held_in uri.now self.old.held))
+            (edit_of change.now ∷ []))) }
         ensures kept { self.new.kept ≡ self.old.kept }
-        ensures fault { IfErr result (Breaks (applied limit encoding (text_in (held_in uri.now self.old.held)) (edit_of change.now ∷ []))) }
+        ensures fault { IfErr result
+            (Breaks (applied limit encoding (text_in (held_in uri.now self.old.held))
+            (edit_of change.now ∷ []))) }
         ensures err { OnErr result (self.new ≡ self.old) }
     {
-        let document = self.documents.get_mut(uri).unwrap();
+        let document = self.documents.get_str_mut(uri).unwrap();
         document.held.change(limit, encoding, version, change)
     }
 }

@@ -1,14 +1,17 @@
 //! The snapshots of one URI that wait for their versions.
 
-ghost use Rattle.std.specs.Prelude.{◌≡◌, [], ◌++◌, ◌∷◌, None, true, length, filter, int_lt, if◌then◌else◌, IfOk, OnOk, OnErr};
+ghost use Rattle.std.specs.Prelude.{◌≡◌, [], ◌++◌, ◌∷◌, None, true, length, filter, int_lt};
+ghost use Rattle.std.specs.Prelude.{if◌then◌else◌, unwrap_or, IfOk, OnOk, OnErr};
 ghost use Rattle.std.specs.List.{list_any};
 ghost use Rattle.std.specs.Map.{lookup};
+ghost use Rattle.std.specs.Option.{option_copied};
 ghost use Rattle.std.specs.Ordering.{int_eq, int_cmp};
 ghost use Rattle.std.specs.BTreeMap.{IsOrdered};
 ghost use Rattle.lsp_docs.specs.Documents.{versioned, is_after, is_at, is_before};
 ghost use Rattle.lsp_docs.specs.Snapshots.{texts_at};
 ghost use Rattle.lsp_docs.specs.State.{SameOrder, SameVersions, capped};
-ghost use Rattle.lsp_docs.specs.Stored.{text_of, texts_of, versions_in, is_first_within, rest_of, first_before};
+ghost use Rattle.lsp_docs.specs.Stored.{text_of, versions_in, is_first_within, rest_of};
+ghost use Rattle.lsp_docs.specs.Stored.{first_before};
 
 use crate::snapshot::Texts;
 use std::alloc::{AllocError, Global};
@@ -56,8 +59,10 @@ impl SnapshotQueue {
         version: i32,
         text: String,
     ) -> Result<(), AllocError>
-        ensures ok { OnOk result (SameVersions (self.old ++ versioned version (text_of text) ∷ []) self.new) }
-        ensures order { OnOk result (SameOrder (self.old ++ versioned version (text_of text) ∷ []) self.new) }
+        ensures ok { OnOk result
+            (SameVersions (self.old ++ versioned version (text_of text) ∷ []) self.new) }
+        ensures order { OnOk result
+            (SameOrder (self.old ++ versioned version (text_of text) ∷ []) self.new) }
         ensures err { OnErr result (self.new ≡ self.old) }
     {
         add_text(&mut self.texts, alloc, version, text)
@@ -85,13 +90,10 @@ impl SnapshotQueue {
     }
 
     /// The texts of those that wait for this version, in the order in which they came.
-    pub(crate) fn texts(&self, version: i32) -> &[String]
-        ensures { texts_of result.now ≡ texts_at version self.now }
+    pub(crate) fn texts(&self, version: i32) -> Option<&Texts>
+        ensures { unwrap_or (option_copied result) [] ≡ texts_at version self.now }
     {
-        match self.texts.get(&version) {
-            Some(texts) => texts.as_slice(),
-            None => &[],
-        }
+        self.texts.get(&version)
     }
 
     /// Lets go of those that wait no more at a version, and counts those of lesser ones, at most
@@ -112,8 +114,12 @@ fn add_text(
     text: String,
 ) -> Result<(), AllocError>
     requires { IsOrdered int_cmp texts.old }
-    ensures ok { OnOk result (SameVersions (versions_in texts.old.entries ++ versioned version (text_of text) ∷ []) (versions_in texts.new.entries)) }
-    ensures order { OnOk result (SameOrder (versions_in texts.old.entries ++ versioned version (text_of text) ∷ []) (versions_in texts.new.entries)) }
+    ensures ok { OnOk result
+        (SameVersions (versions_in texts.old.entries ++ versioned version (text_of text) ∷ [])
+        (versions_in texts.new.entries)) }
+    ensures order { OnOk result
+        (SameOrder (versions_in texts.old.entries ++ versioned version (text_of text) ∷ [])
+        (versions_in texts.new.entries)) }
     ensures err { OnErr result (versions_in texts.new.entries ≡ versions_in texts.old.entries) }
     ensures ordered { IsOrdered int_cmp texts.new }
 {
@@ -132,8 +138,12 @@ fn add_version(
 ) -> Result<(), AllocError>
     requires new { lookup (int_eq version) texts.old.entries ≡ None }
     requires ordered { IsOrdered int_cmp texts.old }
-    ensures ok { OnOk result (SameVersions (versions_in texts.old.entries ++ versioned version (text_of text) ∷ []) (versions_in texts.new.entries)) }
-    ensures order { OnOk result (SameOrder (versions_in texts.old.entries ++ versioned version (text_of text) ∷ []) (versions_in texts.new.entries)) }
+    ensures ok { OnOk result
+        (SameVersions (versions_in texts.old.entries ++ versioned version (text_of text) ∷ [])
+        (versions_in texts.new.entries)) }
+    ensures order { OnOk result
+        (SameOrder (versions_in texts.old.entries ++ versioned version (text_of text) ∷ [])
+        (versions_in texts.new.entries)) }
     ensures err { OnErr result (versions_in texts.new.entries ≡ versions_in texts.old.entries) }
     ensures ordered { IsOrdered int_cmp texts.new }
 {
@@ -145,8 +155,10 @@ fn add_version(
 /// Drops the texts of versions that are reached, and counts those of versions that are passed over.
 fn drop_until(texts: &mut TextMap, version: i32) -> u64
     requires { IsOrdered int_cmp texts.old }
-    ensures left { versions_in texts.new.entries ≡ filter (is_after version) (versions_in texts.old.entries) }
-    ensures missed { result ≡ capped (length (filter (is_before version) (versions_in texts.old.entries))) }
+    ensures left { versions_in texts.new.entries
+        ≡ filter (is_after version) (versions_in texts.old.entries) }
+    ensures missed { result ≡ capped
+        (length (filter (is_before version) (versions_in texts.old.entries))) }
     ensures ordered { IsOrdered int_cmp texts.new }
 {
     let mut missed: u64 = 0;

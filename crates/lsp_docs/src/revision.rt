@@ -29,10 +29,15 @@ impl<S: TextStore> Revision<S> {
         version: i32,
         edit: &Change,
     ) -> Result<(), DocFault>
-        ensures ok { OnOk result (applied limit encoding (S.content self.old.store) (edit_of edit.now ∷ []) ≡ Ok (S.content self.new.store)) }
+        ensures ok { OnOk result
+            (applied limit encoding (S.content self.old.store) (edit_of edit.now ∷ [])
+            ≡ Ok (S.content self.new.store)) }
         ensures version { OnOk result (self.new.version ≡ version) }
-        ensures fault { IfErr result (Breaks (applied limit encoding (S.content self.old.store) (edit_of edit.now ∷ []))) }
-        ensures err { OnErr result ((self.new.version ≡ self.old.version) × (S.content self.new.store ≡ S.content self.old.store)) }
+        ensures fault { IfErr result
+            (Breaks (applied limit encoding (S.content self.old.store)
+            (edit_of edit.now ∷ []))) }
+        ensures err { OnErr result ((self.new.version ≡ self.old.version)
+            × (S.content self.new.store ≡ S.content self.old.store)) }
     {
         change(
             &mut self.store,
@@ -47,7 +52,8 @@ impl<S: TextStore> Revision<S> {
 
     /// Whether it is of this version and has another text.
     pub(crate) fn differs(&self, version: i32, text: &str) -> bool
-        ensures { result ≡ differs (versioned self.now.version (S.content self.now.store)) (versioned version (chars text.now)) }
+        ensures { result ≡ differs (versioned self.now.version (S.content self.now.store))
+            (versioned version (chars text.now)) }
     {
         self.version == version && !has_text(&self.store, text)
     }
@@ -55,7 +61,8 @@ impl<S: TextStore> Revision<S> {
     /// Its text, where it is of this version and has another text.
     pub(crate) fn other(&self, version: i32, text: &str) -> Option<&S>
         ensures { option_map (λ store. S.content store.now) result
-            ≡ other_in (versioned version (chars text.now)) (versioned self.now.version (S.content self.now.store) ∷ []) }
+            ≡ other_in (versioned version (chars text.now))
+            (versioned self.now.version (S.content self.now.store) ∷ []) }
     {
         if self.differs(version, text) {
             Some(&self.store)

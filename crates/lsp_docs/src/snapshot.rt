@@ -1,6 +1,7 @@
 //! Snapshots, and how they compare with a text.
 
-ghost use Rattle.std.specs.Prelude.{◌≡◌, [], ◌++◌, ◌∷◌, length, not, string_bytes, IfOk, OnOk, OnErr};
+ghost use Rattle.std.specs.Prelude.{◌≡◌, [], ◌++◌, ◌∷◌, length, not, string_bytes, IfOk, OnOk};
+ghost use Rattle.std.specs.Prelude.{OnErr};
 ghost use Rattle.std.specs.List.{list_any};
 ghost use Rattle.std.specs.Str.{chars, bytes_eq};
 ghost use Rattle.lsp_docs.specs.Stored.{text_of, texts_of};
@@ -24,16 +25,20 @@ pub enum Match {
 #[derive(Drop)]
 pub(crate) struct Texts {
     texts: Vec<String>,
+    /// Whether two of them differ. If so, one of them is another text than any given one.
+    mixed: bool,
 }
 
 impl Model for Texts {
-    ghost use Rattle.std.specs.Prelude.{List};
+    ghost use Rattle.std.specs.Prelude.{◌≡◌, List};
     ghost use Rattle.lsp_docs.specs.Texts.{Text};
-    ghost use Rattle.lsp_docs.specs.Stored.{texts_of};
+    ghost use Rattle.lsp_docs.specs.Stored.{are_mixed, texts_of};
 
     ghost Value = { List Text };
 
     ghost view = { λ t. texts_of t.texts.items };
+
+    ghost invariant = { λ t. t.mixed ≡ are_mixed (texts_of t.texts.items) };
 }
 
 impl Texts {
@@ -43,15 +48,20 @@ impl Texts {
     {
         let mut texts = Vec::new(alloc);
         texts.push(text)?;
-        Ok(Texts { texts })
+        Ok(Texts {
+            texts,
+            mixed: false,
+        })
     }
 
-    /// Adds a text behind the others.
+    /// Adds a text after the others.
     pub(crate) fn push(&mut self, text: String) -> Result<(), AllocError>
         ensures ok { OnOk result (self.new ≡ self.old ++ text_of text ∷ []) }
         ensures err { OnErr result (self.new ≡ self.old) }
     {
+        let mixed = self.any_is_not(text.as_str());
         self.texts.push(text)?;
+        self.mixed = mixed;
         Ok(())
     }
 
@@ -68,13 +78,32 @@ impl Texts {
     {
         self.texts.as_slice()
     }
-}
 
-/// Whether one is another text than the store has.
-pub(crate) fn any_differs<S: TextStore>(texts: &[String], store: &S) -> bool
-    ensures { result ≡ list_any (λ t. not (bytes_eq (S.content store.now) (text_of t))) texts.now }
-{
-    texts.iter().any(|text| is_other(text, store))
+    /// Whether one is another text than the store has. At most one is compared.
+    pub(crate) fn any_differs<S: TextStore>(&self, store: &S) -> bool
+        ensures { result ≡ list_any (λ t. not (bytes_eq (S.content store.now) t)) self.now }
+    {
+        if self.mixed {
+            return true;
+        }
+        match self.texts.first() {
+            Some(first) => is_other(first, store),
+            None => false,
+        }
+    }
+
+    /// Whether one is another text than this one. At most one is compared.
+    pub(crate) fn any_is_not(&self, text: &str) -> bool
+        ensures { result ≡ list_any (λ t. not (bytes_eq (chars text.now) t)) self.now }
+    {
+        if self.mixed {
+            return true;
+        }
+        match self.texts.first() {
+            Some(first) => is_not(first, text),
+            None => false,
+        }
+    }
 }
 
 /// Whether it is another text than the store has.
@@ -82,13 +111,6 @@ fn is_other<S: TextStore>(text: &String, store: &S) -> bool
     ensures { result ≡ not (bytes_eq (S.content store.now) (text_of text.now)) }
 {
     !store.equals(text.as_str())
-}
-
-/// Whether one is another text than this one.
-pub(crate) fn any_is_not(texts: &[String], text: &str) -> bool
-    ensures { result ≡ list_any (λ t. not (bytes_eq (chars text.now) (text_of t))) texts.now }
-{
-    texts.iter().any(|other| is_not(other, text))
 }
 
 /// Whether it is another text than this one.

@@ -1,16 +1,19 @@
 //! The snapshots that wait for their versions.
 
 ghost use Rattle.std.specs.Prelude.{◌≡◌, ◌+◌, [], length, filter, None, OnOk, OnErr, string_bytes};
+ghost use Rattle.std.specs.Prelude.{unwrap_or};
 ghost use Rattle.std.specs.List.{list_any};
 ghost use Rattle.std.specs.Map.{lookup};
 ghost use Rattle.std.specs.Option.{option_copied};
 ghost use Rattle.std.specs.Str.{chars, bytes_eq};
 ghost use Rattle.lsp_docs.specs.Documents.{versioned, is_after, is_at, is_before};
 ghost use Rattle.lsp_docs.specs.Snapshots.{texts_at};
-ghost use Rattle.lsp_docs.specs.State.{capped, queue_of, keep_in, IsAdded, IsReleased, total, reached, missed_one};
-ghost use Rattle.lsp_docs.specs.Stored.{text_of, texts_of, queues_in};
+ghost use Rattle.lsp_docs.specs.State.{capped, queue_of, keep_in, IsAdded, IsReleased, total};
+ghost use Rattle.lsp_docs.specs.State.{reached, missed_one};
+ghost use Rattle.lsp_docs.specs.Stored.{text_of, queues_in};
 
 use crate::queue::SnapshotQueue;
+use crate::snapshot::Texts;
 use indexmap::IndexMap;
 use std::alloc::{AllocError, Global};
 use std::marker::Model;
@@ -54,19 +57,23 @@ impl Waiting {
         }
     }
 
-    /// The texts of the snapshots of a URI that wait for this version, in the order in which they came.
-    pub(crate) fn texts(&self, uri: &str, version: i32) -> &[String]
-        ensures { texts_of result.now ≡ texts_at version (queue_of uri.now self.now.queues) }
+    /// The texts of the snapshots of a URI that wait for this version, in the order in which they
+    /// came.
+    pub(crate) fn texts(&self, uri: &str, version: i32) -> Option<&Texts>
+        ensures { unwrap_or (option_copied result) []
+            ≡ texts_at version (queue_of uri.now self.now.queues) }
     {
         match queue_for(&self.snapshots, uri) {
             Some(queue) => queue.texts(version),
-            None => &[],
+            None => None,
         }
     }
 
     /// Adds a snapshot of a URI.
     pub(crate) fn add(&mut self, uri: &str, version: i32, text: &str) -> Result<(), AllocError>
-        ensures ok { OnOk result (IsAdded uri.now (versioned version (chars text.now)) self.old.queues self.new.queues) }
+        ensures ok { OnOk result
+            (IsAdded uri.now (versioned version
+            (chars text.now)) self.old.queues self.new.queues) }
         ensures missed { self.new.missed ≡ self.old.missed }
         ensures err { OnErr result (self.new ≡ self.old) }
     {
@@ -85,7 +92,8 @@ impl Waiting {
     /// Lets go of the snapshots of a URI that is closed.
     pub(crate) fn release(&mut self, uri: &str)
         ensures left { IsReleased uri.now self.old.queues self.new.queues }
-        ensures missed { self.new.missed ≡ capped (self.old.missed + length (queue_of uri.now self.old.queues)) }
+        ensures missed { self.new.missed
+            ≡ capped (self.old.missed + length (queue_of uri.now self.old.queues)) }
     {
         let missed = drop_all(&mut self.snapshots, uri);
         self.missed = self.missed.saturating_add(missed);
@@ -117,9 +125,11 @@ impl Waiting {
     }
 }
 
-/// The snapshots of a URI that wait. Where none waits at all, as is common, the URI is not looked up.
+/// The snapshots of a URI that wait. Where none waits at all, as is common, the URI is not looked
+/// up.
 fn queue_for<'a>(snapshots: &'a SnapshotMap, uri: &str) -> Option<&'a SnapshotQueue>
-    ensures value { option_copied result ≡ lookup (λ key. bytes_eq uri.now (string_bytes key)) snapshots.now.entries }
+    ensures value { option_copied result
+        ≡ lookup (λ key. bytes_eq uri.now (string_bytes key)) snapshots.now.entries }
 {
     if snapshots.is_empty() {
         return None;
@@ -134,7 +144,9 @@ fn add_to(
     version: i32,
     text: String,
 ) -> Result<(), AllocError>
-    ensures ok { OnOk result (IsAdded uri.now (versioned version (text_of text)) (queues_in snapshots.old.entries) (queues_in snapshots.new.entries)) }
+    ensures ok { OnOk result
+        (IsAdded uri.now (versioned version (text_of text)) (queues_in snapshots.old.entries)
+        (queues_in snapshots.new.entries)) }
     ensures err { OnErr result (queues_in snapshots.new.entries ≡ queues_in snapshots.old.entries) }
 {
     let alloc = *snapshots.allocator();
@@ -153,7 +165,9 @@ fn add_first(
     text: String,
 ) -> Result<(), AllocError>
     requires { lookup (λ key. bytes_eq uri.now (string_bytes key)) snapshots.old.entries ≡ None }
-    ensures ok { OnOk result (IsAdded uri.now (versioned version (text_of text)) (queues_in snapshots.old.entries) (queues_in snapshots.new.entries)) }
+    ensures ok { OnOk result
+        (IsAdded uri.now (versioned version (text_of text)) (queues_in snapshots.old.entries)
+        (queues_in snapshots.new.entries)) }
     ensures err { OnErr result (queues_in snapshots.new.entries ≡ queues_in snapshots.old.entries) }
 {
     let alloc = *snapshots.allocator();
@@ -165,8 +179,11 @@ fn add_first(
 
 /// Drops the snapshots of a URI that wait no more at a version, and counts those of lesser ones.
 fn drop_reached(snapshots: &mut SnapshotMap, uri: &str, version: i32) -> u64
-    ensures left { queues_in snapshots.new.entries ≡ keep_in uri.now (is_after version) (queues_in snapshots.old.entries) }
-    ensures missed { result ≡ capped (length (filter (is_before version) (queue_of uri.now (queues_in snapshots.old.entries)))) }
+    ensures left { queues_in snapshots.new.entries
+        ≡ keep_in uri.now (is_after version) (queues_in snapshots.old.entries) }
+    ensures missed { result ≡ capped
+        (length (filter (is_before version)
+        (queue_of uri.now (queues_in snapshots.old.entries)))) }
 {
     if snapshots.is_empty() {
         return 0;
@@ -179,7 +196,8 @@ fn drop_reached(snapshots: &mut SnapshotMap, uri: &str, version: i32) -> u64
 
 /// Drops the snapshots of a URI, and counts them.
 fn drop_all(snapshots: &mut SnapshotMap, uri: &str) -> u64
-    ensures left { IsReleased uri.now (queues_in snapshots.old.entries) (queues_in snapshots.new.entries) }
+    ensures left { IsReleased uri.now (queues_in snapshots.old.entries)
+        (queues_in snapshots.new.entries) }
     ensures missed { result ≡ capped (length (queue_of uri.now (queues_in snapshots.old.entries))) }
 {
     if snapshots.is_empty() {

@@ -142,14 +142,12 @@ fn read_spoken(
     Ok(Spoken { message, act })
 }
 
-/// A message that changes the documents, where the content is one of the common form.
-fn change_in(messages: &mut OutlineReader, side: Side, content: &[u8]) -> Option<Spoken>
-    ensures { (session : SpecSession) → IfSome result (λ spoken. Says session side content.now (message_view spoken.message) (act_view spoken.act)) }
+/// A notification whose params its side reads, where the content is one of the common form.
+fn notice_in(messages: &mut OutlineReader, side: Side, content: &[u8]) -> Option<Spoken>
+    ensures { (session : SpecSession) → IfSome result (λ spoken.
+        Says session side content.now (message_view spoken.message) (act_view spoken.act)) }
 {
-    match side {
-        Side::Editor => messages.read_change(content),
-        Side::Server => None,
-    }
+    messages.read_notice(side, content)
 }
 
 /// A call whose params its side doesn't read, where the content is one of the common form.
@@ -163,7 +161,7 @@ fn call_in(messages: &mut OutlineReader, side: Side, content: &[u8]) -> Option<S
 fn common_in(messages: &mut OutlineReader, side: Side, content: &[u8]) -> Option<Spoken>
     ensures { (session : SpecSession) → IfSome result (λ spoken. Says session side content.now (message_view spoken.message) (act_view spoken.act)) }
 {
-    match change_in(messages, side, content) {
+    match notice_in(messages, side, content) {
         Some(spoken) => Some(spoken),
         None => call_in(messages, side, content),
     }

@@ -13,6 +13,7 @@ begins_with_report (o ∷ found) explained bad flaw s = (flat_map said_of explai
 pub yes_is_report : YesIsReport
 yes_is_report (o ∷ found) explained bad flaw s t none is = absurd cc
 yes_is_report [] explained None flaw s t none is = append-nil (report (yes s)) ∙ ap report is
-yes_is_report [] explained (Some (yes u)) flaw s t none is = append-nil (report (yes u)) ∙ ap report is
+yes_is_report [] explained (Some (yes u)) flaw s t none is =
+    append-nil (report (yes u)) ∙ ap report is
 yes_is_report [] explained (Some (no rule who count event)) flaw s t none is = absurd cc
 yes_is_report [] explained (Some (bad_log at code)) flaw s t none is = absurd cc

@@ -14,7 +14,10 @@ use Rattle.lsp_explain.specs.Explained.{Explained, raws_of, notes_of, IsExplaine
 use Rattle.lsp_facts.specs.Fact.{Fact}
 
 -- the survey that is explained
-pub survey_in : (completeness : Completeness) (limits : Bounds) (log : List ℕ) (found : List Offence) (explained : List Explained) (bad : Option Verdict) (flaw : List Fact) (s : Summary) → IsExplained completeness limits log found explained bad flaw s → IsSurvey completeness limits log found bad s
+pub survey_in : (completeness : Completeness) (limits : Bounds) (log : List ℕ)
+    (found : List Offence) (explained : List Explained) (bad : Option Verdict) (flaw : List Fact)
+    (s : Summary) → IsExplained completeness limits log found explained bad flaw s
+    → IsSurvey completeness limits log found bad s
 survey_in completeness limits log found explained bad flaw s e = record {
   format = e.format;
   records = e.records;
@@ -31,12 +34,16 @@ survey_in completeness limits log found explained bad flaw s e = record {
   comes_to = e.comes_to;
 }
 
-pub some_by : (completeness : Completeness) (limits : Bounds) (log : List ℕ) → (v : Verdict) × IsVerdictBy completeness limits log v
+pub some_by : (completeness : Completeness) (limits : Bounds) (log : List ℕ)
+    → (v : Verdict) × IsVerdictBy completeness limits log v
 some_by Ignored limits log = some_verdict limits log
 some_by Required limits log = some_complete_verdict limits log
 
-pub explained_verdict : (completeness : Completeness) (limits : Bounds) → IsInRange limits → (log : List ℕ) (v : Verdict) (out : List ℕ) → IsExplanation completeness limits log v out → IsVerdictBy completeness limits log v
+pub explained_verdict : (completeness : Completeness) (limits : Bounds) → IsInRange limits
+    → (log : List ℕ) (v : Verdict) (out : List ℕ) → IsExplanation completeness limits log v out
+    → IsVerdictBy completeness limits log v
 explained_verdict completeness limits sizes log v out e =
     let w = some_by completeness limits log in
-    let agrees = survey_agrees completeness limits sizes log e.found e.bad e.s w.0 (survey_in completeness limits log e.found e.explained e.bad e.flaw e.s e.is) w.1 in
+    let agrees = survey_agrees completeness limits sizes log e.found e.bad e.s w.0
+    (survey_in completeness limits log e.found e.explained e.bad e.flaw e.s e.is) w.1 in
     subst (IsVerdictBy completeness limits log) (agrees ∙ sym e.judges) w.1

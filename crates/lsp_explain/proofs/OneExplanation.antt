@@ -2,13 +2,14 @@
 use Rattle.std.specs.Prelude.{map, take, filter, if◌then◌else◌}
 use Rattle.std.specs.List.{AllByRecursion, AllZip, cons_option}
 use Rattle.std.specs.Option.{option_map}
-use Rattle.std.proofs.Common.{◌≡◌, ◌+◌, ℕ, Bool, true, false, List, [], ◌∷◌, ◌++◌, Option, Some, None, length, refl, sym, ap, subst, ◌∙◌}
+use Rattle.std.proofs.Common.{◌≡◌, ◌+◌, ℕ, Bool, true, false, List, [], ◌∷◌, ◌++◌, Option, Some}
+use Rattle.std.proofs.Common.{None, length, refl, sym, ap, subst, ◌∙◌}
 use Rattle.lsp_docs.specs.Terms.{Terms}
 use Rattle.lsp_frame.specs.Bounds.{Bounds, IsInRange}
 use Rattle.lsp_frame.specs.declared.format.Format.{Format}
 use Rattle.lsp_log.specs.Log.{Record, IsLog}
 use Rattle.lsp_log.specs.declared.fault.LogCode.{LogCode}
-use Rattle.lsp_notes.specs.Asking.{numbered}
+use Rattle.lsp_survey.specs.Asking.{numbered}
 use Rattle.lsp_types.specs.declared.side.Side.TheVariants.{Editor, Server}
 use Rattle.lsp_verdict.specs.Event.{Event}
 use Rattle.lsp_verdict.specs.LookBack.{each_from}
@@ -26,12 +27,15 @@ use Rattle.lsp_verdict.proofs.PlacedLemmas.{one_placed}
 use Rattle.lsp_verdict.proofs.Sessions.{some_placed}
 use Rattle.lsp_facts.specs.Fact.{Fact}
 use Rattle.lsp_facts.specs.FlawFacts.{Rests, log_facts}
-use Rattle.lsp_facts.specs.Lines.{event_line}
 use Rattle.lsp_facts.proofs.OneFacts.{one_facts}
 use Rattle.lsp_facts.proofs.SomeFacts.{some_facts}
 use Rattle.lsp_explain.specs.AllExplained.{all_explanation, causes, is_cause, IsAllExplained}
-use Rattle.lsp_explain.specs.Explained.{Heard, Breach, Explained, Explains, breach, breach_at, breaches, raws_of, notes_of, end_explained, explanation, IsExplanation}
-use Rattle.lsp_explain.specs.ExplainLaws.{SomeExplanation, OneExplanation, SomeExplanationOfAll, OneExplanationOfAll}
+use Rattle.lsp_explain.specs.Explained.{Heard, Breach, Explained, Explains, breach, breach_at}
+use Rattle.lsp_explain.specs.Explained.{event_of}
+use Rattle.lsp_explain.specs.Explained.{breaches, raws_of, notes_of, end_explained, explanation}
+use Rattle.lsp_explain.specs.Explained.{IsExplanation}
+use Rattle.lsp_explain.specs.ExplainLaws.{SomeExplanation, OneExplanation, SomeExplanationOfAll}
+use Rattle.lsp_explain.specs.ExplainLaws.{OneExplanationOfAll}
 use Rattle.lsp_explain.specs.Traced.{traced}
 use Rattle.lsp_explain.proofs.Explaining.{hears}
 
@@ -42,61 +46,93 @@ abbrev Offends : Terms → Breach → Type 0
 Offends terms b = rule_at terms (events_of (notes_of b.before)) b.here.note.event ≡ Some b.rule
 
 module _ (terms : Terms) where
-  each_offends : (before hs : List Heard) → AllByRecursion (Offends terms) (each_from (breach_at terms) before hs)
+  each_offends : (before hs : List Heard)
+      → AllByRecursion (Offends terms) (each_from (breach_at terms) before hs)
   each_offends before [] = tt
-  each_offends before (h ∷ hs) = by_rule (rule_at terms (events_of (notes_of before)) h.note.event) refl (each_offends (before ++ h ∷ []) hs)
+  each_offends before (h ∷ hs) =
+      by_rule (rule_at terms (events_of (notes_of before)) h.note.event) refl
+      (each_offends (before ++ h ∷ []) hs)
     where
       rest : List Breach
       rest = each_from (breach_at terms) (before ++ h ∷ []) hs
 
-      by_rule : (o : Option ℕ) → rule_at terms (events_of (notes_of before)) h.note.event ≡ o → AllByRecursion (Offends terms) rest → AllByRecursion (Offends terms) (cons_option (option_map (breach before h) o) rest)
+      by_rule : (o : Option ℕ) → rule_at terms (events_of (notes_of before)) h.note.event ≡ o
+          → AllByRecursion (Offends terms) rest
+          → AllByRecursion (Offends terms) (cons_option (option_map (breach before h) o) rest)
       by_rule None is more = more
       by_rule (Some rule) is more = (is, more)
 
-  first_offends : (bs : List Breach) → AllByRecursion (Offends terms) bs → AllByRecursion (Offends terms) (take 1 bs)
+  first_offends : (bs : List Breach) → AllByRecursion (Offends terms) bs
+      → AllByRecursion (Offends terms) (take 1 bs)
   first_offends [] all = tt
   first_offends (b ∷ bs) all = (all.0, tt)
 
-  passed_offend : (p : Breach → Bool) (bs : List Breach) → AllByRecursion (Offends terms) bs → AllByRecursion (Offends terms) (filter p bs)
+  passed_offend : (p : Breach → Bool) (bs : List Breach) → AllByRecursion (Offends terms) bs
+      → AllByRecursion (Offends terms) (filter p bs)
   passed_offend p [] all = tt
   passed_offend p (b ∷ bs) all = by_test (p b) (passed_offend p bs all.1)
     where
-      by_test : (t : Bool) → AllByRecursion (Offends terms) (filter p bs) → AllByRecursion (Offends terms) (if t then b ∷ filter p bs else filter p bs)
+      by_test : (t : Bool) → AllByRecursion (Offends terms) (filter p bs)
+          → AllByRecursion (Offends terms) (if t then b ∷ filter p bs else filter p bs)
       by_test true more = (all.0, more)
       by_test false more = more
 
 module _ (rests : Rests) (terms : Terms) where
-  some_each : (bs : List Breach) → AllByRecursion (Offends terms) bs → (es : List Explained) × AllZip (Explains rests terms) bs es
+  some_each : (bs : List Breach) → AllByRecursion (Offends terms) bs
+      → (es : List Explained) × AllZip (Explains rests terms) bs es
   some_each [] all = ([], tt)
   some_each (b ∷ bs) all =
       let before = events_of (notes_of b.before) in
-      let plain = some_facts terms (kept_of terms before) b.rule rests b.here.raw b.here.note.event all.0 in
+      let plain = some_facts terms (kept_of terms before) b.rule rests b.here.raw b.here.note.event
+      all.0 in
       let own : Explained = record {
         no = no_by before b.here.note.event b.rule;
-        event = event_line (length b.before + 1) b.here.raw;
+        event = event_of (no_by before b.here.note.event b.rule) b.here.raw;
         facts = traced terms before b.here.note.event b.rule plain.0;
       } in
-      let rest = some_each bs all.1 in
-      (own ∷ rest.0, (record { no_is = refl; event_is = refl; facts_are = (plain.0, plain.1, refl) }, rest.1))
+      let rest = some_each bs all.1 in (
+        own ∷ rest.0,
+        (
+          record {
+            no_is = refl;
+            event_is = refl;
+            facts_are = (plain.0, plain.1, refl);
+          },
+          rest.1,
+        ),
+      )
 
-  one_told : (b : Breach) (d e : Explained) → Explains rests terms b d → Explains rests terms b e → d ≡ e
+  one_told : (b : Breach) (d e : Explained) → Explains rests terms b d → Explains rests terms b e
+      → d ≡ e
   one_told b d e p q =
       let before = events_of (notes_of b.before) in
       let facts : d.facts ≡ e.facts =
       p.facts_are.2
-      ∙ ap (traced terms before b.here.note.event b.rule) (one_facts terms (kept_of terms before) b.rule p.facts_are.0 q.facts_are.0 rests b.here.raw b.here.note.event p.facts_are.1 q.facts_are.1)
+      ∙ ap (traced terms before b.here.note.event b.rule)
+      (one_facts terms (kept_of terms before) b.rule p.facts_are.0 q.facts_are.0 rests b.here.raw
+      b.here.note.event p.facts_are.1 q.facts_are.1)
       ∙ sym q.facts_are.2 in
-      ap (λ v. let x : Explained = record { no = v; event = d.event; facts = d.facts } in x) (p.no_is ∙ sym q.no_is)
-      ∙ ap (λ l. let x : Explained = record { no = e.no; event = l; facts = d.facts } in x) (p.event_is ∙ sym q.event_is)
+      ap (λ v. let x : Explained = record {
+        no = v;
+        event = d.event;
+        facts = d.facts;
+      } in x) (p.no_is ∙ sym q.no_is)
+      ∙ ap (λ l. let x : Explained = record {
+        no = e.no;
+        event = l;
+        facts = d.facts;
+      } in x) (p.event_is ∙ ap (λ v. event_of v b.here.raw) (p.no_is ∙ sym q.no_is) ∙ sym q.event_is)
       ∙ ap (λ fs. let x : Explained = record { no = e.no; event = e.event; facts = fs } in x) facts
 
-  one_each : (bs : List Breach) (ds es : List Explained) → AllZip (Explains rests terms) bs ds → AllZip (Explains rests terms) bs es → ds ≡ es
+  one_each : (bs : List Breach) (ds es : List Explained) → AllZip (Explains rests terms) bs ds
+      → AllZip (Explains rests terms) bs es → ds ≡ es
   one_each [] [] [] p q = refl
   one_each [] [] (e ∷ es) p q = absurd q
   one_each [] (d ∷ ds) es p q = absurd p
   one_each (b ∷ bs) [] es p q = absurd p
   one_each (b ∷ bs) (d ∷ ds) [] p q = absurd q
-  one_each (b ∷ bs) (d ∷ ds) (e ∷ es) p q = ap (λ x. x ∷ ds) (one_told b d e p.0 q.0) ∙ ap (λ l. e ∷ l) (one_each bs ds es p.1 q.1)
+  one_each (b ∷ bs) (d ∷ ds) (e ∷ es) p q =
+      ap (λ x. x ∷ ds) (one_told b d e p.0 q.0) ∙ ap (λ l. e ∷ l) (one_each bs ds es p.1 q.1)
 
 -- ---- the parts of a log
 
@@ -118,10 +154,19 @@ some_parts : (limits : Bounds) (log : List ℕ) → (x : Parts) × AreParts limi
 some_parts limits log =
     let whole = some_log limits log in
     let raws = some_placed limits [] [] whole.1 in
-    let heard = hears (λ raw. (record { event = (some_read raw).0; asks = (some_asks raw).0 }, ((some_read raw).1, (some_asks raw).1))) raws.0 in
+    let heard = hears (λ raw. (
+      record { event = (some_read raw).0; asks = (some_asks raw).0 },
+      ((some_read raw).1, (some_asks raw).1),
+    )) raws.0 in
     let editor = some_stream limits (joined Editor whole.1) in
     let server = some_stream limits (joined Server whole.1) in (
-      record { format = whole.0; records = whole.1; log_fault = whole.2; heard = heard.heard; rests = record { editor = editor.1; server = server.1 } },
+      record {
+        format = whole.0;
+        records = whole.1;
+        log_fault = whole.2;
+        heard = heard.heard;
+        rests = record { editor = editor.1; server = server.1 };
+      },
       record {
         is_log = whole.3;
         placed_are = subst (Placed limits whole.1) (sym heard.are) raws.1;
@@ -146,21 +191,38 @@ same_heard (h ∷ hs) (k ∷ ks) raws notes =
     ∙ ap (λ n. (let x : Heard = record { raw = k.raw; note = n } in x) ∷ hs) note
     ∙ ap (λ l. k ∷ l) (same_heard hs ks later_raws later_notes)
 
-abbrev parts_of : Option Format → List Record → Option (ℕ × LogCode) → List Heard → List ℕ → List ℕ → Parts
-parts_of format records flaw heard editor server = record { format = format; records = records; log_fault = flaw; heard = heard; rests = record { editor = editor; server = server } }
+abbrev parts_of : Option Format → List Record → Option (ℕ × LogCode) → List Heard → List ℕ → List ℕ
+    → Parts
+parts_of format records flaw heard editor server = record {
+  format = format;
+  records = records;
+  log_fault = flaw;
+  heard = heard;
+  rests = record { editor = editor; server = server };
+}
 
-one_parts : (limits : Bounds) → IsInRange limits → (log : List ℕ) (x y : Parts) → AreParts limits log x → AreParts limits log y → x ≡ y
+one_parts : (limits : Bounds) → IsInRange limits → (log : List ℕ) (x y : Parts)
+    → AreParts limits log x → AreParts limits log y → x ≡ y
 one_parts limits sizes log x y p q =
-    let same = one_log limits sizes log x.format y.format x.records y.records x.log_fault y.log_fault p.is_log q.is_log in
+    let same = one_log limits sizes log x.format y.format x.records y.records x.log_fault
+    y.log_fault p.is_log q.is_log in
     let raws : raws_of x.heard ≡ raws_of y.heard =
-    one_placed limits [] [] y.records (raws_of x.heard) (raws_of y.heard) (subst (λ w. Placed limits w (raws_of x.heard)) same.1 p.placed_are) q.placed_are in
-    let notes : notes_of x.heard ≡ notes_of y.heard = one_notes (raws_of y.heard) (notes_of x.heard) (notes_of y.heard) (subst (λ w. AllZip IsNoted w (notes_of x.heard)) raws p.noted) q.noted in
-    let editor : x.rests.editor ≡ y.rests.editor = one_rest limits (joined Editor x.records) (joined Editor y.records) x.rests.editor y.rests.editor (ap (joined Editor) same.1) p.editor_rest q.editor_rest in
-    let server : x.rests.server ≡ y.rests.server = one_rest limits (joined Server x.records) (joined Server y.records) x.rests.server y.rests.server (ap (joined Server) same.1) p.server_rest q.server_rest in
+    one_placed limits [] [] y.records (raws_of x.heard) (raws_of y.heard)
+    (subst (λ w. Placed limits w (raws_of x.heard)) same.1 p.placed_are) q.placed_are in
+    let notes : notes_of x.heard ≡ notes_of y.heard =
+    one_notes (raws_of y.heard) (notes_of x.heard) (notes_of y.heard)
+    (subst (λ w. AllZip IsNoted w (notes_of x.heard)) raws p.noted) q.noted in
+    let editor : x.rests.editor ≡ y.rests.editor =
+    one_rest limits (joined Editor x.records) (joined Editor y.records) x.rests.editor
+    y.rests.editor (ap (joined Editor) same.1) p.editor_rest q.editor_rest in
+    let server : x.rests.server ≡ y.rests.server =
+    one_rest limits (joined Server x.records) (joined Server y.records) x.rests.server
+    y.rests.server (ap (joined Server) same.1) p.server_rest q.server_rest in
     ap (λ w. parts_of w x.records x.log_fault x.heard x.rests.editor x.rests.server) same.0
     ∙ ap (λ w. parts_of y.format w x.log_fault x.heard x.rests.editor x.rests.server) same.1
     ∙ ap (λ w. parts_of y.format y.records w x.heard x.rests.editor x.rests.server) same.2
-    ∙ ap (λ w. parts_of y.format y.records y.log_fault w x.rests.editor x.rests.server) (same_heard x.heard y.heard raws notes)
+    ∙ ap (λ w. parts_of y.format y.records y.log_fault w x.rests.editor x.rests.server)
+    (same_heard x.heard y.heard raws notes)
     ∙ ap (λ w. parts_of y.format y.records y.log_fault y.heard w x.rests.server) editor
     ∙ ap (λ w. parts_of y.format y.records y.log_fault y.heard y.rests.editor w) server
 
@@ -176,7 +238,8 @@ abbrev end_of : Parts → Ending
 end_of x = ending x.log_fault x.rests.editor x.rests.server
 
 abbrev found_of : Completeness → Bounds → Parts → List Offence
-found_of completeness limits x = found_in completeness (terms_of limits x) (notes_of x.heard) (end_of x)
+found_of completeness limits x =
+    found_in completeness (terms_of limits x) (notes_of x.heard) (end_of x)
 
 abbrev flaw_of : Bounds → List ℕ → Parts → List Fact
 flaw_of limits log x = log_facts limits log x.format x.records x.log_fault
@@ -185,39 +248,61 @@ abbrev sum_of : Bounds → Parts → Summary
 sum_of limits x = summary (terms_of limits x) (events_in x)
 
 abbrev ends_of : Completeness → Bounds → Parts → List Explained
-ends_of completeness limits x = map (end_explained x.rests (numbered (terms_of limits x) (events_in x))) (ends_listed completeness (terms_of limits x) (events_in x) (end_of x))
+ends_of completeness limits x =
+    map (end_explained x.rests (numbered (terms_of limits x) (events_in x)))
+    (ends_listed completeness (terms_of limits x) (events_in x) (end_of x))
 
 abbrev verdict_of : Completeness → Bounds → Parts → Verdict
-verdict_of completeness limits x = first_verdict (found_of completeness limits x) (bad_log_of x.log_fault) (sum_of limits x)
+verdict_of completeness limits x =
+    first_verdict (found_of completeness limits x) (bad_log_of x.log_fault) (sum_of limits x)
 
 -- ---- what is explained of them
 
 module _ (pick : Terms → List Heard → List Breach) (short : List Explained → List Explained)
-    (write : List Offence → List Explained → Option Verdict → List Fact → Summary → List ℕ) (completeness : Completeness) (limits : Bounds) (log : List ℕ) where
+    (write : List Offence → List Explained → Option Verdict → List Fact → Summary → List ℕ)
+    (completeness : Completeness) (limits : Bounds) (log : List ℕ) where
   -- these of them are explained so
   abbrev Says : Parts → Verdict → List ℕ → Type 0
   Says x v out =
-      (es : List Explained) × AllZip (Explains x.rests (terms_of limits x)) (pick (terms_of limits x) x.heard) es × (v ≡ verdict_of completeness limits x)
-      × (out ≡ write (found_of completeness limits x) (short (es ++ ends_of completeness limits x)) (bad_log_of x.log_fault) (flaw_of limits log x) (sum_of limits x))
+      (es : List Explained) × AllZip (Explains x.rests (terms_of limits x))
+      (pick (terms_of limits x) x.heard) es × (v ≡ verdict_of completeness limits x)
+      × (out ≡ write (found_of completeness limits x) (short (es ++ ends_of completeness limits x))
+      (bad_log_of x.log_fault) (flaw_of limits log x) (sum_of limits x))
 
-  says_one : (x : Parts) (v w : Verdict) (out other : List ℕ) → Says x v out → Says x w other → (v ≡ w) × (out ≡ other)
+  says_one : (x : Parts) (v w : Verdict) (out other : List ℕ) → Says x v out → Says x w other
+      → (v ≡ w) × (out ≡ other)
   says_one x v w out other p q =
-      let same : p.0 ≡ q.0 = one_each x.rests (terms_of limits x) (pick (terms_of limits x) x.heard) p.0 q.0 p.1 q.1 in (
+      let same : p.0 ≡ q.0 = one_each x.rests (terms_of limits x) (pick (terms_of limits x) x.heard)
+      p.0 q.0 p.1 q.1 in (
         p.2 ∙ sym q.2,
-        p.3 ∙ ap (λ es. write (found_of completeness limits x) (short (es ++ ends_of completeness limits x)) (bad_log_of x.log_fault) (flaw_of limits log x) (sum_of limits x)) same ∙ sym q.3,
+        p.3 ∙ ap (λ es. write (found_of completeness limits x)
+            (short (es ++ ends_of completeness limits x)) (bad_log_of x.log_fault)
+            (flaw_of limits log x) (sum_of limits x)) same ∙ sym q.3,
       )
 
-  both_say : IsInRange limits → (x y : Parts) (v w : Verdict) (out other : List ℕ) → AreParts limits log x → AreParts limits log y → Says x v out → Says y w other → (v ≡ w) × (out ≡ other)
-  both_say sizes x y v w out other p q first second = says_one y v w out other (subst (λ z. Says z v out) (one_parts limits sizes log x y p q) first) second
+  both_say : IsInRange limits → (x y : Parts) (v w : Verdict) (out other : List ℕ)
+      → AreParts limits log x → AreParts limits log y → Says x v out → Says y w other
+      → (v ≡ w) × (out ≡ other)
+  both_say sizes x y v w out other p q first second =
+      says_one y v w out other
+      (subst (λ z. Says z v out) (one_parts limits sizes log x y p q) first) second
 
 -- what is written of them, where each is what it comes to
-same_written : (write : List Offence → List Explained → Option Verdict → List Fact → Summary → List ℕ) (found fs : List Offence) (explained es : List Explained) (bad b : Option Verdict) (flaw l : List Fact) (s t : Summary)
-    → found ≡ fs → explained ≡ es → bad ≡ b → flaw ≡ l → s ≡ t → write found explained bad flaw s ≡ write fs es b l t
+same_written : (write : List Offence → List Explained → Option Verdict → List Fact → Summary
+    → List ℕ) (found fs : List Offence) (explained es : List Explained) (bad b : Option Verdict)
+    (flaw l : List Fact) (s t : Summary)
+    → found ≡ fs → explained ≡ es → bad ≡ b → flaw ≡ l → s ≡ t
+    → write found explained bad flaw s ≡ write fs es b l t
 same_written write found fs explained es bad b flaw l s t e1 e2 e3 e4 e5 =
-    ap (λ x. write x explained bad flaw s) e1 ∙ ap (λ x. write fs x bad flaw s) e2 ∙ ap (λ x. write fs es x flaw s) e3 ∙ ap (λ x. write fs es b x s) e4 ∙ ap (write fs es b l) e5
+    ap (λ x. write x explained bad flaw s) e1 ∙ ap (λ x. write fs x bad flaw s) e2
+    ∙ ap (λ x. write fs es x flaw s) e3 ∙ ap (λ x. write fs es b x s) e4
+    ∙ ap (write fs es b l) e5
 
-same_verdict : (found fs : List Offence) (bad b : Option Verdict) (s t : Summary) → found ≡ fs → bad ≡ b → s ≡ t → first_verdict found bad s ≡ first_verdict fs b t
-same_verdict found fs bad b s t e1 e2 e3 = ap (λ x. first_verdict x bad s) e1 ∙ ap (λ x. first_verdict fs x s) e2 ∙ ap (first_verdict fs b) e3
+same_verdict : (found fs : List Offence) (bad b : Option Verdict) (s t : Summary) → found ≡ fs
+    → bad ≡ b → s ≡ t → first_verdict found bad s ≡ first_verdict fs b t
+same_verdict found fs bad b s t e1 e2 e3 =
+    ap (λ x. first_verdict x bad s) e1 ∙ ap (λ x. first_verdict fs x s) e2
+    ∙ ap (first_verdict fs b) e3
 
 -- ---- the first that is wrong
 
@@ -226,10 +311,12 @@ some_explanation completeness limits log =
     let parts = some_parts limits log in
     let x = parts.0 in
     let terms = terms_of limits x in
-    let said = some_each x.rests terms (take 1 (breaches terms x.heard)) (first_offends terms (breaches terms x.heard) (each_offends terms [] x.heard)) in
+    let said = some_each x.rests terms (take 1 (breaches terms x.heard))
+    (first_offends terms (breaches terms x.heard) (each_offends terms [] x.heard)) in
     let explained = take 1 (said.0 ++ ends_of completeness limits x) in (
       verdict_of completeness limits x,
-      explanation (found_of completeness limits x) explained (bad_log_of x.log_fault) (flaw_of limits log x) (sum_of limits x),
+      explanation (found_of completeness limits x) explained (bad_log_of x.log_fault)
+          (flaw_of limits log x) (sum_of limits x),
       record {
         found = found_of completeness limits x;
         explained = explained;
@@ -260,23 +347,45 @@ some_explanation completeness limits log =
       },
     )
 
-module _ (completeness : Completeness) (limits : Bounds) (log : List ℕ) (v : Verdict) (out : List ℕ) where
-  abbrev FirstSays : Parts → Type 0
-  FirstSays x = Says (λ terms hs. take 1 (breaches terms hs)) (take 1) explanation completeness limits log x v out
+module _ (completeness : Completeness) (limits : Bounds) (log : List ℕ) (v : Verdict) (out : List ℕ)
+  where
+    abbrev FirstSays : Parts → Type 0
+    FirstSays x = Says (λ terms hs. take 1 (breaches terms hs)) (take 1) explanation completeness
+        limits log x v out
 
-  first_said : IsExplanation completeness limits log v out → (x : Parts) × AreParts limits log x × FirstSays x
-  first_said e =
-      let i = e.is in (
-        record { format = i.format; records = i.records; log_fault = i.log_fault; heard = i.heard; rests = i.rests },
-        record { is_log = i.is_log; placed_are = i.placed_are; noted = i.noted; editor_rest = i.editor_rest; server_rest = i.server_rest },
-        (i.of_events, i.explains, e.judges ∙ same_verdict _ _ _ _ _ _ i.lists i.bad_is i.comes_to, e.says ∙ same_written explanation _ _ _ _ _ _ _ _ _ _ i.lists i.shows i.bad_is i.flaw_is i.comes_to),
-      )
+    first_said : IsExplanation completeness limits log v out
+        → (x : Parts) × AreParts limits log x × FirstSays x
+    first_said e =
+        let i = e.is in (
+          record {
+            format = i.format;
+            records = i.records;
+            log_fault = i.log_fault;
+            heard = i.heard;
+            rests = i.rests;
+          },
+          record {
+            is_log = i.is_log;
+            placed_are = i.placed_are;
+            noted = i.noted;
+            editor_rest = i.editor_rest;
+            server_rest = i.server_rest;
+          },
+          (
+            i.of_events,
+            i.explains,
+            e.judges ∙ same_verdict _ _ _ _ _ _ i.lists i.bad_is i.comes_to,
+            e.says ∙ same_written explanation _ _ _ _ _ _ _ _ _ _ i.lists i.shows i.bad_is i.flaw_is
+                i.comes_to,
+          ),
+        )
 
 pub one_explanation : OneExplanation
 one_explanation completeness limits sizes log v w out other p q =
     let first = first_said completeness limits log v out p in
     let second = first_said completeness limits log w other q in
-    both_say (λ terms hs. take 1 (breaches terms hs)) (take 1) explanation completeness limits log sizes first.0 second.0 v w out other first.1 second.1 first.2 second.2
+    both_say (λ terms hs. take 1 (breaches terms hs)) (take 1) explanation completeness limits log
+    sizes first.0 second.0 v w out other first.1 second.1 first.2 second.2
 
 -- ---- all that is wrong
 
@@ -285,10 +394,13 @@ some_explanation_of_all completeness limits log =
     let parts = some_parts limits log in
     let x = parts.0 in
     let terms = terms_of limits x in
-    let said = some_each x.rests terms (causes terms x.heard) (passed_offend terms (is_cause terms) (breaches terms x.heard) (each_offends terms [] x.heard)) in
+    let said = some_each x.rests terms (causes terms x.heard)
+    (passed_offend terms (is_cause terms) (breaches terms x.heard)
+    (each_offends terms [] x.heard)) in
     let explained = said.0 ++ ends_of completeness limits x in (
       verdict_of completeness limits x,
-      all_explanation (found_of completeness limits x) explained (bad_log_of x.log_fault) (flaw_of limits log x) (sum_of limits x),
+      all_explanation (found_of completeness limits x) explained (bad_log_of x.log_fault)
+          (flaw_of limits log x) (sum_of limits x),
       record {
         found = found_of completeness limits x;
         explained = explained;
@@ -319,20 +431,41 @@ some_explanation_of_all completeness limits log =
       },
     )
 
-module _ (completeness : Completeness) (limits : Bounds) (log : List ℕ) (v : Verdict) (out : List ℕ) where
-  abbrev AllSays : Parts → Type 0
-  AllSays x = Says causes (λ es. es) all_explanation completeness limits log x v out
+module _ (completeness : Completeness) (limits : Bounds) (log : List ℕ) (v : Verdict) (out : List ℕ)
+  where
+    abbrev AllSays : Parts → Type 0
+    AllSays x = Says causes (λ es. es) all_explanation completeness limits log x v out
 
-  all_said : IsAllExplained completeness limits log v out → (x : Parts) × AreParts limits log x × AllSays x
-  all_said e =
-      let i = e.are in (
-        record { format = i.format; records = i.records; log_fault = i.log_fault; heard = i.heard; rests = i.rests },
-        record { is_log = i.is_log; placed_are = i.placed_are; noted = i.noted; editor_rest = i.editor_rest; server_rest = i.server_rest },
-        (i.of_events, i.explains, e.judges ∙ same_verdict _ _ _ _ _ _ i.lists i.bad_is i.comes_to, e.says ∙ same_written all_explanation _ _ _ _ _ _ _ _ _ _ i.lists i.shows i.bad_is i.flaw_is i.comes_to),
-      )
+    all_said : IsAllExplained completeness limits log v out
+        → (x : Parts) × AreParts limits log x × AllSays x
+    all_said e =
+        let i = e.are in (
+          record {
+            format = i.format;
+            records = i.records;
+            log_fault = i.log_fault;
+            heard = i.heard;
+            rests = i.rests;
+          },
+          record {
+            is_log = i.is_log;
+            placed_are = i.placed_are;
+            noted = i.noted;
+            editor_rest = i.editor_rest;
+            server_rest = i.server_rest;
+          },
+          (
+            i.of_events,
+            i.explains,
+            e.judges ∙ same_verdict _ _ _ _ _ _ i.lists i.bad_is i.comes_to,
+            e.says ∙ same_written all_explanation _ _ _ _ _ _ _ _ _ _ i.lists i.shows i.bad_is
+                i.flaw_is i.comes_to,
+          ),
+        )
 
 pub one_explanation_of_all : OneExplanationOfAll
 one_explanation_of_all completeness limits sizes log v w out other p q =
     let first = all_said completeness limits log v out p in
     let second = all_said completeness limits log w other q in
-    both_say causes (λ es. es) all_explanation completeness limits log sizes first.0 second.0 v w out other first.1 second.1 first.2 second.2
+    both_say causes (λ es. es) all_explanation completeness limits log sizes first.0 second.0 v w
+    out other first.1 second.1 first.2 second.2

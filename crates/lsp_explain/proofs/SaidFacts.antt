@@ -12,11 +12,13 @@ use Rattle.lsp_verdict.specs.Contents.{IsSent}
 use Rattle.lsp_verdict.specs.Event.{Event, message, fault, snapshot}
 use Rattle.lsp_verdict.specs.Offences.{kept_of, rule_at}
 use Rattle.lsp_verdict.specs.Placed.{Raw, content, broken, show, Reads}
+use Rattle.lsp_verdict.specs.declared.verdict.Who.{Who}
 use Rattle.lsp_verdict.proofs.OneEvent.{one_event}
 use Rattle.lsp_facts.specs.EventFacts.{AreCallFacts, AreFacts, AreMessageFacts}
 use Rattle.lsp_facts.specs.Fact.{Fact}
 use Rattle.lsp_facts.specs.FlawFacts.{Rests, rest_of, frame_facts}
-use Rattle.lsp_facts.specs.Lines.{content_event, content_message, event_line, message_event, side_event, snapshot_event}
+use Rattle.lsp_facts.specs.Lines.{bare_event, content_event, content_message, event_line}
+use Rattle.lsp_facts.specs.Lines.{message_event}
 use Rattle.lsp_facts.proofs.Naming.{message_named}
 use Rattle.lsp_facts.specs.MessageFacts.{content_facts}
 use Rattle.lsp_explain.specs.RunSteps.{ShowsFault}
@@ -32,74 +34,104 @@ module _ (terms : Terms) (before : List Event) (rule : ℕ) where
   Says rest (what.Frames by) facts = facts ≡ frame_facts rest
   Says rest (what.Content by given) facts = facts ≡ content_facts given.items
   Says rest (what.Message by spoken) facts =
-      (bytes : List ℕ) → (refused : RefusesMessage by bytes (message_view spoken.message) (act_view spoken.act) terms kept rule)
-      → AreTraced (AreMessageFacts terms kept refused.sent rule) terms before (message refused.sent) rule facts
+      (bytes : List ℕ) → (refused : RefusesMessage by bytes (message_view spoken.message)
+      (act_view spoken.act) terms kept rule)
+      → AreTraced (AreMessageFacts terms kept refused.sent rule) terms before (message refused.sent)
+      rule facts
   Says rest (what.Snapshot version uri text) facts =
-      rule_at terms before (snapshot (string_bytes uri) version (chars (string_bytes text))) ≡ Some rule
-      → AreTraced (AreCallFacts terms kept rule (Some (shows (string_bytes uri) version (chars (string_bytes text))))) terms before (snapshot (string_bytes uri) version (chars (string_bytes text))) rule facts
+      rule_at terms before (snapshot (string_bytes uri) version (chars (string_bytes text)))
+      ≡ Some rule
+      → AreTraced (AreCallFacts terms kept rule
+      (Some (shows (string_bytes uri) version (chars (string_bytes text))))) terms before
+      (snapshot (string_bytes uri) version (chars (string_bytes text))) rule facts
 
   -- the facts on this event, with the events that brought it
   abbrev pub AreAll : Rests → Raw → Event → List Fact → Type 0
-  AreAll rests raw event facts = AreTraced (AreFacts rests terms kept raw event rule) terms before event rule facts
+  AreAll rests raw event facts =
+      AreTraced (AreFacts rests terms kept raw event rule) terms before event rule facts
 
   -- is said of the event that it is
-  pub facts_said : (rest : List ℕ) (rests : Rests) (raw : Raw) (event : Event) (o : Offending) (facts : List Fact) → Reads raw event → IsOffending raw terms kept rule o → rule_at terms before event ≡ Some rule → ShowsFault rests o rest → Says rest o facts
+  pub facts_said : (rest : List ℕ) (rests : Rests) (raw : Raw) (event : Event) (o : Offending)
+      (facts : List Fact) → Reads raw event → IsOffending raw terms kept rule o
+      → rule_at terms before event ≡ Some rule → ShowsFault rests o rest → Says rest o facts
       → AreAll rests raw event facts
   facts_said rest rests (broken side code) event (what.Frames by) facts reads is offends seen says =
-      subst (λ e. AreAll rests (broken side code) e facts) (sym reads) (facts, says ∙ ap content_facts seen ∙ ap (λ s. frame_facts (rest_of rests s)) is, refl)
-  facts_said rest rests (content side bytes) event (what.Content by given) facts reads is offends seen says =
-      let same : event ≡ fault side rule = one_event side bytes event (fault side rule) reads is.2 in
-      subst (λ e. AreAll rests (content side bytes) e facts) (sym same) (facts, says ∙ ap content_facts is.1, refl)
-  facts_said rest rests (content side bytes) event (what.Message by spoken) facts reads is offends seen says =
+      subst (λ e. AreAll rests (broken side code) e facts) (sym reads)
+      (facts, says ∙ ap content_facts seen ∙ ap (λ s. frame_facts (rest_of rests s)) is, refl)
+  facts_said rest rests (content side bytes) event (what.Content by given) facts reads is offends
+      seen says =
+      let same : event ≡ fault side rule =
+      one_event side bytes event (fault side rule) reads is.2 in
+      subst (λ e. AreAll rests (content side bytes) e facts) (sym same)
+      (facts, says ∙ ap content_facts is.1, refl)
+  facts_said rest rests (content side bytes) event (what.Message by spoken) facts reads is offends
+      seen says =
       let refused = is.1 in
-      let same : event ≡ message refused.sent = one_event side bytes event (message refused.sent) reads refused.reads in
-      let by_side : RefusesMessage by bytes (message_view spoken.message) (act_view spoken.act) terms kept rule =
-      record { sent = refused.sent; reads = subst (λ s. IsSent s bytes refused.sent) (sym is.0) refused.reads; says = refused.says; means = refused.means; offends = refused.offends; whole = refused.whole } in
+      let same : event ≡ message refused.sent =
+      one_event side bytes event (message refused.sent) reads refused.reads in
+      let by_side : RefusesMessage by bytes (message_view spoken.message) (act_view spoken.act)
+      terms kept rule =
+      record {
+        sent = refused.sent;
+        reads = subst (λ s. IsSent s bytes refused.sent) (sym is.0) refused.reads;
+        says = refused.says;
+        means = refused.means;
+        offends = refused.offends;
+        whole = refused.whole;
+      } in
       subst (λ e. AreAll rests (content side bytes) e facts) (sym same) (says bytes by_side)
-  facts_said rest rests (show number uri text) event (what.Snapshot version name shown) facts reads is offends seen says =
+  facts_said rest rests (show number uri text) event (what.Snapshot version name shown) facts reads
+      is offends seen says =
       let same : event ≡ snapshot (string_bytes name) version (chars (string_bytes shown)) =
-      reads ∙ ap (λ u. snapshot u number (chars text)) (sym is.1) ∙ ap (λ n. snapshot (string_bytes name) n (chars text)) (sym is.0) ∙ ap (λ t. snapshot (string_bytes name) version (chars t)) (sym is.2) in
-      subst (λ e. AreAll rests (show number uri text) e facts) (sym same) (says (subst (λ e. rule_at terms before e ≡ Some rule) same offends))
-  facts_said rest rests (broken side code) event (what.Content by given) facts reads is offends seen says = absurd is
-  facts_said rest rests (broken side code) event (what.Message by spoken) facts reads is offends seen says = absurd is
-  facts_said rest rests (broken side code) event (what.Snapshot version name shown) facts reads is offends seen says = absurd is
-  facts_said rest rests (content side bytes) event (what.Frames by) facts reads is offends seen says = absurd is
-  facts_said rest rests (content side bytes) event (what.Snapshot version name shown) facts reads is offends seen says = absurd is
-  facts_said rest rests (show number uri text) event (what.Frames by) facts reads is offends seen says = absurd is
-  facts_said rest rests (show number uri text) event (what.Content by given) facts reads is offends seen says = absurd is
-  facts_said rest rests (show number uri text) event (what.Message by spoken) facts reads is offends seen says = absurd is
+      reads ∙ ap (λ u. snapshot u number (chars text)) (sym is.1)
+      ∙ ap (λ n. snapshot (string_bytes name) n (chars text)) (sym is.0)
+      ∙ ap (λ t. snapshot (string_bytes name) version (chars t)) (sym is.2) in
+      subst (λ e. AreAll rests (show number uri text) e facts) (sym same)
+      (says (subst (λ e. rule_at terms before e ≡ Some rule) same offends))
+  facts_said rest rests (broken side code) event (what.Content by given) facts reads is offends seen
+      says = absurd is
+  facts_said rest rests (broken side code) event (what.Message by spoken) facts reads is offends
+      seen says = absurd is
+  facts_said rest rests (broken side code) event (what.Snapshot version name shown) facts reads is
+      offends seen says = absurd is
+  facts_said rest rests (content side bytes) event (what.Frames by) facts reads is offends seen
+      says = absurd is
+  facts_said rest rests (content side bytes) event (what.Snapshot version name shown) facts reads is
+      offends seen says = absurd is
+  facts_said rest rests (show number uri text) event (what.Frames by) facts reads is offends seen
+      says = absurd is
+  facts_said rest rests (show number uri text) event (what.Content by given) facts reads is offends
+      seen says = absurd is
+  facts_said rest rests (show number uri text) event (what.Message by spoken) facts reads is offends
+      seen says = absurd is
 
-module _ (terms : Terms) (kept : List Event) (rule : ℕ) where
-  -- the line that names what was found
-  abbrev pub line_for : ℕ → Offending → List ℕ
-  line_for number (what.Frames by) = side_event number by
-  line_for number (what.Content by given) = content_event number by (content_message given.items)
-  line_for number (what.Message by spoken) = message_event number by (message_view spoken.message)
-  line_for number (what.Snapshot version uri text) = snapshot_event number (string_bytes uri) version (chars (string_bytes text))
+module _ (terms : Terms) (kept : List Event) (rule event : ℕ) (by : Who) (number : ℕ) where
+  -- the line of what was found
+  abbrev pub line_for : Offending → List ℕ
+  line_for (what.Frames side) = bare_event event by number
+  line_for (what.Content side given) = content_event event by number (content_message given.items)
+  line_for (what.Message side spoken) =
+      message_event event by number (message_view spoken.message)
+  line_for (what.Snapshot version uri text) = bare_event event by number
 
-  -- names the event that it is
-  pub line_said : (number : ℕ) (raw : Raw) (event : Event) (o : Offending) → Reads raw event
-      → IsOffending raw terms kept rule o → line_for number o ≡ event_line number raw
-  line_said number (broken side code) event (what.Frames by) reads is = ap (side_event number) is
-  line_said number (content side bytes) event (what.Content by given) reads is =
-      ap (λ s. content_event number s (content_message given.items)) is.0
-      ∙ ap (λ w. content_event number side (content_message w)) is.1
-  line_said number (content side bytes) event (what.Message by spoken) reads is =
+  -- is that of the event that it is
+  pub line_said : (raw : Raw) (e : Event) (o : Offending) → Reads raw e
+      → IsOffending raw terms kept rule o → line_for o ≡ event_line event by number raw
+  line_said (broken side code) e (what.Frames from) reads is = refl
+  line_said (content side bytes) e (what.Content from given) reads is =
+      ap (λ w. content_event event by number (content_message w)) is.1
+  line_said (content side bytes) e (what.Message from spoken) reads is =
       let refused = is.1 in
       let own = refused.sent in
-      let same = same_line own by (message_view spoken.message) number (refused.reads.by ∙ sym is.0) refused.says in
       let named = message_named bytes own.message refused.reads.reads in
-      sym same ∙ ap (λ s. message_event number s own.message) refused.reads.by
-      ∙ sym (ap (content_event number side) named)
-  line_said number (show n uri text) event (what.Snapshot version name shown) reads is =
-      ap (λ u. snapshot_event number u version (chars (string_bytes shown))) is.1
-      ∙ ap (λ v. snapshot_event number uri v (chars (string_bytes shown))) is.0
-      ∙ ap (λ t. snapshot_event number uri n (chars t)) is.2
-  line_said number (broken side code) event (what.Content by given) reads is = absurd is
-  line_said number (broken side code) event (what.Message by spoken) reads is = absurd is
-  line_said number (broken side code) event (what.Snapshot version name shown) reads is = absurd is
-  line_said number (content side bytes) event (what.Frames by) reads is = absurd is
-  line_said number (content side bytes) event (what.Snapshot version name shown) reads is = absurd is
-  line_said number (show n uri text) event (what.Frames by) reads is = absurd is
-  line_said number (show n uri text) event (what.Content by given) reads is = absurd is
-  line_said number (show n uri text) event (what.Message by spoken) reads is = absurd is
+      sym (same_line event by number own.message (message_view spoken.message) refused.says)
+      ∙ sym (ap (content_event event by number) named)
+  line_said (show n uri text) e (what.Snapshot version name shown) reads is = refl
+  line_said (broken side code) e (what.Content from given) reads is = absurd is
+  line_said (broken side code) e (what.Message from spoken) reads is = absurd is
+  line_said (broken side code) e (what.Snapshot version name shown) reads is = absurd is
+  line_said (content side bytes) e (what.Frames from) reads is = absurd is
+  line_said (content side bytes) e (what.Snapshot version name shown) reads is = absurd is
+  line_said (show n uri text) e (what.Frames from) reads is = absurd is
+  line_said (show n uri text) e (what.Content from given) reads is = absurd is
+  line_said (show n uri text) e (what.Message from spoken) reads is = absurd is

@@ -4,9 +4,8 @@ use Rattle.std.specs.Prelude.{codes, decimal}
 use Rattle.lsp_rpc.specs.Message.{Message, request, notification, response, result, error}
 use Rattle.lsp_rpc.specs.Outline.{outline}
 use Rattle.lsp_rpc.specs.Words.{words_of}
-use Rattle.lsp_types.specs.declared.side.Side.{Side}
-use Rattle.lsp_session.specs.Sent.{Sent}
-use Rattle.lsp_verdict.specs.Report.{line, side_name}
+use Rattle.lsp_verdict.specs.Report.{line, who_name}
+use Rattle.lsp_verdict.specs.declared.verdict.Who.{Who}
 use Rattle.lsp_facts.specs.Lines.{message_event}
 use Rattle.lsp_facts.specs.MessageFacts.{id_in}
 use Rattle.lsp_rpc.proofs.OutlineWords.{words_by_outline}
@@ -17,11 +16,14 @@ id_in-outline (notification method params) = refl
 id_in-outline (response id (result value)) = refl
 id_in-outline (response id (error code)) = refl
 
-abbrev message_event_of : ℕ → Side → List ℕ → List ℕ
-message_event_of number side words = line (codes "event" ∷ decimal number ∷ side_name side ∷ words ∷ [])
+module _ (event : ℕ) (by : Who) (number : ℕ) where
+  abbrev with_words : List ℕ → List ℕ
+  with_words words =
+      line (codes "event" ∷ decimal event ∷ who_name by ∷ decimal number ∷ words ∷ [])
 
--- the line of a message that was heard without its params and, in some cases, without the value of its result
-pub same_line : (m : Sent) (side : Side) (said : Message) (number : ℕ) → m.side ≡ side → outline m.message ≡ outline said → message_event number m.side m.message ≡ message_event number side said
-same_line m side said number by same =
-    ap (λ s. message_event number s m.message) by
-    ∙ ap (λ words. message_event_of number side words) (words_by_outline m.message ∙ ap words_of same ∙ sym (words_by_outline said))
+  -- the line of a message that was heard without its params and, in some cases, without the value
+  -- of its result
+  pub same_line : (m said : Message) → outline m ≡ outline said
+      → message_event event by number m ≡ message_event event by number said
+  same_line m said same =
+      ap with_words (words_by_outline m ∙ ap words_of same ∙ sym (words_by_outline said))

@@ -1,6 +1,8 @@
 -- The facts on a message that was heard, with the events that brought it, are those on the message.
-use Rattle.std.specs.Prelude.{nat_lt, map, ◌==◌, if◌then◌else◌}
-use Rattle.std.proofs.Common.{◌≡◌, ◌<◌, ℕ, Bool, true, false, List, [], ◌++◌, sym, ap, ◌∙◌, arith}
+use Rattle.std.specs.Prelude.{nat_lt, map, insert, ◌==◌, if◌then◌else◌}
+use Rattle.std.specs.List.{remove}
+use Rattle.std.proofs.Common.{◌≡◌, ◌<◌, ◌≤◌, ℕ, Bool, true, false, List, [], ◌∷◌, ◌++◌, length}
+use Rattle.std.proofs.Common.{get_or, Some, refl, sym, ap, ◌∙◌, arith}
 use Rattle.std.proofs.lemmas.Bool.Decides.{nat_tests}
 use Rattle.lsp_docs.specs.Terms.{Terms}
 use Rattle.lsp_rpc.specs.Act.{Act}
@@ -9,23 +11,32 @@ use Rattle.lsp_rpc.specs.Outline.{outline}
 use Rattle.lsp_session.specs.Sent.{Sent}
 use Rattle.lsp_types.specs.declared.side.Side.{Side}
 use Rattle.lsp_verdict.specs.Event.{Event, message}
-use Rattle.lsp_notes.specs.Asking.{numbered}
-use Rattle.lsp_notes.specs.Marking.{Step, agreed, brought}
-use Rattle.lsp_facts.specs.Fact.{Fact, shown_by}
+use Rattle.lsp_survey.specs.Asking.{numbered}
+use Rattle.lsp_survey.specs.Marking.{Step, agreed, brought}
+use Rattle.lsp_facts.specs.Fact.{Fact, fact_view, shown_by}
+use Rattle.lsp_facts.specs.declared.fact.Fact as code
 use Rattle.lsp_facts.specs.MessageFacts.{id_in}
-use Rattle.lsp_explain.specs.Traced.{act_call, agreed_facts, call_traced, document_traced, session_trace, traced, with_brought}
+use Rattle.lsp_explain.specs.Traced.{act_call, equal_facts, call_traced, document_traced}
+use Rattle.lsp_explain.specs.Traced.{held_by, session_trace, traced, with_setter}
 use Rattle.lsp_explain.proofs.Spoken.{id_in-outline}
 
 module _ (terms : Terms) (before : List Event) (rule : ℕ) (plain : List Fact) where
   -- what is added, where the rule is one on messages or not
   abbrev added : Bool → Side → Message → Act → List Fact
-  added b side said act = if b then plain ++ session_trace rule (numbered terms before) side (id_in said) else call_traced terms before rule (act_call terms before act) plain
+  added b side said act = if b then plain ++ session_trace rule (numbered terms before) side
+      (id_in said) else call_traced terms before rule (act_call terms before act) plain
 
   -- below 601 the rule is one on messages
-  pub added_to_messages : (side : Side) (said : Message) (act : Act) → rule < 601 → added (nat_lt rule 601) side said act ≡ plain ++ session_trace rule (numbered terms before) side (id_in said)
-  added_to_messages side said act less = let below : nat_lt rule 601 ≡ true = grind (arith, nat_tests) in ap (λ (b : Bool). added b side said act) below
+  pub added_to_messages : (side : Side) (said : Message) (act : Act) → rule < 601
+      → added (nat_lt rule 601) side said act
+      ≡ plain ++ session_trace rule (numbered terms before) side (id_in said)
+  added_to_messages side said act less =
+      let below : nat_lt rule 601 ≡ true =
+      grind (arith, nat_tests) in ap (λ (b : Bool). added b side said act) below
 
-  pub same_traced : (m : Sent) (side : Side) (said : Message) (act : Act) → m.side ≡ side → outline m.message ≡ outline said → m.act ≡ act → added (nat_lt rule 601) side said act ≡ traced terms before (message m) rule plain
+  pub same_traced : (m : Sent) (side : Side) (said : Message) (act : Act) → m.side ≡ side
+      → outline m.message ≡ outline said → m.act ≡ act
+      → added (nat_lt rule 601) side said act ≡ traced terms before (message m) rule plain
   same_traced m side said act by same means = by_test (nat_lt rule 601)
     where
       ids : id_in said ≡ id_in m.message
@@ -33,11 +44,37 @@ module _ (terms : Terms) (before : List Event) (rule : ℕ) (plain : List Fact) 
 
       by_test : (b : Bool) → added b side said act ≡ added b m.side m.message m.act
       by_test true = λ i. plain ++ session_trace rule (numbered terms before) (sym by i) (ids i)
-      by_test false = ap (λ (a : Act). call_traced terms before rule (act_call terms before a) plain) (sym means)
+      by_test false = ap (λ (a : Act). call_traced terms before rule (act_call terms before a)
+          plain) (sym means)
+
+-- the second fact gives way to the same with the event that set the version
+pub second_set : (n : ℕ) (facts : List code.Fact) (taken put : code.Fact)
+    (left now : List code.Fact) → 2 ≤ length facts → taken ≡ get_or facts 1 taken
+    → fact_view put ≡ held_by n (fact_view taken) → left ≡ remove facts 1
+    → now ≡ insert left 1 put
+    → map fact_view now ≡ with_setter (Some n) (map fact_view facts)
+second_set n [] taken put left now long at is without puts = absurd (omega arith)
+second_set n (first ∷ []) taken put left now long at is without puts = absurd (omega arith)
+second_set n (first ∷ second ∷ facts) taken put left now long at is without puts =
+    ap (map fact_view) (puts ∙ ap (λ (l : List code.Fact). insert l 1 put) without)
+    ∙ ap (λ (f : Fact). fact_view first ∷ f ∷ map fact_view facts)
+    (is ∙ ap (λ (f : code.Fact). held_by n (fact_view f)) at)
+
+-- where there is no second fact, they stay
+pub short_stays : (n : ℕ) (facts : List code.Fact) → length facts < 2
+    → map fact_view facts ≡ with_setter (Some n) (map fact_view facts)
+short_stays n [] short = refl
+short_stays n (first ∷ []) short = refl
+short_stays n (first ∷ second ∷ facts) short = absurd (omega arith)
 
 -- under another rule than 702 no snapshot that differs is named
-pub names_no_texts : (done : List Step) (ns ms : List ℕ) (rule : ℕ) (plain : List Fact) → (rule ≡ 702 → ⊥) → document_traced done ns rule plain ≡ document_traced done ms rule plain
+pub names_no_texts : (done : List Step) (ns ms : List ℕ) (rule : ℕ) (plain : List Fact)
+    → (rule ≡ 702 → ⊥) → document_traced done ns rule plain ≡ document_traced done ms rule plain
 names_no_texts done ns ms rule plain other =
     let is : (rule == 702) ≡ false = grind (arith, nat_tests) in
-    ap (λ (b : Bool). with_brought (brought done) plain ++ (if b then map shown_by ns ++ agreed_facts (agreed done) else (if rule == 608 then agreed_facts (agreed done) else []))) is
-    ∙ sym (ap (λ (b : Bool). with_brought (brought done) plain ++ (if b then map shown_by ms ++ agreed_facts (agreed done) else (if rule == 608 then agreed_facts (agreed done) else []))) is)
+    ap (λ (b : Bool). with_setter (brought done)
+    plain ++ (if b then map shown_by ns ++ equal_facts (agreed done) else
+    (if rule == 608 then equal_facts (agreed done) else []))) is
+    ∙ sym (ap (λ (b : Bool). with_setter (brought done)
+    plain ++ (if b then map shown_by ms ++ equal_facts (agreed done) else
+    (if rule == 608 then equal_facts (agreed done) else []))) is)

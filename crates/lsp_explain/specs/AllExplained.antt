@@ -6,7 +6,7 @@ use Rattle.lsp_frame.specs.Bounds.{Bounds}
 use Rattle.lsp_frame.specs.declared.format.Format.{Format}
 use Rattle.lsp_log.specs.Log.{Record, IsLog}
 use Rattle.lsp_log.specs.declared.fault.LogCode.{LogCode}
-use Rattle.lsp_notes.specs.Asking.{numbered}
+use Rattle.lsp_survey.specs.Asking.{numbered}
 use Rattle.lsp_types.specs.declared.side.Side.TheVariants.{Editor, Server}
 use Rattle.lsp_verdict.specs.Offences.{Offence, IsNoted, events_of, follows}
 use Rattle.lsp_verdict.specs.Outcome.{HasRest, ending, log_terms}
@@ -17,7 +17,8 @@ use Rattle.lsp_verdict.specs.Verdict.{Verdict, Summary, bad_log_of, summary}
 use Rattle.lsp_verdict.specs.declared.completeness.Completeness.{Completeness}
 use Rattle.lsp_facts.specs.Fact.{Fact}
 use Rattle.lsp_facts.specs.FlawFacts.{Rests, log_facts}
-use Rattle.lsp_explain.specs.Explained.{Heard, Breach, Explained, Explains, raws_of, notes_of, breaches, end_explained, said_of, flaw_lines}
+use Rattle.lsp_explain.specs.Explained.{Heard, Breach, Explained, Explains, raws_of, notes_of}
+use Rattle.lsp_explain.specs.Explained.{breaches, end_explained, said_of, flaw_lines}
 
 -- ---- the events that are explained
 
@@ -35,19 +36,25 @@ causes terms heard = filter (is_cause terms) (breaches terms heard)
 abbrev pub cause_lines : Explained → List ℕ
 cause_lines e = report e.no ++ said_of e
 
--- what stands behind the offences: the fault of the log and what is said of it, and how many offences there are; where there is none, the report
+-- what stands behind the offences: the fault of the log and what is said of it, and how many
+-- offences there are; where there is none, the report
 abbrev pub all_closing : List Offence → Option Verdict → List Fact → Summary → List ℕ
 all_closing [] bad flaw s = report (first_verdict [] bad s) ++ flaw_lines bad flaw
 all_closing (o ∷ found) bad flaw s = bad_lines bad ++ flaw_lines bad flaw ++ found_line (o ∷ found)
 
 -- **the explanation of all that was found**
-abbrev pub all_explanation : List Offence → List Explained → Option Verdict → List Fact → Summary → List ℕ
-all_explanation found explained bad flaw s = flat_map cause_lines explained ++ all_closing found bad flaw s
+abbrev pub all_explanation : List Offence → List Explained → Option Verdict → List Fact → Summary
+    → List ℕ
+all_explanation found explained bad flaw s =
+    flat_map cause_lines explained ++ all_closing found bad flaw s
 
 -- ---- a log
 
--- **all that is explained of a log**, the causes among its events and what is listed of its end: `found` and `bad` and `s` are its survey, and `flaw` is said of its fault
-pub record AreAllSaid (completeness : Completeness) (limits : Bounds) (log : List ℕ) (found : List Offence) (explained : List Explained) (bad : Option Verdict) (flaw : List Fact) (s : Summary) : Type 0 where
+-- **all that is explained of a log**, the causes among its events and what is listed of its end:
+-- `found` and `bad` and `s` are its survey, and `flaw` is said of its fault
+pub record AreAllSaid (completeness : Completeness) (limits : Bounds) (log : List ℕ)
+    (found : List Offence) (explained : List Explained) (bad : Option Verdict) (flaw : List Fact)
+    (s : Summary) : Type 0 where
   pub format : Option Format
   pub records : List Record
   pub log_fault : Option (ℕ × LogCode)
@@ -59,15 +66,21 @@ pub record AreAllSaid (completeness : Completeness) (limits : Bounds) (log : Lis
   pub noted : AllZip IsNoted (raws_of heard) (notes_of heard)
   pub editor_rest : HasRest limits (joined Editor records) rests.editor
   pub server_rest : HasRest limits (joined Server records) rests.server
-  pub lists : found ≡ found_in completeness (log_terms limits format) (notes_of heard) (ending log_fault rests.editor rests.server)
+  pub lists : found ≡ found_in completeness (log_terms limits format) (notes_of heard)
+      (ending log_fault rests.editor rests.server)
   pub bad_is : bad ≡ bad_log_of log_fault
   pub flaw_is : flaw ≡ log_facts limits log format records log_fault
   pub comes_to : s ≡ summary (log_terms limits format) (events_of (notes_of heard))
-  pub explains : AllZip (Explains rests (log_terms limits format)) (causes (log_terms limits format) heard) of_events
-  pub shows : explained ≡ of_events ++ map (end_explained rests (numbered (log_terms limits format) (events_of (notes_of heard)))) (ends_listed completeness (log_terms limits format) (events_of (notes_of heard)) (ending log_fault rests.editor rests.server))
+  pub explains : AllZip (Explains rests (log_terms limits format))
+      (causes (log_terms limits format) heard) of_events
+  pub shows : explained ≡ of_events ++ map
+      (end_explained rests (numbered (log_terms limits format) (events_of (notes_of heard))))
+      (ends_listed completeness (log_terms limits format) (events_of (notes_of heard))
+      (ending log_fault rests.editor rests.server))
 
 -- **the verdict on a log, and the explanation of all that is wrong with it**
-pub record IsAllExplained (completeness : Completeness) (limits : Bounds) (log : List ℕ) (v : Verdict) (out : List ℕ) : Type 0 where
+pub record IsAllExplained (completeness : Completeness) (limits : Bounds) (log : List ℕ)
+    (v : Verdict) (out : List ℕ) : Type 0 where
   pub found : List Offence
   pub explained : List Explained
   pub bad : Option Verdict
@@ -92,13 +105,19 @@ pub record AreFirstSaid (limits : Bounds) (log : List ℕ) (said : List Explaine
   pub noted : AllZip IsNoted (raws_of heard) (notes_of heard)
   pub editor_rest : HasRest limits (joined Editor records) rests.editor
   pub server_rest : HasRest limits (joined Server records) rests.server
-  pub explains : AllZip (Explains rests (log_terms limits format)) (causes (log_terms limits format) heard) said
+  pub explains : AllZip (Explains rests (log_terms limits format))
+      (causes (log_terms limits format) heard) said
 
 -- the lines of these begin with these bytes
 abbrev pub BeginsFirst : Bounds → List ℕ → List ℕ → Type 0
-BeginsFirst limits log front = (said : List Explained) × AreFirstSaid limits log said × (left : List ℕ) × (flat_map cause_lines said ≡ front ++ left)
+BeginsFirst limits log front =
+    (said : List Explained) × AreFirstSaid limits log said × (left : List ℕ)
+    × (flat_map cause_lines said ≡ front ++ left)
 
--- **what begins the explanation**: the lines of the causes among the first events, or the whole of it
+-- **what begins the explanation**: the lines of the causes among the first events, or the whole of
+-- it
 abbrev pub BeginsAllExplained : Completeness → Bounds → List ℕ → List ℕ → Type 0
 BeginsAllExplained completeness limits log front =
-    BeginsFirst limits log front ⊎ ((v : Verdict) × (left : List ℕ) × IsAllExplained completeness limits log v (front ++ left))
+    BeginsFirst limits log front
+    ⊎ ((v : Verdict) × (left : List ℕ)
+    × IsAllExplained completeness limits log v (front ++ left))

@@ -1,5 +1,7 @@
--- What is said of a log that offends: with its offences, the events that offend and the facts on them.
-use Rattle.std.specs.Prelude.{◌≡◌, ℕ, ◌+◌, List, [], ◌∷◌, ◌++◌, map, take, length, ◌==◌, if◌then◌else◌, Option, Some, option_map}
+-- What is said of a log that offends: with its offences, the events that offend and the facts on
+-- them.
+use Rattle.std.specs.Prelude.{◌≡◌, ℕ, List, [], ◌∷◌, ◌++◌, map, take, ◌==◌}
+use Rattle.std.specs.Prelude.{if◌then◌else◌, Option, Some, option_map}
 use Rattle.std.specs.List.{AllZip, flat_map}
 use Rattle.lsp_frame.specs.Bounds.{Bounds}
 use Rattle.lsp_frame.specs.declared.format.Format.{Format}
@@ -13,14 +15,15 @@ use Rattle.lsp_verdict.specs.Outcome.{HasRest, ending, log_terms}
 use Rattle.lsp_verdict.specs.Placed.{Raw, Placed, joined}
 use Rattle.lsp_verdict.specs.Report.{report}
 use Rattle.lsp_verdict.specs.Survey.{found_in, ends_listed, first_verdict}
-use Rattle.lsp_verdict.specs.Verdict.{Verdict, yes, no, bad_log, Summary, summary, bad_log_of, no_by}
+use Rattle.lsp_verdict.specs.Verdict.{Verdict, yes, no, bad_log, Summary, summary, bad_log_of}
+use Rattle.lsp_verdict.specs.Verdict.{no_by}
 use Rattle.lsp_verdict.specs.declared.completeness.Completeness.{Completeness}
 use Rattle.lsp_facts.specs.EventFacts.{AreFacts}
 use Rattle.lsp_facts.specs.Fact.{Fact}
 use Rattle.lsp_facts.specs.FlawFacts.{Rests, rest_of, side_by, unfinished_facts, log_facts}
-use Rattle.lsp_facts.specs.Lines.{fact_lines, event_line, end_event}
+use Rattle.lsp_facts.specs.Lines.{detail_lines, event_line, end_event}
 use Rattle.lsp_explain.specs.Traced.{AreTraced, lack_traced}
-use Rattle.lsp_notes.specs.Asking.{Numbered, numbered}
+use Rattle.lsp_survey.specs.Asking.{Numbered, numbered}
 
 -- ---- an event that offends
 
@@ -45,7 +48,8 @@ abbrev pub breach : List Heard → Heard → ℕ → Breach
 breach before h rule = record { before = before; here = h; rule = rule }
 
 abbrev pub breach_at : Terms → List Heard → Heard → Option Breach
-breach_at terms before h = option_map (breach before h) (rule_at terms (events_of (notes_of before)) h.note.event)
+breach_at terms before h =
+    option_map (breach before h) (rule_at terms (events_of (notes_of before)) h.note.event)
 
 -- all of them
 abbrev pub breaches : Terms → List Heard → List Breach
@@ -53,7 +57,13 @@ breaches terms heard = each_of (breach_at terms) heard
 
 -- ---- what is said of it
 
--- the No, the line that names the event, and the facts, with the events that brought it
+-- the line of the event of a No
+abbrev pub event_of : Verdict → Raw → List ℕ
+event_of (no rule by count event) raw = event_line event by count raw
+event_of (yes s) raw = []
+event_of (bad_log at code) raw = []
+
+-- the No, the line of its event, and the facts, with the events that brought it
 pub record Explained : Type 0 where
   pub no : Verdict
   pub event : List ℕ
@@ -61,8 +71,11 @@ pub record Explained : Type 0 where
 
 pub record Explains (rests : Rests) (terms : Terms) (b : Breach) (e : Explained) : Type 0 where
   pub no_is : e.no ≡ no_by (events_of (notes_of b.before)) b.here.note.event b.rule
-  pub event_is : e.event ≡ event_line (length b.before + 1) b.here.raw
-  pub facts_are : AreTraced (AreFacts rests terms (kept_of terms (events_of (notes_of b.before))) b.here.raw b.here.note.event b.rule) terms (events_of (notes_of b.before)) b.here.note.event b.rule e.facts
+  pub event_is : e.event ≡ event_of e.no b.here.raw
+  pub facts_are : AreTraced
+      (AreFacts rests terms (kept_of terms (events_of (notes_of b.before))) b.here.raw
+      b.here.note.event b.rule) terms (events_of (notes_of b.before)) b.here.note.event b.rule
+      e.facts
 
 -- ---- how a session ends
 
@@ -74,7 +87,8 @@ end_line (bad_log at code) = []
 
 -- 107 says how the frame begins that is not whole, 303 and 407 what waits after the kept messages
 abbrev pub end_facts : Rests → List Numbered → Verdict → List Fact
-end_facts rests said (no rule by count event) = if rule == 107 then unfinished_facts (rest_of rests (side_by by)) else lack_traced said
+end_facts rests said (no rule by count event) =
+    if rule == 107 then unfinished_facts (rest_of rests (side_by by)) else lack_traced said
 end_facts rests said (yes s) = []
 end_facts rests said (bad_log at code) = []
 
@@ -84,22 +98,27 @@ end_explained rests said v = record { no = v; event = end_line v; facts = end_fa
 -- ---- the report
 
 abbrev pub said_of : Explained → List ℕ
-said_of e = e.event ++ fact_lines e.facts
+said_of e = e.event ++ detail_lines e.facts e.no
 
 -- what is said of the fault of a log
 abbrev pub flaw_lines : Option Verdict → List Fact → List ℕ
-flaw_lines (Some (bad_log at code)) flaw = fact_lines flaw
+flaw_lines (Some (bad_log at code)) flaw = detail_lines flaw (bad_log at code)
 flaw_lines _ flaw = []
 
--- **the explanation**: where nothing offends the report, and of a bad log what is said of its fault; else of the first offence the report of its No and what is said of it
-abbrev pub explanation : List Offence → List Explained → Option Verdict → List Fact → Summary → List ℕ
+-- **the explanation**: where nothing offends the report, and of a bad log what is said of its
+-- fault; else of the first offence the report of its No and what is said of it
+abbrev pub explanation : List Offence → List Explained → Option Verdict → List Fact → Summary
+    → List ℕ
 explanation [] explained bad flaw s = report (first_verdict [] bad s) ++ flaw_lines bad flaw
 explanation (o ∷ found) explained bad flaw s = report o.no ++ flat_map said_of explained
 
 -- ---- a log
 
--- **what is explained of a log**, the first offence: `found` and `bad` and `s` are its survey, and `flaw` is said of its fault
-pub record IsExplained (completeness : Completeness) (limits : Bounds) (log : List ℕ) (found : List Offence) (explained : List Explained) (bad : Option Verdict) (flaw : List Fact) (s : Summary) : Type 0 where
+-- **what is explained of a log**, the first offence: `found` and `bad` and `s` are its survey, and
+-- `flaw` is said of its fault
+pub record IsExplained (completeness : Completeness) (limits : Bounds) (log : List ℕ)
+    (found : List Offence) (explained : List Explained) (bad : Option Verdict) (flaw : List Fact)
+    (s : Summary) : Type 0 where
   pub format : Option Format
   pub records : List Record
   pub log_fault : Option (ℕ × LogCode)
@@ -111,15 +130,22 @@ pub record IsExplained (completeness : Completeness) (limits : Bounds) (log : Li
   pub noted : AllZip IsNoted (raws_of heard) (notes_of heard)
   pub editor_rest : HasRest limits (joined Editor records) rests.editor
   pub server_rest : HasRest limits (joined Server records) rests.server
-  pub lists : found ≡ found_in completeness (log_terms limits format) (notes_of heard) (ending log_fault rests.editor rests.server)
+  pub lists : found ≡ found_in completeness (log_terms limits format) (notes_of heard)
+      (ending log_fault rests.editor rests.server)
   pub bad_is : bad ≡ bad_log_of log_fault
   pub flaw_is : flaw ≡ log_facts limits log format records log_fault
   pub comes_to : s ≡ summary (log_terms limits format) (events_of (notes_of heard))
-  pub explains : AllZip (Explains rests (log_terms limits format)) (take 1 (breaches (log_terms limits format) heard)) of_events
-  pub shows : explained ≡ take 1 (of_events ++ map (end_explained rests (numbered (log_terms limits format) (events_of (notes_of heard)))) (ends_listed completeness (log_terms limits format) (events_of (notes_of heard)) (ending log_fault rests.editor rests.server)))
+  pub explains : AllZip (Explains rests (log_terms limits format))
+      (take 1 (breaches (log_terms limits format) heard)) of_events
+  pub shows : explained ≡ take 1 (of_events ++ map
+      (end_explained rests (numbered (log_terms limits format) (events_of (notes_of heard))))
+      (ends_listed completeness (log_terms limits format) (events_of (notes_of heard))
+      (ending log_fault rests.editor rests.server)))
 
--- **the verdict on a log, and what explains it**: the first that its survey lists, else its fault, else Yes
-pub record IsExplanation (completeness : Completeness) (limits : Bounds) (log : List ℕ) (v : Verdict) (out : List ℕ) : Type 0 where
+-- **the verdict on a log, and what explains it**: the first that its survey lists, else its fault,
+-- else Yes
+pub record IsExplanation (completeness : Completeness) (limits : Bounds) (log : List ℕ)
+    (v : Verdict) (out : List ℕ) : Type 0 where
   pub found : List Offence
   pub explained : List Explained
   pub bad : Option Verdict
@@ -131,4 +157,5 @@ pub record IsExplanation (completeness : Completeness) (limits : Bounds) (log : 
 
 -- what begins the explanation of a log
 abbrev pub BeginsExplanation : Completeness → Bounds → List ℕ → List ℕ → Type 0
-BeginsExplanation completeness limits log front = (v : Verdict) × (left : List ℕ) × IsExplanation completeness limits log v (front ++ left)
+BeginsExplanation completeness limits log front =
+    (v : Verdict) × (left : List ℕ) × IsExplanation completeness limits log v (front ++ left)

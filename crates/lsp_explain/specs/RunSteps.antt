@@ -8,7 +8,7 @@ use Rattle.lsp_log.specs.Log.{Record}
 use Rattle.lsp_log.specs.Reader.{shown_by}
 use Rattle.lsp_types.specs.declared.side.Side.{Side}
 use Rattle.lsp_types.specs.declared.side.Side.TheVariants.{Editor, Server}
-use Rattle.lsp_docs.specs.Terms.{Terms, terms_of}
+use Rattle.lsp_docs.specs.Terms.{Terms}
 use Rattle.lsp_events.specs.Standing.{Follows}
 use Rattle.lsp_survey.specs.Reads.{SoFar, GaveEvent, Ended}
 use Rattle.lsp_survey.specs.declared.offending.Found.{Found}
@@ -28,20 +28,22 @@ use Rattle.lsp_verdict.specs.declared.completeness.Completeness.{Completeness}
 use Rattle.lsp_verdict.specs.declared.outcome.RunFault.{RunFault}
 use Rattle.lsp_verdict.specs.declared.verdict.Summary as code
 use Rattle.lsp_verdict.specs.declared.verdict.Verdict.TheVariants as verdicts
-use Rattle.lsp_explain.specs.Explained.{Heard, Explained, Explains, breach, raws_of, notes_of, said_of, IsExplanation}
+use Rattle.lsp_explain.specs.Explained.{Heard, Explained, Explains, breach, raws_of, notes_of}
+use Rattle.lsp_explain.specs.Explained.{said_of, IsExplanation}
 use Rattle.lsp_facts.specs.Fact.{Fact}
 use Rattle.lsp_facts.specs.FlawFacts.{Rests, rest_of, flaw_facts}
+use Rattle.lsp_explain.specs.Standing.{terms_in}
 use Rattle.lsp_explain.specs.declared.run.Explanation.{Explanation}
 
 -- ---- what a reader of events holds of faults
 
 -- the bytes of both sides behind their last whole frames
 abbrev pub rests_held : SurveyReader → Rests
-rests_held e = record { editor = e.survey.editor.decoder.rest; server = e.survey.server.decoder.rest }
+rests_held e = record { editor = e.log.streams.editor.rest; server = e.log.streams.server.rest }
 
 -- the facts on the fault of a log
 abbrev pub flaw_held : SurveyReader → Option Verdict → List Fact
-flaw_held e (Some (bad_log number code)) = flaw_facts number e.log.place (shown_by e.log)
+flaw_held e (Some (bad_log number code)) = flaw_facts number e.log.log.place (shown_by e.log.log)
 flaw_held e _ = []
 
 -- whose event offends; a snapshot is the editor's
@@ -67,11 +69,13 @@ ShowsFault rests (what.Snapshot version uri text) bytes = Unit {0}
 -- ---- what the steps tell
 
 -- the event that was found offends behind these, and this is said of it, whatever records follow
-pub record Tells (limits : Bounds) (records : List Record) (terms : Terms) (hs : List Heard) (h : Heard) (found : Found) (x : Explanation) : Type 0 where
+pub record Tells (limits : Bounds) (records : List Record) (terms : Terms) (hs : List Heard)
+    (h : Heard) (found : Found) (x : Explanation) : Type 0 where
   pub rule : ℕ
   pub offends : rule_at terms (events_of (notes_of hs)) h.note.event ≡ Some rule
   pub told : Explained
-  pub explains : (rests : Rests) → RestsBehind limits records rests → Explains rests terms (breach hs h rule) told
+  pub explains : (rests : Rests) → RestsBehind limits records rests
+      → Explains rests terms (breach hs h rule) told
   pub no_is : told.no ≡ no_by (events_of (notes_of hs)) h.note.event rule
   pub is : told.no ≡ (offence_view found.offence).no
   pub verdict_is : verdict_view x.verdict ≡ told.no
@@ -80,38 +84,49 @@ pub record Tells (limits : Bounds) (records : List Record) (terms : Terms) (hs :
 -- what was found is told, whatever was heard before it
 abbrev pub TellsOf : SurveyReader → Found → Explanation → Type 0
 TellsOf e found x =
-    (limits : Bounds) (start now : Told) (hs : List Heard) (prior : List Offence) (given : GaveEvent limits e start now (raws_of hs) (notes_of hs) prior (heard.Offence found))
-    → Tells limits given.so_far.records (terms_of limits e.survey.format) hs (record { raw = given.raw; note = given.n }) found x
+    (limits : Bounds) (start now : Told) (hs : List Heard) (prior : List Offence)
+    (given : GaveEvent limits e start now (raws_of hs) (notes_of hs) prior
+    (heard.Offence found))
+    → Tells limits given.so_far.records (terms_in e) hs (record {
+      raw = given.raw;
+      note = given.n;
+    }) found x
 
 -- what the events heard come to
 abbrev pub summary_behind : SurveyReader → List Noted → Summary
-summary_behind e notes = summary e.survey.walk.events.docs.terms (events_of notes)
+summary_behind e notes = summary (terms_in e) (events_of notes)
 
 -- no event offends, and they are few enough to be counted
 pub record IsSound (e : SurveyReader) (notes : List Noted) : Type 0 where
-  pub follows : Follows e.survey.walk.events.session e.survey.walk.events.docs e.survey.walk.events.counts (events_of notes)
+  pub follows : Follows e.walk.events.session e.walk.events.docs e.walk.events.counts
+      (events_of notes)
   pub exact : as_given (yes (summary_behind e notes)) ≡ yes (summary_behind e notes)
 
 -- the log ended behind these events, none of which offends
-pub record EndsWhole (completeness : Completeness) (limits : Bounds) (e : SurveyReader) (start now : Told) (end : End) : Type 0 where
+pub record EndsWhole (completeness : Completeness) (limits : Bounds) (e : SurveyReader)
+    (start now : Told) (end : End) : Type 0 where
   pub hs : List Heard
   pub ended : Ended completeness limits e start now (raws_of hs) (notes_of hs) [] end
 
 -- its end is explained
 abbrev pub TellsEnd : Completeness → Bounds → Told → Told → Explanation → Type 0
 TellsEnd completeness limits start now x =
-    OfRead limits start now (λ log. IsExplanation completeness limits log (verdict_view x.verdict) (string_bytes x.text))
+    OfRead limits start now (λ log. IsExplanation completeness limits log (verdict_view x.verdict)
+    (string_bytes x.text))
     × ((s : code.Summary) → x.verdict ≡ verdicts.Yes s → IsAtEnd now.bytes)
 
 -- some events of the log were heard, and these offences found
-pub record IsFollowing (completeness : Completeness) (limits : Bounds) (e : SurveyReader) (start now : Told) (found : List Offence) : Type 0 where
+pub record IsFollowing (completeness : Completeness) (limits : Bounds) (e : SurveyReader)
+    (start now : Told) (found : List Offence) : Type 0 where
   pub hs : List Heard
   pub so_far : SoFar limits e start now (raws_of hs) (notes_of hs) found
   pub wanted : e.completeness ≡ completeness
 
 -- the log read is explained
-pub record IsExplainedBy (completeness : Completeness) (limits : Bounds) (start now : Told) (x : Explanation) : Type 0 where
-  pub of_read : OfRead limits start now (λ log. IsExplanation completeness limits log (verdict_view x.verdict) (string_bytes x.text))
+pub record IsExplainedBy (completeness : Completeness) (limits : Bounds) (start now : Told)
+    (x : Explanation) : Type 0 where
+  pub of_read : OfRead limits start now
+      (λ log. IsExplanation completeness limits log (verdict_view x.verdict) (string_bytes x.text))
   pub failures : now.failures ≡ start.failures
   pub ended : (s : code.Summary) → x.verdict ≡ verdicts.Yes s → IsAtEnd now.bytes
 

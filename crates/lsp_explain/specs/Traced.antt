@@ -1,5 +1,8 @@
--- Which event brought what: what is added to the facts on an offence, read off all events before it.
-use Rattle.std.specs.Prelude.{◌≡◌, ℕ, List, [], ◌∷◌, ◌++◌, map, insert, slice_get, nat_lt, Bool, true, false, ◌==◌, if◌then◌else◌, Option, Some, None, option_map, option_and_then, option_to_list, unwrap_or}
+-- Which event brought what: what is added to the facts on an offence, read off all events before
+-- it.
+use Rattle.std.specs.Prelude.{◌≡◌, ℕ, List, [], ◌∷◌, ◌++◌, map, nat_lt, Bool}
+use Rattle.std.specs.Prelude.{true, false, ◌==◌, if◌then◌else◌, Option, Some, None, option_map}
+use Rattle.std.specs.Prelude.{option_and_then, option_to_list, unwrap_or}
 use Rattle.lsp_docs.specs.Calls.{Call, opens, changes, closes, saves, shows, uri_of}
 use Rattle.lsp_docs.specs.Terms.{Terms}
 use Rattle.lsp_rpc.specs.Act.{Act}
@@ -16,10 +19,11 @@ use Rattle.lsp_types.specs.declared.side.Side.TheVariants.{Editor}
 use Rattle.lsp_verdict.specs.Calls.{call_of, calls}
 use Rattle.lsp_verdict.specs.Event.{Event, message, fault, snapshot, sent_in}
 use Rattle.lsp_verdict.specs.Offences.{is_within, kept_of, said_at}
-use Rattle.lsp_notes.specs.Asking.{Numbered, answered, asked, numbered, sents, since}
-use Rattle.lsp_notes.specs.Marking.{Step, agreed, brought, number_next, steps, waiting_for}
-use Rattle.lsp_notes.specs.declared.mark.Shown.{Shown}
-use Rattle.lsp_facts.specs.Fact.{Fact, holds, waits, waits_since, brought_by, shown_by, agreed_by, answered_by, asked_by, led_by, in_phase}
+use Rattle.lsp_survey.specs.Asking.{Numbered, answered, asked, numbered, sents, since}
+use Rattle.lsp_survey.specs.Marking.{Step, agreed, brought, number_next, steps, waiting_for}
+use Rattle.lsp_survey.specs.declared.notes.mark.Shown.{Shown}
+use Rattle.lsp_facts.specs.Fact.{Fact, holds, waits, waits_since, holds_by, shown_by, equal_by}
+use Rattle.lsp_facts.specs.Fact.{answered_by, asked_by, led_by, in_phase}
 use Rattle.lsp_facts.specs.MessageFacts.{id_in}
 use Rattle.lsp_facts.specs.Refuting.{refuting}
 
@@ -29,23 +33,27 @@ number_facts says n = option_to_list (option_map says n)
 
 -- ---- documents
 
-abbrev pub is_holding : Option Fact → Bool
-is_holding (Some (holds number)) = true
-is_holding _ = false
+-- the version that is held, with the event that set it; another fact as it is
+abbrev pub held_by : ℕ → Fact → Fact
+held_by n (holds number) = holds_by number n
+held_by n fact = fact
 
--- behind the version that is held, which stands second, the event that brought it
-abbrev pub with_brought : Option ℕ → List Fact → List Fact
-with_brought None facts = facts
-with_brought (Some n) facts = if is_holding (slice_get facts 1) then insert facts 2 (brought_by n) else facts
+-- so the second fact, which says the version
+abbrev pub with_setter : Option ℕ → List Fact → List Fact
+with_setter (Some n) (uri ∷ held ∷ facts) = uri ∷ held_by n held ∷ facts
+with_setter brought facts = facts
 
-abbrev pub agreed_facts : Option Shown → List Fact
-agreed_facts None = []
-agreed_facts (Some shown) = agreed_by shown.event shown.version ∷ []
+abbrev pub equal_facts : Option Shown → List Fact
+equal_facts None = []
+equal_facts (Some shown) = equal_by shown.version shown.event ∷ []
 
--- the snapshots that differ from the text of a call behind these, by their events: of those that wait for its version the ones with another text, or it is one itself, by this event
+-- the snapshots that differ from the text of a call behind these, by their events: of those that
+-- wait for its version the ones with another text, or it is one itself, by this event
 abbrev pub differing : Terms → List Call → List Step → ℕ → Call → List ℕ
-differing terms before done n (opens uri number text) = refuting terms before (opens uri number text) (waiting_for number done)
-differing terms before done n (changes enc kind uri number edits) = refuting terms before (changes enc kind uri number edits) (waiting_for number done)
+differing terms before done n (opens uri number text) =
+    refuting terms before (opens uri number text) (waiting_for number done)
+differing terms before done n (changes enc kind uri number edits) =
+    refuting terms before (changes enc kind uri number edits) (waiting_for number done)
 differing terms before done n (closes uri) = []
 differing terms before done n (saves uri text) = []
 differing terms before done n (shows uri number text) = n ∷ []
@@ -53,33 +61,40 @@ differing terms before done n (shows uri number text) = n ∷ []
 -- 702: these snapshots; and with 608 the one that was found equal last
 abbrev pub texts_traced : Option Shown → List ℕ → ℕ → List Fact
 texts_traced equal snapshots rule =
-    if rule == 702 then map shown_by snapshots ++ agreed_facts equal
-    else (if rule == 608 then agreed_facts equal else [])
+    if rule == 702 then map shown_by snapshots ++ equal_facts equal
+    else (if rule == 608 then equal_facts equal else [])
 
 abbrev pub document_traced : List Step → List ℕ → ℕ → List Fact → List Fact
-document_traced done snapshots rule plain = with_brought (brought done) plain ++ texts_traced (agreed done) snapshots rule
+document_traced done snapshots rule plain =
+    with_setter (brought done) plain ++ texts_traced (agreed done) snapshots rule
 
 -- what an act says of a document behind these events, under what was agreed
 abbrev pub act_call : Terms → List Event → Act → Option Call
-act_call terms before act = call_of (unwrap_or (encoding (sent_in (kept_of terms before))) Utf16) (unwrap_or (sync_kind (sent_in (kept_of terms before))) Nothing) act
+act_call terms before act =
+    call_of (unwrap_or (encoding (sent_in (kept_of terms before))) Utf16)
+    (unwrap_or (sync_kind (sent_in (kept_of terms before))) Nothing) act
 
 -- the facts on a call that breaks this rule behind these events
 abbrev pub call_traced : Terms → List Event → ℕ → Option Call → List Fact → List Fact
 call_traced terms before rule None plain = plain
 call_traced terms before rule (Some call) plain =
-    document_traced (steps terms (uri_of call) before) (differing terms (calls (kept_of terms before)) (steps terms (uri_of call) before) (number_next before) call) rule plain
+    document_traced (steps terms (uri_of call) before)
+    (differing terms (calls (kept_of terms before)) (steps terms (uri_of call) before)
+    (number_next before) call) rule plain
 
 -- ---- messages
 
 -- the event that answered a request of this side's with the id last
 abbrev pub answer_facts : Side → List Numbered → Option Ident → List Fact
-answer_facts side said id = number_facts answered_by (option_and_then (λ own. answered side own said) id)
+answer_facts side said id =
+    number_facts answered_by (option_and_then (λ own. answered side own said) id)
 
 -- the event that asked the side's open request with the id
 abbrev pub asking_facts : Side → List Numbered → Option Ident → List Fact
 asking_facts side said id = number_facts asked_by (option_and_then (λ own. asked side own said) id)
 
--- 301 and 302: the event that answered a request of this id before; 302 too: the one that asked it and is open; 401 to 412: the one that led to the phase
+-- 301 and 302: the event that answered a request of this id before; 302 too: the one that asked it
+-- and is open; 401 to 412: the one that led to the phase
 abbrev pub session_trace : ℕ → List Numbered → Side → Option Ident → List Fact
 session_trace rule said side id =
     if rule == 301 then answer_facts (other_side side) said id
@@ -90,13 +105,16 @@ session_trace rule said side id =
 abbrev pub traced : Terms → List Event → Event → ℕ → List Fact → List Fact
 traced terms before (fault side number) rule plain = plain
 traced terms before (message m) rule plain =
-    if nat_lt rule 601 then plain ++ session_trace rule (numbered terms before) m.side (id_in m.message)
+    if nat_lt rule 601 then plain ++ session_trace rule (numbered terms before) m.side
+    (id_in m.message)
     else call_traced terms before rule (said_at terms before (message m)) plain
-traced terms before (snapshot uri number text) rule plain = call_traced terms before rule (said_at terms before (snapshot uri number text)) plain
+traced terms before (snapshot uri number text) rule plain =
+    call_traced terms before rule (said_at terms before (snapshot uri number text)) plain
 
 -- what is said of the event, with the events that brought it
 abbrev pub AreTraced : (List Fact → Type 0) → Terms → List Event → Event → ℕ → List Fact → Type 0
-AreTraced AreSaid terms before event rule facts = (plain : List Fact) × AreSaid plain × (facts ≡ traced terms before event rule plain)
+AreTraced AreSaid terms before event rule facts =
+    (plain : List Fact) × AreSaid plain × (facts ≡ traced terms before event rule plain)
 
 -- ---- sessions that lack something
 
@@ -110,4 +128,5 @@ waiting_by said e = request_by e (asked Editor e.id said)
 
 -- **the facts on a session that ends behind these messages where it lacks something**
 abbrev pub lack_traced : List Numbered → List Fact
-lack_traced said = map (waiting_by said) (open_requests Editor (sents said)) ++ in_phase (phase (sents said)) ∷ number_facts led_by (since said)
+lack_traced said = map (waiting_by said) (open_requests Editor (sents said)) ++ in_phase
+    (phase (sents said)) ∷ number_facts led_by (since said)

@@ -1,11 +1,12 @@
 //! Explains the verdict on a log.
-ghost use Rattle.std.specs.Prelude.{◌≡◌, ◌+◌, ◌++◌, List, [], ℕ, None, Ok, Err, IfOk, IfSome, OnOk, option_map, string_bytes};
+ghost use Rattle.std.specs.Prelude.{◌≡◌, ◌+◌, ◌++◌, List, [], ℕ, None, Ok, Err, IfOk, IfSome, OnOk};
+ghost use Rattle.std.specs.Prelude.{option_map, codes, string_bytes};
 ghost use Rattle.std.specs.Io.KnownBytes.{IsAtEnd};
 ghost use Rattle.lsp_frame.specs.Bounds.{Bounds, IsInRange};
 ghost use Rattle.lsp_frame.specs.Told.{Told, Took};
 ghost use Rattle.lsp_log.specs.Reader.{shown_by};
-ghost use Rattle.lsp_notes.specs.Asking.{numbered};
-ghost use Rattle.lsp_survey.specs.Reads.{SoFar};
+ghost use Rattle.lsp_survey.specs.Asking.{numbered};
+ghost use Rattle.lsp_survey.specs.Reads.{IsFresh, SoFar};
 ghost use Rattle.lsp_verdict.specs.Complete.{IsVerdictBy};
 ghost use Rattle.lsp_verdict.specs.Event.{Event};
 ghost use Rattle.lsp_verdict.specs.Given.{offence_view, verdict_view};
@@ -13,14 +14,16 @@ ghost use Rattle.lsp_verdict.specs.Offences.{Noted};
 ghost use Rattle.lsp_verdict.specs.Report.{report};
 ghost use Rattle.lsp_verdict.specs.RunIo.{OfRead, GaveAtMost, source_failures, sink_failures};
 ghost use Rattle.lsp_verdict.specs.Survey.{first_verdict};
-ghost use Rattle.lsp_explain.specs.Explained.{BeginsExplanation, IsExplanation, end_explained, flaw_lines, said_of};
+ghost use Rattle.lsp_explain.specs.Explained.{BeginsExplanation, IsExplanation, end_explained};
+ghost use Rattle.lsp_explain.specs.Explained.{flaw_lines, said_of};
 ghost use Rattle.lsp_facts.specs.FlawFacts.{Rests, flaw_facts, rest_of, side_by};
-ghost use Rattle.lsp_facts.specs.Lines.{fact_lines};
-ghost use Rattle.lsp_explain.specs.RunSteps.{EndsWhole, ExplainsLog, IsSound, TellsEnd, TellsOf, flaw_held, side_of, summary_behind};
+ghost use Rattle.lsp_facts.specs.Lines.{fact_lines, usual_line};
+ghost use Rattle.lsp_explain.specs.RunSteps.{EndsWhole, ExplainsLog, IsSound, TellsEnd, TellsOf};
+ghost use Rattle.lsp_explain.specs.RunSteps.{flaw_held, side_of, summary_behind};
 ghost use Rattle.lsp_explain.specs.Standing.{StandsAfter, terms_in};
 
 use crate::said::{push_end, push_said};
-use lsp_facts::{flaw_facts, push_facts};
+use lsp_facts::{flaw_facts, push_details};
 use lsp_frame::{Limits, Sink, Source, put_all};
 use lsp_rpc::{Memory, Side};
 use lsp_survey::{End, Found, Heard, Next, Offending, SurveyReader};
@@ -29,14 +32,16 @@ use lsp_verdict::{
 };
 use std::alloc::Global;
 
-/// Reads a log and writes the report of the verdict on it, and behind a No what is wrong: the
-/// line that names the first event that offends, and the facts on it. Behind the report of a bad log stand
-/// the number of its record, how many bytes stand before that, and the line that stands there.
+/// Reads a log and writes the report of the verdict on it, and behind a No what is wrong: the line
+/// that names the first event that offends, and the facts on it. Behind the report of a bad log
+/// stand the number of its record, how many bytes stand before that, and the line that stands
+/// there.
 ///
 /// It reads up to the first event that offends, and nothing is written before the verdict is known.
 ///
 /// # Errors
-/// `Read` where the source failed, `Write` where the sink did, and `Memory` where memory was refused.
+/// `Read` where the source failed, `Write` where the sink did, and `Memory` where memory was
+/// refused.
 pub fn run_explain<R: Source, W: Sink>(
     alloc: Global,
     reader: &mut R,
@@ -47,20 +52,28 @@ pub fn run_explain<R: Source, W: Sink>(
     // The answer is the verdict on the log read, however that goes on where its end was not met.
     ensures judged { IfOk result (λ outcome. (v : Verdict) × (outcome ≡ Outcome.Judged v)) }
     ensures verdict { (v : Verdict) → result ≡ Ok (Outcome.Judged v)
-        → OfRead limits (R.told reader.old) (R.told reader.new) (λ log. IsVerdictBy completeness limits log (verdict_view v)) }
+        → OfRead limits (R.told reader.old) (R.told reader.new)
+        (λ log. IsVerdictBy completeness limits log (verdict_view v)) }
     // What explains it is written, and nothing else.
-    ensures written { (v : Verdict) → result ≡ Ok (Outcome.Judged v) → (out : List ℕ) × Took (W.told writer.old) (W.told writer.new) out
-        × OfRead limits (R.told reader.old) (R.told reader.new) (λ log. IsExplanation completeness limits log (verdict_view v) out) }
-    ensures ended { (s : Summary) → result ≡ Ok (Outcome.Judged (Verdict.Yes s)) → IsAtEnd (R.told reader.new).bytes }
+    ensures written { (v : Verdict) → result ≡ Ok (Outcome.Judged v) → (out : List ℕ)
+        × Took (W.told writer.old) (W.told writer.new) out
+        × OfRead limits (R.told reader.old) (R.told reader.new)
+        (λ log. IsExplanation completeness limits log (verdict_view v) out) }
+    ensures ended { (s : Summary) → result ≡ Ok (Outcome.Judged (Verdict.Yes s))
+        → IsAtEnd (R.told reader.new).bytes }
 
     // After a read fault or for want of memory nothing is written.
     ensures read_fault { result ≡ Err RunFault.Read → W.told writer.new ≡ W.told writer.old }
     ensures memory { result ≡ Err RunFault.Memory → W.told writer.new ≡ W.told writer.old }
     // What is written before a write fault begins the explanation.
-    ensures write_fault { result ≡ Err RunFault.Write → (out : List ℕ) × Took (W.told writer.old) (W.told writer.new) out
-        × OfRead limits (R.told reader.old) (R.told reader.new) (λ log. BeginsExplanation completeness limits log out) }
-    ensures source_failures { (R.told reader.new).failures ≡ source_failures result (R.told reader.old).failures }
-    ensures sink_failures { (W.told writer.new).failures ≡ sink_failures result (W.told writer.old).failures }
+    ensures write_fault { result ≡ Err RunFault.Write → (out : List ℕ)
+        × Took (W.told writer.old) (W.told writer.new) out
+        × OfRead limits (R.told reader.old) (R.told reader.new)
+        (λ log. BeginsExplanation completeness limits log out) }
+    ensures source_failures { (R.told reader.new).failures
+        ≡ source_failures result (R.told reader.old).failures }
+    ensures sink_failures { (W.told writer.new).failures
+        ≡ sink_failures result (W.told writer.old).failures }
     // At most one byte past the limit is read.
     ensures limit { GaveAtMost (limits.log + 1) (R.told reader.old) (R.told reader.new) }
 {
@@ -84,20 +97,24 @@ fn explain<R: Source>(
     completeness: Completeness,
 ) -> Result<Explanation, RunFault>
     ensures range { IsInRange limits }
-    ensures answer { ExplainsLog completeness limits (R.told reader.old) (R.told reader.new) result }
+    ensures answer { ExplainsLog completeness limits (R.told reader.old)
+        (R.told reader.new) result }
 {
-    let mut events = SurveyReader::new(alloc, limits, completeness);
+    let mut events = SurveyReader::open(alloc, reader, limits, completeness)?;
     explain_first(alloc, &mut events, reader)
 }
 
-/// Reads a log up to the first event that offends, or to its end, and finds what explains the verdict.
+/// Reads a log up to the first event that offends, or to its end, and finds what explains the
+/// verdict.
 fn explain_first<R: Source>(
     alloc: Global,
     events: &mut SurveyReader,
     reader: &mut R,
 ) -> Result<Explanation, RunFault>
-    requires fresh { SoFar events.old.survey.limits events.old (R.told reader.old) (R.told reader.old) [] [] [] }
-    ensures answer { ExplainsLog events.old.completeness events.old.survey.limits (R.told reader.old) (R.told reader.new) result }
+    requires fresh { IsFresh events.old (R.told reader.old) }
+    ensures answer { (limits : Bounds) (start : Told)
+        → SoFar limits events.old start (R.told reader.old) [] [] []
+        → ExplainsLog events.old.completeness limits start (R.told reader.new) result }
 {
     loop {
         match events.next(reader)? {
@@ -118,7 +135,8 @@ fn explain_heard(
     heard: Heard,
 ) -> Result<Option<Explanation>, Memory>
     ensures kept { result ≡ Ok None → heard ≡ Heard.Kept }
-    ensures told { IfOk result (λ answer. IfSome answer (λ x. (found : Found) × (heard ≡ Heard.Offence found)
+    ensures told { IfOk result
+        (λ answer. IfSome answer (λ x. (found : Found) × (heard ≡ Heard.Offence found)
         × TellsOf events.now found x)) }
 {
     match heard {
@@ -158,7 +176,8 @@ fn side_of(offending: &Offending) -> Side
 
 /// What explains the end of a log, where no event offends.
 fn explain_end(alloc: Global, events: &mut SurveyReader, end: End) -> Result<Explanation, Memory>
-    ensures { IfOk result (λ x. (completeness : Completeness) (limits : Bounds) (start now : Told) → EndsWhole completeness limits events.old start now end
+    ensures { IfOk result (λ x. (completeness : Completeness) (limits : Bounds) (start now : Told)
+        → EndsWhole completeness limits events.old start now end
         → TellsEnd completeness limits start now x) }
 {
     let End { listed, bad } = end;
@@ -179,7 +198,8 @@ pub(crate) fn side_by(who: Who) -> Side
     }
 }
 
-/// What explains what is listed of the end of a session. The rest is of the side that it is said of.
+/// What explains what is listed of the end of a session. The rest is of the side that it is said
+/// of.
 pub(crate) fn explain_listed(
     alloc: Global,
     events: &SurveyReader,
@@ -187,9 +207,12 @@ pub(crate) fn explain_listed(
     listed: &Offence,
 ) -> Result<Explanation, Memory>
     ensures verdict { IfOk result (λ x. verdict_view x.verdict ≡ (offence_view listed.now).no) }
-    ensures text { IfOk result (λ x. (rests : Rests) (before : List Event) → StandsAfter events.now before
+    ensures text { IfOk result
+        (λ x. (rests : Rests) (before : List Event) → StandsAfter events.now before
         → rest.now ≡ rest_of rests (side_by listed.now.who)
-        → string_bytes x.text ≡ report (offence_view listed.now).no ++ said_of (end_explained rests (numbered (terms_in events.now) before) (offence_view listed.now).no)) }
+        → string_bytes x.text ≡ report (offence_view listed.now).no
+        ++ said_of (end_explained rests (numbered (terms_in events.now) before)
+        (offence_view listed.now).no)) }
 {
     let verdict = listed.verdict();
     let mut text = verdict_report(alloc, &verdict)?;
@@ -206,8 +229,12 @@ pub(crate) fn explain_sound(
     bad: Option<Verdict>,
 ) -> Result<Explanation, Memory>
     ensures { IfOk result (λ x. (notes : List Noted) → IsSound events.old notes
-        → (verdict_view x.verdict ≡ first_verdict [] (option_map verdict_view bad) (summary_behind events.old notes))
-        × (string_bytes x.text ≡ report (first_verdict [] (option_map verdict_view bad) (summary_behind events.old notes)) ++ flaw_lines (option_map verdict_view bad) (flaw_held events.old (option_map verdict_view bad)))) }
+        → (verdict_view x.verdict
+        ≡ first_verdict [] (option_map verdict_view bad) (summary_behind events.old notes))
+        × (string_bytes x.text ≡ report
+        (first_verdict [] (option_map verdict_view bad) (summary_behind events.old notes))
+        ++ flaw_lines (option_map verdict_view bad)
+        (flaw_held events.old (option_map verdict_view bad)))) }
 {
     let flaw = flaw_text(alloc, events, &bad)?;
     let verdict = events.sound(bad)?;
@@ -222,7 +249,9 @@ pub(crate) fn flaw_text(
     events: &SurveyReader,
     bad: &Option<Verdict>,
 ) -> Result<String, Memory>
-    ensures { IfOk result (λ text. string_bytes text ≡ flaw_lines (option_map verdict_view bad.now) (flaw_held events.now (option_map verdict_view bad.now))) }
+    ensures { IfOk result (λ text. string_bytes text
+        ≡ flaw_lines (option_map verdict_view bad.now)
+        (flaw_held events.now (option_map verdict_view bad.now))) }
 {
     let mut text = String::new(alloc);
     if let Some(Verdict::BadLog { number, .. }) = bad {
@@ -238,8 +267,10 @@ fn push_flaw(
     events: &SurveyReader,
     number: u64,
 ) -> Result<(), Memory>
-    ensures { OnOk result (string_bytes lines.new ≡ string_bytes lines.old ++ fact_lines (flaw_facts number events.now.log.place (shown_by events.now.log))) }
+    ensures { OnOk result (string_bytes lines.new ≡ string_bytes lines.old
+        ++ (fact_lines (flaw_facts number events.now.log.log.place (shown_by events.now.log.log))
+        ++ usual_line (codes "recorder"))) }
 {
     let facts = flaw_facts(alloc, number, events.place(), events.found())?;
-    push_facts(alloc, lines, facts.as_slice())
+    push_details(alloc, lines, facts.as_slice(), "recorder")
 }

@@ -1,11 +1,12 @@
 //! Explains all that is wrong with a log.
-ghost use Rattle.std.specs.Prelude.{◌≡◌, ◌+◌, ◌++◌, ◌∷◌, [], List, ℕ, string_bytes, map, codes, decimal, option_map, Ok, IfOk, OnOk, OnErr};
+ghost use Rattle.std.specs.Prelude.{◌≡◌, ◌+◌, ◌++◌, ◌∷◌, [], List, ℕ, string_bytes, map, codes};
+ghost use Rattle.std.specs.Prelude.{decimal, option_map, Ok, IfOk, OnOk, OnErr};
 ghost use Rattle.std.specs.Io.KnownBytes.{IsAtEnd};
 ghost use Rattle.std.specs.List.{flat_map};
 ghost use Rattle.lsp_frame.specs.Bounds.{Bounds, IsInRange};
 ghost use Rattle.lsp_frame.specs.Told.{Told, Took};
-ghost use Rattle.lsp_notes.specs.Asking.{numbered};
-ghost use Rattle.lsp_survey.specs.Reads.{SoFar, found_in};
+ghost use Rattle.lsp_survey.specs.Asking.{numbered};
+ghost use Rattle.lsp_survey.specs.Reads.{IsFresh, SoFar, found_in};
 ghost use Rattle.lsp_survey.specs.Reported.{IsTally};
 ghost use Rattle.lsp_verdict.specs.Complete.{IsVerdictBy};
 ghost use Rattle.lsp_verdict.specs.Event.{Event};
@@ -15,7 +16,8 @@ ghost use Rattle.lsp_verdict.specs.Report.{line};
 ghost use Rattle.lsp_verdict.specs.RunIo.{OfRead, GaveAtMost, source_failures, sink_failures};
 ghost use Rattle.lsp_verdict.specs.Survey.{bad_lines};
 ghost use Rattle.lsp_explain.specs.AllExplained.{BeginsAllExplained, IsAllExplained, cause_lines};
-ghost use Rattle.lsp_explain.specs.AllSteps.{CausesTold, IsClosing, IsLast, TellsAll, TellsCauses, TellsHeard, ends_said};
+ghost use Rattle.lsp_explain.specs.AllSteps.{CausesTold, IsClosing, IsLast, TellsAll, TellsCauses};
+ghost use Rattle.lsp_explain.specs.AllSteps.{TellsHeard, ends_said};
 ghost use Rattle.lsp_explain.specs.Explained.{flaw_lines};
 ghost use Rattle.lsp_explain.specs.RunSteps.{flaw_held, rests_held};
 ghost use Rattle.lsp_explain.specs.Standing.{StandsAfter, terms_in};
@@ -29,16 +31,17 @@ use lsp_verdict::{
 };
 use std::alloc::Global;
 
-/// Reads a log to its end, and explains each offence in it that follows from no earlier one: the two lines
-/// of its No, the line that names its event, and the facts on it. Behind them stand the lines of a fault
-/// of the log with the number of its record, and how many offences were found. Of a log with nothing
-/// wrong it is the report of the verdict.
+/// Reads a log to its end, and explains each offence in it that follows from no earlier one: the
+/// two lines of its No, the line that names its event, and the facts on it. Behind them stand the
+/// lines of a fault of the log with the number of its record, and how many offences were found. Of
+/// a log with nothing wrong it is the report of the verdict.
 ///
-/// An event that offends is passed over, as if it had not been sent, and the next is judged after those
-/// that keep the rules. What is said of an offence is written when it is found.
+/// An event that offends is passed over, as if it had not been sent, and the next is judged after
+/// those that keep the rules. What is said of an offence is written when it is found.
 ///
 /// # Errors
-/// `Read` where the source failed, `Write` where the sink did, and `Memory` where memory was refused;
+/// `Read` where the source failed, `Write` where the sink did, and `Memory` where memory was
+/// refused;
 /// what was written before stays written.
 pub fn run_explain_all<R: Source, W: Sink>(
     alloc: Global,
@@ -47,22 +50,29 @@ pub fn run_explain_all<R: Source, W: Sink>(
     limits: Limits,
     completeness: Completeness,
 ) -> Result<Outcome, RunFault>
-    // The answer is the verdict on the log read, however that goes on where its end was not met: the one
-    // that `run_check` gives, or `run_check_complete`.
+    // The answer is the verdict on the log read, however that goes on where its end was not met:
+    // the one that `run_check` gives, or `run_check_complete`.
     ensures judged { IfOk result (λ outcome. (v : Verdict) × (outcome ≡ Outcome.Judged v)) }
     ensures verdict { (v : Verdict) → result ≡ Ok (Outcome.Judged v)
-        → OfRead limits (R.told reader.old) (R.told reader.new) (λ log. IsVerdictBy completeness limits log (verdict_view v)) }
+        → OfRead limits (R.told reader.old) (R.told reader.new)
+        (λ log. IsVerdictBy completeness limits log (verdict_view v)) }
     // What explains all that is wrong with that log is written, and nothing else.
-    ensures written { (v : Verdict) → result ≡ Ok (Outcome.Judged v) → (out : List ℕ) × Took (W.told writer.old) (W.told writer.new) out
-        × OfRead limits (R.told reader.old) (R.told reader.new) (λ log. IsAllExplained completeness limits log (verdict_view v) out) }
+    ensures written { (v : Verdict) → result ≡ Ok (Outcome.Judged v) → (out : List ℕ)
+        × Took (W.told writer.old) (W.told writer.new) out
+        × OfRead limits (R.told reader.old) (R.told reader.new)
+        (λ log. IsAllExplained completeness limits log (verdict_view v) out) }
     // Yes is answered only where the end was met.
-    ensures ended { (s : Summary) → result ≡ Ok (Outcome.Judged (Verdict.Yes s)) → IsAtEnd (R.told reader.new).bytes }
+    ensures ended { (s : Summary) → result ≡ Ok (Outcome.Judged (Verdict.Yes s))
+        → IsAtEnd (R.told reader.new).bytes }
 
     // What is written before a fault begins what is due for the log.
     ensures fault { OnErr result ((out : List ℕ) × Took (W.told writer.old) (W.told writer.new) out
-        × OfRead limits (R.told reader.old) (R.told reader.new) (λ log. BeginsAllExplained completeness limits log out)) }
-    ensures source_failures { (R.told reader.new).failures ≡ source_failures result (R.told reader.old).failures }
-    ensures sink_failures { (W.told writer.new).failures ≡ sink_failures result (W.told writer.old).failures }
+        × OfRead limits (R.told reader.old) (R.told reader.new)
+        (λ log. BeginsAllExplained completeness limits log out)) }
+    ensures source_failures { (R.told reader.new).failures
+        ≡ source_failures result (R.told reader.old).failures }
+    ensures sink_failures { (W.told writer.new).failures
+        ≡ sink_failures result (W.told writer.old).failures }
     // At most one byte past the limit is read.
     ensures limit { GaveAtMost (limits.log + 1) (R.told reader.old) (R.told reader.new) }
 {
@@ -79,9 +89,10 @@ fn explain_all<R: Source, W: Sink>(
     completeness: Completeness,
 ) -> Result<Verdict, RunFault>
     ensures range { IsInRange limits }
-    ensures tells { TellsAll completeness limits (R.told reader.old) (R.told reader.new) (W.told writer.old) (W.told writer.new) result }
+    ensures tells { TellsAll completeness limits (R.told reader.old) (R.told reader.new)
+        (W.told writer.old) (W.told writer.new) result }
 {
-    let mut events = SurveyReader::new(alloc, limits, completeness);
+    let mut events = SurveyReader::open(alloc, reader, limits, completeness)?;
     explain_log(alloc, &mut events, reader, writer)
 }
 
@@ -92,9 +103,11 @@ fn explain_log<R: Source, W: Sink>(
     reader: &mut R,
     writer: &mut W,
 ) -> Result<Verdict, RunFault>
-    requires range { IsInRange events.old.survey.limits }
-    requires fresh { SoFar events.old.survey.limits events.old (R.told reader.old) (R.told reader.old) [] [] [] }
-    ensures { TellsAll events.old.completeness events.old.survey.limits (R.told reader.old) (R.told reader.new) (W.told writer.old) (W.told writer.new) result }
+    requires fresh { IsFresh events.old (R.told reader.old) }
+    ensures { (limits : Bounds) (start : Told)
+        → SoFar limits events.old start (R.told reader.old) [] [] []
+        → TellsAll events.old.completeness limits start (R.told reader.new) (W.told writer.old)
+        (W.told writer.new) result }
 {
     let mut tally = Tally::new();
     let end = explain_events(alloc, events, reader, writer, &mut tally)?;
@@ -110,9 +123,11 @@ fn explain_events<R: Source, W: Sink>(
     tally: &mut Tally,
 ) -> Result<End, RunFault>
     requires tally { IsTally tally.old [] }
-    requires range { IsInRange events.old.survey.limits }
-    requires fresh { SoFar events.old.survey.limits events.old (R.told reader.old) (R.told reader.old) [] [] [] }
-    ensures { TellsCauses events.old.completeness events.old.survey.limits events.new tally.new (R.told reader.old) (R.told reader.new) (W.told writer.old) (W.told writer.new) result }
+    requires fresh { IsFresh events.old (R.told reader.old) }
+    ensures { (limits : Bounds) (start : Told)
+        → SoFar limits events.old start (R.told reader.old) [] [] []
+        → TellsCauses events.old.completeness limits events.new tally.new start (R.told reader.new)
+        (W.told writer.old) (W.told writer.new) result }
 {
     loop {
         match events.next(reader)? {
@@ -130,7 +145,8 @@ fn explain_heard<W: Sink>(
     tally: &mut Tally,
     heard: Heard,
 ) -> Result<(), RunFault>
-    ensures tally { (found : List SpecOffence) → IsTally tally.old found → IsTally tally.new (found ++ found_in heard) }
+    ensures tally { (found : List SpecOffence) → IsTally tally.old found
+        → IsTally tally.new (found ++ found_in heard) }
     ensures tells { TellsHeard events.now heard (W.told writer.old) (W.told writer.new) result }
 {
     match heard {
@@ -149,7 +165,8 @@ fn explain_cause<W: Sink>(
     writer: &mut W,
     found: &Found,
 ) -> Result<(), RunFault>
-    ensures { TellsHeard events.now (Heard.Offence found.now) (W.told writer.old) (W.told writer.new) result }
+    ensures { TellsHeard events.now (Heard.Offence found.now) (W.told writer.old)
+        (W.told writer.new) result }
 {
     if found.offence.follows {
         return Ok(());
@@ -167,7 +184,8 @@ fn close<W: Sink>(
     tally: &mut Tally,
     end: End,
 ) -> Result<Verdict, RunFault>
-    ensures { (completeness : Completeness) (limits : Bounds) (start now old : Told) → CausesTold completeness limits events.old tally.old start now old (W.told writer.old) end
+    ensures { (completeness : Completeness) (limits : Bounds) (start now old : Told)
+        → CausesTold completeness limits events.old tally.old start now old (W.told writer.old) end
         → TellsAll completeness limits start now old (W.told writer.new) result }
 {
     let closing = closing_of(alloc, events, tally, end)?;
@@ -175,15 +193,16 @@ fn close<W: Sink>(
     Ok(closing.verdict)
 }
 
-/// What stands behind the offences of the events, and the verdict. What is listed of the end is counted
-/// with them.
+/// What stands behind the offences of the events, and the verdict. What is listed of the end is
+/// counted with them.
 fn closing_of(
     alloc: Global,
     events: &mut SurveyReader,
     tally: &mut Tally,
     end: End,
 ) -> Result<Explanation, Memory>
-    ensures tally { OnOk result ((found : List SpecOffence) → IsTally tally.old found → IsTally tally.new (found ++ map offence_view end.listed.items)) }
+    ensures tally { OnOk result ((found : List SpecOffence) → IsTally tally.old found
+        → IsTally tally.new (found ++ map offence_view end.listed.items)) }
     ensures closing { IfOk result (λ x. IsClosing events.old tally.old end x) }
 {
     let End { listed, bad } = end;
@@ -203,9 +222,12 @@ fn ends_text(
     tally: &mut Tally,
     listed: &[Offence],
 ) -> Result<String, Memory>
-    ensures tally { OnOk result ((found : List SpecOffence) → IsTally tally.old found → IsTally tally.new (found ++ map offence_view listed.now)) }
+    ensures tally { OnOk result ((found : List SpecOffence) → IsTally tally.old found
+        → IsTally tally.new (found ++ map offence_view listed.now)) }
     ensures text { IfOk result (λ text. (before : List Event) → StandsAfter events.now before
-        → string_bytes text ≡ flat_map cause_lines (ends_said (rests_held events.now) (numbered (terms_in events.now) before) listed.now)) }
+        → string_bytes text ≡ flat_map cause_lines
+        (ends_said (rests_held events.now)
+        (numbered (terms_in events.now) before) listed.now)) }
 {
     let mut text = String::new(alloc);
     for offence in listed {
@@ -242,8 +264,11 @@ fn last_lines(
     tally: &Tally,
     bad: &Option<Verdict>,
 ) -> Result<String, Memory>
-    ensures { IfOk result (λ text. string_bytes text ≡ bad_lines (option_map verdict_view bad.now) ++ flaw_lines (option_map verdict_view bad.now) (flaw_held events.now (option_map verdict_view bad.now))
-        ++ line (codes "offences" ∷ decimal tally.now.found ∷ codes "following" ∷ decimal tally.now.following ∷ [])) }
+    ensures { IfOk result (λ text. string_bytes text ≡ bad_lines (option_map verdict_view bad.now)
+        ++ flaw_lines (option_map verdict_view bad.now)
+        (flaw_held events.now (option_map verdict_view bad.now))
+        ++ line (codes "offences" ∷ decimal tally.now.found ∷ codes "following" ∷ decimal
+        tally.now.following ∷ [])) }
 {
     let count = found_report(alloc, tally.found, tally.following)?;
     let Some(verdict) = bad else {

@@ -1,8 +1,8 @@
 //! What is said of an offence: the line that names its event, and the facts on it.
 ghost use Rattle.std.specs.Prelude.{◌≡◌, ◌++◌, ℕ, List, Some, IfOk, OnOk, string_bytes};
 ghost use Rattle.lsp_docs.specs.Terms.{Terms};
-ghost use Rattle.lsp_notes.specs.Asking.{numbered};
-ghost use Rattle.lsp_notes.specs.Marking.{number_next};
+ghost use Rattle.lsp_survey.specs.Asking.{numbered};
+ghost use Rattle.lsp_survey.specs.Marking.{number_next};
 ghost use Rattle.lsp_survey.specs.Walking.{IsOffending};
 ghost use Rattle.lsp_verdict.specs.Event.{Event};
 ghost use Rattle.lsp_verdict.specs.Given.{offence_view};
@@ -14,15 +14,15 @@ ghost use Rattle.lsp_explain.specs.Explained.{end_explained, end_facts, said_of}
 ghost use Rattle.lsp_facts.specs.EventFacts.{AreFacts};
 ghost use Rattle.lsp_facts.specs.Fact.{Fact as SpecFact, facts_view};
 ghost use Rattle.lsp_facts.specs.FlawFacts.{Rests, rest_of, side_by};
-ghost use Rattle.lsp_facts.specs.Lines.{event_line, fact_lines};
+ghost use Rattle.lsp_facts.specs.Lines.{detail_lines, event_line};
 ghost use Rattle.lsp_explain.specs.RunSteps.{ShowsFault};
 ghost use Rattle.lsp_explain.specs.Standing.{StandsAfter, terms_in};
 ghost use Rattle.lsp_explain.specs.Traced.{AreTraced};
 
 use crate::trace::{lack_traced, message_traced, shown_traced};
 use lsp_facts::{
-    Fact, content_facts, frame_facts, push_content_event, push_end_event, push_facts,
-    push_message_event, push_side_event, push_snapshot_event, unfinished_facts,
+    Fact, content_facts, frame_facts, push_bare_event, push_content_event, push_details,
+    push_end_event, push_message_event, unfinished_facts, usual,
 };
 use lsp_rpc::Memory;
 use lsp_survey::{Found, Offending, SurveyReader};
@@ -32,8 +32,8 @@ use std::alloc::Global;
 /// A stream that ends inside a frame.
 const ENDS_INSIDE: u16 = 107;
 
-/// The facts on what offends by this rule, the event of this number. The reader stands for the events
-/// before it, and the rest is of its side.
+/// The facts on what offends by this rule, the event of this number. The reader stands for the
+/// events before it, and the rest is of its side.
 fn facts_of(
     alloc: Global,
     events: &SurveyReader,
@@ -42,10 +42,15 @@ fn facts_of(
     number: u64,
     rule: u16,
 ) -> Result<Vec<Fact>, Memory>
-    ensures { IfOk result (λ facts. (raw : Raw) (event : Event) (before : List Event) → StandsAfter events.now before → number ≡ number_next before → Reads raw event
-        → IsOffending raw (terms_in events.now) (kept_of (terms_in events.now) before) rule offending.now → rule_at (terms_in events.now) before event ≡ Some rule
+    ensures { IfOk result (λ facts. (raw : Raw) (event : Event) (before : List Event)
+        → StandsAfter events.now before → number ≡ number_next before → Reads raw event
+        → IsOffending raw (terms_in events.now)
+        (kept_of (terms_in events.now) before) rule offending.now
+        → rule_at (terms_in events.now) before event ≡ Some rule
         → (rests : Rests) → ShowsFault rests offending.now rest.now
-        → AreTraced (AreFacts rests (terms_in events.now) (kept_of (terms_in events.now) before) raw event rule) (terms_in events.now) before event rule (facts_view facts.items)) }
+        → AreTraced (AreFacts rests (terms_in events.now)
+        (kept_of (terms_in events.now) before) raw event rule)
+        (terms_in events.now) before event rule (facts_view facts.items)) }
 {
     match offending {
         Offending::Frames(_) => frame_facts(alloc, rest),
@@ -69,36 +74,35 @@ fn facts_of(
     }
 }
 
-/// Adds the line that names the event of this number.
+/// Adds the line of the event of an offence.
 fn push_event(
     alloc: Global,
     lines: &mut String,
-    number: u64,
+    offence: &Offence,
     offending: &Offending,
 ) -> Result<(), Memory>
-    ensures { OnOk result ((raw : Raw) (event : Event) (terms : Terms) (kept : List Event) (rule : ℕ) → Reads raw event
-        → IsOffending raw terms kept rule offending.now
-        → string_bytes lines.new ≡ string_bytes lines.old ++ event_line number raw) }
+    ensures { OnOk result ((raw : Raw) (event : Event) (terms : Terms) (kept : List Event)
+        (rule : ℕ) → Reads raw event → IsOffending raw terms kept rule offending.now
+        → string_bytes lines.new ≡ string_bytes lines.old
+        ++ event_line offence.now.event offence.now.who offence.now.number raw) }
 {
+    let event = offence.event;
+    let by = offence.who;
+    let number = offence.number;
     match offending {
-        Offending::Frames(side) => push_side_event(lines, number, *side),
-        Offending::Content { side, content } => {
-            let side = *side;
-            push_content_event(alloc, lines, number, side, content.as_slice())
+        Offending::Frames(_) => push_bare_event(lines, event, by, number),
+        Offending::Content { content, .. } => {
+            push_content_event(alloc, lines, event, by, number, content.as_slice())
         }
-        Offending::Message { side, spoken } => {
-            let side = *side;
-            push_message_event(alloc, lines, number, side, &spoken.message)
+        Offending::Message { spoken, .. } => {
+            push_message_event(alloc, lines, event, by, number, &spoken.message)
         }
-        Offending::Snapshot { version, uri, text } => {
-            let version = *version;
-            push_snapshot_event(alloc, lines, number, uri.as_str(), version, text.as_str())
-        }
+        Offending::Snapshot { .. } => push_bare_event(lines, event, by, number),
     }
 }
 
-/// Adds what is said of an offence. The reader stands for the events before it, and the rest is of its
-/// side.
+/// Adds what is said of an offence. The reader stands for the events before it, and the rest is of
+/// its side.
 pub(crate) fn push_said(
     alloc: Global,
     lines: &mut String,
@@ -106,31 +110,41 @@ pub(crate) fn push_said(
     rest: &[u8],
     found: &Found,
 ) -> Result<(), Memory>
-    ensures { OnOk result ((raw : Raw) (event : Event) (before : List Event) → StandsAfter events.now before → found.now.offence.event ≡ number_next before → Reads raw event
-        → IsOffending raw (terms_in events.now) (kept_of (terms_in events.now) before) found.now.offence.rule found.now.offending
+    ensures { OnOk result ((raw : Raw) (event : Event) (before : List Event)
+        → StandsAfter events.now before → found.now.offence.event ≡ number_next before
+        → Reads raw event
+        → IsOffending raw (terms_in events.now)
+        (kept_of (terms_in events.now) before) found.now.offence.rule found.now.offending
         → rule_at (terms_in events.now) before event ≡ Some found.now.offence.rule
         → (facts : List SpecFact)
         × ((rests : Rests) → ShowsFault rests found.now.offending rest.now
-        → AreTraced (AreFacts rests (terms_in events.now) (kept_of (terms_in events.now) before) raw event found.now.offence.rule) (terms_in events.now) before event found.now.offence.rule facts)
-        × (string_bytes lines.new ≡ string_bytes lines.old ++ (event_line found.now.offence.event raw ++ fact_lines facts))) }
+        → AreTraced (AreFacts rests (terms_in events.now)
+        (kept_of (terms_in events.now) before) raw event found.now.offence.rule)
+        (terms_in events.now) before event found.now.offence.rule facts)
+        × (string_bytes lines.new ≡ string_bytes lines.old
+        ++ (event_line found.now.offence.event found.now.offence.who found.now.offence.number raw
+        ++ detail_lines facts (offence_view found.now.offence).no))) }
 {
     let Found { offence, offending } = found;
-    push_event(alloc, lines, offence.event, offending)?;
+    push_event(alloc, lines, offence, offending)?;
     let facts = facts_of(alloc, events, rest, offending, offence.event, offence.rule)?;
-    push_facts(alloc, lines, facts.as_slice())
+    let usual = usual(offence.rule, offence.who);
+    push_details(alloc, lines, facts.as_slice(), usual)
 }
 
-/// The facts on how a session ends that breaks this rule: 107 has those on the rest of a side, 303 and 407
-/// those on what the session lacks. The reader stands for all its events.
+/// The facts on how a session ends that breaks this rule: 107 has those on the rest of a side, 303
+/// and 407 those on what the session lacks. The reader stands for all its events.
 fn end_facts(
     alloc: Global,
     events: &SurveyReader,
     rest: &[u8],
     rule: u16,
 ) -> Result<Vec<Fact>, Memory>
-    ensures { IfOk result (λ facts. (rests : Rests) (before : List Event) (who : Who) (number event : ℕ) → StandsAfter events.now before
+    ensures { IfOk result (λ facts. (rests : Rests) (before : List Event) (who : Who)
+        (number event : ℕ) → StandsAfter events.now before
         → rest.now ≡ rest_of rests (side_by who)
-        → facts_view facts.items ≡ end_facts rests (numbered (terms_in events.now) before) (no rule who number event)) }
+        → facts_view facts.items
+        ≡ end_facts rests (numbered (terms_in events.now) before) (no rule who number event)) }
 {
     if rule == ENDS_INSIDE {
         return unfinished_facts(alloc, rest);
@@ -138,8 +152,8 @@ fn end_facts(
     lack_traced(alloc, events)
 }
 
-/// Adds what is said of how a session ends. The reader stands for all its events, and the rest is of the
-/// side that it is said of.
+/// Adds what is said of how a session ends. The reader stands for all its events, and the rest is
+/// of the side that it is said of.
 pub(crate) fn push_end(
     alloc: Global,
     lines: &mut String,
@@ -149,9 +163,12 @@ pub(crate) fn push_end(
 ) -> Result<(), Memory>
     ensures { OnOk result ((rests : Rests) (before : List Event) → StandsAfter events.now before
         → rest.now ≡ rest_of rests (side_by end.now.who)
-        → string_bytes lines.new ≡ string_bytes lines.old ++ said_of (end_explained rests (numbered (terms_in events.now) before) (offence_view end.now).no)) }
+        → string_bytes lines.new ≡ string_bytes lines.old
+        ++ said_of (end_explained rests (numbered (terms_in events.now) before)
+        (offence_view end.now).no)) }
 {
     push_end_event(lines, end.event, end.who)?;
     let facts = end_facts(alloc, events, rest, end.rule)?;
-    push_facts(alloc, lines, facts.as_slice())
+    let usual = usual(end.rule, end.who);
+    push_details(alloc, lines, facts.as_slice(), usual)
 }

@@ -1,5 +1,7 @@
 //! Which event brought what: facts on an offence that name earlier events.
-ghost use Rattle.std.specs.Prelude.{◌≡◌, ◌≤◌, ◌++◌, ℕ, Some, chars, nat_lt, if◌then◌else◌, ◌∷◌, [], List, true, IfOk, OnOk, map, slice_get, vec_len, option_and_then};
+ghost use Rattle.std.specs.Prelude.{◌≡◌, ◌≤◌, ◌++◌, ℕ, Some, chars, nat_lt, if◌then◌else◌, ◌∷◌, []};
+ghost use Rattle.std.specs.Prelude.{List, IfOk, OnOk, map, vec_len};
+ghost use Rattle.std.specs.Prelude.{option_and_then};
 ghost use Rattle.lsp_docs.specs.Calls.{Call, shows};
 ghost use Rattle.lsp_docs.specs.Terms.{Terms};
 ghost use Rattle.lsp_rpc.specs.View.{act_view, message_view};
@@ -9,12 +11,13 @@ ghost use Rattle.lsp_verdict.specs.Calls.{calls};
 ghost use Rattle.lsp_events.specs.Standing.{RefusesMessage};
 ghost use Rattle.lsp_verdict.specs.Event.{Event, message, snapshot};
 ghost use Rattle.lsp_verdict.specs.Offences.{kept_of, rule_at};
-ghost use Rattle.lsp_notes.specs.Asking.{answered, asked, numbered};
-ghost use Rattle.lsp_notes.specs.Marking.{number_next, steps, waiting_for};
-ghost use Rattle.lsp_notes.specs.Marks.{AreMarks};
-ghost use Rattle.lsp_notes.specs.SessionNoting.{AreNotes};
+ghost use Rattle.lsp_survey.specs.Asking.{answered, asked, numbered};
+ghost use Rattle.lsp_survey.specs.Marking.{number_next, steps, waiting_for};
+ghost use Rattle.lsp_survey.specs.Marks.{AreMarks};
+ghost use Rattle.lsp_survey.specs.SessionNoting.{AreNotes};
 ghost use Rattle.lsp_facts.specs.EventFacts.{AreCallFacts, AreMessageFacts};
-ghost use Rattle.lsp_facts.specs.Fact.{answered_by, asked_by, fact_view, facts_view, led_by, shown_by};
+ghost use Rattle.lsp_facts.specs.Fact.{answered_by, asked_by, fact_view, facts_view, led_by};
+ghost use Rattle.lsp_facts.specs.Fact.{shown_by};
 ghost use Rattle.lsp_facts.specs.MessageFacts.{id_in};
 ghost use Rattle.lsp_facts.specs.Refuting.{refuting};
 ghost use Rattle.lsp_explain.specs.Standing.{StandsAfter, terms_in};
@@ -44,9 +47,13 @@ pub(crate) fn message_traced(
     spoken: &Spoken,
     rule: u16,
 ) -> Result<Vec<Fact>, Memory>
-    ensures { IfOk result (λ facts. (content : List ℕ) (before : List Event) → StandsAfter events.now before
-        → (refused : RefusesMessage side content (message_view spoken.now.message) (act_view spoken.now.act) (terms_in events.now) (kept_of (terms_in events.now) before) rule)
-        → spec.AreTraced (AreMessageFacts (terms_in events.now) (kept_of (terms_in events.now) before) refused.sent rule)
+    ensures { IfOk result (λ facts. (content : List ℕ) (before : List Event)
+        → StandsAfter events.now before
+        → (refused : RefusesMessage side content (message_view spoken.now.message)
+        (act_view spoken.now.act) (terms_in events.now)
+        (kept_of (terms_in events.now) before) rule)
+        → spec.AreTraced (AreMessageFacts (terms_in events.now)
+        (kept_of (terms_in events.now) before) refused.sent rule)
         (terms_in events.now) before (message refused.sent) rule (facts_view facts.items)) }
 {
     let session = events.session();
@@ -66,10 +73,15 @@ pub(crate) fn shown_traced(
     text: &str,
     rule: u16,
 ) -> Result<Vec<Fact>, Memory>
-    ensures { IfOk result (λ facts. (before : List Event) → StandsAfter events.now before → number ≡ number_next before
-        → rule_at (terms_in events.now) before (snapshot uri.now version (chars text.now)) ≡ Some rule
-        → spec.AreTraced (AreCallFacts (terms_in events.now) (kept_of (terms_in events.now) before) rule (Some (shows uri.now version (chars text.now))))
-        (terms_in events.now) before (snapshot uri.now version (chars text.now)) rule (facts_view facts.items)) }
+    ensures { IfOk result (λ facts. (before : List Event) → StandsAfter events.now before
+        → number ≡ number_next before
+        → rule_at (terms_in events.now) before (snapshot uri.now version (chars text.now))
+        ≡ Some rule
+        → spec.AreTraced (AreCallFacts (terms_in events.now)
+        (kept_of (terms_in events.now) before) rule
+        (Some (shows uri.now version (chars text.now))))
+        (terms_in events.now) before (snapshot uri.now version (chars text.now)) rule
+        (facts_view facts.items)) }
 {
     let session = events.session();
     let mut facts = shown_facts(alloc, session, events.docs(), version, uri, text, rule)?;
@@ -77,8 +89,8 @@ pub(crate) fn shown_traced(
     Ok(facts)
 }
 
-/// Adds to the facts on a message of a side that breaks this rule the events that brought it. The reader
-/// stands for the events before it.
+/// Adds to the facts on a message of a side that breaks this rule the events that brought it. The
+/// reader stands for the events before it.
 fn trace_spoken(
     alloc: Global,
     facts: &mut Vec<Fact>,
@@ -89,8 +101,11 @@ fn trace_spoken(
 ) -> Result<(), Memory>
     ensures { OnOk result ((before : List Event) → StandsAfter events.now before
         → facts_view facts.new.items ≡ (if nat_lt rule 601
-        then facts_view facts.old.items ++ spec.session_trace rule (numbered (terms_in events.now) before) side (id_in (message_view spoken.now.message))
-        else spec.call_traced (terms_in events.now) before rule (spec.act_call (terms_in events.now) before (act_view spoken.now.act)) (facts_view facts.old.items))) }
+        then facts_view facts.old.items ++ spec.session_trace rule
+        (numbered (terms_in events.now) before) side (id_in (message_view spoken.now.message))
+        else spec.call_traced (terms_in events.now) before rule
+        (spec.act_call (terms_in events.now) before (act_view spoken.now.act))
+        (facts_view facts.old.items))) }
 {
     if rule < FIRST_ON_DOCUMENTS {
         let said = events.session_notes();
@@ -99,9 +114,9 @@ fn trace_spoken(
     trace_act(alloc, facts, events, &spoken.act, rule)
 }
 
-/// Adds to the facts on an act that breaks this rule on documents the event that brought the held
-/// version; under 702 the snapshots that wait for the version in it and have another text; under 608 and
-/// 702 the snapshot that was found equal last.
+/// Adds to the facts on an act that breaks this rule on documents the event that set the held
+/// version; under 702 the snapshots that wait for the version in it and have another text; under
+/// 608 and 702 the snapshot that was found equal last.
 fn trace_act(
     alloc: Global,
     facts: &mut Vec<Fact>,
@@ -110,7 +125,9 @@ fn trace_act(
     rule: u16,
 ) -> Result<(), Memory>
     ensures { OnOk result ((before : List Event) → StandsAfter events.now before
-        → facts_view facts.new.items ≡ spec.call_traced (terms_in events.now) before rule (spec.act_call (terms_in events.now) before (act_view act.now))
+        → facts_view facts.new.items
+        ≡ spec.call_traced (terms_in events.now) before rule
+        (spec.act_call (terms_in events.now) before (act_view act.now))
         (facts_view facts.old.items)) }
 {
     match act {
@@ -138,8 +155,10 @@ fn trace_text(
 ) -> Result<(), Memory>
     ensures { OnOk result ((before : List Event) (call : Call) → StandsAfter events.now before
         → spec.act_call (terms_in events.now) before (act_view act.now) ≡ Some call
-        → facts_view facts.new.items ≡ spec.document_traced (steps (terms_in events.now) uri.now before)
-        (refuting (terms_in events.now) (calls (kept_of (terms_in events.now) before)) call (waiting_for version (steps (terms_in events.now) uri.now before)))
+        → facts_view facts.new.items
+        ≡ spec.document_traced (steps (terms_in events.now) uri.now before)
+        (refuting (terms_in events.now) (calls (kept_of (terms_in events.now) before)) call
+        (waiting_for version (steps (terms_in events.now) uri.now before)))
         rule (facts_view facts.old.items)) }
 {
     let marks = events.marks();
@@ -160,15 +179,18 @@ fn trace_snapshot(
     uri: &str,
     rule: u16,
 ) -> Result<(), Memory>
-    ensures { OnOk result ((terms : Terms) (before : List Event) → AreMarks terms marks.now.map.entries before
-        → facts_view facts.new.items ≡ spec.document_traced (steps terms uri.now before) (event ∷ []) rule (facts_view facts.old.items)) }
+    ensures { OnOk result ((terms : Terms) (before : List Event)
+        → AreMarks terms marks.now.map.entries before
+        → facts_view facts.new.items
+        ≡ spec.document_traced (steps terms uri.now before) (event ∷ []) rule
+        (facts_view facts.old.items)) }
 {
     trace_document(facts, marks, uri, &[event], rule)
 }
 
-/// Adds to the facts on a message of a side that breaks this rule, 301 to 504, under 301 and 302 the
-/// event that answered a request of its id before, under 302 also the one that asked the request that is
-/// open, under 401 to 412 the one that led to the phase.
+/// Adds to the facts on a message of a side that breaks this rule, 301 to 504, under 301 and 302
+/// the event that answered a request of its id before, under 302 also the one that asked the
+/// request that is open, under 401 to 412 the one that led to the phase.
 fn trace_message(
     facts: &mut Vec<Fact>,
     said: &SessionNotes,
@@ -177,7 +199,9 @@ fn trace_message(
     rule: u16,
 ) -> Result<(), Memory>
     ensures { OnOk result ((terms : Terms) (before : List Event) → AreNotes terms said.now before
-        → facts_view facts.new.items ≡ facts_view facts.old.items ++ spec.session_trace rule (numbered terms before) side (id_in (message_view message.now))) }
+        → facts_view facts.new.items ≡ facts_view facts.old.items
+        ++ spec.session_trace rule (numbered terms before) side
+        (id_in (message_view message.now))) }
 {
     match rule {
         301 => push_answered(facts, answered(said, other_side(side), message)),
@@ -193,7 +217,8 @@ fn trace_message(
 /// The event that answered a request of this side with the id of a message last.
 fn answered(said: &SessionNotes, side: Side, message: &Message) -> Option<u64>
     ensures { (terms : Terms) (before : List Event) → AreNotes terms said.now before
-        → result ≡ option_and_then (λ id. answered side id (numbered terms before)) (id_in (message_view message.now)) }
+        → result ≡ option_and_then
+        (λ id. answered side id (numbered terms before)) (id_in (message_view message.now)) }
 {
     match id_in(message) {
         Some(id) => said.answered(side, id),
@@ -204,7 +229,8 @@ fn answered(said: &SessionNotes, side: Side, message: &Message) -> Option<u64>
 /// The event that asked the open request of this side with the id of a message.
 fn asked(said: &SessionNotes, side: Side, message: &Message) -> Option<u64>
     ensures { (terms : Terms) (before : List Event) → AreNotes terms said.now before
-        → result ≡ option_and_then (λ id. asked side id (numbered terms before)) (id_in (message_view message.now)) }
+        → result ≡ option_and_then
+        (λ id. asked side id (numbered terms before)) (id_in (message_view message.now)) }
 {
     match id_in(message) {
         Some(id) => said.asked(side, id),
@@ -229,58 +255,73 @@ fn trace_document(
     snapshots: &[u64],
     rule: u16,
 ) -> Result<(), Memory>
-    ensures { OnOk result ((terms : Terms) (before : List Event) → AreMarks terms marks.now.map.entries before
-        → facts_view facts.new.items ≡ spec.document_traced (steps terms uri.now before) snapshots.now rule (facts_view facts.old.items)) }
+    ensures { OnOk result ((terms : Terms) (before : List Event)
+        → AreMarks terms marks.now.map.entries before
+        → facts_view facts.new.items
+        ≡ spec.document_traced (steps terms uri.now before) snapshots.now rule
+        (facts_view facts.old.items)) }
 {
-    put_brought(facts, marks.brought(uri))?;
+    put_setter(facts, marks.brought(uri))?;
     push_texts(facts, marks.agreed(uri), snapshots, rule)
 }
 
-/// Puts the event that brought the held version behind that version.
-fn put_brought(facts: &mut Vec<Fact>, brought: Option<u64>) -> Result<(), Memory>
-    ensures { OnOk result (facts_view facts.new.items ≡ spec.with_brought brought (facts_view facts.old.items)) }
+/// Puts the event that set the held version beside that version.
+fn put_setter(facts: &mut Vec<Fact>, brought: Option<u64>) -> Result<(), Memory>
+    ensures { OnOk result (facts_view facts.new.items
+        ≡ spec.with_setter brought (facts_view facts.old.items)) }
 {
     let Some(event) = brought else {
         return Ok(());
     };
-    if names_held(facts) {
-        facts.insert(2, Fact::Brought(event))?;
+    if facts.len() < 2 {
+        return Ok(());
     }
-    Ok(())
+    set_second(facts, event)
 }
 
-/// Whether the second fact is the version that is held.
-fn names_held(facts: &Vec<Fact>) -> bool
-    ensures holding { result ≡ spec.is_holding (slice_get (facts_view facts.now.items) 1) }
-    ensures long { result ≡ true → 2 ≤ vec_len facts.now }
+/// Puts the event that set the held version beside that version, if the second fact says that.
+fn set_second(facts: &mut Vec<Fact>, event: u64) -> Result<(), Memory>
+    requires { 2 ≤ vec_len facts.old }
+    ensures { OnOk result (facts_view facts.new.items
+        ≡ spec.with_setter (Some event) (facts_view facts.old.items)) }
 {
-    match facts.as_slice().get(1) {
-        Some(fact) => matches!(fact, Fact::Held(_)),
-        None => false,
+    let fact = held_by(facts.remove(1), event);
+    Ok(facts.insert(1, fact)?)
+}
+
+/// The version that is held, with the event that set it; another fact as it is.
+fn held_by(fact: Fact, event: u64) -> Fact
+    ensures { fact_view result ≡ spec.held_by event (fact_view fact) }
+{
+    if let Fact::Held(version) = fact {
+        return Fact::HeldBy { version, event };
     }
+    fact
 }
 
 /// Adds the snapshots that differ, and the one that was found equal last.
 fn push_texts(
     facts: &mut Vec<Fact>,
-    agreed: Option<Shown>,
+    equal: Option<Shown>,
     snapshots: &[u64],
     rule: u16,
 ) -> Result<(), Memory>
-    ensures { OnOk result (facts_view facts.new.items ≡ facts_view facts.old.items ++ spec.texts_traced agreed snapshots.now rule) }
+    ensures { OnOk result (facts_view facts.new.items ≡ facts_view facts.old.items
+        ++ spec.texts_traced equal snapshots.now rule) }
 {
     if rule == SNAPSHOT_DIFFERS {
         push_snapshots(facts, snapshots)?;
-        return push_agreed(facts, agreed);
+        return push_equal(facts, equal);
     }
     if rule == SAVED_TEXT_DIFFERS {
-        return push_agreed(facts, agreed);
+        return push_equal(facts, equal);
     }
     Ok(())
 }
 
 fn push_snapshots(facts: &mut Vec<Fact>, snapshots: &[u64]) -> Result<(), Memory>
-    ensures { OnOk result (facts_view facts.new.items ≡ facts_view facts.old.items ++ map shown_by snapshots.now) }
+    ensures { OnOk result (facts_view facts.new.items ≡ facts_view facts.old.items
+        ++ map shown_by snapshots.now) }
 {
     for event in snapshots {
         facts.push(Fact::Snapshot(*event))?;
@@ -288,17 +329,19 @@ fn push_snapshots(facts: &mut Vec<Fact>, snapshots: &[u64]) -> Result<(), Memory
     Ok(())
 }
 
-fn push_agreed(facts: &mut Vec<Fact>, agreed: Option<Shown>) -> Result<(), Memory>
-    ensures { OnOk result (facts_view facts.new.items ≡ facts_view facts.old.items ++ spec.agreed_facts agreed) }
+fn push_equal(facts: &mut Vec<Fact>, equal: Option<Shown>) -> Result<(), Memory>
+    ensures { OnOk result (facts_view facts.new.items ≡ facts_view facts.old.items
+        ++ spec.equal_facts equal) }
 {
-    let Some(Shown { event, version }) = agreed else {
+    let Some(Shown { event, version }) = equal else {
         return Ok(());
     };
-    Ok(facts.push(Fact::Agreed { event, version })?)
+    Ok(facts.push(Fact::Equal { version, event })?)
 }
 
 fn push_answered(facts: &mut Vec<Fact>, event: Option<u64>) -> Result<(), Memory>
-    ensures { OnOk result (facts_view facts.new.items ≡ facts_view facts.old.items ++ spec.number_facts answered_by event) }
+    ensures { OnOk result (facts_view facts.new.items ≡ facts_view facts.old.items
+        ++ spec.number_facts answered_by event) }
 {
     let Some(event) = event else {
         return Ok(());
@@ -307,7 +350,8 @@ fn push_answered(facts: &mut Vec<Fact>, event: Option<u64>) -> Result<(), Memory
 }
 
 fn push_asked(facts: &mut Vec<Fact>, event: Option<u64>) -> Result<(), Memory>
-    ensures { OnOk result (facts_view facts.new.items ≡ facts_view facts.old.items ++ spec.number_facts asked_by event) }
+    ensures { OnOk result (facts_view facts.new.items ≡ facts_view facts.old.items
+        ++ spec.number_facts asked_by event) }
 {
     let Some(event) = event else {
         return Ok(());
@@ -316,7 +360,8 @@ fn push_asked(facts: &mut Vec<Fact>, event: Option<u64>) -> Result<(), Memory>
 }
 
 fn push_since(facts: &mut Vec<Fact>, event: Option<u64>) -> Result<(), Memory>
-    ensures { OnOk result (facts_view facts.new.items ≡ facts_view facts.old.items ++ spec.number_facts led_by event) }
+    ensures { OnOk result (facts_view facts.new.items ≡ facts_view facts.old.items
+        ++ spec.number_facts led_by event) }
 {
     let Some(event) = event else {
         return Ok(());
@@ -324,9 +369,9 @@ fn push_since(facts: &mut Vec<Fact>, event: Option<u64>) -> Result<(), Memory>
     Ok(facts.push(Fact::Since(event))?)
 }
 
-/// What is said of a session that ends where it lacks something: the requests of the editor's that wait,
-/// in order of asking, with the events that asked them; how far the session has come, and the event that
-/// led there. The reader stands for all its events.
+/// What is said of a session that ends where it lacks something: the requests of the editor's that
+/// wait, in order of asking, with the events that asked them; how far the session has come, and the
+/// event that led there. The reader stands for all its events.
 ///
 /// # Errors
 /// `Memory` where memory was refused.
@@ -344,7 +389,8 @@ pub(crate) fn lack_traced(alloc: Global, events: &SurveyReader) -> Result<Vec<Fa
 
 /// The requests that wait, with the events that asked them.
 fn requests(alloc: Global, pending: &Pending, said: &SessionNotes) -> Result<Vec<Fact>, Memory>
-    ensures { IfOk result (λ facts. (terms : Terms) (before : List Event) → AreNotes terms said.now before
+    ensures { IfOk result (λ facts. (terms : Terms) (before : List Event)
+        → AreNotes terms said.now before
         → facts_view facts.items ≡ map (spec.waiting_by (numbered terms before)) pending.now) }
 {
     let mut facts = Vec::new(alloc);
@@ -356,7 +402,8 @@ fn requests(alloc: Global, pending: &Pending, said: &SessionNotes) -> Result<Vec
 }
 
 fn request_by(alloc: Global, request: &OpenRequest, said: &SessionNotes) -> Result<Fact, Memory>
-    ensures { IfOk result (λ fact. (terms : Terms) (before : List Event) → AreNotes terms said.now before
+    ensures { IfOk result (λ fact. (terms : Terms) (before : List Event)
+        → AreNotes terms said.now before
         → fact_view fact ≡ spec.waiting_by (numbered terms before) (request_view request.now)) }
 {
     let id = copy_id(&request.id)?;

@@ -23,7 +23,7 @@ use Rattle.lsp_docs.specs.Snapshots.{texts_at}
 use Rattle.lsp_docs.proofs.SameVersions.{differs-texts}
 use Rattle.lsp_facts.specs.Fact.{Fact}
 use Rattle.lsp_facts.specs.DocumentFacts.{IsRefused, IsRefuted, AreApart, AreOfChange, AreOfSnapshot, AreDocumentFacts}
-use Rattle.lsp_facts.specs.Fact.{recorded_line}
+use Rattle.lsp_facts.specs.Fact.{in_editor}
 use Rattle.lsp_facts.specs.Making.{IsRejected, IsMade}
 use Rattle.lsp_facts.specs.Refuting.{first_other, is_other}
 use Rattle.lsp_facts.proofs.MadeChanges.{fails_there, makes_all}
@@ -105,7 +105,7 @@ show_breaks number t ks (Some v) rule e =
     ]
 
 pub show_explained : (enc : Encoding) (number : ℤ) (t : Text) (ks : List Version) (h : Option Version) (rule : ℕ) (u : Text) (facts : List Fact) → (rule ≡ 701 → ⊥) → show_rule number t ks h ≡ Some rule
-    → other_than (versioned number t) ks h ≡ Some u → (u ≢ t → AreApart enc u t recorded_line facts) → AreOfSnapshot enc ks h (versioned number t) rule facts
+    → other_than (versioned number t) ks h ≡ Some u → (u ≢ t → AreApart enc u t in_editor facts) → AreOfSnapshot enc ks h (versioned number t) rule facts
 show_explained enc number t ks h rule u facts no701 e other apart =
     elim (show_breaks number t ks h rule e) [
       | inl is ↦ absurd (no701 is)

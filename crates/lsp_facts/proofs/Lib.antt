@@ -1,5 +1,6 @@
 pub mod Differing
 pub mod Naming
+pub mod Offers
 pub mod MadeChanges
 pub mod Refusals
 pub mod OtherTexts

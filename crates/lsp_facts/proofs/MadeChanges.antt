@@ -13,7 +13,7 @@ use Rattle.lsp_text.specs.Changes.{edit_of, edits_of}
 use Rattle.lsp_text.proofs.Edits.Applied.{AreMade, applied-append}
 use Rattle.lsp_text.proofs.Positions.{slice_get-past}
 use Rattle.lsp_docs.specs.Texts.{Text}
-use Rattle.lsp_facts.specs.Fact.{Fact, fails}
+use Rattle.lsp_facts.specs.Fact.{Fact, counts_in, fails}
 use Rattle.lsp_facts.specs.DocumentFacts.{fits, fitting, made_length, first_length, misfit_facts}
 use Rattle.lsp_facts.specs.Making.{IsRejected, IsMade}
 
@@ -111,10 +111,10 @@ module _ (limit : ℕ) (enc : Encoding) (t : Text) (cs : List Change) (n count :
       ap (λ (x : List Edit). made_length enc span (applied limit enc t x)) (sym front) ∙ ap (made_length enc span) (makes_all limit enc t (edits_of (take n cs)) count text h (omega (arith, front_length)))
 
 pub misfit_here : (limit : ℕ) (enc : Encoding) (t : Text) (cs : List Change) (n : ℕ) (c : Change) (more : List Fact) → n < length cs → c ≡ get_or cs n c
-    → made_length enc (edit_of c).span (applied limit enc t (take n (edits_of cs))) ≡ more → fails (n + 1) (edit_of c).span ∷ more ≡ misfit_facts limit enc t (edits_of cs) n (slice_get (edits_of cs) n)
+    → made_length enc (edit_of c).span (applied limit enc t (take n (edits_of cs))) ≡ more → counts_in enc ∷ fails (n + 1) (edit_of c).span ∷ more ≡ misfit_facts limit enc t (edits_of cs) n (slice_get (edits_of cs) n)
 misfit_here limit enc t cs n c more lt is e =
     let here : slice_get (edits_of cs) n ≡ Some (edit_of c) = slice_get-map edit_of cs n ∙ ap (option_map edit_of) (slice_get-get_or cs n c lt ∙ ap Some (sym is)) in
-    sym (ap (misfit_facts limit enc t (edits_of cs) n) here ∙ ap (λ (l : List Fact). fails (n + 1) (edit_of c).span ∷ l) e)
+    sym (ap (misfit_facts limit enc t (edits_of cs) n) here ∙ ap (λ (l : List Fact). counts_in enc ∷ fails (n + 1) (edit_of c).span ∷ l) e)
 
 -- the change at a place, as an edit
 pub here_at : (cs : List Change) (n : ℕ) (c : Change) → n < length cs → c ≡ get_or cs n c → slice_get (edits_of cs) n ≡ Some (edit_of c)

@@ -28,7 +28,7 @@ use Rattle.lsp_verdict.specs.Event.{Event, message, fault, snapshot, sent_in}
 use Rattle.lsp_verdict.specs.Placed.{Raw}
 use Rattle.lsp_facts.specs.EventFacts.{AreCallFacts, AreFactsBy, AreFacts}
 use Rattle.lsp_facts.specs.FlawFacts.{Rests}
-use Rattle.lsp_facts.specs.Fact.{Fact, falls_inside, would_have, may_have, recorded_line, saved_line, fails}
+use Rattle.lsp_facts.specs.Fact.{Fact, falls_inside, would_have, may_have, in_editor, saved_line, counts_in, fails}
 use Rattle.lsp_facts.proofs.MadeChanges.{fails_there}
 
 same_text : (t u : Text) → (let r : Result Text ℕ = Ok t in r) ≡ Ok u → t ≡ u
@@ -89,7 +89,7 @@ module _ (limit : ℕ) (enc : Encoding) (t : Text) where
   reason_rule edit rule f (inr (inr p)) = (omega (arith, p.0), omega (arith, p.0))
 
   one_refused : (n : ℕ) (edit : Edit) (rule : ℕ) (f g : List Fact) → IsRefused limit enc t n edit rule f → IsRefused limit enc t n edit rule g → f ≡ g
-  one_refused n edit rule f g p q = p.are ∙ ap (λ l. fails (n + 1) edit.span ∷ l) (one_reason edit rule p.reason q.reason p.says q.says) ∙ sym q.are
+  one_refused n edit rule f g p q = p.are ∙ ap (λ l. counts_in enc ∷ fails (n + 1) edit.span ∷ l) (one_reason edit rule p.reason q.reason p.says q.says) ∙ sym q.are
 
 -- ---- the first that fails
 
@@ -134,7 +134,7 @@ module _ (limit : ℕ) (enc : Encoding) (t : Text) (cs : List Edit) (rule : ℕ)
 one_refuted : (enc : Encoding) (ws : List Version) (v : Version) (f g : List Fact) → IsRefuted enc ws v f → IsRefuted enc ws v g → f ≡ g
 one_refuted enc ws v f g p q =
     let others : p.other ≡ q.other = same_Some p.other q.other (sym p.waiting ∙ q.waiting) in
-    one_apart enc v.text q.other recorded_line f g (subst (λ u. AreApart enc v.text u recorded_line f) others p.apart) q.apart
+    one_apart enc v.text q.other in_editor f g (subst (λ u. AreApart enc v.text u in_editor f) others p.apart) q.apart
 
 -- ---- by what was called
 
@@ -188,7 +188,7 @@ one_of_snapshot enc ks o s rule f g p q =
     refuting : IsRefuting enc ks o s f → IsRefuting enc ks o s g → f ≡ g
     refuting a b =
         let texts : a.text ≡ b.text = same_Some a.text b.text (sym a.other ∙ b.other) in
-        one_apart enc b.text s.text recorded_line f g (subst (λ u. AreApart enc u s.text recorded_line f) texts a.apart) b.apart
+        one_apart enc b.text s.text in_editor f g (subst (λ u. AreApart enc u s.text in_editor f) texts a.apart) b.apart
 
 module _ (terms : Terms) (enc : Encoding) (h : Option Version) (ks ws : List Version) (rule : ℕ) where
   one_details : (call : Call) (f g : List Fact) → AreDetails terms enc h ks ws call rule f → AreDetails terms enc h ks ws call rule g → f ≡ g

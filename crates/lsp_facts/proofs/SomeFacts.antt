@@ -31,7 +31,7 @@ use Rattle.lsp_verdict.specs.Verdict.{offence}
 use Rattle.lsp_facts.specs.EventFacts.{fault_facts, AreCallFacts, AreFactsBy, AreFacts}
 use Rattle.lsp_facts.specs.FlawFacts.{Rests}
 use Rattle.lsp_facts.specs.MessageFacts.{session_facts}
-use Rattle.lsp_facts.specs.Fact.{Fact, falls_inside, would_have, may_have, recorded_line, saved_line, fails}
+use Rattle.lsp_facts.specs.Fact.{Fact, falls_inside, would_have, may_have, in_editor, saved_line, counts_in, fails}
 use Rattle.lsp_facts.proofs.DocumentRules.{other_apart, show_breaks, version_breaks, waiting_apart, waiting_some}
 use Rattle.lsp_facts.proofs.Refusals.{first_stray, second_stray}
 use Rattle.lsp_facts.proofs.Refused.{breaks_call}
@@ -118,7 +118,7 @@ module _ (limit : ℕ) (enc : Encoding) (rule : ℕ) where
   some_failing t cs e =
       let at = fails_at t cs e in
       let reason = some_reason limit enc at.text at.edit.text rule at.edit.span at.failed in (
-        fails (at.n + 1) at.edit.span ∷ reason.0,
+        counts_in enc ∷ fails (at.n + 1) at.edit.span ∷ reason.0,
         record { n = at.n; text = at.text; made = at.made; edit = at.edit; here = at.here; failed = at.failed; refused = record { reason = reason.0; says = reason.1; are = refl } },
       )
 
@@ -127,7 +127,7 @@ module _ (limit : ℕ) (enc : Encoding) (rule : ℕ) where
 some_refuted : (enc : Encoding) (ws : List Version) (v : Version) → list_any (differs v) ws ≡ true → (facts : List Fact) × IsRefuted enc ws v facts
 some_refuted enc ws v any =
     let other = waiting_some v ws any in
-    let facts = some_apart enc v.text other.0 recorded_line (waiting_apart v.text other.0 _ other.1) in
+    let facts = some_apart enc v.text other.0 in_editor (waiting_apart v.text other.0 _ other.1) in
     (facts.0, record { other = other.0; waiting = other.1; apart = facts.1 })
 
 -- ---- by what was called
@@ -184,7 +184,7 @@ module _ (terms : Terms) (enc : Encoding) (h : Option Version) (ks ws : List Ver
       elim (show_breaks number text ks h rule e) [
         | inl is ↦ (kept_fact ks, inl (is, refl))
         | inr is ↦ (
-            let facts = some_apart enc is.1 text recorded_line (other_apart (versioned number text) ks h is.1 is.2) in
+            let facts = some_apart enc is.1 text in_editor (other_apart (versioned number text) ks h is.1 is.2) in
             (facts.0, inr (is.0, record { text = is.1; other = is.2; apart = facts.1 }))
             )
       ]

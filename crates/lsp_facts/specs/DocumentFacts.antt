@@ -1,5 +1,7 @@
 -- The facts on a call that breaks a rule on documents: 601 to 608, 701, 702.
-use Rattle.std.specs.Prelude.{◌≡◌, ◌⊎◌, ◌+◌, ℕ, ℤ, List, [], ◌∷◌, ◌++◌, length, take, map, slice_get, Bool, true, false, is_some, is_none, if◌then◌else◌, Option, Some, None, option_map, option_to_list, Result, Ok, Err}
+use Rattle.std.specs.Prelude.{◌≡◌, ◌⊎◌, ◌+◌, ℕ, ℤ, List, [], ◌∷◌, ◌++◌, length, take, map}
+use Rattle.std.specs.Prelude.{slice_get, Bool, true, false, is_some, is_none, if◌then◌else◌, Option}
+use Rattle.std.specs.Prelude.{Some, None, option_map, option_to_list, Result, Ok, Err}
 use Rattle.std.specs.List.{prefix_len}
 use Rattle.lsp_types.specs.declared.position.Encoding.{Encoding}
 use Rattle.lsp_types.specs.declared.position.Position.{Position}
@@ -19,7 +21,10 @@ use Rattle.lsp_docs.specs.Documents.{Version, versioned, held}
 use Rattle.lsp_docs.specs.Kept.{kept}
 use Rattle.lsp_docs.specs.Snapshots.{texts_at, waiting, versions_of}
 use Rattle.lsp_docs.specs.Others.{other_than}
-use Rattle.lsp_facts.specs.Fact.{Fact, of_uri, holds, sends, has_changes, has_kind, fails, line_has, falls_inside, would_have, may_have, differs_at, held_line, recorded_line, saved_line, keeps}
+use Rattle.lsp_facts.specs.Fact.{Fact, of_uri, holds, sends, shows_version, has_changes}
+use Rattle.lsp_facts.specs.Fact.{has_kind, counts_in, fails, line_has}
+use Rattle.lsp_facts.specs.Fact.{falls_inside, would_have, may_have, differs_at, by_messages}
+use Rattle.lsp_facts.specs.Fact.{in_editor, saved_line, keeps}
 use Rattle.lsp_facts.specs.Refuting.{first_other}
 
 -- ---- what is said under each rule
@@ -29,13 +34,13 @@ abbrev pub held_fact : Option Version → List Fact
 held_fact None = []
 held_fact (Some v) = holds v.number ∷ []
 
--- the version that was sent, and how many changes
+-- the version that was sent, and how many changes; or that of a snapshot
 abbrev pub sent_facts : Call → List Fact
 sent_facts (opens uri number text) = sends number ∷ []
 sent_facts (changes enc kind uri number edits) = sends number ∷ has_changes (length edits) ∷ []
 sent_facts (closes uri) = []
 sent_facts (saves uri text) = []
-sent_facts (shows uri number text) = sends number ∷ []
+sent_facts (shows uri number text) = shows_version number ∷ []
 
 abbrev pub head_facts : Option Version → Call → List Fact
 head_facts h call = of_uri (uri_of call) ∷ (held_fact h ++ sent_facts call)
@@ -44,7 +49,8 @@ head_facts h call = of_uri (uri_of call) ∷ (held_fact h ++ sent_facts call)
 
 -- the units of the line of a position, its line end not counted, where the text has that line
 abbrev pub line_length : Encoding → Text → Position → List Fact
-line_length enc t p = option_to_list (option_map (λ (l : Line). line_has (units enc l.text)) (slice_get (lines_of t) p.line))
+line_length enc t p = option_to_list (option_map (λ (l : Line). line_has (units enc l.text))
+    (slice_get (lines_of t) p.line))
 
 -- the same of the first position of a span, where there is one
 abbrev pub first_length : Encoding → Text → Option Span → List Fact
@@ -71,10 +77,13 @@ made_length enc span (Err rule) = []
 -- change n, from 0, where there is such
 abbrev pub misfit_facts : ℕ → Encoding → Text → List Edit → ℕ → Option Edit → List Fact
 misfit_facts limit enc t cs n None = []
-misfit_facts limit enc t cs n (Some edit) = fails (n + 1) edit.span ∷ made_length enc edit.span (applied limit enc t (take n cs))
+misfit_facts limit enc t cs n (Some edit) =
+    counts_in enc ∷ fails (n + 1) edit.span ∷ made_length enc edit.span
+    (applied limit enc t (take n cs))
 
 abbrev pub kind_facts : ℕ → Encoding → SyncKind → Text → List Edit → List Fact
-kind_facts limit enc kind t cs = has_kind kind ∷ misfit_facts limit enc t cs (fitting kind cs) (slice_get cs (fitting kind cs))
+kind_facts limit enc kind t cs =
+    has_kind kind ∷ misfit_facts limit enc t cs (fitting kind cs) (slice_get cs (fitting kind cs))
 
 -- ---- 605 to 607: a change that fails
 
@@ -83,21 +92,24 @@ abbrev pub stray : Encoding → Text → Span → Position
 stray enc t span = if is_some (place_of enc t span.first) then span.second else span.first
 
 -- 605: the line of that position, and the character
-pub record IsStray (enc : Encoding) (t : Text) (span : Option Span) (facts : List Fact) : Type 0 where
-  pub of : Span
-  pub there : span ≡ Some of
-  pub char : ℕ
-  pub lies : LiesInside enc t (stray enc t of) char
-  pub are : facts ≡ line_length enc t (stray enc t of) ++ falls_inside (char ∷ []) ∷ []
+pub record IsStray (enc : Encoding) (t : Text) (span : Option Span) (facts : List Fact) : Type 0
+  where
+    pub of : Span
+    pub there : span ≡ Some of
+    pub char : ℕ
+    pub lies : LiesInside enc t (stray enc t of) char
+    pub are : facts ≡ line_length enc t (stray enc t of) ++ falls_inside (char ∷ []) ∷ []
 
 -- 607: the bytes that the text would have, and how many it may have
-pub record IsTooLong (limit : ℕ) (enc : Encoding) (t : Text) (edit : Edit) (facts : List Fact) : Type 0 where
+pub record IsTooLong (limit : ℕ) (enc : Encoding) (t : Text) (edit : Edit)
+    (facts : List Fact) : Type 0 where
   pub size : ℕ
   pub would : IsSizeWith enc t edit.span edit.text size
   pub are : facts ≡ would_have size ∷ may_have limit ∷ []
 
 -- with the length of the line in which the span begins
-pub record IsLongWithLine (limit : ℕ) (enc : Encoding) (t : Text) (edit : Edit) (facts : List Fact) : Type 0 where
+pub record IsLongWithLine (limit : ℕ) (enc : Encoding) (t : Text) (edit : Edit)
+    (facts : List Fact) : Type 0 where
   pub sizes : List Fact
   pub long : IsTooLong limit enc t edit sizes
   pub are : facts ≡ first_length enc t edit.span ++ sizes
@@ -110,13 +122,15 @@ IsReason limit enc t edit rule facts =
     ⊎ ((rule ≡ 607) × IsLongWithLine limit enc t edit facts))
 
 -- change n, from 0, and why this rule refuses it
-pub record IsRefused (limit : ℕ) (enc : Encoding) (t : Text) (n : ℕ) (edit : Edit) (rule : ℕ) (facts : List Fact) : Type 0 where
+pub record IsRefused (limit : ℕ) (enc : Encoding) (t : Text) (n : ℕ) (edit : Edit) (rule : ℕ)
+    (facts : List Fact) : Type 0 where
   pub reason : List Fact
   pub says : IsReason limit enc t edit rule reason
-  pub are : facts ≡ fails (n + 1) edit.span ∷ reason
+  pub are : facts ≡ counts_in enc ∷ fails (n + 1) edit.span ∷ reason
 
 -- the first change that fails, by this rule, on the text that those before it make
-pub record IsFailing (limit : ℕ) (enc : Encoding) (t : Text) (cs : List Edit) (rule : ℕ) (facts : List Fact) : Type 0 where
+pub record IsFailing (limit : ℕ) (enc : Encoding) (t : Text) (cs : List Edit) (rule : ℕ)
+    (facts : List Fact) : Type 0 where
   pub n : ℕ
   pub text : Text
   pub made : applied limit enc t (take n cs) ≡ Ok text
@@ -129,22 +143,27 @@ pub record IsFailing (limit : ℕ) (enc : Encoding) (t : Text) (cs : List Edit) 
 
 -- where they first differ, and the line of each there
 abbrev pub difference_facts : Encoding → Text → Text → (Text → Fact) → ℕ → List Fact
-difference_facts enc t other line n = differs_at (position_at enc t n) ∷ held_line (line_around t n) ∷ line (line_around other n) ∷ []
+difference_facts enc t other line n =
+    counts_in enc ∷ differs_at (position_at enc t n) ∷ by_messages (line_around t n)
+    ∷ line (line_around other n) ∷ []
 
 abbrev pub AreApart : Encoding → Text → Text → (Text → Fact) → List Fact → Type 0
-AreApart enc t other line facts = DifferFirst t other (λ n. facts ≡ difference_facts enc t other line n)
+AreApart enc t other line facts =
+    DifferFirst t other (λ n. facts ≡ difference_facts enc t other line n)
 
 -- a snapshot that waits for this version has another text; of several, the first that came
-pub record IsRefuted (enc : Encoding) (waits : List Version) (v : Version) (facts : List Fact) : Type 0 where
+pub record IsRefuted (enc : Encoding) (waits : List Version) (v : Version)
+    (facts : List Fact) : Type 0 where
   pub other : Text
   pub waiting : first_other v.text (texts_at v.number waits) ≡ Some other
-  pub apart : AreApart enc v.text other recorded_line facts
+  pub apart : AreApart enc v.text other in_editor facts
 
 -- the text that is held or kept of the snapshot's version is another
-pub record IsRefuting (enc : Encoding) (kept : List Version) (h : Option Version) (s : Version) (facts : List Fact) : Type 0 where
+pub record IsRefuting (enc : Encoding) (kept : List Version) (h : Option Version) (s : Version)
+    (facts : List Fact) : Type 0 where
   pub text : Text
   pub other : other_than s kept h ≡ Some text
-  pub apart : AreApart enc text s.text recorded_line facts
+  pub apart : AreApart enc text s.text in_editor facts
 
 -- ---- by what was called
 
@@ -155,12 +174,14 @@ AreOfOpening limit enc waits v rule facts =
     ⊎ ((rule ≡ 702) × IsRefuted enc waits v facts))
 
 -- 702: the changes make a text that a waiting snapshot refutes
-pub record IsRefutedText (limit : ℕ) (enc : Encoding) (waits : List Version) (number : ℤ) (t : Text) (cs : List Edit) (facts : List Fact) : Type 0 where
+pub record IsRefutedText (limit : ℕ) (enc : Encoding) (waits : List Version) (number : ℤ) (t : Text)
+    (cs : List Edit) (facts : List Fact) : Type 0 where
   pub text : Text
   pub made : applied limit enc t cs ≡ Ok text
   pub refuted : IsRefuted enc waits (versioned number text) facts
 
-abbrev pub AreOfChange : ℕ → Encoding → SyncKind → List Version → ℤ → List Edit → Option Version → ℕ → List Fact → Type 0
+abbrev pub AreOfChange : ℕ → Encoding → SyncKind → List Version → ℤ → List Edit → Option Version → ℕ
+    → List Fact → Type 0
 AreOfChange limit enc kind waits number cs None rule facts = (rule ≡ 602) × (facts ≡ [])
 AreOfChange limit enc kind waits number cs (Some v) rule facts =
     ((rule ≡ 603) × (facts ≡ []))
@@ -177,22 +198,30 @@ abbrev pub kept_fact : List Version → List Fact
 kept_fact [] = []
 kept_fact (v ∷ vs) = keeps (v.number ∷ map (λ (w : Version). w.number) vs) ∷ []
 
-abbrev pub AreOfSnapshot : Encoding → List Version → Option Version → Version → ℕ → List Fact → Type 0
+abbrev pub AreOfSnapshot : Encoding → List Version → Option Version → Version → ℕ → List Fact
+    → Type 0
 AreOfSnapshot enc kept h s rule facts =
     ((rule ≡ 701) × (facts ≡ kept_fact kept))
     ⊎ ((rule ≡ 702) × IsRefuting enc kept h s facts)
 
-abbrev pub AreDetails : Terms → Encoding → Option Version → List Version → List Version → Call → ℕ → List Fact → Type 0
-AreDetails terms enc h kept waits (opens uri number text) rule facts = AreOfOpening terms.limit enc waits (versioned number text) rule facts
-AreDetails terms enc h kept waits (changes agreed kind uri number edits) rule facts = AreOfChange terms.limit agreed kind waits number edits h rule facts
+abbrev pub AreDetails : Terms → Encoding → Option Version → List Version → List Version → Call → ℕ
+    → List Fact → Type 0
+AreDetails terms enc h kept waits (opens uri number text) rule facts =
+    AreOfOpening terms.limit enc waits (versioned number text) rule facts
+AreDetails terms enc h kept waits (changes agreed kind uri number edits) rule facts =
+    AreOfChange terms.limit agreed kind waits number edits h rule facts
 AreDetails terms enc h kept waits (closes uri) rule facts = (rule ≡ 602) × (facts ≡ [])
-AreDetails terms enc h kept waits (saves uri text) rule facts = (rule ≡ 608) × AreOfSave enc text h facts
-AreDetails terms enc h kept waits (shows uri number text) rule facts = AreOfSnapshot enc kept h (versioned number text) rule facts
+AreDetails terms enc h kept waits (saves uri text) rule facts =
+    (rule ≡ 608) × AreOfSave enc text h facts
+AreDetails terms enc h kept waits (shows uri number text) rule facts =
+    AreOfSnapshot enc kept h (versioned number text) rule facts
 
 -- ---- all facts
 
--- the facts on a call that breaks this rule, where this is held of its URI, these versions are kept and these snapshots wait. Columns count units of the encoding
-pub record AreFactsOf (terms : Terms) (enc : Encoding) (h : Option Version) (kept waits : List Version) (call : Call) (rule : ℕ) (facts : List Fact) : Type 0 where
+-- the facts on a call that breaks this rule, where this is held of its URI, these versions are kept
+-- and these snapshots wait. Columns count units of the encoding
+pub record AreFactsOf (terms : Terms) (enc : Encoding) (h : Option Version)
+    (kept waits : List Version) (call : Call) (rule : ℕ) (facts : List Fact) : Type 0 where
   pub details : List Fact
   pub says : AreDetails terms enc h kept waits call rule details
   pub are : facts ≡ head_facts h call ++ details
@@ -200,4 +229,5 @@ pub record AreFactsOf (terms : Terms) (enc : Encoding) (h : Option Version) (kep
 -- **the facts on a call that breaks this rule after these calls**
 abbrev pub AreDocumentFacts : Terms → Encoding → List Call → Call → ℕ → List Fact → Type 0
 AreDocumentFacts terms enc before call rule facts =
-    AreFactsOf terms enc (held terms (uri_of call) before) (kept terms (uri_of call) before) (versions_of (uri_of call) (waiting terms before)) call rule facts
+    AreFactsOf terms enc (held terms (uri_of call) before) (kept terms (uri_of call) before)
+    (versions_of (uri_of call) (waiting terms before)) call rule facts

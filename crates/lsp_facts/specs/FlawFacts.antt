@@ -30,7 +30,8 @@ side_by who.Editor = Editor
 side_by who.Server = Server
 side_by who.Snapshot = Editor
 
--- 101 to 106 lie in a header part, which is said of these bytes; the bytes behind it are not looked at, since more of them may follow
+-- 101 to 106 lie in a header part, which is said of these bytes; the bytes behind it are not looked
+-- at, since more of them may follow
 abbrev pub frame_facts : List ℕ → List Fact
 frame_facts rest = content_facts (header_front rest)
 
@@ -40,10 +41,13 @@ unfinished_facts rest = content_facts rest
 
 -- ---- logs
 
--- of a fault at the record of this number, which begins behind so many bytes, where this line stands
+-- of a fault at the record of this number, which begins behind so many bytes, where this line
+-- stands
 abbrev pub flaw_facts : ℕ → ℕ → List ℕ → List Fact
 flaw_facts number place line = in_record number ∷ at_byte place ∷ finds (text_front line) ∷ []
 
-abbrev pub log_facts : Bounds → List ℕ → Option Format → List Record → Option (ℕ × LogCode) → List Fact
+abbrev pub log_facts : Bounds → List ℕ → Option Format → List Record → Option (ℕ × LogCode)
+    → List Fact
 log_facts limits log format records None = []
-log_facts limits log format records (Some (number, code)) = flaw_facts number (place_of format records) (found_behind limits format records log)
+log_facts limits log format records (Some (number, code)) =
+    flaw_facts number (place_of format records) (found_behind limits format records log)

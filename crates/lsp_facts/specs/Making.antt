@@ -1,5 +1,6 @@
 -- Changes that are made one after another, until one fails.
-use Rattle.std.specs.Prelude.{◌≡◌, ◌≤◌, ℕ, List, length, take, slice_get, Option, Some, None, Ok, Err}
+use Rattle.std.specs.Prelude.{◌≡◌, ◌≤◌, ℕ, List, length, take, slice_get, Option, Some, None, Ok}
+use Rattle.std.specs.Prelude.{Err}
 use Rattle.lsp_types.specs.declared.position.Encoding.{Encoding}
 use Rattle.lsp_docs.specs.Texts.{Text}
 use Rattle.lsp_text.specs.Edits.{Edit, changed, applied}
@@ -10,10 +11,12 @@ use Rattle.lsp_facts.specs.DocumentFacts.{stray}
 -- a rule refuses the change, where there is one
 abbrev pub IsRejected : ℕ → Encoding → Text → Option Edit → Type 0
 IsRejected limit enc t None = Unit {0}
-IsRejected limit enc t (Some edit) = (rule : ℕ) × (changed enc t edit.span edit.text limit ≡ Err rule)
+IsRejected limit enc t (Some edit) =
+    (rule : ℕ) × (changed enc t edit.span edit.text limit ≡ Err rule)
 
 -- the first n changes make this text, on which the next fails, if there is one
-pub record IsMade (limit : ℕ) (enc : Encoding) (t : Text) (cs : List Edit) (n : ℕ) (text : Text) : Type 0 where
+pub record IsMade (limit : ℕ) (enc : Encoding) (t : Text) (cs : List Edit) (n : ℕ)
+    (text : Text) : Type 0 where
   pub within : n ≤ length cs
   pub made : applied limit enc t (take n cs) ≡ Ok text
   pub next : IsRejected limit enc text (slice_get cs n)

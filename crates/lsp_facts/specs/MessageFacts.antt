@@ -1,5 +1,6 @@
 -- What is said of a message that offends, read off the messages before.
-use Rattle.std.specs.Prelude.{ℕ, List, [], ◌∷◌, take, if◌then◌else◌, Option, Some, None, option_map, option_to_list, unwrap_or}
+use Rattle.std.specs.Prelude.{ℕ, suc, ◌-◌, nat_lt, List, [], ◌∷◌, length, take, if◌then◌else◌}
+use Rattle.std.specs.Prelude.{Option, Some, None, option_map, option_to_list, unwrap_or}
 use Rattle.std.specs.Str.Lossy.{utf8_valid_len}
 use Rattle.lsp_rpc.specs.Act.{Text, Act, Picked, register}
 use Rattle.lsp_rpc.specs.Ident.{Ident}
@@ -35,15 +36,33 @@ abbrev pub pick_facts : Option Picked → List Fact
 pick_facts None = []
 pick_facts (Some picked) = picks picked.encoding ∷ []
 
+-- how many bytes are shown of the names that an `initialize` offers, a byte more counted for each
+abbrev pub offered_bytes : ℕ
+offered_bytes = 256
+
+-- how many of the first names fit into so many bytes
+abbrev pub names_fitting : ℕ → List Text → ℕ
+names_fitting room [] = 0
+names_fitting room (name ∷ names) =
+    if nat_lt (length name) room then suc (names_fitting (room - suc (length name)) names) else 0
+
+-- as many of the first names as fit, and how many more there are
+abbrev pub offer_fact : List Text → Fact
+offer_fact names =
+    let count = names_fitting offered_bytes names in offers (take count names)
+    (length names - count)
+
 -- the encodings that were offered, and the one that is picked where the result has the shape
 abbrev pub settled_facts : Option Settled → List Fact
 settled_facts None = []
-settled_facts (Some settled) = offers (unwrap_or settled.offer.encodings []) ∷ pick_facts (picked_at settled.value)
+settled_facts (Some settled) =
+    offer_fact (unwrap_or settled.offer.encodings []) ∷ pick_facts (picked_at settled.value)
 
 -- the first of the methods that is one of text synchronisation
 abbrev pub first_synchronisation : List Text → Option Text
 first_synchronisation [] = None
-first_synchronisation (method ∷ methods) = if is_synchronisation method then Some method else first_synchronisation methods
+first_synchronisation (method ∷ methods) =
+    if is_synchronisation method then Some method else first_synchronisation methods
 
 abbrev pub registered : Act → Option Text
 registered (register methods) = first_synchronisation methods

@@ -1,5 +1,6 @@
 -- Which snapshots that wait refute the text of a version.
-use Rattle.std.specs.Prelude.{ℕ, ℤ, List, [], ◌∷◌, Bool, false, not, if◌then◌else◌, Option, option_and_then, option_map, unwrap_or}
+use Rattle.std.specs.Prelude.{ℕ, ℤ, List, [], ◌∷◌, Bool, false, not, if◌then◌else◌, Option}
+use Rattle.std.specs.Prelude.{option_and_then, option_map, unwrap_or}
 use Rattle.std.specs.List.{find}
 use Rattle.std.specs.Result.{result_ok}
 use Rattle.std.specs.Str.{bytes_eq}
@@ -25,7 +26,8 @@ is_other_at t u = unwrap_or (option_map (is_other t) u) false
 abbrev pub first_other : Text → List Text → Option Text
 first_other t us = find (is_other t) us
 
--- those of the snapshots with another text, where they are given by their events, and these are their texts in turn
+-- those of the snapshots with another text, where they are given by their events, and these are
+-- their texts in turn
 abbrev pub others_of : Text → List ℕ → List Text → List ℕ
 others_of t (n ∷ ns) (u ∷ us) = if is_other t u then n ∷ others_of t ns us else others_of t ns us
 others_of t (n ∷ ns) [] = []
@@ -35,16 +37,21 @@ others_of t [] us = []
 
 -- the text that changes make of what is held, where each of them can be made
 abbrev pub made_text : Terms → Encoding → List Edit → Option Version → Option Text
-made_text terms enc edits h = option_and_then (λ (v : Version). result_ok (applied terms.limit enc v.text edits)) h
+made_text terms enc edits h =
+    option_and_then (λ (v : Version). result_ok (applied terms.limit enc v.text edits)) h
 
 -- the texts of the snapshots that wait for a version of the URI after these calls
 abbrev pub waiting_texts : Terms → List Call → Bytes → ℤ → List Text
 waiting_texts terms before uri number = texts_at number (versions_of uri (waiting terms before))
 
--- **those of the snapshots that wait for the version of a call, given by their events, that have another text than it brings its document to**
+-- **those of the snapshots that wait for the version of a call, given by their events, that have
+-- another text than it brings its document to**
 abbrev pub refuting : Terms → List Call → Call → List ℕ → List ℕ
-refuting terms before (opens uri number text) ns = others_of text ns (waiting_texts terms before uri number)
-refuting terms before (changes enc kind uri number edits) ns = unwrap_or (option_map (λ t. others_of t ns (waiting_texts terms before uri number)) (made_text terms enc edits (held terms uri before))) []
+refuting terms before (opens uri number text) ns =
+    others_of text ns (waiting_texts terms before uri number)
+refuting terms before (changes enc kind uri number edits) ns =
+    unwrap_or (option_map (λ t. others_of t ns (waiting_texts terms before uri number))
+    (made_text terms enc edits (held terms uri before))) []
 refuting terms before (closes uri) ns = []
 refuting terms before (saves uri text) ns = []
 refuting terms before (shows uri number text) ns = []

@@ -28,14 +28,16 @@ pub(crate) fn difference(
     other: &str,
     against: Against,
 ) -> Result<FactList, Memory>
-    ensures { IfOk result (λ facts. chars held.now ≢ chars other.now → AreApart encoding (chars held.now) (chars other.now) (line_fact against) facts) }
+    ensures { IfOk result (λ facts. chars held.now ≢ chars other.now
+        → AreApart encoding (chars held.now) (chars other.now) (line_fact against) facts) }
 {
     let mut facts = FactList::new(alloc);
     let Some(found) = first_difference(held, other, encoding) else {
         return Ok(facts);
     };
+    facts.push(Fact::Encoding(encoding))?;
     facts.push(Fact::At(found.at))?;
-    facts.push_held(found.held)?;
+    facts.push_by_messages(found.held)?;
     push_other(&mut facts, found.other, against)?;
     Ok(facts)
 }
@@ -45,7 +47,7 @@ fn push_other(facts: &mut FactList, line: &str, against: Against) -> Result<(), 
     ensures { OnOk result (facts.new ≡ facts.old ++ line_fact against (chars line.now) ∷ []) }
 {
     match against {
-        Against::Recorded => facts.push_recorded(line),
+        Against::Recorded => facts.push_in_editor(line),
         Against::Saved => facts.push_saved(line),
     }
 }

@@ -13,7 +13,9 @@ ghost use Rattle.lsp_docs.specs.Rules.{differs, call_rule};
 ghost use Rattle.lsp_docs.specs.State.{Stands};
 ghost use Rattle.lsp_verdict.specs.Calls.{call_of};
 ghost use Rattle.lsp_facts.specs.Fact.{of_uri, facts_view};
-ghost use Rattle.lsp_facts.specs.DocumentFacts.{held_fact, kept_fact, IsRefuted, AreOfOpening, AreOfChange, AreOfSave, AreOfSnapshot, AreDocumentFacts};
+ghost use Rattle.lsp_facts.specs.DocumentFacts.{held_fact, kept_fact, IsRefuted, AreOfOpening};
+ghost use Rattle.lsp_facts.specs.DocumentFacts.{AreOfChange, AreOfSave, AreOfSnapshot};
+ghost use Rattle.lsp_facts.specs.DocumentFacts.{AreDocumentFacts};
 
 use crate::difference::{Against, difference};
 use crate::fact::Fact;
@@ -42,8 +44,8 @@ const LATE_SNAPSHOT: u16 = 701;
 /// A snapshot of another text than the one of its version.
 const SNAPSHOT_DIFFERS: u16 = 702;
 
-/// What is said of an act of the editor's that breaks this rule on documents, under what was agreed. The documents are
-/// those before the act, which was refused.
+/// What is said of an act of the editor's that breaks this rule on documents, under what was
+/// agreed. The documents are those before the act, which was refused.
 pub fn act_facts<S: TextStore>(
     alloc: Global,
     docs: &Docs<S>,
@@ -52,8 +54,10 @@ pub fn act_facts<S: TextStore>(
     act: &Act,
     rule: u16,
 ) -> Result<Vec<Fact>, Memory>
-    ensures { IfOk result (λ facts. (calls : List Call) (call : Call) → Stands docs.now calls → call_of encoding kind (act_view act.now) ≡ Some call
-        → call_rule docs.now.terms calls call ≡ Some rule → AreDocumentFacts docs.now.terms encoding calls call rule (facts_view facts.items)) }
+    ensures { IfOk result (λ facts. (calls : List Call) (call : Call) → Stands docs.now calls
+        → call_of encoding kind (act_view act.now) ≡ Some call
+        → call_rule docs.now.terms calls call ≡ Some rule
+        → AreDocumentFacts docs.now.terms encoding calls call rule (facts_view facts.items)) }
 {
     match act {
         Act::DidOpen { uri, version, text } => {
@@ -99,8 +103,8 @@ pub fn act_facts<S: TextStore>(
     }
 }
 
-/// What is said of a snapshot that breaks this rule, under the encoding that was agreed. The documents are those before
-/// the snapshot, which was refused.
+/// What is said of a snapshot that breaks this rule, under the encoding that was agreed. The
+/// documents are those before the snapshot, which was refused.
 pub fn snapshot_facts<S: TextStore>(
     alloc: Global,
     docs: &Docs<S>,
@@ -110,18 +114,21 @@ pub fn snapshot_facts<S: TextStore>(
     text: &str,
     rule: u16,
 ) -> Result<Vec<Fact>, Memory>
-    ensures { IfOk result (λ facts. (calls : List Call) → Stands docs.now calls → call_rule docs.now.terms calls (shows uri.now version (chars text.now)) ≡ Some rule
-        → AreDocumentFacts docs.now.terms encoding calls (shows uri.now version (chars text.now)) rule (facts_view facts.items)) }
+    ensures { IfOk result (λ facts. (calls : List Call) → Stands docs.now calls
+        → call_rule docs.now.terms calls (shows uri.now version (chars text.now)) ≡ Some rule
+        → AreDocumentFacts docs.now.terms encoding calls
+        (shows uri.now version (chars text.now)) rule (facts_view facts.items)) }
 {
     let mut facts = head(alloc, docs, uri)?;
-    facts.push(Fact::Sent(version))?;
+    facts.push(Fact::Version(version))?;
     facts.append(of_snapshot(alloc, docs, encoding, uri, version, text, rule)?)?;
     Ok(facts.into_facts())
 }
 
 /// The URI, and the version that is held of it.
 fn head<S: TextStore>(alloc: Global, docs: &Docs<S>, uri: &str) -> Result<FactList, Memory>
-    ensures { IfOk result (λ facts. (calls : List Call) → Stands docs.now calls → facts ≡ of_uri uri.now ∷ held_fact (held docs.now.terms uri.now calls)) }
+    ensures { IfOk result (λ facts. (calls : List Call) → Stands docs.now calls
+        → facts ≡ of_uri uri.now ∷ held_fact (held docs.now.terms uri.now calls)) }
 {
     let mut facts = FactList::new(alloc);
     facts.push_uri(uri)?;
@@ -141,8 +148,10 @@ fn opening<S: TextStore>(
     text: &str,
     rule: u16,
 ) -> Result<Vec<Fact>, Memory>
-    ensures { IfOk result (λ facts. (calls : List Call) → Stands docs.now calls → call_rule docs.now.terms calls (opens uri.now version (chars text.now)) ≡ Some rule
-        → AreDocumentFacts docs.now.terms encoding calls (opens uri.now version (chars text.now)) rule (facts_view facts.items)) }
+    ensures { IfOk result (λ facts. (calls : List Call) → Stands docs.now calls
+        → call_rule docs.now.terms calls (opens uri.now version (chars text.now)) ≡ Some rule
+        → AreDocumentFacts docs.now.terms encoding calls
+        (opens uri.now version (chars text.now)) rule (facts_view facts.items)) }
 {
     let mut facts = head(alloc, docs, uri)?;
     facts.push(Fact::Sent(version))?;
@@ -160,8 +169,11 @@ fn of_opening<S: TextStore>(
     text: &str,
     rule: u16,
 ) -> Result<FactList, Memory>
-    ensures { IfOk result (λ facts. (calls : List Call) → Stands docs.now calls → call_rule docs.now.terms calls (opens uri.now version (chars text.now)) ≡ Some rule
-        → AreOfOpening docs.now.terms.limit encoding (versions_of uri.now (waiting docs.now.terms calls)) (versioned version (chars text.now)) rule facts) }
+    ensures { IfOk result (λ facts. (calls : List Call) → Stands docs.now calls
+        → call_rule docs.now.terms calls (opens uri.now version (chars text.now)) ≡ Some rule
+        → AreOfOpening docs.now.terms.limit encoding
+        (versions_of uri.now (waiting docs.now.terms calls))
+        (versioned version (chars text.now)) rule facts) }
 {
     let mut facts = FactList::new(alloc);
     if rule == OVER_LIMIT {
@@ -185,8 +197,10 @@ fn refuted<S: TextStore>(
     text: &str,
 ) -> Result<FactList, Memory>
     ensures { IfOk result (λ facts. (calls : List Call) → Stands docs.now calls
-        → list_any (differs (versioned version (chars text.now))) (versions_of uri.now (waiting docs.now.terms calls)) ≡ true
-        → IsRefuted encoding (versions_of uri.now (waiting docs.now.terms calls)) (versioned version (chars text.now)) facts) }
+        → list_any (differs (versioned version (chars text.now)))
+        (versions_of uri.now (waiting docs.now.terms calls)) ≡ true
+        → IsRefuted encoding (versions_of uri.now (waiting docs.now.terms calls))
+        (versioned version (chars text.now)) facts) }
 {
     let Some(other) = first_other(docs.waiting_texts(uri, version), text) else {
         return Ok(FactList::new(alloc));
@@ -207,8 +221,11 @@ fn changing<S: TextStore>(
     rule: u16,
 ) -> Result<Vec<Fact>, Memory>
     ensures { IfOk result (λ facts. (calls : List Call) → Stands docs.now calls
-        → call_rule docs.now.terms calls (changes_by encoding kind uri.now version (edits_of changes.now)) ≡ Some rule
-        → AreDocumentFacts docs.now.terms encoding calls (changes_by encoding kind uri.now version (edits_of changes.now)) rule (facts_view facts.items)) }
+        → call_rule docs.now.terms calls
+        (changes_by encoding kind uri.now version (edits_of changes.now)) ≡ Some rule
+        → AreDocumentFacts docs.now.terms encoding calls
+        (changes_by encoding kind uri.now version (edits_of changes.now)) rule
+        (facts_view facts.items)) }
 {
     let mut facts = head(alloc, docs, uri)?;
     facts.push(Fact::Sent(version))?;
@@ -229,8 +246,11 @@ fn of_change<S: TextStore>(
     rule: u16,
 ) -> Result<FactList, Memory>
     ensures { IfOk result (λ facts. (calls : List Call) → Stands docs.now calls
-        → call_rule docs.now.terms calls (changes_by encoding kind uri.now version (edits_of changes.now)) ≡ Some rule
-        → AreOfChange docs.now.terms.limit encoding kind (versions_of uri.now (waiting docs.now.terms calls)) version (edits_of changes.now) (held docs.now.terms uri.now calls) rule facts) }
+        → call_rule docs.now.terms calls
+        (changes_by encoding kind uri.now version (edits_of changes.now)) ≡ Some rule
+        → AreOfChange docs.now.terms.limit encoding kind
+        (versions_of uri.now (waiting docs.now.terms calls)) version (edits_of changes.now)
+        (held docs.now.terms uri.now calls) rule facts) }
 {
     let Some(store) = docs.store_of(uri) else {
         return Ok(FactList::new(alloc));
@@ -267,8 +287,10 @@ fn closing<S: TextStore>(
     encoding: Encoding,
     uri: &str,
 ) -> Result<Vec<Fact>, Memory>
-    ensures { IfOk result (λ facts. (calls : List Call) (rule : ℕ) → Stands docs.now calls → call_rule docs.now.terms calls (closes uri.now) ≡ Some rule
-        → AreDocumentFacts docs.now.terms encoding calls (closes uri.now) rule (facts_view facts.items)) }
+    ensures { IfOk result (λ facts. (calls : List Call) (rule : ℕ) → Stands docs.now calls
+        → call_rule docs.now.terms calls (closes uri.now) ≡ Some rule
+        → AreDocumentFacts docs.now.terms encoding calls (closes uri.now) rule
+        (facts_view facts.items)) }
 {
     let facts = head(alloc, docs, uri)?;
     Ok(facts.into_facts())
@@ -284,7 +306,8 @@ fn saving<S: TextStore>(
 ) -> Result<Vec<Fact>, Memory>
     ensures { IfOk result (λ facts. (calls : List Call) (rule : ℕ) → Stands docs.now calls
         → call_rule docs.now.terms calls (saves uri.now (Some (chars text.now))) ≡ Some rule
-        → AreDocumentFacts docs.now.terms encoding calls (saves uri.now (Some (chars text.now))) rule (facts_view facts.items)) }
+        → AreDocumentFacts docs.now.terms encoding calls
+        (saves uri.now (Some (chars text.now))) rule (facts_view facts.items)) }
 {
     let mut facts = head(alloc, docs, uri)?;
     facts.append(of_save(alloc, docs, encoding, uri, text)?)?;
@@ -320,8 +343,10 @@ fn of_snapshot<S: TextStore>(
     text: &str,
     rule: u16,
 ) -> Result<FactList, Memory>
-    ensures { IfOk result (λ facts. (calls : List Call) → Stands docs.now calls → call_rule docs.now.terms calls (shows uri.now version (chars text.now)) ≡ Some rule
-        → AreOfSnapshot encoding (kept docs.now.terms uri.now calls) (held docs.now.terms uri.now calls) (versioned version (chars text.now)) rule facts) }
+    ensures { IfOk result (λ facts. (calls : List Call) → Stands docs.now calls
+        → call_rule docs.now.terms calls (shows uri.now version (chars text.now)) ≡ Some rule
+        → AreOfSnapshot encoding (kept docs.now.terms uri.now calls)
+        (held docs.now.terms uri.now calls) (versioned version (chars text.now)) rule facts) }
 {
     if rule == LATE_SNAPSHOT {
         return kept_facts(alloc, docs, uri);
@@ -336,7 +361,8 @@ fn of_snapshot<S: TextStore>(
 
 /// The versions that are kept of a URI, where there are any.
 fn kept_facts<S: TextStore>(alloc: Global, docs: &Docs<S>, uri: &str) -> Result<FactList, Memory>
-    ensures { IfOk result (λ facts. (calls : List Call) → Stands docs.now calls → facts ≡ kept_fact (kept docs.now.terms uri.now calls)) }
+    ensures { IfOk result (λ facts. (calls : List Call) → Stands docs.now calls
+        → facts ≡ kept_fact (kept docs.now.terms uri.now calls)) }
 {
     let mut facts = FactList::new(alloc);
     let numbers = docs.kept_versions(uri)?;

@@ -1,23 +1,30 @@
 //! What an explanation says.
 use lsp_rpc::Id;
 use lsp_session::Phase;
-use lsp_types::{Position, Span, SyncKind};
+use lsp_types::{Encoding, Position, Span, SyncKind};
 
-/// One thing that an explanation says of an offence. Lines and columns count from 0, columns in units of the
-/// encoding that the session agreed on.
+/// One thing that an explanation says of an offence. Lines and columns count from 0, columns in
+/// units of the encoding that the session agreed on.
 #[derive(Debug, Drop, PartialEq, Eq)]
 pub enum Fact {
     /// The document of which the message or the snapshot speaks, as it writes its URI.
     Uri(String),
     /// The version that is held of it.
     Held(i32),
-    /// The version in the message or the snapshot.
+    /// The same, and the number of the event that set it, from 1.
+    HeldBy { version: i32, event: u64 },
+    /// The version in the message.
     Sent(i32),
+    /// The version of the snapshot.
+    Version(i32),
     /// How many changes the message has.
     Changes(u64),
     /// How changes are sent, as agreed (LSP 3.17, TextDocumentSyncKind).
     Sync(SyncKind),
-    /// The change that fails, from 1, and its span, if it has one (LSP 3.17, TextDocumentContentChangeEvent).
+    /// The encoding in which columns and lengths are counted (LSP 3.17, PositionEncodingKind).
+    Encoding(Encoding),
+    /// The change that fails, from 1, and its span, if it has one (LSP 3.17,
+    /// TextDocumentContentChangeEvent).
     Change { which: u64, span: Option<Span> },
     /// The units of a line of the text that this change meets, its line end not counted.
     Length(u64),
@@ -27,12 +34,12 @@ pub enum Fact {
     Bytes(u64),
     /// The most bytes of UTF-8 that a text may have.
     Limit(u64),
-    /// Where the held text and another one first differ.
+    /// Where the text that the messages make and the editor's own first differ.
     At(Position),
-    /// The line of the held text there, its line end included.
-    HeldLine(String),
+    /// The line of the text that the messages make there, its line end included.
+    ByMessages(String),
     /// The same of the text of a snapshot.
-    RecordedLine(String),
+    InEditor(String),
     /// The same of the text that was saved.
     SavedLine(String),
     /// The versions that are kept besides the held one.
@@ -41,8 +48,9 @@ pub enum Fact {
     Id(Option<Id>),
     /// How far the session has come.
     Phase(Phase),
-    /// The encodings that the open `initialize` offers (LSP 3.17, ClientCapabilities). None where it names none.
-    Offered(Vec<String>),
+    /// The encodings that the open `initialize` offers (LSP 3.17, ClientCapabilities): the first
+    /// ones, and how many more there are.
+    Offered { names: Vec<String>, more: u64 },
     /// The encoding that the result of `initialize` picks (LSP 3.17, ServerCapabilities).
     Picked(String),
     /// A method of text synchronisation that is to be registered (LSP 3.17, "Register Capability").
@@ -51,12 +59,11 @@ pub enum Fact {
     Request { id: Id, method: String },
     /// The same, and the number of the event that asked it, from 1.
     RequestBy { id: Id, method: String, event: u64 },
-    /// The number of the event that brought the held version, from 1.
-    Brought(u64),
     /// The number of the event of a snapshot that has another text, from 1.
     Snapshot(u64),
-    /// The snapshot of the standing opening that was found equal last: the number of its event, from 1, and its version.
-    Agreed { event: u64, version: i32 },
+    /// The greatest version since the document was opened of which a snapshot was found equal, and
+    /// the number of the event of the last such snapshot, from 1.
+    Equal { version: i32, event: u64 },
     /// The number of the event that answered a request of this id, from 1.
     Answered(u64),
     /// The number of the event that asked the open request of this id, from 1.

@@ -2,7 +2,8 @@
 
 ghost use Rattle.std.specs.Prelude.{◌≡◌, ◌<◌, ◌^◌, ◌+◌, [], ◌∷◌, ◌++◌, OnOk};
 ghost use Rattle.std.specs.Str.{chars};
-ghost use Rattle.lsp_facts.specs.Fact.{of_uri, fails, held_line, recorded_line, saved_line, falls_inside, fact_view, facts_view};
+ghost use Rattle.lsp_facts.specs.Fact.{of_uri, counts_in, fails, by_messages, in_editor, saved_line};
+ghost use Rattle.lsp_facts.specs.Fact.{falls_inside, fact_view, facts_view};
 ghost use Rattle.lsp_facts.specs.DocumentFacts.{line_length, first_length};
 
 use crate::fact::Fact;
@@ -68,11 +69,18 @@ impl FactList {
         self.push(Fact::Uri(uri))
     }
 
-    /// Adds the change behind so many others.
-    pub(crate) fn push_change(&mut self, count: usize, span: Option<Span>) -> Result<(), Memory>
+    /// Adds the change after so many others, and the encoding in which its columns are counted.
+    pub(crate) fn push_change(
+        &mut self,
+        encoding: Encoding,
+        count: usize,
+        span: Option<Span>,
+    ) -> Result<(), Memory>
         requires { count + 1 < 2 ^ 64 }
-        ensures { OnOk result (self.new ≡ self.old ++ fails (count + 1) span ∷ []) }
+        ensures { OnOk result (self.new
+            ≡ self.old ++ counts_in encoding ∷ fails (count + 1) span ∷ []) }
     {
+        self.push(Fact::Encoding(encoding))?;
         self.push(Fact::Change {
             which: count as u64 + 1,
             span,
@@ -88,20 +96,20 @@ impl FactList {
         self.push(Fact::Inside(text))
     }
 
-    /// Adds a line of the text that is held.
-    pub(crate) fn push_held(&mut self, line: &str) -> Result<(), Memory>
-        ensures { OnOk result (self.new ≡ self.old ++ held_line (chars line.now) ∷ []) }
+    /// Adds a line of the text that the messages make.
+    pub(crate) fn push_by_messages(&mut self, line: &str) -> Result<(), Memory>
+        ensures { OnOk result (self.new ≡ self.old ++ by_messages (chars line.now) ∷ []) }
     {
         let line = String::from_str(self.alloc(), line)?;
-        self.push(Fact::HeldLine(line))
+        self.push(Fact::ByMessages(line))
     }
 
     /// Adds a line of the text of a snapshot.
-    pub(crate) fn push_recorded(&mut self, line: &str) -> Result<(), Memory>
-        ensures { OnOk result (self.new ≡ self.old ++ recorded_line (chars line.now) ∷ []) }
+    pub(crate) fn push_in_editor(&mut self, line: &str) -> Result<(), Memory>
+        ensures { OnOk result (self.new ≡ self.old ++ in_editor (chars line.now) ∷ []) }
     {
         let line = String::from_str(self.alloc(), line)?;
-        self.push(Fact::RecordedLine(line))
+        self.push(Fact::InEditor(line))
     }
 
     /// Adds a line of the text that was saved.
@@ -119,7 +127,8 @@ impl FactList {
         encoding: Encoding,
         position: Position,
     ) -> Result<(), Memory>
-        ensures { OnOk result (self.new ≡ self.old ++ line_length encoding (chars text.now) position) }
+        ensures { OnOk result (self.new ≡ self.old
+            ++ line_length encoding (chars text.now) position) }
     {
         let Some(line) = line_at(text, position.line) else {
             return Ok(());
@@ -127,7 +136,8 @@ impl FactList {
         self.push(Fact::Length(width_of(line, encoding)))
     }
 
-    /// Adds the length of the line in which a span begins, where there is one and the text has that line.
+    /// Adds the length of the line in which a span begins, where there is one and the text has that
+    /// line.
     pub(crate) fn push_first_length(
         &mut self,
         text: &str,

@@ -1,12 +1,13 @@
-//! Facts on an event that offends, read off the events before it, and the line of each. No run reads a log
-//! here, and nothing is written to a sink.
+//! Facts on an event that offends, read off the events before it, and the line of each. No run
+//! reads a log here, and nothing is written to a sink.
 //!
-//! A [`Fact`] is one thing that an explanation says. Of a message [`message_facts`] says them, of a snapshot
-//! [`shown_facts`]: by their rules [`session_facts`], or [`act_facts`] and [`snapshot_facts`], which say what
-//! a call on a document lacks. [`content_facts`] are on a content that is no message, [`frame_facts`] and
-//! [`unfinished_facts`] on a stream whose frames have a fault or an end inside one, [`flaw_facts`] on a log
-//! that has a fault. [`refuting`] finds the snapshots whose texts refute a call. [`push_facts`] writes the lines of facts, and what stands beside it the line that names
-//! an event.
+//! A [`Fact`] is one thing that an explanation says. Of a message [`message_facts`] says them, of a
+//! snapshot [`shown_facts`]: by their rules [`session_facts`], or [`act_facts`] and
+//! [`snapshot_facts`], which say what a call on a document lacks. [`content_facts`] are on a
+//! content that is no message, [`frame_facts`] and [`unfinished_facts`] on a stream whose frames
+//! have a fault or an end inside one, [`flaw_facts`] on a log that has a fault. [`refuting`] finds
+//! the snapshots whose texts refute a call. [`push_details`] writes the lines of facts, and what
+//! stands beside it the line that names an event.
 #![tactic(auto)]
 
 mod difference;
@@ -25,8 +26,7 @@ pub use documents::{act_facts, snapshot_facts};
 pub use fact::Fact;
 pub use flaws::{flaw_facts, frame_facts, unfinished_facts};
 pub use lines::{
-    push_content_event, push_end_event, push_facts, push_message_event, push_side_event,
-    push_snapshot_event,
+    push_bare_event, push_content_event, push_details, push_end_event, push_message_event, usual,
 };
 pub use messages::{content_facts, id_in, session_facts};
 pub use offending::{message_facts, shown_facts};

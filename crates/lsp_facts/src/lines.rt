@@ -1,20 +1,22 @@
 //! The lines of an explanation.
-ghost use Rattle.std.specs.Prelude.{◌≡◌, ◌++◌, ◌∷◌, [], OnOk, string_bytes, option_map, decimal};
+ghost use Rattle.std.specs.Prelude.{◌≡◌, ◌++◌, ◌∷◌, [], Some, OnOk, string_bytes, option_map, decimal};
 ghost use Rattle.std.specs.Fmt.{signed_decimal};
+ghost use Rattle.std.specs.List.{flat_map};
 ghost use Rattle.std.specs.Str.{chars};
 ghost use Rattle.json.specs.Print.{quoted};
 ghost use Rattle.lsp_rpc.specs.Ident.{id_view};
-ghost use Rattle.lsp_docs.specs.Texts.{byte_len};
 ghost use Rattle.lsp_rpc.specs.View.{message_view, texts_view};
-ghost use Rattle.lsp_verdict.specs.Report.{line};
-ghost use Rattle.lsp_facts.specs.Fact.{fact_view, facts_view, has_kind, differs_at, fails, in_phase, has_id, waits, waits_since, agreed_by, keeps, offers};
+ghost use Rattle.lsp_verdict.specs.Report.{encoding_name, line};
+ghost use Rattle.lsp_facts.specs.Fact.{fact_view, facts_view, has_kind, counts_in, differs_at};
+ghost use Rattle.lsp_facts.specs.Fact.{fails, in_phase, has_id, waits, waits_since, keeps};
+ghost use Rattle.lsp_facts.specs.Fact.{offers};
 ghost use Rattle.lsp_facts.specs.Lines as spec;
 
 use crate::fact::Fact;
 use lsp_rpc::{Id, Memory, Message, RpcFault, push_id, push_quoted, read, words_of};
 use lsp_session::Phase;
-use lsp_types::{Position, Side, Span, SyncKind};
-use lsp_verdict::{Who, kind_name, side_name, who_name};
+use lsp_types::{Encoding, Position, Span, SyncKind};
+use lsp_verdict::{Who, kind_name, who_name};
 use std::alloc::Global;
 use std::fmt::Write;
 
@@ -32,14 +34,16 @@ fn phase_name(phase: Phase) -> &'static str
 }
 
 fn push_number(lines: &mut String, key: &str, number: u64) -> Result<(), Memory>
-    ensures { OnOk result (string_bytes lines.new ≡ string_bytes lines.old ++ line (key.now ∷ decimal number ∷ [])) }
+    ensures { OnOk result (string_bytes lines.new ≡ string_bytes lines.old
+        ++ line (key.now ∷ decimal number ∷ [])) }
 {
     writeln!(lines, "{key} {number}")?;
     Ok(())
 }
 
 fn push_version(lines: &mut String, key: &str, version: i32) -> Result<(), Memory>
-    ensures { OnOk result (string_bytes lines.new ≡ string_bytes lines.old ++ line (key.now ∷ signed_decimal version ∷ [])) }
+    ensures { OnOk result (string_bytes lines.new ≡ string_bytes lines.old
+        ++ line (key.now ∷ signed_decimal version ∷ [])) }
 {
     writeln!(lines, "{key} {version}")?;
     Ok(())
@@ -47,7 +51,8 @@ fn push_version(lines: &mut String, key: &str, version: i32) -> Result<(), Memor
 
 /// Adds a key and a text as JSON.
 fn push_text(alloc: Global, lines: &mut String, key: &str, text: &str) -> Result<(), Memory>
-    ensures { OnOk result (string_bytes lines.new ≡ string_bytes lines.old ++ line (key.now ∷ quoted text.now ∷ [])) }
+    ensures { OnOk result (string_bytes lines.new ≡ string_bytes lines.old
+        ++ line (key.now ∷ quoted text.now ∷ [])) }
 {
     write!(lines, "{key} ")?;
     push_quoted(alloc, lines, text)?;
@@ -56,21 +61,61 @@ fn push_text(alloc: Global, lines: &mut String, key: &str, text: &str) -> Result
 
 /// Adds a key and a text of a document as JSON.
 fn push_characters(alloc: Global, lines: &mut String, key: &str, text: &str) -> Result<(), Memory>
-    ensures { OnOk result (string_bytes lines.new ≡ string_bytes lines.old ++ line (key.now ∷ spec.quoted_text (chars text.now) ∷ [])) }
+    ensures { OnOk result (string_bytes lines.new ≡ string_bytes lines.old
+        ++ line (key.now ∷ spec.quoted_text (chars text.now) ∷ [])) }
 {
     push_text(alloc, lines, key, text)
 }
 
 fn push_kind(lines: &mut String, kind: SyncKind) -> Result<(), Memory>
-    ensures { OnOk result (string_bytes lines.new ≡ string_bytes lines.old ++ spec.fact_line (has_kind kind)) }
+    ensures { OnOk result (string_bytes lines.new ≡ string_bytes lines.old
+        ++ spec.fact_line (has_kind kind)) }
 {
     let name = kind_name(Some(kind));
     writeln!(lines, "sync {name}")?;
     Ok(())
 }
 
+fn encoding_name(encoding: Encoding) -> &'static str
+    ensures { result.now ≡ encoding_name (Some encoding) }
+{
+    match encoding {
+        Encoding::Utf8 => "utf-8",
+        Encoding::Utf16 => "utf-16",
+        Encoding::Utf32 => "utf-32",
+    }
+}
+
+fn push_encoding(lines: &mut String, encoding: Encoding) -> Result<(), Memory>
+    ensures { OnOk result (string_bytes lines.new
+        ≡ string_bytes lines.old ++ spec.fact_line (counts_in encoding)) }
+{
+    let name = encoding_name(encoding);
+    writeln!(lines, "encoding {name}")?;
+    Ok(())
+}
+
+/// Adds a key and an earlier event by its number, from 1.
+fn push_cited(lines: &mut String, key: &str, event: u64) -> Result<(), Memory>
+    ensures { OnOk result (string_bytes lines.new
+        ≡ string_bytes lines.old ++ spec.cited key.now event) }
+{
+    writeln!(lines, "{key} event {event}")?;
+    Ok(())
+}
+
+/// Adds a key, a version, and the event that brought it, by its number, from 1.
+fn push_version_by(lines: &mut String, key: &str, version: i32, event: u64) -> Result<(), Memory>
+    ensures { OnOk result (string_bytes lines.new ≡ string_bytes lines.old
+        ++ spec.version_by key.now version event) }
+{
+    writeln!(lines, "{key} {version} event {event}")?;
+    Ok(())
+}
+
 fn push_place(lines: &mut String, place: Position) -> Result<(), Memory>
-    ensures { OnOk result (string_bytes lines.new ≡ string_bytes lines.old ++ spec.fact_line (differs_at place)) }
+    ensures { OnOk result (string_bytes lines.new ≡ string_bytes lines.old
+        ++ spec.fact_line (differs_at place)) }
 {
     let Position { line, column } = place;
     writeln!(lines, "at {line} {column}")?;
@@ -78,7 +123,8 @@ fn push_place(lines: &mut String, place: Position) -> Result<(), Memory>
 }
 
 fn push_position(lines: &mut String, position: Position) -> Result<(), Memory>
-    ensures { OnOk result (string_bytes lines.new ≡ string_bytes lines.old ++ spec.position_words position) }
+    ensures { OnOk result (string_bytes lines.new ≡ string_bytes lines.old
+        ++ spec.position_words position) }
 {
     let Position { line, column } = position;
     write!(lines, " {line} {column}")?;
@@ -86,7 +132,8 @@ fn push_position(lines: &mut String, position: Position) -> Result<(), Memory>
 }
 
 fn push_change(lines: &mut String, which: u64, span: Option<Span>) -> Result<(), Memory>
-    ensures { OnOk result (string_bytes lines.new ≡ string_bytes lines.old ++ spec.fact_line (fails which span)) }
+    ensures { OnOk result (string_bytes lines.new ≡ string_bytes lines.old
+        ++ spec.fact_line (fails which span)) }
 {
     let Some(span) = span else {
         writeln!(lines, "change {which} whole")?;
@@ -99,7 +146,8 @@ fn push_change(lines: &mut String, which: u64, span: Option<Span>) -> Result<(),
 }
 
 fn push_phase(lines: &mut String, phase: Phase) -> Result<(), Memory>
-    ensures { OnOk result (string_bytes lines.new ≡ string_bytes lines.old ++ spec.fact_line (in_phase phase)) }
+    ensures { OnOk result (string_bytes lines.new ≡ string_bytes lines.old
+        ++ spec.fact_line (in_phase phase)) }
 {
     let name = phase_name(phase);
     writeln!(lines, "phase {name}")?;
@@ -108,7 +156,8 @@ fn push_phase(lines: &mut String, phase: Phase) -> Result<(), Memory>
 
 fn push_message_id(alloc: Global, lines: &mut String, id: Option<&Id>) -> Result<(), Memory>
     ensures { OnOk result (string_bytes lines.new
-        ≡ string_bytes lines.old ++ spec.fact_line (has_id (option_map (λ i. id_view i.now) id.entry))) }
+        ≡ string_bytes lines.old
+        ++ spec.fact_line (has_id (option_map (λ i. id_view i.now) id.entry))) }
 {
     lines.push_str("id ")?;
     match id {
@@ -137,25 +186,20 @@ fn push_request_by(
     event: u64,
 ) -> Result<(), Memory>
     ensures { OnOk result (string_bytes lines.new
-        ≡ string_bytes lines.old ++ spec.fact_line (waits_since (id_view id.now) method.now event)) }
+        ≡ string_bytes lines.old
+        ++ spec.fact_line (waits_since (id_view id.now) method.now event)) }
 {
     lines.push_str("request ")?;
     push_id(alloc, lines, id)?;
     lines.push_str(" ")?;
     push_quoted(alloc, lines, method)?;
-    writeln!(lines, " {event}")?;
-    Ok(())
-}
-
-fn push_agreed(lines: &mut String, event: u64, version: i32) -> Result<(), Memory>
-    ensures { OnOk result (string_bytes lines.new ≡ string_bytes lines.old ++ spec.fact_line (agreed_by event version)) }
-{
-    writeln!(lines, "agreed {event} {version}")?;
+    writeln!(lines, " event {event}")?;
     Ok(())
 }
 
 fn push_versions(lines: &mut String, versions: &[i32]) -> Result<(), Memory>
-    ensures { OnOk result (string_bytes lines.new ≡ string_bytes lines.old ++ spec.fact_line (keeps versions.now)) }
+    ensures { OnOk result (string_bytes lines.new ≡ string_bytes lines.old
+        ++ spec.fact_line (keeps versions.now)) }
 {
     lines.push_str("kept")?;
     for version in versions {
@@ -165,24 +209,49 @@ fn push_versions(lines: &mut String, versions: &[i32]) -> Result<(), Memory>
 }
 
 fn push_spaced_version(lines: &mut String, version: i32) -> Result<(), Memory>
-    ensures { OnOk result (string_bytes lines.new ≡ string_bytes lines.old ++ spec.spaced (signed_decimal version)) }
+    ensures { OnOk result (string_bytes lines.new ≡ string_bytes lines.old
+        ++ spec.spaced (signed_decimal version)) }
 {
     write!(lines, " {version}")?;
     Ok(())
 }
 
-fn push_names(alloc: Global, lines: &mut String, names: &[String]) -> Result<(), Memory>
-    ensures { OnOk result (string_bytes lines.new ≡ string_bytes lines.old ++ spec.fact_line (offers (texts_view names.now))) }
+fn push_offer(alloc: Global, lines: &mut String, names: &[String], more: u64) -> Result<(), Memory>
+    ensures { OnOk result (string_bytes lines.new
+        ≡ string_bytes lines.old ++ spec.fact_line (offers (texts_view names.now) more)) }
 {
     lines.push_str("offered")?;
-    for name in names {
-        push_spaced_name(alloc, lines, name.as_str())?;
-    }
+    push_names(alloc, lines, names)?;
+    push_more(lines, more)?;
     Ok(lines.push_str("\n")?)
 }
 
+fn push_names(alloc: Global, lines: &mut String, names: &[String]) -> Result<(), Memory>
+    ensures { OnOk result (string_bytes lines.new
+        ≡ string_bytes lines.old
+        ++ flat_map (λ name. spec.spaced (quoted name)) (texts_view names.now)) }
+{
+    for name in names {
+        push_spaced_name(alloc, lines, name.as_str())?;
+    }
+    Ok(())
+}
+
+/// Adds how many are left out of a list, where any are.
+fn push_more(lines: &mut String, more: u64) -> Result<(), Memory>
+    ensures { OnOk result (string_bytes lines.new ≡ string_bytes lines.old
+        ++ spec.more_words more) }
+{
+    if more == 0 {
+        return Ok(());
+    }
+    write!(lines, " and {more}")?;
+    Ok(())
+}
+
 fn push_spaced_name(alloc: Global, lines: &mut String, name: &str) -> Result<(), Memory>
-    ensures { OnOk result (string_bytes lines.new ≡ string_bytes lines.old ++ spec.spaced (quoted name.now)) }
+    ensures { OnOk result (string_bytes lines.new ≡ string_bytes lines.old
+        ++ spec.spaced (quoted name.now)) }
 {
     lines.push_str(" ")?;
     push_quoted(alloc, lines, name)
@@ -190,39 +259,42 @@ fn push_spaced_name(alloc: Global, lines: &mut String, name: &str) -> Result<(),
 
 /// Adds the line of a fact.
 fn push_fact(alloc: Global, lines: &mut String, fact: &Fact) -> Result<(), Memory>
-    ensures { OnOk result (string_bytes lines.new ≡ string_bytes lines.old ++ spec.fact_line (fact_view fact.now)) }
+    ensures { OnOk result (string_bytes lines.new ≡ string_bytes lines.old
+        ++ spec.fact_line (fact_view fact.now)) }
 {
     match fact {
         Fact::Uri(uri) => push_text(alloc, lines, "uri", uri.as_str()),
         Fact::Held(version) => push_version(lines, "held", *version),
+        Fact::HeldBy { version, event } => push_version_by(lines, "held", *version, *event),
+        Fact::Version(version) => push_version(lines, "version", *version),
         Fact::Sent(version) => push_version(lines, "sent", *version),
         Fact::Changes(count) => push_number(lines, "changes", *count),
         Fact::Sync(kind) => push_kind(lines, *kind),
+        Fact::Encoding(encoding) => push_encoding(lines, *encoding),
         Fact::Change { which, span } => push_change(lines, *which, *span),
         Fact::Length(units) => push_number(lines, "length", *units),
         Fact::Inside(text) => push_characters(alloc, lines, "inside", text.as_str()),
         Fact::Bytes(count) => push_number(lines, "bytes", *count),
         Fact::Limit(count) => push_number(lines, "limit", *count),
         Fact::At(place) => push_place(lines, *place),
-        Fact::HeldLine(text) => push_characters(alloc, lines, "held", text.as_str()),
-        Fact::RecordedLine(text) => push_characters(alloc, lines, "recorded", text.as_str()),
+        Fact::ByMessages(text) => push_characters(alloc, lines, "by-messages", text.as_str()),
+        Fact::InEditor(text) => push_characters(alloc, lines, "in-editor", text.as_str()),
         Fact::SavedLine(text) => push_characters(alloc, lines, "saved", text.as_str()),
         Fact::Kept(versions) => push_versions(lines, versions.as_slice()),
         Fact::Id(id) => push_message_id(alloc, lines, id.as_ref()),
         Fact::Phase(phase) => push_phase(lines, *phase),
-        Fact::Offered(names) => push_names(alloc, lines, names.as_slice()),
+        Fact::Offered { names, more } => push_offer(alloc, lines, names.as_slice(), *more),
         Fact::Picked(name) => push_text(alloc, lines, "picked", name.as_str()),
         Fact::Registers(method) => push_text(alloc, lines, "registers", method.as_str()),
         Fact::Request { id, method } => push_request(alloc, lines, id, method.as_str()),
         Fact::RequestBy { id, method, event } => {
             push_request_by(alloc, lines, id, method.as_str(), *event)
         }
-        Fact::Brought(event) => push_number(lines, "brought", *event),
-        Fact::Snapshot(event) => push_number(lines, "snapshot", *event),
-        Fact::Agreed { event, version } => push_agreed(lines, *event, *version),
-        Fact::Answered(event) => push_number(lines, "answered", *event),
-        Fact::Asked(event) => push_number(lines, "asked", *event),
-        Fact::Since(event) => push_number(lines, "since", *event),
+        Fact::Snapshot(event) => push_cited(lines, "snapshot", *event),
+        Fact::Equal { version, event } => push_version_by(lines, "equal", *version, *event),
+        Fact::Answered(event) => push_cited(lines, "answered", *event),
+        Fact::Asked(event) => push_cited(lines, "asked", *event),
+        Fact::Since(event) => push_cited(lines, "since", *event),
         Fact::Begins(text) => push_text(alloc, lines, "begins", text.as_str()),
         Fact::Record(number) => push_number(lines, "record", *number),
         Fact::Byte(place) => push_number(lines, "byte", *place),
@@ -231,11 +303,9 @@ fn push_fact(alloc: Global, lines: &mut String, fact: &Fact) -> Result<(), Memor
 }
 
 /// Adds the lines of facts, one each.
-///
-/// # Errors
-/// `Memory` where memory was refused.
-pub fn push_facts(alloc: Global, lines: &mut String, facts: &[Fact]) -> Result<(), Memory>
-    ensures { OnOk result (string_bytes lines.new ≡ string_bytes lines.old ++ spec.fact_lines (facts_view facts.now)) }
+fn push_facts(alloc: Global, lines: &mut String, facts: &[Fact]) -> Result<(), Memory>
+    ensures { OnOk result (string_bytes lines.new
+        ≡ string_bytes lines.old ++ spec.fact_lines (facts_view facts.now)) }
 {
     for fact in facts {
         push_fact(alloc, lines, fact)?;
@@ -243,44 +313,117 @@ pub fn push_facts(alloc: Global, lines: &mut String, facts: &[Fact]) -> Result<(
     Ok(())
 }
 
-/// Adds the line of an event that is a message: its number, from 1, the side that sent it, and its words.
+/// Adds the lines of facts, one each, and whose fault that usually is, as [`usual`] gives it.
+///
+/// # Errors
+/// `Memory` where memory was refused.
+pub fn push_details(
+    alloc: Global,
+    lines: &mut String,
+    facts: &[Fact],
+    usual: &str,
+) -> Result<(), Memory>
+    ensures { OnOk result (string_bytes lines.new ≡ string_bytes lines.old
+        ++ (spec.fact_lines (facts_view facts.now) ++ spec.usual_line usual.now)) }
+{
+    push_facts(alloc, lines, facts)?;
+    push_usual(lines, usual)
+}
+
+fn push_usual(lines: &mut String, usual: &str) -> Result<(), Memory>
+    ensures { OnOk result (string_bytes lines.new
+        ≡ string_bytes lines.old ++ spec.usual_line usual.now) }
+{
+    writeln!(lines, "usually {usual}")?;
+    Ok(())
+}
+
+/// Whose fault it usually is that an event of `by` breaks this rule, or that the session ends so:
+/// `editor`, `server`, `recorder`, or `outside` where both sides may be right.
+pub fn usual(rule: u16, by: Who) -> &'static str
+    ensures { result.now ≡ spec.usual rule by }
+{
+    if is_recorders(rule) {
+        return "recorder";
+    }
+    match rule {
+        101..=302 => who_name(by),
+        _ => usual_role(rule),
+    }
+}
+
+/// The same of a rule above those on what a side writes, and how it asks and answers.
+fn usual_role(rule: u16) -> &'static str
+    ensures { result.now ≡ spec.usual_role rule }
+{
+    if is_outside(rule) {
+        return "outside";
+    }
+    if is_servers(rule) {
+        return "server";
+    }
+    "editor"
+}
+
+fn is_recorders(rule: u16) -> bool
+    ensures { result ≡ spec.is_recorders rule }
+{
+    rule == 107 || rule == 701
+}
+
+fn is_outside(rule: u16) -> bool
+    ensures { result ≡ spec.is_outside rule }
+{
+    matches!(rule, 503..=504 | 607)
+}
+
+fn is_servers(rule: u16) -> bool
+    ensures { result ≡ spec.is_servers rule }
+{
+    matches!(rule, 303 | 411..=502)
+}
+
+/// Adds the line of an event that is a message: its number, from 1, whose it is, its number among
+/// those of its side, from 1, and its words.
 ///
 /// # Errors
 /// `Memory` where memory was refused.
 pub fn push_message_event(
     alloc: Global,
     lines: &mut String,
+    event: u64,
+    by: Who,
     number: u64,
-    side: Side,
     message: &Message,
 ) -> Result<(), Memory>
-    ensures { OnOk result (string_bytes lines.new
-        ≡ string_bytes lines.old ++ spec.message_event number side (message_view message.now)) }
+    ensures { OnOk result (string_bytes lines.new ≡ string_bytes lines.old
+        ++ spec.message_event event by number (message_view message.now)) }
 {
-    let name = side_name(side);
+    let name = who_name(by);
     let words = words_of(alloc, message)?;
-    writeln!(lines, "event {number} {name} {words}")?;
+    writeln!(lines, "event {event} {name} {number} {words}")?;
     Ok(())
 }
 
-/// Adds the line of an event that is a content: its number, from 1, the side that sent it, and the words
-/// of the message that it is, whatever its params; of a content that is no message no words.
+/// Adds the line of an event that is a content: the same with the words of the message that it is,
+/// whatever its params; with no words where it is no message.
 ///
 /// # Errors
 /// `Memory` where memory was refused.
 pub fn push_content_event(
     alloc: Global,
     lines: &mut String,
+    event: u64,
+    by: Who,
     number: u64,
-    side: Side,
     content: &[u8],
 ) -> Result<(), Memory>
-    ensures { OnOk result (string_bytes lines.new
-        ≡ string_bytes lines.old ++ spec.content_event number side (spec.content_message content.now)) }
+    ensures { OnOk result (string_bytes lines.new ≡ string_bytes lines.old
+        ++ spec.content_event event by number (spec.content_message content.now)) }
 {
     match read(alloc, content) {
-        Ok(message) => push_owned_event(alloc, lines, number, side, message),
-        Err(RpcFault::Rule(_)) => push_side_event(lines, number, side),
+        Ok(message) => push_owned_event(alloc, lines, event, by, number, message),
+        Err(RpcFault::Rule(_)) => push_bare_event(lines, event, by, number),
         Err(RpcFault::Memory) => Err(Memory),
     }
 }
@@ -288,63 +431,41 @@ pub fn push_content_event(
 fn push_owned_event(
     alloc: Global,
     lines: &mut String,
+    event: u64,
+    by: Who,
     number: u64,
-    side: Side,
     message: Message,
 ) -> Result<(), Memory>
-    ensures { OnOk result (string_bytes lines.new
-        ≡ string_bytes lines.old ++ spec.message_event number side (message_view message)) }
+    ensures { OnOk result (string_bytes lines.new ≡ string_bytes lines.old
+        ++ spec.message_event event by number (message_view message)) }
 {
-    push_message_event(alloc, lines, number, side, &message)
+    push_message_event(alloc, lines, event, by, number, &message)
 }
 
-/// Adds the line of an event of which nothing can be named but its number, from 1, and whose it is.
+/// Adds the line of an event without words: its number, from 1, whose it is, and its number among
+/// theirs, from 1.
 ///
 /// # Errors
 /// `Memory` where memory was refused.
-pub fn push_side_event(lines: &mut String, number: u64, side: Side) -> Result<(), Memory>
-    ensures { OnOk result (string_bytes lines.new ≡ string_bytes lines.old ++ spec.side_event number side) }
+pub fn push_bare_event(lines: &mut String, event: u64, by: Who, number: u64) -> Result<(), Memory>
+    ensures { OnOk result (string_bytes lines.new
+        ≡ string_bytes lines.old ++ spec.bare_event event by number) }
 {
-    let name = side_name(side);
-    writeln!(lines, "event {number} {name}")?;
+    let name = who_name(by);
+    writeln!(lines, "event {event} {name} {number}")?;
     Ok(())
 }
 
-fn byte_count(text: &str) -> usize
-    ensures { result ≡ byte_len (chars text.now) }
-{
-    text.len()
-}
-
-/// Adds the line of an event that is a snapshot: its number, from 1, and its version, bytes and URI.
+/// Adds the line of the place after the last event: its number, from 1, and whose the next event
+/// would be.
 ///
 /// # Errors
 /// `Memory` where memory was refused.
-pub fn push_snapshot_event(
-    alloc: Global,
-    lines: &mut String,
-    number: u64,
-    uri: &str,
-    version: i32,
-    text: &str,
-) -> Result<(), Memory>
+pub fn push_end_event(lines: &mut String, event: u64, by: Who) -> Result<(), Memory>
     ensures { OnOk result (string_bytes lines.new
-        ≡ string_bytes lines.old ++ spec.snapshot_event number uri.now version (chars text.now)) }
+        ≡ string_bytes lines.old ++ spec.end_event event by) }
 {
-    let bytes = byte_count(text);
-    write!(lines, "event {number} snapshot {version} {bytes} ")?;
-    push_quoted(alloc, lines, uri)?;
-    Ok(lines.push_str("\n")?)
-}
-
-/// Adds the line of a place at which no event stands: its number, from 1, and whose the next one would be.
-///
-/// # Errors
-/// `Memory` where memory was refused.
-pub fn push_end_event(lines: &mut String, number: u64, who: Who) -> Result<(), Memory>
-    ensures { OnOk result (string_bytes lines.new ≡ string_bytes lines.old ++ spec.end_event number who) }
-{
-    let name = who_name(who);
-    writeln!(lines, "event {number} {name}")?;
+    let name = who_name(by);
+    writeln!(lines, "end {event} {name}")?;
     Ok(())
 }

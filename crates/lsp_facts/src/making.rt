@@ -28,7 +28,8 @@ pub(crate) fn make<S: TextStore>(
     changes: &[Change],
     limit: u64,
 ) -> Result<Made, Memory>
-    ensures { IfOk result (λ made. IsMade limit encoding (S.content store.now) (edits_of changes.now) made.count (chars (string_bytes made.text))) }
+    ensures { IfOk result (λ made. IsMade limit encoding (S.content store.now)
+        (edits_of changes.now) made.count (chars (string_bytes made.text))) }
 {
     let mut copy = store.copy(alloc)?;
     let count = make_in(&mut copy, encoding, changes, limit)?;
@@ -43,7 +44,8 @@ fn make_in<S: TextStore>(
     changes: &[Change],
     limit: u64,
 ) -> Result<usize, Memory>
-    ensures { IfOk result (λ count. IsMade limit encoding (S.content store.old) (edits_of changes.now) count (S.content store.new)) }
+    ensures { IfOk result (λ count. IsMade limit encoding (S.content store.old)
+        (edits_of changes.now) count (S.content store.new)) }
 {
     let mut count = 0;
     while count < changes.len() {
@@ -62,9 +64,14 @@ fn is_made<S: TextStore>(
     edit: &Change,
     limit: u64,
 ) -> Result<bool, Memory>
-    ensures made { IfOk result (λ is. is ≡ true → changed encoding (S.content store.old) edit.now.span (chars (string_bytes edit.now.text)) limit ≡ Ok (S.content store.new)) }
+    ensures made { IfOk result
+        (λ is. is ≡ true → changed encoding (S.content store.old) edit.now.span
+        (chars (string_bytes edit.now.text)) limit ≡ Ok (S.content store.new)) }
     ensures same { IfOk result (λ is. is ≡ false → S.content store.new ≡ S.content store.old) }
-    ensures refused { IfOk result (λ is. is ≡ false → (rule : ℕ) × (changed encoding (S.content store.old) edit.now.span (chars (string_bytes edit.now.text)) limit ≡ Err rule)) }
+    ensures refused { IfOk result
+        (λ is. is ≡ false → (rule : ℕ)
+        × (changed encoding (S.content store.old) edit.now.span
+        (chars (string_bytes edit.now.text)) limit ≡ Err rule)) }
 {
     match change(store, encoding, edit.span, edit.text.as_str(), limit) {
         Ok(()) => Ok(true),

@@ -1,5 +1,6 @@
 //! Facts on messages, and on contents that are none.
-ghost use Rattle.std.specs.Prelude.{◌≡◌, ◌≤◌, List, [], ◌∷◌, ◌++◌, IfOk, OnOk, length, take, option_map, unwrap_or};
+ghost use Rattle.std.specs.Prelude.{◌≡◌, ◌≤◌, List, [], ◌∷◌, ◌++◌, IfOk, OnOk, length, take};
+ghost use Rattle.std.specs.Prelude.{option_map, unwrap_or};
 ghost use Rattle.std.specs.Str.{IsUtf8};
 ghost use Rattle.serde_json.specs.View.{view};
 ghost use Rattle.lsp_rpc.specs.Ident.{id_view};
@@ -21,6 +22,9 @@ use std::str::from_utf8;
 
 /// How many bytes of a content that is no message are looked at.
 const SHOWN_BYTES: usize = 64;
+
+/// How many bytes are shown of the names that an `initialize` offers, a byte more counted for each.
+const OFFERED_BYTES: usize = 256;
 
 /// One fact alone.
 fn only(alloc: Global, fact: Fact) -> Result<Vec<Fact>, Memory>
@@ -71,7 +75,8 @@ pub fn id_in(message: &Message) -> Option<&Id>
 }
 
 fn id_facts(alloc: Global, message: &Message) -> Result<Vec<Fact>, Memory>
-    ensures { IfOk result (λ facts. facts_view facts.items ≡ has_id (spec.id_in (message_view message.now)) ∷ []) }
+    ensures { IfOk result (λ facts. facts_view facts.items
+        ≡ has_id (spec.id_in (message_view message.now)) ∷ []) }
 {
     let id = match id_in(message) {
         Some(id) => Some(copy_id(id)?),
@@ -90,19 +95,49 @@ fn copy_names(alloc: Global, names: &[String]) -> Result<Vec<String>, Memory>
     Ok(copy)
 }
 
+/// How many of the first names fit into the bytes that are shown of them.
+fn count_fitting(names: &[String]) -> usize
+    ensures within { result ≤ length names.now }
+    ensures count { result ≡ spec.names_fitting spec.offered_bytes (texts_view names.now) }
+{
+    let mut room = OFFERED_BYTES;
+    let mut count = 0;
+    for name in names {
+        let size = name.as_str().len();
+        if size >= room {
+            return count;
+        }
+        room -= size + 1;
+        count += 1;
+    }
+    count
+}
+
+/// As many of the first names as fit, and how many more there are.
+fn offer_of(alloc: Global, names: &[String]) -> Result<Fact, Memory>
+    ensures { IfOk result (λ fact. fact_view fact ≡ spec.offer_fact (texts_view names.now)) }
+{
+    let count = count_fitting(names);
+    let more = (names.len() - count) as u64;
+    let names = copy_names(alloc, &names[..count])?;
+    Ok(Fact::Offered { names, more })
+}
+
 /// The encodings that are offered; none where none is named.
-fn names_in(alloc: Global, offer: &Offer) -> Result<Vec<String>, Memory>
-    ensures { IfOk result (λ names. texts_view names.items ≡ unwrap_or (offer_view offer.now).encodings []) }
+fn offered(alloc: Global, offer: &Offer) -> Result<Fact, Memory>
+    ensures { IfOk result (λ fact. fact_view fact
+        ≡ spec.offer_fact (unwrap_or (offer_view offer.now).encodings [])) }
 {
     match &offer.encodings {
-        Some(encodings) => copy_names(alloc, encodings.as_slice()),
-        None => Ok(Vec::new(alloc)),
+        Some(encodings) => offer_of(alloc, encodings.as_slice()),
+        None => offer_of(alloc, &[]),
     }
 }
 
 /// Adds what the result of `initialize` picks, where it has the shape.
 fn push_picked(alloc: Global, facts: &mut Vec<Fact>, value: &Value) -> Result<(), Memory>
-    ensures { OnOk result (facts_view facts.new.items ≡ facts_view facts.old.items ++ spec.pick_facts (picked_at (view value.now))) }
+    ensures { OnOk result (facts_view facts.new.items ≡ facts_view facts.old.items
+        ++ spec.pick_facts (picked_at (view value.now))) }
 {
     match picked_of(alloc, value) {
         Ok(picked) => Ok(facts.push(Fact::Picked(picked.encoding))?),
@@ -119,12 +154,14 @@ fn settled_facts(
     message: &Message,
 ) -> Result<Vec<Fact>, Memory>
     ensures { IfOk result (λ facts. (before : List Sent) → Stands session.now before
-        → facts_view facts.items ≡ spec.settled_facts (settled_among (open_initializes before) side (message_view message.now))) }
+        → facts_view facts.items
+        ≡ spec.settled_facts (settled_among (open_initializes before) side
+        (message_view message.now))) }
 {
     let Some((offer, value)) = session.settled(side, message) else {
         return Ok(Vec::new(alloc));
     };
-    let mut facts = only(alloc, Fact::Offered(names_in(alloc, offer)?))?;
+    let mut facts = only(alloc, offered(alloc, offer)?)?;
     push_picked(alloc, &mut facts, value)?;
     Ok(facts)
 }
@@ -151,7 +188,8 @@ fn registered(act: &Act) -> Option<&str>
 }
 
 fn register_facts(alloc: Global, act: &Act) -> Result<Vec<Fact>, Memory>
-    ensures { IfOk result (λ facts. facts_view facts.items ≡ spec.register_facts (act_view act.now)) }
+    ensures { IfOk result (λ facts. facts_view facts.items
+        ≡ spec.register_facts (act_view act.now)) }
 {
     match registered(act) {
         Some(method) => only(alloc, Fact::Registers(String::from_str(alloc, method)?)),
@@ -159,10 +197,10 @@ fn register_facts(alloc: Global, act: &Act) -> Result<Vec<Fact>, Memory>
     }
 }
 
-/// What is said of a message that breaks this rule, 301 to 504, after the messages of the session: of
-/// 301 and 302 its id, of 401 to 412 how far the session has come, of 501 to 503 the encodings that the
-/// open `initialize` offers and the one that its result picks, of 504 the first method of text
-/// synchronisation that is to be registered. The act is what the message means on its side.
+/// What is said of a message that breaks this rule, 301 to 504, after the messages of the session:
+/// of 301 and 302 its id, of 401 to 412 how far the session has come, of 501 to 503 the encodings
+/// that the open `initialize` offers and the one that its result picks, of 504 the first method of
+/// text synchronisation that is to be registered. The act is what the message means on its side.
 ///
 /// # Errors
 /// `Memory` where memory was refused.

@@ -20,8 +20,8 @@ use std::alloc::Global;
 /// The least rule on documents.
 const FIRST_ON_DOCUMENTS: u16 = 601;
 
-/// What is said of a message of a side that offends by this rule, 301 to 702. Session and documents hold
-/// the kept events before it.
+/// What is said of a message of a side that offends by this rule, 301 to 702. Session and documents
+/// hold the kept events before it.
 ///
 /// # Errors
 /// `Memory` where memory was refused.
@@ -33,8 +33,10 @@ pub fn message_facts<S: TextStore>(
     spoken: &Spoken,
     rule: u16,
 ) -> Result<Vec<Fact>, Memory>
-    ensures { IfOk result (λ facts. (content : List ℕ) (kept : List Event) → Holds session.now docs.now kept
-        → (refused : RefusesMessage side content (message_view spoken.now.message) (act_view spoken.now.act) docs.now.terms kept rule)
+    ensures { IfOk result (λ facts. (content : List ℕ) (kept : List Event)
+        → Holds session.now docs.now kept
+        → (refused : RefusesMessage side content (message_view spoken.now.message)
+        (act_view spoken.now.act) docs.now.terms kept rule)
         → AreMessageFacts docs.now.terms kept refused.sent rule (facts_view facts.items)) }
 {
     if rule < FIRST_ON_DOCUMENTS {
@@ -61,7 +63,8 @@ pub fn shown_facts<S: TextStore>(
 ) -> Result<Vec<Fact>, Memory>
     ensures { IfOk result (λ facts. (kept : List Event) → Holds session.now docs.now kept
         → offence docs.now.terms kept (snapshot uri.now version (chars text.now)) ≡ Some rule
-        → AreCallFacts docs.now.terms kept rule (Some (shows uri.now version (chars text.now))) (facts_view facts.items)) }
+        → AreCallFacts docs.now.terms kept rule (Some (shows uri.now version (chars text.now)))
+        (facts_view facts.items)) }
 {
     let encoding = session.encoding().unwrap_or(Encoding::Utf16);
     snapshot_facts(alloc, docs, encoding, uri, version, text, rule)

@@ -6,7 +6,8 @@ ghost use Rattle.std.specs.Str.{chars};
 ghost use Rattle.std.specs.String.{string_bytes};
 ghost use Rattle.lsp_text.specs.Edits.{changed};
 ghost use Rattle.lsp_text.specs.Changes.{edit_of, edits_of};
-ghost use Rattle.lsp_facts.specs.DocumentFacts.{fits, misfit_facts, kind_facts, stray, IsStray, IsTooLong, IsReason, IsRefused};
+ghost use Rattle.lsp_facts.specs.DocumentFacts.{fits, misfit_facts, kind_facts, stray, IsStray};
+ghost use Rattle.lsp_facts.specs.DocumentFacts.{IsTooLong, IsReason, IsRefused};
 ghost use Rattle.lsp_facts.specs.Making.{HasStray};
 
 use crate::fact::Fact;
@@ -22,7 +23,8 @@ const INSIDE_CHARACTER: u16 = 605;
 /// A text of more bytes of UTF-8 than the limit.
 const OVER_LIMIT: u16 = 607;
 
-/// The facts on changes of another kind than agreed: the kind, and the first change that is not of it.
+/// The facts on changes of another kind than agreed: the kind, and the first change that is not of
+/// it.
 pub(crate) fn misfit<S: TextStore>(
     alloc: Global,
     store: &S,
@@ -31,7 +33,8 @@ pub(crate) fn misfit<S: TextStore>(
     changes: &[Change],
     limit: u64,
 ) -> Result<FactList, Memory>
-    ensures { IfOk result (λ facts. facts ≡ kind_facts limit encoding kind (S.content store.now) (edits_of changes.now)) }
+    ensures { IfOk result (λ facts. facts
+        ≡ kind_facts limit encoding kind (S.content store.now) (edits_of changes.now)) }
 {
     let mut facts = FactList::new(alloc);
     facts.push(Fact::Sync(kind))?;
@@ -43,8 +46,8 @@ pub(crate) fn misfit<S: TextStore>(
     Ok(facts)
 }
 
-/// The facts on the change behind so many others, which is not of the kind: its span, and the length of the line in which
-/// that begins, where the changes before it can be made.
+/// The facts on the change behind so many others, which is not of the kind: its span, and the
+/// length of the line in which that begins, where the changes before it can be made.
 fn misfit_at<S: TextStore>(
     alloc: Global,
     store: &S,
@@ -54,11 +57,13 @@ fn misfit_at<S: TextStore>(
     limit: u64,
 ) -> Result<FactList, Memory>
     requires { count < length changes.now }
-    ensures { IfOk result (λ facts. facts ≡ misfit_facts limit encoding (S.content store.now) (edits_of changes.now) count (slice_get (edits_of changes.now) count)) }
+    ensures { IfOk result (λ facts. facts
+        ≡ misfit_facts limit encoding (S.content store.now) (edits_of changes.now) count
+        (slice_get (edits_of changes.now) count)) }
 {
     let mut facts = FactList::new(alloc);
     let span = changes[count].span;
-    facts.push_change(count, span)?;
+    facts.push_change(encoding, count, span)?;
     let made = make(alloc, store, encoding, &changes[..count], limit)?;
     if made.count < count {
         return Ok(facts);
@@ -88,7 +93,8 @@ fn fits_kind(kind: SyncKind, change: &Change) -> bool
     }
 }
 
-/// The facts on the change behind so many others that this rule refuses, on the text that those made.
+/// The facts on the change behind so many others that this rule refuses, on the text that those
+/// made.
 pub(crate) fn refused(
     alloc: Global,
     encoding: Encoding,
@@ -99,11 +105,12 @@ pub(crate) fn refused(
     limit: u64,
 ) -> Result<FactList, Memory>
     requires { count + 1 < 2 ^ 64 }
-    ensures { IfOk result (λ facts. changed encoding (chars text.now) change.now.span (chars (string_bytes change.now.text)) limit ≡ Err rule
+    ensures { IfOk result (λ facts. changed encoding (chars text.now) change.now.span
+        (chars (string_bytes change.now.text)) limit ≡ Err rule
         → IsRefused limit encoding (chars text.now) count (edit_of change.now) rule facts) }
 {
     let mut facts = FactList::new(alloc);
-    facts.push_change(count, change.span)?;
+    facts.push_change(encoding, count, change.span)?;
     facts.append(reason(alloc, encoding, text, change, rule, limit)?)?;
     Ok(facts)
 }
@@ -117,7 +124,8 @@ fn reason(
     rule: u16,
     limit: u64,
 ) -> Result<FactList, Memory>
-    ensures { IfOk result (λ facts. changed encoding (chars text.now) change.now.span (chars (string_bytes change.now.text)) limit ≡ Err rule
+    ensures { IfOk result (λ facts. changed encoding (chars text.now) change.now.span
+        (chars (string_bytes change.now.text)) limit ≡ Err rule
         → IsReason limit encoding (chars text.now) (edit_of change.now) rule facts) }
 {
     if rule == INSIDE_CHARACTER {
@@ -138,7 +146,8 @@ fn stray_facts(
     text: &str,
     span: Option<Span>,
 ) -> Result<FactList, Memory>
-    ensures { IfOk result (λ facts. HasStray encoding (chars text.now) span → IsStray encoding (chars text.now) span facts) }
+    ensures { IfOk result (λ facts. HasStray encoding (chars text.now) span
+        → IsStray encoding (chars text.now) span facts) }
 {
     let mut facts = FactList::new(alloc);
     let Some(span) = span else {
@@ -171,7 +180,8 @@ fn size_facts(
     change: &Change,
     limit: u64,
 ) -> Result<FactList, Memory>
-    ensures { IfOk result (λ facts. changed encoding (chars text.now) change.now.span (chars (string_bytes change.now.text)) limit ≡ Err OVER_LIMIT
+    ensures { IfOk result (λ facts. changed encoding (chars text.now) change.now.span
+        (chars (string_bytes change.now.text)) limit ≡ Err OVER_LIMIT
         → IsTooLong limit encoding (chars text.now) (edit_of change.now) facts) }
 {
     let mut facts = FactList::new(alloc);

@@ -19,8 +19,9 @@ use lsp_text::TextStore;
 use lsp_types::{Change, Encoding, Memory};
 use std::alloc::Global;
 
-/// Those of the snapshots that wait for the version of an act that have another text than it brings its document to.
-/// All that wait are given by their events, in the order in which they came. The documents are those before the act.
+/// Those of the snapshots that wait for the version of an act that have another text than it brings
+/// its document to. All that wait are given by their events, in the order in which they came. The
+/// documents are those before the act.
 ///
 /// # Errors
 /// `Memory` where memory was refused.
@@ -31,8 +32,10 @@ pub fn refuting<S: TextStore>(
     act: &Act,
     snapshots: &[u64],
 ) -> Result<Vec<u64>, Memory>
-    ensures { IfOk result (λ others. (kind : SyncKind) (calls : List Call) (call : Call) → Stands docs.now calls
-        → call_of encoding kind (act_view act.now) ≡ Some call → others.items ≡ spec.refuting docs.now.terms calls call snapshots.now) }
+    ensures { IfOk result (λ others. (kind : SyncKind) (calls : List Call) (call : Call)
+        → Stands docs.now calls
+        → call_of encoding kind (act_view act.now) ≡ Some call
+        → others.items ≡ spec.refuting docs.now.terms calls call snapshots.now) }
 {
     match act {
         Act::DidOpen { uri, version, text } => {
@@ -56,7 +59,8 @@ pub fn refuting<S: TextStore>(
     }
 }
 
-/// The text that changes make of the held one, where the document is open and each of them can be made.
+/// The text that changes make of the held one, where the document is open and each of them can be
+/// made.
 fn made_text<S: TextStore>(
     alloc: Global,
     docs: &Docs<S>,
@@ -65,7 +69,9 @@ fn made_text<S: TextStore>(
     changes: &[Change],
 ) -> Result<Option<String>, Memory>
     ensures { IfOk result (λ made. (calls : List Call) → Stands docs.now calls
-        → option_map text_of made ≡ spec.made_text docs.now.terms encoding (edits_of changes.now) (held docs.now.terms uri.now calls)) }
+        → option_map text_of made
+        ≡ spec.made_text docs.now.terms encoding (edits_of changes.now)
+        (held docs.now.terms uri.now calls)) }
 {
     let Some(store) = docs.store_of(uri) else {
         return Ok(None);
@@ -77,15 +83,16 @@ fn made_text<S: TextStore>(
     Ok(Some(text))
 }
 
-/// Those of the snapshots that have another text than this one. They are given by their events, and their texts stand in
-/// the same order.
+/// Those of the snapshots that have another text than this one. They are given by their events, and
+/// their texts stand in the same order.
 fn others(
     alloc: Global,
     texts: &[String],
     text: &str,
     snapshots: &[u64],
 ) -> Result<Vec<u64>, Memory>
-    ensures { IfOk result (λ others. others.items ≡ spec.others_of (chars text.now) snapshots.now (texts_of texts.now)) }
+    ensures { IfOk result (λ others. others.items
+        ≡ spec.others_of (chars text.now) snapshots.now (texts_of texts.now)) }
 {
     let mut others = Vec::new(alloc);
     for (index, event) in snapshots.iter().enumerate() {
@@ -108,7 +115,8 @@ fn is_other_at(texts: &[String], index: usize, text: &str) -> bool
 
 /// The first that is another text than this one.
 pub(crate) fn first_other<'a>(texts: &'a [String], text: &str) -> Option<&'a str>
-    ensures { option_map (λ t. chars t.now) result ≡ spec.first_other (chars text.now) (texts_of texts.now) }
+    ensures { option_map (λ t. chars t.now) result
+        ≡ spec.first_other (chars text.now) (texts_of texts.now) }
 {
     for other in texts {
         if is_other(other, text) {

@@ -5,8 +5,7 @@ use borrow.Rule.Slice.PartMut.{put_mid}
 use Rattle.lsp_frame.specs.Bounds.{Bounds}
 use Rattle.lsp_frame.specs.Told.{Told, Gave}
 use Rattle.std.specs.Prelude.{is_some, max}
-use Rattle.std.proofs.Math.Seq.{take-append-add}
-use Rattle.lsp_frame.proofs.Telling.{gave_nothing}
+use Rattle.lsp_frame.proofs.Telling.{gave_nothing, take_written}
 use Rattle.lsp_frame.specs.Decoder.{State, FitsIn, pushed, taken, taken_at, room_for}
 use Rattle.lsp_frame.specs.Pulling.{Pulls}
 use Rattle.lsp_frame.proofs.Steps.{state_at, taken_stands, push_stands}
@@ -14,11 +13,6 @@ use Rattle.lsp_frame.specs.Decoder.{StandsFor, RestAt}
 use Rattle.lsp_frame.proofs.Starts.{header_stays}
 use Rattle.lsp_frame.specs.Buffer.{AheadStands, FaultStands}
 use Rattle.lsp_frame.specs.declared.start.FrameSize.{FrameSize}
-
--- a front of the buffer that was written behind what stood there
-pub take_written : (xs buffer tail : List ℕ) (len count : ℕ) → length xs ≡ len → count ≤ length buffer → take (len + count) (xs ++ (buffer ++ tail)) ≡ xs ++ take count buffer
-take_written xs buffer tail len count is fits =
-    ap (λ k. take (k + count) (xs ++ (buffer ++ tail))) (sym is) ∙ take-append-add xs (buffer ++ tail) count ∙ ap (λ w. xs ++ w) (take-append-le count buffer tail fits)
 
 pub taken_open : (fault : Option ℕ) (s : State) (more room : ℕ) (rest piece : List ℕ) → s.fault ≡ fault → fault ≡ None → rest ≡ s.rest ++ piece → room ≡ room_for s more → record s { kept = []; rest = rest; room = room } ≡ taken_at fault s more piece
 taken_open None s more room rest piece is none same full = ap (λ (w : List ℕ). record s { kept = []; rest = w; room = room }) same ∙ ap (λ (n : ℕ). record s { kept = []; rest = s.rest ++ piece; room = n }) full

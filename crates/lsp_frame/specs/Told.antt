@@ -1,5 +1,5 @@
 -- What a source or a sink tells of itself.
-use Rattle.std.specs.Prelude.{◌≡◌, ℕ, ◌+◌, ◌-◌, ◌^◌, min, List, length, Option, MatchResult, Result}
+use Rattle.std.specs.Prelude.{◌≡◌, ℕ, ◌+◌, ◌-◌, ◌^◌, ◌≤◌, ◌++◌, min, List, length, Option, MatchResult, Result}
 use Rattle.std.specs.Io.KnownBytes.{Consumes, Appends, Keeps}
 
 -- bytes: those that a source has still to give, or that a sink has taken, where they are known; count: how many bytes
@@ -35,3 +35,11 @@ after_failure n = min (n + 1) (2 ^ 64 - 1)
 -- the count rises where the call failed, and nowhere else
 abbrev pub CountsFailure : {X E : Type 0} → ℕ → ℕ → Result X E → Type 0
 CountsFailure old new r = MatchResult r (λ _. new ≡ old) (λ _. new ≡ after_failure old)
+
+-- the source gave a piece of n bytes, at most so many, and it was appended to the bytes
+pub record GaveOnto (before after : Told) (old new : List ℕ) (most n : ℕ) : Type 0 where
+  pub piece : List ℕ
+  pub gave : Gave before after piece
+  pub items : new ≡ old ++ piece
+  pub count : length piece ≡ n
+  pub within : n ≤ most

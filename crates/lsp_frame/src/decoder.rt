@@ -1,5 +1,7 @@
 //! Frames from bytes that come in pieces (LSP 3.17, "Base Protocol").
-ghost use Rattle.std.specs.Prelude.{◌≡◌, ◌≤◌, ◌<◌, ◌+◌, ◌-◌, ◌^◌, ℕ, List, [], ◌++◌, length, take, drop, vec_len, Some, None, Err, Result, IsSome, IsOk, IfOk, OnOk, OnErr, MatchOption, max};
+ghost use Rattle.std.specs.Prelude.{◌≡◌, ◌≤◌, ◌<◌, ◌+◌, ◌-◌, ◌^◌, ℕ, List, [], ◌++◌, length, take};
+ghost use Rattle.std.specs.Prelude.{drop, vec_len, Some, None, Err, Result, IsSome, IsOk, IfOk};
+ghost use Rattle.std.specs.Prelude.{OnOk, OnErr, MatchOption, max};
 ghost use Rattle.std.specs.Io.KnownBytes.{IsAtEnd};
 ghost use Rattle.std.specs.Borrow.{sem};
 ghost use Rattle.lsp_frame.specs.Frame.{Frames, IsStream};
@@ -77,11 +79,12 @@ pub struct Missing {
     pub bytes: usize,
 }
 
-/// Takes the bytes of a stream in pieces of any size, and lends the contents of its frames one by one.
+/// Takes the bytes of a stream in pieces of any size, and lends the contents of its frames one by
+/// one.
 ///
-/// The bytes stand in one buffer, from which each content is lent. A header part is parsed once, and a content is
-/// neither read nor moved while it grows. The next push gives up the bytes of the frames given, and moves the rest to
-/// the front.
+/// The bytes stand in one buffer, from which each content is lent. A header part is parsed once,
+/// and a content is neither read nor moved while it grows. The next push gives up the bytes of the
+/// frames given, and moves the rest to the front.
 #[derive(Drop)]
 pub struct Decoder {
     limits: Limits,
@@ -136,12 +139,15 @@ fn to_front(buffer: &mut [u8], start: usize, end: usize)
     }
 }
 
-/// Moves the bytes between two places to the front, and makes room for so many behind them. An `Err` changes nothing.
+/// Moves the bytes between two places to the front, and makes room for so many behind them. An
+/// `Err` changes nothing.
 fn make_room(buffer: &mut Vec<u8>, start: usize, end: usize, more: usize) -> Result<(), AllocError>
     requires places { (start ≤ end) × (end ≤ vec_len buffer.old) }
     requires more { more < 2 ^ 63 }
-    ensures front { OnOk result (take (end - start) buffer.new.items ≡ drop start (take end buffer.old.items)) }
-    ensures len { OnOk result (length buffer.new.items ≡ max (length buffer.old.items) (end - start + more)) }
+    ensures front { OnOk result (take (end - start) buffer.new.items
+        ≡ drop start (take end buffer.old.items)) }
+    ensures len { OnOk result (length buffer.new.items
+        ≡ max (length buffer.old.items) (end - start + more)) }
     ensures err { OnErr result (buffer.new.items ≡ buffer.old.items) }
 {
     let rest = end - start;
@@ -152,7 +158,8 @@ fn make_room(buffer: &mut Vec<u8>, start: usize, end: usize, more: usize) -> Res
     Ok(())
 }
 
-/// Moves the bytes between two places to the front, and puts the piece behind them. An `Err` changes nothing.
+/// Moves the bytes between two places to the front, and puts the piece behind them. An `Err`
+/// changes nothing.
 fn push_after(
     buffer: &mut Vec<u8>,
     start: usize,
@@ -160,7 +167,8 @@ fn push_after(
     piece: &[u8],
 ) -> Result<(), AllocError>
     requires { (start ≤ end) × (end ≤ vec_len buffer.old) }
-    ensures len { OnOk result (length buffer.new.items ≡ max (length buffer.old.items) (end - start + length piece.now)) }
+    ensures len { OnOk result (length buffer.new.items
+        ≡ max (length buffer.old.items) (end - start + length piece.now)) }
     ensures ok { OnOk result (take (end - start + length piece.now) buffer.new.items
         ≡ drop start (take end buffer.old.items) ++ piece.now) }
     ensures err { OnErr result (buffer.new.items ≡ buffer.old.items) }
@@ -204,7 +212,8 @@ impl Decoder {
         }
     }
 
-    /// Takes the next bytes of the stream; once a fault was given, nothing. Where memory is refused, nothing changes.
+    /// Takes the next bytes of the stream; once a fault was given, nothing. Where memory is
+    /// refused, nothing changes.
     pub fn push(&mut self, piece: &[u8]) -> Result<(), Memory>
         ensures ok { OnOk result (self.new ≡ pushed self.old piece.now) }
         ensures stands { OnOk result ((bytes : List ℕ) (contents : List (List ℕ)) →
@@ -212,7 +221,8 @@ impl Decoder {
         ensures err { OnErr result (self.new ≡ self.old) }
         ensures after_fault { IsSome self.old.fault → IsOk result }
 
-        // Where every whole frame pushed before was given, and there was no fault, one frame and the piece have room.
+        // Where every whole frame pushed before was given, and there was no fault, one frame and
+        // the piece have room.
         ensures held { OnOk result ((bytes : List ℕ) (contents : List (List ℕ)) →
             StandsFor self.old bytes contents →
             IsStream self.old.limits bytes contents self.old.rest None →
@@ -221,16 +231,19 @@ impl Decoder {
         self.append(piece)
     }
 
-    /// Takes the next bytes of the stream as [`Decoder::push`] does. Where no byte is held that belongs to no frame
-    /// given, it takes their buffer in the place of its own, and copies nothing.
+    /// Takes the next bytes of the stream as [`Decoder::push`] does. Where no byte is held that
+    /// belongs to no frame given, it takes their buffer in the place of its own, and copies
+    /// nothing.
     pub fn push_owned(&mut self, piece: Vec<u8>) -> Result<(), Memory>
         ensures ok { OnOk result (FitsIn self.new (pushed self.old piece.items)) }
         ensures stands { OnOk result ((bytes : List ℕ) (contents : List (List ℕ)) →
-            StandsFor self.old bytes contents → StandsFor self.new (bytes ++ piece.items) contents) }
+            StandsFor self.old bytes contents
+            → StandsFor self.new (bytes ++ piece.items) contents) }
         ensures err { OnErr result (self.new ≡ self.old) }
         ensures after_fault { IsSome self.old.fault → IsOk result }
 
-        // Where every whole frame pushed before was given, and there was no fault, one frame and the piece have room.
+        // Where every whole frame pushed before was given, and there was no fault, one frame and
+        // the piece have room.
         ensures held { OnOk result ((bytes : List ℕ) (contents : List (List ℕ)) →
             StandsFor self.old bytes contents →
             IsStream self.old.limits bytes contents self.old.rest None →
@@ -245,12 +258,14 @@ impl Decoder {
         Ok(())
     }
 
-    /// Takes the next bytes of the stream straight from a source: those that one call of it gives, at most so many, and
-    /// none only at its end; once a fault was given, nothing. Where the source fails or memory is refused, no byte is
-    /// taken.
+    /// Takes the next bytes of the stream straight from a source: those that one call of it gives,
+    /// at most so many, and none only at its end; once a fault was given, nothing. Where the source
+    /// fails or memory is refused, no byte is taken.
     pub fn pull<R: Source>(&mut self, source: &mut R, most: u32) -> Result<usize, PullFault>
-        ensures ok { IfOk result (λ n. Pulls self.old self.new (R.told source.old) (R.told source.new) most n) }
-        ensures end { IfOk result (λ n. n ≡ 0 → 0 < most → self.old.fault ≡ None → IsAtEnd (R.told source.new).bytes) }
+        ensures ok { IfOk result (λ n.
+            Pulls self.old self.new (R.told source.old) (R.told source.new) most n) }
+        ensures end { IfOk result (λ n.
+            n ≡ 0 → 0 < most → self.old.fault ≡ None → IsAtEnd (R.told source.new).bytes) }
         ensures read_fault { result ≡ Err PullFault.Read →
             PullFails self.old self.new (R.told source.old) (R.told source.new) most }
         ensures memory { result ≡ Err PullFault.Memory →
@@ -268,8 +283,8 @@ impl Decoder {
         Ok(count)
     }
 
-    /// The size of the frame that the rest begins with, where its header part is whole and has no fault. It is read
-    /// again where no content was waited for.
+    /// The size of the frame that the rest begins with, where its header part is whole and has no
+    /// fault. It is read again where no content was waited for.
     fn size_ahead(&self) -> Option<FrameSize>
         ensures { MatchOption result (StartsWithNone self.now.limits self.now.rest)
             (StartsWithHeader self.now.limits self.now.rest) }
@@ -301,8 +316,9 @@ impl Decoder {
         })
     }
 
-    /// Takes what is missing of the next content straight from a source, and lets this content go: it is given, but not
-    /// lent, and never held as a whole. `false` where the source ended before, and nothing is given then.
+    /// Takes what is missing of the next content straight from a source, and lets this content go:
+    /// it is given, but not lent, and never held as a whole. `false` where the source ended before,
+    /// and nothing is given then.
     pub fn pass<R: Source>(&mut self, source: &mut R, missing: Missing) -> Result<bool, PullFault>
         requires { Misses self.old missing }
         ensures { Passes self.old self.new (R.told source.old) (R.told source.new) missing result }
@@ -359,8 +375,8 @@ impl Decoder {
         }
     }
 
-    /// Goes past the next frame as [`Decoder::next`] does, and gives the length of its content, which
-    /// [`Decoder::last`] lends.
+    /// Goes past the next frame as [`Decoder::next`] does, and gives the length of its content,
+    /// which [`Decoder::last`] lends.
     pub fn advance(&mut self) -> Result<Option<usize>, FrameFault>
         ensures { Advances self.old self.new result }
     {
@@ -375,7 +391,8 @@ impl Decoder {
         Ok(Some(size.content))
     }
 
-    /// The last bytes of the frames given since the last push: the content of the last one, at its length.
+    /// The last bytes of the frames given since the last push: the content of the last one, at its
+    /// length.
     pub fn last(&self, len: usize) -> &[u8]
         requires { len ≤ length self.now.kept }
         ensures { result.now ≡ last_of self.now.kept len }
@@ -383,10 +400,12 @@ impl Decoder {
         &self.buffer[self.start - len..self.start]
     }
 
-    /// The next content, or none where the bytes pushed hold no further frame. A fault, 101 to 106, stays.
+    /// The next content, or none where the bytes pushed hold no further frame. A fault, 101 to 106,
+    /// stays.
     pub fn next(&mut self) -> Result<Option<&[u8]>, FrameFault>
         ensures* lends { sem 𝓛 (LendsContent self.entry result) }
-        ensures kept_fault { (rule : ℕ) → self.old.fault ≡ Some rule → result ≡ Err (record { rule = rule }) }
+        ensures kept_fault { (rule : ℕ) → self.old.fault ≡ Some rule
+            → result ≡ Err (record { rule = rule }) }
     {
         match self.advance()? {
             None => Ok(None),
@@ -401,16 +420,18 @@ impl Decoder {
         self.fault
     }
 
-    /// How many bytes stand in the buffer: those of the frames given since the last push, and those behind them.
+    /// How many bytes stand in the buffer: those of the frames given since the last push, and those
+    /// behind them.
     pub fn held(&self) -> u64
         ensures { result ≡ held_of self.now }
     {
         self.end as u64
     }
 
-    /// The bytes pushed that belong to no frame given. Where the stream ends inside a frame they are what there is of
-    /// it. Behind a fault they begin the frame that has it, and go at least as far as the fault is seen: to the end of
-    /// its header part, or of one that is too long as many bytes as one may have. What was pushed later is not held.
+    /// The bytes pushed that belong to no frame given. Where the stream ends inside a frame they
+    /// are what there is of it. Behind a fault they begin the frame that has it, and go at least as
+    /// far as the fault is seen: to the end of its header part, or of one that is too long as many
+    /// bytes as one may have. What was pushed later is not held.
     pub fn rest(&self) -> &[u8]
         ensures value { result.now ≡ self.now.rest }
         ensures stands { (bytes : List ℕ) (contents : List (List ℕ)) →
@@ -419,8 +440,8 @@ impl Decoder {
         &self.buffer[self.start..self.end]
     }
 
-    /// Whether the stream may end here. The fault is that which `next` gave, else 107, where a byte pushed belongs to no
-    /// frame given.
+    /// Whether the stream may end here. The fault is that which `next` gave, else 107, where a byte
+    /// pushed belongs to no frame given.
     pub fn finish(&self) -> Result<(), FrameFault>
         ensures value { result ≡ finish_of self.now }
         ensures whole { OnOk result ((bytes : List ℕ) (contents : List (List ℕ)) →

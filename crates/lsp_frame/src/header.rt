@@ -2,7 +2,8 @@
 ghost use Rattle.std.specs.Prelude.{◌≡◌, ◌<◌, ◌≤◌, ◌-◌, ℕ, List, [], ◌∷◌, ◌++◌, length, true, ◌&&◌};
 ghost use Rattle.std.specs.List.{list_all};
 ghost use Rattle.std.specs.Str.Parse.{digits_value};
-ghost use Rattle.lsp_frame.specs.Header.{lengths, is_number, length_of, content_length, is_utf8_name, fits_charset, parts, fits_charsets, Says};
+ghost use Rattle.lsp_frame.specs.Header.{lengths, is_number, length_of, content_length};
+ghost use Rattle.lsp_frame.specs.Header.{is_utf8_name, fits_charset, parts, fits_charsets, Says};
 ghost use Rattle.lsp_frame.specs.Reading.{field_view, Holds};
 
 use crate::bytes::{all_digits, number_up_to};

@@ -1,8 +1,11 @@
-//! Where bytes come from and where they go. A contract can name the bytes of both, where they are known.
-ghost use Rattle.std.specs.Prelude.{◌≡◌, ◌⊎◌, ◌<◌, Ok, IfOk, OnErr, IsErr, length, take};
+//! Where bytes come from and where they go. A contract can name the bytes of both, where they are
+//! known.
+ghost use Rattle.std.specs.Prelude.{◌≡◌, ◌⊎◌, ◌<◌, ◌≤◌, ◌+◌, Ok, IfOk, OnErr, IsErr, length, take};
+ghost use Rattle.std.specs.Prelude.{vec_len, vec_capacity};
 ghost use Rattle.std.specs.Io.{ReadsAtMost, WritesAtMost};
 ghost use Rattle.std.specs.Io.KnownBytes.{IsAtEnd};
-ghost use Rattle.lsp_frame.specs.Told.{Told, Gave, Took, KeepsBytes, CountsFailure, Raises};
+ghost use Rattle.lsp_frame.specs.Told.{Told, Gave, GaveOnto, Took, KeepsBytes, CountsFailure};
+ghost use Rattle.lsp_frame.specs.Told.{Raises};
 
 use std::io;
 use std::io::{Read, Write};
@@ -15,21 +18,45 @@ pub struct Failed;
 
 /// What gives bytes, as `std::io::Read` does.
 pub trait Source {
-    /// The bytes still to give, where they are known, how many were given, and how many calls have failed.
+    /// The bytes still to give, where they are known, how many were given, and how many calls have
+    /// failed.
     ghost told: { Self → Told };
 
-    /// Fills the front of the buffer, and says with how many bytes: none only at the end, or where there is no room.
+    /// Fills the front of the buffer, and says with how many bytes: none only at the end, or where
+    /// there is no room.
     fn pull(&mut self, buffer: &mut [u8]) -> Result<usize, Failed>
         ensures count { ReadsAtMost result buffer.new }
         ensures gave { IfOk result (λ n. Gave (told self.old) (told self.new) (take n buffer.new)) }
-        ensures end { IfOk result (λ n. n ≡ 0 → 0 < length buffer.new → IsAtEnd (told self.new).bytes) }
+        ensures end { IfOk result (λ n.
+            n ≡ 0 → 0 < length buffer.new → IsAtEnd (told self.new).bytes) }
         ensures err { OnErr result (KeepsBytes (told self.old) (told self.new)) }
         ensures failures { CountsFailure (told self.old).failures (told self.new).failures result };
+
+    /// Appends the next bytes of the source to the buffer, and says how many: at most `most`, for
+    /// which the buffer must have room, and none only at the end, or if none are wanted. A source
+    /// that reads ahead copies them straight from what it holds.
+    fn pull_onto(&mut self, buffer: &mut Vec<u8>, most: usize) -> Result<usize, Failed>
+        requires room { vec_len buffer.old + most ≤ vec_capacity buffer.old }
+        ensures room { vec_capacity buffer.old ≤ vec_capacity buffer.new }
+        ensures gave { IfOk result (λ n.
+            GaveOnto (told self.old) (told self.new) buffer.old.items buffer.new.items most n) }
+        ensures end { IfOk result (λ n. n ≡ 0 → 0 < most → IsAtEnd (told self.new).bytes) }
+        ensures same { OnErr result (buffer.new.items ≡ buffer.old.items) }
+        ensures err { OnErr result (KeepsBytes (told self.old) (told self.new)) }
+        ensures failures { CountsFailure (told self.old).failures (told self.new).failures result }
+    {
+        let start = buffer.len();
+        buffer.resize(start + most, 0).unwrap();
+        let answer = self.pull(&mut buffer[start..]);
+        buffer.truncate(start + answer.unwrap_or(0));
+        answer
+    }
 }
 
 /// What takes bytes, as `std::io::Write` does.
 pub trait Sink {
-    /// The bytes taken so far, where they are known, how many they are, and how many calls have failed.
+    /// The bytes taken so far, where they are known, how many they are, and how many calls have
+    /// failed.
     ghost told: { Self → Told };
 
     /// Takes bytes from the front, and says how many: at least one, unless it was given none.
@@ -72,8 +99,8 @@ fn pulled(answer: io::Result<usize>) -> Result<usize, Failed>
     answer.map_err(|_| Failed)
 }
 
-/// The answer of a sink whose writer answered so to this many bytes: it fails where the writer did, or where that took
-/// none of some bytes.
+/// The answer of a sink whose writer answered so to this many bytes: it fails where the writer did,
+/// or where that took none of some bytes.
 fn taken(answer: io::Result<usize>, len: usize) -> Result<usize, Failed>
     ensures some { IfOk answer (λ n. (0 < n) ⊎ (len ≡ 0) → result ≡ Ok n) }
     ensures none { IfOk answer (λ n. n ≡ 0 → 0 < len → IsErr result) }
@@ -95,7 +122,8 @@ pub struct Input<R> {
 impl<R: Read> Input<R> {
     /// A source that gave nothing and has not failed.
     pub fn new(reader: R) -> Input<R>
-        ensures { ⟦<Input<R> as Source>⟧.told result ≡ record { bytes = R.remaining reader; count = 0; failures = 0 } }
+        ensures { ⟦<Input<R> as Source>⟧.told result
+            ≡ record { bytes = R.remaining reader; count = 0; failures = 0 } }
     {
         Input {
             reader,
@@ -108,7 +136,11 @@ impl<R: Read> Input<R> {
 }
 
 impl<R: Read> Source for Input<R> {
-    ghost told = { λ s. record { bytes = R.remaining s.reader; count = s.tally.bytes; failures = s.tally.failures } };
+    ghost told = { λ s. record {
+      bytes = R.remaining s.reader;
+      count = s.tally.bytes;
+      failures = s.tally.failures;
+    } };
 
     fn pull(&mut self, buffer: &mut [u8]) -> Result<usize, Failed> {
         let answer = pulled(self.reader.read(buffer));
@@ -116,7 +148,8 @@ impl<R: Read> Source for Input<R> {
     }
 }
 
-/// A sink over a writer of std, which takes its bytes. A writer that takes none of some bytes fails.
+/// A sink over a writer of std, which takes its bytes. A writer that takes none of some bytes
+/// fails.
 #[derive(Drop)]
 pub struct Output<W> {
     writer: W,
@@ -126,7 +159,8 @@ pub struct Output<W> {
 impl<W: Write> Output<W> {
     /// A sink that took nothing and has not failed.
     pub fn new(writer: W) -> Output<W>
-        ensures { ⟦<Output<W> as Sink>⟧.told result ≡ record { bytes = W.contents writer; count = 0; failures = 0 } }
+        ensures { ⟦<Output<W> as Sink>⟧.told result
+            ≡ record { bytes = W.contents writer; count = 0; failures = 0 } }
     {
         Output {
             writer,
@@ -139,7 +173,11 @@ impl<W: Write> Output<W> {
 }
 
 impl<W: Write> Sink for Output<W> {
-    ghost told = { λ s. record { bytes = W.contents s.writer; count = s.tally.bytes; failures = s.tally.failures } };
+    ghost told = { λ s. record {
+      bytes = W.contents s.writer;
+      count = s.tally.bytes;
+      failures = s.tally.failures;
+    } };
 
     fn put(&mut self, bytes: &[u8]) -> Result<usize, Failed> {
         let answer = taken(self.writer.write(bytes), bytes.len());

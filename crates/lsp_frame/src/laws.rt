@@ -1,12 +1,16 @@
-//! Laws of frames and streams (LSP 3.17, "Base Protocol"), each the contract of a function that does nothing.
-ghost use Rattle.lsp_frame.specs.Laws.{NoFrameBeginsAnother, SomeReading, OneReading, FramesComeFirst, ContentsStay, FaultStays, FrontStays, CanonicalIsFrame, CanonicalIsRead};
+//! Laws of frames and streams (LSP 3.17, "Base Protocol"), each the contract of a function that
+//! does nothing.
+ghost use Rattle.lsp_frame.specs.Laws.{NoFrameBeginsAnother, SomeReading, OneReading};
+ghost use Rattle.lsp_frame.specs.Laws.{FramesComeFirst, ContentsStay, FaultStays, FrontStays};
+ghost use Rattle.lsp_frame.specs.Laws.{CanonicalIsFrame, CanonicalIsRead};
 
 /// No frame is the beginning of a longer one.
 pub fn no_frame_begins_another()
     ensures { NoFrameBeginsAnother }
 {}
 
-/// All bytes are a stream: frames with some contents, a rest that begins with no frame, and its fault, if any.
+/// All bytes are a stream: frames with some contents, a rest that begins with no frame, and its
+/// fault, if any.
 pub fn some_reading()
     ensures { SomeReading }
 {}
@@ -16,7 +20,8 @@ pub fn one_reading()
     ensures { OneReading }
 {}
 
-/// Frames that bytes begin with are the first of their stream, and what stands behind them is its others.
+/// Frames that bytes begin with are the first of their stream, and what stands behind them is its
+/// others.
 pub fn frames_come_first()
     ensures { FramesComeFirst }
 {}
@@ -41,8 +46,8 @@ pub fn canonical_is_frame()
     ensures { CanonicalIsFrame }
 {}
 
-/// A stream that begins with the canonical frame of a content within the limits has that content first, whatever
-/// follows.
+/// A stream that begins with the canonical frame of a content within the limits has that content
+/// first, whatever follows.
 pub fn canonical_is_read()
     ensures { CanonicalIsRead }
 {}

@@ -1,11 +1,13 @@
 //! Frames of the Language Server Protocol (LSP 3.17, "Base Protocol").
 //!
-//! A frame is a header part, which gives the length of the content in bytes, and the content. A [`Decoder`] takes the
-//! bytes of a stream in pieces of any size and lends the contents of its frames; [`write_frame`] writes the canonical
-//! frame of a content. [`Limits`] bound what is accepted. [`Source`] and [`Sink`] are where bytes come from and where
-//! they go, with [`Input`] and [`Output`] over a reader and a writer of std.
+//! A frame is a header part, which gives the length of the content in bytes, and the content. A
+//! [`Decoder`] takes the bytes of a stream in pieces of any size and lends the contents of its
+//! frames; [`write_frame`] writes the canonical frame of a content. [`Limits`] bound what is
+//! accepted. [`Source`] and [`Sink`] are where bytes come from and where they go, with [`Input`]
+//! and [`Output`] over a reader and a writer of std.
 //!
-//! What holds of all frames and streams stands in the contracts of functions that do nothing, such as [`one_reading`].
+//! What holds of all frames and streams stands in the contracts of functions that do nothing, such
+//! as [`one_reading`].
 #![tactic(auto)]
 
 mod bytes;

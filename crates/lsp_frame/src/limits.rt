@@ -1,4 +1,5 @@
-//! The limits of what is accepted. They are this project's own: the base protocol of LSP 3.17 sets none.
+//! The limits of what is accepted. They are this project's own: the base protocol of LSP 3.17 sets
+//! none.
 ghost use Rattle.std.specs.Prelude.{◌≡◌, ◌≤◌, ◌↔◌, ◌^◌, IsSome, IfSome};
 ghost use Rattle.lsp_frame.specs.Bounds.{Bounds, IsInRange, profile};
 
@@ -68,8 +69,9 @@ impl Limits {
         }
     }
 
-    /// Limits of these sizes, or none where one is outside its range: `header` from 64, `content` and `chunk` from 1,
-    /// `document` from 0 and `log` from 16, each up to that of [`Limits::profile`].
+    /// Limits of these sizes, or none where one is outside its range: `header` from 64, `content`
+    /// and `chunk` from 1, `document` from 0 and `log` from 16, each up to that of
+    /// [`Limits::profile`].
     pub fn new(header: u64, content: u64, chunk: u64, document: u64, log: u64) -> Option<Limits>
         ensures some { IsSome result ↔ IsInRange (record {
           header = header;

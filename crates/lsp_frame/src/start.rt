@@ -38,8 +38,9 @@ fn digits_in_front(bytes: &[u8]) -> usize
         .count()
 }
 
-/// The size of the frame whose header part stands in front, where that is the one line `Content-Length: ` and digits,
-/// which is the common case. Whatever else stands there is left to [`read_header`].
+/// The size of the frame whose header part stands in front, where that is the one line
+/// `Content-Length: ` and digits, which is the common case. Whatever else stands there is left to
+/// [`read_header`].
 fn plain_size(limits: &Limits, bytes: &[u8]) -> Option<FrameSize>
     requires { IsInRange limits.now }
     ensures { IfSome result (λ size. StartsWithHeader limits.now bytes.now size) }

@@ -37,8 +37,8 @@ pub fn put_number<W: Sink>(writer: &mut W, number: u64) -> Result<(), WriteFault
     put_all(writer, buffer.format(number).as_bytes())
 }
 
-/// Writes the canonical frame of the content: the one field `Content-Length`, with its number of bytes without leading
-/// zeros, and the content.
+/// Writes the canonical frame of the content: the one field `Content-Length`, with its number of
+/// bytes without leading zeros, and the content.
 pub fn write_frame<W: Sink>(writer: &mut W, content: &[u8]) -> Result<(), WriteFault>
     requires { length content.now ≤ 67108864 }
     ensures { Writes (W.told writer.old) (W.told writer.new) result (canonical content.now) }

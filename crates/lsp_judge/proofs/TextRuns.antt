@@ -6,7 +6,7 @@ use Rattle.std.specs.Prelude.{is_some, if◌then◌else◌, filter, IfOk}
 use lib.Utf8.{encodes}
 use Rattle.std.proofs.lemmas.List.{take-append-drop}
 use Rattle.lsp_frame.specs.Bounds.{Bounds}
-use Rattle.lsp_frame.specs.Told.{Told}
+use Rattle.lsp_frame.specs.Told.{Told, after_failure}
 use Rattle.lsp_frame.specs.declared.format.Format.{Format}
 use Rattle.lsp_types.specs.declared.side.Side.TheVariants.{Editor}
 use Rattle.lsp_docs.specs.Documents.{held}
@@ -14,7 +14,9 @@ use Rattle.lsp_docs.specs.Terms.{Terms}
 use Rattle.lsp_verdict.specs.Calls.{calls}
 use Rattle.lsp_verdict.specs.Event.{Event}
 use Rattle.lsp_verdict.specs.Outcome.{Offends, format_or_one, log_terms}
-use Rattle.lsp_verdict.specs.RunIo.{OfRead, GaveAtMost, source_failures}
+use Rattle.lsp_judge.specs.Ports.{OutputFor, Ports}
+use Rattle.lsp_verdict.specs.RunIo.{OfRead, GaveAtMost, failures_after, sink_failures_after}
+use Rattle.lsp_verdict.specs.RunIo.{source_failures}
 use Rattle.lsp_verdict.specs.declared.completeness.Completeness.{Completeness}
 use Rattle.lsp_verdict.specs.declared.completeness.Completeness.TheVariants.{Ignored}
 use Rattle.lsp_verdict.specs.declared.outcome.Outcome.{Outcome}
@@ -22,7 +24,7 @@ use Rattle.lsp_verdict.specs.declared.outcome.Outcome.TheVariants.{Done}
 use Rattle.lsp_verdict.specs.declared.outcome.RunFault.{RunFault}
 use Rattle.lsp_verdict.specs.declared.outcome.RunFault.TheVariants as faults
 use Rattle.lsp_judge.specs.declared.text_answer.TextAnswer as answer
-use Rattle.lsp_judge.specs.TextAnswers.{answer_view}
+use Rattle.lsp_judge.specs.TextAnswers.{WritesText, answer_view}
 use Rattle.lsp_verdict.specs.Shown.{TextAnswer, text_is, kept_count, kept_within, up_to_editor}
 use Rattle.lsp_verdict.specs.Shown.{held_answer, missing_answer, text_answer}
 use Rattle.lsp_verdict.specs.TextAfter.{AnswersText, BeginsText, EndsAs, IsText, written_of}
@@ -291,3 +293,74 @@ pub text_unwritten : (limits : Bounds) (start now : Told) (n : ℕ) (uri : List 
 text_unwritten limits start now n uri (Ok a) g e = absurd cc
 text_unwritten limits start now n uri (Err fault) g e =
     g.unwritten (let same : fault ≡ faults.Write = cc e in same)
+
+-- ---- what is written
+
+-- the outcome was reached, and what is due for it was written
+pub outcome_due : (limits : Bounds) (io : Ports) (n : ℕ) (uri : List ℕ) (outcome : Outcome)
+    → OutputFor limits io (λ log out. IsText limits log n uri out outcome)
+    → io.source_after.failures ≡ io.source_before.failures
+    → io.sink_after.failures ≡ io.sink_before.failures
+    → WritesText limits io n uri (Ok outcome)
+outcome_due limits io n uri outcome due source sink = record {
+  written = due;
+  read_fault = λ e. absurd (cc e);
+  memory = λ e. absurd (cc e);
+  write_fault = λ e. absurd (cc e);
+  counts = record {
+    source_failures = source;
+    sink_failures = sink;
+    limit = read_within _ _ _ _ due.2;
+  };
+}
+
+-- there is no answer
+pub text_broke : (limits : Bounds) (start now told : Told) (n : ℕ) (uri : List ℕ)
+    (fault : RunFault)
+    → ((let r : Result answer.TextAnswer RunFault = Err fault in r) ≡ Err faults.Write → ⊥)
+    → now.failures ≡ failures_after fault start.failures
+    → GaveAtMost (limits.log + 1) start now
+    → WritesText limits (record {
+      source_before = start;
+      source_after = now;
+      sink_before = told;
+      sink_after = told;
+    }) n uri (Err fault)
+text_broke limits start now told n uri fault never source limit = record {
+  written = tt;
+  read_fault = λ e. refl;
+  memory = λ e. refl;
+  write_fault = λ e. absurd (never (ap Err (same e)));
+  counts = record {
+    source_failures = source;
+    sink_failures = unwritten fault (λ e. never (ap Err e));
+    limit = limit;
+  };
+} where
+  same : (let r : Result Outcome RunFault = Err fault in r) ≡ Err faults.Write
+      → fault ≡ faults.Write
+  same e = cc e
+
+  unwritten : (f : RunFault) → (f ≡ faults.Write → ⊥)
+      → told.failures ≡ sink_failures_after f told.failures
+  unwritten faults.Read never = refl
+  unwritten faults.Write never = absurd (never refl)
+  unwritten faults.Memory never = refl
+
+-- the text was not written
+pub text_stopped : (limits : Bounds) (io : Ports) (n : ℕ) (uri : List ℕ)
+    → OutputFor limits io (λ log. BeginsText limits log n uri)
+    → io.source_after.failures ≡ io.source_before.failures
+    → io.sink_after.failures ≡ after_failure io.sink_before.failures
+    → WritesText limits io n uri (Err faults.Write)
+text_stopped limits io n uri begun source sink = record {
+  written = tt;
+  read_fault = λ e. absurd (cc e);
+  memory = λ e. absurd (cc e);
+  write_fault = λ e. begun;
+  counts = record {
+    source_failures = source;
+    sink_failures = sink;
+    limit = read_within _ _ _ _ begun.2;
+  };
+}

@@ -1,4 +1,7 @@
+pub mod Ports
+pub mod Runs
 pub mod Answered
+pub mod Checked
 pub mod Rulings
 pub mod Heard
 pub mod Standing

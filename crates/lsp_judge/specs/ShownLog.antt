@@ -6,13 +6,16 @@ use Rattle.lsp_frame.specs.Sink.{Wrote}
 use Rattle.lsp_frame.specs.Told.{Told, Took}
 use Rattle.lsp_docs.specs.State.{capped}
 use Rattle.lsp_verdict.specs.declared.lines.Lines.{Lines}
+use Rattle.lsp_verdict.specs.declared.outcome.Outcome.{Outcome}
 use Rattle.lsp_verdict.specs.declared.outcome.RunFault.{RunFault}
 use Rattle.lsp_verdict.specs.declared.verdict.Verdict as code
 use Rattle.lsp_verdict.specs.Event.{Event}
 use Rattle.lsp_verdict.specs.Given.{verdict_view}
 use Rattle.lsp_verdict.specs.Outcome.{IsVerdict}
+use Rattle.lsp_judge.specs.Ports.{Ports}
 use Rattle.lsp_verdict.specs.Report.{report}
 use Rattle.lsp_verdict.specs.RunIo.{OfRead, failures_after, sink_failures_after}
+use Rattle.lsp_judge.specs.Runs.{Judges}
 use Rattle.lsp_verdict.specs.Shown.{show_of}
 use Rattle.lsp_verdict.specs.Verdict.{Verdict, belongs_to, count_of, whose}
 use Rattle.lsp_events.specs.declared.heard.Place.{Place}
@@ -29,6 +32,11 @@ IsShown lines limits log v out =
 abbrev pub BeginsShown : Lines → Bounds → List ℕ → List ℕ → Type 0
 BeginsShown lines limits log front =
     (v : Verdict) × (left : List ℕ) × IsShown lines limits log v (front ++ left)
+
+-- **what `show` answers and writes**
+abbrev pub Showed : Lines → Bounds → Ports → Result Outcome RunFault → Type 0
+Showed lines limits io result =
+    Judges limits io (IsVerdict limits) (IsShown lines limits) (BeginsShown lines limits) result
 
 -- **One verdict is shown of a log, and with lines of one kind one output**
 abbrev pub OneShown : Type 0

@@ -1,12 +1,32 @@
 -- The answers of the code for a text, in the words of the definitions.
-use Rattle.std.specs.Prelude.{chars, string_bytes}
+use Rattle.std.specs.Prelude.{◌≡◌, ℕ, List, Result, Err, IfOk, chars, string_bytes}
+use Rattle.lsp_frame.specs.Bounds.{Bounds}
 use Rattle.lsp_judge.specs.declared.text_answer.TextAnswer as code
 use Rattle.lsp_judge.specs.declared.text_answer.TextAnswer.TheVariants as answers
 use Rattle.lsp_verdict.specs.Given.{verdict_view}
+use Rattle.lsp_judge.specs.Ports.{CountsFaults, IsSilent, OutputFor, Ports}
 use Rattle.lsp_verdict.specs.Shown.{TextAnswer, text_is, no_document, too_few, refused}
+use Rattle.lsp_verdict.specs.TextAfter.{BeginsText, IsText}
+use Rattle.lsp_verdict.specs.declared.outcome.Outcome.{Outcome}
+use Rattle.lsp_verdict.specs.declared.outcome.RunFault.{RunFault}
+use Rattle.lsp_verdict.specs.declared.outcome.RunFault.TheVariants.{Memory, Read, Write}
 
 abbrev pub answer_view : code.TextAnswer → TextAnswer
 answer_view (answers.Text text) = text_is (chars (string_bytes text))
 answer_view answers.NoDocument = no_document
 answer_view answers.TooFew = too_few
 answer_view (answers.Refused v) = refused (verdict_view v)
+
+-- **what `text` answers and writes** for the URI after the editor's message of the number
+pub record WritesText (limits : Bounds) (io : Ports) (number : ℕ) (uri : List ℕ)
+    (result : Result Outcome RunFault) : Type 0 where
+  -- What is due for that text of the log read, however that goes on where its end was not met, is
+  -- written, and nothing else; the outcome is the one that is due.
+  pub written : IfOk result (λ outcome.
+      OutputFor limits io (λ log out. IsText limits log number uri out outcome))
+  -- After a read fault or for want of memory nothing is written, after a write fault a prefix of
+  -- what is due.
+  pub read_fault : result ≡ Err Read → IsSilent io
+  pub memory : result ≡ Err Memory → IsSilent io
+  pub write_fault : result ≡ Err Write → OutputFor limits io (λ log. BeginsText limits log number uri)
+  pub counts : CountsFaults limits io result

@@ -11,18 +11,28 @@ use Rattle.lsp_log.specs.Reader.{ahead}
 use Rattle.lsp_log.specs.Records.{record_view}
 use Rattle.lsp_verdict.specs.Entries.{IsAt, EntryIs}
 use Rattle.lsp_verdict.specs.Given.{verdict_view}
-use Rattle.lsp_verdict.specs.Outcome.{format_or_one}
+use Rattle.lsp_verdict.specs.Outcome.{IsVerdict, format_or_one}
+use Rattle.lsp_judge.specs.Ports.{Ports}
 use Rattle.lsp_verdict.specs.RunIo.{OfRead, failures_after, sink_failures_after}
+use Rattle.lsp_judge.specs.Runs.{Judges}
 use Rattle.lsp_verdict.specs.Upgraded.{upgraded, IsUpgraded, BeginsUpgraded}
 use Rattle.lsp_verdict.specs.Verdict.{Verdict}
 use Rattle.lsp_verdict.specs.declared.entry.Entry.{Entry}
 use Rattle.lsp_verdict.specs.declared.entry.Entry.TheVariants as entries
+use Rattle.lsp_verdict.specs.declared.outcome.Outcome.{Outcome}
 use Rattle.lsp_verdict.specs.declared.outcome.RunFault.{RunFault}
 use Rattle.lsp_verdict.specs.declared.outcome.RunFault.TheVariants as faults
 use Rattle.lsp_verdict.specs.declared.verdict.Verdict as code
 use Rattle.lsp_judge.specs.Standing.{State, Stands}
 use Rattle.lsp_judge.specs.declared.upgrade.Accepted.{Accepted}
 use Rattle.lsp_judge.specs.declared.upgrade.Accepted.TheVariants as accepted
+
+-- ---- a log
+
+-- **what `upgrade` answers and writes**
+abbrev pub UpgradesLog : Bounds → Ports → Result Outcome RunFault → Type 0
+UpgradesLog limits io result =
+    Judges limits io (IsVerdict limits) (IsUpgraded limits) (BeginsUpgraded limits) result
 
 -- ---- one record
 

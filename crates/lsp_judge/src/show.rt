@@ -1,16 +1,11 @@
 //! Shows a log: a line for each event, and the report.
-ghost use Rattle.std.specs.Prelude.{◌≡◌, ℕ, ◌+◌, List, [], ◌∷◌, ◌++◌, Ok, IfOk, OnErr};
-ghost use Rattle.std.specs.Io.KnownBytes.{IsAtEnd};
+ghost use Rattle.std.specs.Prelude.{◌≡◌, List, [], ◌∷◌, ◌++◌};
 ghost use Rattle.lsp_frame.specs.Bounds.{IsInRange};
-ghost use Rattle.lsp_frame.specs.Told.{Took};
 ghost use Rattle.lsp_verdict.specs.Counting.{AreCounts};
 ghost use Rattle.lsp_verdict.specs.Event.{Event};
-ghost use Rattle.lsp_verdict.specs.Given.{verdict_view};
-ghost use Rattle.lsp_verdict.specs.Outcome.{IsVerdict};
-ghost use Rattle.lsp_verdict.specs.RunIo.{OfRead, GaveAtMost, source_failures, sink_failures};
 ghost use Rattle.lsp_verdict.specs.Verdict as spec;
 ghost use Rattle.lsp_events.specs.Lines.{IsHeard};
-ghost use Rattle.lsp_judge.specs.ShownLog.{Shows, IsShown, BeginsShown, IsPlace};
+ghost use Rattle.lsp_judge.specs.ShownLog.{IsPlace, Showed, Shows};
 
 use crate::contents::hear;
 use crate::event_reader::EventReader;
@@ -18,7 +13,7 @@ use lsp_events::{Heard, Place, write_event_line};
 use lsp_frame::{Limits, Sink, Source, put_all};
 use lsp_streams::Next;
 use lsp_verdict::{
-    Completeness, Counts, Lines, Outcome, RunFault, Summary, Verdict, Who, report_of, who_of,
+    Completeness, Counts, Lines, Outcome, RunFault, Verdict, Who, report_of, who_of,
 };
 use std::alloc::Global;
 
@@ -37,30 +32,12 @@ pub fn run_show<R: Source, W: Sink>(
     writer: &mut W,
     limits: Limits,
 ) -> Result<Outcome, RunFault>
-    // The answer is the verdict on the log read, however that goes on where its end was not met.
-    ensures judged { IfOk result (λ outcome. (v : Verdict) × (outcome ≡ Outcome.Judged v)) }
-    ensures verdict { (v : Verdict) → result ≡ Ok (Outcome.Judged v)
-        → OfRead limits (R.told reader.old) (R.told reader.new)
-        (λ log. IsVerdict limits log (verdict_view v)) }
-    // What is due for that log is written, and nothing else.
-    ensures shown { (v : Verdict) → result ≡ Ok (Outcome.Judged v)
-        → (out : List ℕ) × Took (W.told writer.old) (W.told writer.new) out
-        × OfRead limits (R.told reader.old) (R.told reader.new)
-        (λ log. IsShown Lines.Short limits log (verdict_view v) out) }
-    // Yes is answered only where the end was met.
-    ensures ended { (s : Summary) → result ≡ Ok (Outcome.Judged (Verdict.Yes s))
-        → IsAtEnd (R.told reader.new).bytes }
-
-    // What is written before a fault begins what is due for the log.
-    ensures fault { OnErr result ((out : List ℕ) × Took (W.told writer.old) (W.told writer.new) out
-        × OfRead limits (R.told reader.old) (R.told reader.new)
-        (λ log. BeginsShown Lines.Short limits log out)) }
-    ensures source_failures { (R.told reader.new).failures
-        ≡ source_failures result (R.told reader.old).failures }
-    ensures sink_failures { (W.told writer.new).failures
-        ≡ sink_failures result (W.told writer.old).failures }
-    // At most one byte past the limit is read.
-    ensures limit { GaveAtMost (limits.log + 1) (R.told reader.old) (R.told reader.new) }
+    ensures showed { Showed Lines.Short limits (record {
+      source_before = R.told reader.old;
+      source_after = R.told reader.new;
+      sink_before = W.told writer.old;
+      sink_after = W.told writer.new;
+    }) result }
 {
     show(alloc, reader, writer, limits, Lines::Short)
 }
@@ -77,30 +54,12 @@ pub fn run_show_long<R: Source, W: Sink>(
     writer: &mut W,
     limits: Limits,
 ) -> Result<Outcome, RunFault>
-    // The answer is the verdict on the log read, however that goes on where its end was not met.
-    ensures judged { IfOk result (λ outcome. (v : Verdict) × (outcome ≡ Outcome.Judged v)) }
-    ensures verdict { (v : Verdict) → result ≡ Ok (Outcome.Judged v)
-        → OfRead limits (R.told reader.old) (R.told reader.new)
-        (λ log. IsVerdict limits log (verdict_view v)) }
-    // What is due for that log is written, and nothing else.
-    ensures shown { (v : Verdict) → result ≡ Ok (Outcome.Judged v)
-        → (out : List ℕ) × Took (W.told writer.old) (W.told writer.new) out
-        × OfRead limits (R.told reader.old) (R.told reader.new)
-        (λ log. IsShown Lines.Long limits log (verdict_view v) out) }
-    // Yes is answered only where the end was met.
-    ensures ended { (s : Summary) → result ≡ Ok (Outcome.Judged (Verdict.Yes s))
-        → IsAtEnd (R.told reader.new).bytes }
-
-    // What is written before a fault begins what is due for the log.
-    ensures fault { OnErr result ((out : List ℕ) × Took (W.told writer.old) (W.told writer.new) out
-        × OfRead limits (R.told reader.old) (R.told reader.new)
-        (λ log. BeginsShown Lines.Long limits log out)) }
-    ensures source_failures { (R.told reader.new).failures
-        ≡ source_failures result (R.told reader.old).failures }
-    ensures sink_failures { (W.told writer.new).failures
-        ≡ sink_failures result (W.told writer.old).failures }
-    // At most one byte past the limit is read.
-    ensures limit { GaveAtMost (limits.log + 1) (R.told reader.old) (R.told reader.new) }
+    ensures showed { Showed Lines.Long limits (record {
+      source_before = R.told reader.old;
+      source_after = R.told reader.new;
+      sink_before = W.told writer.old;
+      sink_after = W.told writer.new;
+    }) result }
 {
     show(alloc, reader, writer, limits, Lines::Long)
 }
@@ -114,24 +73,12 @@ fn show<R: Source, W: Sink>(
     limits: Limits,
     lines: Lines,
 ) -> Result<Outcome, RunFault>
-    ensures judged { IfOk result (λ outcome. (v : Verdict) × (outcome ≡ Outcome.Judged v)) }
-    ensures verdict { (v : Verdict) → result ≡ Ok (Outcome.Judged v)
-        → OfRead limits (R.told reader.old) (R.told reader.new)
-        (λ log. IsVerdict limits log (verdict_view v)) }
-    ensures shown { (v : Verdict) → result ≡ Ok (Outcome.Judged v)
-        → (out : List ℕ) × Took (W.told writer.old) (W.told writer.new) out
-        × OfRead limits (R.told reader.old) (R.told reader.new)
-        (λ log. IsShown lines limits log (verdict_view v) out) }
-    ensures ended { (s : Summary) → result ≡ Ok (Outcome.Judged (Verdict.Yes s))
-        → IsAtEnd (R.told reader.new).bytes }
-    ensures fault { OnErr result ((out : List ℕ) × Took (W.told writer.old) (W.told writer.new) out
-        × OfRead limits (R.told reader.old) (R.told reader.new)
-        (λ log. BeginsShown lines limits log out)) }
-    ensures source_failures { (R.told reader.new).failures
-        ≡ source_failures result (R.told reader.old).failures }
-    ensures sink_failures { (W.told writer.new).failures
-        ≡ sink_failures result (W.told writer.old).failures }
-    ensures limit { GaveAtMost (limits.log + 1) (R.told reader.old) (R.told reader.new) }
+    ensures showed { Showed lines limits (record {
+      source_before = R.told reader.old;
+      source_after = R.told reader.new;
+      sink_before = W.told writer.old;
+      sink_after = W.told writer.new;
+    }) result }
 {
     let verdict = show_log(alloc, reader, writer, limits, lines)?;
     let report = report_of(alloc, &verdict)?;

@@ -1,9 +1,8 @@
 //! The text that is held after a message of the editor's.
-ghost use Rattle.std.specs.Prelude.{◌≡◌, ◌<◌, ◌+◌, ℕ, List, Err, IfOk};
-ghost use Rattle.lsp_frame.specs.Told.{Took};
-ghost use Rattle.lsp_verdict.specs.RunIo.{OfRead, GaveAtMost, source_failures, sink_failures};
-ghost use Rattle.lsp_verdict.specs.TextAfter.{AnswersText, BeginsText, IsText};
-ghost use Rattle.lsp_judge.specs.TextAnswers.{answer_view};
+ghost use Rattle.std.specs.Prelude.{◌≡◌, ◌<◌, ◌+◌, Err, IfOk};
+ghost use Rattle.lsp_verdict.specs.RunIo.{OfRead, GaveAtMost, source_failures};
+ghost use Rattle.lsp_verdict.specs.TextAfter.{AnswersText};
+ghost use Rattle.lsp_judge.specs.TextAnswers.{WritesText, answer_view};
 ghost use Rattle.lsp_judge.specs.LogEvents.{GivesText};
 
 use crate::contents::hear;
@@ -85,27 +84,12 @@ pub fn run_text<R: Source, W: Sink>(
     uri: &str,
 ) -> Result<Outcome, RunFault>
     requires { 0 < number }
-    // What is due for that text of the log read, however that goes on where its end was not met, is
-    // written, and nothing else; the outcome is the one that is due.
-    ensures written { IfOk result (λ outcome. (out : List ℕ)
-        × Took (W.told writer.old) (W.told writer.new) out
-        × OfRead limits (R.told reader.old) (R.told reader.new)
-        (λ log. IsText limits log number uri.now out outcome)) }
-
-    // After a read fault or for want of memory nothing is written, after a write fault a prefix of
-    // what is due.
-    ensures read_fault { result ≡ Err RunFault.Read → W.told writer.new ≡ W.told writer.old }
-    ensures memory { result ≡ Err RunFault.Memory → W.told writer.new ≡ W.told writer.old }
-    ensures write_fault { result ≡ Err RunFault.Write
-        → (out : List ℕ) × Took (W.told writer.old) (W.told writer.new) out
-        × OfRead limits (R.told reader.old) (R.told reader.new)
-        (λ log. BeginsText limits log number uri.now out) }
-    ensures source_failures { (R.told reader.new).failures
-        ≡ source_failures result (R.told reader.old).failures }
-    ensures sink_failures { (W.told writer.new).failures
-        ≡ sink_failures result (W.told writer.old).failures }
-    // At most one byte past the limit is read.
-    ensures limit { GaveAtMost (limits.log + 1) (R.told reader.old) (R.told reader.new) }
+    ensures text { WritesText limits (record {
+      source_before = R.told reader.old;
+      source_after = R.told reader.new;
+      sink_before = W.told writer.old;
+      sink_after = W.told writer.new;
+    }) number uri.now result }
 {
     match text_after(alloc, reader, limits, number, uri)? {
         TextAnswer::Text(text) => {

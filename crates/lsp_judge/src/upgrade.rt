@@ -1,25 +1,21 @@
 //! Writes a log again in format 2.
-ghost use Rattle.std.specs.Prelude.{◌≡◌, ℕ, ◌+◌, List, [], None, Ok, IfOk, OnErr};
-ghost use Rattle.std.specs.Io.KnownBytes.{IsAtEnd};
+ghost use Rattle.std.specs.Prelude.{◌≡◌, List, [], None, IfOk};
 ghost use Rattle.lsp_frame.specs.Bounds.{Bounds, IsInRange};
-ghost use Rattle.lsp_frame.specs.Told.{Told, Took};
-ghost use Rattle.lsp_verdict.specs.Given.{verdict_view};
+ghost use Rattle.lsp_frame.specs.Told.{Told};
 ghost use Rattle.lsp_verdict.specs.Entries.{IsRecord};
-ghost use Rattle.lsp_verdict.specs.Outcome.{IsVerdict, format_or_one};
-ghost use Rattle.lsp_verdict.specs.RunIo.{OfRead, GaveAtMost, source_failures, sink_failures};
-ghost use Rattle.lsp_verdict.specs.Upgraded.{IsUpgraded, BeginsUpgraded};
+ghost use Rattle.lsp_verdict.specs.Outcome.{format_or_one};
 ghost use Rattle.lsp_log.specs.Log as log;
 ghost use Rattle.lsp_log.specs.Reader as reader;
 ghost use Rattle.lsp_log.specs.Records.{record_view};
 ghost use Rattle.lsp_judge.specs.Standing.{Stands};
-ghost use Rattle.lsp_judge.specs.UpgradedLog.{Accepts, IfAccepted, IsNext, Upgrades};
+ghost use Rattle.lsp_judge.specs.UpgradedLog.{Accepts, IfAccepted, IsNext, Upgrades, UpgradesLog};
 
 use crate::judge::Judge;
 use lsp_frame::{Format, Limits, Sink, Source};
 use lsp_lined::Lined;
 use lsp_log::{LogReader, Record, write_head_of, write_record};
 use lsp_rpc::Memory;
-use lsp_verdict::{Entry, Outcome, RunFault, Summary, Verdict, next_entry};
+use lsp_verdict::{Entry, Outcome, RunFault, Verdict, next_entry};
 use std::alloc::Global;
 
 /// A log that is read record by record, and the judge of these.
@@ -75,30 +71,12 @@ pub fn run_upgrade<R: Source, W: Sink>(
     writer: &mut W,
     limits: Limits,
 ) -> Result<Outcome, RunFault>
-    // The answer is the verdict on the log read, however that goes on where its end was not met.
-    ensures judged { IfOk result (λ outcome. (v : Verdict) × (outcome ≡ Outcome.Judged v)) }
-    ensures verdict { (v : Verdict) → result ≡ Ok (Outcome.Judged v)
-        → OfRead limits (R.told reader.old) (R.told reader.new)
-        (λ log. IsVerdict limits log (verdict_view v)) }
-    // The upgrade of that log is written, and nothing else.
-    ensures written { (v : Verdict) → result ≡ Ok (Outcome.Judged v)
-        → (out : List ℕ) × Took (W.told writer.old) (W.told writer.new) out
-        × OfRead limits (R.told reader.old) (R.told reader.new)
-        (λ log. IsUpgraded limits log (verdict_view v) out) }
-    // Yes is answered only where the end was met.
-    ensures ended { (s : Summary) → result ≡ Ok (Outcome.Judged (Verdict.Yes s))
-        → IsAtEnd (R.told reader.new).bytes }
-
-    // What is written before a fault begins the upgrade of the log read.
-    ensures fault { OnErr result ((out : List ℕ) × Took (W.told writer.old) (W.told writer.new) out
-        × OfRead limits (R.told reader.old) (R.told reader.new)
-        (λ log. BeginsUpgraded limits log out)) }
-    ensures source_failures { (R.told reader.new).failures
-        ≡ source_failures result (R.told reader.old).failures }
-    ensures sink_failures { (W.told writer.new).failures
-        ≡ sink_failures result (W.told writer.old).failures }
-    // At most one byte past the limit is read.
-    ensures limit { GaveAtMost (limits.log + 1) (R.told reader.old) (R.told reader.new) }
+    ensures upgraded { UpgradesLog limits (record {
+      source_before = R.told reader.old;
+      source_after = R.told reader.new;
+      sink_before = W.told writer.old;
+      sink_after = W.told writer.new;
+    }) result }
 {
     let verdict = upgrade_log(alloc, reader, writer, limits)?;
     Ok(Outcome::Judged(verdict))

@@ -1,17 +1,14 @@
 -- What a tape holds after it was read into and given from.
 use Rattle.std.proofs.Common.{◌≡◌, Bool, true, false, ℕ, zero, suc, ◌+◌, ◌-◌, ◌<◌, ◌≤◌, List, [], ◌∷◌, ◌++◌, length, take, drop, refl, sym, ap, subst, ◌∙◌, append_assoc, append-nil, arith}
-use Rattle.std.proofs.lemmas.List.{length-append, length-take, length-drop, take_at}
+use Rattle.std.proofs.lemmas.List.{length-append, length-take}
 use borrow.Rule.Slice.PartMut.{put_mid}
 use Rattle.lsp_frame.specs.Told.{Told, KeepsBytes, after_failure}
-use Rattle.lsp_frame.proofs.Telling.{gave_then, gave_kept}
-use Rattle.lsp_frame.proofs.Pulls.{take_written}
+use Rattle.lsp_frame.proofs.Telling.{gave_then, gave_kept, take_written}
 use Rattle.memchr.specs.Find.{Passes, Nowhere, NoneBefore, is_byte}
 use Rattle.lsp_log.specs.Log.{HasLine, holds_feed}
 use Rattle.lsp_log.proofs.Bytes.{first_cut, nowhere_none}
 use Rattle.std.specs.Prelude.{slice_index, ◌==◌}
-use Rattle.std.proofs.lemmas.List.{nil_from_length, take_all, take-append-drop}
-use Rattle.std.proofs.lemmas.Bool.{cases_lt}
-use Rattle.std.proofs.Common.{inl, inr}
+use Rattle.std.proofs.lemmas.List.{nil_from_length}
 use Rattle.std.proofs.lemmas.Map.Views.{exact_unsigned_eq}
 use Rattle.lsp_log.specs.Log.{with_feed}
 use Rattle.lsp_log.specs.Tape.{Held, Pulled, IsOver, ReadFailed, FailsShort, Filled, Taken, Wants, Misses}
@@ -92,21 +89,6 @@ line_found near rest at same short none is =
 pub no_line : (near rest : List ℕ) → near ≡ rest → Nowhere (Passes (is_byte 10) near) 0 (length near) → holds_feed rest ≡ false
 no_line near rest same nowhere = subst (λ (w : List ℕ). holds_feed w ≡ false) same (nowhere_none 10 near nowhere)
 
--- ---- a buffer
-
-pub buffer_more : (start now next : ℕ) (before mid after : Told) (buffer more : List ℕ) (filled count : ℕ) → filled ≤ length buffer → count ≤ length more
-    → Pulled start now before mid (take filled buffer) → Pulled now next mid after (take count more)
-    → Pulled start next before after (take (filled + count) (put_mid filled (length buffer - filled) buffer more))
-buffer_more start now next before mid after buffer more filled count within fits p q =
-    subst (λ (w : List ℕ). Pulled start next before after w)
-    (sym (take_written (take filled buffer) more _ filled count (omega (arith, length-take filled buffer, within)) fits))
-    (pulled_then start now next before mid after (take filled buffer) (take count more) p q)
-
-pub written_fits : (buffer more : List ℕ) (filled count : ℕ) → filled ≤ length buffer → count ≤ length more → filled + count ≤ length (put_mid filled (length buffer - filled) buffer more)
-written_fits buffer more filled count within fits =
-    let rest = drop (length buffer - filled) (drop filled buffer) in
-    omega (arith, length-append (take filled buffer) (more ++ rest), length-append more rest, length-take filled buffer, within, fits)
-
 pub nothing_more : (b c : Held) (now after : Told) (y : List ℕ) → Filled b c now after y → length y ≡ 0 → b.rest ≡ c.rest
 nothing_more b c now after y f none = sym (f.rest ∙ ap (λ (w : List ℕ). b.rest ++ w) (nil_from_length y none) ∙ append-nil b.rest)
 
@@ -165,54 +147,6 @@ part_misses a c before after given len t is some short differ = record {
 pub some_there : (near rest : List ℕ) → near ≡ rest → (length near == 0) ≡ false → 0 < length rest
 some_there [] rest same some = absurd cc
 some_there (x ∷ near) rest same some = omega (arith, ap length (sym same))
-
--- ---- bytes from the window, and then from the reader
-
-vec_written : (d buffer tail : List ℕ) (held len : ℕ) → length d ≡ len → held ≤ len → length buffer ≡ len - held
-    → take len ((take held d ++ (buffer ++ drop (length d - held) (drop held d))) ++ tail) ≡ take held d ++ buffer
-vec_written d buffer tail held len full within is =
-    let none : drop (length d - held) (drop held d) ≡ [] = nil_from_length (drop (length d - held) (drop held d)) (omega (arith, length-drop (length d - held) (drop held d), length-drop held d)) in
-    let front : take held d ++ (buffer ++ drop (length d - held) (drop held d)) ≡ take held d ++ buffer = ap (λ (w : List ℕ). take held d ++ (buffer ++ w)) none ∙ ap (λ (w : List ℕ). take held d ++ w) (append-nil buffer) in
-    ap (λ (w : List ℕ). take len (w ++ tail)) front ∙ take_at (take held d ++ buffer) tail len (omega (arith, length-append (take held d) buffer, length-take held d, full, within, is))
-
-front_then : (rest buffer : List ℕ) (held len : ℕ) → held ≤ len → held ≤ length rest → (held < len → held ≡ length rest) → length buffer ≡ len - held → rest ++ buffer ≡ (take held rest ++ buffer) ++ drop held rest
-front_then rest buffer held len a b c is = elim (cases_lt held len) [
-  | inl less ↦
-      let all : take held rest ≡ rest = take_all held rest (omega (arith, c less)) in
-      let none : drop held rest ≡ [] = nil_from_length (drop held rest) (omega (arith, length-drop held rest, c less)) in
-      sym (append-nil (rest ++ buffer)) ∙ ap (λ (w : List ℕ). (w ++ buffer) ++ []) (sym all) ∙ ap (λ (w : List ℕ). (take held rest ++ buffer) ++ w) (sym none)
-  | inr from ↦
-      let none : buffer ≡ [] = nil_from_length buffer (omega (arith, is, from)) in
-      ap (λ (w : List ℕ). rest ++ w) none ∙ append-nil rest ∙ sym (take-append-drop held rest) ∙ ap (λ (w : List ℕ). w ++ drop held rest) (sym (append-nil (take held rest)) ∙ ap (λ (w : List ℕ). take held rest ++ w) (sym none))
-]
-
--- the vector holds the front of what was held, and then what was read
-pub took_all : (old new : Held) (before after : Told) (d buffer tail : List ℕ) (held len count : ℕ) → length d ≡ len → held ≤ len → held ≤ length old.rest → (held < len → held ≡ length old.rest)
-    → take held d ≡ take held old.rest → length buffer ≡ len - held → count ≤ length buffer → len ≤ held + count → new.rest ≡ drop held old.rest → Pulled old.left new.left before after (take count buffer)
-    → Taken old new before after (take len ((take held d ++ (buffer ++ drop (length d - held) (drop held d))) ++ tail)) × (length (take len ((take held d ++ (buffer ++ drop (length d - held) (drop held d))) ++ tail)) ≡ len)
-took_all old new before after d buffer tail held len count full within near all same is fits enough rest pulled =
-    let written : take len ((take held d ++ (buffer ++ drop (length d - held) (drop held d))) ++ tail) ≡ take held old.rest ++ buffer = vec_written d buffer tail held len full within is ∙ ap (λ (w : List ℕ). w ++ buffer) same in
-    let whole : take count buffer ≡ buffer = take_all count buffer (omega (arith, is, enough)) in (
-      record {
-        piece = buffer;
-        pulled = subst (λ (w : List ℕ). Pulled old.left new.left before after w) whole pulled;
-        whole = front_then old.rest buffer held len within near all is ∙ ap (λ (w : List ℕ). (take held old.rest ++ buffer) ++ w) (sym rest) ∙ ap (λ (w : List ℕ). w ++ new.rest) (sym written);
-      },
-      ap length written ∙ omega (arith, length-append (take held old.rest) buffer, length-take held old.rest, is, within, near),
-    )
-
--- the vector begins with the front of what was held
-pub same_front : (d resized extended bytes slice rest filler : List ℕ) (held len : ℕ) → d ≡ resized → resized ≡ take len extended ++ filler → extended ≡ bytes ++ slice → bytes ≡ [] → slice ≡ take held rest
-    → held ≤ len → held ≤ length rest → take held d ≡ take held rest
-same_front d resized extended bytes slice rest filler held len a b c none is within inside =
-    let front : extended ≡ take held rest = c ∙ ap (λ (w : List ℕ). w ++ slice) none ∙ is in
-    let short : length (take held rest) ≡ held = omega (arith, length-take held rest, inside) in
-    let all : take len (take held rest) ≡ take held rest = take_all len (take held rest) (omega (arith, short, within)) in
-    ap (take held) (a ∙ b ∙ ap (λ (w : List ℕ). take len w ++ filler) front ∙ ap (λ (w : List ℕ). w ++ filler) all)
-    ∙ take_at (take held rest) filler held short
-
-pub pulled_from : (a b c : ℕ) (before after : Told) (x : List ℕ) → a ≡ b → Pulled a c before after x → Pulled b c before after x
-pulled_from a b c before after x same p = subst (λ (n : ℕ). Pulled n c before after x) same p
 
 pub pulled_to : (a b c : ℕ) (before after : Told) (x : List ℕ) → b ≡ c → Pulled a b before after x → Pulled a c before after x
 pulled_to a b c before after x same p = subst (λ (n : ℕ). Pulled a n before after x) same p

@@ -57,9 +57,16 @@ LineAnswer old new before after (Ok (Some at)) = (piece : List ℕ) × Filled ol
 LineAnswer old new before after (Ok None) = (piece : List ℕ) × Filled old new before after piece × (holds_feed new.rest ≡ false) × (length new.rest < 64 → IsOver new.left after)
 LineAnswer old new before after (Err e) = ReadFailed old.left before after
 
-abbrev pub BufferAnswer : {E : Type 0} → ℕ → ℕ → Told → Told → List ℕ → Result ℕ E → Type 0
-BufferAnswer left_old left_new before after buffer (Ok n) = Pulled left_old left_new before after (take n buffer) × (n < length buffer → IsOver left_new after)
-BufferAnswer left_old left_new before after buffer (Err e) = ReadFailed left_old before after
+-- the bytes grew by a piece that the reader gave
+pub record Grown (left_old left_new : ℕ) (before after : Told) (old new : List ℕ) : Type 0 where
+  pub piece : List ℕ
+  pub pulled : Pulled left_old left_new before after piece
+  pub items : new ≡ old ++ piece
+
+abbrev pub UpAnswer : {X E : Type 0} → ℕ → ℕ → Told → Told → List ℕ → List ℕ → ℕ → Result X E → Type 0
+UpAnswer left_old left_new before after old new len (Ok x) =
+    Grown left_old left_new before after old new × (length new < len → IsOver left_new after)
+UpAnswer left_old left_new before after old new len (Err e) = ReadFailed left_old before after
 
 -- the bytes held and those read are these, and what the tape holds now
 pub record Taken (old new : Held) (before after : Told) (given : List ℕ) : Type 0 where

@@ -1,7 +1,8 @@
 //! The record at the front of a tape.
 ghost use Rattle.std.specs.Prelude.{◌≡◌, ◌≤◌, length, take, drop, true, IfErr};
 ghost use Rattle.lsp_log.specs.Log.{shown_head};
-ghost use Rattle.lsp_log.specs.Stops.{TextAnswer, FirstAnswer, TwoPartsAnswer, PartsAnswer, FoundAnswer, is_flaw, put_back_at};
+ghost use Rattle.lsp_log.specs.Stops.{TextAnswer, FirstAnswer, TwoPartsAnswer, PartsAnswer};
+ghost use Rattle.lsp_log.specs.Stops.{FoundAnswer, is_flaw, put_back_at};
 ghost use Rattle.lsp_log.specs.Words.{head_view};
 
 use crate::format::{LINE_LEN, format_of};
@@ -44,7 +45,8 @@ fn two_parts<R: Source>(
     second: usize,
 ) -> Result<(Vec<u8>, Vec<u8>), PartFault>
     ensures short { length tape.new.rest ≤ 64 }
-    ensures answer { TwoPartsAnswer tape.old tape.new (R.told reader.old) (R.told reader.new) first second result }
+    ensures answer { TwoPartsAnswer tape.old tape.new
+        (R.told reader.old) (R.told reader.new) first second result }
 {
     let front = tape.part(alloc, reader, first)?;
     let back = tape.part(alloc, reader, second)?;
@@ -61,7 +63,8 @@ fn snapshot<R: Source>(
     text: u64,
 ) -> Result<Record, Stop>
     ensures short { length tape.new.rest ≤ 64 }
-    ensures answer { PartsAnswer tape.old tape.new (R.told reader.old) (R.told reader.new) (shown_head version uri text) result }
+    ensures answer { PartsAnswer tape.old tape.new (R.told reader.old) (R.told reader.new)
+        (shown_head version uri text) result }
 {
     let (uri, text) = two_parts(alloc, tape, reader, uri as usize, text as usize)?;
     let uri = text_of(uri)?;
@@ -77,7 +80,8 @@ fn parts<R: Source>(
     head: Head,
 ) -> Result<Record, Stop>
     ensures short { length tape.new.rest ≤ 64 }
-    ensures answer { PartsAnswer tape.old tape.new (R.told reader.old) (R.told reader.new) (head_view head) result }
+    ensures answer { PartsAnswer tape.old tape.new (R.told reader.old) (R.told reader.new)
+        (head_view head) result }
 {
     match head {
         Head::Bytes { side, len } => {
@@ -113,8 +117,10 @@ fn record_behind<R: Source>(
     requires within { len ≤ length tape.old.rest }
     requires near { len ≤ 64 }
     ensures short { length tape.new.rest ≤ 64 }
-    ensures line { IfErr result (λ stop. is_flaw stop ≡ true → tape.new.rest ≡ take len tape.old.rest) }
-    ensures answer { PartsAnswer (record tape.old { rest = drop len tape.old.rest }) tape.new (R.told reader.old) (R.told reader.new) (head_view head) result }
+    ensures line { IfErr result
+        (λ stop. is_flaw stop ≡ true → tape.new.rest ≡ take len tape.old.rest) }
+    ensures answer { PartsAnswer (record tape.old { rest = drop len tape.old.rest }) tape.new
+        (R.told reader.old) (R.told reader.new) (head_view head) result }
 {
     let mut line = [0; WINDOW];
     line[..len].copy_from_slice(&tape.near()[..len]);
@@ -137,7 +143,8 @@ pub(crate) fn record<R: Source>(
     reader: &mut R,
 ) -> Result<Record, Stop>
     ensures short { length tape.new.rest ≤ 64 }
-    ensures answer { FoundAnswer limits.now tape.old tape.new (R.told reader.old) (R.told reader.new) result }
+    ensures answer { FoundAnswer limits.now tape.old tape.new
+        (R.told reader.old) (R.told reader.new) result }
 {
     let Some(end) = tape.line(reader)? else {
         return match tape.near().len() {

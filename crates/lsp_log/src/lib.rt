@@ -2,10 +2,10 @@
 //!
 //! A log is a first line that names its format, `lsp-session 1` or `lsp-session 2`, and then
 //! records, the same in both formats, in the order in which the editor wrote and read. A record is
-//! what the editor wrote (`E n`, a line end, n bytes, a line end), what it read (`S n` and the same),
-//! or a text that it showed (`T v a b`, a line end, a bytes of the URI, a line end, b bytes of the
-//! text, a line end; v is the version). Line ends are LF, words are separated by one space, and
-//! numbers are decimal without leading zeros. The formats are this project's own.
+//! what the editor wrote (`E n`, a line end, n bytes, a line end), what it read (`S n` and the
+//! same), or a text that it showed (`T v a b`, a line end, a bytes of the URI, a line end, b bytes
+//! of the text, a line end; v is the version). Line ends are LF, words are separated by one space,
+//! and numbers are decimal without leading zeros. The formats are this project's own.
 #![tactic(auto)]
 
 mod fault;

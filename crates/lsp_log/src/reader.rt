@@ -2,7 +2,9 @@
 ghost use Rattle.std.specs.Prelude.{◌≡◌, ◌<◌, ◌≤◌, ℕ, List, [], None, IfOk, IfSome, length};
 ghost use Rattle.lsp_log.specs.Log as log;
 ghost use Rattle.lsp_log.specs.Place.{place_of, line_of, shown_bytes, found_behind};
-ghost use Rattle.lsp_log.specs.Reader.{empty, ahead, passed, shown_by, IsBad, kept_by, keeps_of, RepeatsKept, TellsFormat, KeepsFormat, Gives, StandsFor, answer_of};
+ghost use Rattle.lsp_log.specs.Reader.{empty, ahead, passed, shown_by, IsBad, kept_by, keeps_of};
+ghost use Rattle.lsp_log.specs.Reader.{RepeatsKept, TellsFormat, KeepsFormat, Gives, StandsFor};
+ghost use Rattle.lsp_log.specs.Reader.{answer_of};
 ghost use Rattle.lsp_log.specs.Ending.{StartAnswer, FindAnswer, EndAnswer, fault_of};
 
 use crate::fault::{LogCode, LogFault};
@@ -27,8 +29,8 @@ pub(crate) enum Progress {
 
 /// Gives the records of a log one after another.
 ///
-/// It reads at most 64 bytes past the record that it gives, or past the bytes that show a fault, and
-/// of a log that is over its limit one byte past the limit.
+/// It reads at most 64 bytes past the record that it gives, or past the bytes that show a fault,
+/// and of a log that is over its limit one byte past the limit.
 #[derive(Drop)]
 pub struct LogReader {
     alloc: Global,
@@ -46,7 +48,14 @@ impl Model for LogReader {
 
     ghost Value = { State };
 
-    ghost view = { λ a. record { limits = a.limits; tape = a.tape; progress = a.progress; format = a.format; given = a.given; place = a.place } };
+    ghost view = { λ a. record {
+      limits = a.limits;
+      tape = a.tape;
+      progress = a.progress;
+      format = a.format;
+      given = a.given;
+      place = a.place;
+    } };
 
     ghost invariant = { λ a. FitsProgress a.progress a.format };
 }
@@ -81,8 +90,8 @@ impl LogReader {
     /// given. Behind a fault the bad record begins there; 0 where the first line is missing.
     pub fn place(&self) -> u64
         ensures value { result ≡ self.now.place }
-        ensures stands { (bytes : List ℕ) (records : List log.Record) → StandsFor self.now bytes records →
-            result ≡ place_of self.now.format records }
+        ensures stands { (bytes : List ℕ) (records : List log.Record) →
+            StandsFor self.now bytes records → result ≡ place_of self.now.format records }
     {
         self.place
     }
@@ -92,8 +101,9 @@ impl LogReader {
     /// log whose first line is missing. Nothing is read for it.
     pub fn found(&self) -> &[u8]
         ensures value { result.now ≡ shown_by self.now }
-        ensures stands { (bytes : List ℕ) (records : List log.Record) → StandsFor self.now bytes records →
-            IsBad self.now.progress → result.now ≡ found_behind self.now.limits self.now.format records bytes }
+        ensures stands { (bytes : List ℕ) (records : List log.Record) →
+            StandsFor self.now bytes records → IsBad self.now.progress →
+            result.now ≡ found_behind self.now.limits self.now.format records bytes }
     {
         let near = self.tape.near();
         let shown = near.len().min(self.shown_bytes());
@@ -124,7 +134,8 @@ impl LogReader {
         // The limits stay.
         ensures limits { self.new.limits ≡ self.old.limits }
         // A record leaves less to give, so that a caller's loop ends.
-        ensures less { IfOk result (λ answer. IfSome answer (λ _. ahead self.new < ahead self.old)) }
+        ensures less { IfOk result (λ answer.
+            IfSome answer (λ _. ahead self.new < ahead self.old)) }
         // At most 64 bytes behind the record were read.
         ensures near { IfOk result (λ answer. IfSome answer (λ _. length self.new.tape.rest ≤ 64)) }
         // Every answer but a record is kept.
@@ -134,11 +145,13 @@ impl LogReader {
         ensures format { TellsFormat result self.new.format }
         ensures same_format { KeepsFormat self.old.format self.new.format }
         // A kept answer is given again, and nothing is read or changed.
-        ensures kept { RepeatsKept self.old self.new (R.told reader.old) (R.told reader.new) result }
+        ensures kept { RepeatsKept self.old self.new
+            (R.told reader.old) (R.told reader.new) result }
         // Otherwise the reader stands for the bytes read and the records given, this one
         // included, and the answer is that of the log. Where bytes show a fault, at most 64 more
         // were read.
-        ensures gives { kept_by self.old ≡ None → Gives self.old self.new (R.told reader.old) (R.told reader.new) result }
+        ensures gives { kept_by self.old ≡ None
+            → Gives self.old self.new (R.told reader.old) (R.told reader.new) result }
     {
         if let Progress::Over(end) = self.progress {
             return none_of(end);
@@ -162,7 +175,8 @@ impl LogReader {
         requires { kept_by self.old ≡ None }
         ensures limits { self.new.limits ≡ self.old.limits }
         ensures same_format { KeepsFormat self.old.format self.new.format }
-        ensures answer { FindAnswer self.old self.new (R.told reader.old) (R.told reader.new) result }
+        ensures answer { FindAnswer self.old self.new
+            (R.told reader.old) (R.told reader.new) result }
     {
         self.start(reader)?;
         record(self.alloc, &self.limits, &mut self.tape, reader)
@@ -173,7 +187,8 @@ impl LogReader {
         requires { kept_by self.old ≡ None }
         ensures limits { self.new.limits ≡ self.old.limits }
         ensures same_format { KeepsFormat self.old.format self.new.format }
-        ensures answer { StartAnswer self.old self.new (R.told reader.old) (R.told reader.new) result }
+        ensures answer { StartAnswer self.old self.new
+            (R.told reader.old) (R.told reader.new) result }
     {
         let Progress::FirstLine = self.progress else {
             return Ok(());

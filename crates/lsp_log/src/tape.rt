@@ -1,6 +1,8 @@
 //! The bytes of a reader, a few of them looked at before they are given.
-ghost use Rattle.std.specs.Prelude.{◌≡◌, ◌≤◌, ◌-◌, length, take, drop, IfOk, []};
-ghost use Rattle.lsp_log.specs.Tape.{PullAnswer, BufferAnswer, FillAnswer, ReachAnswer, LineAnswer, TakeAnswer, PartAnswer, CutAnswer};
+ghost use Rattle.std.specs.Prelude.{◌≡◌, ◌≤◌, ◌-◌, length, take, drop, IfOk, OnOk, []};
+ghost use Rattle.std.specs.Prelude.{vec_len, vec_capacity};
+ghost use Rattle.lsp_log.specs.Tape.{PullAnswer, UpAnswer, FillAnswer, ReachAnswer, LineAnswer};
+ghost use Rattle.lsp_log.specs.Tape.{TakeAnswer, PartAnswer, CutAnswer};
 
 use lsp_frame::{Failed, Source};
 use memchr::memchr;
@@ -41,7 +43,8 @@ impl From<Failed> for PartFault {
     }
 }
 
-/// The bytes that were read and not given, at most a window of them. They move to the window's front where more is read.
+/// The bytes that were read and not given, at most a window of them. They move to the window's
+/// front where more is read.
 #[derive(Drop)]
 pub(crate) struct Tape {
     near: [u8; WINDOW],
@@ -72,7 +75,8 @@ fn pull_within<R: Source>(
 ) -> Result<usize, Failed>
     ensures len { length buffer.new ≡ length buffer.old }
     ensures count { IfOk result (λ n. n ≤ length buffer.new) }
-    ensures bytes { PullAnswer left.old left.new (R.told reader.old) (R.told reader.new) buffer.new result }
+    ensures bytes { PullAnswer left.old left.new
+        (R.told reader.old) (R.told reader.new) buffer.new result }
 {
     let most = (*left).min(buffer.len() as u64) as usize;
     if most == 0 {
@@ -83,25 +87,32 @@ fn pull_within<R: Source>(
     Ok(count)
 }
 
-/// Reads until the buffer is full or no more can be read, and gives the number of bytes.
-fn fill_buffer<R: Source>(
+/// Appends what is read to the bytes, until there are `len`, for which there is room, or no more
+/// can be read.
+fn fill_up<R: Source>(
     reader: &mut R,
     left: &mut u64,
-    buffer: &mut [u8],
-) -> Result<usize, Failed>
-    ensures len { length buffer.new ≡ length buffer.old }
-    ensures count { IfOk result (λ n. n ≤ length buffer.new) }
-    ensures bytes { BufferAnswer left.old left.new (R.told reader.old) (R.told reader.new) buffer.new result }
+    bytes: &mut Vec<u8>,
+    len: usize,
+) -> Result<(), Failed>
+    requires room { len ≤ vec_capacity bytes.old }
+    requires within { vec_len bytes.old ≤ len }
+    ensures within { OnOk result (length bytes.new.items ≤ len) }
+    ensures bytes { UpAnswer left.old left.new (R.told reader.old) (R.told reader.new)
+        bytes.old.items bytes.new.items len result }
 {
-    let mut filled = 0;
-    while filled < buffer.len() {
-        let count = pull_within(reader, left, &mut buffer[filled..])?;
-        if count == 0 {
-            return Ok(filled);
+    while bytes.len() < len {
+        let most = (*left).min((len - bytes.len()) as u64) as usize;
+        if most == 0 {
+            return Ok(());
         }
-        filled += count;
+        let count = reader.pull_onto(bytes, most)?;
+        if count == 0 {
+            return Ok(());
+        }
+        *left -= count as u64;
     }
-    Ok(filled)
+    Ok(())
 }
 
 /// Moves the bytes between two places to the front.
@@ -162,7 +173,8 @@ impl Tape {
     /// Reads more into the window.
     fn fill<R: Source>(&mut self, reader: &mut R) -> Result<usize, Failed>
         ensures short { length self.new.rest ≤ 64 }
-        ensures answer { FillAnswer self.old self.new (R.told reader.old) (R.told reader.new) result }
+        ensures answer { FillAnswer self.old self.new
+            (R.told reader.old) (R.told reader.new) result }
     {
         to_front(&mut self.near, self.start, self.end);
         self.end -= self.start;
@@ -176,7 +188,8 @@ impl Tape {
     pub(crate) fn reach<R: Source>(&mut self, reader: &mut R, count: usize) -> Result<(), Failed>
         requires { count ≤ 64 }
         ensures short { length self.new.rest ≤ 64 }
-        ensures answer { ReachAnswer self.old self.new (R.told reader.old) (R.told reader.new) count result }
+        ensures answer { ReachAnswer self.old self.new
+            (R.told reader.old) (R.told reader.new) count result }
     {
         while self.near().len() < count {
             if self.fill(reader)? == 0 {
@@ -189,7 +202,8 @@ impl Tape {
     /// Reads until a line end is in the window, and gives its place.
     pub(crate) fn line<R: Source>(&mut self, reader: &mut R) -> Result<Option<usize>, Failed>
         ensures short { length self.new.rest ≤ 64 }
-        ensures answer { LineAnswer self.old self.new (R.told reader.old) (R.told reader.new) result }
+        ensures answer { LineAnswer self.old self.new
+            (R.told reader.old) (R.told reader.new) result }
     {
         loop {
             if let Some(end) = memchr(b'\n', self.near()) {
@@ -212,16 +226,16 @@ impl Tape {
         len: usize,
     ) -> Result<Vec<u8>, PartFault>
         ensures short { length self.new.rest ≤ 64 }
-        ensures answer { TakeAnswer self.old self.new (R.told reader.old) (R.told reader.new) len result }
+        ensures answer { TakeAnswer self.old self.new
+            (R.told reader.old) (R.told reader.new) len result }
     {
         let near = self.near();
         let held = near.len().min(len);
         let mut bytes = Vec::with_capacity(alloc, len)?;
         bytes.extend_from_slice(&near[..held])?;
-        bytes.resize(len, 0)?;
         self.skip(held);
-        let count = fill_buffer(reader, &mut self.left, &mut bytes[held..])?;
-        if held + count < len {
+        fill_up(reader, &mut self.left, &mut bytes, len)?;
+        if bytes.len() < len {
             return Err(PartFault::Short);
         }
         Ok(bytes)
@@ -235,7 +249,8 @@ impl Tape {
         len: usize,
     ) -> Result<Vec<u8>, PartFault>
         ensures short { length self.new.rest ≤ 64 }
-        ensures answer { PartAnswer self.old self.new (R.told reader.old) (R.told reader.new) len result }
+        ensures answer { PartAnswer self.old self.new
+            (R.told reader.old) (R.told reader.new) len result }
     {
         let bytes = self.take(alloc, reader, len)?;
         self.reach(reader, 1)?;
@@ -250,7 +265,8 @@ impl Tape {
         Ok(bytes)
     }
 
-    /// Whether a byte stands behind all that may be read. It reads that byte, where no other may be read.
+    /// Whether a byte stands behind all that may be read. It reads that byte, where no other may be
+    /// read.
     pub(crate) fn is_cut<R: Source>(&self, reader: &mut R) -> Result<bool, Failed>
         ensures { CutAnswer self.now.left (R.told reader.old) (R.told reader.new) result }
     {

@@ -3,7 +3,8 @@ ghost use Rattle.std.specs.Prelude.{◌≡◌, ◌++◌, ◌∷◌, []};
 ghost use Rattle.lsp_frame.specs.Bounds.{profile};
 ghost use Rattle.lsp_frame.specs.Sink.{Writes};
 ghost use Rattle.lsp_frame.specs.declared.format.Format.TheVariants.{One};
-ghost use Rattle.lsp_log.specs.Log.{first_line, spelling, letter, chunk, chunk_head, shown, head_line, shown_head, Fits, with_feed};
+ghost use Rattle.lsp_log.specs.Log.{first_line, spelling, letter, chunk, chunk_head, shown};
+ghost use Rattle.lsp_log.specs.Log.{head_line, shown_head, Fits, with_feed};
 ghost use Rattle.lsp_log.specs.Records.{record_view};
 
 use crate::format::first_line;
@@ -30,7 +31,8 @@ pub fn write_head_of<W: Sink>(writer: &mut W, format: Format) -> Result<(), Writ
 /// written.
 pub fn write_record<W: Sink>(writer: &mut W, entry: &Record) -> Result<(), WriteFault>
     requires { Fits profile (record_view entry.now) }
-    ensures { Writes (W.told writer.old) (W.told writer.new) result (spelling (record_view entry.now)) }
+    ensures { Writes (W.told writer.old) (W.told writer.new) result
+        (spelling (record_view entry.now)) }
 {
     match entry {
         Record::Bytes { side, bytes } => write_chunk(writer, *side, bytes, &[]),
@@ -55,7 +57,8 @@ pub fn write_chunk<W: Sink>(
     front: &[u8],
     back: &[u8],
 ) -> Result<(), WriteFault>
-    ensures { Writes (W.told writer.old) (W.told writer.new) result (spelling (chunk side (front.now ++ back.now))) }
+    ensures { Writes (W.told writer.old) (W.told writer.new) result
+        (spelling (chunk side (front.now ++ back.now))) }
 {
     put_chunk_head(writer, side, front.len() as u64 + back.len() as u64)?;
     put_all(writer, front)?;
@@ -64,21 +67,23 @@ pub fn write_chunk<W: Sink>(
 
 /// Writes the first line of a record of so many bytes.
 fn put_chunk_head<W: Sink>(writer: &mut W, side: Side, len: u64) -> Result<(), WriteFault>
-    ensures { Writes (W.told writer.old) (W.told writer.new) result (with_feed (head_line (chunk_head side len))) }
+    ensures { Writes (W.told writer.old) (W.told writer.new) result
+        (with_feed (head_line (chunk_head side len))) }
 {
     put_all(writer, letter(side))?;
     put_line(writer, Buffer::new().format(len).as_bytes())
 }
 
-/// Writes the record of a snapshot, in the one spelling that a log has for it. After a fault a prefix of that is
-/// written.
+/// Writes the record of a snapshot, in the one spelling that a log has for it. After a fault a
+/// prefix of that is written.
 pub fn write_snapshot<W: Sink>(
     writer: &mut W,
     version: i32,
     uri: &str,
     text: &str,
 ) -> Result<(), WriteFault>
-    ensures { Writes (W.told writer.old) (W.told writer.new) result (spelling (shown version uri.now text.now)) }
+    ensures { Writes (W.told writer.old) (W.told writer.new) result
+        (spelling (shown version uri.now text.now)) }
 {
     put_snapshot_head(writer, version, uri.len(), text.len())?;
     put_line(writer, uri.as_bytes())?;
@@ -92,7 +97,8 @@ fn put_snapshot_head<W: Sink>(
     uri: usize,
     text: usize,
 ) -> Result<(), WriteFault>
-    ensures { Writes (W.told writer.old) (W.told writer.new) result (with_feed (head_line (shown_head version uri text))) }
+    ensures { Writes (W.told writer.old) (W.told writer.new) result
+        (with_feed (head_line (shown_head version uri text))) }
 {
     put_all(writer, b"T ")?;
     put_word(writer, Buffer::new().format(version).as_bytes())?;

@@ -1,1 +1,2 @@
-pub mod SlotLemmas
+mod MapLemmas
+mod OrderLemmas

@@ -1,1 +1,3 @@
-pub mod Slots
+pub mod Lends
+pub mod Places
+pub mod Texts

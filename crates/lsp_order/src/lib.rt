@@ -1,6 +1,8 @@
-//! Keys in the order in which they entered, with entering and leaving at the same cost whatever their number.
+//! A map that keeps its keys in the order in which they entered, with entering and leaving at the
+//! same cost whatever their number.
 #![tactic(auto)]
 
+mod map;
 mod order;
 
-pub use order::Order;
+pub use map::OrderedMap;

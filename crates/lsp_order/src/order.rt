@@ -1,125 +1,109 @@
-//! The keys, in slots in the order of entering, and an index from each key to its slot.
+//! The order in which the keys of a map entered it, by the places of their entries.
 
-ghost use Rattle.std.specs.Prelude.{◌≡◌, ℕ, [], ◌++◌, ◌∷◌, length, filter, is_some, not, true, false, slice_get, slice_set, vec_len, ◌<◌, OnOk, OnErr, Some, None, if◌then◌else◌};
-ghost use Rattle.std.specs.List.{list_any};
-ghost use Rattle.std.specs.Option.{option_copied};
-ghost use Rattle.std.specs.Map.{lookup};
-ghost use Rattle.lsp_order.specs.Slots.{keys_in, key_at, slot_key, AllDiffer, ArePlaces};
+ghost use Rattle.std.specs.Prelude.{◌≡◌, [], ◌++◌, ◌∷◌, ◌+◌, ◌-◌, ◌<◌, length, option_and_then};
+ghost use Rattle.std.specs.Prelude.{slice_get, vec_len, IfSome, OnOk, OnErr};
+ghost use Rattle.lsp_order.specs.Places.{places_in, refilled, without_place, AreTied, IsOrder};
 
-use indexmap::IndexMap;
 use std::alloc::{AllocError, Global};
-use std::hash::Hash;
 use std::marker::Model;
 
-/// Keys in the order in which they entered. A key enters at the end, and may leave at any time; what
-/// that costs does not depend on how many there are. Contracts see the list of the keys.
+/// The places of a map's entries, from 0 on, in the order in which their keys entered. Contracts
+/// see the list of the places.
 #[derive(Drop)]
-pub struct Order<K: Eq + Hash> {
-    /// The keys in order. A key that leaves leaves its slot empty; the empty slots are given up once
-    /// more than half of all are empty.
-    slots: Vec<Option<K>>,
-    /// The slot of each key.
-    places: IndexMap<K, usize>,
-    /// How many slots hold a key.
-    len: usize,
+pub(crate) struct Order {
+    /// The places in order. A key that leaves leaves its slot empty; the empty slots are given up
+    /// once more than half of all are empty.
+    slots: Vec<Option<usize>>,
+    /// The slot of each place.
+    slot_of: Vec<usize>,
 }
 
-impl<K: Eq + Hash> Model for Order<K> {
-    ghost use Rattle.std.specs.Prelude.{List};
-    ghost use Rattle.lsp_order.specs.Slots.{keys_in, IsKept};
+impl Model for Order {
+    ghost use Rattle.std.specs.Prelude.{ℕ, List};
+    ghost use Rattle.lsp_order.specs.Places.{places_in, AreTied};
 
-    ghost Value = { List K };
+    ghost Value = { List ℕ };
 
-    ghost view = { λ o. keys_in o.slots.items };
+    ghost view = { λ o. places_in o.slots.items };
 
-    ghost invariant = { λ o. IsKept K.eq o.slots.items o.places.entries o.len };
+    ghost invariant = { λ o. AreTied o.slots.items o.slot_of.items };
 }
 
-impl<K: Eq + Hash + Drop> Order<K> {
-    /// No keys. Takes no memory until the first enters.
-    pub fn new(alloc: Global) -> Self
-        ensures { result ≡ [] }
+impl Order {
+    /// No places. Takes no memory until the first enters.
+    pub(crate) fn new(alloc: Global) -> Self
+        ensures places { result ≡ [] }
+        ensures order { IsOrder result 0 }
     {
         Order {
             slots: Vec::new(alloc),
-            places: IndexMap::new(alloc),
-            len: 0,
+            slot_of: Vec::new(alloc),
         }
     }
 
-    /// How many keys there are. No two of them are equal.
-    pub fn len(&self) -> usize
-        ensures count { result ≡ length self.now }
-        ensures differ { AllDiffer K.eq self.now }
+    /// The place that stands here in the order, from 0. Where keys have left since the slots were
+    /// last packed, this looks through the slots in front of it.
+    pub(crate) fn at(&self, index: usize) -> Option<usize>
+        ensures { result ≡ slice_get self.now index }
     {
-        self.len
-    }
-
-    /// The key at this place in the order, from 0. Where keys have left since the slots were last
-    /// packed, this looks through the slots in front of it.
-    pub fn at(&self, index: usize) -> Option<&K>
-        ensures { option_copied result ≡ slice_get self.now index }
-    {
-        if self.len == self.slots.len() {
-            key_of(self.slots.as_slice(), index)
+        if self.slots.len() == self.slot_of.len() {
+            place_in(self.slots.as_slice(), index)
         } else {
-            nth_key(self.slots.as_slice(), index)
+            nth_place(self.slots.as_slice(), index)
         }
     }
 
-    /// Lets a new key enter at the end. It is given twice: for its slot and for the index.
-    pub fn push(&mut self, key: K, same: K) -> Result<(), AllocError>
-        requires same { K.eq same key ≡ true }
-        requires new { list_any (K.eq key) self.old ≡ false }
-        ensures ok { OnOk result (self.new ≡ self.old ++ key ∷ []) }
+    /// Lets the next place enter at the end.
+    pub(crate) fn push(&mut self) -> Result<(), AllocError>
+        ensures ok { OnOk result (self.new ≡ self.old ++ length self.old ∷ []) }
+        ensures order { OnOk result (IsOrder self.new (length self.old + 1)) }
         ensures err { OnErr result (self.new ≡ self.old) }
     {
+        let slot = self.slots.len();
+        let place = self.slot_of.len();
         self.slots.reserve(1)?;
-        self.places.insert(same, self.slots.len())?;
-        self.slots.push_reserved(Some(key));
-        self.len += 1;
+        self.slot_of.push(slot)?;
+        self.slots.push_reserved(Some(place));
         Ok(())
     }
 
-    /// Lets a key leave. The others keep their order. Takes no memory.
-    pub fn remove(&mut self, key: &K)
-        ensures { self.new ≡ filter (λ other. not (K.eq key.now other)) self.old }
+    /// Lets a place leave. The last place takes its number, and each keeps where it stands in the
+    /// order. Takes no memory.
+    pub(crate) fn remove(&mut self, place: usize)
+        requires { place < length self.old }
+        ensures places { self.new ≡ without_place place self.old }
+        ensures order { IsOrder self.new (length self.old - 1) }
     {
-        let Some(place) = self.places.swap_remove(key) else {
-            return;
-        };
-        empty(&mut self.slots, place);
-        self.len -= 1;
-        pack_sparse(&mut self.slots, &mut self.places, self.len);
+        let slot = self.slot_of.swap_remove(place);
+        self.slots[slot] = None;
+        refill(&mut self.slots, slot_at(&self.slot_of, place), place);
+        pack_sparse(&mut self.slots, &mut self.slot_of);
     }
 
-    /// Gives up the empty slots, so that [`Order::at`] finds each key at once.
-    pub fn pack(&mut self)
+    /// Gives up the empty slots, so that [`Order::at`] finds each place at once.
+    pub(crate) fn pack(&mut self)
         ensures { self.new ≡ self.old }
     {
-        pack(&mut self.slots, &mut self.places);
+        pack(&mut self.slots, &mut self.slot_of);
     }
 }
 
-/// The key in this slot.
-fn key_of<K>(slots: &[Option<K>], index: usize) -> Option<&K>
-    ensures { option_copied result ≡ key_at slots.now index }
+/// The place in this slot.
+fn place_in(slots: &[Option<usize>], slot: usize) -> Option<usize>
+    ensures { result ≡ option_and_then (λ place. place) (slice_get slots.now slot) }
 {
-    match slots.get(index) {
-        Some(Some(key)) => Some(key),
-        _ => None,
-    }
+    *slots.get(slot)?
 }
 
-/// The key at this place among those in the slots.
-fn nth_key<K>(slots: &[Option<K>], index: usize) -> Option<&K>
-    ensures { option_copied result ≡ slice_get (keys_in slots.now) index }
+/// The place that stands here among those in the slots.
+fn nth_place(slots: &[Option<usize>], index: usize) -> Option<usize>
+    ensures { result ≡ slice_get (places_in slots.now) index }
 {
     let mut before = index;
     for slot in slots {
-        if let Some(key) = slot {
+        if let Some(place) = slot {
             if before == 0 {
-                return Some(key);
+                return Some(*place);
             }
             before -= 1;
         }
@@ -127,58 +111,53 @@ fn nth_key<K>(slots: &[Option<K>], index: usize) -> Option<&K>
     None
 }
 
-/// Empties a slot.
-fn empty<K: Drop>(slots: &mut Vec<Option<K>>, place: usize)
-    requires { place < vec_len slots.old }
-    ensures { slots.new.items ≡ slice_set slots.old.items place None }
+/// The slot of a place.
+fn slot_at(slot_of: &[usize], place: usize) -> Option<usize>
+    ensures { result ≡ slice_get slot_of.now place }
 {
-    slots[place] = None;
+    slot_of.get(place).copied()
+}
+
+/// Puts a place into a slot, where there is a slot.
+fn refill(slots: &mut Vec<Option<usize>>, slot: Option<usize>, place: usize)
+    requires { IfSome slot (λ slot. slot < vec_len slots.old) }
+    ensures { slots.new.items ≡ refilled slot place slots.old.items }
+{
+    if let Some(slot) = slot {
+        slots[slot] = Some(place);
+    }
 }
 
 /// Gives up the empty slots where they are more than half of all.
-fn pack_sparse<K: Eq + Hash + Drop>(
-    slots: &mut Vec<Option<K>>,
-    places: &mut IndexMap<K, usize>,
-    len: usize,
-)
-    requires { ArePlaces K.eq places.old.entries slots.old.items }
-    ensures keys { keys_in slots.new.items ≡ keys_in slots.old.items }
-    ensures places { ArePlaces K.eq places.new.entries slots.new.items }
+fn pack_sparse(slots: &mut Vec<Option<usize>>, slot_of: &mut Vec<usize>)
+    requires { AreTied slots.old.items slot_of.old.items }
+    ensures places { places_in slots.new.items ≡ places_in slots.old.items }
+    ensures tied { AreTied slots.new.items slot_of.new.items }
 {
-    if slots.len() / 2 <= len {
+    if slots.len() / 2 <= slot_of.len() {
         return;
     }
-    pack(slots, places);
+    pack(slots, slot_of);
 }
 
 /// Gives up the empty slots.
-fn pack<K: Eq + Hash + Drop>(slots: &mut Vec<Option<K>>, places: &mut IndexMap<K, usize>)
-    requires { ArePlaces K.eq places.old.entries slots.old.items }
-    ensures keys { keys_in slots.new.items ≡ keys_in slots.old.items }
-    ensures places { ArePlaces K.eq places.new.entries slots.new.items }
+fn pack(slots: &mut Vec<Option<usize>>, slot_of: &mut Vec<usize>)
+    requires { AreTied slots.old.items slot_of.old.items }
+    ensures places { places_in slots.new.items ≡ places_in slots.old.items }
+    ensures tied { AreTied slots.new.items slot_of.new.items }
 {
     slots.retain(|slot| slot.is_some());
-    number(slots.as_slice(), places);
+    number(slots.as_slice(), slot_of);
 }
 
-/// Notes for each key in the slots where it stands.
-fn number<K: Eq + Hash>(slots: &[Option<K>], places: &mut IndexMap<K, usize>)
-    requires { (key : K) → is_some (lookup (K.eq key) places.old.entries) ≡ list_any (K.eq key) (keys_in slots.now) }
-    ensures { ArePlaces K.eq places.new.entries slots.now }
+/// Notes for each place in the slots where it stands.
+fn number(slots: &[Option<usize>], slot_of: &mut Vec<usize>)
+    requires { IsOrder (places_in slots.now) (vec_len slot_of.old) }
+    ensures { AreTied slots.now slot_of.new.items }
 {
-    for (place, slot) in slots.iter().enumerate() {
-        if let Some(key) = slot {
-            note(places, key, place);
+    for (slot, place) in slots.iter().enumerate() {
+        if let Some(place) = place {
+            slot_of[*place] = slot;
         }
     }
-}
-
-/// Notes anew where a key stands.
-fn note<K: Eq + Hash>(places: &mut IndexMap<K, usize>, key: &K, place: usize)
-    requires { is_some (lookup (K.eq key.now) places.old.entries) ≡ true }
-    ensures { (other : K) → lookup (K.eq other) places.new.entries
-        ≡ (if K.eq other key.now then Some place else lookup (K.eq other) places.old.entries) }
-{
-    let held = places.get_mut(key).unwrap();
-    *held = place;
 }

@@ -1,9 +1,12 @@
 -- Sixteen bytes of a text at once: which of them end a run of plain ones, and the run.
-use Rattle.std.proofs.Common.{◌≡◌, ℕ, ◌+◌, ◌%◌, ◌^◌, ◌<◌, ◌≤◌, Bool, true, false, not, ◌||◌, ◌==◌, ltb, cond, eqb, List, [], ◌∷◌, map, length, drop, replicate, refl, sym, ap, ap₂, ◌∙◌, arith}
+use Rattle.std.proofs.Common.{◌≡◌, ℕ, ◌+◌, ◌%◌, ◌^◌, ◌<◌, ◌≤◌, Bool, true, false, not, ◌||◌, ◌==◌}
+use Rattle.std.proofs.Common.{ltb, cond, eqb, List, [], ◌∷◌, map, length, drop, replicate, refl}
+use Rattle.std.proofs.Common.{sym, ap, ap₂, ◌∙◌, arith}
 use Rattle.std.proofs.lemmas.Bool.{eq-eqb, ne_eqb}
 use Rattle.std.proofs.lemmas.List.{length-map, length-drop}
 use Rattle.std.proofs.lemmas.List.Folds.{prefix_len-append}
-use Rattle.std.proofs.lemmas.Simd.{zip2_splat, mask_l-mod, chunk-drop, length-chunk, first_set_mask_l}
+use Rattle.std.proofs.lemmas.Simd.{zip2_splat, mask_l-mod, chunk-drop, length-chunk}
+use Rattle.std.proofs.lemmas.Simd.{first_set_mask_l}
 use Rattle.std.specs.Int.Bits.{bit_or}
 use Rattle.std.specs.Int.Count.{count_trailing_zeros}
 use Rattle.std.specs.List.{prefix_len}
@@ -18,7 +21,8 @@ hit a b = cond (eqb a b) 255 0
 abbrev below : ℕ → ℕ → ℕ
 below a b = cond (ltb a b) 255 0
 
-any_of : (a b e : Bool) → top 7 (bit_or (bit_or (cond a 255 0) (cond b 255 0)) (cond e 255 0)) ≡ (a || b || e)
+any_of : (a b e : Bool) → top 7 (bit_or (bit_or (cond a 255 0) (cond b 255 0)) (cond e 255 0))
+    ≡ (a || b || e)
 any_of true true true = refl
 any_of true true false = refl
 any_of true false true = refl
@@ -29,13 +33,16 @@ any_of false false true = refl
 any_of false false false = refl
 
 lane_by_lane : (v : List ℕ)
-    → map (top 7) (zip2 bit_or (zip2 bit_or (map (λ x. hit x 34) v) (map (λ x. hit x 92) v)) (map (λ x. below x 32) v))
+    → map (top 7) (zip2 bit_or (zip2 bit_or (map (λ x. hit x 34) v) (map (λ x. hit x 92) v))
+    (map (λ x. below x 32) v))
     ≡ map is_stop v
 lane_by_lane [] = refl
-lane_by_lane (x ∷ xs) = ap₂ (λ b bs. b ∷ bs) (any_of (x == 34) (x == 92) (ltb x 32)) (lane_by_lane xs)
+lane_by_lane (x ∷ xs) = ap₂ (λ b bs. b ∷ bs) (any_of (x == 34) (x == 92) (ltb x 32))
+    (lane_by_lane xs)
 
 pub marked : (v : List ℕ) → length v ≡ 16
-    → mask_l (map (top 7) (zip2 bit_or (zip2 bit_or (zip2 hit v (replicate 16 34)) (zip2 hit v (replicate 16 92))) (zip2 below v (replicate 16 32)))) % 2 ^ 64
+    → mask_l (map (top 7) (zip2 bit_or (zip2 bit_or (zip2 hit v (replicate 16 34))
+    (zip2 hit v (replicate 16 92))) (zip2 below v (replicate 16 32)))) % 2 ^ 64
     ≡ mask_l (map is_stop v)
 marked v long =
     let quotes = zip2_splat hit v 16 34 long in
@@ -47,21 +54,26 @@ marked v long =
 
 -- ---- the run
 
-pub none_marked : (v : List ℕ) → length v ≡ 16 → mask_l (map is_stop v) ≡ 0 → 16 ≡ prefix_len is_plain v
+pub none_marked : (v : List ℕ) → length v ≡ 16 → mask_l (map is_stop v) ≡ 0
+    → 16 ≡ prefix_len is_plain v
 none_marked v long none =
-    ap (λ b. cond b 16 (count_trailing_zeros 64 (mask_l (map is_stop v)))) (sym (eq-eqb (mask_l (map is_stop v)) 0 none))
+    ap (λ b. cond b 16 (count_trailing_zeros 64 (mask_l (map is_stop v))))
+    (sym (eq-eqb (mask_l (map is_stop v)) 0 none))
     ∙ first_set_mask_l is_stop v 16 long (omega arith)
 
 pub some_marked : (v : List ℕ) → length v ≡ 16 → (mask_l (map is_stop v) ≡ 0 → ⊥)
     → count_trailing_zeros 64 (mask_l (map is_stop v)) ≡ prefix_len is_plain v
 some_marked v long some =
-    ap (λ b. cond b 16 (count_trailing_zeros 64 (mask_l (map is_stop v)))) (sym (ne_eqb (mask_l (map is_stop v)) 0 some))
+    ap (λ b. cond b 16 (count_trailing_zeros 64 (mask_l (map is_stop v))))
+    (sym (ne_eqb (mask_l (map is_stop v)) 0 some))
     ∙ first_set_mask_l is_stop v 16 long (omega arith)
 
 parted : (d : List ℕ) (i : ℕ) → prefix_len is_plain (drop i d)
     ≡ cond (eqb (prefix_len is_plain (chunk i 16 d)) (length (chunk i 16 d)))
-    (length (chunk i 16 d) + prefix_len is_plain (drop (i + 16) d)) (prefix_len is_plain (chunk i 16 d))
-parted d i = ap (prefix_len is_plain) (chunk-drop i 16 d) ∙ prefix_len-append is_plain (chunk i 16 d) (drop (i + 16) d)
+    (length (chunk i 16 d) + prefix_len is_plain (drop (i + 16) d))
+    (prefix_len is_plain (chunk i 16 d))
+parted d i = ap (prefix_len is_plain) (chunk-drop i 16 d)
+    ∙ prefix_len-append is_plain (chunk i 16 d) (drop (i + 16) d)
 
 -- all sixteen are plain
 pub run_through : (d : List ℕ) (i : ℕ) → i + 16 ≤ length d → prefix_len is_plain (chunk i 16 d) ≡ 16
@@ -69,7 +81,8 @@ pub run_through : (d : List ℕ) (i : ℕ) → i + 16 ≤ length d → prefix_le
 run_through d i room all =
     let c = chunk i 16 d in
     let long = length-chunk i 16 d room in
-    parted d i ∙ ap (λ b. cond b (length c + prefix_len is_plain (drop (i + 16) d)) (prefix_len is_plain c)) (eq-eqb _ _ (all ∙ sym long))
+    parted d i ∙ ap (λ b. cond b (length c + prefix_len is_plain (drop (i + 16) d))
+    (prefix_len is_plain c)) (eq-eqb _ _ (all ∙ sym long))
     ∙ ap (λ k. k + prefix_len is_plain (drop (i + 16) d)) long
 
 -- the run ends among them
@@ -78,5 +91,6 @@ pub run_ends : (d : List ℕ) (i : ℕ) → i + 16 ≤ length d → prefix_len i
 run_ends d i room less =
     let c = chunk i 16 d in
     let long = length-chunk i 16 d room in
-    parted d i ∙ ap (λ b. cond b (length c + prefix_len is_plain (drop (i + 16) d)) (prefix_len is_plain c))
+    parted d i ∙ ap (λ b. cond b (length c + prefix_len is_plain (drop (i + 16) d))
+    (prefix_len is_plain c))
     (ne_eqb _ _ (λ (e : prefix_len is_plain c ≡ length c). omega (arith, less, e, long)))

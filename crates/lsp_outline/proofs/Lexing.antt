@@ -1,13 +1,18 @@
 -- One lexeme at the front of a text, what stands after it, and the token that it is.
-use Rattle.std.proofs.Common.{◌≡◌, ℕ, suc, ◌+◌, ◌==◌, ◌||◌, Bool, true, false, cond, nat_lt, List, [], ◌∷◌, drop, refl, sym, ap, ◌∙◌, arith}
+use Rattle.std.proofs.Common.{◌≡◌, ℕ, suc, ◌+◌, ◌==◌, ◌||◌, Bool, true, false, cond, nat_lt, List}
+use Rattle.std.proofs.Common.{[], ◌∷◌, drop, refl, sym, ap, ◌∙◌, arith}
 use Rattle.std.proofs.lemmas.Bool.{or_parts, not-true}
 use Rattle.std.specs.List.{prefix_len}
-use Rattle.json.specs.Token.{Token, key, string, number, boolean, null, begin_object, end_object, begin_array, end_array, bad}
+use Rattle.json.specs.Token.{Token, key, string, number, boolean, null, begin_object, end_object}
+use Rattle.json.specs.Token.{begin_array, end_array, bad}
 use Rattle.json.specs.Text.{content, plain}
 use Rattle.json.specs.Word.{is_operator, is_space}
 use Rattle.json.specs.Run.{is_plain}
-use Rattle.json.specs.Lex.{Lexeme, token, comma, colon, quote, backslash, operator, space, other, class, operator_lexeme, string_token, Mode, between, in_string, lex_byte, lex}
-use Rattle.json.specs.Lex.{Place, fresh, after_value, after_comma, after_key, begins_colon, may_begin, may_close, if_allowed, punctuate}
+use Rattle.json.specs.Lex.{Lexeme, token, comma, colon, quote, backslash, operator, space, other}
+use Rattle.json.specs.Lex.{class, operator_lexeme, string_token, Mode, between, in_string, lex_byte}
+use Rattle.json.specs.Lex.{lex}
+use Rattle.json.specs.Lex.{Place, fresh, after_value, after_comma, after_key, begins_colon}
+use Rattle.json.specs.Lex.{may_begin, may_close, if_allowed, punctuate}
 
 -- ---- lexemes
 
@@ -15,11 +20,13 @@ pub lex_space : (x : ℕ) (xs : List ℕ) → class x ≡ space → lex between 
 unfolding lex
 lex_space x xs is = ap (λ c. lex_byte between c x xs (λ next. lex next xs)) is
 
-pub lex_operator : (x : ℕ) (xs : List ℕ) → class x ≡ operator → lex between (x ∷ xs) ≡ operator_lexeme x ∷ lex between xs
+pub lex_operator : (x : ℕ) (xs : List ℕ) → class x ≡ operator
+    → lex between (x ∷ xs) ≡ operator_lexeme x ∷ lex between xs
 unfolding lex
 lex_operator x xs is = ap (λ c. lex_byte between c x xs (λ next. lex next xs)) is
 
-pub lex_quote : (xs : List ℕ) → lex between (34 ∷ xs) ≡ token (string_token (content plain xs)) ∷ lex in_string xs
+pub lex_quote : (xs : List ℕ)
+    → lex between (34 ∷ xs) ≡ token (string_token (content plain xs)) ∷ lex in_string xs
 unfolding lex
 lex_quote xs = refl
 
@@ -34,21 +41,25 @@ unfolding lex
 lex_escape y xs = refl
 
 no_mark : (q b o s : Bool) (x : ℕ) (xs : List ℕ) (k : Mode → List Lexeme) → q ≡ false → b ≡ false
-    → lex_byte in_string (cond q quote (cond b backslash (cond o operator (cond s space other)))) x xs k ≡ k in_string
+    → lex_byte in_string (cond q quote (cond b backslash (cond o operator (cond s space other)))) x
+    xs k ≡ k in_string
 no_mark true b o s x xs k q h = absurd (cc)
 no_mark false true o s x xs k q h = absurd (cc)
 no_mark false false true s x xs k q h = refl
 no_mark false false false true x xs k q h = refl
 no_mark false false false false x xs k q h = refl
 
-pub lex_plain : (x : ℕ) (xs : List ℕ) → is_plain x ≡ true → lex in_string (x ∷ xs) ≡ lex in_string xs
+pub lex_plain : (x : ℕ) (xs : List ℕ) → is_plain x ≡ true
+    → lex in_string (x ∷ xs) ≡ lex in_string xs
 unfolding lex
 lex_plain x xs is =
     let none = or_parts ((x == 34) || (x == 92)) (nat_lt x 32) (not-true _ is) in
     let tests = or_parts (x == 34) (x == 92) none.0 in
-    no_mark (x == 34) (x == 92) (is_operator x) (is_space x) x xs (λ next. lex next xs) tests.0 tests.1
+    no_mark (x == 34) (x == 92) (is_operator x) (is_space x) x xs (λ next. lex next xs) tests.0
+    tests.1
 
-run_byte : (p : Bool) (x n : ℕ) (xs : List ℕ) → p ≡ is_plain x → lex in_string xs ≡ lex in_string (drop n xs)
+run_byte : (p : Bool) (x n : ℕ) (xs : List ℕ) → p ≡ is_plain x
+    → lex in_string xs ≡ lex in_string (drop n xs)
     → lex in_string (x ∷ xs) ≡ lex in_string (drop (cond p (1 + n) 0) (x ∷ xs))
 run_byte true x n xs is more =
     let next : suc n ≡ 1 + n = omega arith in
@@ -62,18 +73,24 @@ lex_run (x ∷ xs) = run_byte (is_plain x) x (prefix_len is_plain xs) xs refl (l
 
 -- ---- tokens, where a value may begin or a bracket may close
 
-allowed : (b : Bool) (t : Token) (k : Place → List Token) (next : Place) → b ≡ true → if_allowed b t k next ≡ t ∷ k next
+allowed : (b : Bool) (t : Token) (k : Place → List Token) (next : Place) → b ≡ true
+    → if_allowed b t k next ≡ t ∷ k next
 allowed b t k next may = ap (λ x. if_allowed x t k next) may
 
-pub key_first : (p : Place) (s : List ℕ) (ls : List Lexeme) → may_begin p ≡ true → punctuate p (token (string s) ∷ colon ∷ ls) ≡ key s ∷ punctuate fresh ls
+pub key_first : (p : Place) (s : List ℕ) (ls : List Lexeme) → may_begin p ≡ true
+    → punctuate p (token (string s) ∷ colon ∷ ls) ≡ key s ∷ punctuate fresh ls
 unfolding punctuate
-key_first p s ls may = allowed (may_begin p) (key s) (λ next. punctuate next (colon ∷ ls)) after_key may
+key_first p s ls may = allowed (may_begin p) (key s) (λ next. punctuate next (colon ∷ ls)) after_key
+    may
 
-string_by : (b : Bool) (p : Place) (s : List ℕ) (ls : List Lexeme) → begins_colon ls ≡ b → b ≡ false → may_begin p ≡ true → punctuate p (token (string s) ∷ ls) ≡ string s ∷ punctuate after_value ls
+string_by : (b : Bool) (p : Place) (s : List ℕ) (ls : List Lexeme) → begins_colon ls ≡ b → b ≡ false
+    → may_begin p ≡ true → punctuate p (token (string s) ∷ ls) ≡ string s ∷ punctuate after_value ls
 unfolding punctuate
-string_by b p s ls is none may = rw (is, none) (allowed (may_begin p) (string s) (λ next. punctuate next ls) after_value may)
+string_by b p s ls is none may =
+    rw (is, none) (allowed (may_begin p) (string s) (λ next. punctuate next ls) after_value may)
 
-pub string_first : (p : Place) (s : List ℕ) (ls : List Lexeme) → begins_colon ls ≡ false → may_begin p ≡ true → punctuate p (token (string s) ∷ ls) ≡ string s ∷ punctuate after_value ls
+pub string_first : (p : Place) (s : List ℕ) (ls : List Lexeme) → begins_colon ls ≡ false
+    → may_begin p ≡ true → punctuate p (token (string s) ∷ ls) ≡ string s ∷ punctuate after_value ls
 string_first p s ls none may = string_by _ p s ls refl none may
 
 abbrev is_plain_word : Token → Bool
@@ -88,7 +105,8 @@ is_plain_word (boolean b) = true
 is_plain_word null = true
 is_plain_word bad = false
 
-pub word_first : (p : Place) (t : Token) (ls : List Lexeme) → is_plain_word t ≡ true → may_begin p ≡ true → punctuate p (token t ∷ ls) ≡ t ∷ punctuate after_value ls
+pub word_first : (p : Place) (t : Token) (ls : List Lexeme) → is_plain_word t ≡ true
+    → may_begin p ≡ true → punctuate p (token t ∷ ls) ≡ t ∷ punctuate after_value ls
 unfolding punctuate
 word_first p begin_object ls is may = absurd (cc)
 word_first p end_object ls is may = absurd (cc)
@@ -96,24 +114,30 @@ word_first p begin_array ls is may = absurd (cc)
 word_first p end_array ls is may = absurd (cc)
 word_first p (key s) ls is may = absurd (cc)
 word_first p (string s) ls is may = absurd (cc)
-word_first p (number s) ls is may = allowed (may_begin p) (number s) (λ next. punctuate next ls) after_value may
-word_first p (boolean b) ls is may = allowed (may_begin p) (boolean b) (λ next. punctuate next ls) after_value may
+word_first p (number s) ls is may =
+    allowed (may_begin p) (number s) (λ next. punctuate next ls) after_value may
+word_first p (boolean b) ls is may =
+    allowed (may_begin p) (boolean b) (λ next. punctuate next ls) after_value may
 word_first p null ls is may = allowed (may_begin p) null (λ next. punctuate next ls) after_value may
 word_first p bad ls is may = absurd (cc)
 
-pub object_first : (p : Place) (ls : List Lexeme) → may_begin p ≡ true → punctuate p (token begin_object ∷ ls) ≡ begin_object ∷ punctuate fresh ls
+pub object_first : (p : Place) (ls : List Lexeme) → may_begin p ≡ true
+    → punctuate p (token begin_object ∷ ls) ≡ begin_object ∷ punctuate fresh ls
 unfolding punctuate
 object_first p ls may = allowed (may_begin p) begin_object (λ next. punctuate next ls) fresh may
 
-pub array_first : (p : Place) (ls : List Lexeme) → may_begin p ≡ true → punctuate p (token begin_array ∷ ls) ≡ begin_array ∷ punctuate fresh ls
+pub array_first : (p : Place) (ls : List Lexeme) → may_begin p ≡ true
+    → punctuate p (token begin_array ∷ ls) ≡ begin_array ∷ punctuate fresh ls
 unfolding punctuate
 array_first p ls may = allowed (may_begin p) begin_array (λ next. punctuate next ls) fresh may
 
-pub object_last : (p : Place) (ls : List Lexeme) → may_close p ≡ true → punctuate p (token end_object ∷ ls) ≡ end_object ∷ punctuate after_value ls
+pub object_last : (p : Place) (ls : List Lexeme) → may_close p ≡ true
+    → punctuate p (token end_object ∷ ls) ≡ end_object ∷ punctuate after_value ls
 unfolding punctuate
 object_last p ls may = allowed (may_close p) end_object (λ next. punctuate next ls) after_value may
 
-pub array_last : (p : Place) (ls : List Lexeme) → may_close p ≡ true → punctuate p (token end_array ∷ ls) ≡ end_array ∷ punctuate after_value ls
+pub array_last : (p : Place) (ls : List Lexeme) → may_close p ≡ true
+    → punctuate p (token end_array ∷ ls) ≡ end_array ∷ punctuate after_value ls
 unfolding punctuate
 array_last p ls may = allowed (may_close p) end_array (λ next. punctuate next ls) after_value may
 

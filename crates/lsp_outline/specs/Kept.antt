@@ -9,7 +9,8 @@ use Rattle.lsp_rpc.specs.declared.parts.Parts as parts
 use Rattle.lsp_outline.specs.declared.walk.Kind.{Kind}
 use Rattle.lsp_outline.specs.declared.walk.Kind.TheVariants as kinds
 use Rattle.lsp_outline.specs.declared.outline.Part.{Part}
-use Rattle.lsp_outline.specs.declared.outline.Part.TheVariants.{Version, Method, Id, Params, Result, Error, Other}
+use Rattle.lsp_outline.specs.declared.outline.Part.TheVariants.{Version, Method, Id, Params, Result}
+use Rattle.lsp_outline.specs.declared.outline.Part.TheVariants.{Error, Other}
 
 -- the kind of a value, as far as params and results are judged
 abbrev pub kind_of : Data → Kind

@@ -1,5 +1,6 @@
 -- What lies between two places of a JSON text.
-use Rattle.std.specs.Prelude.{◌≡◌, ℕ, ◌+◌, ◌-◌, ◌<◌, ◌≤◌, ◌==◌, ◌||◌, List, length, take, drop, get_or, true, cond, Some, is_some, nat_eq}
+use Rattle.std.specs.Prelude.{◌≡◌, ℕ, ◌+◌, ◌-◌, ◌<◌, ◌≤◌, ◌==◌, ◌||◌, List, length, take, drop}
+use Rattle.std.specs.Prelude.{get_or, true, cond, Some, is_some, nat_eq}
 use Rattle.std.specs.Char.{is_ascii_digit}
 use Rattle.std.specs.List.{list_all, starts_with}
 use Rattle.std.specs.Str.Parse.{digits_value}
@@ -71,24 +72,29 @@ pub record IsLiteral (d : List ℕ) (from : ℕ) (name : List ℕ) (end : ℕ) :
 
 -- this value, where one may begin
 pub record IsValue (depth : ℕ) (d : List ℕ) (from end : ℕ) (x : Data) : Type 0 where
-  pub read : (p : Place) → may_begin p ≡ true → converted of_json (value depth (tokens_from p d from)) ≡ Some (x, tokens_from after_value d end)
+  pub read : (p : Place) → may_begin p ≡ true
+      → converted of_json (value depth (tokens_from p d from))
+      ≡ Some (x, tokens_from after_value d end)
   pub kind : kind_at (get_or d from 0) ≡ kind_of x
   pub forward : from < end
   pub within : end ≤ length d
 
 -- the rest of an array that holds these items
 pub record AreItems (depth : ℕ) (d : List ℕ) (from end : ℕ) (xs : Items) : Type 0 where
-  pub read : let ts = tokens_from fresh d from in converted of_items (items (value depth) (length ts) ts) ≡ Some (xs, tokens_from after_value d end)
+  pub read : let ts = tokens_from fresh d from in converted of_items
+      (items (value depth) (length ts) ts) ≡ Some (xs, tokens_from after_value d end)
   pub forward : from < end
   pub within : end ≤ length d
 
 -- the rest of an object that holds these members
 pub record AreMembers (depth : ℕ) (d : List ℕ) (from end : ℕ) (xs : Members) : Type 0 where
-  pub read : let ts = tokens_from fresh d from in converted (λ ms. of_members ms no_members) (members (value depth) (length ts) ts) ≡ Some (xs, tokens_from after_value d end)
+  pub read : let ts = tokens_from fresh d from in converted (λ ms. of_members ms no_members)
+      (members (value depth) (length ts) ts) ≡ Some (xs, tokens_from after_value d end)
   pub forward : from < end
   pub within : end ≤ length d
 
--- an array up to a place where an item may begin, and what the items before it put in front of the rest
+-- an array up to a place where an item may begin, and what the items before it put in front of the
+-- rest
 pub record SomeItems (depth : ℕ) (d : List ℕ) (from at : ℕ) : Type 0 where
   pub place : Place
   pub begins : may_begin place ≡ true
@@ -96,7 +102,9 @@ pub record SomeItems (depth : ℕ) (d : List ℕ) (from at : ℕ) : Type 0 where
   pub front : Items → Items
   pub enough : length (tokens_from place d at) ≤ turns
   pub same : let ts = tokens_from fresh d from in
-      converted of_items (items (value depth) (length ts) ts) ≡ parse_map front (converted of_items (items (value depth) turns (tokens_from place d at)))
+      converted of_items (items (value depth) (length ts) ts)
+      ≡ parse_map front (converted of_items (items (value depth) turns
+      (tokens_from place d at)))
   pub forward : from ≤ at
   pub within : at ≤ length d
 
@@ -107,12 +115,15 @@ pub record SomeMembers (depth : ℕ) (d : List ℕ) (from at : ℕ) (found : Mem
   pub turns : ℕ
   pub enough : length (tokens_from place d at) ≤ turns
   pub same : let ts = tokens_from fresh d from in
-      converted (λ ms. of_members ms no_members) (members (value depth) (length ts) ts) ≡ converted (λ ms. of_members ms found) (members (value depth) turns (tokens_from place d at))
+      converted (λ ms. of_members ms no_members) (members (value depth) (length ts) ts)
+      ≡ converted (λ ms. of_members ms found)
+      (members (value depth) turns (tokens_from place d at))
   pub forward : from ≤ at
   pub within : at ≤ length d
 
 -- a key, its colon and the space behind it
 pub record IsKey (d : List ℕ) (from end : ℕ) (k : List ℕ) : Type 0 where
-  pub read : (p : Place) → may_begin p ≡ true → read_key (tokens_from p d from) ≡ Some (Some k, tokens_from fresh d end)
+  pub read : (p : Place) → may_begin p ≡ true
+      → read_key (tokens_from p d from) ≡ Some (Some k, tokens_from fresh d end)
   pub forward : from < end
   pub within : end ≤ length d

@@ -1,13 +1,18 @@
-//! Objects read without a tree of values: the members that are wanted are gathered as they come, and
-//! the others are gone past.
-ghost use Rattle.std.specs.Prelude.{◌≡◌, ◌^◌, ℕ, ◌<◌, ◌≤◌, length, pos, Some, IfSome};
+//! Objects read without a tree of values: the members that are wanted are gathered as they come,
+//! and the others are gone past.
+ghost use Rattle.std.specs.Prelude.{◌≡◌, ◌^◌, ℕ, ◌<◌, ◌≤◌, length, pos, Some, IfSome, option_map};
+ghost use Rattle.std.specs.Prelude.{string_bytes};
 ghost use Rattle.serde_json.specs.Data.{Data, Members, object, string, no_members, put};
-ghost use Rattle.lsp_rpc.specs.Shape.{as_integer};
+ghost use Rattle.serde_json.specs.Find.{as_str};
+ghost use Rattle.lsp_rpc.specs.Ident.{id_view};
+ghost use Rattle.lsp_rpc.specs.Params.{if_given};
+ghost use Rattle.lsp_rpc.specs.Shape.{as_id, as_integer, unless_null};
 ghost use Rattle.lsp_outline.specs.Walk.{IsValue, AreMembers};
 
 use crate::bytes::{byte_at, spaces_end};
 use crate::numbers::natural_at;
-use crate::walk::{key, plain_string, value_end};
+use crate::walk::{key, literal_end, plain_string, string_copy, value_end};
+use lsp_rpc::Id;
 use std::alloc::Global;
 
 /// What is wanted of an object's members. Of members with one name the last counts.
@@ -118,4 +123,37 @@ pub(crate) fn uinteger_at(text: &str, from: usize) -> Option<(u32, usize)>
     } else {
         None
     }
+}
+
+/// The string that begins there, where it is not null, copied, and where it ends.
+pub(crate) fn text_unless_null_at(
+    alloc: Global,
+    text: &str,
+    from: usize,
+) -> Option<(Option<String>, usize)>
+    requires { from ≤ length text.now }
+    ensures { IfSome result (λ r. (d : Data) × ((depth : ℕ) → IsValue depth text.now from r.1 d)
+        × (if_given as_str (unless_null d) ≡ Some (option_map (λ s. string_bytes s) r.0))) }
+{
+    let bytes = text.as_bytes();
+    if byte_at(bytes, from) == b'n' {
+        let end = literal_end(bytes, from, b"null")?;
+        return Some((None, end));
+    }
+    let (copy, end) = string_copy(alloc, text, from)?;
+    Some((Some(copy), end))
+}
+
+/// The id that begins there, a string or an integer that is not negative, and where it ends.
+pub(crate) fn id_at(alloc: Global, text: &str, from: usize) -> Option<(Id, usize)>
+    requires { from ≤ length text.now }
+    ensures { IfSome result (λ r. (d : Data) × ((depth : ℕ) → IsValue depth text.now from r.1 d)
+        × (as_id d ≡ Some (id_view r.0))) }
+{
+    if byte_at(text.as_bytes(), from) == b'"' {
+        let (copy, end) = string_copy(alloc, text, from)?;
+        return Some((Id::Text(copy), end));
+    }
+    let (n, end) = uinteger_at(text, from)?;
+    Some((Id::Number(n as i32), end))
 }

@@ -1,22 +1,23 @@
 //! Reading a content without building what its params and its result hold.
-ghost use Rattle.std.specs.Prelude.{◌≡◌, ◌<◌, ◌≤◌, length, Some, Err, IfSome, IfOk, IfErr, string_bytes};
+ghost use Rattle.std.specs.Prelude.{◌≡◌, ◌<◌, ◌≤◌, length, Some, Err, IfSome, IfOk, IfErr};
+ghost use Rattle.std.specs.Prelude.{string_bytes};
 ghost use Rattle.serde_json.specs.Data.{Data, Members, number, object};
 ghost use Rattle.serde_json.specs.Read.{read as read_text};
 ghost use Rattle.serde_json.specs.View.{view, number_view};
 ghost use Rattle.lsp_rpc.specs.Message.{Message as SpecMessage};
-ghost use Rattle.lsp_rpc.specs.Outline.{outline, without_params, is_call, IsOrIsOutline, IsOrLacksResult};
+ghost use Rattle.lsp_rpc.specs.Outline.{outline, without_params, is_call, IsOrIsOutline};
+ghost use Rattle.lsp_rpc.specs.Outline.{IsOrLacksResult};
 ghost use Rattle.lsp_outline.specs.Kept.{part_named, with_part, AreKept};
 ghost use Rattle.lsp_outline.specs.Walk.{IsValue, AreMembers};
 ghost use Rattle.lsp_rpc.specs.declared.fault.RpcFault.TheVariants.{Memory};
 ghost use Rattle.lsp_rpc.specs.Params.{act_at};
-ghost use Rattle.lsp_types.specs.declared.side.Side.TheVariants.{Editor};
 ghost use Rattle.lsp_rpc.specs.Reading as reading;
 ghost use Rattle.lsp_rpc.specs.View.{act_view, message_view};
 ghost use Rattle.lsp_rpc.specs.Words.{words_of as spec_words_of};
 
 use crate::bytes::{byte_at, spaces_end};
 use crate::members::skipped;
-use crate::notices::spoken_change;
+use crate::notices::spoken_notice;
 use crate::numbers::natural_at;
 use crate::walk::{MAX_DEPTH, key, kind_at, literal_end, string_copy};
 use lsp_rpc::{Message, Parts, RpcFault, Spoken, act_of, assemble, read, words_of};
@@ -312,21 +313,23 @@ impl OutlineReader {
         }
     }
 
-    /// Reads a message of the editor that changes its documents, a `textDocument/didOpen`,
-    /// `didChange` or `didClose` (LSP 3.17, Text Document Synchronization), with what it means.
-    /// `None` where the content is another message or none, where its members have an uncommon form,
-    /// and where memory was refused: [`read`] and [`take_act`](lsp_rpc::take_act) tell what it is.
-    pub fn read_change(&mut self, content: &[u8]) -> Option<Spoken>
+    /// Reads a notification whose params its side reads, with what it means: a
+    /// `textDocument/didOpen`, `didChange`, `didClose` or `didSave` of the editor, a `$/progress`
+    /// of the server, or a `$/cancelRequest` of either (LSP 3.17). `None` where the content is
+    /// another message or none, where its members have an uncommon form, and where memory was
+    /// refused: [`read`] and [`take_act`](lsp_rpc::take_act) tell what it is.
+    pub fn read_notice(&mut self, side: Side, content: &[u8]) -> Option<Spoken>
         ensures { IfSome result (λ spoken. (whole : SpecMessage) × reading.Reads content.now whole
             × (message_view spoken.message ≡ without_params whole)
-            × (act_at Editor whole ≡ Some (act_view spoken.act))) }
+            × (act_at side whole ≡ Some (act_view spoken.act))) }
     {
-        spoken_change(self.alloc, content)
+        spoken_notice(self.alloc, side, content)
     }
 
-    /// Reads a request or a notification whose params its side doesn't read, with what it means. `None`
-    /// where the content is another message or none, where its members have an uncommon form, and
-    /// where memory was refused: [`read`] and [`take_act`](lsp_rpc::take_act) tell what it is.
+    /// Reads a request or a notification whose params its side doesn't read, with what it means.
+    /// `None` where the content is another message or none, where its members have an uncommon
+    /// form, and where memory was refused: [`read`] and [`take_act`](lsp_rpc::take_act) tell what
+    /// it is.
     pub fn read_call(&mut self, side: Side, content: &[u8]) -> Option<Spoken>
         ensures { IfSome result (λ spoken. (whole : SpecMessage) × reading.Reads content.now whole
             × (message_view spoken.message ≡ without_params whole)
@@ -342,7 +345,8 @@ impl OutlineReader {
     /// The words that name the message of a content, as [`words_of`] gives them. The refusal is the
     /// least rule that it breaks.
     pub fn words(&mut self, content: &[u8]) -> Result<String, RpcFault>
-        ensures ok { IfOk result (λ words. (message : SpecMessage) × reading.Reads content.now message
+        ensures ok { IfOk result
+            (λ words. (message : SpecMessage) × reading.Reads content.now message
             × (string_bytes words ≡ spec_words_of message)) }
         ensures rule { IfErr result (reading.IsRefusal content.now) }
         ensures memory { result ≡ Err Memory → 0 < length content.now }

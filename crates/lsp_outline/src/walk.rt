@@ -1,9 +1,11 @@
 //! Going past JSON values of which only the kind is wanted.
-ghost use Rattle.std.specs.Prelude.{◌≡◌, ◌∷◌, ◌+◌, ◌<◌, ◌≤◌, ℕ, List, drop, length, get_or, false, Some, IfSome, string_bytes};
+ghost use Rattle.std.specs.Prelude.{◌≡◌, ◌∷◌, ◌+◌, ◌<◌, ◌≤◌, ℕ, List, drop, length, get_or, false};
+ghost use Rattle.std.specs.Prelude.{Some, IfSome, string_bytes};
 ghost use Rattle.json.specs.Lex.{lex, between, colon, begins_colon};
 ghost use Rattle.serde_json.specs.Data.{Data, string, Items, Members};
 ghost use Rattle.lsp_outline.specs.Kept.{kind_of};
-ghost use Rattle.lsp_outline.specs.Walk.{kind_at, IsLiteral, IsValue, AreItems, AreMembers, SomeItems, IsKey};
+ghost use Rattle.lsp_outline.specs.Walk.{kind_at, IsLiteral, IsValue, AreItems, AreMembers};
+ghost use Rattle.lsp_outline.specs.Walk.{SomeItems, IsKey};
 ghost use Rattle.lsp_rpc.specs.Shape.{is_structure_or_null};
 
 use crate::bytes::{byte_at, is_delimiter, spaces_end};

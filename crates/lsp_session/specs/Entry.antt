@@ -1,6 +1,7 @@
 -- The open requests of one side, in the order in which they were asked.
 use Rattle.std.specs.Prelude.{◌≡◌, ℕ, List, [], ◌∷◌, map, Bool, true, false, ◌||◌, if◌then◌else◌, Option, Some, None, string_bytes}
 use Rattle.lsp_rpc.specs.Ident.{Ident, same_id, id_view}
+use Rattle.lsp_rpc.specs.declared.message.Id.{Id}
 use Rattle.lsp_session.specs.declared.pending.OpenRequest.{OpenRequest}
 
 -- an open request, apart from where its texts lie in memory
@@ -11,6 +12,15 @@ pub record Entry : Type 0 where
 
 abbrev pub request_view : OpenRequest → Entry
 request_view r = record { id = id_view r.id; method = string_bytes r.method; cancelled = r.cancelled }
+
+-- the entries of the requests that are kept by their ids
+abbrev pub entries_in : List (Id × OpenRequest) → List Entry
+entries_in kept = map (λ e. request_view e.1) kept
+
+-- each request is kept by its own id
+abbrev pub AllNamed : List (Id × OpenRequest) → Type 0
+AllNamed [] = Unit {0}
+AllNamed (e ∷ kept) = (id_view e.1.id ≡ id_view e.0) × AllNamed kept
 
 -- a request as it is asked
 abbrev pub new_entry : Ident → List ℕ → Entry

@@ -8,7 +8,6 @@ pub mod Negotiation
 pub mod Rules
 pub mod Laws
 pub mod Incomplete
-pub mod Held
 pub mod State
 pub mod ByState
 pub mod View

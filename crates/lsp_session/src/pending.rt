@@ -1,12 +1,13 @@
 //! The requests of one side that wait for their responses (JSON-RPC 2.0, sections 4 and 5).
-ghost use Rattle.std.specs.Prelude.{None, IfErr, IfOk, ◌≡◌, ◌++◌, ◌∷◌, [], length, OnOk, OnErr, option_map, slice_get};
+ghost use Rattle.std.specs.Prelude.{None, IfErr, IfOk, ◌≡◌, ◌++◌, ◌∷◌, [], length, OnOk, OnErr};
+ghost use Rattle.std.specs.Prelude.{option_map, slice_get};
 ghost use Rattle.lsp_rpc.specs.Ident.{id_view};
-ghost use Rattle.lsp_session.specs.Entry.{request_view, has_id, IdsDiffer, entry_of, without, cancel, ask_rule, new_entry};
+ghost use Rattle.lsp_session.specs.Entry.{request_view, has_id, IdsDiffer, entry_of, without};
+ghost use Rattle.lsp_session.specs.Entry.{cancel, ask_rule, new_entry};
 ghost use Rattle.lsp_session.specs.Refusal.{Names};
 
 use crate::refusal::Refusal;
-use indexmap::IndexMap;
-use lsp_order::Order;
+use lsp_order::OrderedMap;
 use lsp_rpc::{Id, Memory, copy_id};
 use std::alloc::Global;
 use std::marker::Model;
@@ -25,22 +26,18 @@ pub struct OpenRequest {
 /// The open requests of one side, in the order in which they were asked. Contracts see the list.
 #[derive(Drop)]
 pub struct Pending {
-    /// The ids in the order of asking, since a map that keeps an order moves all entries behind one
-    /// that it gives away.
-    order: Order<Id>,
-    requests: IndexMap<Id, OpenRequest>,
+    requests: OrderedMap<Id, OpenRequest>,
 }
 
 impl Model for Pending {
     ghost use Rattle.std.specs.Prelude.{List};
-    ghost use Rattle.lsp_session.specs.Entry.{Entry};
-    ghost use Rattle.lsp_session.specs.Held.{entries_of, request_of, IsHeld};
+    ghost use Rattle.lsp_session.specs.Entry.{Entry, entries_in, AllNamed};
 
     ghost Value = { List Entry };
 
-    ghost view = { λ p. entries_of p.order (request_of p.requests.entries) };
+    ghost view = { λ p. entries_in p.requests };
 
-    ghost invariant = { λ p. IsHeld p.order (request_of p.requests.entries) };
+    ghost invariant = { λ p. AllNamed p.requests };
 }
 
 fn new_request(alloc: Global, id: &Id, method: &str) -> Result<OpenRequest, Memory>
@@ -60,8 +57,7 @@ impl Pending {
         ensures { result ≡ [] }
     {
         Pending {
-            order: Order::new(alloc),
-            requests: IndexMap::new(alloc),
+            requests: OrderedMap::new(alloc),
         }
     }
 
@@ -70,7 +66,7 @@ impl Pending {
         ensures count { result ≡ length self.now }
         ensures differ { IdsDiffer self.now }
     {
-        self.order.len()
+        self.requests.len()
     }
 
     /// The open request at this index, the one asked first at 0.
@@ -78,8 +74,8 @@ impl Pending {
         ensures { option_map (λ request. request_view request.now) result
             ≡ slice_get self.now index }
     {
-        let id = self.order.at(index)?;
-        self.requests.get(id)
+        let (_, request) = self.requests.at(index)?;
+        Some(request)
     }
 
     pub(crate) fn contains(&self, id: &Id) -> bool
@@ -88,8 +84,8 @@ impl Pending {
         self.requests.contains_key(id)
     }
 
-    /// Adds a request at the end. Rule 302: one with this id is open. A refusal changes nothing, and
-    /// memory is asked for only where no request has the id.
+    /// Adds a request at the end. Rule 302: one with this id is open. A refusal changes nothing,
+    /// and memory is asked for only where no request has the id.
     pub fn ask(&mut self, id: &Id, method: &str) -> Result<(), Refusal>
         ensures added { OnOk result
             (self.new ≡ self.old ++ new_entry (id_view id.now) method.now ∷ []) }
@@ -101,15 +97,9 @@ impl Pending {
         if self.contains(id) {
             return Err(Refusal::Rule(302));
         }
-        let last = copy_id(id)?;
-        let same = copy_id(id)?;
         let key = copy_id(id)?;
-        let request = new_request(*self.requests.allocator(), id, method)?;
-        self.order.push(last, same)?;
-        let Ok(_) = self.requests.insert(key, request) else {
-            self.order.remove(id);
-            return Err(Refusal::Memory);
-        };
+        let request = new_request(self.requests.allocator(), id, method)?;
+        self.requests.push(key, request)?;
         Ok(())
     }
 
@@ -134,16 +124,14 @@ impl Pending {
         ensures found { option_map request_view result ≡ entry_of (id_view id.now) self.old }
         ensures left { self.new ≡ without (id_view id.now) self.old }
     {
-        let request = self.requests.swap_remove(id)?;
-        self.order.remove(id);
-        Some(request)
+        self.requests.remove(id)
     }
 
-    /// Makes ready for a walk over all open requests: after it, until one is answered, [`Pending::at`]
-    /// finds each at once.
+    /// Makes ready for a walk over all open requests: after it, until one is answered,
+    /// [`Pending::at`] finds each at once.
     pub fn pack(&mut self)
         ensures { self.new ≡ self.old }
     {
-        self.order.pack();
+        self.requests.pack();
     }
 }

@@ -1,5 +1,6 @@
 //! The messages of two sides, judged one after another (LSP 3.17, "Server lifecycle").
-ghost use Rattle.std.specs.Prelude.{◌≡◌, ℕ, Some, true, false, ◌++◌, ◌∷◌, [], List, None, IfErr, IfOk, OnOk, OnErr, not, option_map, Option};
+ghost use Rattle.std.specs.Prelude.{◌≡◌, ℕ, Some, true, false, ◌++◌, ◌∷◌, [], List, None, IfErr};
+ghost use Rattle.std.specs.Prelude.{IfOk, OnOk, OnErr, not, option_map, Option};
 ghost use Rattle.lsp_rpc.specs.Ident.{id_view};
 ghost use Rattle.lsp_rpc.specs.View.{act_view, message_view};
 ghost use Rattle.lsp_session.specs.ByState as by_state;
@@ -78,8 +79,8 @@ impl Session {
     /// Admits a message that breaks no rule, and else names the least rule that it breaks: 301 and
     /// 302 on ids, 401 to 412 on who may send what, 501 to 504 on what is agreed (LSP 3.17, "Base
     /// Protocol" and "Server lifecycle"). A refusal changes nothing. The act is what the message
-    /// means on its side. Memory is asked for only where the message breaks no rule but, maybe, 502 or
-    /// 503.
+    /// means on its side. Memory is asked for only where the message breaks no rule but, maybe, 502
+    /// or 503.
     pub fn admit(&mut self, side: Side, message: &Message, act: &Act) -> Result<(), Refusal>
         ensures admitted { OnOk result ((before : List Sent) → Stands self.old before
             → Stands self.new (before ++ sent side message.now act.now ∷ [])) }
@@ -87,7 +88,8 @@ impl Session {
             → rule_after before (sent side message.now act.now) ≡ None) }
         ensures rule { IfErr result (λ refusal. (before : List Sent) → Stands self.old before
             → Names (rule_after before (sent side message.now act.now)) refusal) }
-        ensures memory { result ≡ Err Refusal.Memory → ((before : List Sent) → Stands self.old before
+        ensures memory { result ≡ Err Refusal.Memory
+            → ((before : List Sent) → Stands self.old before
             → early_rule before (sent side message.now act.now) ≡ None) }
         ensures unchanged { OnErr result (self.new ≡ self.old) }
     {
@@ -182,12 +184,13 @@ impl Session {
         self.initialize.is_some()
     }
 
-    /// What the open `initialize` offers that the message answers by a result, and that result; `None` for
-    /// other messages.
+    /// What the open `initialize` offers that the message answers by a result, and that result;
+    /// `None` for other messages.
     pub fn settled<'a>(&'a self, side: Side, message: &'a Message) -> Option<(&'a Offer, &'a Value)>
         ensures { (before : List Sent) → Stands self.now before
             → option_map (λ s. settled_view s.0.now s.1.now) result
-            ≡ handshake.settled_among (handshake.open_initializes before) side (message_view message.now) }
+            ≡ handshake.settled_among (handshake.open_initializes before) side
+            (message_view message.now) }
     {
         self.settled_by(side, message)
     }
@@ -331,7 +334,8 @@ impl Session {
         }
     }
 
-    /// The offer of the open `initialize`, and the result that answers it, where the message is that.
+    /// The offer of the open `initialize`, and the result that answers it, where the message is
+    /// that.
     fn settled_by<'a>(&'a self, side: Side, message: &'a Message) -> Option<(&'a Offer, &'a Value)>
         ensures { option_map (λ s. settled_view s.0.now s.1.now) result
             ≡ handshake.settled_among self.now.initializes side (message_view message.now) }

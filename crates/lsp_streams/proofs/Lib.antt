@@ -6,4 +6,5 @@ pub mod Giving
 pub mod Fewer
 pub mod Streaming
 pub mod Pulling
+pub mod Owning
 pub mod Resting

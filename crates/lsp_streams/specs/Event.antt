@@ -5,12 +5,14 @@ use Rattle.lsp_frame.specs.declared.format.Format.{Format}
 use Rattle.lsp_log.specs.declared.fault.LogCode.{LogCode}
 use Rattle.lsp_log.specs.Log.{Record, IsLog}
 use Rattle.lsp_streams.specs.declared.event.EventOutcome.{EventOutcome}
-use Rattle.lsp_streams.specs.declared.event.EventOutcome.TheVariants.{Done, NoContent, FewerEvents, BadLog}
+use Rattle.lsp_streams.specs.declared.event.EventOutcome.TheVariants.{Done, NoContent, FewerEvents}
+use Rattle.lsp_streams.specs.declared.event.EventOutcome.TheVariants.{BadLog}
 use Rattle.lsp_verdict.specs.Placed.{Raw, content, broken, show, Placed}
 
 -- ---- one event
 
--- what an event holds: the content of a message, or the text of a snapshot; a fault of the frames holds nothing
+-- what an event holds: the content of a message, or the text of a snapshot; a fault of the frames
+-- holds nothing
 abbrev pub content_of : Raw → List ℕ
 content_of (content side bytes) = bytes
 content_of (broken side rule) = []
@@ -41,8 +43,10 @@ event_at n raws = slice_get raws (n - 1)
 
 -- ---- the event of a log
 
--- **what is due for the n-th event of a log**, whatever of its events offends: what this event holds, and how the run ends
-pub record IsEvent (limits : Bounds) (log : List ℕ) (n : ℕ) (out : List ℕ) (outcome : EventOutcome) : Type 0 where
+-- **what is due for the n-th event of a log**, whatever of its events offends: what this event
+-- holds, and how the run ends
+pub record IsEvent (limits : Bounds) (log : List ℕ) (n : ℕ) (out : List ℕ)
+    (outcome : EventOutcome) : Type 0 where
   pub format : Option Format
   pub records : List Record
   pub log_fault : Option (ℕ × LogCode)
@@ -54,4 +58,5 @@ pub record IsEvent (limits : Bounds) (log : List ℕ) (n : ℕ) (out : List ℕ)
 
 -- these bytes begin what is due for the n-th event of a log
 abbrev pub BeginsEvent : Bounds → List ℕ → ℕ → List ℕ → Type 0
-BeginsEvent limits log n front = (outcome : EventOutcome) × (left : List ℕ) × IsEvent limits log n (front ++ left) outcome
+BeginsEvent limits log n front =
+    (outcome : EventOutcome) × (left : List ℕ) × IsEvent limits log n (front ++ left) outcome

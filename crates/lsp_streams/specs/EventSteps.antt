@@ -24,17 +24,19 @@ abbrev pub IsOfEnd : Answer → End → Type 0
 IsOfEnd answer end = (answer.content.items ≡ []) × (answer.outcome ≡ without (flaw_of end))
 
 -- so many events are still to come before the n-th of the log is past
-pub record HasPassed (limits : Bounds) (e : LogEvents) (start now : Told) (n left : ℕ) : Type 0 where
-  pub format : Option Format
-  pub records : List Record
-  pub given : List Raw
-  pub due : List Raw
-  pub reads : Reads limits format e start now records given due
-  pub count : left + length given ≡ n
+pub record HasPassed (limits : Bounds) (e : LogEvents) (start now : Told) (n left : ℕ) : Type 0
+  where
+    pub format : Option Format
+    pub records : List Record
+    pub given : List Raw
+    pub due : List Raw
+    pub reads : Reads limits format e start now records given due
+    pub count : left + length given ≡ n
 
 -- what is due for the event of the log read is known
 pub record Found (limits : Bounds) (n : ℕ) (start now : Told) (answer : Answer) : Type 0 where
-  pub of_read : OfRead limits start now (λ log. IsEvent limits log n answer.content.items answer.outcome)
+  pub of_read : OfRead limits start now
+      (λ log. IsEvent limits log n answer.content.items answer.outcome)
   pub ended : answer.outcome ≡ FewerEvents → IsAtEnd now.bytes
   pub failures : now.failures ≡ start.failures
 

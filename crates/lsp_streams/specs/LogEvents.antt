@@ -1,5 +1,6 @@
 -- The events of a log one after another, before their contents are read.
-use Rattle.std.specs.Prelude.{◌≡◌, ℕ, ◌+◌, List, [], ◌∷◌, ◌++◌, Option, Some, None, IsSome, Result, Ok, Err}
+use Rattle.std.specs.Prelude.{◌≡◌, ℕ, ◌+◌, List, [], ◌∷◌, ◌++◌, Option, Some, None, IsSome, Result}
+use Rattle.std.specs.Prelude.{Ok, Err}
 use Rattle.std.specs.Io.KnownBytes.{IsAtEnd}
 use Rattle.lsp_frame.specs.Bounds.{Bounds}
 use Rattle.lsp_frame.specs.Told.{Told}
@@ -30,7 +31,8 @@ abbrev pub GoesBehind : List Record → List Record → Type 0
 GoesBehind front records = (more : List Record) × (records ≡ front ++ more)
 
 -- the log is of this format, and has these records first, and these events
-pub record HasGiven (limits : Bounds) (format : Option Format) (front : List Record) (given : List Raw) (log : List ℕ) : Type 0 where
+pub record HasGiven (limits : Bounds) (format : Option Format) (front : List Record)
+    (given : List Raw) (log : List ℕ) : Type 0 where
   pub records : List Record
   pub log_fault : Option (ℕ × LogCode)
   pub later : List Raw
@@ -38,7 +40,8 @@ pub record HasGiven (limits : Bounds) (format : Option Format) (front : List Rec
   pub goes : GoesBehind front records
   pub placed : Placed limits records (given ++ later)
 
--- the log has these records and this fault, or none; of a fault its reader knows how many bytes of the log stand before it, and the line that stands there
+-- the log has these records and this fault, or none; of a fault its reader knows how many bytes of
+-- the log stand before it, and the line that stands there
 abbrev pub IsLogOf : reader.State → Bounds → List Record → Option (ℕ × LogCode) → List ℕ → Type 0
 IsLogOf r limits records None log = IsLog limits log r.format records None
 IsLogOf r limits records (Some flaw) log = ShowsFault r limits records flaw log
@@ -51,7 +54,8 @@ flaw_of Sound = None
 flaw_of (Bad number fault) = Some (number, fault)
 
 -- the log ends behind these records, with this fault or none
-pub record EndsBehind (r : reader.State) (limits : Bounds) (start now : Told) (records : List Record) (flaw : Option (ℕ × LogCode)) : Type 0 where
+pub record EndsBehind (r : reader.State) (limits : Bounds) (start now : Told)
+    (records : List Record) (flaw : Option (ℕ × LogCode)) : Type 0 where
   pub of_read : OfRead limits start now (IsLogOf r limits records flaw)
   pub failures : now.failures ≡ start.failures
   pub met : flaw ≡ None → IsAtEnd now.bytes
@@ -61,39 +65,51 @@ abbrev pub HasRead : Option End → reader.State → Bounds → Told → Told �
 HasRead None r limits start now records = IsAt r start now records × IsSome r.format
 HasRead (Some end) r limits start now records = EndsBehind r limits start now records (flaw_of end)
 
--- **of a log of this format these records were taken, and of their events these were given; those that are due are still to be given**
-pub record Reads (limits : Bounds) (format : Option Format) (e : LogEvents) (start now : Told) (records : List Record) (given due : List Raw) : Type 0 where
+-- **of a log of this format these records were taken, and of their events these were given; those
+-- that are due are still to be given**
+pub record Reads (limits : Bounds) (format : Option Format) (e : LogEvents) (start now : Told)
+    (records : List Record) (given due : List Raw) : Type 0 where
   pub same : e.log.limits ≡ limits
   pub format_is : e.log.format ≡ format
   pub read : HasRead e.end e.log limits start now records
   pub stands : Stands limits e.streams records given due
 
 -- all events of the log were given, and it ends so
-pub record Ended (limits : Bounds) (format : Option Format) (e : LogEvents) (start now : Told) (records : List Record) (given : List Raw) (end : End) : Type 0 where
+pub record Ended (limits : Bounds) (format : Option Format) (e : LogEvents) (start now : Told)
+    (records : List Record) (given : List Raw) (end : End) : Type 0 where
   pub reads : Reads limits format e start now records given []
   pub ends : EndsBehind e.log limits start now records (flaw_of end)
 
 -- reading broke off behind these records and events of a log of this format
-pub record BrokeOff (limits : Bounds) (start now : Told) (format : Option Format) (records : List Record) (given : List Raw) (fault : RunFault) : Type 0 where
+pub record BrokeOff (limits : Bounds) (start now : Told) (format : Option Format)
+    (records : List Record) (given : List Raw) (fault : RunFault) : Type 0 where
   pub of_read : OfRead limits start now (HasGiven limits format records given)
   pub failures : now.failures ≡ failures_after fault start.failures
   pub unwritten : fault ≡ faults.Write → ⊥
 
 -- the first record was read, or there is none
 abbrev pub Opens : Bounds → Told → Told → LogEvents → Type 0
-Opens limits start now e = (records : List Record) × (due : List Raw) × Reads limits e.log.format e start now records [] due
+Opens limits start now e =
+    (records : List Record) × (due : List Raw)
+    × Reads limits e.log.format e start now records [] due
 
 -- ---- the next event
 
 -- one more event of these records, or of more, or the end of the log behind them
-abbrev pub Gives : Bounds → Option Format → LogEvents → Told → Told → List Record → List Raw → Result Next RunFault → Type 0
+abbrev pub Gives : Bounds → Option Format → LogEvents → Told → Told → List Record → List Raw
+    → Result Next RunFault → Type 0
 Gives limits format e start now records given (Ok (next.Event raw)) =
-    (more : List Record) × (later : List Raw) × Reads limits format e start now (records ++ more) (given ++ raw_view raw ∷ []) later
-Gives limits format e start now records given (Ok (next.End end)) = (more : List Record) × Ended limits format e start now (records ++ more) given end
-Gives limits format e start now records given (Err fault) = (more : List Record) × BrokeOff limits start now format (records ++ more) given fault
+    (more : List Record) × (later : List Raw)
+    × Reads limits format e start now (records ++ more) (given ++ raw_view raw ∷ []) later
+Gives limits format e start now records given (Ok (next.End end)) =
+    (more : List Record) × Ended limits format e start now (records ++ more) given end
+Gives limits format e start now records given (Err fault) =
+    (more : List Record) × BrokeOff limits start now format (records ++ more) given fault
 
 abbrev pub NextIs : LogEvents → LogEvents → Told → Told → Result Next RunFault → Type 0
-NextIs old new before now result = (limits : Bounds) (format : Option Format) (start : Told) (records : List Record) (given due : List Raw) → Reads limits format old start before records given due
+NextIs old new before now result =
+    (limits : Bounds) (format : Option Format) (start : Told) (records : List Record)
+    (given due : List Raw) → Reads limits format old start before records given due
     → Gives limits format new start now records given result
 
 -- ---- its steps
@@ -104,23 +120,34 @@ HoldsStep s (step.Event due) = IsHeld s due
 HoldsStep s (step.End end) = Unit {0}
 
 -- the event was gone past, and is such a one
-abbrev pub Finds : Bounds → Option Format → LogEvents → Told → Told → List Record → List Raw → Result Step RunFault → Type 0
+abbrev pub Finds : Bounds → Option Format → LogEvents → Told → Told → List Record → List Raw
+    → Result Step RunFault → Type 0
 Finds limits format e start now records given (Ok (step.Event due)) =
-    (raw : Raw) × IsRaw e.streams due raw × ((more : List Record) × (later : List Raw) × Reads limits format e start now (records ++ more) (given ++ raw ∷ []) later)
-Finds limits format e start now records given (Ok (step.End end)) = (more : List Record) × Ended limits format e start now (records ++ more) given end
-Finds limits format e start now records given (Err fault) = (more : List Record) × BrokeOff limits start now format (records ++ more) given fault
+    (raw : Raw) × IsRaw e.streams due raw
+    × ((more : List Record) × (later : List Raw)
+    × Reads limits format e start now (records ++ more) (given ++ raw ∷ []) later)
+Finds limits format e start now records given (Ok (step.End end)) =
+    (more : List Record) × Ended limits format e start now (records ++ more) given end
+Finds limits format e start now records given (Err fault) =
+    (more : List Record) × BrokeOff limits start now format (records ++ more) given fault
 
 -- these records were taken, all of their events were given, and the log goes on
-pub record IsIdle (limits : Bounds) (e : LogEvents) (start now : Told) (records : List Record) (given : List Raw) : Type 0 where
+pub record IsIdle (limits : Bounds) (e : LogEvents) (start now : Told) (records : List Record)
+    (given : List Raw) : Type 0 where
   pub same : e.log.limits ≡ limits
   pub at : IsAt e.log start now records
   pub stands : Stands limits e.streams records given []
 
 -- one more record was taken, or the end of the log; or reading broke off
-abbrev pub Takes : Bounds → Option Format → LogEvents → Told → Told → List Record → List Raw → Result (Unit {0}) RunFault → Type 0
-Takes limits known e start now records given (Ok u) = (more : List Record) × (due : List Raw) × Reads limits e.log.format e start now (records ++ more) given due
+abbrev pub Takes : Bounds → Option Format → LogEvents → Told → Told → List Record → List Raw
+    → Result (Unit {0}) RunFault → Type 0
+Takes limits known e start now records given (Ok u) =
+    (more : List Record) × (due : List Raw)
+    × Reads limits e.log.format e start now (records ++ more) given due
 Takes limits known e start now records given (Err fault) =
-    BreaksOff limits start now fault × ((format : Format) → known ≡ Some format → BrokeOff limits start now (Some format) records given fault)
+    BreaksOff limits start now fault
+    × ((format : Format) → known ≡ Some format
+    → BrokeOff limits start now (Some format) records given fault)
 
 abbrev pub unread_to : Option End → reader.State → ℕ
 unread_to None r = ahead r + 1

@@ -1,5 +1,7 @@
--- The normal form of a log: each content as its canonical frame, in records that are full but for the last, and each snapshot as it is.
-use Rattle.std.specs.Prelude.{◌≡◌, ℕ, ◌+◌, List, [], ◌∷◌, ◌++◌, length, map, filter, Bool, true, false, Option, Some, None}
+-- The normal form of a log: each content as its canonical frame, in records that are full but for
+-- the last, and each snapshot as it is.
+use Rattle.std.specs.Prelude.{◌≡◌, ℕ, ◌+◌, List, [], ◌∷◌, ◌++◌, length, map, filter, Bool, true}
+use Rattle.std.specs.Prelude.{false, Option, Some, None}
 use Rattle.std.specs.Int.{div_ceil}
 use Rattle.std.specs.List.{flat_map}
 use Rattle.std.specs.Option.{option_or}
@@ -13,7 +15,8 @@ use Rattle.lsp_session.specs.Sent.{same_side}
 use Rattle.lsp_log.specs.declared.fault.LogCode.{LogCode}
 use Rattle.lsp_log.specs.Log.{Record, chunk, shown, first_line, spelling, IsLog}
 use Rattle.lsp_verdict.specs.declared.outcome.Outcome.{Outcome}
-use Rattle.lsp_verdict.specs.declared.outcome.Outcome.TheVariants.{Done, Judged, Stream, NoDocument, TooFew}
+use Rattle.lsp_verdict.specs.declared.outcome.Outcome.TheVariants.{Done, Judged, Stream, NoDocument}
+use Rattle.lsp_verdict.specs.declared.outcome.Outcome.TheVariants.{TooFew}
 use Rattle.lsp_verdict.specs.Given.{verdict_view}
 use Rattle.lsp_verdict.specs.LookBack.{first_of}
 use Rattle.lsp_verdict.specs.Outcome.{HasRest, ending, format_or_one}
@@ -33,7 +36,8 @@ chunks size side bytes = map (chunk side) (cut size bytes)
 -- the records of the events up to the first fault of the frames
 abbrev pub records_of : ℕ → List Raw → List Record
 records_of size [] = []
-records_of size (content side bytes ∷ raws) = chunks size side (canonical bytes) ++ records_of size raws
+records_of size (content side bytes ∷ raws) =
+    chunks size side (canonical bytes) ++ records_of size raws
 records_of size (show number uri text ∷ raws) = shown number uri text ∷ records_of size raws
 records_of size (broken side rule ∷ raws) = []
 
@@ -50,7 +54,8 @@ is_of side (show number uri text) = false
 
 -- No by this rule at the event that comes next, with the number that the side's next message has
 abbrev pub no_next : ℕ → Side → List Raw → Verdict
-no_next rule side before = no rule (who_of side) (length (filter (is_of side) before) + 1) (length before + 1)
+no_next rule side before =
+    no rule (who_of side) (length (filter (is_of side) before) + 1) (length before + 1)
 
 abbrev pub no_at : List Raw → Raw → Option Verdict
 no_at before (content side bytes) = None
@@ -69,11 +74,13 @@ rest_of raws false false = None
 
 -- the first by place: a fault of the frames, a fault of the log, a rest
 abbrev pub fault_of : List Raw → Ending → Option Verdict
-fault_of raws end = option_or (first_broken raws) (option_or (bad_log_of end.log_fault) (rest_of raws end.editor_rest end.server_rest))
+fault_of raws end = option_or (first_broken raws)
+    (option_or (bad_log_of end.log_fault) (rest_of raws end.editor_rest end.server_rest))
 
 -- ---- the normal form of a log
 
--- **the normal form of a log**: its events up to the first fault of the frames, in the format of the log, and the fault that ends it, or none; where the log has no first line, that of format 1
+-- **the normal form of a log**: its events up to the first fault of the frames, in the format of
+-- the log, and the fault that ends it, or none; where the log has no first line, that of format 1
 pub record IsNormal (limits : Bounds) (log out : List ℕ) (fault : Option Verdict) : Type 0 where
   pub format : Option Format
   pub records : List Record
@@ -100,8 +107,11 @@ Carries TooFew fault = ⊥
 
 -- this is the normal form of the log, and the outcome carries the fault that ends it, if any
 abbrev pub EndsNormal : Bounds → List ℕ → List ℕ → Outcome → Type 0
-EndsNormal limits log out outcome = (fault : Option Verdict) × IsNormal limits log out fault × Carries outcome fault
+EndsNormal limits log out outcome =
+    (fault : Option Verdict) × IsNormal limits log out fault × Carries outcome fault
 
 -- the normal form of the log begins with these bytes
 abbrev pub BeginsNormal : Bounds → List ℕ → List ℕ → Type 0
-BeginsNormal limits log written = (out : List ℕ) (fault : Option Verdict) → IsNormal limits log out fault → (left : List ℕ) × (out ≡ written ++ left)
+BeginsNormal limits log written =
+    (out : List ℕ) (fault : Option Verdict) → IsNormal limits log out fault
+    → (left : List ℕ) × (out ≡ written ++ left)

@@ -1,5 +1,6 @@
 -- Laws of normal forms.
-use Rattle.std.specs.Prelude.{◌≡◌, ◌≤◌, ℕ, nat_le, ◌&&◌, List, [], ◌∷◌, length, Bool, false, Option, Some, None}
+use Rattle.std.specs.Prelude.{◌≡◌, ◌≤◌, ℕ, nat_le, ◌&&◌, List, [], ◌∷◌, length, Bool, false, Option}
+use Rattle.std.specs.Prelude.{Some, None}
 use Rattle.lsp_frame.specs.Bounds.{Bounds, IsInRange}
 use Rattle.lsp_frame.specs.declared.format.Format.{Format}
 use Rattle.lsp_log.specs.Log.{Record, IsLog}
@@ -11,11 +12,14 @@ use Rattle.lsp_verdict.specs.Verdict.{Verdict, yes, no, bad_log}
 
 -- **Every log has a normal form**, whatever its bytes.
 abbrev pub SomeNormalForm : Type 0
-SomeNormalForm = (limits : Bounds) (log : List ℕ) → (out : List ℕ) × (fault : Option Verdict) × IsNormal limits log out fault
+SomeNormalForm = (limits : Bounds) (log : List ℕ)
+    → (out : List ℕ) × (fault : Option Verdict) × IsNormal limits log out fault
 
 -- **And it has one**, which ends with one fault or none.
 abbrev pub OneNormalForm : Type 0
-OneNormalForm = (limits : Bounds) → IsInRange limits → (log out other : List ℕ) (f g : Option Verdict) → IsNormal limits log out f → IsNormal limits log other g → (out ≡ other) × (f ≡ g)
+OneNormalForm = (limits : Bounds) → IsInRange limits
+    → (log out other : List ℕ) (f g : Option Verdict) → IsNormal limits log out f
+    → IsNormal limits log other g → (out ≡ other) × (f ≡ g)
 
 -- the events before the first fault of the frames
 abbrev pub before_fault : List Raw → List Raw
@@ -24,15 +28,21 @@ before_fault (content side bytes ∷ raws) = content side bytes ∷ before_fault
 before_fault (broken side rule ∷ raws) = []
 before_fault (show number uri text ∷ raws) = show number uri text ∷ before_fault raws
 
--- **Its events are those of the log before a fault**, where its length is within the limit of a log, and it is a log of the same format without a fault.
+-- **Its events are those of the log before a fault**, where its length is within the limit of a
+-- log, and it is a log of the same format without a fault.
 abbrev pub NormalFormKeepsEvents : Type 0
-NormalFormKeepsEvents = (limits : Bounds) → IsInRange limits → (log out : List ℕ) (format : Option Format) (rs : List Record) (flaw : Option (ℕ × LogCode)) (raws : List Raw) (fault : Option Verdict)
-    → IsLog limits log format rs flaw → Placed limits rs raws → IsNormal limits log out fault → length out ≤ limits.log
-    → (us : List Record) × IsLog limits out (Some (format_or_one format)) us None × Placed limits us (before_fault raws)
+NormalFormKeepsEvents = (limits : Bounds) → IsInRange limits
+    → (log out : List ℕ) (format : Option Format) (rs : List Record) (flaw : Option (ℕ × LogCode))
+    (raws : List Raw) (fault : Option Verdict)
+    → IsLog limits log format rs flaw → Placed limits rs raws → IsNormal limits log out fault
+    → length out ≤ limits.log
+    → (us : List Record) × IsLog limits out (Some (format_or_one format)) us None
+    × Placed limits us (before_fault raws)
 
 -- **It is its own normal form**, and ends without a fault.
 abbrev pub NormalFormStays : Type 0
-NormalFormStays = (limits : Bounds) → IsInRange limits → (log out : List ℕ) (fault : Option Verdict) → IsNormal limits log out fault → length out ≤ limits.log → IsNormal limits out out None
+NormalFormStays = (limits : Bounds) → IsInRange limits → (log out : List ℕ) (fault : Option Verdict)
+    → IsNormal limits log out fault → length out ≤ limits.log → IsNormal limits out out None
 
 -- 101 to 107: a fault of the frames, or bytes that are no whole frame
 abbrev pub is_frame_rule : ℕ → Bool
@@ -46,4 +56,7 @@ IsOnEvents (bad_log number code) = ⊥
 
 -- **It has the verdict of the log**, where that is on messages and snapshots.
 abbrev pub NormalFormKeepsVerdict : Type 0
-NormalFormKeepsVerdict = (limits : Bounds) → IsInRange limits → (log out : List ℕ) (fault : Option Verdict) (v : Verdict) → IsVerdict limits log v → IsOnEvents v → IsNormal limits log out fault → length out ≤ limits.log → IsVerdict limits out v
+NormalFormKeepsVerdict =
+    (limits : Bounds) → IsInRange limits → (log out : List ℕ) (fault : Option Verdict) (v : Verdict)
+    → IsVerdict limits log v → IsOnEvents v → IsNormal limits log out fault
+    → length out ≤ limits.log → IsVerdict limits out v

@@ -6,7 +6,8 @@ use Rattle.lsp_verdict.specs.declared.outcome.Mode.{Mode}
 use Rattle.lsp_verdict.specs.declared.outcome.Outcome.{Outcome}
 
 abbrev pub SomeRun : Type 0
-SomeRun = (limits : Bounds) (mode : Mode) (stream : List ℕ) → (out : List ℕ) × (outcome : Outcome) × IsRun limits mode stream out outcome
+SomeRun = (limits : Bounds) (mode : Mode) (stream : List ℕ)
+    → (out : List ℕ) × (outcome : Outcome) × IsRun limits mode stream out outcome
 
 abbrev pub OneRun : Type 0
 OneRun = (limits : Bounds) (mode : Mode) (stream out other : List ℕ) (a b : Outcome)

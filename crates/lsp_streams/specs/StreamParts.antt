@@ -1,5 +1,6 @@
 -- What a mode writes for each frame of a stream.
-use Rattle.std.specs.Prelude.{◌≡◌, ◌⊎◌, ℕ, ◌+◌, List, [], ◌∷◌, ◌++◌, length, Option, Some, None, codes, decimal}
+use Rattle.std.specs.Prelude.{◌≡◌, ◌⊎◌, ℕ, ◌+◌, List, [], ◌∷◌, ◌++◌, length, Option, Some, None}
+use Rattle.std.specs.Prelude.{codes, decimal}
 use Rattle.lsp_frame.specs.Sink.{canonical}
 use Rattle.lsp_rpc.specs.Message.{Message}
 use Rattle.lsp_rpc.specs.Reading.{Reads, BreaksRule}
@@ -25,7 +26,9 @@ kind_line frame content words = numbers frame (length content) (codes " ") ++ (w
 abbrev pub IsPart : Mode → ℕ → List ℕ → List ℕ → Type 0
 IsPart Lengths frame content part = part ≡ length_line frame content
 IsPart Canonical frame content part = part ≡ canonical content
-IsPart Kinds frame content part = (message : Message) × Reads content message × (part ≡ kind_line frame content (words_of message))
+IsPart Kinds frame content part =
+    (message : Message) × Reads content message
+    × (part ≡ kind_line frame content (words_of message))
 
 -- the mode has no part for the content, which breaks this rule
 abbrev pub Refuses : Mode → List ℕ → ℕ → Type 0
@@ -38,9 +41,11 @@ abbrev pub outcome_at : ℕ → Option StreamFault → Outcome
 outcome_at frame None = Done
 outcome_at frame (Some fault) = Stream frame fault
 
--- the parts of contents, the first of which has this number, up to the first content that has none; behind them all stands the fault
+-- the parts of contents, the first of which has this number, up to the first content that has none;
+-- behind them all stands the fault
 abbrev pub RunsThrough : Mode → ℕ → List (List ℕ) → Option StreamFault → List ℕ → Outcome → Type 0
 RunsThrough mode frame [] fault parts outcome = (parts ≡ []) × (outcome ≡ outcome_at frame fault)
 RunsThrough mode frame (content ∷ contents) fault parts outcome =
-    ((part : List ℕ) × (others : List ℕ) × IsPart mode frame content part × RunsThrough mode (frame + 1) contents fault others outcome × (parts ≡ part ++ others))
+    ((part : List ℕ) × (others : List ℕ) × IsPart mode frame content part
+    × RunsThrough mode (frame + 1) contents fault others outcome × (parts ≡ part ++ others))
     ⊎ ((rule : ℕ) × Refuses mode content rule × (parts ≡ []) × (outcome ≡ Stream frame (Rule rule)))

@@ -20,7 +20,8 @@ use Rattle.lsp_verdict.specs.Placed.{Raw, content, broken, show, new_fault, Plac
 
 -- ---- what is held
 
--- the decoder of each side, the snapshot pushed last, and which events of the last record are still to be given
+-- the decoder of each side, the snapshot pushed last, and which events of the last record are still
+-- to be given
 pub record State : Type 0 where
   pub editor : decoder.State
   pub server : decoder.State
@@ -68,18 +69,23 @@ StepsBy (Some rule) side old new next = (next ≡ None) × (new ≡ old)
 StepsBy None side old new None = decoder.Next old new (Ok None)
 StepsBy None side old new (Some (due.Content by len)) =
     (by ≡ side) × (len ≤ length new.kept) × decoder.Next old new (Ok (Some (last_of new.kept len)))
-StepsBy None side old new (Some (due.Broken by rule)) = (by ≡ side) × decoder.Next old new (Err rule)
+StepsBy None side old new (Some (due.Broken by rule)) =
+    (by ≡ side) × decoder.Next old new (Err rule)
 StepsBy None side old new (Some due.Snapshot) = ⊥
 
--- the decoder of a side went past its next event, of which there is none behind a fault that it gave
+-- the decoder of a side went past its next event, of which there is none behind a fault that it
+-- gave
 abbrev pub StepsSide : Side → decoder.State → decoder.State → Option Due → Type 0
 StepsSide side old new next = StepsBy old.fault side old new next
 
 abbrev pub StepsAt : Option Turn → State → State → Option Due → Type 0
 StepsAt None old new next = (next ≡ None) × (new ≡ record old { snapshot = None })
-StepsAt (Some (turn.Bytes Editor)) old new next = StepsSide Editor old.editor new.editor next × (new ≡ record old { editor = new.editor })
-StepsAt (Some (turn.Bytes Server)) old new next = StepsSide Server old.server new.server next × (new ≡ record old { server = new.server })
-StepsAt (Some turn.Snapshot) old new next = (next ≡ Some due.Snapshot) × (new ≡ record old { turn = None }) × IsSome new.snapshot
+StepsAt (Some (turn.Bytes Editor)) old new next =
+    StepsSide Editor old.editor new.editor next × (new ≡ record old { editor = new.editor })
+StepsAt (Some (turn.Bytes Server)) old new next =
+    StepsSide Server old.server new.server next × (new ≡ record old { server = new.server })
+StepsAt (Some turn.Snapshot) old new next =
+    (next ≡ Some due.Snapshot) × (new ≡ record old { turn = None }) × IsSome new.snapshot
 
 -- the next event was gone past, or there is none
 abbrev pub Steps : State → State → Option Due → Type 0
@@ -87,7 +93,8 @@ Steps old new next = StepsAt old.turn old new next
 
 -- ---- records
 
--- **a side's decoder has still to give these events of these bytes**: contents, and behind them a fault that it did not give
+-- **a side's decoder has still to give these events of these bytes**: contents, and behind them a
+-- fault that it did not give
 pub record IsDue (side : Side) (d : decoder.State) (bytes : List ℕ) (due : List Raw) : Type 0 where
   pub given : List (List ℕ)
   pub left : List (List ℕ)
@@ -109,8 +116,10 @@ ShowsDue None snapshot due = due ≡ []
 ShowsDue (Some (turn.Bytes side)) snapshot due = Unit {0}
 ShowsDue (Some turn.Snapshot) snapshot due = due ≡ shown snapshot
 
--- **the streams took these records, gave these events of them, and have still to give those that are due**
-pub record Stands (limits : Bounds) (s : State) (records : List Record) (given due : List Raw) : Type 0 where
+-- **the streams took these records, gave these events of them, and have still to give those that
+-- are due**
+pub record Stands (limits : Bounds) (s : State) (records : List Record)
+    (given due : List Raw) : Type 0 where
   pub range : IsInRange limits
   pub editor_limits : s.editor.limits ≡ limits
   pub server_limits : s.server.limits ≡ limits
@@ -125,7 +134,8 @@ pub record Stands (limits : Bounds) (s : State) (records : List Record) (given d
 abbrev pub Gives : Bounds → State → List Record → List Raw → List Raw → Option code.Raw → Type 0
 Gives limits new records given due None = (due ≡ []) × Stands limits new records given []
 Gives limits new records given due (Some raw) =
-    (later : List Raw) × (due ≡ raw_view raw ∷ later) × Stands limits new records (given ++ raw_view raw ∷ []) later
+    (later : List Raw) × (due ≡ raw_view raw ∷ later)
+    × Stands limits new records (given ++ raw_view raw ∷ []) later
 
 abbrev pub unbroken : Option ℕ → ℕ
 unbroken None = 1

@@ -24,8 +24,8 @@ pub enum EventOutcome {
     NoContent,
     /// The log ends before the event.
     FewerEvents,
-    /// The log has this fault before the event, at the record of this number, from 1; 0 is the first
-    /// line.
+    /// The log has this fault before the event, at the record of this number, from 1; 0 is the
+    /// first line.
     BadLog { number: u64, fault: LogCode },
 }
 
@@ -64,7 +64,9 @@ impl Answer {
 
     /// The event holds these bytes.
     fn of_content(alloc: Global, content: &[u8]) -> Result<Answer, RunFault>
-        ensures ok { IfOk result (λ answer. (answer.content.items ≡ content.now) × (answer.outcome ≡ EventOutcome.Done)) }
+        ensures ok { IfOk result
+            (λ answer. (answer.content.items ≡ content.now)
+            × (answer.outcome ≡ EventOutcome.Done)) }
         ensures err { (fault : RunFault) → result ≡ Err fault → fault ≡ RunFault.Memory }
     {
         Ok(Answer {
@@ -106,7 +108,8 @@ fn find_next<R: Source>(
     number: u64,
 ) -> Result<Answer, RunFault>
     requires { 0 < number }
-    ensures { (limits : Bounds) (start : Told) (n : ℕ) → HasPassed limits events.old start (R.told reader.old) n number
+    ensures { (limits : Bounds) (start : Told) (n : ℕ)
+        → HasPassed limits events.old start (R.told reader.old) n number
         → Finds limits n start (R.told reader.new) result }
 {
     let mut left = number;
@@ -124,15 +127,16 @@ fn find_next<R: Source>(
     }
 }
 
-/// Reads a log up to the event of this number, from 1, and writes what it holds and nothing else: the
-/// content of a message as it was sent, or the text of a snapshot.
+/// Reads a log up to the event of this number, from 1, and writes what it holds and nothing else:
+/// the content of a message as it was sent, or the text of a snapshot.
 ///
-/// Events are counted as a verdict numbers them, but nothing is judged: an event may offend, and so may
-/// those before it. An event that is a fault of a side's frames has no content. Where the log ends before
-/// the event, the outcome is the log's fault, or that there are fewer events.
+/// Events are counted as a verdict numbers them, but nothing is judged: an event may offend, and so
+/// may those before it. An event that is a fault of a side's frames has no content. Where the log
+/// ends before the event, the outcome is the log's fault, or that there are fewer events.
 ///
 /// # Errors
-/// `Read` where the source failed, `Write` where the sink did, and `Memory` where memory was refused.
+/// `Read` where the source failed, `Write` where the sink did, and `Memory` where memory was
+/// refused.
 pub fn run_event<R: Source, W: Sink>(
     alloc: Global,
     reader: &mut R,
@@ -141,21 +145,26 @@ pub fn run_event<R: Source, W: Sink>(
     number: u64,
 ) -> Result<EventOutcome, RunFault>
     requires { 0 < number }
-    // What is due for that event of the log read, however that goes on where its end was not met, is
-    // written, and nothing else; the outcome is the one that is due.
-    ensures written { IfOk result (λ outcome. (out : List ℕ) × Took (W.told writer.old) (W.told writer.new) out
-        × OfRead limits (R.told reader.old) (R.told reader.new) (λ log. IsEvent limits log number out outcome)) }
+    // What is due for that event of the log read, however that goes on where its end was not met,
+    // is written, and nothing else; the outcome is the one that is due.
+    ensures written { IfOk result
+        (λ outcome. (out : List ℕ) × Took (W.told writer.old) (W.told writer.new) out
+        × OfRead limits (R.told reader.old) (R.told reader.new)
+        (λ log. IsEvent limits log number out outcome)) }
     // That there are fewer events is known only at the source's end.
     ensures ended { result ≡ Ok EventOutcome.FewerEvents → IsAtEnd (R.told reader.new).bytes }
 
-    // What is written before a fault begins what is due; after a read fault or for want of memory that is
-    // nothing.
+    // What is written before a fault begins what is due; after a read fault or for want of memory
+    // that is nothing.
     ensures fault { OnErr result ((out : List ℕ) × Took (W.told writer.old) (W.told writer.new) out
-        × OfRead limits (R.told reader.old) (R.told reader.new) (λ log. BeginsEvent limits log number out)) }
+        × OfRead limits (R.told reader.old) (R.told reader.new)
+        (λ log. BeginsEvent limits log number out)) }
     ensures read_fault { result ≡ Err RunFault.Read → W.told writer.new ≡ W.told writer.old }
     ensures memory { result ≡ Err RunFault.Memory → W.told writer.new ≡ W.told writer.old }
-    ensures source_failures { (R.told reader.new).failures ≡ source_failures result (R.told reader.old).failures }
-    ensures sink_failures { (W.told writer.new).failures ≡ sink_failures result (W.told writer.old).failures }
+    ensures source_failures { (R.told reader.new).failures
+        ≡ source_failures result (R.told reader.old).failures }
+    ensures sink_failures { (W.told writer.new).failures
+        ≡ sink_failures result (W.told writer.old).failures }
     // At most one byte past the limit is read.
     ensures limit { GaveAtMost (limits.log + 1) (R.told reader.old) (R.told reader.new) }
 {

@@ -1,6 +1,7 @@
 //! A run over one raw stream of frames (LSP 3.17, "Base Protocol"): one direction of what passed
 //! between an editor and a server.
-ghost use Rattle.std.specs.Prelude.{◌≡◌, ◌≤◌, ◌<◌, ◌+◌, ◌^◌, ◌∷◌, ◌++◌, [], ℕ, List, length, drop, decimal, None, false, Ok, IfOk, IfSome, OnErr};
+ghost use Rattle.std.specs.Prelude.{◌≡◌, ◌≤◌, ◌<◌, ◌+◌, ◌^◌, ◌∷◌, ◌++◌, [], ℕ, List, length, drop};
+ghost use Rattle.std.specs.Prelude.{decimal, None, false, Ok, IfOk, IfSome, OnErr};
 ghost use Rattle.std.specs.Io.KnownBytes.{IsAtEnd};
 ghost use Rattle.lsp_frame.specs.Bounds.{Bounds, IsInRange};
 ghost use Rattle.lsp_frame.specs.Decoder.{StandsFor};
@@ -8,9 +9,11 @@ ghost use Rattle.lsp_frame.specs.Sink.{Writes};
 ghost use Rattle.lsp_frame.specs.Told.{Told, Took};
 ghost use Rattle.lsp_frame.specs.Pulling.{Misses};
 ghost use Rattle.lsp_streams.specs.StreamParts.{numbers, kind_line, outcome_at};
-ghost use Rattle.lsp_verdict.specs.RunIo.{OfRead, GaveAtMost, Tells, source_failures, sink_failures};
+ghost use Rattle.lsp_verdict.specs.RunIo.{OfRead, GaveAtMost, Tells, source_failures};
+ghost use Rattle.lsp_verdict.specs.RunIo.{sink_failures};
 ghost use Rattle.lsp_streams.specs.StreamRun.{fault_of, closing, IsRun, BeginsRun};
-ghost use Rattle.lsp_streams.specs.StreamSteps.{WritesPart, AreParts, Finds, PartsAnswer, ToldAll, IsLong, LongAnswer};
+ghost use Rattle.lsp_streams.specs.StreamSteps.{WritesPart, AreParts, Finds, PartsAnswer, ToldAll};
+ghost use Rattle.lsp_streams.specs.StreamSteps.{IsLong, LongAnswer};
 ghost use Rattle.lsp_verdict.specs.declared.outcome.Mode.TheVariants.{Lengths};
 
 use itoa::write_digits;
@@ -20,8 +23,12 @@ use lsp_rpc::RpcFault;
 use lsp_verdict::{Mode, Outcome, RunFault, StreamFault, stream_report};
 use std::alloc::Global;
 
-/// How many bytes are asked of the source at once.
-const PIECE: u64 = 65_536;
+/// How many bytes are asked of the source at once. The unfinished frame at the end of each piece is
+/// moved, so a large piece moves less.
+const PIECE: u64 = 262_144;
+
+/// How many bytes of a content must be missing to drop it where only its length is due.
+const LONG: u64 = 65_536;
 
 /// How many bytes a line of numbers has at most: two numbers of 20 digits, a space, and an end.
 const LINE: usize = 42;
@@ -65,8 +72,8 @@ fn write_kind_line<W: Sink>(
     put_all(writer, b"\n")
 }
 
-/// Writes the line of the message that the content is (JSON-RPC 2.0, sections 4 and 5), or gives the
-/// rule that it breaks.
+/// Writes the line of the message that the content is (JSON-RPC 2.0, sections 4 and 5), or gives
+/// the rule that it breaks.
 fn write_kind<W: Sink>(
     messages: &mut OutlineReader,
     writer: &mut W,
@@ -119,7 +126,8 @@ fn write_found<W: Sink>(
     ensures room { given.new + length decoder.new.rest ≤ given.old + length decoder.old.rest }
     ensures limits { decoder.new.limits ≡ decoder.old.limits }
     ensures answer { (bytes : List ℕ) (contents : List (List ℕ)) (parts : List ℕ) →
-        StandsFor decoder.old bytes contents → given.old ≡ length contents → AreParts mode 1 contents parts →
+        StandsFor decoder.old bytes contents → given.old ≡ length contents
+        → AreParts mode 1 contents parts →
         Finds decoder.new mode (W.told writer.old) (W.told writer.new)
         given.new bytes parts result }
 {
@@ -146,7 +154,7 @@ fn long_content(decoder: &Decoder, mode: Mode, left: u64) -> Option<Missing>
         return None;
     }
     let missing = decoder.missing()?;
-    if !(PIECE..=left).contains(&(missing.bytes as u64)) {
+    if !(LONG..=left).contains(&(missing.bytes as u64)) {
         return None;
     }
     Some(missing)
@@ -164,7 +172,8 @@ fn write_long<R: Source, W: Sink>(
     requires room { given.old < 2 ^ 63 }
     ensures count { given.new ≤ given.old + 1 }
     ensures answer { (limits : Bounds) (before sink_before : Told) (read : ℕ) →
-        ToldAll limits Lengths before (R.told reader.old) sink_before (W.told writer.old) decoder.old given.old read
+        ToldAll limits Lengths before (R.told reader.old) sink_before (W.told writer.old)
+        decoder.old given.old read
         → read + missing.bytes ≤ limits.log
         → LongAnswer limits Lengths before (R.told reader.new) sink_before (W.told writer.new)
         decoder.new given.new (read + missing.bytes) result }
@@ -180,7 +189,8 @@ fn write_long<R: Source, W: Sink>(
 /// The outcome where the source is at its end and the decoder has no whole frame left.
 fn outcome_at_end(decoder: &Decoder, given: u64) -> Outcome
     requires { given < 2 ^ 63 }
-    ensures { decoder.now.fault ≡ None → result ≡ outcome_at (given + 1) (fault_of None false decoder.now.rest) }
+    ensures { decoder.now.fault ≡ None
+        → result ≡ outcome_at (given + 1) (fault_of None false decoder.now.rest) }
 {
     match decoder.finish() {
         Ok(()) => Outcome::Done,
@@ -262,8 +272,8 @@ fn write_closing<W: Sink>(
 /// mode says. In `Canonical` the report of a fault is the caller's to show; in the other modes it
 /// follows on the same sink.
 ///
-/// A stream of more bytes than the log limit is judged by its first that many; one byte more is read
-/// to see that it goes on.
+/// A stream of more bytes than the log limit is judged by its first that many; one byte more is
+/// read to see that it goes on.
 ///
 /// The answer is `Read` where the source failed, `Write` where the sink did, and `Memory` where
 /// memory was refused; what was written before stays written.
@@ -274,18 +284,23 @@ pub fn run_frames<R: Source, W: Sink>(
     limits: Limits,
     mode: Mode,
 ) -> Result<Outcome, RunFault>
-    // What is due for the stream read, however that goes on where its end was not met, is written, and
-    // nothing else.
-    ensures written { IfOk result (λ outcome. (out : List ℕ) × Took (W.told writer.old) (W.told writer.new) out
-        × OfRead limits (R.told reader.old) (R.told reader.new) (λ stream. IsRun limits mode stream out outcome)) }
+    // What is due for the stream read, however that goes on where its end was not met, is written,
+    // and nothing else.
+    ensures written { IfOk result
+        (λ outcome. (out : List ℕ) × Took (W.told writer.old) (W.told writer.new) out
+        × OfRead limits (R.told reader.old) (R.told reader.new)
+        (λ stream. IsRun limits mode stream out outcome)) }
     // All was well only where the source's end was met.
     ensures done { result ≡ Ok Outcome.Done → IsAtEnd (R.told reader.new).bytes }
 
     // What is written before a fault begins what is due for the stream read.
     ensures fault { OnErr result ((out : List ℕ) × Took (W.told writer.old) (W.told writer.new) out
-        × OfRead limits (R.told reader.old) (R.told reader.new) (λ stream. BeginsRun limits mode stream out)) }
-    ensures source_failures { (R.told reader.new).failures ≡ source_failures result (R.told reader.old).failures }
-    ensures sink_failures { (W.told writer.new).failures ≡ sink_failures result (W.told writer.old).failures }
+        × OfRead limits (R.told reader.old) (R.told reader.new)
+        (λ stream. BeginsRun limits mode stream out)) }
+    ensures source_failures { (R.told reader.new).failures
+        ≡ source_failures result (R.told reader.old).failures }
+    ensures sink_failures { (W.told writer.new).failures
+        ≡ sink_failures result (W.told writer.old).failures }
     // At most one byte past the limit is read.
     ensures limit { GaveAtMost (limits.log + 1) (R.told reader.old) (R.told reader.new) }
 {

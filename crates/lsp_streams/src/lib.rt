@@ -1,5 +1,5 @@
-//! The runs that judge nothing: the frames of one raw stream, the normal form of a log, and the content
-//! of one of its events.
+//! The runs that judge nothing: the frames of one raw stream, the normal form of a log, and the
+//! content of one of its events.
 #![tactic(auto)]
 
 mod event;

@@ -5,10 +5,11 @@ ghost use Rattle.lsp_frame.specs.Bounds.{Bounds};
 ghost use Rattle.lsp_frame.specs.Told.{Told};
 ghost use Rattle.lsp_frame.specs.declared.format.Format.{Format};
 ghost use Rattle.lsp_log.specs.Log as log;
-ghost use Rattle.lsp_log.specs.Reader.{KeepsFormat};
+ghost use Rattle.lsp_log.specs.Reader.{KeepsFormat, shown_by};
 ghost use Rattle.lsp_verdict.specs.Placed as placed;
 ghost use Rattle.lsp_verdict.specs.RunIo.{BreaksOff};
-ghost use Rattle.lsp_streams.specs.LogEvents.{Finds, HoldsStep, IsIdle, Opens, Reads, Takes, unread};
+ghost use Rattle.lsp_streams.specs.LogEvents.{Finds, HoldsStep, IsIdle, Opens, Reads, Takes};
+ghost use Rattle.lsp_streams.specs.LogEvents.{unread};
 ghost use Rattle.lsp_streams.specs.LogLending.{LendsNext};
 ghost use Rattle.lsp_streams.specs.Streams.{decoder_of, ends_inside};
 
@@ -93,13 +94,22 @@ impl LogEvents {
     /// # Errors
     /// `Read` where the source failed, and `Memory` where memory was refused.
     pub fn next<R: Source>(&mut self, reader: &mut R) -> Result<Next<'_>, RunFault>
-        ensures* lends { sem 𝓛 (LendsNext self.entry (R.told reader.old) (R.told reader.new) result) }
+        ensures* lends { sem 𝓛 (LendsNext self.entry (R.told reader.old)
+            (R.told reader.new) result) }
     {
         match self.find(reader) {
             Ok(Step::Event(due)) => Ok(Next::Event(self.streams.lend(due))),
             Ok(Step::End(end)) => Ok(Next::End(end)),
             Err(fault) => Err(fault),
         }
+    }
+
+    /// The bytes of a side after its last whole frame. After a fault of its frames they go at least
+    /// as far as that is seen.
+    pub fn rest(&self, side: Side) -> &[u8]
+        ensures { result.now ≡ (decoder_of side self.now.streams).rest }
+    {
+        self.streams.rest(side)
     }
 
     /// Whether a side's frames, of which none has a fault, end inside one.
@@ -109,10 +119,28 @@ impl LogEvents {
         self.streams.ends_inside(side)
     }
 
+    /// After a fault of the log, how many of its bytes precede that: the bad record begins there; 0
+    /// where the first line is missing.
+    pub fn place(&self) -> u64
+        ensures { result ≡ self.now.log.place }
+    {
+        self.log.place()
+    }
+
+    /// After a fault of the log, the line at its place, its LF included, as far as the log's first
+    /// 64 bytes from there on go, and 14 of a log whose first line is missing.
+    pub fn found(&self) -> &[u8]
+        ensures { result.now ≡ shown_by self.now.log }
+    {
+        self.log.found()
+    }
+
     /// Goes past the next event of the log.
     fn find<R: Source>(&mut self, reader: &mut R) -> Result<Step, RunFault>
         ensures held { IfOk result (HoldsStep self.new.streams) }
-        ensures answer { (limits : Bounds) (format : Option Format) (start : Told) (records : List log.Record) (given due : List placed.Raw) → Reads limits format self.old start (R.told reader.old) records given due
+        ensures answer { (limits : Bounds) (format : Option Format) (start : Told)
+            (records : List log.Record) (given due : List placed.Raw)
+            → Reads limits format self.old start (R.told reader.old) records given due
             → Finds limits format self.new start (R.told reader.new) records given result }
     {
         loop {
@@ -132,8 +160,11 @@ impl LogEvents {
         ensures format { KeepsFormat self.old.log.format self.new.log.format }
         // An entry leaves less to read, so that a caller's loop ends.
         ensures less { OnOk result (unread self.new < unread self.old) }
-        ensures answer { (limits : Bounds) (start : Told) (records : List log.Record) (given : List placed.Raw) → IsIdle limits self.old start (R.told reader.old) records given
-            → Takes limits self.old.log.format self.new start (R.told reader.new) records given result }
+        ensures answer { (limits : Bounds) (start : Told) (records : List log.Record)
+            (given : List placed.Raw)
+            → IsIdle limits self.old start (R.told reader.old) records given
+            → Takes limits self.old.log.format self.new start
+            (R.told reader.new) records given result }
     {
         match next_entry(&mut self.log, reader)? {
             Entry::Record(record) => self.streams.push(record)?,

@@ -7,7 +7,8 @@ ghost use Rattle.lsp_log.specs.Log as log;
 ghost use Rattle.lsp_streams.specs.LogEvents.{Opens};
 ghost use Rattle.lsp_streams.specs.Normal as normal;
 ghost use Rattle.lsp_streams.specs.Normal.{first_broken, EndsNormal, BeginsNormal};
-ghost use Rattle.lsp_streams.specs.NormalSteps.{Counted, CarriesCapped, EndsLog, EndsWhole, Forms, WritesEvent, WroteHead};
+ghost use Rattle.lsp_streams.specs.NormalSteps.{Counted, CarriesCapped, EndsLog, EndsWhole, Forms};
+ghost use Rattle.lsp_streams.specs.NormalSteps.{WritesEvent, WroteHead};
 ghost use Rattle.lsp_streams.specs.Streams.{Stands, raw_view};
 ghost use Rattle.lsp_verdict.specs.Placed.{Raw as PlacedRaw};
 ghost use Rattle.lsp_verdict.specs.RunIo.{OfRead, GaveAtMost, source_failures, sink_failures};
@@ -23,7 +24,8 @@ use std::alloc::Global;
 
 /// No at the event that comes next, with the number that the side's next message has.
 fn no_next(counts: &Counts, rule: u16, side: Side) -> Outcome
-    ensures { (raws : List PlacedRaw) → Counted counts.now raws → CarriesCapped result (Some (normal.no_next rule side raws)) }
+    ensures { (raws : List PlacedRaw) → Counted counts.now raws
+        → CarriesCapped result (Some (normal.no_next rule side raws)) }
 {
     let who = who_of(side);
     let (number, event) = counts.next(who);
@@ -44,7 +46,8 @@ fn write_event<W: Sink>(
 ) -> Result<Option<Outcome>, RunFault>
     ensures size { pieces.new ≡ pieces.old }
     ensures answer { (before : List PlacedRaw) → Counted counts.old before
-        → WritesEvent pieces.old counts.new (W.told writer.old) (W.told writer.new) before (raw_view raw.now) result }
+        → WritesEvent pieces.old counts.new (W.told writer.old) (W.told writer.new) before
+        (raw_view raw.now) result }
 {
     match raw {
         Raw::Content { side, content } => {
@@ -63,7 +66,8 @@ fn write_event<W: Sink>(
 
 /// The outcome where the log ends without a fault, behind events that were counted.
 fn sound_outcome(events: &LogEvents, counts: &Counts) -> Outcome
-    ensures { (limits : Bounds) (records : List log.Record) (given : List PlacedRaw) → Stands limits events.now.streams records given [] → Counted counts.now given
+    ensures { (limits : Bounds) (records : List log.Record) (given : List PlacedRaw)
+        → Stands limits events.now.streams records given [] → Counted counts.now given
         → first_broken given ≡ None → EndsWhole limits records given result }
 {
     if events.ends_inside(Side::Editor) {
@@ -77,7 +81,8 @@ fn sound_outcome(events: &LogEvents, counts: &Counts) -> Outcome
 
 /// The outcome where the log ends so, behind events that were counted.
 fn outcome_at(events: &LogEvents, counts: &Counts, end: End) -> Outcome
-    ensures { (limits : Bounds) (records : List log.Record) (given : List PlacedRaw) → Stands limits events.now.streams records given [] → Counted counts.now given
+    ensures { (limits : Bounds) (records : List log.Record) (given : List PlacedRaw)
+        → Stands limits events.now.streams records given [] → Counted counts.now given
         → first_broken given ≡ None → EndsLog limits records given end result }
 {
     match end {
@@ -93,7 +98,8 @@ fn write_normal<R: Source, W: Sink>(
     writer: &mut W,
     limits: Limits,
 ) -> Result<Outcome, RunFault>
-    ensures { Forms limits (R.told reader.old) (R.told reader.new) (W.told writer.old) (W.told writer.new) result }
+    ensures { Forms limits (R.told reader.old) (R.told reader.new) (W.told writer.old)
+        (W.told writer.new) result }
 {
     let mut events = LogEvents::open(alloc, reader, limits)?;
     write_head_of(writer, events.format().unwrap_or(Format::One))?;
@@ -109,7 +115,8 @@ fn write_events<R: Source, W: Sink>(
     events: &mut LogEvents,
 ) -> Result<Outcome, RunFault>
     requires { (start : Told) × Opens limits start (R.told reader.old) events.old }
-    ensures { (start sink : Told) → Opens limits start (R.told reader.old) events.old → WroteHead events.old sink (W.told writer.old)
+    ensures { (start sink : Told) → Opens limits start (R.told reader.old) events.old
+        → WroteHead events.old sink (W.told writer.old)
         → Forms limits start (R.told reader.new) sink (W.told writer.new) result }
 {
     let size = limits.chunk() as usize;
@@ -145,18 +152,23 @@ pub fn run_normal<R: Source, W: Sink>(
     writer: &mut W,
     limits: Limits,
 ) -> Result<Outcome, RunFault>
-    // The normal form of the log read, however that goes on where its end was not met, is written, and
-    // nothing else; the outcome carries the fault that ends it.
-    ensures written { IfOk result (λ outcome. (out : List ℕ) × Took (W.told writer.old) (W.told writer.new) out
-        × OfRead limits (R.told reader.old) (R.told reader.new) (λ log. EndsNormal limits log out outcome)) }
+    // The normal form of the log read, however that goes on where its end was not met, is written,
+    // and nothing else; the outcome carries the fault that ends it.
+    ensures written { IfOk result
+        (λ outcome. (out : List ℕ) × Took (W.told writer.old) (W.told writer.new) out
+        × OfRead limits (R.told reader.old) (R.told reader.new)
+        (λ log. EndsNormal limits log out outcome)) }
     // All was well only where the source's end was met.
     ensures done { result ≡ Ok Outcome.Done → IsAtEnd (R.told reader.new).bytes }
 
     // What is written before a fault begins the normal form of the log read.
     ensures fault { OnErr result ((out : List ℕ) × Took (W.told writer.old) (W.told writer.new) out
-        × OfRead limits (R.told reader.old) (R.told reader.new) (λ log. BeginsNormal limits log out)) }
-    ensures source_failures { (R.told reader.new).failures ≡ source_failures result (R.told reader.old).failures }
-    ensures sink_failures { (W.told writer.new).failures ≡ sink_failures result (W.told writer.old).failures }
+        × OfRead limits (R.told reader.old) (R.told reader.new)
+        (λ log. BeginsNormal limits log out)) }
+    ensures source_failures { (R.told reader.new).failures
+        ≡ source_failures result (R.told reader.old).failures }
+    ensures sink_failures { (W.told writer.new).failures
+        ≡ sink_failures result (W.told writer.old).failures }
     // At most one byte past the limit is read.
     ensures limit { GaveAtMost (limits.log + 1) (R.told reader.old) (R.told reader.new) }
 {

@@ -1,5 +1,7 @@
 //! Laws of normal forms, each the contract of a function that does nothing.
-ghost use Rattle.lsp_streams.specs.NormalLaws.{OneNormalForm, NormalFormKeepsEvents, NormalFormKeepsVerdict, NormalFormStays, SomeNormalForm};
+ghost use Rattle.lsp_streams.specs.NormalLaws.{OneNormalForm, NormalFormKeepsEvents};
+ghost use Rattle.lsp_streams.specs.NormalLaws.{NormalFormKeepsVerdict, NormalFormStays};
+ghost use Rattle.lsp_streams.specs.NormalLaws.{SomeNormalForm};
 
 /// Every list of bytes has a normal form.
 pub fn some_normal_form()

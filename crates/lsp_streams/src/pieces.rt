@@ -1,5 +1,6 @@
 //! Contents as the records of a log.
-ghost use Rattle.std.specs.Prelude.{◌≡◌, ◌+◌, ◌<◌, ◌++◌, codes, decimal, length, string_bytes, OnOk};
+ghost use Rattle.std.specs.Prelude.{◌≡◌, ◌+◌, ◌<◌, ◌++◌, codes, decimal, length, string_bytes};
+ghost use Rattle.std.specs.Prelude.{OnOk};
 ghost use Rattle.std.specs.List.{flat_map};
 ghost use Rattle.lsp_frame.specs.Header.{blank_line};
 ghost use Rattle.lsp_frame.specs.Sink.{canonical, Writes};
@@ -67,7 +68,8 @@ impl Pieces {
 
 /// Makes the text the header part of the canonical frame of a content of this length.
 fn fill_head(head: &mut String, len: usize) -> Result<(), Memory>
-    ensures { OnOk result (string_bytes head.new ≡ codes "Content-Length: " ++ decimal len ++ blank_line) }
+    ensures { OnOk result (string_bytes head.new ≡ codes "Content-Length: " ++ decimal len
+        ++ blank_line) }
 {
     head.clear();
     head.push_str("Content-Length: ")?;

@@ -5,7 +5,8 @@ ghost use Rattle.lsp_frame.specs.Bounds.{Bounds};
 ghost use Rattle.lsp_log.specs.Log as log;
 ghost use Rattle.lsp_log.specs.Records.{record_view};
 ghost use Rattle.lsp_verdict.specs.Placed as placed;
-ghost use Rattle.lsp_streams.specs.Streams.{Stands, Steps, StepsSide, IsHeld, IsRaw, raw_view, decoder_of, ends_inside};
+ghost use Rattle.lsp_streams.specs.Streams.{Stands, Steps, StepsSide, IsHeld, IsRaw, raw_view};
+ghost use Rattle.lsp_streams.specs.Streams.{decoder_of, ends_inside};
 ghost use Rattle.lsp_streams.specs.Lending.{LendsRaw};
 
 use crate::raw::Raw;
@@ -44,8 +45,9 @@ pub(crate) enum Due {
 /// Takes the records of a log, and gives the events that they bring one after another, before their
 /// contents are read.
 ///
-/// It stands for the records pushed and the events given. The events of a record are contents that its
-/// bytes make whole and a fault of its side's frames, behind which that side has no more; or a snapshot.
+/// It stands for the records pushed and the events given. The events of a record are contents that
+/// its bytes make whole and a fault of its side's frames, behind which that side has no more; or a
+/// snapshot.
 #[derive(Drop)]
 pub struct Streams {
     editor: Decoder,
@@ -89,8 +91,11 @@ impl Streams {
     /// # Errors
     /// `Memory` where it was refused; nothing changes then.
     pub fn push(&mut self, entry: Record) -> Result<(), Memory>
-        ensures ok { OnOk result ((limits : Bounds) (records : List log.Record) (given : List placed.Raw) → Stands limits self.old records given []
-            → (due : List placed.Raw) × Stands limits self.new (records ++ record_view entry ∷ []) given due) }
+        ensures ok { OnOk result
+            ((limits : Bounds) (records : List log.Record) (given : List placed.Raw)
+            → Stands limits self.old records given []
+            → (due : List placed.Raw)
+            × Stands limits self.new (records ++ record_view entry ∷ []) given due) }
         ensures err { OnErr result (self.new ≡ self.old) }
     {
         match entry {
@@ -126,8 +131,8 @@ impl Streams {
         }
     }
 
-    /// The bytes of a side behind its last whole frame. Behind a fault of its frames they go at least as
-    /// far as that is seen.
+    /// The bytes of a side behind its last whole frame. Behind a fault of its frames they go at
+    /// least as far as that is seen.
     pub fn rest(&self, side: Side) -> &[u8]
         ensures { result.now ≡ (decoder_of side self.now).rest }
     {

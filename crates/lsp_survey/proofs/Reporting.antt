@@ -1,17 +1,21 @@
 -- The report of all that is wrong with a log, written as it is found.
-use Rattle.std.specs.Prelude.{map, filter, not, if◌then◌else◌, option_map, codes, decimal, take, drop, slice_get}
+use Rattle.std.specs.Prelude.{map, filter, not, if◌then◌else◌, option_map, codes, decimal, take}
+use Rattle.std.specs.Prelude.{drop, slice_get}
 use Rattle.std.specs.Io.KnownBytes.{IsAtEnd}
 use Rattle.std.specs.List.{flat_map}
-use Rattle.std.proofs.Common.{◌≡◌, ℕ, ◌+◌, ◌<◌, ◌≤◌, ◌^◌, length, arith, Bool, true, false, List, [], ◌∷◌, ◌++◌, Option, Some, None, Result, Ok, Err, refl, sym, ap, subst, ◌∙◌, append_assoc, append-nil}
+use Rattle.std.proofs.Common.{◌≡◌, ℕ, ◌+◌, ◌<◌, ◌≤◌, ◌^◌, length, arith, Bool, true, false, List}
+use Rattle.std.proofs.Common.{[], ◌∷◌, ◌++◌, Option, Some, None, Result, Ok, Err, refl, sym, ap}
+use Rattle.std.proofs.Common.{subst, ◌∙◌, append_assoc, append-nil}
 use Rattle.std.proofs.lemmas.List.{map-append, take-append-drop}
 use Rattle.std.proofs.lemmas.List.Concat.{flat_map-append}
 use Rattle.lsp_frame.specs.Bounds.{Bounds, IsInRange}
 use Rattle.lsp_frame.specs.Sink.{Wrote, Stopped}
 use Rattle.lsp_frame.specs.Told.{Told, Took, after_failure}
 use Rattle.lsp_frame.proofs.Telling.{took_then}
-use Rattle.lsp_frame.proofs.Writing.{stopped_before, stopped_then, wrote_then}
+use Rattle.lsp_frame.proofs.Writing.{stopped_before, stopped_then, wrote_nothing, wrote_then}
 use Rattle.lsp_survey.specs.Reads.{BeginsSurvey, SoFar, BrokeOff}
-use Rattle.lsp_survey.specs.Reported.{is_every, IsReported, BeginsReported, lines_of, closing, IsYes, sink_after, IsTally, AllReported, PartReported, Reports}
+use Rattle.lsp_survey.specs.Reported.{is_every, IsReported, BeginsReported, lines_of, closing}
+use Rattle.lsp_survey.specs.Reported.{IsYes, sink_after, IsTally, AllReported, PartReported}
 use Rattle.lsp_verdict.specs.declared.listing.Listing.{Listing}
 use Rattle.lsp_verdict.specs.declared.listing.Listing.TheVariants.{Causes, Every}
 use Rattle.lsp_survey.specs.declared.survey_reader.SurveyReader.{SurveyReader}
@@ -20,7 +24,8 @@ use Rattle.lsp_verdict.specs.Given.{offence_view, verdict_view}
 use Rattle.lsp_verdict.specs.Offences.{Noted, Offence}
 use Rattle.lsp_verdict.specs.Placed.{Raw}
 use Rattle.lsp_verdict.specs.RunIo.{OfRead, Tells, TellsSome}
-use Rattle.lsp_verdict.specs.Survey.{IsSurvey, all_report, bad_lines, first_verdict, found_line, offence_lines, shown_of}
+use Rattle.lsp_verdict.specs.Survey.{IsSurvey, all_report, bad_lines, first_verdict, found_line}
+use Rattle.lsp_verdict.specs.Survey.{offence_lines, shown_of}
 use Rattle.lsp_log.specs.declared.fault.LogCode.{LogCode}
 use Rattle.lsp_verdict.specs.Complete.{IsCompleteVerdict, IsVerdictBy}
 use Rattle.lsp_verdict.specs.Outcome.{IsVerdict}
@@ -43,30 +48,46 @@ use Rattle.lsp_verdict.proofs.RunReading.{read_map}
 
 -- ---- lines
 
-filter_append : (xs ys : List Offence) → filter (λ (o : Offence). not o.follows) (xs ++ ys) ≡ filter (λ (o : Offence). not o.follows) xs ++ filter (λ (o : Offence). not o.follows) ys
+filter_append : (xs ys : List Offence)
+    → filter (λ (o : Offence). not o.follows) (xs ++ ys)
+    ≡ filter (λ (o : Offence). not o.follows) xs ++ filter (λ (o : Offence). not o.follows) ys
 filter_append [] ys = refl
 filter_append (x ∷ xs) ys = by_test x.follows (filter_append xs ys)
   where
-    by_test : (b : Bool) → filter (λ (o : Offence). not o.follows) (xs ++ ys) ≡ filter (λ (o : Offence). not o.follows) xs ++ filter (λ (o : Offence). not o.follows) ys
-        → (if not b then x ∷ filter (λ (o : Offence). not o.follows) (xs ++ ys) else filter (λ (o : Offence). not o.follows) (xs ++ ys))
-        ≡ (if not b then x ∷ filter (λ (o : Offence). not o.follows) xs else filter (λ (o : Offence). not o.follows) xs) ++ filter (λ (o : Offence). not o.follows) ys
+    by_test : (b : Bool) → filter (λ (o : Offence). not o.follows) (xs ++ ys)
+        ≡ filter (λ (o : Offence). not o.follows) xs ++ filter (λ (o : Offence). not o.follows) ys
+        → (if not b then x ∷ filter (λ (o : Offence). not o.follows) (xs ++ ys) else filter
+        (λ (o : Offence). not o.follows) (xs ++ ys))
+        ≡ (if not b then x ∷ filter (λ (o : Offence). not o.follows) xs else filter
+        (λ (o : Offence). not o.follows) xs) ++ filter (λ (o : Offence). not o.follows) ys
     by_test true h = h
     by_test false h = ap (λ (l : List Offence). x ∷ l) h
 
-pub lines_append : (listing : Listing) (xs ys : List Offence) → lines_of listing (xs ++ ys) ≡ lines_of listing xs ++ lines_of listing ys
+pub lines_append : (listing : Listing) (xs ys : List Offence)
+    → lines_of listing (xs ++ ys) ≡ lines_of listing xs ++ lines_of listing ys
 lines_append Every xs ys = flat_map-append offence_lines xs ys
-lines_append Causes xs ys = ap (flat_map offence_lines) (filter_append xs ys) ∙ flat_map-append offence_lines (filter (λ (o : Offence). not o.follows) xs) (filter (λ (o : Offence). not o.follows) ys)
+lines_append Causes xs ys =
+    ap (flat_map offence_lines) (filter_append xs ys)
+    ∙ flat_map-append offence_lines (filter (λ (o : Offence). not o.follows) xs)
+    (filter (λ (o : Offence). not o.follows) ys)
 
-pub report_is : (listing : Listing) (found : List Offence) (bad : Option Verdict) (s : Summary) → all_report (is_every listing) found bad s ≡ lines_of listing found ++ closing found bad s
+pub report_is : (listing : Listing) (found : List Offence) (bad : Option Verdict) (s : Summary)
+    → all_report (is_every listing) found bad s ≡ lines_of listing found ++ closing found bad s
 report_is Every [] bad s = refl
 report_is Causes [] bad s = refl
-report_is Every (o ∷ found) bad s = append_assoc (flat_map offence_lines (o ∷ found)) (bad_lines bad) (found_line (o ∷ found))
-report_is Causes (o ∷ found) bad s = append_assoc (flat_map offence_lines (shown_of false (o ∷ found))) (bad_lines bad) (found_line (o ∷ found))
+report_is Every (o ∷ found) bad s =
+    append_assoc (flat_map offence_lines (o ∷ found)) (bad_lines bad) (found_line (o ∷ found))
+report_is Causes (o ∷ found) bad s =
+    append_assoc (flat_map offence_lines (shown_of false (o ∷ found))) (bad_lines bad)
+    (found_line (o ∷ found))
 
 -- ---- a log
 
 -- what begins the lines of the first offences begins the report
-begins_at : (completeness : Completeness) (limits : Bounds) (listing : Listing) (found : List Offence) (out left : List ℕ) → lines_of listing found ≡ out ++ left → (log : List ℕ) → BeginsSurvey completeness limits found log → BeginsReported completeness limits listing log out
+begins_at : (completeness : Completeness) (limits : Bounds) (listing : Listing)
+    (found : List Offence) (out left : List ℕ) → lines_of listing found ≡ out ++ left
+    → (log : List ℕ) → BeginsSurvey completeness limits found log
+    → BeginsReported completeness limits listing log out
 begins_at completeness limits listing found out left whole log (later, bad, s, is) =
     let all = found ++ later in
     let tail = lines_of listing later ++ closing all bad s in (
@@ -80,14 +101,16 @@ begins_at completeness limits listing found out left whole log (later, bad, s, i
         written =
             sym (append_assoc out left tail)
             ∙ ap (λ l. l ++ tail) (sym whole)
-            ∙ sym (append_assoc (lines_of listing found) (lines_of listing later) (closing all bad s))
+            ∙ sym (append_assoc (lines_of listing found) (lines_of listing later)
+            (closing all bad s))
             ∙ ap (λ l. l ++ closing all bad s) (sym (lines_append listing found later))
             ∙ sym (report_is listing all bad s);
         comes_to = refl;
       },
     )
 
-pub by_sink : (old mid : Told) (f : RunFault) → mid.failures ≡ old.failures → (f ≡ faults.Write → ⊥) → mid.failures ≡ sink_after f old.failures
+pub by_sink : (old mid : Told) (f : RunFault) → mid.failures ≡ old.failures → (f ≡ faults.Write → ⊥)
+    → mid.failures ≡ sink_after f old.failures
 by_sink old mid faults.Read e unwritten = e
 by_sink old mid faults.Write e unwritten = absurd (unwritten refl)
 by_sink old mid faults.Memory e unwritten = e
@@ -95,7 +118,8 @@ by_sink old mid faults.Memory e unwritten = e
 -- ---- a run
 
 -- these events of the log were heard, and the lines of the offences among them written
-pub record IsListing (completeness : Completeness) (limits : Bounds) (listing : Listing) (e : SurveyReader) (t : Tally) (start now old new : Told) : Type 0 where
+pub record IsListing (completeness : Completeness) (limits : Bounds) (listing : Listing)
+    (e : SurveyReader) (t : Tally) (start now old new : Told) : Type 0 where
   pub past : List Raw
   pub notes : List Noted
   pub found : List Offence
@@ -104,56 +128,86 @@ pub record IsListing (completeness : Completeness) (limits : Bounds) (listing : 
   pub tally : IsTally t found
   pub wrote : Wrote old new (lines_of listing found)
 
-module _ (completeness : Completeness) (limits : Bounds) (listing : Listing) (start now old mid new : Told) (found : List Offence) (wrote : Wrote old mid (lines_of listing found)) where
+pub wrote_none : (listing : Listing) (t : Told) → Wrote t t (lines_of listing [])
+wrote_none Every t = wrote_nothing t
+wrote_none Causes t = wrote_nothing t
+
+module _ (completeness : Completeness) (limits : Bounds) (listing : Listing)
+    (start now old mid new : Told) (found : List Offence)
+    (wrote : Wrote old mid (lines_of listing found)) where
   -- the log was not read to its end
-  pub broke_listing : (fault : RunFault) → BrokeOff completeness limits start now found fault → PartReported completeness limits listing start now old mid fault
+  pub broke_listing : (fault : RunFault) → BrokeOff completeness limits start now found fault
+      → PartReported completeness limits listing start now old mid fault
   broke_listing fault broke = record {
     out = lines_of listing found;
     took = wrote.took;
-    due = read_map limits start now (BeginsSurvey completeness limits found) (λ log. BeginsReported completeness limits listing log (lines_of listing found))
-        (begins_at completeness limits listing found (lines_of listing found) [] (sym (append-nil (lines_of listing found)))) broke.of_read;
+    due = read_map limits start now (BeginsSurvey completeness limits found)
+        (λ log. BeginsReported completeness limits listing log (lines_of listing found))
+        (begins_at completeness limits listing found (lines_of listing found) []
+        (sym (append-nil (lines_of listing found)))) broke.of_read;
     source = broke.failures;
     sink = by_sink old mid fault wrote.failures broke.unwritten;
   }
 
   -- its lines were written
-  pub more_wrote : (more : List Offence) → Wrote mid new (lines_of listing more) → Wrote old new (lines_of listing (found ++ more))
-  more_wrote more lines = subst (Wrote old new) (sym (lines_append listing found more)) (wrote_then old mid new (lines_of listing found) (lines_of listing more) wrote lines)
+  pub more_wrote : (more : List Offence) → Wrote mid new (lines_of listing more)
+      → Wrote old new (lines_of listing (found ++ more))
+  more_wrote more lines = subst (Wrote old new) (sym (lines_append listing found more))
+      (wrote_then old mid new (lines_of listing found) (lines_of listing more) wrote lines)
 
   -- or not all
-  pub lines_failed : (more : List Offence) (fault : RunFault) → OfRead limits start now (BeginsSurvey completeness limits (found ++ more)) → now.failures ≡ start.failures → Tells mid new (lines_of listing more) (Err fault) → PartReported completeness limits listing start now old new fault
+  pub lines_failed : (more : List Offence) (fault : RunFault)
+      → OfRead limits start now (BeginsSurvey completeness limits (found ++ more))
+      → now.failures ≡ start.failures → Tells mid new (lines_of listing more) (Err fault)
+      → PartReported completeness limits listing start now old new fault
   lines_failed more faults.Write begins failures told =
-      let due : lines_of listing (found ++ more) ≡ (lines_of listing found ++ told.front) ++ told.back =
-      lines_append listing found more ∙ ap (λ l. lines_of listing found ++ l) told.whole ∙ sym (append_assoc (lines_of listing found) told.front told.back) in
+      let due : lines_of listing (found ++ more)
+      ≡ (lines_of listing found ++ told.front) ++ told.back =
+      lines_append listing found more ∙ ap (λ l. lines_of listing found ++ l) told.whole
+      ∙ sym (append_assoc (lines_of listing found) told.front told.back) in
       record {
         out = lines_of listing found ++ told.front;
         took = took_then old mid new (lines_of listing found) told.front wrote.took told.took;
-        due = read_map limits start now (BeginsSurvey completeness limits (found ++ more)) (λ log. BeginsReported completeness limits listing log (lines_of listing found ++ told.front))
-            (begins_at completeness limits listing (found ++ more) (lines_of listing found ++ told.front) told.back due) begins;
+        due = read_map limits start now (BeginsSurvey completeness limits (found ++ more))
+            (λ log. BeginsReported completeness limits listing log
+            (lines_of listing found ++ told.front))
+            (begins_at completeness limits listing (found ++ more)
+            (lines_of listing found ++ told.front) told.back due) begins;
         source = failures;
         sink = told.failures ∙ ap after_failure wrote.failures;
       }
   lines_failed more faults.Memory begins failures told = record {
     out = lines_of listing found;
     took = subst (λ (t : Told). Took old t (lines_of listing found)) (sym told) wrote.took;
-    due = read_map limits start now (BeginsSurvey completeness limits (found ++ more)) (λ log. BeginsReported completeness limits listing log (lines_of listing found))
-        (begins_at completeness limits listing (found ++ more) (lines_of listing found) (lines_of listing more) (lines_append listing found more)) begins;
+    due = read_map limits start now (BeginsSurvey completeness limits (found ++ more))
+        (λ log. BeginsReported completeness limits listing log (lines_of listing found))
+        (begins_at completeness limits listing (found ++ more) (lines_of listing found)
+        (lines_of listing more) (lines_append listing found more)) begins;
     source = failures;
     sink = ap (λ (t : Told). t.failures) told ∙ wrote.failures;
   }
   lines_failed more faults.Read begins failures told = absurd told
 
   -- the same of several offences
-  pub some_failed : (more : List Offence) (fault : RunFault) → OfRead limits start now (BeginsSurvey completeness limits (found ++ more)) → now.failures ≡ start.failures → TellsSome mid new (lines_of listing more) (Err fault) → PartReported completeness limits listing start now old new fault
-  some_failed more faults.Write begins failures told = lines_failed more faults.Write begins failures told
+  pub some_failed : (more : List Offence) (fault : RunFault)
+      → OfRead limits start now (BeginsSurvey completeness limits (found ++ more))
+      → now.failures ≡ start.failures → TellsSome mid new (lines_of listing more) (Err fault)
+      → PartReported completeness limits listing start now old new fault
+  some_failed more faults.Write begins failures told =
+      lines_failed more faults.Write begins failures told
   some_failed more faults.Memory begins failures told =
-      let due : lines_of listing (found ++ more) ≡ (lines_of listing found ++ told.front) ++ told.back =
-      lines_append listing found more ∙ ap (λ l. lines_of listing found ++ l) told.whole ∙ sym (append_assoc (lines_of listing found) told.front told.back) in
+      let due : lines_of listing (found ++ more)
+      ≡ (lines_of listing found ++ told.front) ++ told.back =
+      lines_append listing found more ∙ ap (λ l. lines_of listing found ++ l) told.whole
+      ∙ sym (append_assoc (lines_of listing found) told.front told.back) in
       record {
         out = lines_of listing found ++ told.front;
         took = took_then old mid new (lines_of listing found) told.front wrote.took told.wrote.took;
-        due = read_map limits start now (BeginsSurvey completeness limits (found ++ more)) (λ log. BeginsReported completeness limits listing log (lines_of listing found ++ told.front))
-            (begins_at completeness limits listing (found ++ more) (lines_of listing found ++ told.front) told.back due) begins;
+        due = read_map limits start now (BeginsSurvey completeness limits (found ++ more))
+            (λ log. BeginsReported completeness limits listing log
+            (lines_of listing found ++ told.front))
+            (begins_at completeness limits listing (found ++ more)
+            (lines_of listing found ++ told.front) told.back due) begins;
         source = failures;
         sink = told.wrote.failures ∙ wrote.failures;
       }
@@ -162,31 +216,62 @@ module _ (completeness : Completeness) (limits : Bounds) (listing : Listing) (st
 -- ---- the end
 
 -- a survey begins with itself
-whole_begins : (completeness : Completeness) (limits : Bounds) (found : List Offence) (bad : Option Verdict) (s : Summary) (log : List ℕ) → IsSurvey completeness limits log found bad s → BeginsSurvey completeness limits found log
-whole_begins completeness limits found bad s log is = ([], bad, s, subst (λ (l : List Offence). IsSurvey completeness limits log l bad s) (sym (append-nil found)) is)
+whole_begins : (completeness : Completeness) (limits : Bounds) (found : List Offence)
+    (bad : Option Verdict) (s : Summary) (log : List ℕ)
+    → IsSurvey completeness limits log found bad s → BeginsSurvey completeness limits found log
+whole_begins completeness limits found bad s log is = (
+  [],
+  bad,
+  s,
+  subst (λ (l : List Offence). IsSurvey completeness limits log l bad s)
+      (sym (append-nil found)) is,
+)
 
-pub ended_begins : (completeness : Completeness) (limits : Bounds) (start now : Told) (found : List Offence) (bad : Option Verdict) (s : Summary) → OfRead limits start now (λ log. IsSurvey completeness limits log found bad s) → OfRead limits start now (BeginsSurvey completeness limits found)
-ended_begins completeness limits start now found bad s is = read_map limits start now (λ log. IsSurvey completeness limits log found bad s) (BeginsSurvey completeness limits found) (λ log p. whole_begins completeness limits found bad s log p) is
+pub ended_begins : (completeness : Completeness) (limits : Bounds) (start now : Told)
+    (found : List Offence) (bad : Option Verdict) (s : Summary)
+    → OfRead limits start now (λ log. IsSurvey completeness limits log found bad s)
+    → OfRead limits start now (BeginsSurvey completeness limits found)
+ended_begins completeness limits start now found bad s is =
+    read_map limits start now (λ log. IsSurvey completeness limits log found bad s)
+    (BeginsSurvey completeness limits found)
+    (λ log p. whole_begins completeness limits found bad s log p) is
 
-module _ (completeness : Completeness) (limits : Bounds) (listing : Listing) (start now old mid new : Told) (found : List Offence) (bad : Option Verdict) (s : Summary) (is : OfRead limits start now (λ log. IsSurvey completeness limits log found bad s)) (failures : now.failures ≡ start.failures)
+module _ (completeness : Completeness) (limits : Bounds) (listing : Listing)
+    (start now old mid new : Told) (found : List Offence) (bad : Option Verdict) (s : Summary)
+    (is : OfRead limits start now (λ log. IsSurvey completeness limits log found bad s))
+    (failures : now.failures ≡ start.failures)
     (wrote : Wrote old mid (lines_of listing found)) where
   -- all was written
-  pub closed : (v : Verdict) (text : List ℕ) → text ≡ closing found bad s → v ≡ first_verdict found bad s → (IsYes v → IsAtEnd now.bytes) → Wrote mid new text → AllReported completeness limits listing start now old new v
+  pub closed : (v : Verdict) (text : List ℕ) → text ≡ closing found bad s
+      → v ≡ first_verdict found bad s → (IsYes v → IsAtEnd now.bytes) → Wrote mid new text
+      → AllReported completeness limits listing start now old new v
   closed v text text_is v_is met last = record {
     out = lines_of listing found ++ text;
     wrote = wrote_then old mid new (lines_of listing found) text wrote last;
-    due = read_map limits start now (λ log. IsSurvey completeness limits log found bad s) (λ log. IsReported completeness limits listing log v (lines_of listing found ++ text))
-        (λ log p. record { found = found; bad = bad; s = s; survey = p; written = ap (λ l. lines_of listing found ++ l) text_is ∙ sym (report_is listing found bad s); comes_to = v_is }) is;
+    due = read_map limits start now (λ log. IsSurvey completeness limits log found bad s)
+        (λ log. IsReported completeness limits listing log v (lines_of listing found ++ text))
+        (λ log p. record {
+          found = found;
+          bad = bad;
+          s = s;
+          survey = p;
+          written = ap (λ l. lines_of listing found ++ l) text_is
+              ∙ sym (report_is listing found bad s);
+          comes_to = v_is;
+        }) is;
     failures = failures;
     met = met;
   }
 
   -- the closing lines were not
-  pub close_failed : (text : List ℕ) → text ≡ closing found bad s → Stopped mid new text → PartReported completeness limits listing start now old new faults.Write
+  pub close_failed : (text : List ℕ) → text ≡ closing found bad s → Stopped mid new text
+      → PartReported completeness limits listing start now old new faults.Write
   close_failed text text_is stopped = record {
     out = lines_of listing found ++ stopped.front;
     took = took_then old mid new (lines_of listing found) stopped.front wrote.took stopped.took;
-    due = read_map limits start now (λ log. IsSurvey completeness limits log found bad s) (λ log. BeginsReported completeness limits listing log (lines_of listing found ++ stopped.front))
+    due = read_map limits start now (λ log. IsSurvey completeness limits log found bad s)
+        (λ log. BeginsReported completeness limits listing log
+        (lines_of listing found ++ stopped.front))
         (λ log p. (
           first_verdict found bad s,
           stopped.back,
@@ -195,7 +280,9 @@ module _ (completeness : Completeness) (limits : Bounds) (listing : Listing) (st
             bad = bad;
             s = s;
             survey = p;
-            written = append_assoc (lines_of listing found) stopped.front stopped.back ∙ ap (λ l. lines_of listing found ++ l) (sym stopped.whole ∙ text_is) ∙ sym (report_is listing found bad s);
+            written = append_assoc (lines_of listing found) stopped.front stopped.back
+                ∙ ap (λ l. lines_of listing found ++ l) (sym stopped.whole ∙ text_is)
+                ∙ sym (report_is listing found bad s);
             comes_to = refl;
           },
         )) is;
@@ -208,8 +295,20 @@ module _ (completeness : Completeness) (limits : Bounds) (listing : Listing) (st
   close_refused = record {
     out = lines_of listing found;
     took = wrote.took;
-    due = read_map limits start now (λ log. IsSurvey completeness limits log found bad s) (λ log. BeginsReported completeness limits listing log (lines_of listing found))
-        (λ log p. (first_verdict found bad s, closing found bad s, record { found = found; bad = bad; s = s; survey = p; written = sym (report_is listing found bad s); comes_to = refl })) is;
+    due = read_map limits start now (λ log. IsSurvey completeness limits log found bad s)
+        (λ log. BeginsReported completeness limits listing log (lines_of listing found))
+        (λ log p. (
+          first_verdict found bad s,
+          closing found bad s,
+          record {
+            found = found;
+            bad = bad;
+            s = s;
+            survey = p;
+            written = sym (report_is listing found bad s);
+            comes_to = refl;
+          },
+        )) is;
     source = failures;
     sink = wrote.failures;
   }
@@ -220,33 +319,51 @@ filter_few : (xs : List Offence) → length (filter (λ (o : Offence). o.follows
 filter_few [] = omega arith
 filter_few (x ∷ xs) = by_test x.follows (filter_few xs)
   where
-    by_test : (b : Bool) → length (filter (λ (o : Offence). o.follows) xs) ≤ length xs → length (if b then x ∷ filter (λ (o : Offence). o.follows) xs else filter (λ (o : Offence). o.follows) xs) ≤ length (x ∷ xs)
+    by_test : (b : Bool) → length (filter (λ (o : Offence). o.follows) xs) ≤ length xs
+        → length (if b then x ∷ filter (λ (o : Offence). o.follows) xs else filter
+        (λ (o : Offence). o.follows) xs) ≤ length (x ∷ xs)
     by_test true h = omega (arith, h)
     by_test false h = omega (arith, h)
 
--- what stands behind the lines where something was found
-pub closed_some : (t : Tally) (found : List Offence) (first : code.Offence) (bad : Option Verdict) (s : Summary) (text : List ℕ) (v : Verdict) → t.first ≡ Some first → IsTally t found → length found < 2 ^ 64
-    → text ≡ bad_lines bad ++ line (codes "offences" ∷ decimal t.found ∷ codes "following" ∷ decimal t.following ∷ []) → v ≡ (offence_view first).no → (text ≡ closing found bad s) × (v ≡ first_verdict found bad s)
-closed_some t [] first bad s text v is tally few text_is v_is = let none : Some (offence_view first) ≡ None = ap (option_map offence_view) (sym is) ∙ tally.first in absurd cc
+-- what comes after the lines where something was found
+pub closed_some : (t : Tally) (found : List Offence) (first : code.Offence) (bad : Option Verdict)
+    (s : Summary) (text : List ℕ) (v : Verdict) → t.first ≡ Some first → IsTally t found
+    → length found < 2 ^ 64
+    → text ≡ bad_lines bad ++ line (codes "offences" ∷ decimal t.found ∷ codes "following" ∷ decimal
+    t.following ∷ []) → v ≡ (offence_view first).no
+    → (text ≡ closing found bad s) × (v ≡ first_verdict found bad s)
+closed_some t [] first bad s text v is tally few text_is v_is =
+    let none : Some (offence_view first) ≡ None =
+    ap (option_map offence_view) (sym is) ∙ tally.first in absurd cc
 closed_some t (o ∷ found) first bad s text v is tally few text_is v_is =
-    let same : Some (offence_view first) ≡ Some o = ap (option_map offence_view) (sym is) ∙ tally.first in
+    let same : Some (offence_view first) ≡ Some o =
+    ap (option_map offence_view) (sym is) ∙ tally.first in
     let here : offence_view first ≡ o = cc same in
     let all : t.found ≡ length (o ∷ found) = tally.all ∙ capped_is (length (o ∷ found)) few in
-    let following : t.following ≡ length (filter (λ (x : Offence). x.follows) (o ∷ found)) = tally.following ∙ capped_is (length (filter (λ (x : Offence). x.follows) (o ∷ found))) (omega (arith, few, filter_few (o ∷ found))) in (
+    let following : t.following ≡ length (filter (λ (x : Offence). x.follows) (o ∷ found)) =
+    tally.following ∙ capped_is (length (filter (λ (x : Offence). x.follows) (o ∷ found)))
+    (omega (arith, few, filter_few (o ∷ found))) in (
       text_is
-          ∙ ap (λ n. bad_lines bad ++ line (codes "offences" ∷ decimal n ∷ codes "following" ∷ decimal t.following ∷ [])) all
-          ∙ ap (λ n. bad_lines bad ++ line (codes "offences" ∷ decimal (length (o ∷ found)) ∷ codes "following" ∷ decimal n ∷ [])) following,
+          ∙ ap (λ n. bad_lines bad ++ line (codes "offences" ∷ decimal n ∷ codes
+          "following" ∷ decimal t.following ∷ [])) all
+          ∙ ap (λ n. bad_lines bad ++ line (codes "offences" ∷ decimal (length (o ∷ found)) ∷ codes
+          "following" ∷ decimal n ∷ [])) following,
       v_is ∙ ap (λ (x : Offence). x.no) here,
     )
 
 -- Yes is answered only where the log has no fault
-no_given : (flaw : Option (ℕ × LogCode)) (bad : Option Verdict) → bad ≡ bad_log_of flaw → (w : Verdict) → bad ≡ Some w → IsYes w → ⊥
+no_given : (flaw : Option (ℕ × LogCode)) (bad : Option Verdict) → bad ≡ bad_log_of flaw
+    → (w : Verdict) → bad ≡ Some w → IsYes w → ⊥
 no_given None bad is w e yes_w = absurd (cc (sym is ∙ e))
-no_given (Some f) bad is w e yes_w = let same : bad_log f.0 f.1 ≡ w = cc (sym is ∙ e) in subst IsYes (sym same) yes_w
+no_given (Some f) bad is w e yes_w =
+    let same : bad_log f.0 f.1 ≡ w = cc (sym is ∙ e) in subst IsYes (sym same) yes_w
 
-first_yes : (t : Tally) (found : List Offence) (flaw : Option (ℕ × LogCode)) (bad : Option Verdict) (s : Summary) (v : Verdict) → IsTally t found → bad ≡ bad_log_of flaw → v ≡ first_verdict found bad s → IsYes v → bad ≡ None
+first_yes : (t : Tally) (found : List Offence) (flaw : Option (ℕ × LogCode)) (bad : Option Verdict)
+    (s : Summary) (v : Verdict) → IsTally t found → bad ≡ bad_log_of flaw
+    → v ≡ first_verdict found bad s → IsYes v → bad ≡ None
 first_yes t [] flaw None s v tally is v_is yes_v = refl
-first_yes t [] flaw (Some w) s v tally is v_is yes_v = absurd (no_given flaw (Some w) is w refl (subst IsYes v_is yes_v))
+first_yes t [] flaw (Some w) s v tally is v_is yes_v =
+    absurd (no_given flaw (Some w) is w refl (subst IsYes v_is yes_v))
 first_yes t (o ∷ found) flaw bad s v tally is v_is yes_v = by_first t.first tally.first
   where
     by_first : (first : Option code.Offence) → option_map offence_view first ≡ Some o → bad ≡ None
@@ -259,15 +376,24 @@ no_end : (bad : Option verdicts.Verdict) → option_map verdict_view bad ≡ Non
 no_end None e = refl
 no_end (Some v) e = absurd cc
 
-pub yes_met : (completeness : Completeness) (limits : Bounds) (start now : Told) (t : Tally) (found : List Offence) (bad : Option verdicts.Verdict) (s : Summary) (v : Verdict) → OfRead limits start now (λ log. IsSurvey completeness limits log found (option_map verdict_view bad) s) → IsTally t found
-    → v ≡ first_verdict found (option_map verdict_view bad) s → (bad ≡ None → IsAtEnd now.bytes) → IsYes v → IsAtEnd now.bytes
+pub yes_met : (completeness : Completeness) (limits : Bounds) (start now : Told) (t : Tally)
+    (found : List Offence) (bad : Option verdicts.Verdict) (s : Summary) (v : Verdict)
+    → OfRead limits start now
+    (λ log. IsSurvey completeness limits log found (option_map verdict_view bad) s)
+    → IsTally t found
+    → v ≡ first_verdict found (option_map verdict_view bad) s → (bad ≡ None → IsAtEnd now.bytes)
+    → IsYes v → IsAtEnd now.bytes
 yes_met completeness limits start now t found bad s v is tally v_is met yes_v =
     let here = is.holds is.bytes ([], sym (append-nil is.bytes), λ end. refl) in
-    met (no_end bad (first_yes t found here.log_fault (option_map verdict_view bad) s v tally here.bad_is v_is yes_v))
+    met (no_end bad (first_yes t found here.log_fault (option_map verdict_view bad) s v tally
+    here.bad_is v_is yes_v))
 
 -- ---- offences one after another
 
-pub each_failed : (listing : Listing) (xs : List code.Offence) (i : ℕ) (x : code.Offence) (old mid new : Told) (fault : RunFault) → slice_get xs i ≡ Some x → Wrote old mid (lines_of listing (map offence_view (take i xs))) → Tells mid new (lines_of listing (offence_view x ∷ [])) (Err fault)
+pub each_failed : (listing : Listing) (xs : List code.Offence) (i : ℕ) (x : code.Offence)
+    (old mid new : Told) (fault : RunFault) → slice_get xs i ≡ Some x
+    → Wrote old mid (lines_of listing (map offence_view (take i xs)))
+    → Tells mid new (lines_of listing (offence_view x ∷ [])) (Err fault)
     → TellsSome old new (lines_of listing (map offence_view xs)) (Err fault)
 each_failed listing xs i x old mid new fault at wrote told = by_fault fault told
   where
@@ -282,14 +408,20 @@ each_failed listing xs i x old mid new fault at wrote told = by_fault fault told
 
     whole : lines_of listing (map offence_view xs) ≡ (here ++ mine) ++ rest
     whole =
-        ap (λ (l : List code.Offence). lines_of listing (map offence_view l)) (sym (take-append-drop (i + 1) xs))
+        ap (λ (l : List code.Offence). lines_of listing (map offence_view l))
+        (sym (take-append-drop (i + 1) xs))
         ∙ ap (lines_of listing) (map-append offence_view (take (i + 1) xs) (drop (i + 1) xs))
-        ∙ lines_append listing (map offence_view (take (i + 1) xs)) (map offence_view (drop (i + 1) xs))
+        ∙ lines_append listing (map offence_view (take (i + 1) xs))
+        (map offence_view (drop (i + 1) xs))
         ∙ ap (λ l. lines_of listing l ++ rest) (map_one offence_view xs i x at)
-        ∙ ap (λ l. l ++ rest) (lines_append listing (map offence_view (take i xs)) (offence_view x ∷ []))
+        ∙ ap (λ l. l ++ rest) (lines_append listing (map offence_view (take i xs))
+        (offence_view x ∷ []))
 
-    by_fault : (f : RunFault) → Tells mid new mine (Err f) → TellsSome old new (lines_of listing (map offence_view xs)) (Err f)
-    by_fault faults.Write t = subst (Stopped old new) (sym whole) (stopped_before old new (here ++ mine) rest (stopped_then old mid new here mine wrote t))
+    by_fault : (f : RunFault) → Tells mid new mine (Err f)
+        → TellsSome old new (lines_of listing (map offence_view xs)) (Err f)
+    by_fault faults.Write t =
+        subst (Stopped old new) (sym whole)
+        (stopped_before old new (here ++ mine) rest (stopped_then old mid new here mine wrote t))
     by_fault faults.Memory t = record {
       front = here;
       back = mine ++ rest;
@@ -300,44 +432,65 @@ each_failed listing xs i x old mid new fault at wrote told = by_fault fault told
 
 -- ---- the run
 
--- a run says the same of a reader with these limits
-pub reports_by : (k m : Completeness) (a b : Bounds) (listing : Listing) (start now old new : Told) (r : Result verdicts.Verdict RunFault) → k ≡ m → a ≡ b → Reports k a listing start now old new r → Reports m b listing start now old new r
-reports_by k m a b listing start now old new r same alike p =
-    subst (λ (c : Completeness). Reports c b listing start now old new r) same (subst (λ (x : Bounds). Reports k x listing start now old new r) alike p)
-
-pub fresh_at : (a b : Bounds) (e : SurveyReader) (start : Told) → a ≡ b → SoFar a e start start [] [] [] → SoFar b e start start [] [] []
-fresh_at a b e start same so = subst (λ (x : Bounds). SoFar x e start start [] [] []) same so
-
 -- the verdict with which the report comes is that on the log
-pub reported_verdict : (completeness : Completeness) (limits : Bounds) → IsInRange limits → (listing : Listing) (log : List ℕ) (v : Verdict) (out : List ℕ) → IsReported completeness limits listing log v out → IsVerdictBy completeness limits log v
+pub reported_verdict : (completeness : Completeness) (limits : Bounds) → IsInRange limits
+    → (listing : Listing) (log : List ℕ) (v : Verdict) (out : List ℕ)
+    → IsReported completeness limits listing log v out → IsVerdictBy completeness limits log v
 reported_verdict Ignored limits sizes listing log v out r =
     let whole = some_verdict limits log in
-    subst (IsVerdict limits log) (survey_agrees Ignored limits sizes log r.found r.bad r.s whole.0 r.survey whole.1 ∙ sym r.comes_to) whole.1
+    subst (IsVerdict limits log)
+    (survey_agrees Ignored limits sizes log r.found r.bad r.s whole.0 r.survey whole.1
+    ∙ sym r.comes_to) whole.1
 reported_verdict Required limits sizes listing log v out r =
     let whole = some_complete_verdict limits log in
-    subst (IsCompleteVerdict limits log) (survey_agrees Required limits sizes log r.found r.bad r.s whole.0 r.survey whole.1 ∙ sym r.comes_to) whole.1
+    subst (IsCompleteVerdict limits log)
+    (survey_agrees Required limits sizes log r.found r.bad r.s whole.0 r.survey whole.1
+    ∙ sym r.comes_to) whole.1
 
-pub verdict_read : (completeness : Completeness) (limits : Bounds) → IsInRange limits → (listing : Listing) (start now : Told) (given v : verdicts.Verdict) (out : List ℕ) → OfRead limits start now (λ log. IsReported completeness limits listing log (verdict_view given) out)
-    → (let outcome : Result Outcome RunFault = Ok (Judged given) in outcome) ≡ Ok (Judged v) → OfRead limits start now (λ log. IsVerdictBy completeness limits log (verdict_view v))
+pub verdict_read : (completeness : Completeness) (limits : Bounds) → IsInRange limits
+    → (listing : Listing) (start now : Told) (given v : verdicts.Verdict) (out : List ℕ)
+    → OfRead limits start now
+    (λ log. IsReported completeness limits listing log (verdict_view given) out)
+    → (let outcome : Result Outcome RunFault = Ok (Judged given) in outcome) ≡ Ok (Judged v)
+    → OfRead limits start now (λ log. IsVerdictBy completeness limits log (verdict_view v))
 verdict_read completeness limits sizes listing start now given v out due e =
     let same : given ≡ v = cc e in
-    subst (λ (w : verdicts.Verdict). OfRead limits start now (λ log. IsVerdictBy completeness limits log (verdict_view w))) same
-    (read_map limits start now (λ log. IsReported completeness limits listing log (verdict_view given) out) (λ log. IsVerdictBy completeness limits log (verdict_view given)) (λ log r. reported_verdict completeness limits sizes listing log (verdict_view given) out r) due)
+    subst (λ (w : verdicts.Verdict). OfRead limits start now
+    (λ log. IsVerdictBy completeness limits log (verdict_view w))) same
+    (read_map limits start now
+    (λ log. IsReported completeness limits listing log (verdict_view given) out)
+    (λ log. IsVerdictBy completeness limits log (verdict_view given))
+    (λ log r. reported_verdict completeness limits sizes listing log (verdict_view given) out r)
+    due)
 
 pub first_none : (xs ys : List Offence) → xs ++ ys ≡ [] → xs ≡ []
 first_none [] ys e = refl
 first_none (x ∷ xs) ys e = absurd cc
 
-pub told_by : (listing : Listing) (seen items : List code.Offence) (mid new : Told) (fault : RunFault) → seen ≡ items → TellsSome mid new (lines_of listing (map offence_view seen)) (Err fault) → TellsSome mid new (lines_of listing (map offence_view items)) (Err fault)
-told_by listing seen items mid new fault same told = subst (λ (l : List code.Offence). TellsSome mid new (lines_of listing (map offence_view l)) (Err fault)) same told
+pub told_by : (listing : Listing) (seen items : List code.Offence) (mid new : Told)
+    (fault : RunFault) → seen ≡ items
+    → TellsSome mid new (lines_of listing (map offence_view seen)) (Err fault)
+    → TellsSome mid new (lines_of listing (map offence_view items)) (Err fault)
+told_by listing seen items mid new fault same told =
+    subst (λ (l : List code.Offence). TellsSome mid new (lines_of listing (map offence_view l))
+    (Err fault)) same told
 
 -- one offence more
-pub each_more : (listing : Listing) (xs : List code.Offence) (i : ℕ) (x : code.Offence) (old mid new : Told) → slice_get xs i ≡ Some x → Wrote old mid (lines_of listing (map offence_view (take i xs))) → Wrote mid new (lines_of listing (offence_view x ∷ []))
+pub each_more : (listing : Listing) (xs : List code.Offence) (i : ℕ) (x : code.Offence)
+    (old mid new : Told) → slice_get xs i ≡ Some x
+    → Wrote old mid (lines_of listing (map offence_view (take i xs)))
+    → Wrote mid new (lines_of listing (offence_view x ∷ []))
     → Wrote old new (lines_of listing (map offence_view (take (i + 1) xs)))
 each_more listing xs i x old mid new at wrote more =
-    subst (Wrote old new) (sym (ap (lines_of listing) (map_one offence_view xs i x at) ∙ lines_append listing (map offence_view (take i xs)) (offence_view x ∷ [])))
-    (wrote_then old mid new (lines_of listing (map offence_view (take i xs))) (lines_of listing (offence_view x ∷ [])) wrote more)
+    subst (Wrote old new) (sym (ap (lines_of listing) (map_one offence_view xs i x at)
+    ∙ lines_append listing (map offence_view (take i xs)) (offence_view x ∷ [])))
+    (wrote_then old mid new (lines_of listing (map offence_view (take i xs)))
+    (lines_of listing (offence_view x ∷ [])) wrote more)
 
-pub tally_more : (t : Tally) (xs : List code.Offence) (i : ℕ) (x : code.Offence) (found : List Offence) → slice_get xs i ≡ Some x → IsTally t ((found ++ map offence_view (take i xs)) ++ offence_view x ∷ []) → IsTally t (found ++ map offence_view (take (i + 1) xs))
+pub tally_more : (t : Tally) (xs : List code.Offence) (i : ℕ) (x : code.Offence)
+    (found : List Offence) → slice_get xs i ≡ Some x
+    → IsTally t ((found ++ map offence_view (take i xs)) ++ offence_view x ∷ [])
+    → IsTally t (found ++ map offence_view (take (i + 1) xs))
 tally_more t xs i x found at tally =
-    subst (IsTally t) (append_assoc found (map offence_view (take i xs)) (offence_view x ∷ []) ∙ ap (λ l. found ++ l) (sym (map_one offence_view xs i x at))) tally
+    subst (IsTally t) (append_assoc found (map offence_view (take i xs)) (offence_view x ∷ [])
+    ∙ ap (λ l. found ++ l) (sym (map_one offence_view xs i x at))) tally

@@ -1,4 +1,10 @@
+pub mod ByUri
+pub mod Notes
+pub mod Asking
+pub mod Marking
+pub mod Marks
+pub mod SessionNoting
 pub mod Walking
-pub mod Surveys
+pub mod Ending
 pub mod Reads
 pub mod Reported

@@ -1,5 +1,6 @@
 -- What is due where all that is wrong with a log is reported, and what the steps of the run write.
-use Rattle.std.specs.Prelude.{◌≡◌, ℕ, List, [], ◌∷◌, ◌++◌, filter, length, Bool, true, false, Option, Some, None, option_map, Result, Ok, Err}
+use Rattle.std.specs.Prelude.{◌≡◌, ℕ, List, [], ◌∷◌, ◌++◌, filter, length, Bool, true, false}
+use Rattle.std.specs.Prelude.{Option, Some, None, option_map, Result, Ok, Err}
 use Rattle.std.specs.Io.KnownBytes.{IsAtEnd}
 use Rattle.std.specs.List.{flat_map}
 use Rattle.lsp_docs.specs.State.{capped}
@@ -16,7 +17,8 @@ use Rattle.lsp_verdict.specs.Given.{offence_view, verdict_view}
 use Rattle.lsp_verdict.specs.Offences.{Noted, Offence}
 use Rattle.lsp_verdict.specs.Placed.{Raw}
 use Rattle.lsp_verdict.specs.RunIo.{OfRead, failures_after}
-use Rattle.lsp_verdict.specs.Survey.{IsSurvey, all_report, bad_lines, first_verdict, found_line, offence_lines, shown_of}
+use Rattle.lsp_verdict.specs.Survey.{IsSurvey, all_report, bad_lines, first_verdict, found_line}
+use Rattle.lsp_verdict.specs.Survey.{offence_lines, shown_of}
 use Rattle.lsp_verdict.specs.Report.{report}
 use Rattle.lsp_verdict.specs.Verdict.{Summary, Verdict, yes, no, bad_log}
 use Rattle.lsp_verdict.specs.declared.outcome.RunFault.{RunFault}
@@ -32,7 +34,8 @@ is_every Causes = false
 is_every Every = true
 
 -- **these bytes are the report of all that is wrong with a log**, and this the verdict on it
-pub record IsReported (completeness : Completeness) (limits : Bounds) (listing : Listing) (log : List ℕ) (v : Verdict) (out : List ℕ) : Type 0 where
+pub record IsReported (completeness : Completeness) (limits : Bounds) (listing : Listing)
+    (log : List ℕ) (v : Verdict) (out : List ℕ) : Type 0 where
   pub found : List Offence
   pub bad : Option Verdict
   pub s : Summary
@@ -42,7 +45,8 @@ pub record IsReported (completeness : Completeness) (limits : Bounds) (listing :
 
 -- these bytes begin it
 abbrev pub BeginsReported : Completeness → Bounds → Listing → List ℕ → List ℕ → Type 0
-BeginsReported completeness limits listing log front = (v : Verdict) × (left : List ℕ) × IsReported completeness limits listing log v (front ++ left)
+BeginsReported completeness limits listing log front =
+    (v : Verdict) × (left : List ℕ) × IsReported completeness limits listing log v (front ++ left)
 
 -- ---- steps
 
@@ -61,7 +65,7 @@ sink_after faults.Memory before = before
 abbrev pub lines_of : Listing → List Offence → List ℕ
 lines_of listing found = flat_map offence_lines (shown_of (is_every listing) found)
 
--- what stands behind the lines of the offences
+-- what comes after the lines of the offences
 abbrev pub closing : List Offence → Option Verdict → Summary → List ℕ
 closing [] bad s = report (first_verdict [] bad s)
 closing (o ∷ found) bad s = bad_lines bad ++ found_line (o ∷ found)
@@ -77,7 +81,8 @@ pub record IsTally (t : Tally) (found : List Offence) : Type 0 where
   pub following : t.following ≡ capped (length (filter (λ (o : Offence). o.follows) found))
 
 -- the report of the log read was written, with the verdict on it
-pub record AllReported (completeness : Completeness) (limits : Bounds) (listing : Listing) (start now old new : Told) (v : Verdict) : Type 0 where
+pub record AllReported (completeness : Completeness) (limits : Bounds) (listing : Listing)
+    (start now old new : Told) (v : Verdict) : Type 0 where
   pub out : List ℕ
   pub wrote : Wrote old new out
   pub due : OfRead limits start now (λ log. IsReported completeness limits listing log v out)
@@ -85,19 +90,24 @@ pub record AllReported (completeness : Completeness) (limits : Bounds) (listing 
   pub met : IsYes v → IsAtEnd now.bytes
 
 -- this was written of it, and then a fault met
-pub record PartReported (completeness : Completeness) (limits : Bounds) (listing : Listing) (start now old new : Told) (fault : RunFault) : Type 0 where
+pub record PartReported (completeness : Completeness) (limits : Bounds) (listing : Listing)
+    (start now old new : Told) (fault : RunFault) : Type 0 where
   pub out : List ℕ
   pub took : Took old new out
   pub due : OfRead limits start now (λ log. BeginsReported completeness limits listing log out)
   pub source : now.failures ≡ failures_after fault start.failures
   pub sink : new.failures ≡ sink_after fault old.failures
 
-abbrev pub Reports : Completeness → Bounds → Listing → Told → Told → Told → Told → Result code.Verdict RunFault → Type 0
-Reports completeness limits listing start now old new (Ok v) = AllReported completeness limits listing start now old new (verdict_view v)
-Reports completeness limits listing start now old new (Err fault) = PartReported completeness limits listing start now old new fault
+abbrev pub Reports : Completeness → Bounds → Listing → Told → Told → Told → Told
+    → Result code.Verdict RunFault → Type 0
+Reports completeness limits listing start now old new (Ok v) =
+    AllReported completeness limits listing start now old new (verdict_view v)
+Reports completeness limits listing start now old new (Err fault) =
+    PartReported completeness limits listing start now old new fault
 
 -- the offences of the events were listed up to the log's end
-pub record Listed (completeness : Completeness) (limits : Bounds) (listing : Listing) (e : SurveyReader) (t : Tally) (start now old new : Told) (end : End) : Type 0 where
+pub record Listed (completeness : Completeness) (limits : Bounds) (listing : Listing)
+    (e : SurveyReader) (t : Tally) (start now old new : Told) (end : End) : Type 0 where
   pub past : List Raw
   pub notes : List Noted
   pub found : List Offence
@@ -105,6 +115,9 @@ pub record Listed (completeness : Completeness) (limits : Bounds) (listing : Lis
   pub tally : IsTally t found
   pub wrote : Wrote old new (lines_of listing found)
 
-abbrev pub Lists : Completeness → Bounds → Listing → SurveyReader → Tally → Told → Told → Told → Told → Result End RunFault → Type 0
-Lists completeness limits listing e t start now old new (Ok end) = Listed completeness limits listing e t start now old new end
-Lists completeness limits listing e t start now old new (Err fault) = PartReported completeness limits listing start now old new fault
+abbrev pub Lists : Completeness → Bounds → Listing → SurveyReader → Tally → Told → Told → Told
+    → Told → Result End RunFault → Type 0
+Lists completeness limits listing e t start now old new (Ok end) =
+    Listed completeness limits listing e t start now old new end
+Lists completeness limits listing e t start now old new (Err fault) =
+    PartReported completeness limits listing start now old new fault

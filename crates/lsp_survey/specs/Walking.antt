@@ -1,12 +1,13 @@
 -- What a walk over the events of a session holds, and how one more event is heard.
-use Rattle.std.specs.Prelude.{◌≡◌, ℕ, List, [], ◌∷◌, ◌++◌, Bool, false, ◌&&◌, ◌||◌, Option, Some, None, is_some, string_bytes}
+use Rattle.std.specs.Prelude.{◌≡◌, ℕ, ℤ, List, [], ◌∷◌, ◌++◌, Bool, false, ◌&&◌, ◌||◌, Option, Some}
+use Rattle.std.specs.Prelude.{None, is_some, string_bytes}
 use Rattle.lsp_docs.specs.Calls.{Call}
 use Rattle.lsp_docs.specs.Terms.{Terms}
 use Rattle.lsp_events.specs.Standing.{Holds, RefusesMessage}
 use Rattle.lsp_rpc.specs.View.{act_view, message_view}
-use Rattle.lsp_notes.specs.Marks.{AreMarks}
-use Rattle.lsp_notes.specs.SessionNoting.{AreNotes}
-use Rattle.lsp_notes.specs.Notes.{note_in, note_of, AreAfter, is_noted_lost}
+use Rattle.lsp_survey.specs.Marks.{AreMarks}
+use Rattle.lsp_survey.specs.SessionNoting.{AreNotes}
+use Rattle.lsp_survey.specs.Notes.{note_in, note_of, AreAfter, is_noted_lost}
 use Rattle.lsp_survey.specs.declared.offending.Found.{Found}
 use Rattle.lsp_survey.specs.declared.offending.Heard.{Heard}
 use Rattle.lsp_survey.specs.declared.offending.Heard.TheVariants as heard
@@ -21,7 +22,9 @@ use Rattle.lsp_verdict.specs.Contents.{ReadsAs}
 use Rattle.lsp_verdict.specs.Event.{Event, fault}
 use Rattle.lsp_verdict.specs.Given.{given_offence, offence_view}
 use Rattle.lsp_verdict.specs.LookBack.{first_of}
-use Rattle.lsp_verdict.specs.Offences.{Noted, Offence, IsNoted, breaks_handshake, broken_by, events_of, is_handshake_lost, kept_of, offence_by, rule_at, wants_handshake, wants_text}
+use Rattle.lsp_verdict.specs.Offences.{Noted, Offence, IsNoted, breaks_handshake, broken_by}
+use Rattle.lsp_verdict.specs.Offences.{events_of, is_handshake_lost, kept_of, offence_by, rule_at}
+use Rattle.lsp_verdict.specs.Offences.{wants_handshake, wants_text}
 use Rattle.lsp_verdict.specs.Placed.{Raw, content, broken, show}
 use Rattle.lsp_verdict.specs.Verdict.{no_next, whose}
 use Rattle.lsp_verdict.specs.declared.verdict.Who.{Who}
@@ -37,7 +40,8 @@ pub record WalksBy (terms : Terms) (w : Walk) (notes : List Noted) : Type 0 wher
   pub marked : AreMarks terms w.marks.map.entries (events_of notes)
   pub said : AreNotes terms w.said (events_of notes)
 
--- **a walk has heard these events**, and passed over each that offends behind the kept ones before it
+-- **a walk has heard these events**, and passed over each that offends after the kept ones before
+-- it
 abbrev pub Walks : Walk → List Noted → Type 0
 Walks w notes = WalksBy w.events.docs.terms w notes
 
@@ -48,14 +52,17 @@ abbrev pub breaks_by : Option ℕ → Bool → Bool
 breaks_by None asks = false
 breaks_by (Some rule) asks = breaks_handshake asks rule
 
--- one more event of theirs was counted, which offends by this rule or is kept; what the kept events come to is as it was
+-- one more event of theirs was counted, which offends by this rule or is kept; what the kept events
+-- come to is as it was
 pub record Counted (old new : Walk) (by : Who) (rule : Option ℕ) (asks : Bool) : Type 0 where
   pub session : new.events.session ≡ old.events.session
   pub documents : new.events.docs ≡ old.events.docs
-  pub counts : (events : List Event) (event : Event) → AreCounts old.events.counts events → whose event ≡ by → AreCounts new.events.counts (events ++ event ∷ [])
+  pub counts : (events : List Event) (event : Event) → AreCounts old.events.counts events
+      → whose event ≡ by → AreCounts new.events.counts (events ++ event ∷ [])
   pub is_broken : new.broken ≡ (old.broken || breaks_by rule asks)
 
--- the offence by this rule at the event of theirs that comes next, which speaks of a lost document or does not
+-- the offence by this rule at the event of theirs that comes next, which speaks of a lost document
+-- or does not
 abbrev pub offence_of : Terms → List Noted → Who → ℕ → Bool → Offence
 offence_of terms before by rule on_lost = record {
   no = no_next rule by (events_of before);
@@ -67,31 +74,46 @@ abbrev pub IsUnread : Side → List ℕ → Offending → Type 0
 IsUnread side bytes (what.Content by given) = (by ≡ side) × (given.items ≡ bytes)
 IsUnread side bytes other = ⊥
 
--- an event of theirs that offends by this rule was passed over: it says this of a document, under what was agreed, and is such as was found
-pub record PassesOver (old new : Walk) (by : Who) (rule : ℕ) (asks : Bool) (says : Encoding → SyncKind → Option Call) (IsSuch : Offending → Type 0) (given : Heard) : Type 0 where
+-- this text of the editor's was found
+abbrev pub IsShown : ℤ → List ℕ → List ℕ → Offending → Type 0
+IsShown number uri text (what.Snapshot version name shown) =
+    (version ≡ number) × (string_bytes name ≡ uri) × (string_bytes shown ≡ text)
+IsShown number uri text other = ⊥
+
+-- an event of theirs that offends by this rule was passed over: it says this of a document, under
+-- what was agreed, and is such as was found
+pub record PassesOver (old new : Walk) (by : Who) (rule : ℕ) (asks : Bool)
+    (says : Encoding → SyncKind → Option Call) (IsSuch : Offending → Type 0) (given : Heard) : Type
+    0 where
   pub found : Found
   pub is_given : given ≡ heard.Offence found
   pub is_such : IsSuch found.offending
   pub counted : Counted old new by (Some rule) asks
-  pub noted : (enc : Encoding) (kind : SyncKind) → AreAfter (Some rule) (says enc kind) old.notes.map.entries new.notes.map.entries
+  pub noted : (enc : Encoding) (kind : SyncKind)
+      → AreAfter (Some rule) (says enc kind) old.notes.map.entries new.notes.map.entries
   pub marks : new.marks ≡ old.marks
   pub said : new.said ≡ old.said
   pub offence : (enc : Encoding) (kind : SyncKind) (notes : List Noted) → Walks old notes
-      → offence_view found.offence ≡ given_offence (offence_of old.events.docs.terms notes by rule (is_noted_lost old.notes.map.entries (says enc kind)))
+      → offence_view found.offence
+      ≡ given_offence (offence_of old.events.docs.terms notes by rule
+      (is_noted_lost old.notes.map.entries (says enc kind)))
 
 -- ---- what was heard
 
--- what was found is this event, which offends by the rule behind these kept events
+-- what was found is this event, which offends by the rule after these kept events
 abbrev pub IsOffending : Raw → Terms → List Event → ℕ → Offending → Type 0
 IsOffending (broken side code) terms kept rule (what.Frames by) = by ≡ side
-IsOffending (content side bytes) terms kept rule (what.Content by given) = (by ≡ side) × (given.items ≡ bytes) × ReadsAs side bytes (fault side rule)
+IsOffending (content side bytes) terms kept rule (what.Content by given) =
+    (by ≡ side) × (given.items ≡ bytes) × ReadsAs side bytes (fault side rule)
 IsOffending (content side bytes) terms kept rule (what.Message by spoken) =
-    (by ≡ side) × RefusesMessage side bytes (message_view spoken.message) (act_view spoken.act) terms kept rule
-IsOffending (show number uri text) terms kept rule (what.Snapshot version name shown) = (version ≡ number) × (string_bytes name ≡ uri) × (string_bytes shown ≡ text)
+    (by ≡ side) × RefusesMessage side bytes (message_view spoken.message) (act_view spoken.act)
+    terms kept rule
+IsOffending (show number uri text) terms kept rule found = IsShown number uri text found
 IsOffending raw terms kept rule other = ⊥
 
--- the event offends behind these, and this is its offence
-pub record Offends (raw : Raw) (terms : Terms) (before : List Noted) (n : Noted) (found : Found) : Type 0 where
+-- the event offends after these, and this is its offence
+pub record Offends (raw : Raw) (terms : Terms) (before : List Noted) (n : Noted)
+    (found : Found) : Type 0 where
   pub rule : ℕ
   pub offends : rule_at terms (events_of before) n.event ≡ Some rule
   pub is : offence_view found.offence ≡ given_offence (offence_by terms before n rule)
@@ -101,8 +123,9 @@ abbrev pub IsHeard : Raw → Terms → List Noted → Noted → Heard → Type 0
 IsHeard raw terms before n heard.Kept = rule_at terms (events_of before) n.event ≡ None
 IsHeard raw terms before n (heard.Offence found) = Offends raw terms before n found
 
--- **one more event was heard behind these**
-pub record Hears (raw : Raw) (terms : Terms) (w : Walk) (before : List Noted) (given : Heard) : Type 0 where
+-- **one more event was heard after these**
+pub record Hears (raw : Raw) (terms : Terms) (w : Walk) (before : List Noted) (given : Heard) : Type
+    0 where
   pub n : Noted
   pub is_noted : IsNoted raw n
   pub is_heard : IsHeard raw terms before n given

@@ -1,23 +1,24 @@
-//! All that is wrong with a session, and not only the first: an event that offends is passed over, as if
-//! it had not been sent, and the next is judged after those that keep the rules.
+//! All that is wrong with a session, and not only the first: an event that offends is passed over,
+//! as if it had not been sent, and the next is judged after those that keep the rules.
 //!
 //! `run_survey` reads a log and writes a report of all its offences. An offence may follow from an
 //! earlier one that left a document, or the handshake, apart on the two sides; what is an offence,
 //! and what follows, is defined in `lsp_verdict`.
 //!
-//! What is noted of the events on the way, as which one brought a version of a document, stands in
-//! `lsp_notes`, whose public names for it are given on here: [`Marks`], [`Shown`] and [`SessionNotes`].
+//! What is noted of the events on the way, as which one brought a version of a document, is in
+//! `notes`: [`Marks`], [`Shown`] and [`SessionNotes`] lend it to who explains an offence.
 #![tactic(auto)]
 
+mod notes;
 mod offending;
 mod run;
-mod survey;
+mod session_end;
 mod survey_reader;
 mod tally;
 mod walk;
 
-pub use lsp_notes::{Marks, SessionNotes, Shown};
 pub use lsp_verdict::Listing;
+pub use notes::{Marks, SessionNotes, Shown};
 pub use offending::{Found, Heard, Offending};
 pub use run::run_survey;
 pub use survey_reader::{End, Next, SurveyReader};

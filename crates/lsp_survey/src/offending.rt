@@ -37,6 +37,6 @@ pub struct Found {
 pub enum Heard {
     /// It is kept.
     Kept,
-    /// It offends behind the kept events before it, and is passed over.
+    /// It offends after the kept events before it, and is passed over.
     Offence(Found),
 }

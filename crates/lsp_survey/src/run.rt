@@ -1,16 +1,20 @@
 //! Reports all that is wrong with a log.
-ghost use Rattle.std.specs.Prelude.{◌≡◌, ◌++◌, ◌∷◌, ◌+◌, ◌<◌, ◌^◌, ◌||◌, not, [], ℕ, List, string_bytes, map, length, codes, decimal, option_map, Ok, IfOk, OnOk, OnErr};
+ghost use Rattle.std.specs.Prelude.{◌≡◌, ◌++◌, ◌∷◌, ◌+◌, ◌<◌, ◌^◌, ◌||◌, not, [], ℕ, List};
+ghost use Rattle.std.specs.Prelude.{string_bytes, map, length, codes, decimal, option_map, Ok};
+ghost use Rattle.std.specs.Prelude.{IfOk, OnOk, OnErr};
 ghost use Rattle.std.specs.Io.KnownBytes.{IsAtEnd};
 ghost use Rattle.lsp_events.specs.Standing.{Follows};
 ghost use Rattle.lsp_frame.specs.Bounds.{Bounds, IsInRange};
 ghost use Rattle.lsp_frame.specs.Told.{Told, Took};
-ghost use Rattle.lsp_survey.specs.Reads.{SoFar, found_in};
-ghost use Rattle.lsp_survey.specs.Reported.{BeginsReported, IsReported, IsTally, Listed, Lists, Reports, closing, is_every, lines_of};
+ghost use Rattle.lsp_survey.specs.Reads.{IsFresh, SoFar, found_in};
+ghost use Rattle.lsp_survey.specs.Reported.{BeginsReported, IsReported, IsTally, Listed, Lists};
+ghost use Rattle.lsp_survey.specs.Reported.{Reports, closing, is_every, lines_of};
 ghost use Rattle.lsp_verdict.specs.Complete.{IsVerdictBy};
 ghost use Rattle.lsp_verdict.specs.Given.{as_given, offence_view, verdict_view};
 ghost use Rattle.lsp_verdict.specs.Offences.{Noted, Offence as SpecOffence, events_of};
 ghost use Rattle.lsp_verdict.specs.Report.{line};
-ghost use Rattle.lsp_verdict.specs.RunIo.{OfRead, GaveAtMost, Tells, TellsSome, source_failures, sink_failures};
+ghost use Rattle.lsp_verdict.specs.RunIo.{OfRead, GaveAtMost, Tells, TellsSome, source_failures};
+ghost use Rattle.lsp_verdict.specs.RunIo.{sink_failures};
 ghost use Rattle.lsp_verdict.specs.Survey.{bad_lines, first_verdict};
 ghost use Rattle.lsp_verdict.specs.Verdict.{summary, yes};
 
@@ -25,17 +29,17 @@ use lsp_verdict::{
 };
 use std::alloc::Global;
 
-/// Reads a log to its end, and writes the report of all that is wrong with it: two lines for each offence
-/// that is listed, in order, those of a fault of the log, and how many offences were found. Of a log
-/// with nothing wrong it is the report of the verdict.
+/// Reads a log to its end, and writes the report of all that is wrong with it: two lines for each
+/// offence that is listed, in order, those of a fault of the log, and how many offences were found.
+/// Of a log with nothing wrong it is the report of the verdict.
 ///
-/// An event that offends is passed over, as if it had not been sent, and the next is judged after those
-/// that keep the rules. Behind a fault of a side's frames the other side is read on. The lines of an
-/// offence are written when it is found.
+/// An event that offends is passed over, as if it had not been sent, and the next is judged after
+/// those that keep the rules. After a fault of a side's frames the other side is read on. The lines
+/// of an offence are written when it is found.
 ///
 /// # Errors
-/// `Read` is answered where the source failed, `Write` where the sink did, and `Memory` where memory was
-/// refused; what was written before stays written.
+/// `Read` is answered where the source failed, `Write` where the sink did, and `Memory` where
+/// memory was refused; what was written before stays written.
 pub fn run_survey<R: Source, W: Sink>(
     alloc: Global,
     reader: &mut R,
@@ -44,24 +48,30 @@ pub fn run_survey<R: Source, W: Sink>(
     completeness: Completeness,
     listing: Listing,
 ) -> Result<Outcome, RunFault>
-    // The answer is the verdict on the log read, however that goes on where its end was not met: the one
-    // that `run_check` gives, or `run_check_complete`.
+    // The answer is the verdict on the log read, however that goes on where its end was not met:
+    // the one that `run_check` gives, or `run_check_complete`.
     ensures judged { IfOk result (λ outcome. (v : Verdict) × (outcome ≡ Outcome.Judged v)) }
     ensures verdict { (v : Verdict) → result ≡ Ok (Outcome.Judged v)
-        → OfRead limits (R.told reader.old) (R.told reader.new) (λ log. IsVerdictBy completeness limits log (verdict_view v)) }
-    // The report of all that is wrong with that log is written, and nothing else; the verdict is the
-    // first No that is listed, else the fault of the log, else Yes.
+        → OfRead limits (R.told reader.old) (R.told reader.new)
+        (λ log. IsVerdictBy completeness limits log (verdict_view v)) }
+    // The report of all that is wrong with that log is written, and nothing else; the verdict is
+    // the first No that is listed, else the fault of the log, else Yes.
     ensures written { (v : Verdict) → result ≡ Ok (Outcome.Judged v)
         → (out : List ℕ) × Took (W.told writer.old) (W.told writer.new) out
-        × OfRead limits (R.told reader.old) (R.told reader.new) (λ log. IsReported completeness limits listing log (verdict_view v) out) }
+        × OfRead limits (R.told reader.old) (R.told reader.new)
+        (λ log. IsReported completeness limits listing log (verdict_view v) out) }
     // Yes is answered only where the end was met.
-    ensures ended { (s : Summary) → result ≡ Ok (Outcome.Judged (Verdict.Yes s)) → IsAtEnd (R.told reader.new).bytes }
+    ensures ended { (s : Summary) → result ≡ Ok (Outcome.Judged (Verdict.Yes s))
+        → IsAtEnd (R.told reader.new).bytes }
 
     // What is written before a fault begins what is due for the log.
     ensures fault { OnErr result ((out : List ℕ) × Took (W.told writer.old) (W.told writer.new) out
-        × OfRead limits (R.told reader.old) (R.told reader.new) (λ log. BeginsReported completeness limits listing log out)) }
-    ensures source_failures { (R.told reader.new).failures ≡ source_failures result (R.told reader.old).failures }
-    ensures sink_failures { (W.told writer.new).failures ≡ sink_failures result (W.told writer.old).failures }
+        × OfRead limits (R.told reader.old) (R.told reader.new)
+        (λ log. BeginsReported completeness limits listing log out)) }
+    ensures source_failures { (R.told reader.new).failures
+        ≡ source_failures result (R.told reader.old).failures }
+    ensures sink_failures { (W.told writer.new).failures
+        ≡ sink_failures result (W.told writer.old).failures }
     // At most one byte past the limit is read.
     ensures limit { GaveAtMost (limits.log + 1) (R.told reader.old) (R.told reader.new) }
 {
@@ -69,7 +79,7 @@ pub fn run_survey<R: Source, W: Sink>(
     Ok(Outcome::Judged(verdict))
 }
 
-/// What stands behind the lines of the offences, and the verdict.
+/// What comes after the lines of the offences, and the verdict.
 #[derive(Drop)]
 struct Closing {
     text: String,
@@ -86,13 +96,15 @@ fn report_all<R: Source, W: Sink>(
     listing: Listing,
 ) -> Result<Verdict, RunFault>
     ensures range { IsInRange limits }
-    ensures reports { Reports completeness limits listing (R.told reader.old) (R.told reader.new) (W.told writer.old) (W.told writer.new) result }
+    ensures reports { Reports completeness limits listing (R.told reader.old) (R.told reader.new)
+        (W.told writer.old) (W.told writer.new) result }
 {
-    let mut events = SurveyReader::new(alloc, limits, completeness);
+    let mut events = SurveyReader::open(alloc, reader, limits, completeness)?;
     report_events(alloc, &mut events, reader, writer, listing)
 }
 
-/// Writes the report of all that is wrong with a log, of which nothing was read, and gives its verdict.
+/// Writes the report of all that is wrong with a log, of which no event was heard, and gives its
+/// verdict.
 fn report_events<R: Source, W: Sink>(
     alloc: Global,
     events: &mut SurveyReader,
@@ -100,9 +112,11 @@ fn report_events<R: Source, W: Sink>(
     writer: &mut W,
     listing: Listing,
 ) -> Result<Verdict, RunFault>
-    requires range { IsInRange events.old.survey.limits }
-    requires fresh { SoFar events.old.survey.limits events.old (R.told reader.old) (R.told reader.old) [] [] [] }
-    ensures { Reports events.old.completeness events.old.survey.limits listing (R.told reader.old) (R.told reader.new) (W.told writer.old) (W.told writer.new) result }
+    requires fresh { IsFresh events.old (R.told reader.old) }
+    ensures { (limits : Bounds) (start : Told)
+        → SoFar limits events.old start (R.told reader.old) [] [] []
+        → Reports events.old.completeness limits listing start (R.told reader.new)
+        (W.told writer.old) (W.told writer.new) result }
 {
     let mut tally = Tally::new();
     let end = list_events(alloc, events, reader, writer, listing, &mut tally)?;
@@ -119,9 +133,11 @@ fn list_events<R: Source, W: Sink>(
     tally: &mut Tally,
 ) -> Result<End, RunFault>
     requires tally { IsTally tally.old [] }
-    requires range { IsInRange events.old.survey.limits }
-    requires fresh { SoFar events.old.survey.limits events.old (R.told reader.old) (R.told reader.old) [] [] [] }
-    ensures { Lists events.old.completeness events.old.survey.limits listing events.new tally.new (R.told reader.old) (R.told reader.new) (W.told writer.old) (W.told writer.new) result }
+    requires fresh { IsFresh events.old (R.told reader.old) }
+    ensures { (limits : Bounds) (start : Told)
+        → SoFar limits events.old start (R.told reader.old) [] [] []
+        → Lists events.old.completeness limits listing events.new tally.new start
+        (R.told reader.new) (W.told writer.old) (W.told writer.new) result }
 {
     loop {
         match events.next(reader)? {
@@ -139,8 +155,10 @@ fn list_heard<W: Sink>(
     tally: &mut Tally,
     heard: Heard,
 ) -> Result<(), RunFault>
-    ensures tally { (found : List SpecOffence) → IsTally tally.old found → IsTally tally.new (found ++ found_in heard) }
-    ensures tells { Tells (W.told writer.old) (W.told writer.new) (lines_of listing (found_in heard)) result }
+    ensures tally { (found : List SpecOffence) → IsTally tally.old found
+        → IsTally tally.new (found ++ found_in heard) }
+    ensures tells { Tells (W.told writer.old) (W.told writer.new)
+        (lines_of listing (found_in heard)) result }
 {
     match heard {
         Heard::Kept => Ok(()),
@@ -160,8 +178,10 @@ fn list<W: Sink>(
     tally: &mut Tally,
     offence: &Offence,
 ) -> Result<(), RunFault>
-    ensures tally { (found : List SpecOffence) → IsTally tally.old found → IsTally tally.new (found ++ offence_view offence.now ∷ []) }
-    ensures tells { Tells (W.told writer.old) (W.told writer.new) (lines_of listing (offence_view offence.now ∷ [])) result }
+    ensures tally { (found : List SpecOffence) → IsTally tally.old found
+        → IsTally tally.new (found ++ offence_view offence.now ∷ []) }
+    ensures tells { Tells (W.told writer.old) (W.told writer.new)
+        (lines_of listing (offence_view offence.now ∷ [])) result }
 {
     tally.add(offence);
     if !is_listed(listing, offence.follows) {
@@ -190,8 +210,10 @@ fn list_each<W: Sink>(
     tally: &mut Tally,
     offences: &[Offence],
 ) -> Result<(), RunFault>
-    ensures tally { OnOk result ((found : List SpecOffence) → IsTally tally.old found → IsTally tally.new (found ++ map offence_view offences.now)) }
-    ensures tells { TellsSome (W.told writer.old) (W.told writer.new) (lines_of listing (map offence_view offences.now)) result }
+    ensures tally { OnOk result ((found : List SpecOffence) → IsTally tally.old found
+        → IsTally tally.new (found ++ map offence_view offences.now)) }
+    ensures tells { TellsSome (W.told writer.old) (W.told writer.new)
+        (lines_of listing (map offence_view offences.now)) result }
 {
     for offence in offences {
         list(alloc, writer, listing, tally, offence)?;
@@ -199,7 +221,7 @@ fn list_each<W: Sink>(
     Ok(())
 }
 
-/// Lists the end of a log behind the offences of its events, and closes the report.
+/// Lists the end of a log after the offences of its events, and closes the report.
 fn close<W: Sink>(
     alloc: Global,
     events: &mut SurveyReader,
@@ -208,7 +230,9 @@ fn close<W: Sink>(
     tally: &mut Tally,
     end: End,
 ) -> Result<Verdict, RunFault>
-    ensures { (completeness : Completeness) (limits : Bounds) (start now old : Told) → Listed completeness limits listing events.old tally.old start now old (W.told writer.old) end
+    ensures { (completeness : Completeness) (limits : Bounds) (start now old : Told)
+        → Listed completeness limits listing events.old tally.old start now old
+        (W.told writer.old) end
         → Reports completeness limits listing start now old (W.told writer.new) result }
 {
     list_each(alloc, writer, listing, tally, end.listed.as_slice())?;
@@ -217,18 +241,26 @@ fn close<W: Sink>(
     Ok(closing.verdict)
 }
 
-/// What stands behind the lines of the offences, and the verdict.
+/// What comes after the lines of the offences, and the verdict.
 fn closing_of(
     alloc: Global,
     events: &mut SurveyReader,
     tally: &Tally,
     bad: Option<Verdict>,
 ) -> Result<Closing, Memory>
-    ensures { IfOk result (λ closed. (found : List SpecOffence) (notes : List Noted) → IsTally tally.now found
-        → (found ≡ [] → Follows events.old.survey.walk.events.session events.old.survey.walk.events.docs events.old.survey.walk.events.counts (events_of notes))
-        → length found < 2 ^ 64 → as_given (yes (summary events.old.survey.walk.events.docs.terms (events_of notes))) ≡ yes (summary events.old.survey.walk.events.docs.terms (events_of notes))
-        → (string_bytes closed.text ≡ closing found (option_map verdict_view bad) (summary events.old.survey.walk.events.docs.terms (events_of notes)))
-        × (verdict_view closed.verdict ≡ first_verdict found (option_map verdict_view bad) (summary events.old.survey.walk.events.docs.terms (events_of notes)))) }
+    ensures { IfOk result (λ closed. (found : List SpecOffence) (notes : List Noted)
+        → IsTally tally.now found
+        → (found ≡ [] → Follows events.old.walk.events.session events.old.walk.events.docs
+        events.old.walk.events.counts (events_of notes))
+        → length found < 2 ^ 64 → as_given
+        (yes (summary events.old.walk.events.docs.terms (events_of notes)))
+        ≡ yes (summary events.old.walk.events.docs.terms (events_of notes))
+        → (string_bytes closed.text
+        ≡ closing found (option_map verdict_view bad)
+        (summary events.old.walk.events.docs.terms (events_of notes)))
+        × (verdict_view closed.verdict
+        ≡ first_verdict found (option_map verdict_view bad)
+        (summary events.old.walk.events.docs.terms (events_of notes)))) }
 {
     match tally.first {
         Some(first) => Ok(Closing {
@@ -246,7 +278,8 @@ fn closing_of(
 /// The lines of a fault of the log, and the one that says how many offences were found.
 fn last_lines(alloc: Global, tally: &Tally, bad: &Option<Verdict>) -> Result<String, Memory>
     ensures { IfOk result (λ text. string_bytes text ≡ bad_lines (option_map verdict_view bad.now)
-        ++ line (codes "offences" ∷ decimal tally.now.found ∷ codes "following" ∷ decimal tally.now.following ∷ [])) }
+        ++ line (codes "offences" ∷ decimal tally.now.found ∷ codes "following" ∷ decimal
+        tally.now.following ∷ [])) }
 {
     let count = found_report(alloc, tally.found, tally.following)?;
     let Some(verdict) = bad else {

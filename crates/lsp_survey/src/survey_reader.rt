@@ -1,36 +1,40 @@
 //! The events of a log, heard one by one past each that offends, up to its end.
-ghost use Rattle.std.specs.Prelude.{◌≡◌, ◌<◌, [], List, None, true, Ok, IfOk, OnErr, option_map};
+ghost use Rattle.std.specs.Prelude.{◌≡◌, [], List, IfOk, IfErr, OnErr, option_map};
 ghost use Rattle.lsp_events.specs.Standing.{Follows};
-ghost use Rattle.lsp_frame.specs.Bounds.{Bounds, IsInRange};
+ghost use Rattle.lsp_frame.specs.Bounds.{Bounds};
 ghost use Rattle.lsp_frame.specs.Told.{Told};
-ghost use Rattle.lsp_log.specs.Reader.{KeepsFormat, ahead, shown_by};
+ghost use Rattle.lsp_log.specs.Reader.{shown_by};
+ghost use Rattle.lsp_streams.specs.LogEvents.{HasGiven};
+ghost use Rattle.lsp_streams.specs.Streams.{decoder_of};
 ghost use Rattle.lsp_verdict.specs.Given.{as_given, verdict_view};
 ghost use Rattle.lsp_verdict.specs.Offences.{Noted, Offence as SpecOffence, events_of};
 ghost use Rattle.lsp_verdict.specs.Placed.{Raw};
-ghost use Rattle.lsp_verdict.specs.RunIo.{OfRead};
+ghost use Rattle.lsp_verdict.specs.RunIo.{BreaksOff, OfRead};
 ghost use Rattle.lsp_verdict.specs.Survey.{first_verdict};
 ghost use Rattle.lsp_verdict.specs.Verdict.{summary, yes};
-ghost use Rattle.lsp_survey.specs.Reads.{GivesBehind, HasHeard, HearsBehind, Pulls, PullsHere, SoFar, TakesBehind, TakesEntry};
-ghost use Rattle.lsp_survey.specs.Surveys.{IsRefitted, ShowsFront, stream_of};
+ghost use Rattle.lsp_survey.specs.Reads.{EndIs, EndsAre, GivesBehind, IsBroken, Pulls, ShowsFront};
+ghost use Rattle.lsp_survey.specs.Reads.{SoFar};
 
+use crate::notes::{Marks, SessionNotes};
 use crate::offending::Heard;
-use crate::survey::Survey;
+use crate::session_end::ends;
+use crate::walk::Walk;
 use lsp_docs::Docs;
 use lsp_events::summary_of;
 use lsp_frame::{Format, Limits, Source};
 use lsp_lined::Lined;
-use lsp_log::LogReader;
-use lsp_notes::{Marks, SessionNotes};
 use lsp_rpc::{Memory, Side};
 use lsp_session::Session;
-use lsp_verdict::{Completeness, Entry, Offence, RunFault, Verdict, next_entry};
+use lsp_streams as streams;
+use lsp_streams::LogEvents;
+use lsp_verdict::{Completeness, Offence, RunFault, Verdict};
 use std::alloc::Global;
 
 /// Reads the events of a log one by one, past each that offends, up to its end.
 pub struct SurveyReader {
     alloc: Global,
-    log: LogReader,
-    pub(crate) survey: Survey,
+    log: LogEvents,
+    pub(crate) walk: Walk,
     completeness: Completeness,
 }
 
@@ -39,7 +43,7 @@ impl Drop for SurveyReader {
         let SurveyReader {
             alloc: _,
             log: _,
-            survey: _,
+            walk: _,
             completeness: _,
         } = self;
     }
@@ -64,173 +68,164 @@ pub struct End {
 }
 
 impl SurveyReader {
-    /// A reader that heard nothing.
-    pub fn new(alloc: Global, limits: Limits, completeness: Completeness) -> SurveyReader
-        ensures range { IsInRange limits }
-        ensures completeness { result.completeness ≡ completeness }
-        ensures fresh { (start : Told) → SoFar limits result start start [] [] [] }
+    /// A reader that heard nothing, of a log that is read up to its first record, so that its
+    /// format is known.
+    ///
+    /// # Errors
+    /// `Read` where the source failed, and `Memory` where memory was refused.
+    pub fn open<R: Source>(
+        alloc: Global,
+        reader: &mut R,
+        limits: Limits,
+        completeness: Completeness,
+    ) -> Result<SurveyReader, RunFault>
+        ensures completeness { IfOk result (λ events. events.completeness ≡ completeness) }
+        ensures fresh { IfOk result (λ events.
+            SoFar limits events (R.told reader.old) (R.told reader.new) [] [] []) }
+        ensures err { IfErr result (BreaksOff limits (R.told reader.old) (R.told reader.new)) }
     {
-        SurveyReader {
+        let log = LogEvents::open(alloc, reader, limits)?;
+        let format = log.format().unwrap_or(Format::One);
+        Ok(SurveyReader {
             alloc,
-            log: LogReader::new(alloc, limits),
-            survey: Survey::of_format(alloc, limits, Format::One),
+            log,
+            walk: Walk::new(alloc, limits, format),
             completeness,
-        }
+        })
     }
 
-    /// Hears the next event of the log, or gives its end, behind which there is none.
+    /// Hears the next event of the log, or gives its end, after which there is none.
     ///
     /// # Errors
     /// `Read` where the source failed, and `Memory` where memory was refused.
     pub fn next<R: Source>(&mut self, reader: &mut R) -> Result<Next, RunFault>
         ensures completeness { self.new.completeness ≡ self.old.completeness }
-        // The format of the log stays, once it is known.
-        ensures format { KeepsFormat self.old.log.format self.new.log.format }
-        ensures answer { (limits : Bounds) (start : Told) (past : List Raw) (before : List Noted) (found : List SpecOffence) → SoFar limits self.old start (R.told reader.old) past before found
-            → Pulls self.old.completeness limits self.new start (R.told reader.new) past before found result }
-        // The records of the log go on behind those before.
-        ensures later { IfOk result (λ next. (limits : Bounds) (start : Told) (past : List Raw) (before : List Noted) (found : List SpecOffence) → (so : SoFar limits self.old start (R.told reader.old) past before found)
-            → GivesBehind so.records self.old.completeness limits self.new start (R.told reader.new) past before found next) }
-        // Where reading breaks off, the log read begins with the records before, and the events heard of them.
-        ensures broke { OnErr result ((limits : Bounds) (start : Told) (past : List Raw) (before : List Noted) (found : List SpecOffence) → (so : SoFar limits self.old start (R.told reader.old) past before found)
-            → OfRead limits start (R.told reader.new) (HasHeard limits self.old.log.format so.records past)) }
+        ensures terms { self.new.walk.events.docs.terms ≡ self.old.walk.events.docs.terms }
+        ensures answer { (limits : Bounds) (start : Told) (past : List Raw) (before : List Noted)
+            (found : List SpecOffence)
+            → SoFar limits self.old start (R.told reader.old) past before found
+            → Pulls self.old.completeness limits self.new start
+            (R.told reader.new) past before found result }
+        // The records of the log go on after those before.
+        ensures later { IfOk result
+            (λ next. (limits : Bounds) (start : Told) (past : List Raw) (before : List Noted)
+            (found : List SpecOffence)
+            → (so : SoFar limits self.old start (R.told reader.old) past before found)
+            → GivesBehind so.records self.old.completeness limits self.new start
+            (R.told reader.new) past before found next) }
+        // Where reading breaks off, the log read begins with the records before, and the events
+        // heard of them.
+        ensures broke { OnErr result
+            ((limits : Bounds) (start : Told) (past : List Raw) (before : List Noted)
+            (found : List SpecOffence)
+            → (so : SoFar limits self.old start (R.told reader.old) past before found)
+            → OfRead limits start (R.told reader.new)
+            (HasGiven limits self.old.log.log.format so.records past)) }
     {
-        loop {
-            if let Some(heard) = self.hear()? {
-                return Ok(Next::Event(heard));
-            }
-            if let Some(next) = self.take_entry(reader)? {
-                return Ok(next);
-            }
+        match self.log.next(reader) {
+            Err(fault) => Err(fault),
+            Ok(streams::Next::Event(raw)) => Ok(Next::Event(self.walk.hear(self.alloc, raw)?)),
+            Ok(streams::Next::End(end)) => Ok(Next::End(self.end(end)?)),
         }
     }
 
     /// The verdict where nothing is listed: the fault of the log, else Yes.
     pub fn sound(&mut self, bad: Option<Verdict>) -> Result<Verdict, Memory>
         ensures { IfOk result (λ verdict. (notes : List Noted)
-            → Follows self.old.survey.walk.events.session self.old.survey.walk.events.docs self.old.survey.walk.events.counts (events_of notes)
-            → as_given (yes (summary self.old.survey.walk.events.docs.terms (events_of notes))) ≡ yes (summary self.old.survey.walk.events.docs.terms (events_of notes))
-            → verdict_view verdict ≡ first_verdict [] (option_map verdict_view bad) (summary self.old.survey.walk.events.docs.terms (events_of notes))) }
+            → Follows self.old.walk.events.session self.old.walk.events.docs
+            self.old.walk.events.counts (events_of notes)
+            → as_given (yes (summary self.old.walk.events.docs.terms (events_of notes)))
+            ≡ yes (summary self.old.walk.events.docs.terms (events_of notes))
+            → verdict_view verdict ≡ first_verdict [] (option_map verdict_view bad)
+            (summary self.old.walk.events.docs.terms (events_of notes))) }
     {
         match bad {
             Some(verdict) => Ok(verdict),
-            None => Ok(Verdict::Yes(summary_of(self.alloc, &mut self.survey.walk.events)?)),
+            None => Ok(Verdict::Yes(summary_of(self.alloc, &mut self.walk.events)?)),
         }
     }
 
     /// The session that the kept events heard so far have led to.
     pub fn session(&self) -> &Session
-        ensures { result.now ≡ self.now.survey.walk.events.session }
+        ensures { result.now ≡ self.now.walk.events.session }
     {
-        &self.survey.walk.events.session
+        &self.walk.events.session
     }
 
     /// The documents that the kept events heard so far have left.
     pub fn docs(&self) -> &Docs<Lined>
-        ensures { result.now ≡ self.now.survey.walk.events.docs }
+        ensures { result.now ≡ self.now.walk.events.docs }
     {
-        &self.survey.walk.events.docs
+        &self.walk.events.docs
     }
 
     /// Which of the kept events heard so far left the documents as they are.
     pub fn marks(&self) -> &Marks
-        ensures { result.now ≡ self.now.survey.walk.marks }
+        ensures { result.now ≡ self.now.walk.marks }
     {
-        &self.survey.walk.marks
+        &self.walk.marks
     }
 
-    /// By which of the kept events heard so far requests were asked and answered, and which led to the
-    /// phase of the session.
+    /// By which of the kept events heard so far requests were asked and answered, and which led to
+    /// the phase of the session.
     pub fn session_notes(&self) -> &SessionNotes
-        ensures { result.now ≡ self.now.survey.walk.said }
+        ensures { result.now ≡ self.now.walk.said }
     {
-        &self.survey.walk.said
+        &self.walk.said
     }
 
-    /// The bytes of a side behind its last whole frame.
+    /// The bytes of a side after its last whole frame.
     ///
-    /// Behind a fault of its frames they go at least as far as that is seen, so that the header part is known
-    /// which has it; where there is none they are all that was read.
+    /// After a fault of its frames they go at least as far as that is seen, so that the header part
+    /// is known which has it; where there is none they are all that was read.
     pub fn rest(&self, side: Side) -> &[u8]
-        ensures held { result.now ≡ (stream_of self.now.survey side).decoder.rest }
-        ensures broken { (limits : Bounds) (start now : Told) (past : List Raw) (notes : List Noted) (found : List SpecOffence)
-            → (so : SoFar limits self.now start now past notes found) → (stream_of self.now.survey side).ended ≡ true
+        ensures held { result.now ≡ (decoder_of side self.now.log.streams).rest }
+        ensures broken { (limits : Bounds) (start now : Told) (past : List Raw)
+            (notes : List Noted) (found : List SpecOffence)
+            → (so : SoFar limits self.now start now past notes found) → IsBroken self.now side
             → ShowsFront limits side so.records result.now }
     {
-        self.survey.rest(side)
+        self.log.rest(side)
     }
 
-    /// Behind a fault of the log, how many of its bytes stand before that: the bad record begins there; 0
-    /// where the first line is missing.
+    /// After a fault of the log, how many of its bytes stand before that: the bad record begins
+    /// there; 0 where the first line is missing.
     pub fn place(&self) -> u64
-        ensures { result ≡ self.now.log.place }
+        ensures { result ≡ self.now.log.log.place }
     {
         self.log.place()
     }
 
-    /// Behind a fault of the log, the line that stands at its place, its LF included, as far as the log's first
-    /// 64 bytes from there on go, and 14 of a log whose first line is missing.
+    /// After a fault of the log, the line that stands at its place, its LF included, as far as the
+    /// log's first 64 bytes from there on go, and 14 of a log whose first line is missing.
     pub fn found(&self) -> &[u8]
-        ensures { result.now ≡ shown_by self.now.log }
+        ensures { result.now ≡ shown_by self.now.log.log }
     {
         self.log.found()
     }
 
-    /// Hears the next event of the records read.
-    fn hear(&mut self) -> Result<Option<Heard>, RunFault>
-        ensures log { self.new.log ≡ self.old.log }
-        ensures completeness { self.new.completeness ≡ self.old.completeness }
-        ensures idle { result ≡ Ok None → self.new.survey.turn ≡ None }
-        ensures answer { (limits : Bounds) (start now : Told) (past : List Raw) (before : List Noted) (found : List SpecOffence) → (so : SoFar limits self.old start now past before found)
-            → PullsHere self.old.completeness limits self.new start now past before found result }
-        ensures later { IfOk result (λ answer. (limits : Bounds) (start now : Told) (past : List Raw) (before : List Noted) (found : List SpecOffence) → (so : SoFar limits self.old start now past before found)
-            → HearsBehind so.records limits self.new start now past before found answer) }
-        ensures broke { OnErr result ((limits : Bounds) (start now : Told) (past : List Raw) (before : List Noted) (found : List SpecOffence) → (so : SoFar limits self.old start now past before found)
-            → OfRead limits start now (HasHeard limits self.old.log.format so.records past)) }
+    /// What the end of the log comes to.
+    fn end(&self, end: streams::End) -> Result<End, Memory>
+        ensures { IfOk result (λ told. EndIs self.now end told) }
     {
-        Ok(self.survey.hear()?)
-    }
-
-    /// Takes the next record of the log, and hears it where it is a snapshot; or gives the log's end.
-    /// The first entry tells the format of the log.
-    fn take_entry<R: Source>(&mut self, reader: &mut R) -> Result<Option<Next>, RunFault>
-        requires idle { self.old.survey.turn ≡ None }
-        ensures completeness { self.new.completeness ≡ self.old.completeness }
-        ensures format { KeepsFormat self.old.log.format self.new.log.format }
-        ensures less { result ≡ Ok None → ahead self.new.log < ahead self.old.log }
-        ensures answer { (limits : Bounds) (start : Told) (past : List Raw) (before : List Noted) (found : List SpecOffence) → (so : SoFar limits self.old start (R.told reader.old) past before found)
-            → TakesEntry self.old.completeness limits self.new start (R.told reader.new) past before found result }
-        ensures later { IfOk result (λ answer. (limits : Bounds) (start : Told) (past : List Raw) (before : List Noted) (found : List SpecOffence) → (so : SoFar limits self.old start (R.told reader.old) past before found)
-            → TakesBehind so.records self.old.completeness limits self.new start (R.told reader.new) past before found answer) }
-        ensures broke { OnErr result ((limits : Bounds) (start : Told) (past : List Raw) (before : List Noted) (found : List SpecOffence) → (so : SoFar limits self.old start (R.told reader.old) past before found)
-            → OfRead limits start (R.told reader.new) (HasHeard limits self.old.log.format so.records past)) }
-    {
-        let entry = next_entry(&mut self.log, reader)?;
-        follow_format(&self.log, &mut self.survey);
-        match entry {
-            Entry::Record(record) => match self.survey.take(record)? {
-                Some(heard) => Ok(Some(Next::Event(heard))),
-                None => Ok(None),
-            },
-            Entry::End => Ok(Some(Next::End(End {
-                listed: self.survey.ends(self.completeness)?,
+        match end {
+            streams::End::Sound => Ok(End {
+                listed: self.ends()?,
                 bad: None,
-            }))),
-            Entry::Bad { number, fault } => Ok(Some(Next::End(End {
+            }),
+            streams::End::Bad { number, fault } => Ok(End {
                 listed: Vec::new(self.alloc),
                 bad: Some(Verdict::BadLog { number, fault }),
-            }))),
+            }),
         }
     }
-}
 
-/// Makes the survey one for the format of the log, once that is known.
-fn follow_format(log: &LogReader, survey: &mut Survey)
-    ensures survey { IsRefitted log.now.format survey.old survey.new }
-    ensures idle { survey.old.turn ≡ None → survey.new.turn ≡ None }
-{
-    let Some(format) = log.format() else {
-        return;
-    };
-    survey.follow_format(format);
+    /// What is listed of the end of a log without a fault.
+    fn ends(&self) -> Result<Vec<Offence>, Memory>
+        ensures { IfOk result (λ listed. EndsAre self.now listed.items) }
+    {
+        let editor = self.log.ends_inside(Side::Editor);
+        let server = self.log.ends_inside(Side::Server);
+        ends(self.alloc, &self.walk, editor, server, self.completeness)
+    }
 }

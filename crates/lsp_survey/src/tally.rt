@@ -1,5 +1,5 @@
 //! How many offences were found.
-ghost use Rattle.std.specs.Prelude.{◌≡◌, ◌++◌, ◌∷◌, [], List};
+ghost use Rattle.std.specs.Prelude.{◌++◌, ◌∷◌, [], List};
 ghost use Rattle.lsp_survey.specs.Reported.{IsTally};
 ghost use Rattle.lsp_verdict.specs.Given.{offence_view};
 ghost use Rattle.lsp_verdict.specs.Offences.{Offence as SpecOffence};
@@ -31,7 +31,8 @@ impl Tally {
 
     /// One more offence.
     pub fn add(&mut self, offence: &Offence)
-        ensures { (found : List SpecOffence) → IsTally self.old found → IsTally self.new (found ++ offence_view offence.now ∷ []) }
+        ensures { (found : List SpecOffence) → IsTally self.old found
+            → IsTally self.new (found ++ offence_view offence.now ∷ []) }
     {
         self.first = self.first.or(Some(*offence));
         self.found = self.found.saturating_add(1);

@@ -1,7 +1,9 @@
 //! The events of a session, of which those that offend are passed over.
-ghost use Rattle.std.specs.Prelude.{◌≡◌, ◌&&◌, ◌||◌, [], Bool, List, None, Some, false, IfOk, OnOk, chars, string_bytes};
+ghost use Rattle.std.specs.Prelude.{◌≡◌, ◌&&◌, ◌||◌, [], Bool, List, None, Some, false, IfOk, OnOk};
+ghost use Rattle.std.specs.Prelude.{chars};
 ghost use Rattle.lsp_docs.specs.Calls.{shows};
 ghost use Rattle.lsp_docs.specs.Terms.{terms_of};
+ghost use Rattle.lsp_events.specs.Standing.{Holds};
 ghost use Rattle.lsp_rpc.specs.View.{act_view, message_view};
 ghost use Rattle.lsp_session.specs.Handshake.{phase};
 ghost use Rattle.lsp_session.specs.Sent.{Sent};
@@ -12,26 +14,31 @@ ghost use Rattle.lsp_verdict.specs.Calls.{call_of};
 ghost use Rattle.lsp_verdict.specs.Counting.{AreCounts};
 ghost use Rattle.lsp_verdict.specs.Event.{Event};
 ghost use Rattle.lsp_verdict.specs.Given.{given_offence, offence_view};
-ghost use Rattle.lsp_verdict.specs.Offences.{Asks, Noted, breaks_handshake, is_handshake_lost, wants_handshake, wants_text};
+ghost use Rattle.lsp_verdict.specs.Offences.{Asks, Noted, breaks_handshake, is_handshake_lost};
+ghost use Rattle.lsp_verdict.specs.Offences.{wants_handshake, wants_text};
 ghost use Rattle.lsp_verdict.specs.Placed as placed;
 ghost use Rattle.lsp_verdict.specs.Verdict as spec;
-ghost use Rattle.lsp_notes.specs.Marking.{number_next};
-ghost use Rattle.lsp_notes.specs.Marks.{DoneBy, ShownBy};
-ghost use Rattle.lsp_notes.specs.Notes.{AreAfter, asks_of};
-ghost use Rattle.lsp_notes.specs.SessionNoting.{SaysOn};
-ghost use Rattle.lsp_survey.specs.Walking.{Counted, Hears, IsUnread, PassesOver, Walks, offence_of};
+ghost use Rattle.lsp_survey.specs.Marking.{number_next};
+ghost use Rattle.lsp_survey.specs.Marks.{DoneBy, ShownBy};
+ghost use Rattle.lsp_survey.specs.Notes.{AreAfter, asks_of};
+ghost use Rattle.lsp_survey.specs.SessionNoting.{SaysOn};
+ghost use Rattle.lsp_streams.specs.Streams.{raw_view};
+ghost use Rattle.lsp_survey.specs.Ending.{lack_by};
+ghost use Rattle.lsp_survey.specs.Walking.{Counted, Hears, IsShown, IsUnread, PassesOver, Walks};
+ghost use Rattle.lsp_survey.specs.Walking.{offence_of};
 
+use crate::notes::{
+    Marks, Notes, SessionNotes, asks_again, asks_handshake, breaks_handshake, is_on_lost,
+    note_kept_act, note_refused, note_refused_act, wants_handshake, wants_text,
+};
 use crate::offending::{Found, Heard, Offending};
 use lsp_docs::{DocFault, Match};
 use lsp_events::{Events, Refused};
 use lsp_frame::{Format, Limits};
 use lsp_lined::Lined;
-use lsp_notes::{
-    Marks, Notes, SessionNotes, asks_again, asks_handshake, breaks_handshake, is_on_lost,
-    note_kept_act, note_refused, note_refused_act, wants_handshake, wants_text,
-};
 use lsp_rpc::{Memory, Side, Spoken};
-use lsp_verdict::{Counts, Offence, Who, who_of};
+use lsp_streams::Raw;
+use lsp_verdict::{Completeness, Counts, Offence, Who, who_of};
 use std::alloc::Global;
 
 /// What the events of a session have come to, where each that offends is passed over.
@@ -64,16 +71,36 @@ impl Walk {
         }
     }
 
-    /// Hears a content of a side.
-    pub(crate) fn content(
-        &mut self,
-        alloc: Global,
-        side: Side,
-        content: &[u8],
-    ) -> Result<Heard, Memory>
+    /// Hears the next event.
+    pub(crate) fn hear(&mut self, alloc: Global, raw: Raw<'_>) -> Result<Heard, Memory>
         ensures terms { self.new.events.docs.terms ≡ self.old.events.docs.terms }
         ensures heard { IfOk result (λ heard. (before : List Noted) → Walks self.old before
-            → Hears (placed.content side content.now) self.old.events.docs.terms self.new before heard) }
+            → Hears (raw_view raw.entry) self.old.events.docs.terms self.new before heard) }
+    {
+        match raw {
+            Raw::Content { side, content } => self.content(alloc, side, content),
+            Raw::Broken { side, rule } => Ok(self.frames(side, rule)),
+            Raw::Snapshot { version, uri, text } => self.snapshot(alloc, version, uri, text),
+        }
+    }
+
+    /// What the session lacks to be complete, by its rule, where it has to be.
+    pub(crate) fn lack(&self, completeness: Completeness) -> Option<u16>
+        ensures { (kept : List Event) → Holds self.now.events.session self.now.events.docs kept
+            → result ≡ lack_by completeness kept }
+    {
+        match completeness {
+            Completeness::Ignored => None,
+            Completeness::Required => self.events.session.incomplete(),
+        }
+    }
+
+    /// Hears a content of a side.
+    fn content(&mut self, alloc: Global, side: Side, content: &[u8]) -> Result<Heard, Memory>
+        ensures terms { self.new.events.docs.terms ≡ self.old.events.docs.terms }
+        ensures heard { IfOk result (λ heard. (before : List Noted) → Walks self.old before
+            → Hears (placed.content side content.now) self.old.events.docs.terms self.new before
+            heard) }
     {
         match self.events.hear(alloc, side, content) {
             Ok(spoken) => self.keep_message(side, spoken),
@@ -84,29 +111,27 @@ impl Walk {
     }
 
     /// Hears a text that the editor showed.
-    pub(crate) fn snapshot(
+    fn snapshot(
         &mut self,
+        alloc: Global,
         version: i32,
-        uri: String,
-        text: String,
+        uri: &str,
+        text: &str,
     ) -> Result<Heard, Memory>
         ensures terms { self.new.events.docs.terms ≡ self.old.events.docs.terms }
         ensures heard { IfOk result (λ heard. (before : List Noted) → Walks self.old before
-            → Hears (placed.show version (string_bytes uri) (string_bytes text)) self.old.events.docs.terms self.new before heard) }
+            → Hears (placed.show version uri.now text.now) self.old.events.docs.terms self.new
+            before heard) }
     {
-        match self
-            .events
-            .docs
-            .snapshot(uri.as_str(), version, text.as_str())
-        {
-            Ok(answer) => self.keep_snapshot(uri.as_str(), version, answer),
-            Err(DocFault::Rule(rule)) => self.refuse_snapshot(rule, version, uri, text),
+        match self.events.docs.snapshot(uri, version, text) {
+            Ok(answer) => self.keep_snapshot(uri, version, answer),
+            Err(DocFault::Rule(rule)) => self.refuse_snapshot(alloc, rule, version, uri, text),
             Err(DocFault::Memory) => Err(Memory),
         }
     }
 
     /// Hears a fault of the frames of a side.
-    pub(crate) fn frames(&mut self, side: Side, rule: u16) -> Heard
+    fn frames(&mut self, side: Side, rule: u16) -> Heard
         ensures terms { self.new.events.docs.terms ≡ self.old.events.docs.terms }
         ensures heard { (before : List Noted) → Walks self.old before
             → Hears (placed.broken side rule) self.old.events.docs.terms self.new before result }
@@ -124,11 +149,17 @@ impl Walk {
         ensures terms { self.new.events.docs.terms ≡ self.old.events.docs.terms }
         ensures counted { OnOk result (Counted self.old self.new (spec.who_of side) None false) }
         ensures noted { OnOk result ((enc : Encoding) (kind : SyncKind)
-            → AreAfter None (call_of enc kind (act_view spoken.act)) self.old.notes.map.entries self.new.notes.map.entries) }
-        ensures marked { OnOk result ((events : List Event) → AreCounts self.old.events.counts events → (enc : Encoding) (kind : SyncKind)
-            → DoneBy (number_next events) (call_of enc kind (act_view spoken.act)) self.old.marks.map.entries self.new.marks.map.entries) }
-        ensures said { OnOk result ((events : List Event) (sents : List Sent) → AreCounts self.old.events.counts events → Stands self.old.events.session sents
-            → SaysOn (number_next events) side (message_view spoken.message) (phase sents) self.old.said self.new.said) }
+            → AreAfter None (call_of enc kind
+            (act_view spoken.act)) self.old.notes.map.entries self.new.notes.map.entries) }
+        ensures marked { OnOk result ((events : List Event)
+            → AreCounts self.old.events.counts events → (enc : Encoding) (kind : SyncKind)
+            → DoneBy (number_next events)
+            (call_of enc kind (act_view spoken.act)) self.old.marks.map.entries
+            self.new.marks.map.entries) }
+        ensures said { OnOk result ((events : List Event) (sents : List Sent)
+            → AreCounts self.old.events.counts events → Stands self.old.events.session sents
+            → SaysOn (number_next events) side (message_view spoken.message)
+            (phase sents) self.old.said self.new.said) }
     {
         let noted = self.note(side, &spoken);
         drop(spoken);
@@ -141,11 +172,17 @@ impl Walk {
     fn note(&mut self, side: Side, spoken: &Spoken) -> Result<(), Memory>
         ensures same { (self.new.events ≡ self.old.events) × (self.new.broken ≡ self.old.broken) }
         ensures noted { OnOk result ((enc : Encoding) (kind : SyncKind)
-            → AreAfter None (call_of enc kind (act_view spoken.now.act)) self.old.notes.map.entries self.new.notes.map.entries) }
-        ensures marked { OnOk result ((events : List Event) → AreCounts self.old.events.counts events → (enc : Encoding) (kind : SyncKind)
-            → DoneBy (number_next events) (call_of enc kind (act_view spoken.now.act)) self.old.marks.map.entries self.new.marks.map.entries) }
-        ensures said { OnOk result ((events : List Event) (sents : List Sent) → AreCounts self.old.events.counts events → Stands self.old.events.session sents
-            → SaysOn (number_next events) side (message_view spoken.now.message) (phase sents) self.old.said self.new.said) }
+            → AreAfter None (call_of enc kind
+            (act_view spoken.now.act)) self.old.notes.map.entries self.new.notes.map.entries) }
+        ensures marked { OnOk result ((events : List Event)
+            → AreCounts self.old.events.counts events → (enc : Encoding) (kind : SyncKind)
+            → DoneBy (number_next events)
+            (call_of enc kind (act_view spoken.now.act)) self.old.marks.map.entries
+            self.new.marks.map.entries) }
+        ensures said { OnOk result ((events : List Event) (sents : List Sent)
+            → AreCounts self.old.events.counts events → Stands self.old.events.session sents
+            → SaysOn (number_next events) side (message_view spoken.now.message)
+            (phase sents) self.old.said self.new.said) }
     {
         let number = number_next(&self.events.counts);
         let phase = self.events.session.phase();
@@ -161,8 +198,10 @@ impl Walk {
         ensures notes { self.new.notes ≡ self.old.notes }
         ensures said { self.new.said ≡ self.old.said }
         ensures counted { OnOk result (Counted self.old self.new Who.Snapshot None false) }
-        ensures marked { OnOk result ((events : List Event) → AreCounts self.old.events.counts events
-            → ShownBy (number_next events) uri.now version answer self.old.marks.map.entries self.new.marks.map.entries) }
+        ensures marked { OnOk result ((events : List Event)
+            → AreCounts self.old.events.counts events
+            → ShownBy (number_next events) uri.now version answer self.old.marks.map.entries
+            self.new.marks.map.entries) }
     {
         let number = number_next(&self.events.counts);
         self.marks.keep_snapshot(number, uri, version, answer)?;
@@ -173,8 +212,11 @@ impl Walk {
     /// Passes over a message that offends by this rule.
     fn refuse_message(&mut self, side: Side, rule: u16, spoken: Spoken) -> Result<Heard, Memory>
         ensures terms { self.new.events.docs.terms ≡ self.old.events.docs.terms }
-        ensures passes { IfOk result (PassesOver self.old self.new (spec.who_of side) rule (asks_of side (message_view spoken.message))
-            (λ enc kind. call_of enc kind (act_view spoken.act)) (λ what. what ≡ Offending.Message side spoken)) }
+        ensures passes { IfOk result
+            (PassesOver self.old self.new (spec.who_of side) rule
+            (asks_of side (message_view spoken.message))
+            (λ enc kind. call_of enc kind (act_view spoken.act))
+            (λ what. what ≡ Offending.Message side spoken)) }
     {
         let asks = asks_handshake(side, &spoken.message);
         let on_lost = is_on_lost(&self.notes, &spoken.act);
@@ -195,8 +237,10 @@ impl Walk {
         content: &[u8],
     ) -> Result<Heard, Memory>
         ensures terms { self.new.events.docs.terms ≡ self.old.events.docs.terms }
-        ensures passes { IfOk result (λ heard. (asks : Bool) × Asks (placed.content side content.now) asks
-            × PassesOver self.old self.new (spec.who_of side) rule asks (λ enc kind. None) (IsUnread side content.now) heard) }
+        ensures passes { IfOk result
+            (λ heard. (asks : Bool) × Asks (placed.content side content.now) asks
+            × PassesOver self.old self.new (spec.who_of side) rule asks
+            (λ enc kind. None) (IsUnread side content.now) heard) }
     {
         let asks = asks_again(alloc, side, content)?;
         let content = Vec::from_slice(alloc, content)?;
@@ -210,18 +254,22 @@ impl Walk {
     /// Passes over a snapshot that offends by this rule.
     fn refuse_snapshot(
         &mut self,
+        alloc: Global,
         rule: u16,
         version: i32,
-        uri: String,
-        text: String,
+        uri: &str,
+        text: &str,
     ) -> Result<Heard, Memory>
         ensures terms { self.new.events.docs.terms ≡ self.old.events.docs.terms }
         ensures passes { IfOk result (PassesOver self.old self.new Who.Snapshot rule false
-            (λ enc kind. Some (shows (string_bytes uri) version (chars (string_bytes text)))) (λ what. what ≡ Offending.Snapshot version uri text)) }
+            (λ enc kind. Some (shows uri.now version (chars text.now)))
+            (IsShown version uri.now text.now)) }
     {
-        let on_lost = self.notes.get(uri.as_str()).lost;
+        let on_lost = self.notes.get(uri).lost;
         let offence = self.refuse(rule, Who::Snapshot, false, on_lost);
-        note_refused(&mut self.notes, rule, uri.as_str(), false)?;
+        note_refused(&mut self.notes, rule, uri, false)?;
+        let uri = String::from_str(alloc, uri)?;
+        let text = String::from_str(alloc, text)?;
         Ok(Heard::Offence(Found {
             offence,
             offending: Offending::Snapshot { version, uri, text },
@@ -235,7 +283,8 @@ impl Walk {
         ensures marks { self.new.marks ≡ self.old.marks }
         ensures said { self.new.said ≡ self.old.said }
         ensures offence { (before : List Noted) → Walks self.old before
-            → offence_view result ≡ given_offence (offence_of self.old.events.docs.terms before by rule on_lost) }
+            → offence_view result ≡ given_offence
+            (offence_of self.old.events.docs.terms before by rule on_lost) }
     {
         let follows = self.follows(rule, on_lost);
         let offence = Offence::next(&self.events.counts, rule, by, follows);
@@ -244,11 +293,12 @@ impl Walk {
         offence
     }
 
-    /// Whether an offence by this rule follows from an earlier one, where its event speaks of a lost
-    /// document or doesn't.
+    /// Whether an offence by this rule follows from an earlier one, where its event speaks of a
+    /// lost document or doesn't.
     fn follows(&self, rule: u16, on_lost: bool) -> bool
         ensures { (before : List Noted) → Walks self.now before
-            → result ≡ (wants_handshake rule && is_handshake_lost self.now.events.docs.terms before || wants_text rule && on_lost) }
+            → result ≡ (wants_handshake rule && is_handshake_lost self.now.events.docs.terms before
+            || wants_text rule && on_lost) }
     {
         if wants_handshake(rule) && self.is_handshake_lost() {
             return true;

@@ -10,10 +10,11 @@ use Rattle.json.specs.Text.{content}
 use Rattle.json.specs.Word.{word, after_number}
 use Rattle.json.specs.Print.{escape_byte}
 use Rattle.serde_json.specs.Read.{number_of}
-use Rattle.lsp_notes.specs.Asking.{numbered}
+use Rattle.lsp_survey.specs.Asking.{numbered}
 use Rattle.lsp_verdict.specs.Event.{Event}
-use Rattle.lsp_verdict.proofs.Worked.Templates.{terms, I1, N1, START, OPEN, CHG, FULL, CLOSE, REQ, RES, ERR, T}
-use Rattle.lsp_facts.specs.Fact.{Fact, of_uri, holds, sends}
+use Rattle.lsp_verdict.proofs.Worked.Templates.{terms, I1, N1, START, OPEN, CHG, FULL, CLOSE, REQ}
+use Rattle.lsp_verdict.proofs.Worked.Templates.{RES, ERR, T}
+use Rattle.lsp_facts.specs.Fact.{Fact, of_uri, holds, shows_version}
 use Rattle.lsp_facts.specs.Lines.{fact_lines}
 use Rattle.lsp_explain.specs.Traced.{traced, lack_traced}
 
@@ -23,50 +24,69 @@ with_events rule before event plain = fact_lines (traced terms before event rule
 
 -- ---- ids
 
-answered_before : with_events 301 (START ++ REQ ∷ RES (codes "7") ∷ []) (RES (codes "7")) [] ≡ codes "answered 5\n"
-unfolding value punctuate lex content word after_number number_of scan_numeral chars digits escape_byte
+answered_before : with_events 301 (START ++ REQ ∷ RES (codes "7") ∷ []) (RES (codes "7")) []
+    ≡ codes "answered event 5\n"
+unfolding value punctuate lex content word after_number number_of scan_numeral chars digits
+    escape_byte
 answered_before = refl
 
 never_answered : with_events 301 START (RES (codes "7")) [] ≡ []
-unfolding value punctuate lex content word after_number number_of scan_numeral chars digits escape_byte
+unfolding value punctuate lex content word after_number number_of scan_numeral chars digits
+    escape_byte
 never_answered = refl
 
-taken_again : with_events 302 (START ++ REQ ∷ RES (codes "7") ∷ REQ ∷ []) REQ [] ≡ codes "asked 6\nanswered 5\n"
-unfolding value punctuate lex content word after_number number_of scan_numeral chars digits escape_byte
+taken_again : with_events 302 (START ++ REQ ∷ RES (codes "7") ∷ REQ ∷ []) REQ []
+    ≡ codes "asked event 6\nanswered event 5\n"
+unfolding value punctuate lex content word after_number number_of scan_numeral chars digits
+    escape_byte
 taken_again = refl
 
 -- an event that offends has a number, and brings nothing
-passed_over : with_events 301 (START ++ REQ ∷ REQ ∷ RES (codes "7") ∷ []) (RES (codes "7")) [] ≡ codes "answered 6\n"
-unfolding value punctuate lex content word after_number number_of scan_numeral chars digits escape_byte
+passed_over : with_events 301 (START ++ REQ ∷ REQ ∷ RES (codes "7") ∷ []) (RES (codes "7")) []
+    ≡ codes "answered event 6\n"
+unfolding value punctuate lex content word after_number number_of scan_numeral chars digits
+    escape_byte
 passed_over = refl
 
 -- ---- the phase
 
-initialized_again : with_events 404 START N1 [] ≡ codes "since 3\n"
-unfolding value punctuate lex content word after_number number_of scan_numeral chars digits escape_byte
+initialized_again : with_events 404 START N1 [] ≡ codes "since event 3\n"
+unfolding value punctuate lex content word after_number number_of scan_numeral chars digits
+    escape_byte
 initialized_again = refl
 
 nothing_yet : with_events 401 [] REQ [] ≡ []
-unfolding value punctuate lex content word after_number number_of scan_numeral chars digits escape_byte
+unfolding value punctuate lex content word after_number number_of scan_numeral chars digits
+    escape_byte
 nothing_yet = refl
 
-refused_handshake : with_events 401 (I1 ∷ ERR (codes "1") (codes "-1") ∷ []) REQ [] ≡ codes "since 2\n"
-unfolding value punctuate lex content word after_number number_of scan_numeral chars digits escape_byte
+refused_handshake : with_events 401 (I1 ∷ ERR (codes "1") (codes "-1") ∷ []) REQ []
+    ≡ codes "since event 2\n"
+unfolding value punctuate lex content word after_number number_of scan_numeral chars digits
+    escape_byte
 refused_handshake = refl
 
-unanswered : fact_lines (lack_traced (numbered terms (START ++ REQ ∷ []))) ≡ codes "request 7 \"textDocument/hover\" 4\nphase ready\nsince 3\n"
-unfolding value punctuate lex content word after_number number_of scan_numeral chars digits escape_byte
+unanswered : fact_lines (lack_traced (numbered terms (START ++ REQ ∷ [])))
+    ≡ codes "request 7 \"textDocument/hover\" event 4\nphase ready\nsince event 3\n"
+unfolding value punctuate lex content word after_number number_of scan_numeral chars digits
+    escape_byte
 unanswered = refl
 
 -- ---- documents
 
-snapshot_differs : with_events 702 (START ++ OPEN (codes "1") (codes "ab") ∷ T 1 (codes "ab") ∷ CHG (codes "2") (FULL (codes "abc")) ∷ []) (T 2 (codes "abd")) (of_uri [] ∷ holds (pos 2) ∷ sends (pos 2) ∷ [])
-    ≡ codes "uri \"\"\nheld 2\nbrought 6\nsent 2\nsnapshot 7\nagreed 5 1\n"
-unfolding value punctuate lex content word after_number number_of scan_numeral chars digits escape_byte
+snapshot_differs : with_events 702
+    (START ++ OPEN (codes "1") (codes "ab") ∷ T 1 (codes "ab") ∷ CHG (codes "2")
+    (FULL (codes "abc")) ∷ []) (T 2 (codes "abd")) (of_uri [] ∷ holds (pos 2) ∷ shows_version (pos 2) ∷ [])
+    ≡ codes "uri \"\"\nheld 2 event 6\nversion 2\nsnapshot event 7\nequal 1 event 5\n"
+unfolding value punctuate lex content word after_number number_of scan_numeral chars digits
+    escape_byte
 snapshot_differs = refl
 
 -- what agreed before the document was closed does not count
-opened_again : with_events 702 (START ++ OPEN (codes "1") (codes "ab") ∷ T 1 (codes "ab") ∷ CLOSE ∷ OPEN (codes "1") (codes "ab") ∷ []) (T 1 (codes "ac")) (of_uri [] ∷ holds (pos 1) ∷ sends (pos 1) ∷ [])
-    ≡ codes "uri \"\"\nheld 1\nbrought 7\nsent 1\nsnapshot 8\n"
-unfolding value punctuate lex content word after_number number_of scan_numeral chars digits escape_byte
+opened_again : with_events 702
+    (START ++ OPEN (codes "1") (codes "ab") ∷ T 1 (codes "ab") ∷ CLOSE ∷ OPEN (codes "1")
+    (codes "ab") ∷ []) (T 1 (codes "ac")) (of_uri [] ∷ holds (pos 1) ∷ shows_version (pos 1) ∷ [])
+    ≡ codes "uri \"\"\nheld 1 event 7\nversion 1\nsnapshot event 8\n"
+unfolding value punctuate lex content word after_number number_of scan_numeral chars digits
+    escape_byte
 opened_again = refl

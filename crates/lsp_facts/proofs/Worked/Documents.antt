@@ -9,7 +9,7 @@ use Rattle.lsp_text.specs.Edits.{Edit}
 use Rattle.lsp_docs.specs.Texts.{Text}
 use Rattle.lsp_docs.specs.Terms.{Terms}
 use Rattle.lsp_docs.specs.Calls.{Call, opens, changes, closes, saves, shows}
-use Rattle.lsp_facts.specs.Fact.{of_uri, holds, sends, has_changes, has_kind, fails, line_has, falls_inside, would_have, may_have, differs_at, held_line, recorded_line, saved_line, keeps}
+use Rattle.lsp_facts.specs.Fact.{of_uri, holds, sends, shows_version, has_changes, has_kind, counts_in, fails, line_has, falls_inside, would_have, may_have, differs_at, by_messages, in_editor, saved_line, keeps}
 use Rattle.lsp_facts.specs.DocumentFacts.{AreDocumentFacts}
 
 abbrev A : List ℕ
@@ -58,7 +58,7 @@ same_version = record { details = []; says = inl (refl, refl); are = refl }
 -- 604: under Full the second change has a span; its line is one of the text that the first makes
 span_under_full :
     AreDocumentFacts terms Utf16 opened (changes Utf16 Full A (pos 2) (edit None (codes "xyz") ∷ edit (between (at 0 1) (at 0 2)) [] ∷ [])) 604
-    (of_uri A ∷ holds (pos 1) ∷ sends (pos 2) ∷ has_changes 2 ∷ has_kind Full ∷ fails 2 (between (at 0 1) (at 0 2)) ∷ line_has 3 ∷ [])
+    (of_uri A ∷ holds (pos 1) ∷ sends (pos 2) ∷ has_changes 2 ∷ has_kind Full ∷ counts_in Utf16 ∷ fails 2 (between (at 0 1) (at 0 2)) ∷ line_has 3 ∷ [])
 span_under_full = record { details = _; says = inr (inl (refl, refl)); are = refl }
 
 -- where nothing is to be sent, a notification without changes breaks it too
@@ -69,7 +69,7 @@ none_under_none = record { details = _; says = inr (inl (refl, refl)); are = ref
 -- 605: the second position lies inside the smile; the line has four units of UTF-16
 inside_a_smile :
     AreDocumentFacts terms Utf16 opened (changes Utf16 Incremental A (pos 2) (edit (between (at 0 0) (at 0 1)) [] ∷ edit (between (at 0 9) (at 1 2)) (codes "z") ∷ [])) 605
-    (of_uri A ∷ holds (pos 1) ∷ sends (pos 2) ∷ has_changes 2 ∷ fails 2 (between (at 0 9) (at 1 2)) ∷ line_has 4 ∷ falls_inside (128512 ∷ []) ∷ [])
+    (of_uri A ∷ holds (pos 1) ∷ sends (pos 2) ∷ has_changes 2 ∷ counts_in Utf16 ∷ fails 2 (between (at 0 9) (at 1 2)) ∷ line_has 4 ∷ falls_inside (128512 ∷ []) ∷ [])
 inside_a_smile =
     record {
       details = _;
@@ -101,7 +101,7 @@ inside_a_smile =
 -- 606: the second position stands before the first
 reversed :
     AreDocumentFacts terms Utf8 opened (changes Utf8 Incremental A (pos 2) (edit (between (at 1 6) (at 0 1)) [] ∷ [])) 606
-    (of_uri A ∷ holds (pos 1) ∷ sends (pos 2) ∷ has_changes 1 ∷ fails 1 (between (at 1 6) (at 0 1)) ∷ line_has 6 ∷ [])
+    (of_uri A ∷ holds (pos 1) ∷ sends (pos 2) ∷ has_changes 1 ∷ counts_in Utf8 ∷ fails 1 (between (at 1 6) (at 0 1)) ∷ line_has 6 ∷ [])
 reversed =
     record {
       details = _;
@@ -124,7 +124,7 @@ too_long_to_open = record { details = _; says = inr (inl (refl, refl)); are = re
 
 too_long_to_change :
     AreDocumentFacts terms Utf16 opened (changes Utf16 Incremental A (pos 2) (edit (between (at 1 0) (at 9 0)) (codes "0123456789abcdefgh") ∷ [])) 607
-    (of_uri A ∷ holds (pos 1) ∷ sends (pos 2) ∷ has_changes 1 ∷ fails 1 (between (at 1 0) (at 9 0)) ∷ line_has 4 ∷ would_have 21 ∷ may_have 20 ∷ [])
+    (of_uri A ∷ holds (pos 1) ∷ sends (pos 2) ∷ has_changes 1 ∷ counts_in Utf16 ∷ fails 1 (between (at 1 0) (at 9 0)) ∷ line_has 4 ∷ would_have 21 ∷ may_have 20 ∷ [])
 too_long_to_change =
     record {
       details = _;
@@ -154,7 +154,7 @@ too_long_to_change =
 -- 608: the saved text lacks a character of the second line
 saved_other :
     AreDocumentFacts terms Utf16 opened (saves A (Some (codes "ab\nxy\n"))) 608
-    (of_uri A ∷ holds (pos 1) ∷ differs_at (at 1 1) ∷ held_line (120 ∷ 128512 ∷ codes "y\n") ∷ saved_line (codes "xy\n") ∷ [])
+    (of_uri A ∷ holds (pos 1) ∷ counts_in Utf16 ∷ differs_at (at 1 1) ∷ by_messages (120 ∷ 128512 ∷ codes "y\n") ∷ saved_line (codes "xy\n") ∷ [])
 saved_other =
     record { details = _; says = (refl, (4, record { before = refl; here = λ e. true≢false (ap (is_char 128512) e) }, refl)); are = refl }
 
@@ -164,13 +164,13 @@ edited =
     ∷ changes Utf16 Full A (pos 6) (edit None (codes "r") ∷ []) ∷ []
 
 -- 701: two versions are kept besides the held one
-late : AreDocumentFacts terms Utf16 edited (shows A (pos 2) []) 701 (of_uri A ∷ holds (pos 6) ∷ sends (pos 2) ∷ keeps (pos 3 ∷ pos 5 ∷ []) ∷ [])
+late : AreDocumentFacts terms Utf16 edited (shows A (pos 2) []) 701 (of_uri A ∷ holds (pos 6) ∷ shows_version (pos 2) ∷ keeps (pos 3 ∷ pos 5 ∷ []) ∷ [])
 late = record { details = _; says = inl (refl, refl); are = refl }
 
 -- 702: the text of a kept version is another
 kept_differs :
     AreDocumentFacts terms Utf16 edited (shows A (pos 5) (codes "p")) 702
-    (of_uri A ∷ holds (pos 6) ∷ sends (pos 5) ∷ differs_at (at 0 0) ∷ held_line (codes "q") ∷ recorded_line (codes "p") ∷ [])
+    (of_uri A ∷ holds (pos 6) ∷ shows_version (pos 5) ∷ counts_in Utf16 ∷ differs_at (at 0 0) ∷ by_messages (codes "q") ∷ in_editor (codes "p") ∷ [])
 kept_differs =
     record {
       details = _;
@@ -181,7 +181,7 @@ kept_differs =
 -- a snapshot that waits refutes the text of an opening
 refuted :
     AreDocumentFacts terms Utf16 (shows A (pos 4) (codes "new") ∷ []) (opens A (pos 4) (codes "now")) 702
-    (of_uri A ∷ sends (pos 4) ∷ differs_at (at 0 1) ∷ held_line (codes "now") ∷ recorded_line (codes "new") ∷ [])
+    (of_uri A ∷ sends (pos 4) ∷ counts_in Utf16 ∷ differs_at (at 0 1) ∷ by_messages (codes "now") ∷ in_editor (codes "new") ∷ [])
 refuted =
     record {
       details = _;

@@ -3,11 +3,15 @@ use Rattle.std.specs.Int.{div_ceil}
 use Rattle.std.specs.Prelude.{map}
 use Rattle.std.specs.List.{flat_map}
 use Rattle.std.specs.Simd.{first_chunks}
-use Rattle.std.proofs.Common.{◌≡◌, ℕ, suc, ◌+◌, ◌-◌, ◌/◌, ◌%◌, min, ◌<◌, List, [], ◌∷◌, ◌++◌, length, take, drop, inl, inr, sym, ap, subst, ◌∙◌, append_assoc, append-nil, arith}
-use Rattle.std.proofs.Math.Nat.{zero-div, zero-mod, div-eq_of_lt, mod-eq_of_lt, add-div_right, add-mod_right}
+use Rattle.std.proofs.Common.{◌≡◌, ℕ, suc, ◌+◌, ◌-◌, ◌/◌, ◌%◌, min, ◌<◌, List, [], ◌∷◌, ◌++◌}
+use Rattle.std.proofs.Common.{length, take, drop, inl, inr, sym, ap, subst, ◌∙◌, append_assoc}
+use Rattle.std.proofs.Common.{append-nil, arith}
+use Rattle.std.proofs.Math.Nat.{zero-div, zero-mod, div-eq_of_lt, mod-eq_of_lt, add-div_right}
+use Rattle.std.proofs.Math.Nat.{add-mod_right}
 use Rattle.std.proofs.Math.Seq.{take-append-add, drop-append-add}
 use Rattle.std.proofs.lemmas.Bool.{cases_lt}
-use Rattle.std.proofs.lemmas.List.{length-append, length-drop, take-append-le, drop-append-le, take_all, drop_all}
+use Rattle.std.proofs.lemmas.List.{length-append, length-drop, take-append-le, drop-append-le}
+use Rattle.std.proofs.lemmas.List.{take_all, drop_all}
 use Rattle.lsp_frame.specs.Sink.{Wrote, Stopped}
 use Rattle.lsp_frame.specs.Told.{Told}
 use Rattle.lsp_frame.proofs.Writing.{HasPut, wrote_then, stopped_then, stopped_before}
@@ -26,11 +30,14 @@ count_less n size full some =
           ap (λ (q : ℕ). q + min 1 (n % size)) (div-eq_of_lt less)
           ∙ ap (λ (r : ℕ). 0 + min 1 r) (mod-eq_of_lt less)
           ∙ least
-          ∙ sym (ap (λ (k : ℕ). suc (k / size + min 1 (k % size))) none ∙ ap (λ (q : ℕ). suc (q + min 1 (0 % size))) (zero-div size) ∙ ap (λ (r : ℕ). suc (0 + min 1 r)) (zero-mod size))
+          ∙ sym (ap (λ (k : ℕ). suc (k / size + min 1 (k % size))) none
+          ∙ ap (λ (q : ℕ). suc (q + min 1 (0 % size))) (zero-div size)
+          ∙ ap (λ (r : ℕ). suc (0 + min 1 r)) (zero-mod size))
       | inr more ↦
           let m : ℕ = n - size in
           let whole : n ≡ m + size = omega arith in
-          let moved : (m / size + 1) + min 1 (m % size) ≡ suc (m / size + min 1 (m % size)) = omega arith in
+          let moved : (m / size + 1) + min 1 (m % size) ≡ suc (m / size + min 1 (m % size)) =
+          omega arith in
           ap (λ (k : ℕ). k / size + min 1 (k % size)) whole
           ∙ ap (λ (q : ℕ). q + min 1 ((m + size) % size)) (add-div_right m full)
           ∙ ap (λ (r : ℕ). (m / size + 1) + min 1 r) (add-mod_right m size)
@@ -38,12 +45,16 @@ count_less n size full some =
     ]
 
 pub cut_none : (size : ℕ) → cut size [] ≡ []
-cut_none size = ap (λ (k : ℕ). first_chunks size k []) (ap (λ (q : ℕ). q + min 1 (0 % size)) (zero-div size) ∙ ap (λ (r : ℕ). 0 + min 1 r) (zero-mod size))
+cut_none size = ap (λ (k : ℕ). first_chunks size k [])
+    (ap (λ (q : ℕ). q + min 1 (0 % size)) (zero-div size)
+    ∙ ap (λ (r : ℕ). 0 + min 1 r) (zero-mod size))
 
-pub cut_some : (size : ℕ) (bytes : List ℕ) → 0 < size → 0 < length bytes → cut size bytes ≡ take size bytes ∷ cut size (drop size bytes)
+pub cut_some : (size : ℕ) (bytes : List ℕ) → 0 < size → 0 < length bytes
+    → cut size bytes ≡ take size bytes ∷ cut size (drop size bytes)
 cut_some size bytes full some =
     ap (λ (k : ℕ). first_chunks size k bytes) (count_less (length bytes) size full some)
-    ∙ ap (λ (n : ℕ). take size bytes ∷ first_chunks size (div_ceil n size) (drop size bytes)) (sym (length-drop size bytes))
+    ∙ ap (λ (n : ℕ). take size bytes ∷ first_chunks size (div_ceil n size) (drop size bytes))
+    (sym (length-drop size bytes))
 
 -- ---- two parts
 
@@ -76,7 +87,8 @@ part_ends size front back =
                 take-append-le size front back (omega arith)
                 ∙ sym (append-nil (take size front))
                 ∙ ap (λ (k : ℕ). take size front ++ take k back) (sym none);
-            later = drop-append-le size front back (omega arith) ∙ ap (λ (k : ℕ). drop size front ++ drop k back) (sym none);
+            later = drop-append-le size front back (omega arith)
+                ∙ ap (λ (k : ℕ). drop size front ++ drop k back) (sym none);
           }
       | inr more ↦
           let whole : size ≡ length front + (size - length front) = omega arith in
@@ -84,15 +96,18 @@ part_ends size front back =
             now =
                 ap (λ (k : ℕ). take k (front ++ back)) whole
                 ∙ take-append-add front back (size - length front)
-                ∙ ap (λ (w : List ℕ). w ++ take (size - length front) back) (sym (take_all size front (omega arith)));
+                ∙ ap (λ (w : List ℕ). w ++ take (size - length front) back)
+                (sym (take_all size front (omega arith)));
             later =
                 ap (λ (k : ℕ). drop k (front ++ back)) whole
                 ∙ drop-append-add front back (size - length front)
-                ∙ ap (λ (w : List ℕ). w ++ drop (size - length front) back) (sym (drop_all size front (omega arith)));
+                ∙ ap (λ (w : List ℕ). w ++ drop (size - length front) back)
+                (sym (drop_all size front (omega arith)));
           }
     ]
 
-pub piece_ends : (size first second : ℕ) (front back : List ℕ) → first ≡ min (length front) size → second ≡ min (length back) (size - first) → Ends size first second front back
+pub piece_ends : (size first second : ℕ) (front back : List ℕ) → first ≡ min (length front) size
+    → second ≡ min (length back) (size - first) → Ends size first second front back
 piece_ends size first second front back e f =
     let parts = part_ends size front back in
     let left : size - length front ≡ size - first = omega arith in
@@ -119,22 +134,33 @@ abbrev pub due : ℕ → Side → List ℕ → List ℕ
 due size side bytes = flat_map spelling (chunks size side bytes)
 
 -- one record is written of what is left
-pub due_some : (size first second : ℕ) (side : Side) (front back : List ℕ) → 0 < size → 0 < length front + length back → first ≡ min (length front) size → second ≡ min (length back) (size - first)
-    → due size side (front ++ back) ≡ spelling (chunk side (take first front ++ take second back)) ++ due size side (drop first front ++ drop second back)
+pub due_some : (size first second : ℕ) (side : Side) (front back : List ℕ) → 0 < size
+    → 0 < length front + length back → first ≡ min (length front) size
+    → second ≡ min (length back) (size - first)
+    → due size side (front ++ back)
+    ≡ spelling (chunk side (take first front ++ take second back)) ++ due size side
+    (drop first front ++ drop second back)
 due_some size first second side front back full some e f =
     let ends = piece_ends size first second front back e f in
     let long : 0 < length (front ++ back) = omega (arith, length-append front back) in
-    ap (λ (ps : List (List ℕ)). flat_map spelling (map (chunk side) ps)) (cut_some size (front ++ back) full long)
-    ∙ ap (λ (w : List ℕ). spelling (chunk side w) ++ due size side (drop size (front ++ back))) ends.now
-    ∙ ap (λ (w : List ℕ). spelling (chunk side (take first front ++ take second back)) ++ due size side w) ends.later
+    ap (λ (ps : List (List ℕ)). flat_map spelling (map (chunk side) ps))
+    (cut_some size (front ++ back) full long)
+    ∙ ap (λ (w : List ℕ). spelling (chunk side w) ++ due size side (drop size (front ++ back)))
+    ends.now
+    ∙ ap (λ (w : List ℕ). spelling (chunk side (take first front ++ take second back)) ++ due size
+    side w) ends.later
 
-pub put_one : (start old new : Told) (bytes one rest : List ℕ) → HasPut start old bytes (one ++ rest) → Wrote old new one → HasPut start new bytes rest
+pub put_one : (start old new : Told) (bytes one rest : List ℕ)
+    → HasPut start old bytes (one ++ rest) → Wrote old new one → HasPut start new bytes rest
 put_one start old new bytes one rest so_far wrote = record {
   front = so_far.front ++ one;
   whole = so_far.whole ∙ sym (append_assoc so_far.front one rest);
   wrote = wrote_then start old new so_far.front one so_far.wrote wrote;
 }
 
-pub put_part : (start old new : Told) (bytes one rest : List ℕ) → HasPut start old bytes (one ++ rest) → Stopped old new one → Stopped start new bytes
+pub put_part : (start old new : Told) (bytes one rest : List ℕ)
+    → HasPut start old bytes (one ++ rest) → Stopped old new one → Stopped start new bytes
 put_part start old new bytes one rest so_far stopped =
-    subst (λ (w : List ℕ). Stopped start new w) (sym so_far.whole) (stopped_then start old new so_far.front (one ++ rest) so_far.wrote (stopped_before old new one rest stopped))
+    subst (λ (w : List ℕ). Stopped start new w) (sym so_far.whole)
+    (stopped_then start old new so_far.front (one ++ rest) so_far.wrote
+    (stopped_before old new one rest stopped))

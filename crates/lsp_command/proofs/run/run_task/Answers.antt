@@ -7,22 +7,14 @@ returns-in-Check-Ignored-clause-answers g c =
     rw (c.in-Check-Ignored.is, of) (
       c.run_check.result,
       c.of_run.ensures,
-      record {
-        judged = c.run_check.ensures.judged;
-        verdict = c.run_check.ensures.verdict;
-        report = c.run_check.ensures.report;
-        ended = c.run_check.ensures.ended;
-        read_fault = c.run_check.ensures.read_fault;
-        memory = c.run_check.ensures.memory;
-        write_fault = c.run_check.ensures.write_fault;
-      },
+      c.run_check.ensures.checked,
     )
 
 pub returns-in-Check-Ignored-clause-source_failures : goal.returns-in-Check-Ignored-clause-source_failures
-returns-in-Check-Ignored-clause-source_failures g c = run_source _ _ _ _ c.of_run.ensures c.run_check.ensures.source_failures
+returns-in-Check-Ignored-clause-source_failures g c = run_source _ _ _ _ c.of_run.ensures c.run_check.ensures.checked.counts.source_failures
 
 pub returns-in-Check-Ignored-clause-sink_failures : goal.returns-in-Check-Ignored-clause-sink_failures
-returns-in-Check-Ignored-clause-sink_failures g c = run_sink _ _ _ _ c.of_run.ensures c.run_check.ensures.sink_failures
+returns-in-Check-Ignored-clause-sink_failures g c = run_sink _ _ _ _ c.of_run.ensures c.run_check.ensures.checked.counts.sink_failures
 
 pub returns-in-Check-Required-clause-answers : goal.returns-in-Check-Required-clause-answers
 returns-in-Check-Required-clause-answers g c =
@@ -30,22 +22,14 @@ returns-in-Check-Required-clause-answers g c =
     rw (c.in-Check-Required.is, of) (
       c.run_check_complete.result,
       c.of_run-in-Check-Required.ensures,
-      record {
-        judged = c.run_check_complete.ensures.judged;
-        verdict = c.run_check_complete.ensures.verdict;
-        report = c.run_check_complete.ensures.report;
-        ended = c.run_check_complete.ensures.ended;
-        read_fault = c.run_check_complete.ensures.read_fault;
-        memory = c.run_check_complete.ensures.memory;
-        write_fault = c.run_check_complete.ensures.write_fault;
-      },
+      c.run_check_complete.ensures.checked,
     )
 
 pub returns-in-Check-Required-clause-source_failures : goal.returns-in-Check-Required-clause-source_failures
-returns-in-Check-Required-clause-source_failures g c = run_source _ _ _ _ c.of_run-in-Check-Required.ensures c.run_check_complete.ensures.source_failures
+returns-in-Check-Required-clause-source_failures g c = run_source _ _ _ _ c.of_run-in-Check-Required.ensures c.run_check_complete.ensures.checked.counts.source_failures
 
 pub returns-in-Check-Required-clause-sink_failures : goal.returns-in-Check-Required-clause-sink_failures
-returns-in-Check-Required-clause-sink_failures g c = run_sink _ _ _ _ c.of_run-in-Check-Required.ensures c.run_check_complete.ensures.sink_failures
+returns-in-Check-Required-clause-sink_failures g c = run_sink _ _ _ _ c.of_run-in-Check-Required.ensures c.run_check_complete.ensures.checked.counts.sink_failures
 
 pub returns-in-Survey-clause-answers : goal.returns-in-Survey-clause-answers
 returns-in-Survey-clause-answers g c =
@@ -115,19 +99,14 @@ returns-in-Show-Short-clause-answers g c =
     rw (c.in-Show-Short.is, of) (
       c.run_show.result,
       c.of_run-in-Show-Short.ensures,
-      record {
-        judged = c.run_show.ensures.judged;
-        shown = c.run_show.ensures.shown;
-        ended = c.run_show.ensures.ended;
-        fault = c.run_show.ensures.fault;
-      },
+      c.run_show.ensures.showed,
     )
 
 pub returns-in-Show-Short-clause-source_failures : goal.returns-in-Show-Short-clause-source_failures
-returns-in-Show-Short-clause-source_failures g c = run_source _ _ _ _ c.of_run-in-Show-Short.ensures c.run_show.ensures.source_failures
+returns-in-Show-Short-clause-source_failures g c = run_source _ _ _ _ c.of_run-in-Show-Short.ensures c.run_show.ensures.showed.counts.source_failures
 
 pub returns-in-Show-Short-clause-sink_failures : goal.returns-in-Show-Short-clause-sink_failures
-returns-in-Show-Short-clause-sink_failures g c = run_sink _ _ _ _ c.of_run-in-Show-Short.ensures c.run_show.ensures.sink_failures
+returns-in-Show-Short-clause-sink_failures g c = run_sink _ _ _ _ c.of_run-in-Show-Short.ensures c.run_show.ensures.showed.counts.sink_failures
 
 pub returns-in-Show-Long-clause-answers : goal.returns-in-Show-Long-clause-answers
 returns-in-Show-Long-clause-answers g c =
@@ -135,38 +114,28 @@ returns-in-Show-Long-clause-answers g c =
     rw (c.in-Show-Long.is, of) (
       c.run_show_long.result,
       c.of_run-in-Show-Long.ensures,
-      record {
-        judged = c.run_show_long.ensures.judged;
-        shown = c.run_show_long.ensures.shown;
-        ended = c.run_show_long.ensures.ended;
-        fault = c.run_show_long.ensures.fault;
-      },
+      c.run_show_long.ensures.showed,
     )
 
 pub returns-in-Show-Long-clause-source_failures : goal.returns-in-Show-Long-clause-source_failures
-returns-in-Show-Long-clause-source_failures g c = run_source _ _ _ _ c.of_run-in-Show-Long.ensures c.run_show_long.ensures.source_failures
+returns-in-Show-Long-clause-source_failures g c = run_source _ _ _ _ c.of_run-in-Show-Long.ensures c.run_show_long.ensures.showed.counts.source_failures
 
 pub returns-in-Show-Long-clause-sink_failures : goal.returns-in-Show-Long-clause-sink_failures
-returns-in-Show-Long-clause-sink_failures g c = run_sink _ _ _ _ c.of_run-in-Show-Long.ensures c.run_show_long.ensures.sink_failures
+returns-in-Show-Long-clause-sink_failures g c = run_sink _ _ _ _ c.of_run-in-Show-Long.ensures c.run_show_long.ensures.showed.counts.sink_failures
 
 pub returns-in-Text-clause-answers : goal.returns-in-Text-clause-answers
 returns-in-Text-clause-answers g c =
     rw (c.in-Text.is, ← c.get.ensures.value) (
       c.run_text.result,
       c.of_run-in-Text.ensures,
-      record {
-        written = c.run_text.ensures.written;
-        read_fault = c.run_text.ensures.read_fault;
-        memory = c.run_text.ensures.memory;
-        write_fault = c.run_text.ensures.write_fault;
-      },
+      c.run_text.ensures.text,
     )
 
 pub returns-in-Text-clause-source_failures : goal.returns-in-Text-clause-source_failures
-returns-in-Text-clause-source_failures g c = run_source _ _ _ _ c.of_run-in-Text.ensures c.run_text.ensures.source_failures
+returns-in-Text-clause-source_failures g c = run_source _ _ _ _ c.of_run-in-Text.ensures c.run_text.ensures.text.counts.source_failures
 
 pub returns-in-Text-clause-sink_failures : goal.returns-in-Text-clause-sink_failures
-returns-in-Text-clause-sink_failures g c = run_sink _ _ _ _ c.of_run-in-Text.ensures c.run_text.ensures.sink_failures
+returns-in-Text-clause-sink_failures g c = run_sink _ _ _ _ c.of_run-in-Text.ensures c.run_text.ensures.text.counts.sink_failures
 
 pub returns-in-Event-clause-answers : goal.returns-in-Event-clause-answers
 returns-in-Event-clause-answers g c =
@@ -211,19 +180,14 @@ returns-in-Upgrade-clause-answers g c =
     rw c.in-Upgrade.is (
       c.run_upgrade.result,
       c.of_run-in-Upgrade.ensures,
-      record {
-        judged = c.run_upgrade.ensures.judged;
-        written = c.run_upgrade.ensures.written;
-        ended = c.run_upgrade.ensures.ended;
-        fault = c.run_upgrade.ensures.fault;
-      },
+      c.run_upgrade.ensures.upgraded,
     )
 
 pub returns-in-Upgrade-clause-source_failures : goal.returns-in-Upgrade-clause-source_failures
-returns-in-Upgrade-clause-source_failures g c = run_source _ _ _ _ c.of_run-in-Upgrade.ensures c.run_upgrade.ensures.source_failures
+returns-in-Upgrade-clause-source_failures g c = run_source _ _ _ _ c.of_run-in-Upgrade.ensures c.run_upgrade.ensures.upgraded.counts.source_failures
 
 pub returns-in-Upgrade-clause-sink_failures : goal.returns-in-Upgrade-clause-sink_failures
-returns-in-Upgrade-clause-sink_failures g c = run_sink _ _ _ _ c.of_run-in-Upgrade.ensures c.run_upgrade.ensures.sink_failures
+returns-in-Upgrade-clause-sink_failures g c = run_sink _ _ _ _ c.of_run-in-Upgrade.ensures c.run_upgrade.ensures.upgraded.counts.sink_failures
 
 pub returns-in-Frames-clause-answers : goal.returns-in-Frames-clause-answers
 returns-in-Frames-clause-answers g c =

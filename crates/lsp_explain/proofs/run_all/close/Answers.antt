@@ -10,7 +10,9 @@ use Rattle.lsp_explain.proofs.run_all.close.Goals as goal
 pub returns-in_err-closing : goal.returns-in_err-closing
 returns-in_err-closing g c =
     let p = err_from_is_err_and c.from_residual.result c.from_residual.ensures.1 in
-    rw (p.1, p.2) (λ completeness limits start now old told. close_refused completeness limits c.args.events.now c.args.tally.now start now old (g.W.Sink.told c.args.writer.now) c.args.end told)
+    rw (p.1, p.2) (λ completeness limits start now old told.
+    close_refused completeness limits c.args.events.now c.args.tally.now start now old
+    (g.W.Sink.told c.args.writer.now) c.args.end told)
 
 pub returns-in_err-put_all : goal.returns-in_err-put_all
 returns-in_err-put_all g c =
@@ -18,8 +20,14 @@ returns-in_err-put_all g c =
     let p = err_from_is_err_and from.result from.ensures.1 in
     let stopped = rw c.as_bytes.ensures.value at c.in_err-put_all.ensures in
     rw (p.1, p.2) (λ completeness limits start now old told.
-    let last = c.in_ok-closing.ensures.closing told.found (notes_of told.hs) told.tally (λ none. record { follows = told.ended.follows none; exact = told.ended.exact }) (stands_after c.args.events.now (notes_of told.hs) told.ended.walks) told.ended.few in
-    close_failed completeness limits c.args.events.now c.args.tally.now start now old (g.W.Sink.told c.args.writer.now) c.args.end told (g.W.Sink.told c.put_all.new.writer) (string_bytes c.in_ok-closing.closing.text) last.0 stopped)
+    let last = c.in_ok-closing.ensures.closing told.found (notes_of told.hs) told.tally
+    (λ none. record {
+      follows = told.ended.follows none;
+      exact = told.ended.exact;
+    }) (stands_after c.args.events.now (notes_of told.hs) told.ended.walks) told.ended.few in
+    close_failed completeness limits c.args.events.now c.args.tally.now start now old
+    (g.W.Sink.told c.args.writer.now) c.args.end told (g.W.Sink.told c.put_all.new.writer)
+    (string_bytes c.in_ok-closing.closing.text) last.0 stopped)
 
 pub returns : goal.returns
 returns g c =
@@ -27,7 +35,17 @@ returns g c =
     let e = c.args.events.now in
     let old_writer = g.W.Sink.told c.args.writer.now in
     λ completeness limits start now old told.
-    let last = c.in_ok-closing.ensures.closing told.found (notes_of told.hs) told.tally (λ none. record { follows = told.ended.follows none; exact = told.ended.exact }) (stands_after c.args.events.now (notes_of told.hs) told.ended.walks) told.ended.few in
-    closed completeness limits e c.args.tally.now start now old old_writer c.args.end told (g.W.Sink.told c.put_all.new.writer) (verdict_view c.in_ok-closing.closing.verdict) (string_bytes c.in_ok-closing.closing.text) last.0 last.1
-    (yes_met completeness limits start now c.closing_of.new.tally (all_found completeness limits e c.args.tally.now start now old old_writer c.args.end told) c.args.end.bad (s completeness limits e c.args.tally.now start now old old_writer c.args.end told) (verdict_view c.in_ok-closing.closing.verdict)
-    told.ended.of_read (c.in_ok-closing.ensures.tally told.found told.tally) last.1 told.ended.met) wrote
+    let last = c.in_ok-closing.ensures.closing told.found (notes_of told.hs) told.tally
+    (λ none. record {
+      follows = told.ended.follows none;
+      exact = told.ended.exact;
+    }) (stands_after c.args.events.now (notes_of told.hs) told.ended.walks) told.ended.few in
+    closed completeness limits e c.args.tally.now start now old old_writer c.args.end told
+    (g.W.Sink.told c.put_all.new.writer) (verdict_view c.in_ok-closing.closing.verdict)
+    (string_bytes c.in_ok-closing.closing.text) last.0 last.1
+    (yes_met completeness limits start now c.closing_of.new.tally
+    (all_found completeness limits e c.args.tally.now start now old old_writer c.args.end told)
+    c.args.end.bad (s completeness limits e c.args.tally.now start now old old_writer c.args.end
+    told) (verdict_view c.in_ok-closing.closing.verdict)
+    told.ended.of_read (c.in_ok-closing.ensures.tally told.found told.tally) last.1 told.ended.met)
+    wrote

@@ -1,7 +1,7 @@
 use Rattle.std.specs.Prelude.{option_map, string_bytes}
 use Rattle.std.proofs.Common.{◌++◌, map, ap, ◌∙◌}
 use Rattle.lsp_survey.proofs.Reporting.{first_none}
-use Rattle.lsp_notes.specs.Asking.{numbered}
+use Rattle.lsp_survey.specs.Asking.{numbered}
 use Rattle.lsp_verdict.specs.Offences.{events_of}
 use Rattle.lsp_verdict.specs.Given.{offence_view, verdict_view}
 use Rattle.lsp_explain.specs.AllExplained.{all_closing}
@@ -18,9 +18,15 @@ returns-clause-closing c = λ found notes tally sound stands few.
     let more = map offence_view listed in
     let bad = option_map verdict_view c.args.end.bad in
     let counted = rw c.as_slice.ensures.value at (c.in_ok-text.ensures.tally found tally) in
-    let last = c.in_ok-last.ensures (found ++ more) notes counted (λ none. sound (first_none found more none)) few in (
-      c.in_ok-push_str.ensures.bytes ∙ ap (λ w. string_bytes c.in_ok-text.text ++ w) (c.as_str.ensures.value ∙ last.0)
-          ∙ ap (λ w. w ++ all_closing (found ++ more) bad (flaw_held e bad) (summary_behind e notes)) (c.in_ok-text.ensures.text (events_of notes) stands ∙ ap (λ l. lines (ends_said (rests_held e) (numbered (terms_in e) (events_of notes)) l)) c.as_slice.ensures.value),
+    let last = c.in_ok-last.ensures (found ++ more) notes counted
+    (λ none. sound (first_none found more none)) few in (
+      c.in_ok-push_str.ensures.bytes
+          ∙ ap (λ w. string_bytes c.in_ok-text.text ++ w) (c.as_str.ensures.value ∙ last.0)
+          ∙ ap (λ w. w ++ all_closing (found ++ more) bad (flaw_held e bad)
+          (summary_behind e notes))
+          (c.in_ok-text.ensures.text (events_of notes) stands
+          ∙ ap (λ l. lines (ends_said (rests_held e) (numbered (terms_in e) (events_of notes)) l))
+          c.as_slice.ensures.value),
       last.1,
     )
 

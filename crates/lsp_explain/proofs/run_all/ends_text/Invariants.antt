@@ -1,7 +1,7 @@
 use Rattle.std.specs.Prelude.{take, string_bytes}
 use Rattle.std.specs.List.{flat_map}
 use Rattle.std.proofs.Common.{◌≡◌, List, ◌++◌, map}
-use Rattle.lsp_notes.specs.Asking.{numbered}
+use Rattle.lsp_survey.specs.Asking.{numbered}
 use Rattle.lsp_survey.specs.Reported.{IsTally}
 use Rattle.lsp_verdict.specs.Event.{Event}
 use Rattle.lsp_verdict.specs.Given.{offence_view}
@@ -14,6 +14,10 @@ use Rattle.lsp_explain.proofs.run_all.ends_text.Given as goal
 
 abbrev pub invariant-loop-offence : goal.invariant-loop-offence
 invariant-loop-offence l = record {
-  tally : (found : List Offence) → IsTally l.fn.tally found → IsTally l.tally (found ++ map offence_view (take l.offence-index l.listed));
-  text : (before : List Event) → StandsAfter l.events before → string_bytes l.text ≡ flat_map cause_lines (ends_said (rests_held l.events) (numbered (terms_in l.events) before) (take l.offence-index l.listed));
+  tally : (found : List Offence) → IsTally l.fn.tally found
+      → IsTally l.tally (found ++ map offence_view (take l.offence-index l.listed));
+  text : (before : List Event) → StandsAfter l.events before
+      → string_bytes l.text ≡ flat_map cause_lines
+      (ends_said (rests_held l.events) (numbered (terms_in l.events) before)
+      (take l.offence-index l.listed));
 }

@@ -1,14 +1,26 @@
-use Rattle.std.proofs.Common.{sym}
-use Rattle.lsp_survey.proofs.Reporting.{fresh_at}
-use Rattle.lsp_explain.proofs.AllEnding.{tells_by}
+use Rattle.std.proofs.Common.{[], subst}
+use Rattle.std.proofs.lemmas.Result.{err_from_is_err_and}
+use Rattle.lsp_verdict.specs.declared.completeness.Completeness.{Completeness}
+use Rattle.lsp_survey.proofs.Reading.{unopened}
+use Rattle.lsp_explain.specs.AllSteps.{TellsAll}
+use Rattle.lsp_explain.proofs.AllTelling.{never_told}
 use Rattle.lsp_explain.proofs.run_all.explain_all.Goals as goal
 
-pub explain_log-requires-clause-fresh : goal.explain_log-requires-clause-fresh
-explain_log-requires-clause-fresh g c =
-    let so = c.new-events.ensures.fresh (g.R.Source.told c.args.reader.now) in
-    fresh_at c.args.limits _ _ _ (sym so.surveys.same) so
+pub returns-in_err-events-clause-tells : goal.returns-in_err-events-clause-tells
+returns-in_err-events-clause-tells g c =
+    let p = err_from_is_err_and c.from_residual.result c.from_residual.ensures.1 in
+    rw (p.1, p.2) (never_told c.args.completeness c.args.limits _ _ _ _ c.in_err-events.ensures.err)
+
+pub explain_log-requires : goal.explain_log-requires
+explain_log-requires g c = record {
+  fresh = (c.args.limits, g.R.Source.told c.args.reader.now, c.in_ok-events.ensures.fresh);
+}
 
 pub returns-clause-tells : goal.returns-clause-tells
 returns-clause-tells g c =
-    let so = c.new-events.ensures.fresh (g.R.Source.told c.args.reader.now) in
-    tells_by _ c.args.completeness _ c.args.limits _ _ _ _ _ c.new-events.ensures.completeness so.surveys.same c.explain_log.ensures
+    subst (λ (k : Completeness). TellsAll k c.args.limits (g.R.Source.told c.args.reader.now)
+    (g.R.Source.told c.explain_log.new.reader) (g.W.Sink.told c.args.writer.now)
+    (g.W.Sink.told c.explain_log.new.writer) c.explain_log.result)
+    c.in_ok-events.ensures.completeness
+    (c.explain_log.ensures c.args.limits (g.R.Source.told c.args.reader.now)
+    c.in_ok-events.ensures.fresh)

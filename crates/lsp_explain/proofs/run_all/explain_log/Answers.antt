@@ -7,6 +7,7 @@ returns-in_err-end g c =
     rw (p.1, p.2) c.in_err-end.ensures
 
 pub returns : goal.returns
-returns g c =
-    c.close.ensures c.args.events.now.completeness c.args.events.now.survey.limits (g.R.Source.told c.args.reader.now) (g.R.Source.told c.explain_events.new.reader) (g.W.Sink.told c.args.writer.now)
-    c.in_ok-end.ensures
+returns g c = λ limits start so.
+    c.close.ensures c.args.events.now.completeness limits start
+    (g.R.Source.told c.explain_events.new.reader) (g.W.Sink.told c.args.writer.now)
+    (c.in_ok-end.ensures limits start so)

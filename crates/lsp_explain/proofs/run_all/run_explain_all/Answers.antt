@@ -6,4 +6,5 @@ pub returns-clause-verdict : goal.returns-clause-verdict
 returns-clause-verdict g c = λ v is.
     let told = c.in_ok-verdict.ensures.tells in
     let same : c.in_ok-verdict.verdict ≡ v = cc is in
-    verdict_read c.args.completeness c.args.limits c.in_ok-verdict.ensures.range _ _ c.in_ok-verdict.verdict v told.out same told.due
+    verdict_read c.args.completeness c.args.limits c.in_ok-verdict.ensures.range _ _
+    c.in_ok-verdict.verdict v told.out same told.due

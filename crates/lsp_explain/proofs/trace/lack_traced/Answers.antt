@@ -5,10 +5,10 @@ use Rattle.lsp_session.specs.Sent.{Sent}
 use Rattle.lsp_session.specs.State.{Stands}
 use Rattle.lsp_verdict.specs.Event.{sent_in}
 use Rattle.lsp_verdict.specs.Offences.{kept_of}
-use Rattle.lsp_notes.specs.Asking.{numbered, sents, since}
-use Rattle.lsp_notes.specs.SessionNoting.{AreNotes}
-use Rattle.lsp_notes.specs.declared.session_notes.SessionNotes.{SessionNotes}
-use Rattle.lsp_notes.proofs.SessionSteps.{sents-numbered}
+use Rattle.lsp_survey.specs.Asking.{numbered, sents, since}
+use Rattle.lsp_survey.specs.SessionNoting.{AreNotes}
+use Rattle.lsp_survey.specs.declared.notes.session_notes.SessionNotes.{SessionNotes}
+use Rattle.lsp_survey.proofs.SessionSteps.{sents-numbered}
 use Rattle.lsp_facts.specs.Fact.{Fact, facts_view, fact_view, in_phase, led_by}
 use Rattle.lsp_explain.specs.Standing.{terms_in}
 use Rattle.lsp_explain.specs.Traced.{number_facts, waiting_by}
@@ -19,12 +19,19 @@ returns c = λ before stands.
     let e = c.args.events.now in
     let terms = terms_in e in
     let said = numbered terms before in
-    let noted = subst (λ (s : SessionNotes). AreNotes terms s before) (sym c.session_notes-said.ensures) stands.noted in
-    let sent = subst (λ (ms : List Sent). Stands c.session-session.result.now ms) (sym (sents-numbered terms before)) (subst (λ s. Stands s (sent_in (kept_of terms before))) (sym c.session-session.ensures) stands.holds.sent) in
-    let asked = c.in_ok-facts.ensures terms before noted ∙ ap (map (waiting_by said)) (c.pending.ensures (sents said) sent) in
+    let noted = subst (λ (s : SessionNotes). AreNotes terms s before)
+    (sym c.session_notes-said.ensures) stands.noted in
+    let sent = subst (λ (ms : List Sent). Stands c.session-session.result.now ms)
+    (sym (sents-numbered terms before))
+    (subst (λ s. Stands s (sent_in (kept_of terms before))) (sym c.session-session.ensures)
+    stands.holds.sent) in
+    let asked = c.in_ok-facts.ensures terms before noted
+    ∙ ap (map (waiting_by said)) (c.pending.ensures (sents said) sent) in
     let phase = c.phase.ensures (sents said) sent in
     c.in_ok-push_since.ensures
-    ∙ ap (λ (o : Option ℕ). facts_view c.push.new.self.items ++ number_facts led_by o) (c.since.ensures terms before noted)
+    ∙ ap (λ (o : Option ℕ). facts_view c.push.new.self.items ++ number_facts led_by o)
+    (c.since.ensures terms before noted)
     ∙ ap (λ (l : List Fact). l ++ number_facts led_by (since said))
-    (ap facts_view c.in_ok-push.ensures.items ∙ map-append fact_view c.in_ok-facts.facts.items _ ∙ (λ i. asked i ++ in_phase (phase i) ∷ []))
+    (ap facts_view c.in_ok-push.ensures.items ∙ map-append fact_view c.in_ok-facts.facts.items _
+    ∙ (λ i. asked i ++ in_phase (phase i) ∷ []))
     ∙ append_assoc _ _ (number_facts led_by (since said))

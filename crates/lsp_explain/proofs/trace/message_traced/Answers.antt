@@ -14,5 +14,7 @@ returns c = λ content before stands refused.
       plain,
       says content (kept_of terms before) stands.holds refused,
       c.in_ok-trace_spoken.ensures before stands
-          ∙ same_traced terms before c.args.rule plain refused.sent c.args.side (message_view c.args.spoken.now.message) (act_view c.args.spoken.now.act) refused.reads.by refused.says refused.means,
+          ∙ same_traced terms before c.args.rule plain refused.sent c.args.side
+          (message_view c.args.spoken.now.message) (act_view c.args.spoken.now.act) refused.reads.by
+          refused.says refused.means,
     )

@@ -1,11 +1,13 @@
 use Rattle.std.proofs.Common.{◌≡◌, List, map, take}
 use Rattle.lsp_docs.specs.Terms.{Terms}
 use Rattle.lsp_verdict.specs.Event.{Event}
-use Rattle.lsp_notes.specs.Asking.{numbered}
-use Rattle.lsp_notes.specs.SessionNoting.{AreNotes}
+use Rattle.lsp_survey.specs.Asking.{numbered}
+use Rattle.lsp_survey.specs.SessionNoting.{AreNotes}
 use Rattle.lsp_facts.specs.Fact.{facts_view}
 use Rattle.lsp_explain.specs.Traced.{waiting_by}
 use Rattle.lsp_explain.proofs.trace.requests.Given as goal
 
 abbrev pub invariant-loop-index : goal.invariant-loop-index
-invariant-loop-index l = (terms : Terms) (before : List Event) → AreNotes terms l.said before → facts_view l.facts.items ≡ map (waiting_by (numbered terms before)) (take l.index l.pending)
+invariant-loop-index l =
+    (terms : Terms) (before : List Event) → AreNotes terms l.said before
+    → facts_view l.facts.items ≡ map (waiting_by (numbered terms before)) (take l.index l.pending)

@@ -12,7 +12,7 @@ use Rattle.lsp_types.specs.declared.position.Encoding.TheVariants.{Utf16}
 use Rattle.lsp_verdict.specs.Calls.{calls, edit_of}
 use Rattle.lsp_verdict.specs.Event.{sent_in}
 use Rattle.lsp_verdict.specs.Offences.{kept_of}
-use Rattle.lsp_notes.specs.Marking.{steps, waiting_for}
+use Rattle.lsp_survey.specs.Marking.{steps, waiting_for}
 use Rattle.lsp_facts.specs.Fact.{facts_view}
 use Rattle.lsp_facts.specs.Refuting.{refuting}
 use Rattle.lsp_explain.specs.Standing.{terms_in}
@@ -25,13 +25,17 @@ returns-in-DidOpen c =
     let terms = terms_in c.args.events.now in
     let plain = facts_view c.args.facts.now.items in
     let number = c.in-DidOpen.version in
-    let call : Call = opens (string_bytes c.in-DidOpen.uri) number (chars (string_bytes c.in-DidOpen.text)) in
+    let call : Call = opens (string_bytes c.in-DidOpen.uri) number
+    (chars (string_bytes c.in-DidOpen.text)) in
     let told = simp to_z-of_z at c.trace_text.ensures in
     on_ok_weaker c.trace_text.result
     (λ says before stands.
-    let is : act_call terms before (act_view c.args.act.now) ≡ Some call = ap (λ a. act_call terms before (act_view a)) c.in-DidOpen.is in
+    let is : act_call terms before (act_view c.args.act.now) ≡ Some call =
+    ap (λ a. act_call terms before (act_view a)) c.in-DidOpen.is in
     says before call stands is
-    ∙ ap (λ (u : List ℕ). document_traced (steps terms u before) (refuting terms (calls (kept_of terms before)) call (waiting_for number (steps terms u before))) c.args.rule plain) c.as_str.ensures.value
+    ∙ ap (λ (u : List ℕ). document_traced (steps terms u before)
+    (refuting terms (calls (kept_of terms before)) call (waiting_for number (steps terms u before)))
+    c.args.rule plain) c.as_str.ensures.value
     ∙ ap (λ o. call_traced terms before c.args.rule o plain) (sym is))
     told
 
@@ -46,9 +50,13 @@ returns-in-DidChange c =
     (λ says before stands.
     let enc = unwrap_or (encoding (sent_in (kept_of terms before))) Utf16 in
     let kind = unwrap_or (sync_kind (sent_in (kept_of terms before))) Nothing in
-    let call : Call = changes enc kind (string_bytes c.in-DidChange.uri) number (map edit_of (changes_view c.in-DidChange.changes.items)) in
-    let is : act_call terms before (act_view c.args.act.now) ≡ Some call = ap (λ a. act_call terms before (act_view a)) c.in-DidChange.is in
+    let call : Call = changes enc kind (string_bytes c.in-DidChange.uri) number
+    (map edit_of (changes_view c.in-DidChange.changes.items)) in
+    let is : act_call terms before (act_view c.args.act.now) ≡ Some call =
+    ap (λ a. act_call terms before (act_view a)) c.in-DidChange.is in
     says before call stands is
-    ∙ ap (λ (u : List ℕ). document_traced (steps terms u before) (refuting terms (calls (kept_of terms before)) call (waiting_for number (steps terms u before))) c.args.rule plain) c.as_str-in-DidChange.ensures.value
+    ∙ ap (λ (u : List ℕ). document_traced (steps terms u before)
+    (refuting terms (calls (kept_of terms before)) call (waiting_for number (steps terms u before)))
+    c.args.rule plain) c.as_str-in-DidChange.ensures.value
     ∙ ap (λ o. call_traced terms before c.args.rule o plain) (sym is))
     told

@@ -1,7 +1,7 @@
 use Rattle.std.proofs.Common.{sym, subst, ◌∙◌}
 use Rattle.std.proofs.lemmas.Result.{on_ok_weaker}
-use Rattle.lsp_notes.specs.SessionNoting.{AreNotes}
-use Rattle.lsp_notes.specs.declared.session_notes.SessionNotes.{SessionNotes}
+use Rattle.lsp_survey.specs.SessionNoting.{AreNotes}
+use Rattle.lsp_survey.specs.declared.notes.session_notes.SessionNotes.{SessionNotes}
 use Rattle.lsp_rpc.specs.View.{act_view, message_view}
 use Rattle.lsp_facts.specs.Fact.{facts_view}
 use Rattle.lsp_explain.specs.Standing.{terms_in}
@@ -14,6 +14,9 @@ returns-then-rule-lt-FIRST_ON_DOCUMENTS c =
     let spoken = c.args.spoken.now in
     on_ok_weaker c.trace_message.result
     (λ says before stands.
-    says terms before (subst (λ (s : SessionNotes). AreNotes terms s before) (sym c.session_notes-said.ensures) stands.noted)
-    ∙ sym (added_to_messages terms before c.args.rule (facts_view c.args.facts.now.items) c.args.side (message_view spoken.message) (act_view spoken.act) c.if-rule-lt-FIRST_ON_DOCUMENTS.true))
+    says terms before (subst (λ (s : SessionNotes). AreNotes terms s before)
+    (sym c.session_notes-said.ensures) stands.noted)
+    ∙ sym (added_to_messages terms before c.args.rule (facts_view c.args.facts.now.items)
+    c.args.side (message_view spoken.message) (act_view spoken.act)
+    c.if-rule-lt-FIRST_ON_DOCUMENTS.true))
     c.trace_message.ensures

@@ -12,9 +12,9 @@ use Rattle.lsp_types.specs.declared.position.Encoding.TheVariants.{Utf16}
 use Rattle.lsp_verdict.specs.Calls.{calls, call_of}
 use Rattle.lsp_verdict.specs.Event.{sent_in}
 use Rattle.lsp_verdict.specs.Offences.{kept_of}
-use Rattle.lsp_notes.specs.Marking.{steps, waiting_for}
-use Rattle.lsp_notes.specs.Marks.{AreMarks}
-use Rattle.lsp_notes.specs.declared.marks.Marks.{Marks}
+use Rattle.lsp_survey.specs.Marking.{steps, waiting_for}
+use Rattle.lsp_survey.specs.Marks.{AreMarks}
+use Rattle.lsp_survey.specs.declared.notes.marks.Marks.{Marks}
 use Rattle.lsp_facts.specs.Fact.{facts_view}
 use Rattle.lsp_facts.specs.Refuting.{refuting}
 use Rattle.lsp_explain.specs.Standing.{terms_in}
@@ -28,8 +28,12 @@ returns-then-rule-ne-SNAPSHOT_DIFFERS c =
     let uri = c.args.uri.now in
     on_ok_weaker c.trace_document.result
     (λ says before call stands is.
-    says terms before (subst (λ (m : Marks). AreMarks terms m.map.entries before) (sym c.marks-marks.ensures) stands.marked)
-    ∙ names_no_texts (steps terms uri before) [] (refuting terms (calls (kept_of terms before)) call (waiting_for c.args.version (steps terms uri before))) c.args.rule (facts_view c.args.facts.now.items) c.if-rule-ne-SNAPSHOT_DIFFERS.true)
+    says terms before (subst (λ (m : Marks). AreMarks terms m.map.entries before)
+    (sym c.marks-marks.ensures) stands.marked)
+    ∙ names_no_texts (steps terms uri before) []
+    (refuting terms (calls (kept_of terms before)) call
+    (waiting_for c.args.version (steps terms uri before))) c.args.rule
+    (facts_view c.args.facts.now.items) c.if-rule-ne-SNAPSHOT_DIFFERS.true)
     c.trace_document.ensures
 
 pub returns : goal.returns
@@ -41,13 +45,20 @@ returns c =
     on_ok_weaker c.trace_document-2.result
     (λ says before call stands is.
     let kept = kept_of terms before in
-    let marked = subst (λ (m : Marks). AreMarks terms m.map.entries before) (sym c.marks-marks.ensures) stands.marked in
-    let sent = subst (λ s. SessionStands s (sent_in kept)) (sym c.session.ensures) stands.holds.sent in
+    let marked = subst (λ (m : Marks). AreMarks terms m.map.entries before)
+    (sym c.marks-marks.ensures) stands.marked in
+    let sent = subst (λ s. SessionStands s (sent_in kept)) (sym c.session.ensures)
+    stands.holds.sent in
     let called = subst (λ d. DocsStand d (calls kept)) (sym c.docs.ensures) stands.holds.called in
     let kind = unwrap_or (sync_kind (sent_in kept)) Nothing in
-    let agreed = c.unwrap_or-encoding.ensures ∙ ap (λ o. unwrap_or o Utf16) (c.encoding.ensures (sent_in kept) sent) in
-    let found = c.in_ok-snapshots.ensures kind (calls kept) call called (ap (λ e. call_of e kind (act_view c.args.act.now)) agreed ∙ is) in
+    let agreed = c.unwrap_or-encoding.ensures
+    ∙ ap (λ o. unwrap_or o Utf16) (c.encoding.ensures (sent_in kept) sent) in
+    let found = c.in_ok-snapshots.ensures kind (calls kept) call called
+    (ap (λ e. call_of e kind (act_view c.args.act.now)) agreed ∙ is) in
     says terms before marked
-    ∙ ap (λ (ns : List ℕ). document_traced (steps terms uri before) ns c.args.rule (facts_view c.args.facts.now.items))
-    (c.as_slice.ensures.value ∙ found ∙ ap (λ d. refuting d.terms (calls kept) call c.waiting-waiting.result.now) c.docs.ensures ∙ ap (refuting terms (calls kept) call) (waits terms before marked)))
+    ∙ ap (λ (ns : List ℕ). document_traced (steps terms uri before) ns c.args.rule
+    (facts_view c.args.facts.now.items))
+    (c.as_slice.ensures.value ∙ found
+    ∙ ap (λ d. refuting d.terms (calls kept) call c.waiting-waiting.result.now) c.docs.ensures
+    ∙ ap (refuting terms (calls kept) call) (waits terms before marked)))
     c.trace_document-2.ensures

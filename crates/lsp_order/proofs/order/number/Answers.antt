@@ -1,38 +1,34 @@
-use Rattle.std.proofs.Common.{Some, None, sym, ap, ◌∙◌, take_all, arith}
+use Rattle.std.proofs.Common.{◌≡◌, length, length-set, Some, None, sym, ap, subst, ◌∙◌, arith}
 use Rattle.std.proofs.lemmas.Option.{slice_get-get_or}
-use Rattle.std.specs.Map.{lookup}
-use Rattle.std.specs.Option.{option_or}
-use Rattle.lsp_order.specs.Slots.{place}
-use Rattle.lsp_order.proofs.SlotLemmas.{number-step, number-known, number-all}
+use Rattle.lsp_order.specs.Places.{IsOrder, places_in}
+use Rattle.lsp_order.proofs.OrderLemmas.{number-all, number-skip, number-step, one_below}
 use Rattle.lsp_order.proofs.order.number.Goals as goal
 use Rattle.lsp_order.proofs.order.number.Goals.{in-Some, in_default}
 
-pub note-requires : goal.note-requires
-note-requires g c =
-    let test = g.K.PartialEq.eq c.in-Some.key in
+pub index_mut-requires : goal.index_mut-requires
+index_mut-requires c =
     let slots = c.args.slots.now in
-    let slot = slice_get-get_or slots c.loop-place.place c.index-slots-place.result c.loop-place-test.true ∙ ap (λ x. Some x) (sym c.index-slots-place.is) in
-    number-known test slots (lookup test c.args.places.now.entries) c.loop-place.place c.in-Some.key _ (c.requires c.in-Some.key) (g.met.K.Eq.laws.refl c.in-Some.key) (slot ∙ ap (λ x. Some x) c.in-Some.is)
-    (c.loop-place.invariant c.in-Some.key)
+    let at = slice_get-get_or slots c.loop-slot.slot None c.loop-slot-test.true ∙ ap (λ s. Some s) c.in-Some.is in
+    omega (arith, one_below c.args.slot_of.now.len slots c.loop-slot.slot c.in-Some.place c.requires.below at, c.loop-slot.invariant.0, c.loop-slot.slot_of.ok.0, c.args.slot_of.now.ok.0)
 
-pub loop-place-preserved : goal.loop-place-preserved
-loop-place-preserved g c = λ key.
-    let test = g.K.PartialEq.eq key in
+pub loop-slot-preserved : goal.loop-slot-preserved
+loop-slot-preserved c =
     let slots = c.args.slots.now in
-    let first = lookup test c.args.places.now.entries in
-    let slot = slice_get-get_or slots c.loop-place.place c.index-slots-place.result c.loop-place-test.true ∙ ap (λ x. Some x) (sym c.index-slots-place.is) in
-    elim c.match-slot.branch [
+    let slot = slice_get-get_or slots c.loop-slot.slot None c.loop-slot-test.true in
+    elim c.match-place.branch [
       | in-Some w ↦
-          number-step test slots first c.loop-place.place (Some w.in-Some.key) _ _ (slot ∙ ap (λ x. Some x) w.in-Some.is) (c.loop-place.invariant key)
-          (ap (λ m. lookup test m.entries) w.places-is ∙ w.note.ensures key)
+          let at = slot ∙ ap (λ s. Some s) w.in-Some.is in
+          let below = one_below c.args.slot_of.now.len slots c.loop-slot.slot w.in-Some.place c.requires.below at in
+          rw w.slot_of-is (
+            length-set c.loop-slot.slot_of.items w.in-Some.place c.loop-slot.slot ∙ c.loop-slot.invariant.0,
+            number-step slots c.loop-slot.slot_of.items c.loop-slot.slot w.in-Some.place c.requires.differ at (omega (arith, below, c.loop-slot.invariant.0, c.args.slot_of.now.ok.0)) c.loop-slot.invariant.1,
+          )
       | in_default w ↦
-          number-step test slots first c.loop-place.place None _ _ (slot ∙ ap (λ x. Some x) w.in_default.is) (c.loop-place.invariant key)
-          (ap (λ m. lookup test m.entries) w.places-is)
+          rw w.slot_of-is (c.loop-slot.invariant.0, number-skip slots c.loop-slot.slot_of.items c.loop-slot.slot (slot ∙ ap (λ s. Some s) w.in_default.is) c.loop-slot.invariant.1)
     ]
 
 pub returns : goal.returns
-returns g c = λ key.
-    let test = g.K.PartialEq.eq key in
+returns c =
     let slots = c.args.slots.now in
-    let first = lookup test c.args.places.now.entries in
-    number-all test slots first _ (c.requires key) (c.loop-place.invariant key ∙ ap (λ s. option_or (place test s) first) (take_all c.loop-place.place slots (omega (arith, c.loop-place-test.false))))
+    let same : c.args.slot_of.now.len ≡ length c.loop-slot.slot_of.items = c.args.slot_of.now.ok.0 ∙ sym c.loop-slot.invariant.0 in
+    number-all slots c.loop-slot.slot_of.items (subst (IsOrder (places_in slots)) same c.requires) (λ t p within. c.loop-slot.invariant.1 t p (omega (arith, within, c.loop-slot-test.false)))

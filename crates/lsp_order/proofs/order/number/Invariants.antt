@@ -1,8 +1,7 @@
-use Rattle.std.proofs.Common.{◌≡◌, take}
-use Rattle.std.specs.Map.{lookup}
-use Rattle.std.specs.Option.{option_or}
-use Rattle.lsp_order.specs.Slots.{place}
+use Rattle.std.proofs.Common.{◌≡◌, ℕ, ◌<◌, length, Some}
+use Rattle.std.specs.Prelude.{slice_get}
 use Rattle.lsp_order.proofs.order.number.Given as goal
 
-abbrev pub invariant-loop-place : goal.invariant-loop-place
-invariant-loop-place g l = (key : _) → lookup (g.K.PartialEq.eq key) l.places.entries ≡ option_or (place (g.K.PartialEq.eq key) (take l.place l.slots)) (lookup (g.K.PartialEq.eq key) l.fn.places.entries)
+abbrev pub invariant-loop-slot : goal.invariant-loop-slot
+invariant-loop-slot l = (length l.slot_of.items ≡ length l.fn.slot_of.items)
+    × ((t p : ℕ) → t < l.slot → slice_get l.slots t ≡ Some (Some p) → slice_get l.slot_of.items p ≡ Some t)

@@ -8,7 +8,8 @@ use Rattle.lsp_outline.proofs.edits.rest_of_changes.Given as goal
 abbrev pub invariant-changes : goal.invariant-changes
 invariant-changes l =
     (some : SomeItems l.depth l.text l.from l.at)
-    × ((rest : Items) → all_of change_at (some.front rest) ≡ option_map (λ more. changes_view l.found.items ++ more) (all_of change_at rest))
+    × ((rest : Items) → all_of change_at (some.front rest)
+    ≡ option_map (λ more. changes_view l.found.items ++ more) (all_of change_at rest))
 
 abbrev pub decreases-changes : goal.decreases-changes
 decreases-changes l = length l.text - l.at

@@ -8,7 +8,8 @@ returns-then-byte_at-eq125 g c =
     let bytes = c.as_bytes-bytes.ensures.value in
     let begin = c.spaces_end-at in (
       no_members,
-      without_members c.args.depth c.args.text.now c.args.from begin.result (rw (← bytes) begin.ensures.same) (rw (← bytes) (grind arith)) begin.ensures.forward,
+      without_members c.args.depth c.args.text.now c.args.from begin.result
+          (rw (← bytes) begin.ensures.same) (rw (← bytes) (grind arith)) begin.ensures.forward,
       c.none-gathered.ensures,
     )
 
@@ -17,7 +18,9 @@ members-init g c =
     let bytes = c.as_bytes-bytes.ensures.value in
     let begin = c.spaces_end-at in (
       no_members,
-      no_members_yet c.args.depth c.args.text.now c.args.from begin.result (rw (← bytes) begin.ensures.same) begin.ensures.forward (rw (← bytes) begin.ensures.within),
+      no_members_yet c.args.depth c.args.text.now c.args.from begin.result
+          (rw (← bytes) begin.ensures.same) begin.ensures.forward
+          (rw (← bytes) begin.ensures.within),
       c.none-gathered.ensures,
     )
 
@@ -31,8 +34,11 @@ members-preserved g c =
     let next = c.spaces_end-next in
     let again = c.spaces_end-at-in-members in (
       put k taken.0 l.invariant.0,
-      member_turn c.args.depth c.args.text.now c.args.from l.at name.begin c.in_ok-end.end next.result again.result k taken.0 l.invariant.0 l.invariant.1 name.ensures taken.1
-          (rw (← bytes) next.ensures.same) (rw (← bytes) (grind arith)) (rw (← bytes) again.ensures.same) next.ensures.forward again.ensures.forward (rw (← bytes) again.ensures.within),
+      member_turn c.args.depth c.args.text.now c.args.from l.at name.begin c.in_ok-end.end
+          next.result again.result k taken.0 l.invariant.0 l.invariant.1 name.ensures taken.1
+          (rw (← bytes) next.ensures.same) (rw (← bytes) (grind arith))
+          (rw (← bytes) again.ensures.same) next.ensures.forward again.ensures.forward
+          (rw (← bytes) again.ensures.within),
       taken.2 l.invariant.0 l.invariant.2,
     )
 
@@ -45,7 +51,8 @@ returns-then-mark-eq125 g c =
     let k = name.name.now in
     let next = c.spaces_end-next in (
       put k taken.0 l.invariant.0,
-      last_member c.args.depth c.args.text.now c.args.from l.at name.begin c.in_ok-end.end next.result k taken.0 l.invariant.0 l.invariant.1 name.ensures taken.1
+      last_member c.args.depth c.args.text.now c.args.from l.at name.begin c.in_ok-end.end
+          next.result k taken.0 l.invariant.0 l.invariant.1 name.ensures taken.1
           (rw (← bytes) next.ensures.same) (rw (← bytes) (grind arith)) next.ensures.forward,
       taken.2 l.invariant.0 l.invariant.2,
     )

@@ -8,5 +8,9 @@ pub returns-then-n-clause-read : goal.returns-then-n-clause-read
 returns-then-n-clause-read c =
     let d = c.args.text.now in
     let n = c.in_ok-n.n in
-    let end = c.in_ok-n.end in
-    (number (unsigned n), numeral_value d c.args.from end n (rw (← c.as_bytes.ensures.value) c.in_ok-n.ensures), small_natural n (omega arith))
+    let end = c.in_ok-n.end in (
+      number (unsigned n),
+      numeral_value d c.args.from end n
+          (rw (← c.as_bytes.ensures.value) c.in_ok-n.ensures),
+      small_natural n (omega arith),
+    )

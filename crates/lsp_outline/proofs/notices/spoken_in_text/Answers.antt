@@ -11,5 +11,8 @@ returns c =
     let found = c.in_ok-parts.ensures in
     let begin = c.spaces_end-from in
     let last = c.spaces_end in
-    let read = whole_value d begin.result c.in_ok-parts.end last.result (object found.0) (rw (← bytes) begin.ensures.same) found.1 (rw (← bytes) last.ensures.same) (rw (← bytes) (omega arith)) in
-    IfSome_then c.spoken_in.result c.spoken_in.ensures (λ spoken told. (found.0, read, told found.0 found.2))
+    let read = whole_value d begin.result c.in_ok-parts.end last.result (object found.0)
+    (rw (← bytes) begin.ensures.same) found.1 (rw (← bytes) last.ensures.same)
+    (rw (← bytes) (omega arith)) in
+    IfSome_then c.spoken_in.result c.spoken_in.ensures
+    (λ spoken told. (found.0, read, told found.0 found.2))

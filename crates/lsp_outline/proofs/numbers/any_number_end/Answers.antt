@@ -8,4 +8,5 @@ returns-then-is_in_range c =
     let d = c.args.bytes.now in
     let end = c.in_ok-end.end in
     let same : c.in_ok-digits.digits.now ≡ part d c.args.from end = grind arith in
-    some_numeral d c.args.from end _ same (c.if-is_number.ensures.0 refl) (c.is_in_range.ensures (grind arith)) c.in_ok-end.ensures.forward c.in_ok-end.ensures.ended
+    some_numeral d c.args.from end _ same (c.if-is_number.ensures.0 refl)
+    (c.is_in_range.ensures (grind arith)) c.in_ok-end.ensures.forward c.in_ok-end.ensures.ended

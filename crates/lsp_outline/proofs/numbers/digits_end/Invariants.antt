@@ -5,7 +5,8 @@ use Rattle.lsp_outline.proofs.numbers.digits_end.Given as goal
 
 abbrev pub invariant-digits : goal.invariant-digits
 invariant-digits l =
-    (l.from + prefix_len is_ascii_digit (drop l.from l.bytes) ≡ l.at + prefix_len is_ascii_digit (drop l.at l.bytes)) × (l.at ≤ length l.bytes)
+    (l.from + prefix_len is_ascii_digit (drop l.from l.bytes)
+    ≡ l.at + prefix_len is_ascii_digit (drop l.at l.bytes)) × (l.at ≤ length l.bytes)
 
 abbrev pub decreases-digits : goal.decreases-digits
 decreases-digits l = length l.bytes - l.at

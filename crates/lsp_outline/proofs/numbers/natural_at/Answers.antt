@@ -9,5 +9,6 @@ returns c =
     let end = c.few_digits-n.result.1 in
     let is = c.if-not-is_integer.ensures in
     let ended = ends_at d end (grind arith) in
-    let found = few_natural d c.args.from end _ c.few_digits-n.ensures (is.some refl) (is.short refl) (is.first refl) ended.1 in
+    let found = few_natural d c.args.from end _ c.few_digits-n.ensures (is.some refl)
+    (is.short refl) (is.first refl) ended.1 in
     subst (IsNatural d c.args.from end) (sym c.from.ensures) found

@@ -8,4 +8,5 @@ returns-then-is_delimiter c =
     let end = c.digits_end-end.result in
     let is = c.if-is_integer.ensures in
     let ended = ends_at d end (grind arith) in
-    short_numeral d c.args.from end c.digits_end-end.ensures.value (is.some refl) (is.short refl) (is.first refl) ended.1 c.digits_end-end.ensures.within
+    short_numeral d c.args.from end c.digits_end-end.ensures.value (is.some refl) (is.short refl)
+    (is.first refl) ended.1 c.digits_end-end.ensures.within

@@ -12,4 +12,5 @@ returns c =
     let read = c.in_ok-n in
     let seen : number_view c.in_ok-number.number ≡ unsigned read.n = search rules in
     subst (λ n. IsValue DEPTH d c.args.from read.end (number n)) (sym seen)
-    (numeral_value d c.args.from read.end read.n (rw (← c.as_bytes.ensures.value) read.ensures) DEPTH)
+    (numeral_value d c.args.from read.end read.n (rw (← c.as_bytes.ensures.value) read.ensures)
+    DEPTH)

@@ -12,9 +12,13 @@ returns-in-Ok c =
     let found = c.in_ok-parts.ensures in
     let p = parts_of (object found.0) in
     let message = c.in-Ok.message in
-    let keeps : least_broken (rules_on (kept p)) ≡ None = subst (λ q. least_broken (rules_on q) ≡ None) found.2.0 (c.in-Ok.ensures.rule) in
-    let is : message_in (kept p) ≡ Some (message_view message) = subst (λ q. message_in q ≡ Some (message_view message)) found.2.0 (c.in-Ok.ensures.ok) in
-    let utf8 : (c.in_ok-text.text.now ≡ c.args.content.now) × IsUtf8 c.args.content.now = grind arith in
-    let read : IsJson c.args.content.now (object found.0) = (utf8.1, ap read_text (sym utf8.0) ∙ found.1) in
+    let keeps : least_broken (rules_on (kept p)) ≡ None =
+    subst (λ q. least_broken (rules_on q) ≡ None) found.2.0 (c.in-Ok.ensures.rule) in
+    let is : message_in (kept p) ≡ Some (message_view message) =
+    subst (λ q. message_in q ≡ Some (message_view message)) found.2.0 (c.in-Ok.ensures.ok) in
+    let utf8 : (c.in_ok-text.text.now ≡ c.args.content.now) × IsUtf8 c.args.content.now =
+    grind arith in
+    let read : IsJson c.args.content.now (object found.0) =
+    (utf8.1, ap read_text (sym utf8.0) ∙ found.1) in
     let whole = outlined found.0 (message_view message) found.2.1 keeps is in
     (whole.0, (object found.0, read, whole.1), whole.2)

@@ -9,14 +9,22 @@ use Rattle.lsp_outline.proofs.outline.parts_of_object.Goals as goal
 pub returns-then-byte_at-eq125 : goal.returns-then-byte_at-eq125
 returns-then-byte_at-eq125 c =
     let bytes = c.as_bytes-bytes.ensures.value in
-    let begin = c.spaces_end-at in
-    (no_members, without_members DEPTH c.args.text.now c.args.from begin.result (rw (← bytes) begin.ensures.same) (rw (← bytes) (grind arith)) begin.ensures.forward, (c.none-parts.ensures, refl))
+    let begin = c.spaces_end-at in (
+      no_members,
+      without_members DEPTH c.args.text.now c.args.from begin.result
+          (rw (← bytes) begin.ensures.same) (rw (← bytes) (grind arith)) begin.ensures.forward,
+      (c.none-parts.ensures, refl),
+    )
 
 pub members-init : goal.members-init
 members-init c =
     let bytes = c.as_bytes-bytes.ensures.value in
-    let begin = c.spaces_end-at in
-    (no_members, no_members_yet DEPTH c.args.text.now c.args.from begin.result (rw (← bytes) begin.ensures.same) begin.ensures.forward (rw (← bytes) begin.ensures.within), (c.none-parts.ensures, refl))
+    let begin = c.spaces_end-at in (
+      no_members,
+      no_members_yet DEPTH c.args.text.now c.args.from begin.result
+          (rw (← bytes) begin.ensures.same) begin.ensures.forward (rw (← bytes) begin.ensures.within),
+      (c.none-parts.ensures, refl),
+    )
 
 pub members-preserved : goal.members-preserved
 members-preserved c =
@@ -28,9 +36,13 @@ members-preserved c =
     let next = c.spaces_end-next in
     let again = c.spaces_end-at-in-members in (
       put k taken.0 l.invariant.0,
-      member_turn DEPTH c.args.text.now c.args.from l.at name.begin c.in_ok-end.end next.result again.result k taken.0 l.invariant.0 l.invariant.1 name.ensures taken.1
-          (rw (← bytes) next.ensures.same) (rw (← bytes) (grind arith)) (rw (← bytes) again.ensures.same) next.ensures.forward again.ensures.forward (rw (← bytes) again.ensures.within),
-      subst (λ parts. AreKept parts c.take_part.new.parts) (sym (put_part taken.0 l.invariant.0 k)) (taken.2 _ l.invariant.2),
+      member_turn DEPTH c.args.text.now c.args.from l.at name.begin c.in_ok-end.end next.result
+          again.result k taken.0 l.invariant.0 l.invariant.1 name.ensures taken.1
+          (rw (← bytes) next.ensures.same) (rw (← bytes) (grind arith))
+          (rw (← bytes) again.ensures.same) next.ensures.forward again.ensures.forward
+          (rw (← bytes) again.ensures.within),
+      subst (λ parts. AreKept parts c.take_part.new.parts) (sym (put_part taken.0 l.invariant.0 k))
+          (taken.2 _ l.invariant.2),
     )
 
 pub returns-then-mark-eq125 : goal.returns-then-mark-eq125
@@ -42,7 +54,9 @@ returns-then-mark-eq125 c =
     let k = name.name.now in
     let next = c.spaces_end-next in (
       put k taken.0 l.invariant.0,
-      last_member DEPTH c.args.text.now c.args.from l.at name.begin c.in_ok-end.end next.result k taken.0 l.invariant.0 l.invariant.1 name.ensures taken.1
+      last_member DEPTH c.args.text.now c.args.from l.at name.begin c.in_ok-end.end next.result k
+          taken.0 l.invariant.0 l.invariant.1 name.ensures taken.1
           (rw (← bytes) next.ensures.same) (rw (← bytes) (grind arith)) next.ensures.forward,
-      subst (λ parts. AreKept parts c.take_part.new.parts) (sym (put_part taken.0 l.invariant.0 k)) (taken.2 _ l.invariant.2),
+      subst (λ parts. AreKept parts c.take_part.new.parts) (sym (put_part taken.0 l.invariant.0 k))
+          (taken.2 _ l.invariant.2),
     )

@@ -10,6 +10,8 @@ returns c =
     let begin = c.spaces_end-from in
     let last = c.spaces_end in (
       found.0,
-      whole_object d begin.result c.in_ok-parts.end last.result found.0 (rw (← bytes) begin.ensures.same) (rw (← bytes) (grind arith)) found.1 (rw (← bytes) last.ensures.same) (rw (← bytes) (omega arith)),
+      whole_object d begin.result c.in_ok-parts.end last.result found.0
+          (rw (← bytes) begin.ensures.same) (rw (← bytes) (grind arith)) found.1
+          (rw (← bytes) last.ensures.same) (rw (← bytes) (omega arith)),
       found.2,
     )

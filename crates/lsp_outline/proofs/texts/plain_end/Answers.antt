@@ -15,7 +15,8 @@ lanes-preserved c =
     let block = chunk c.lanes.at 16 c.args.bytes.now in
     let most = prefix_len-le-length is_plain block in
     let long = length-chunk c.lanes.at 16 c.args.bytes.now (omega arith) in
-    let run = run_through c.args.bytes.now c.lanes.at (omega arith) (omega (arith, plain.ensures, most, long)) in
+    let run = run_through c.args.bytes.now c.lanes.at (omega arith)
+    (omega (arith, plain.ensures, most, long)) in
     (omega (arith, run, c.lanes.invariant.0), omega arith)
 
 pub returns-then-plain-lt-LANES-clause-value : goal.returns-then-plain-lt-LANES-clause-value

@@ -4,7 +4,8 @@ use Rattle.lsp_outline.proofs.Blocks.{none_marked, some_marked}
 use Rattle.lsp_outline.proofs.texts.plain_front.Goals as goal
 
 pub returns-then-stops-eq0 : goal.returns-then-stops-eq0
-returns-then-stops-eq0 c = none_marked c.args.block c.requires (omega (arith, c.stops-stops.ensures))
+returns-then-stops-eq0 c =
+    none_marked c.args.block c.requires (omega (arith, c.stops-stops.ensures))
 
 pub returns-else-stops-eq0 : goal.returns-else-stops-eq0
 returns-else-stops-eq0 c =

@@ -5,5 +5,8 @@ use Rattle.lsp_outline.proofs.walk.key_end.Goals as goal
 pub returns : goal.returns
 returns c =
     let text = c.in_ok-close.ensures in
-    let end = c.in_ok-end.ensures in
-    (text.0, key_value c.args.bytes.now c.args.from c.in_ok-close.close c.in_ok-end.end text.0 (grind arith) text.1 end.passed end.forward end.within)
+    let end = c.in_ok-end.ensures in (
+      text.0,
+      key_value c.args.bytes.now c.args.from c.in_ok-close.close c.in_ok-end.end text.0
+          (grind arith) text.1 end.passed end.forward end.within,
+    )

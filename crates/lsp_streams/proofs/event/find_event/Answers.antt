@@ -8,4 +8,5 @@ returns-in_err-events g c =
     rw (p.1, p.2) c.in_err-events.ensures.err
 
 pub returns : goal.returns
-returns g c = c.find_next.ensures c.args.limits _ c.args.number (none_passed c.args.limits c.in_ok-events.events _ _ c.args.number c.in_ok-events.ensures.ok)
+returns g c = c.find_next.ensures c.args.limits _ c.args.number
+    (none_passed c.args.limits c.in_ok-events.events _ _ c.args.number c.in_ok-events.ensures.ok)

@@ -8,8 +8,11 @@ abbrev pub invariant-loop-fault : goal.invariant-loop-fault
 invariant-loop-fault g l = record {
   room : l.given + length l.decoder.rest ≤ l.fn.given + length l.fn.decoder.rest;
   limits : l.decoder.limits ≡ l.fn.decoder.limits;
-  told : (bytes : List ℕ) (contents : List (List ℕ)) (parts : List ℕ) → StandsFor l.fn.decoder bytes contents → l.fn.given ≡ length contents → AreParts l.fn.mode 1 contents parts
-      → FoundSoFar l.decoder l.fn.mode (g.W.Sink.told l.fn.writer) (g.W.Sink.told l.writer) l.given bytes parts;
+  told : (bytes : List ℕ) (contents : List (List ℕ)) (parts : List ℕ)
+      → StandsFor l.fn.decoder bytes contents → l.fn.given ≡ length contents
+      → AreParts l.fn.mode 1 contents parts
+      → FoundSoFar l.decoder l.fn.mode (g.W.Sink.told l.fn.writer) (g.W.Sink.told l.writer) l.given
+      bytes parts;
 }
 
 abbrev pub decreases-loop-fault : goal.decreases-loop-fault

@@ -9,7 +9,17 @@ pub returns : goal.returns
 returns g c =
     let size = c.fill_number-size in
     let start = c.fill_number-start in
-    let third : length start.new.line ≡ 42 = omega (arith, start.auto.line, size.auto.line, length-set size.new.line (size.result - 1) 32) in
+    let third : length start.new.line ≡ 42 =
+    omega (
+      arith,
+      start.auto.line,
+      size.auto.line,
+      length-set size.new.line (size.result - 1) 32,
+    ) in
     let first : length size.new.line ≡ 42 = omega (arith, size.auto.line) in
-    let whole = line_is c.args.frame c.args.len c.args.end size.result start.result size.new.line start.new.line (omega (arith, size.ensures.start.0)) (omega (arith, size.ensures.start.1, first)) third size.ensures.written start.ensures.written in
-    subst (Writes (g.W.Sink.told c.args.writer.now) (g.W.Sink.told c.put_all.new.writer) c.put_all.result) whole c.put_all.ensures
+    let whole = line_is c.args.frame c.args.len c.args.end size.result start.result size.new.line
+    start.new.line (omega (arith, size.ensures.start.0))
+    (omega (arith, size.ensures.start.1, first)) third size.ensures.written
+    start.ensures.written in
+    subst (Writes (g.W.Sink.told c.args.writer.now) (g.W.Sink.told c.put_all.new.writer)
+    c.put_all.result) whole c.put_all.ensures

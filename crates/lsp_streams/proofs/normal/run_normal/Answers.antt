@@ -7,7 +7,8 @@ returns-in_err-outcome-clause-fault g c =
     let p = err_from_is_err_and c.from_residual.result c.from_residual.ensures.1 in
     rw p.1 c.in_err-outcome.ensures.cut_short
 
-pub returns-in_err-outcome-clause-source_failures : goal.returns-in_err-outcome-clause-source_failures
+pub returns-in_err-outcome-clause-source_failures :
+    goal.returns-in_err-outcome-clause-source_failures
 returns-in_err-outcome-clause-source_failures g c =
     let p = err_from_is_err_and c.from_residual.result c.from_residual.ensures.1 in
     rw (p.1, p.2) c.in_err-outcome.ensures.source

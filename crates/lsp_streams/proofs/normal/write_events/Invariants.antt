@@ -8,7 +8,8 @@ abbrev pub invariant-loop-fault : goal.invariant-loop-fault
 invariant-loop-fault g l = record {
   size : l.pieces ≡ l.fn.limits.chunk;
   so_far : (start : Told) → Opens l.fn.limits start (g.R.Source.told l.fn.reader) l.fn.events
-      → SoFar l.fn.limits l.fn.events.log.format l.events l.counts start (g.R.Source.told l.reader) (g.W.Sink.told l.fn.writer) (g.W.Sink.told l.writer);
+      → SoFar l.fn.limits l.fn.events.log.format l.events l.counts start (g.R.Source.told l.reader)
+      (g.W.Sink.told l.fn.writer) (g.W.Sink.told l.writer);
 }
 
 abbrev pub decreases-loop-fault : goal.decreases-loop-fault

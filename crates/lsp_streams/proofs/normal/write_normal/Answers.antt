@@ -21,8 +21,10 @@ returns-in_err-write_head_of g c =
     let sink = g.W.Sink.told c.args.writer.now in
     let new = g.W.Sink.told c.write_head_of.new.writer in
     let events = c.in_ok-events.events in
-    let format = one_or_format events.log.format c.format.result c.unwrap_or.result c.format.ensures c.unwrap_or.ensures in
-    let stopped = subst (λ (f : Format). Stopped sink new (first_line f)) (sym format) c.in_err-write_head_of.ensures in
+    let format = one_or_format events.log.format c.format.result c.unwrap_or.result c.format.ensures
+    c.unwrap_or.ensures in
+    let stopped = subst (λ (f : Format). Stopped sink new (first_line f)) (sym format)
+    c.in_err-write_head_of.ensures in
     rw (p.1, p.2) (head_cut c.args.limits events _ _ sink new c.in_ok-events.ensures.ok stopped)
 
 pub returns : goal.returns
@@ -30,6 +32,8 @@ returns g c =
     let sink = g.W.Sink.told c.args.writer.now in
     let mid = g.W.Sink.told c.write_head_of.new.writer in
     let events = c.in_ok-events.events in
-    let format = one_or_format events.log.format c.format.result c.unwrap_or.result c.format.ensures c.unwrap_or.ensures in
-    let head = subst (λ (f : Format). Wrote sink mid (first_line f)) (sym format) c.in_ok-write_head_of.ensures in
+    let format = one_or_format events.log.format c.format.result c.unwrap_or.result c.format.ensures
+    c.unwrap_or.ensures in
+    let head = subst (λ (f : Format). Wrote sink mid (first_line f)) (sym format)
+    c.in_ok-write_head_of.ensures in
     c.write_events.ensures _ sink c.in_ok-events.ensures.ok head

@@ -11,7 +11,8 @@ returns-in_err-write_chunk g c =
     let front = c.loop-front.front.now in
     let back = c.loop-front.back.now in
     let some : 0 < length front + length back = grind (arith, nat_tests) in
-    let is = due_some c.args.size c.min-first.result c.min-second.result c.args.side front back c.requires some c.min-first.ensures c.min-second.ensures in
+    let is = due_some c.args.size c.min-first.result c.min-second.result c.args.side front back
+    c.requires some c.min-first.ensures c.min-second.ensures in
     let so_far = rw is at c.loop-front.invariant in
     rw p.1 (put_part _ _ _ _ _ _ so_far c.in_err-write_chunk.ensures)
 
@@ -20,7 +21,8 @@ loop-front-preserved g c =
     let front = c.loop-front.front.now in
     let back = c.loop-front.back.now in
     let some : 0 < length front + length back = grind (arith, nat_tests) in
-    let is = due_some c.args.size c.min-first.result c.min-second.result c.args.side front back c.requires some c.min-first.ensures c.min-second.ensures in
+    let is = due_some c.args.size c.min-first.result c.min-second.result c.args.side front back
+    c.requires some c.min-first.ensures c.min-second.ensures in
     let so_far = rw is at c.loop-front.invariant in
     let more = put_one _ _ _ _ _ _ so_far c.in_ok-write_chunk.ensures in
     rw (take_rest front c.min-first.result, take_rest back c.min-second.result) more

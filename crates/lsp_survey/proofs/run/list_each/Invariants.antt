@@ -8,6 +8,8 @@ use Rattle.lsp_survey.proofs.run.list_each.Given as goal
 
 abbrev pub invariant-loop-offence : goal.invariant-loop-offence
 invariant-loop-offence g l = record {
-  tally : (found : List Offence) → IsTally l.fn.tally found → IsTally l.tally (found ++ map offence_view (take l.offence-index l.offences));
-  wrote : Wrote (g.W.Sink.told l.fn.writer) (g.W.Sink.told l.writer) (lines_of l.listing (map offence_view (take l.offence-index l.offences)));
+  tally : (found : List Offence) → IsTally l.fn.tally found
+      → IsTally l.tally (found ++ map offence_view (take l.offence-index l.offences));
+  wrote : Wrote (g.W.Sink.told l.fn.writer) (g.W.Sink.told l.writer)
+      (lines_of l.listing (map offence_view (take l.offence-index l.offences)));
 }

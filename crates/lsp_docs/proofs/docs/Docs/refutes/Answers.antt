@@ -7,22 +7,31 @@ use mir.Val.{SFits}
 use Rattle.lsp_docs.specs.Documents.{versioned}
 use Rattle.lsp_docs.specs.Rules.{differs}
 use Rattle.lsp_docs.specs.State.{queue_of}
-use Rattle.lsp_docs.specs.Stored.{text_of}
 use Rattle.lsp_docs.specs.Texts.{Text}
 use Rattle.lsp_docs.proofs.SameVersions.{differs-texts}
-use Rattle.lsp_docs.proofs.Words.{any-map}
 use Rattle.lsp_docs.proofs.docs.Docs.refutes.Goals as goal
 
-pub returns : goal.returns
-returns g c =
+pub returns-in-Some : goal.returns-in-Some
+returns-in-Some g c =
     let fits : SFits w32 c.args.version = c.ranges.version in
     let text = g.S.TextStore.content c.args.store.now in
     let v = versioned c.args.version text in
     let uri = c.args.uri.now in
     let test : Text → Bool = λ t. not (bytes_eq text t) in
-    let told = simp to_z-of_z at c.texts.ensures in
+    let told = simp to_z-of_z at c.in-Some.ensures in
     c.any_differs.ensures
-    ∙ (sym (any-map test text_of c.texts.result.now)
     ∙ (ap (list_any test) told
     ∙ (sym (differs-texts v (queue_of uri c.self.inside.waiting.queues))
-    ∙ ap (λ s. list_any (differs v) (queue_of uri s.waits.queues)) c.self.view_is)))
+    ∙ ap (λ s. list_any (differs v) (queue_of uri s.waits.queues)) c.self.view_is))
+
+pub returns-in-None : goal.returns-in-None
+returns-in-None g c =
+    let fits : SFits w32 c.args.version = c.ranges.version in
+    let text = g.S.TextStore.content c.args.store.now in
+    let v = versioned c.args.version text in
+    let uri = c.args.uri.now in
+    let test : Text → Bool = λ t. not (bytes_eq text t) in
+    let told = simp to_z-of_z at c.in-None.ensures in
+    ap (list_any test) told
+    ∙ (sym (differs-texts v (queue_of uri c.self.inside.waiting.queues))
+    ∙ ap (λ s. list_any (differs v) (queue_of uri s.waits.queues)) c.self.view_is)

@@ -2,18 +2,18 @@ use Rattle.std.proofs.Common.{◌≡◌, ◌∷◌, [], Some, is_some, map, opti
 use Rattle.std.specs.Prelude.{IsSome}
 use Rattle.std.specs.Map.{lookup}
 use Rattle.std.specs.Option.{option_copied_mut}
-use Rattle.std.specs.Str.{bytes_eq}
+use Rattle.lsp_order.specs.Texts.{is_text}
 use Rattle.std.proofs.lemmas.Int.{to_z-of_z}
 use mir.Val.{SFits}
 use Rattle.std.proofs.lemmas.Result.{on_err_weaker, IfErr-weaker}
 use Rattle.lsp_text.specs.Changes.{edit_of}
 use Rattle.lsp_text.specs.Edits.{applied}
 use Rattle.lsp_docs.specs.declared.document.Document.{Document}
-use Rattle.lsp_docs.specs.Opened.{held_by, kept_of, listed}
+use Rattle.lsp_docs.specs.Opened.{held_of, kept_of}
 use Rattle.lsp_docs.specs.Documents.{Version, versioned}
 use Rattle.lsp_docs.specs.Fault.{Breaks}
 use Rattle.lsp_docs.specs.State.{held_in, set_in, text_in}
-use Rattle.lsp_docs.proofs.Entries.{AreHeld-set, PutsUnder, held_in-kept, listed-set, puts, puts-same}
+use Rattle.lsp_docs.proofs.Entries.{held_in-of, held-set, written-same}
 use Rattle.lsp_docs.proofs.Faults.{on_ok_two}
 use Rattle.lsp_docs.proofs.opened.OpenDocuments.change.Given.{Over}
 use Rattle.lsp_docs.proofs.opened.OpenDocuments.change.Goals.{After-unwrap-document}
@@ -23,49 +23,28 @@ abbrev seen : (g : Over) → Document g.row.S.Denot → Version
 seen g d = versioned d.held.version (g.S.TextStore.content d.held.store)
 
 module _ (g : Over) (c : After-unwrap-document g) where
-  found : Some c.unwrap-document.result.now ≡ lookup (λ key. bytes_eq c.args.uri.now (string_bytes key)) c.self.inside.documents.entries
-  found = ap option_copied_mut (sym c.unwrap-document.ensures) ∙ c.get_mut.ensures.value
+  found : lookup (is_text c.args.uri.now) c.self.inside.documents ≡ Some c.unwrap-document.result.now
+  found = sym (ap option_copied_mut (sym c.unwrap-document.ensures) ∙ c.get_str_mut.ensures.value)
 
   is_now : held_in c.args.uri.now c.args.self.now.held ≡ Some (seen g c.unwrap-document.result.now)
-  is_now =
-      ap (λ s. held_in c.args.uri.now s.held) (sym c.self.view_is)
-      ∙ (held_in-kept c.args.uri.now _ (held_by (seen g) c.self.inside.documents.entries) c.self.invariant ∙ ap (option_map (seen g)) (sym found))
-
-  put : {R : Type 0} (f : Document g.row.S.Denot → R) (d : Document g.row.S.Denot)
-      → PutsUnder c.args.uri.now (Some (f d)) (held_by f c.self.inside.documents.entries) (held_by f (c.get_mut.follows.lender d).entries)
-  put f d =
-      let updates = (c.get_mut.follows.holds d).3 (subst (λ o. IsSome o) found refl) in
-      puts f c.args.uri.now _ c.self.inside.documents.entries _ updates.1 updates.3
-
-  same : {R : Type 0} (f : Document g.row.S.Denot → R) (d : Document g.row.S.Denot) → f d ≡ f c.unwrap-document.result.now
-      → held_by f (c.get_mut.follows.lender d).entries ≡ held_by f c.self.inside.documents.entries
-  same f d e = puts-same c.args.uri.now _ _ _ (ap (option_map f) (sym found) ∙ ap (λ v. Some v) (sym e)) (put f d)
-
-  is_set : (d : Document g.row.S.Denot)
-      → listed (map string_bytes c.self.inside.order) (held_by (seen g) (c.get_mut.follows.lender d).entries) ≡ set_in c.args.uri.now (seen g d) c.args.self.now.held
-  is_set d =
-      listed-set c.args.uri.now _ _ _ (put (seen g) d) (map string_bytes c.self.inside.order) c.self.invariant.have c.self.invariant.differ
-      ∙ ap (λ s. set_in c.args.uri.now (seen g d) s.held) c.self.view_is
+  is_now = ap (λ s. held_in c.args.uri.now s.held) (sym c.self.view_is) ∙ (held_in-of (seen g) c.args.uri.now c.self.inside.documents ∙ ap (option_map (seen g)) found)
 
 pub unwrap-document-requires : goal.unwrap-document-requires
 unwrap-document-requires g c =
-    let kept = held_in-kept c.args.uri.now _ (held_by (seen g) c.self.inside.documents.entries) c.self.invariant in
-    search (rules, ap is_some (sym kept ∙ ap (λ s. held_in c.args.uri.now s.held) c.self.view_is) ∙ c.requires, c.get_mut.ensures.value)
-
-pub invariant_of-self : goal.invariant_of-self
-invariant_of-self g c =
-    let now = (goal.at.invariant_of-self g c).After-unwrap-document in
-    AreHeld-set c.args.uri.now _ _ _ (put g now (seen g) _) _ c.self.invariant (ap (λ o. is_some (option_map (seen g) o)) (sym (found g now)))
+    search (rules, ap is_some (sym (held_in-of (seen g) c.args.uri.now c.self.inside.documents) ∙ ap (λ s. held_in c.args.uri.now s.held) c.self.view_is) ∙ c.requires, c.get_str_mut.ensures.value)
 
 pub returns-clause-ok : goal.returns-clause-ok
 returns-clause-ok g c =
     let now = (goal.at.returns-clause-ok g c).After-unwrap-document in
+    let uri = c.args.uri.now in
+    let d : Document g.row.S.Denot = record { held = c.change.new.self; kept = c.unwrap-document.result.now.kept } in
     let fits : SFits w32 c.args.version = c.ranges.version in
     let version = simp to_z-of_z at c.change.ensures.version in
     on_ok_two c.change.result (λ a b. record {
       text = g.S.TextStore.content c.change.new.self.store;
       is_made = ap (λ o. applied c.args.limit c.args.encoding (text_in o) (edit_of c.args.change.now ∷ [])) (is_now g now) ∙ a;
-      is = is_set g now _ ∙ ap (λ n. set_in c.args.uri.now (versioned n (g.S.TextStore.content c.change.new.self.store)) c.args.self.now.held) b;
+      is = held-set (seen g) uri d c.self.inside.documents
+          ∙ (ap (λ s. set_in uri (seen g d) s.held) c.self.view_is ∙ ap (λ n. set_in uri (versioned n (g.S.TextStore.content c.change.new.self.store)) c.args.self.now.held) b);
     }) c.change.ensures.ok version
 
 pub returns-clause-fault : goal.returns-clause-fault
@@ -76,12 +55,16 @@ returns-clause-fault g c =
 pub returns-clause-kept : goal.returns-clause-kept
 returns-clause-kept g c =
     let now = (goal.at.returns-clause-kept g c).After-unwrap-document in
-    ap (kept_of (map string_bytes c.self.inside.order)) (same g now (λ d. d.kept) _ refl) ∙ ap (λ s. s.kept) c.self.view_is
+    let d : Document g.row.S.Denot = record { held = c.change.new.self; kept = c.unwrap-document.result.now.kept } in
+    written-same (λ e. record { uri = string_bytes e.0; versions = e.1.kept }) c.args.uri.now d c.unwrap-document.result.now (λ k. refl) c.self.inside.documents (found g now)
+    ∙ ap (λ s. s.kept) c.self.view_is
 
 pub returns-clause-err : goal.returns-clause-err
 returns-clause-err g c =
     let now = (goal.at.returns-clause-err g c).After-unwrap-document in
+    let d : Document g.row.S.Denot = record { held = c.change.new.self; kept = c.unwrap-document.result.now.kept } in
     on_err_weaker c.change.result (λ p.
-    let same_held = ap (listed (map string_bytes c.self.inside.order)) (same g now (seen g) _ (λ i. versioned (p.0 i) (p.1 i))) ∙ ap (λ s. s.held) c.self.view_is in
+    let same_held = written-same (λ e. record { uri = string_bytes e.0; version = seen g e.1 }) c.args.uri.now d c.unwrap-document.result.now
+    (λ k i. record { uri = string_bytes k; version = versioned (p.0 i) (p.1 i) }) c.self.inside.documents (found g now) ∙ ap (λ s. s.held) c.self.view_is in
     λ i. record { held = same_held i; kept = returns-clause-kept g c i })
     c.change.ensures.err

@@ -1,12 +1,12 @@
 use Rattle.std.proofs.Common.{◌≡◌, length, ap, arith, ◌∙◌}
-use Rattle.std.specs.Prelude.{slice_get}
-use Rattle.lsp_order.specs.Slots.{key_at, keys_in}
-use Rattle.lsp_order.proofs.SlotLemmas.{key_at-full}
+use Rattle.std.specs.Prelude.{slice_get, option_and_then}
+use Rattle.lsp_order.specs.Places.{places_in}
+use Rattle.lsp_order.proofs.OrderLemmas.{place-full}
 use Rattle.lsp_order.proofs.order.Order.at.Goals as goal
 
-pub returns-then-self-len : goal.returns-then-self-len
-returns-then-self-len g c =
+pub returns-then-len : goal.returns-then-len
+returns-then-len c =
     let slots = c.self.inside.slots.items in
-    let ok = c.self.inside.slots.ok.0 in
-    let full : length (keys_in slots) ≡ length slots = omega (arith, c.self.invariant.count, ok) in
-    c.key_of.ensures ∙ (ap (λ s. key_at s c.args.index) c.as_slice.ensures.value ∙ (key_at-full slots c.args.index full ∙ ap (λ l. slice_get l c.args.index) c.self.view_is))
+    let full : length (places_in slots) ≡ length slots = c.self.invariant.count ∙ omega (arith, c.if-len.true, c.len.ensures, c.len-2.ensures, c.self.inside.slots.ok.0, c.self.inside.slot_of.ok.0) in
+    c.place_in.ensures
+    ∙ (ap (λ s. option_and_then (λ place. place) (slice_get s c.args.index)) c.as_slice.ensures.value ∙ (place-full slots c.args.index full ∙ ap (λ l. slice_get l c.args.index) c.self.view_is))

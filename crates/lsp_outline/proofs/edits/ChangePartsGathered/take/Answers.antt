@@ -12,7 +12,9 @@ returns-in_ok-span-in-range c =
     let read = c.in_ok-span-in-range.ensures in (
       object read.0,
       read.1,
-      first_came (λ o. if_given span_at (option_and_then unless_null o)) (option_and_then as_str) (codes "range") (codes "text") c.args.name.now (object read.0) _ _ refl c.in-range.is _ (ap (option_map Some) read.2),
+      first_came (λ o. if_given span_at (option_and_then unless_null o)) (option_and_then as_str)
+          (codes "range") (codes "text") c.args.name.now (object read.0) _ _ refl c.in-range.is _
+          (ap (option_map Some) read.2),
     )
 
 pub returns-in_ok-copy-in-text : goal.returns-in_ok-copy-in-text
@@ -20,7 +22,8 @@ returns-in_ok-copy-in-text c =
     let text = string (string_bytes c.in_ok-copy-in-text.copy) in (
       text,
       c.in_ok-copy-in-text.ensures c.args.depth,
-      second_came (λ o. if_given span_at (option_and_then unless_null o)) (option_and_then as_str) (codes "range") (codes "text") c.args.name.now text _ _ refl c.in-text.is _ refl,
+      second_came (λ o. if_given span_at (option_and_then unless_null o)) (option_and_then as_str)
+          (codes "range") (codes "text") c.args.name.now text _ _ refl c.in-text.is _ refl,
     )
 
 pub returns-in_default : goal.returns-in_default
@@ -28,5 +31,7 @@ returns-in_default c =
     IfSome_then c.skipped.result c.skipped.ensures (λ end read. (
       read.0,
       read.1,
-      neither_came (λ o. if_given span_at (option_and_then unless_null o)) (option_and_then as_str) (codes "range") (codes "text") c.args.name.now read.0 _ _ c.in_default.not-range c.in_default.not-text,
+      neither_came (λ o. if_given span_at (option_and_then unless_null o)) (option_and_then as_str)
+          (codes "range") (codes "text") c.args.name.now read.0 _ _ c.in_default.not-range
+          c.in_default.not-text,
     ))

@@ -9,7 +9,9 @@ returns-in_ok-line-in-line c =
     let read = c.in_ok-line-in-line.ensures.read in (
       read.0,
       read.1 c.args.depth,
-      first_came (option_and_then as_uinteger) (option_and_then as_uinteger) (codes "line") (codes "character") c.args.name.now read.0 _ _ refl c.in-line.is _ (ap (option_and_then natural) read.2),
+      first_came (option_and_then as_uinteger) (option_and_then as_uinteger) (codes "line")
+          (codes "character") c.args.name.now read.0 _ _ refl c.in-line.is _
+          (ap (option_and_then natural) read.2),
     )
 
 pub returns-in_ok-column-in-character : goal.returns-in_ok-column-in-character
@@ -17,7 +19,9 @@ returns-in_ok-column-in-character c =
     let read = c.in_ok-column-in-character.ensures.read in (
       read.0,
       read.1 c.args.depth,
-      second_came (option_and_then as_uinteger) (option_and_then as_uinteger) (codes "line") (codes "character") c.args.name.now read.0 _ _ refl c.in-character.is _ (ap (option_and_then natural) read.2),
+      second_came (option_and_then as_uinteger) (option_and_then as_uinteger) (codes "line")
+          (codes "character") c.args.name.now read.0 _ _ refl c.in-character.is _
+          (ap (option_and_then natural) read.2),
     )
 
 pub returns-in_default : goal.returns-in_default
@@ -25,5 +29,7 @@ returns-in_default c =
     IfSome_then c.skipped.result c.skipped.ensures (λ end read. (
       read.0,
       read.1,
-      neither_came (option_and_then as_uinteger) (option_and_then as_uinteger) (codes "line") (codes "character") c.args.name.now read.0 _ _ c.in_default.not-line c.in_default.not-character,
+      neither_came (option_and_then as_uinteger) (option_and_then as_uinteger) (codes "line")
+          (codes "character") c.args.name.now read.0 _ _ c.in_default.not-line
+          c.in_default.not-character,
     ))

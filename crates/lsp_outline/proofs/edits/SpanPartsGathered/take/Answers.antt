@@ -10,7 +10,8 @@ returns-in_ok-first-in-start c =
     let read = c.in_ok-first-in-start.ensures in (
       object read.0,
       read.1,
-      first_came (option_and_then position_at) (option_and_then position_at) (codes "start") (codes "end") c.args.name.now (object read.0) _ _ refl c.in-start.is _ read.2,
+      first_came (option_and_then position_at) (option_and_then position_at) (codes "start")
+          (codes "end") c.args.name.now (object read.0) _ _ refl c.in-start.is _ read.2,
     )
 
 pub returns-in_ok-second-in-end : goal.returns-in_ok-second-in-end
@@ -18,7 +19,8 @@ returns-in_ok-second-in-end c =
     let read = c.in_ok-second-in-end.ensures in (
       object read.0,
       read.1,
-      second_came (option_and_then position_at) (option_and_then position_at) (codes "start") (codes "end") c.args.name.now (object read.0) _ _ refl c.in-end.is _ read.2,
+      second_came (option_and_then position_at) (option_and_then position_at) (codes "start")
+          (codes "end") c.args.name.now (object read.0) _ _ refl c.in-end.is _ read.2,
     )
 
 pub returns-in_default : goal.returns-in_default
@@ -26,5 +28,6 @@ returns-in_default c =
     IfSome_then c.skipped.result c.skipped.ensures (λ end read. (
       read.0,
       read.1,
-      neither_came (option_and_then position_at) (option_and_then position_at) (codes "start") (codes "end") c.args.name.now read.0 _ _ c.in_default.not-start c.in_default.not-end,
+      neither_came (option_and_then position_at) (option_and_then position_at) (codes "start")
+          (codes "end") c.args.name.now read.0 _ _ c.in_default.not-start c.in_default.not-end,
     ))

@@ -16,8 +16,10 @@ returns-in_ok-uri-in-uri c =
       c.in_ok-uri-in-uri.ensures c.args.depth,
       (λ ms h. (
         last_of (option_and_then as_str) (codes "uri") k d ms _ is refl,
-        stays (option_and_then as_integer) (codes "version") k d ms _ (not_this (codes "version") (codes "uri") k refl is) h.1,
-        stays (option_and_then as_str) (codes "text") k d ms _ (not_this (codes "text") (codes "uri") k refl is) h.2,
+        stays (option_and_then as_integer) (codes "version") k d ms _
+            (not_this (codes "version") (codes "uri") k refl is) h.1,
+        stays (option_and_then as_str) (codes "text") k d ms _
+            (not_this (codes "text") (codes "uri") k refl is) h.2,
       )),
     )
 
@@ -30,9 +32,12 @@ returns-in_ok-version-in-version c =
       d,
       read.1 c.args.depth,
       (λ ms h. (
-        stays (option_and_then as_str) (codes "uri") k d ms _ (not_this (codes "uri") (codes "version") k refl is) h.0,
-        last_of (option_and_then as_integer) (codes "version") k d ms _ is (read.2 ∙ ap Some (sym (to_z_pos w32 _ c.in_ok-version-in-version.ensures.fits))),
-        stays (option_and_then as_str) (codes "text") k d ms _ (not_this (codes "text") (codes "version") k refl is) h.2,
+        stays (option_and_then as_str) (codes "uri") k d ms _
+            (not_this (codes "uri") (codes "version") k refl is) h.0,
+        last_of (option_and_then as_integer) (codes "version") k d ms _ is
+            (read.2 ∙ ap Some (sym (to_z_pos w32 _ c.in_ok-version-in-version.ensures.fits))),
+        stays (option_and_then as_str) (codes "text") k d ms _
+            (not_this (codes "text") (codes "version") k refl is) h.2,
       )),
     )
 
@@ -44,8 +49,10 @@ returns-in_ok-copy-in-text c =
       d,
       c.in_ok-copy-in-text.ensures c.args.depth,
       (λ ms h. (
-        stays (option_and_then as_str) (codes "uri") k d ms _ (not_this (codes "uri") (codes "text") k refl is) h.0,
-        stays (option_and_then as_integer) (codes "version") k d ms _ (not_this (codes "version") (codes "text") k refl is) h.1,
+        stays (option_and_then as_str) (codes "uri") k d ms _
+            (not_this (codes "uri") (codes "text") k refl is) h.0,
+        stays (option_and_then as_integer) (codes "version") k d ms _
+            (not_this (codes "version") (codes "text") k refl is) h.1,
         last_of (option_and_then as_str) (codes "text") k d ms _ is refl,
       )),
     )
@@ -57,8 +64,11 @@ returns-in_default c =
       read.0,
       read.1,
       (λ ms h. (
-        stays (option_and_then as_str) (codes "uri") k read.0 ms _ (λ e. c.in_default.not-uri (sym e)) h.0,
-        stays (option_and_then as_integer) (codes "version") k read.0 ms _ (λ e. c.in_default.not-version (sym e)) h.1,
-        stays (option_and_then as_str) (codes "text") k read.0 ms _ (λ e. c.in_default.not-text (sym e)) h.2,
+        stays (option_and_then as_str) (codes "uri") k read.0 ms _
+            (λ e. c.in_default.not-uri (sym e)) h.0,
+        stays (option_and_then as_integer) (codes "version") k read.0 ms _
+            (λ e. c.in_default.not-version (sym e)) h.1,
+        stays (option_and_then as_str) (codes "text") k read.0 ms _
+            (λ e. c.in_default.not-text (sym e)) h.2,
       )),
     ))

@@ -14,9 +14,12 @@ returns-in_ok-end-in-jsonrpc c =
       c.in_ok-end-in-jsonrpc.ensures c.args.depth,
       (λ ms h. (
         last_of (λ o. o) (codes "jsonrpc") k d ms _ is refl,
-        stays (λ o. o) (codes "method") k d ms _ (not_this (codes "method") (codes "jsonrpc") k refl is) h.1,
-        stays (option_map told_of) (codes "params") k d ms _ (not_this (codes "params") (codes "jsonrpc") k refl is) h.2,
-        stays (λ o. o) (codes "id") k d ms _ (not_this (codes "id") (codes "jsonrpc") k refl is) h.3,
+        stays (λ o. o) (codes "method") k d ms _
+            (not_this (codes "method") (codes "jsonrpc") k refl is) h.1,
+        stays (option_map told_of) (codes "params") k d ms _
+            (not_this (codes "params") (codes "jsonrpc") k refl is) h.2,
+        stays (λ o. o) (codes "id") k d ms _ (not_this (codes "id") (codes "jsonrpc") k refl is)
+            h.3,
       )),
     )
 
@@ -28,9 +31,11 @@ returns-in_ok-notice-in-method c =
       d,
       c.in_ok-notice-in-method.ensures c.args.depth,
       (λ ms h. (
-        stays (λ o. o) (codes "jsonrpc") k d ms _ (not_this (codes "jsonrpc") (codes "method") k refl is) h.0,
+        stays (λ o. o) (codes "jsonrpc") k d ms _
+            (not_this (codes "jsonrpc") (codes "method") k refl is) h.0,
         last_of (λ o. o) (codes "method") k d ms _ is refl,
-        stays (option_map told_of) (codes "params") k d ms _ (not_this (codes "params") (codes "method") k refl is) h.2,
+        stays (option_map told_of) (codes "params") k d ms _
+            (not_this (codes "params") (codes "method") k refl is) h.2,
         stays (λ o. o) (codes "id") k d ms _ (not_this (codes "id") (codes "method") k refl is) h.3,
       )),
     )
@@ -41,13 +46,16 @@ returns-in_ok-params-in-params c =
     let found = c.in_ok-params-in-params in
     let read = found.ensures in
     let d = object read.0 in
-    let told : told_of d ≡ told_view found.params = rw (read.2.0, read.2.1) in
+    let told : told_of d ≡ told_view found.params =
+    rw (read.2.0, read.2.1, read.2.2, read.2.3, read.2.4) in
     let is = c.in-params.is in (
       d,
       read.1,
       (λ ms h. (
-        stays (λ o. o) (codes "jsonrpc") k d ms _ (not_this (codes "jsonrpc") (codes "params") k refl is) h.0,
-        stays (λ o. o) (codes "method") k d ms _ (not_this (codes "method") (codes "params") k refl is) h.1,
+        stays (λ o. o) (codes "jsonrpc") k d ms _
+            (not_this (codes "jsonrpc") (codes "params") k refl is) h.0,
+        stays (λ o. o) (codes "method") k d ms _
+            (not_this (codes "method") (codes "params") k refl is) h.1,
         last_of (option_map told_of) (codes "params") k d ms _ is (ap Some told),
         stays (λ o. o) (codes "id") k d ms _ (not_this (codes "id") (codes "params") k refl is) h.3,
       )),
@@ -62,7 +70,8 @@ returns-in_default c =
       (λ ms h. (
         stays (λ o. o) (codes "jsonrpc") k read.0 ms _ (λ e. c.in_default.not-jsonrpc (sym e)) h.0,
         stays (λ o. o) (codes "method") k read.0 ms _ (λ e. c.in_default.not-method (sym e)) h.1,
-        stays (option_map told_of) (codes "params") k read.0 ms _ (λ e. c.in_default.not-params (sym e)) h.2,
+        stays (option_map told_of) (codes "params") k read.0 ms _
+            (λ e. c.in_default.not-params (sym e)) h.2,
         stays (λ o. o) (codes "id") k read.0 ms _ (λ e. c.in_default.not-id (sym e)) h.3,
       )),
     ))

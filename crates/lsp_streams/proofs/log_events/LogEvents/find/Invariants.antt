@@ -9,7 +9,10 @@ use Rattle.lsp_streams.proofs.log_events.LogEvents.find.Given as goal
 use Rattle.lsp_verdict.specs.Placed.{Raw}
 
 abbrev pub invariant-loop-due : goal.invariant-loop-due
-invariant-loop-due g l = (limits : Bounds) (format : Option Format) (start : Told) (records : List Record) (given due : List Raw) → Reads limits format l.fn.self start (g.R.Source.told l.fn.reader) records given due
+invariant-loop-due g l =
+    (limits : Bounds) (format : Option Format) (start : Told) (records : List Record)
+    (given due : List Raw) → Reads limits format l.fn.self start (g.R.Source.told l.fn.reader)
+    records given due
     → ReadsOn limits format l.self start (g.R.Source.told l.reader) records given
 
 abbrev pub decreases-loop-due : goal.decreases-loop-due

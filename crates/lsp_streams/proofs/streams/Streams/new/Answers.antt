@@ -14,6 +14,7 @@ returns c =
       server_limits = ap (λ (s : State). s.limits) c.new-2.ensures.value;
       placed = refl;
       editor = new_due limits range Editor c.new.result c.new.ensures.value c.new.ensures.stands;
-      server = new_due limits range Server c.new-2.result c.new-2.ensures.value c.new-2.ensures.stands;
+      server = new_due limits range Server c.new-2.result c.new-2.ensures.value
+          c.new-2.ensures.stands;
       shows = refl;
     }

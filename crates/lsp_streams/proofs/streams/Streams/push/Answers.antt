@@ -6,26 +6,34 @@ use Rattle.lsp_verdict.proofs.Streams.Drained.{pushed_limits}
 use Rattle.lsp_streams.proofs.Streaming.{editor_pushed, server_pushed, shown_pushed, pushed_fault}
 use Rattle.lsp_streams.proofs.streams.Streams.push.Goals as goal
 
-pub returns-in_ok-push_owned-in-Bytes-Editor-default-clause-ok : goal.returns-in_ok-push_owned-in-Bytes-Editor-default-clause-ok
+pub returns-in_ok-push_owned-in-Bytes-Editor-default-clause-ok :
+    goal.returns-in_ok-push_owned-in-Bytes-Editor-default-clause-ok
 returns-in_ok-push_owned-in-Bytes-Editor-default-clause-ok c =
     let at = c.in-Bytes-Editor-default in
     let pushed = c.in_ok-push_owned-in-Bytes-Editor-default.ensures in
     let same = ap (λ (s : State). s.limits) pushed.ok.same ∙ pushed_limits _ _ in
     let fault = ap (λ (s : State). s.fault) pushed.ok.same ∙ pushed_fault _ _ in
     let stands = pushed.stands in
-    rw (← c.self.view_is, at.is, at.side-is) (λ limits records given h. editor_pushed limits records given _ _ at.bytes.items same fault stands h)
+    rw (← c.self.view_is, at.is, at.side-is)
+    (λ limits records given h.
+    editor_pushed limits records given _ _ at.bytes.items same fault stands h)
 
-pub returns-in_ok-push_owned-in-Bytes-Server-default-clause-ok : goal.returns-in_ok-push_owned-in-Bytes-Server-default-clause-ok
+pub returns-in_ok-push_owned-in-Bytes-Server-default-clause-ok :
+    goal.returns-in_ok-push_owned-in-Bytes-Server-default-clause-ok
 returns-in_ok-push_owned-in-Bytes-Server-default-clause-ok c =
     let at = c.in-Bytes-Server-default in
     let pushed = c.in_ok-push_owned-in-Bytes-Server-default.ensures in
     let same = ap (λ (s : State). s.limits) pushed.ok.same ∙ pushed_limits _ _ in
     let fault = ap (λ (s : State). s.fault) pushed.ok.same ∙ pushed_fault _ _ in
     let stands = pushed.stands in
-    rw (← c.self.view_is, at.is, at.side-is) (λ limits records given h. server_pushed limits records given _ _ at.bytes.items same fault stands h)
+    rw (← c.self.view_is, at.is, at.side-is)
+    (λ limits records given h.
+    server_pushed limits records given _ _ at.bytes.items same fault stands h)
 
 pub returns-in-Snapshot-clause-ok : goal.returns-in-Snapshot-clause-ok
 returns-in-Snapshot-clause-ok c =
     let at = c.in-Snapshot in
     let fits : SFits w32 at.version = search rules in
-    rw (← c.self.view_is, at.is) (λ limits records given h. shown_pushed limits records given _ _ at.version (to_z-of_z w32 at.version fits) h)
+    rw (← c.self.view_is, at.is)
+    (λ limits records given h.
+    shown_pushed limits records given _ _ at.version (to_z-of_z w32 at.version fits) h)

@@ -1,8 +1,10 @@
 use Rattle.std.proofs.Common.{sym, subst}
-use Rattle.lsp_survey.specs.Surveys.{ShowsFront}
+use Rattle.std.proofs.Common.{List, ℕ}
+use Rattle.lsp_survey.specs.Reads.{ShowsFront}
 use Rattle.lsp_survey.proofs.Rests.{front_shown}
 use Rattle.lsp_survey.proofs.survey_reader.SurveyReader.rest.Goals as goal
 
 pub returns-clause-broken : goal.returns-clause-broken
-returns-clause-broken c = λ limits start now past notes found so ended.
-    subst (ShowsFront limits c.args.side so.records) (sym c.rest.ensures) (front_shown limits c.args.self.now.survey so.records past notes c.args.side so.surveys ended)
+returns-clause-broken c = λ limits start now past notes found so broken.
+    subst (λ (w : List ℕ). ShowsFront limits c.args.side so.records w) (sym c.rest.ensures)
+    (front_shown limits _ so.records past so.due c.args.side so.reads.stands broken)

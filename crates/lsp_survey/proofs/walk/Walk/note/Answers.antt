@@ -2,8 +2,8 @@ use Rattle.std.specs.Prelude.{unwrap_or}
 use Rattle.std.proofs.Common.{ℕ, subst, ◌∙◌}
 use Rattle.lsp_rpc.specs.View.{message_view}
 use Rattle.lsp_types.specs.declared.side.Side.TheVariants.{Editor, Server}
-use Rattle.lsp_notes.specs.Asking.{leads}
-use Rattle.lsp_notes.specs.SessionNoting.{Exchanges}
+use Rattle.lsp_survey.specs.Asking.{leads}
+use Rattle.lsp_survey.specs.SessionNoting.{Exchanges}
 use Rattle.lsp_survey.proofs.walk.Walk.note.Goals as goal
 use Rattle.lsp_docs.proofs.Faults.{on_ok_two}
 
@@ -17,9 +17,12 @@ returns-clause-said c =
     let number = c.number_next-number.ensures events counts in
     let behind = c.phase-phase.ensures sents stands in
     record {
-      editor = subst (λ (n : ℕ). Exchanges Editor n c.args.side said old.editor new.editor) number editor;
-      server = subst (λ (n : ℕ). Exchanges Server n c.args.side said old.server new.server) number server;
+      editor = subst (λ (n : ℕ). Exchanges Editor n c.args.side said old.editor new.editor) number
+          editor;
+      server = subst (λ (n : ℕ). Exchanges Server n c.args.side said old.server new.server) number
+          server;
       phase_is = c.keep.ensures.phase ∙ behind;
-      since_is = c.keep.ensures.since ∙ (λ i. unwrap_or (leads (number i) old.phase (behind i)) old.since);
+      since_is = c.keep.ensures.since ∙ (λ i.
+          unwrap_or (leads (number i) old.phase (behind i)) old.since);
     })
     c.keep.ensures.editor c.keep.ensures.server

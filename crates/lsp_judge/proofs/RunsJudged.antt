@@ -1,0 +1,70 @@
+-- How a run that judges a log ends: with a verdict and all that is due, or with a fault.
+use Rattle.std.proofs.Common.{◌≡◌, ℕ, List, Result, Ok, Err, refl, subst}
+use Rattle.lsp_frame.specs.Bounds.{Bounds, IsInRange}
+use Rattle.lsp_verdict.specs.Given.{verdict_view}
+use Rattle.lsp_verdict.specs.Outcome.{IsVerdict}
+use Rattle.lsp_judge.specs.Ports.{OfInput, OutputFor, Ports}
+use Rattle.lsp_verdict.specs.RunIo.{failures_after, sink_failures_after}
+use Rattle.lsp_judge.specs.Runs.{Judges}
+use Rattle.lsp_verdict.specs.Verdict as spec
+use Rattle.lsp_verdict.specs.declared.outcome.Outcome.{Outcome}
+use Rattle.lsp_verdict.specs.declared.outcome.Outcome.TheVariants.{Judged}
+use Rattle.lsp_verdict.specs.declared.outcome.RunFault.{RunFault}
+use Rattle.lsp_verdict.specs.declared.verdict.Verdict.{Verdict}
+use Rattle.lsp_verdict.specs.declared.verdict.Verdict.TheVariants.{Yes}
+use Rattle.lsp_verdict.proofs.Logs.Ends.{yes_at_end}
+use Rattle.lsp_verdict.proofs.RunReading.{read_map, read_within}
+
+-- this holds of the verdict that is judged
+judged_as : (given v : Verdict) (P : Verdict → Type 0)
+    → (let outcome : Result Outcome RunFault = Ok (Judged given) in outcome) ≡ Ok (Judged v)
+    → P given → P v
+judged_as given v P e p = let same : given ≡ v = cc e in subst P same p
+
+-- the verdict was found, and all that is due was written; of a Yes that is right, a plain Yes is
+pub judges : (limits : Bounds) → IsInRange limits → (io : Ports)
+    (IsRight : List ℕ → spec.Verdict → Type 0) (IsDue : List ℕ → spec.Verdict → List ℕ → Type 0)
+    (Begins : List ℕ → List ℕ → Type 0) (v : Verdict)
+    → OfInput limits io (λ log. IsRight log (verdict_view v))
+    → OutputFor limits io (λ log. IsDue log (verdict_view v))
+    → ((log : List ℕ) (s : spec.Summary) → IsRight log (spec.yes s)
+    → IsVerdict limits log (spec.yes s))
+    → io.source_after.failures ≡ io.source_before.failures
+    → io.sink_after.failures ≡ io.sink_before.failures
+    → Judges limits io IsRight IsDue Begins (Ok (Judged v))
+judges limits sizes io IsRight IsDue Begins v right due plain source sink = record {
+  judged = (v, refl);
+  verdict = λ w e. judged_as v w (λ x. OfInput limits io (λ log. IsRight log (verdict_view x))) e
+      right;
+  written = λ w e. judged_as v w (λ x. OutputFor limits io (λ log. IsDue log (verdict_view x))) e
+      due;
+  ended = λ s e. yes_at_end limits sizes _ _ _ (read_map limits _ _
+      (λ log. IsRight log (verdict_view (Yes s))) _ (λ log. plain log _)
+      (judged_as v (Yes s) (λ x. OfInput limits io (λ log. IsRight log (verdict_view x))) e right));
+  fault = tt;
+  counts = record {
+    source_failures = source;
+    sink_failures = sink;
+    limit = read_within _ _ _ _ right;
+  };
+}
+
+-- a fault ended the run
+pub judged_not : (limits : Bounds) (io : Ports) (IsRight : List ℕ → spec.Verdict → Type 0)
+    (IsDue : List ℕ → spec.Verdict → List ℕ → Type 0) (Begins : List ℕ → List ℕ → Type 0)
+    (fault : RunFault) → OutputFor limits io Begins
+    → io.source_after.failures ≡ failures_after fault io.source_before.failures
+    → io.sink_after.failures ≡ sink_failures_after fault io.sink_before.failures
+    → Judges limits io IsRight IsDue Begins (Err fault)
+judged_not limits io IsRight IsDue Begins fault begun source sink = record {
+  judged = tt;
+  verdict = λ v e. absurd (cc e);
+  written = λ v e. absurd (cc e);
+  ended = λ s e. absurd (cc e);
+  fault = begun;
+  counts = record {
+    source_failures = source;
+    sink_failures = sink;
+    limit = read_within _ _ _ _ begun.2;
+  };
+}

@@ -1,0 +1,75 @@
+-- What `check` answers and writes, whether or not a session has to be complete.
+use Rattle.std.specs.Prelude.{◌≡◌, ◌⊎◌, ℕ, List, Option, Result, Ok, Err, IfOk}
+use Rattle.std.specs.Io.KnownBytes.{IsAtEnd}
+use Rattle.lsp_frame.specs.Bounds.{Bounds}
+use Rattle.lsp_frame.specs.declared.format.Format.{Format}
+use Rattle.lsp_log.specs.declared.fault.LogCode.{LogCode}
+use Rattle.lsp_judge.specs.Answered.{IsClean, IsReportCut}
+use Rattle.lsp_verdict.specs.BroughtToEnd.{IsBroughtToEnd, IsComplete, IsCutShort}
+use Rattle.lsp_verdict.specs.Complete.{IsVerdictBy}
+use Rattle.lsp_verdict.specs.Event.{Event}
+use Rattle.lsp_verdict.specs.Given.{verdict_view}
+use Rattle.lsp_verdict.specs.Headline.{HasFault, Refuses}
+use Rattle.lsp_verdict.specs.Kept.{IsKept}
+use Rattle.lsp_verdict.specs.Outcome.{log_terms}
+use Rattle.lsp_judge.specs.Ports.{CountsFaults, IsOutput, IsSilent, OfInput, Ports}
+use Rattle.lsp_verdict.specs.Report as text
+use Rattle.lsp_verdict.specs.Verdict as spec
+use Rattle.lsp_verdict.specs.declared.completeness.Completeness.{Completeness}
+use Rattle.lsp_verdict.specs.declared.completeness.Completeness.TheVariants.{Ignored, Required}
+use Rattle.lsp_verdict.specs.declared.outcome.Outcome.{Outcome}
+use Rattle.lsp_verdict.specs.declared.outcome.Outcome.TheVariants.{Judged}
+use Rattle.lsp_verdict.specs.declared.outcome.RunFault.{RunFault}
+use Rattle.lsp_verdict.specs.declared.outcome.RunFault.TheVariants.{Memory, Read, Write}
+use Rattle.lsp_verdict.specs.declared.verdict.Summary.{Summary}
+use Rattle.lsp_verdict.specs.declared.verdict.Verdict.{Verdict}
+use Rattle.lsp_verdict.specs.declared.verdict.Verdict.TheVariants.{BadLog, No, Yes}
+use Rattle.lsp_verdict.specs.declared.verdict.Who.{Who}
+
+-- what Yes means: the log is kept, and where it has to be, its session was brought to its end
+abbrev pub YesMeans : Completeness → Bounds → List ℕ → Type 0
+YesMeans Ignored limits log = IsKept limits log
+YesMeans Required limits log = IsComplete limits log
+
+-- what a No names: the first event that offends, and its least rule; or the stream that ends inside
+-- a frame; or, where it has to be complete, what the session of a log that is kept lacks
+abbrev pub NoMeans : Completeness → Bounds → List ℕ → spec.Verdict → Type 0
+NoMeans Ignored limits log v = Refuses limits log v
+NoMeans Required limits log v = Refuses limits log v ⊎ IsCutShort limits log v
+
+-- the session was brought to its end, where it has to be
+abbrev pub EndsAsDue : Completeness → List Event → Type 0
+EndsAsDue Ignored events = Unit {0}
+EndsAsDue Required events = IsBroughtToEnd events
+
+pub record Checked (completeness : Completeness) (limits : Bounds) (io : Ports)
+    (result : Result Outcome RunFault) : Type 0 where
+  -- The answer is the verdict on the log read, however that goes on where its end was not met; its
+  -- report and nothing else is written.
+  pub judged : IfOk result (λ outcome. (v : Verdict) × (outcome ≡ Judged v))
+  pub verdict : (v : Verdict) → result ≡ Ok (Judged v)
+      → OfInput limits io (λ log. IsVerdictBy completeness limits log (verdict_view v))
+  pub report : (v : Verdict) → result ≡ Ok (Judged v)
+      → IsOutput io (text.report (verdict_view v))
+  -- Yes means that the log is kept, and that its end was met.
+  pub yes : (s : Summary) → result ≡ Ok (Judged (Yes s))
+      → OfInput limits io (YesMeans completeness limits)
+  pub ended : (s : Summary) → result ≡ Ok (Judged (Yes s)) → IsAtEnd io.source_after.bytes
+  -- A No names what is wrong first.
+  pub no : (rule number event : ℕ) (who : Who) → result ≡ Ok (Judged (No rule who number event))
+      → OfInput limits io (λ log. NoMeans completeness limits log (spec.no rule who number event))
+  -- A bad log has that fault, and no event before it offends.
+  pub bad_log : (number : ℕ) (code : LogCode) → result ≡ Ok (Judged (BadLog number code))
+      → OfInput limits io (λ log. HasFault limits log number code)
+  -- Yes is answered wherever no event offends, the log has no fault, both streams are complete
+  -- frames, and the session ends as it has to.
+  pub kept : (v : Verdict) → result ≡ Ok (Judged v)
+      → OfInput limits io (λ log. (format : Option Format) (events : List Event)
+      → IsClean limits log format events → EndsAsDue completeness events
+      → verdict_view v ≡ spec.yes (spec.summary (log_terms limits format) events))
+  -- After a read fault or for want of memory nothing is written, after a write fault a prefix.
+  pub read_fault : result ≡ Err Read → IsSilent io
+  pub memory : result ≡ Err Memory → IsSilent io
+  pub write_fault : result ≡ Err Write → IsReportCut completeness limits io.source_before
+      io.source_after io.sink_before io.sink_after
+  pub counts : CountsFaults limits io result

@@ -1,5 +1,0 @@
-pub mod Notes
-pub mod Asking
-pub mod Marking
-pub mod Marks
-pub mod SessionNoting

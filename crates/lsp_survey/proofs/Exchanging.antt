@@ -1,0 +1,168 @@
+-- The requests of one side, with one message more.
+use Rattle.std.specs.Prelude.{◌-◌, drop, length, map, nat_lt, if◌then◌else◌}
+use Rattle.std.specs.List.{cons_option, filter_map}
+use Rattle.std.specs.Map.{lookup}
+use Rattle.std.specs.Option.{option_or}
+use Rattle.std.proofs.Common.{◌≡◌, ℕ, zero, suc, ◌≤◌, ◌<◌, Bool, true, false, cond, List, [], ◌∷◌}
+use Rattle.std.proofs.Common.{◌++◌, Option, Some, None, refl, sym, ap, ◌∙◌, inl, inr, arith}
+use Rattle.std.proofs.lemmas.Bool.{cases_Bool}
+use Rattle.std.proofs.lemmas.Bool.Decides.{nat_tests}
+use Rattle.std.proofs.lemmas.List.{map-append, length-drop, length-map, drop-map}
+use Rattle.lsp_rpc.specs.Ident.{Ident, id_view, same_id}
+use Rattle.lsp_rpc.specs.declared.message.Id.{Id}
+use Rattle.lsp_verdict.specs.Offences.{last_or}
+use Rattle.lsp_survey.specs.Asking.{Reply, most_replies, last_ones, reply_to, last_reply}
+use Rattle.lsp_survey.specs.SessionNoting.{asked_in, given_view, room_in}
+use Rattle.lsp_survey.specs.declared.notes.exchange.Given.{Given}
+
+-- ---- a map by ids
+
+pub lookup_in : (t : Id → Bool) (id : Ident) → ((k : Id) → t k ≡ same_id id (id_view k))
+    → (es : List (Id × ℕ)) → lookup t es ≡ asked_in es id
+lookup_in t id agrees [] = refl
+lookup_in t id agrees (e ∷ es) =
+    elim (cases_Bool (t e.0)) [
+      | inl p ↦ rw (p, sym (agrees e.0) ∙ p) refl
+      | inr p ↦ rw (p, sym (agrees e.0) ∙ p) (lookup_in t id agrees es)
+    ]
+
+-- what the map's own words say of a change
+pub updates_in : (eq : Id → Id → Bool) → ((a b : Id) → eq a b ≡ same_id (id_view a) (id_view b))
+    → (id : Ident) (t : Id → Bool) → ((q : Id) → t q ≡ same_id id (id_view q))
+    → (w : Option ℕ) (old new : List (Id × ℕ))
+    → ((q : Id) → lookup (eq q) new ≡ cond (t q) w (lookup (eq q) old))
+    → (k : Id) → asked_in new (id_view k) ≡ (if same_id id (id_view k) then w else asked_in old
+    (id_view k))
+updates_in eq agrees id t at w old new says k =
+    sym (lookup_in (eq k) (id_view k) (agrees k) new)
+    ∙ says k
+    ∙ ap (λ (b : Bool). cond b w (lookup (eq k) old)) (at k)
+    ∙ ap (λ (o : Option ℕ). cond (same_id id (id_view k)) w o)
+    (lookup_in (eq k) (id_view k) (agrees k) old)
+
+-- ---- the last ones of a list
+
+drop_behind : {A : Type 0} (n : ℕ) (xs : List A) (x : A) → n ≤ length xs
+    → drop n (xs ++ x ∷ []) ≡ drop n xs ++ x ∷ []
+drop_behind zero xs x h = refl
+drop_behind (suc n) [] x h = absurd (omega (arith, h))
+drop_behind (suc n) (y ∷ xs) x h = drop_behind n xs x (omega (arith, h))
+
+drop_more : {A : Type 0} (n : ℕ) (xs : List A) → drop 1 (drop n xs) ≡ drop (suc n) xs
+drop_more zero xs = refl
+drop_more (suc n) [] = refl
+drop_more (suc n) (x ∷ xs) = drop_more n xs
+
+length_behind : {A : Type 0} (xs : List A) (x : A) → length (xs ++ x ∷ []) ≡ suc (length xs)
+length_behind [] x = refl
+length_behind (y ∷ xs) x = ap suc (length_behind xs x)
+
+-- so many as may be, or one less with room for another
+pub last_behind_all : {A : Type 0} (most : ℕ) (xs : List A) (x : A) → 0 < most
+    → last_ones most (xs ++ x ∷ [])
+    ≡ (if nat_lt (length (last_ones most xs)) most then last_ones most xs else drop 1
+    (last_ones most xs)) ++ x ∷ []
+last_behind_all most xs x some =
+    ap (λ (n : ℕ). drop (n - most) (xs ++ x ∷ [])) (length_behind xs x)
+    ∙ elim (cases_Bool (nat_lt (length xs) most)) [
+      | inl p ↦
+          let few : length xs < most = grind (arith, nat_tests) in
+          let none : suc (length xs) - most ≡ 0 = omega (arith, few) in
+          let all : length xs - most ≡ 0 = omega (arith, few) in
+          let short : nat_lt (length (drop (length xs - most) xs)) most ≡ true =
+          ap (λ (n : ℕ). nat_lt (length (drop n xs)) most) all ∙ p in
+          ap (λ (n : ℕ). drop n (xs ++ x ∷ [])) none
+          ∙ sym (ap (λ (n : ℕ). drop n xs ++ x ∷ []) all)
+          ∙ sym (ap (λ (b : Bool). (if b then last_ones most xs else drop 1
+          (last_ones most xs)) ++ x ∷ []) short)
+      | inr p ↦
+          let many : most ≤ length xs = grind (arith, nat_tests) in
+          let next : suc (length xs) - most ≡ suc (length xs - most) = omega (arith, many) in
+          let fits : suc (length xs - most) ≤ length xs = omega (arith, many, some) in
+          let size : length (drop (length xs - most) xs) ≡ most =
+          length-drop (length xs - most) xs
+          ∙ (let back : length xs - (length xs - most) ≡ most = omega (arith, many) in back) in
+          let full : nat_lt (length (drop (length xs - most) xs)) most ≡ false =
+          ap (λ (n : ℕ). nat_lt n most) size ∙ not_less most in
+          ap (λ (n : ℕ). drop n (xs ++ x ∷ [])) next
+          ∙ drop_behind (suc (length xs - most)) xs x fits
+          ∙ sym (ap (λ (l : List _). l ++ x ∷ []) (drop_more (length xs - most) xs))
+          ∙ sym (ap (λ (b : Bool). (if b then last_ones most xs else drop 1
+          (last_ones most xs)) ++ x ∷ []) full)
+    ]
+  where
+    not_less : (n : ℕ) → nat_lt n n ≡ false
+    not_less n = grind (arith, nat_tests)
+
+-- ---- answers
+
+-- one more answer, after what is left of those held
+pub pushed : (old mid new : List Given) (g : Given) (given : List Reply) → mid ≡ room_in old
+    → new ≡ mid ++ g ∷ [] → map given_view old ≡ last_ones most_replies given
+    → map given_view new ≡ last_ones most_replies (given ++ given_view g ∷ [])
+pushed old mid new g given room more are =
+    ap (map given_view) (more ∙ ap (λ (l : List Given). l ++ g ∷ []) room)
+    ∙ map-append given_view (room_in old) (g ∷ [])
+    ∙ ap (λ (l : List Reply). l ++ given_view g ∷ []) (by_test (nat_lt (length old) most_replies))
+    ∙ ap (λ (n : ℕ). (if nat_lt n most_replies then map given_view old else drop 1
+    (map given_view old)) ++ given_view g ∷ []) (sym (length-map old given_view))
+    ∙ ap (λ (l : List Reply). (if nat_lt (length l) most_replies then l else drop 1 l) ++ given_view
+    g ∷ []) are
+    ∙ sym (last_behind_all most_replies given (given_view g) (omega arith))
+  where
+    by_test : (b : Bool) → map given_view (if b then old else drop 1 old)
+        ≡ (if b then map given_view old else drop 1 (map given_view old))
+    by_test true = refl
+    by_test false = sym (drop-map given_view 1 old)
+
+-- each of these is there
+abbrev AllSome : List (Option ℕ) → Type 0
+AllSome [] = Unit {0}
+AllSome (None ∷ os) = ⊥ × AllSome os
+AllSome (Some n ∷ os) = Unit {0} × AllSome os
+
+-- the last answer to a request, in two parts
+pub last_reply-append : (id : Ident) (xs ys : List Reply)
+    → option_or (last_reply id ys) (last_reply id xs) ≡ last_reply id (xs ++ ys)
+last_reply-append id xs ys =
+    sym (ap (last_or None) (append (reply_to id) xs ys)
+    ∙ behind (filter_map (reply_to id) xs) (filter_map (reply_to id) ys) None
+    ∙ parts (filter_map (reply_to id) ys) (last_reply id xs) (all_some ys))
+  where
+    append : (f : Reply → Option (Option ℕ)) (xs ys : List Reply)
+        → filter_map f (xs ++ ys) ≡ filter_map f xs ++ filter_map f ys
+    append f [] ys = refl
+    append f (x ∷ xs) ys = ap (cons_option (f x)) (append f xs ys)
+        ∙ cons (f x) (filter_map f xs) (filter_map f ys)
+      where
+        cons : (o : Option (Option ℕ)) (os ps : List (Option ℕ))
+            → cons_option o (os ++ ps) ≡ cons_option o os ++ ps
+        cons None os ps = refl
+        cons (Some a) os ps = refl
+
+    all_some : (ys : List Reply) → AllSome (filter_map (reply_to id) ys)
+    all_some [] = tt
+    all_some (y ∷ ys) = by_test (same_id id y.id) (all_some ys)
+      where
+        by_test : (b : Bool) → AllSome (filter_map (reply_to id) ys)
+            → AllSome (cons_option (if b then Some (Some y.number) else None)
+            (filter_map (reply_to id) ys))
+        by_test true rest = (tt, rest)
+        by_test false rest = rest
+
+    behind : (os ps : List (Option ℕ)) (none : Option ℕ)
+        → last_or none (os ++ ps) ≡ last_or (last_or none os) ps
+    behind [] ps none = refl
+    behind (a ∷ os) ps none = behind os ps a
+
+    kept : (bs : List (Option ℕ)) (b : ℕ) (o : Option ℕ) → AllSome bs
+        → last_or (Some b) bs ≡ option_or (last_or (Some b) bs) o
+    kept [] b o all = refl
+    kept (None ∷ bs) b o all = absurd all.0
+    kept (Some c ∷ bs) b o all = kept bs c o all.1
+
+    parts : (bs : List (Option ℕ)) (o : Option ℕ) → AllSome bs
+        → last_or o bs ≡ option_or (last_or None bs) o
+    parts [] o all = refl
+    parts (None ∷ bs) o all = absurd all.0
+    parts (Some b ∷ bs) o all = kept bs b o all.1

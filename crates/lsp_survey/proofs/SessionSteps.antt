@@ -1,0 +1,190 @@
+-- What is noted of requests and phases, with one event more.
+use Rattle.std.specs.Prelude.{option_map, option_to_list, unwrap_or, is_some, if◌then◌else◌}
+use Rattle.std.specs.List.{cons_option, filter_map}
+use Rattle.std.proofs.Common.{◌≡◌, ℕ, List, [], ◌∷◌, ◌++◌, Option, Some, None, refl, sym, ap, ◌∙◌}
+use Rattle.std.proofs.Common.{subst, append-nil}
+use Rattle.lsp_docs.specs.Terms.{Terms}
+use Rattle.lsp_rpc.specs.Ident.{Ident, id_view}
+use Rattle.lsp_rpc.specs.Message.{Message, request, notification, response, result, error}
+use Rattle.lsp_rpc.specs.Outline.{outline}
+use Rattle.lsp_session.specs.Handshake.{phase}
+use Rattle.lsp_session.specs.Sent.{Sent, answered_from}
+use Rattle.lsp_types.specs.declared.side.Side.{Side}
+use Rattle.lsp_types.specs.declared.side.Side.TheVariants.{Editor, Server}
+use Rattle.lsp_verdict.specs.Event.{Event, message, sent_in, sent_of}
+use Rattle.lsp_verdict.specs.LookBack.{each_from, each_of}
+use Rattle.lsp_verdict.specs.OffenceLaws.{kept_at}
+use Rattle.lsp_verdict.specs.Offences.{kept_of, last_or, rule_at}
+use Rattle.lsp_verdict.proofs.LookBackLemmas.{each_of-snoc}
+use Rattle.lsp_verdict.proofs.Offences.Offending.{kept_are_others}
+use Rattle.lsp_verdict.proofs.Offences.Steps.{last_behind}
+use Rattle.lsp_survey.specs.Asking.{Numbered, Reply, numbered_as, numbered_by, numbered_at}
+use Rattle.lsp_survey.specs.Asking.{numbered, sents, asks, asks_by, replied, reply_by, replies}
+use Rattle.lsp_survey.specs.Asking.{most_replies, last_ones, leads, leads_by}
+use Rattle.lsp_survey.specs.Marking.{number_next}
+use Rattle.lsp_survey.specs.SessionNoting.{asked_in, Exchanges, IsExchange, SaysOn, SessionStands}
+use Rattle.lsp_survey.specs.SessionNoting.{AreNotes}
+use Rattle.lsp_survey.specs.declared.notes.exchange.Exchange.{Exchange}
+use Rattle.lsp_survey.specs.declared.notes.session_notes.SessionNotes.{SessionNotes}
+use Rattle.lsp_survey.proofs.Marking.{filter_map-snoc}
+
+-- ---- the kept messages
+
+sent_more : (n : ℕ) (rule : Option ℕ) (e : Event) (kept : List Event) (said : List Numbered)
+    → sent_in kept ≡ sents said
+    → sent_in (cons_option (if is_some rule then None else Some e) kept)
+    ≡ sents (cons_option (numbered_by n rule (sent_of e)) said)
+sent_more n (Some rule) e kept said same = same
+sent_more n None e kept said same = by_sent (sent_of e)
+  where
+    by_sent : (o : Option Sent)
+        → cons_option o (sent_in kept) ≡ sents (cons_option (option_map (numbered_as n) o) said)
+    by_sent None = same
+    by_sent (Some m) = ap (λ (ms : List Sent). m ∷ ms) same
+
+sents_from : (terms : Terms) (front xs : List Event)
+    → sent_in (each_from (kept_at terms) front xs) ≡ sents (each_from (numbered_at terms) front xs)
+sents_from terms front [] = refl
+sents_from terms front (e ∷ xs) =
+    sent_more (number_next front) (rule_at terms front e) e
+    (each_from (kept_at terms) (front ++ e ∷ []) xs)
+    (each_from (numbered_at terms) (front ++ e ∷ []) xs) (sents_from terms (front ++ e ∷ []) xs)
+
+-- without their numbers they are those of the events that are kept
+pub sents-numbered : (terms : Terms) (events : List Event)
+    → sents (numbered terms events) ≡ sent_in (kept_of terms events)
+sents-numbered terms events =
+    sym (ap sent_in (kept_are_others terms events) ∙ sents_from terms [] events)
+
+-- ---- what a message says of requests, apart from its params and its result
+
+asks-outline : (side : Side) (id : Ident) (n : ℕ) (sender : Side) (m : Message)
+    → asks side id n sender m ≡ asks side id n sender (outline m)
+asks-outline side id n sender (request own method params) = refl
+asks-outline side id n sender (notification method params) = refl
+asks-outline side id n sender (response own (result value)) = refl
+asks-outline side id n sender (response own (error code)) = refl
+
+answered-outline : (side sender : Side) (m : Message)
+    → answered_from side sender m ≡ answered_from side sender (outline m)
+answered-outline side sender (request own method params) = refl
+answered-outline side sender (notification method params) = refl
+answered-outline side sender (response own (result value)) = refl
+answered-outline side sender (response own (error code)) = refl
+
+-- ---- the requests of one side
+
+as_list : {A : Type 0} (o : Option A) → option_to_list o ≡ cons_option o []
+as_list None = refl
+as_list (Some x) = refl
+
+module _ (side : Side) (n : ℕ) (m : Sent) (said : Message) (same : outline m.message ≡ outline said)
+  where
+    same_asks : (id : Ident) → asks side id n m.side said ≡ asks side id n m.side m.message
+    same_asks id = asks-outline side id n m.side said ∙ sym (ap (asks side id n m.side) same)
+        ∙ sym (asks-outline side id n m.side m.message)
+
+    same_answered : answered_from side m.side said ≡ answered_from side m.side m.message
+    same_answered = answered-outline side m.side said ∙ sym (ap (answered_from side m.side) same)
+        ∙ sym (answered-outline side m.side m.message)
+
+    exchanged : (old new : Exchange) (before : List Numbered) → IsExchange side old before
+        → Exchanges side n m.side said old new
+        → IsExchange side new (before ++ numbered_as n m ∷ [])
+    exchanged old new before is more = record {
+      asked_is = λ k.
+          more.asked k
+          ∙ ap (λ (o : Option (Option ℕ)). unwrap_or o (asked_in old.asked.entries (id_view k)))
+          (same_asks (id_view k))
+          ∙ ap (unwrap_or (asks side (id_view k) n m.side m.message)) (is.asked_is k)
+          ∙ sym (ap (last_or None) (filter_map-snoc (asks_by side (id_view k)) before
+          (numbered_as n m)) ∙ last_behind None (filter_map (asks_by side (id_view k)) before)
+          (asks side (id_view k) n m.side m.message));
+      replies_are =
+          more.replies (replies side before) is.replies_are
+          ∙ ap (λ (o : Option Ident). last_ones most_replies
+          (replies side before ++ option_to_list (option_map (replied n) o))) same_answered
+          ∙ ap (λ (l : List Reply). last_ones most_replies (replies side before ++ l))
+          (as_list (option_map (replied n) (answered_from side m.side m.message)))
+          ∙ ap (last_ones most_replies)
+          (sym (filter_map-snoc (reply_by side) before (numbered_as n m)));
+    }
+
+-- ---- one event more
+
+numbered-push : (terms : Terms) (events : List Event) (e : Event)
+    → numbered terms (events ++ e ∷ [])
+    ≡ numbered terms events ++ cons_option (numbered_at terms events e) []
+numbered-push terms events e = each_of-snoc (numbered_at terms) events e
+
+-- it says nothing
+said_none : (terms : Terms) (s : SessionNotes) (before : List Event) (e : Event)
+    → AreNotes terms s before → numbered_at terms before e ≡ None
+    → AreNotes terms s (before ++ e ∷ [])
+said_none terms s before e are none =
+    subst (SessionStands s) (sym (numbered-push terms before e
+    ∙ ap (λ (o : Option Numbered). numbered terms before ++ cons_option o []) none
+    ∙ append-nil (numbered terms before))) are
+
+-- **an event that offends leaves all notes**
+pub refused_unsaid : (terms : Terms) (s : SessionNotes) (before : List Event) (e : Event) (rule : ℕ)
+    → AreNotes terms s before → rule_at terms before e ≡ Some rule
+    → AreNotes terms s (before ++ e ∷ [])
+refused_unsaid terms s before e rule are is =
+    said_none terms s before e are
+    (ap (λ (o : Option ℕ). numbered_by (number_next before) o (sent_of e)) is)
+
+-- so they stand for those before it
+pub refused_notes : (terms : Terms) (s : SessionNotes) (before : List Event) (e : Event) (rule : ℕ)
+    → AreNotes terms s (before ++ e ∷ []) → rule_at terms before e ≡ Some rule
+    → AreNotes terms s before
+refused_notes terms s before e rule are is =
+    subst (SessionStands s) (numbered-push terms before e
+    ∙ ap (λ (o : Option ℕ). numbered terms before ++ cons_option
+    (numbered_by (number_next before) o (sent_of e)) []) is
+    ∙ append-nil (numbered terms before)) are
+
+-- so does one that is no message
+pub other_unsaid : (terms : Terms) (s : SessionNotes) (before : List Event) (e : Event)
+    → AreNotes terms s before → sent_of e ≡ None → AreNotes terms s (before ++ e ∷ [])
+other_unsaid terms s before e are is =
+    said_none terms s before e are
+    (ap (numbered_by (number_next before) (rule_at terms before e)) is
+    ∙ by_rule (rule_at terms before e))
+  where
+    by_rule : (o : Option ℕ) → numbered_by (number_next before) o None ≡ None
+    by_rule None = refl
+    by_rule (Some rule) = refl
+
+-- **a message that is kept**
+pub message_noted : (terms : Terms) (old new : SessionNotes) (before : List Event) (m : Sent)
+    (said : Message) (n : ℕ) → AreNotes terms old before → rule_at terms before (message m) ≡ None
+    → n ≡ number_next before → outline m.message ≡ outline said
+    → SaysOn n m.side said (phase (sent_in (kept_of terms (before ++ message m ∷ [])))) old new
+    → AreNotes terms new (before ++ message m ∷ [])
+message_noted terms old new before m said n are kept number same says =
+    subst (SessionStands new) (sym whole) (record {
+      editor = exchanged Editor n m said same old.editor new.editor ms are.editor says.editor;
+      server = exchanged Server n m said same old.server new.server ms are.server says.server;
+      phase_is = says.phase_is ∙ behind;
+      since_is =
+          says.since_is
+          ∙ (λ i. unwrap_or (leads n (are.phase_is i) (behind i)) (are.since_is i))
+          ∙ sym (ap (last_or None) (each_of-snoc leads_by ms (numbered_as n m))
+          ∙ last_behind None (each_of leads_by ms) (leads_by ms (numbered_as n m)));
+    })
+  where
+    ms : List Numbered
+    ms = numbered terms before
+
+    whole : numbered terms (before ++ message m ∷ []) ≡ ms ++ numbered_as n m ∷ []
+    whole =
+        numbered-push terms before (message m)
+        ∙ ap (λ (o : Option ℕ). ms ++ cons_option (numbered_by (number_next before) o (Some m)) [])
+        kept
+        ∙ ap (λ (k : ℕ). ms ++ numbered_as k m ∷ []) (sym number)
+
+    behind : phase (sent_in (kept_of terms (before ++ message m ∷ [])))
+        ≡ phase (sents (ms ++ numbered_as n m ∷ []))
+    behind = ap phase (sym (sents-numbered terms (before ++ message m ∷ [])))
+        ∙ ap (λ (l : List Numbered). phase (sents l)) whole

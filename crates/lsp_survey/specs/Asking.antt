@@ -1,0 +1,125 @@
+-- By which events requests were asked and answered, and which event led to the phase of a session.
+use Rattle.std.specs.Prelude.{ℕ, ◌-◌, List, [], ◌∷◌, ◌++◌, map, drop, length, Bool, ◌==◌}
+use Rattle.std.specs.Prelude.{if◌then◌else◌, Option, Some, None, option_map}
+use Rattle.std.specs.List.{filter_map}
+use Rattle.lsp_docs.specs.Terms.{Terms}
+use Rattle.lsp_rpc.specs.Ident.{Ident, same_id}
+use Rattle.lsp_rpc.specs.Message.{Message}
+use Rattle.lsp_session.specs.Handshake.{phase}
+use Rattle.lsp_session.specs.Requests.{names}
+use Rattle.lsp_session.specs.Sent.{Sent, answered_from, request_of, same_side}
+use Rattle.lsp_session.specs.declared.phase.Phase.{Phase}
+use Rattle.lsp_session.specs.declared.phase.Phase.TheVariants.{Fresh, Waiting, Answered, Ready}
+use Rattle.lsp_session.specs.declared.phase.Phase.TheVariants.{Stopping, Exited}
+use Rattle.lsp_types.specs.declared.side.Side.{Side}
+use Rattle.lsp_verdict.specs.Event.{Event, sent_of}
+use Rattle.lsp_verdict.specs.LookBack.{each_of}
+use Rattle.lsp_verdict.specs.Offences.{last_or, rule_at}
+use Rattle.lsp_survey.specs.Marking.{number_next}
+
+-- ---- the kept messages
+
+-- a message, and the number of its event
+pub record Numbered : Type 0 where
+  pub number : ℕ
+  pub sent : Sent
+
+abbrev pub numbered_as : ℕ → Sent → Numbered
+numbered_as n m = record { number = n; sent = m }
+
+-- the message that an event is, where it offends by the rule or is kept
+abbrev pub numbered_by : ℕ → Option ℕ → Option Sent → Option Numbered
+numbered_by n (Some rule) m = None
+numbered_by n None m = option_map (numbered_as n) m
+
+abbrev pub numbered_at : Terms → List Event → Event → Option Numbered
+numbered_at terms before event =
+    numbered_by (number_next before) (rule_at terms before event) (sent_of event)
+
+-- **the messages that are kept**, with the numbers of their events
+abbrev pub numbered : Terms → List Event → List Numbered
+numbered terms events = each_of (numbered_at terms) events
+
+abbrev pub sents : List Numbered → List Sent
+sents said = map (λ (m : Numbered). m.sent) said
+
+-- ---- requests
+
+-- the id of this side's request that a message of the sender is
+abbrev pub asked_id : Side → Side → Message → Option Ident
+asked_id side sender message =
+    if same_side side sender then option_map (λ asked. asked.0) (request_of message) else None
+
+-- what a message, the event of this number, says of this side's request with this id: it asks it,
+-- or answers it
+abbrev pub asks : Side → Ident → ℕ → Side → Message → Option (Option ℕ)
+asks side id n sender message =
+    if names (asked_id side sender message) id then Some (Some n)
+    else (if names (answered_from side sender message) id then Some None else None)
+
+abbrev pub asks_by : Side → Ident → Numbered → Option (Option ℕ)
+asks_by side id m = asks side id m.number m.sent.side m.sent.message
+
+-- **the event that asked this side's open request with this id**
+abbrev pub asked : Side → Ident → List Numbered → Option ℕ
+asked side id said = last_or None (filter_map (asks_by side id) said)
+
+-- ---- answers
+
+-- an answer to a request of this id, by the event of this number
+pub record Reply : Type 0 where
+  pub id : Ident
+  pub number : ℕ
+
+abbrev pub replied : ℕ → Ident → Reply
+replied n id = record { id = id; number = n }
+
+abbrev pub reply_by : Side → Numbered → Option Reply
+reply_by side m = option_map (replied m.number) (answered_from side m.sent.side m.sent.message)
+
+-- the answers to this side's requests
+abbrev pub replies : Side → List Numbered → List Reply
+replies side said = filter_map (reply_by side) said
+
+-- how many of them are looked at
+abbrev pub most_replies : ℕ
+most_replies = 1024
+
+abbrev pub last_ones : {A : Type 0} → ℕ → List A → List A
+last_ones n xs = drop (length xs - n) xs
+
+abbrev pub reply_to : Ident → Reply → Option (Option ℕ)
+reply_to id reply = if same_id id reply.id then Some (Some reply.number) else None
+
+-- the event of the last of these that has this id
+abbrev pub last_reply : Ident → List Reply → Option ℕ
+last_reply id given = last_or None (filter_map (reply_to id) given)
+
+-- **the event that answered this side's request with this id last**, where it is one of the last
+-- answers
+abbrev pub answered : Side → Ident → List Numbered → Option ℕ
+answered side id said = last_reply id (last_ones most_replies (replies side said))
+
+-- ---- the phase
+
+abbrev pub phase_number : Phase → ℕ
+phase_number Fresh = 0
+phase_number Waiting = 1
+phase_number Answered = 2
+phase_number Ready = 3
+phase_number Stopping = 4
+phase_number Exited = 5
+
+abbrev pub same_phase : Phase → Phase → Bool
+same_phase a b = phase_number a == phase_number b
+
+-- the message of this number leads from one phase to the other, where they are two
+abbrev pub leads : ℕ → Phase → Phase → Option (Option ℕ)
+leads n before after = if same_phase before after then None else Some (Some n)
+
+abbrev pub leads_by : List Numbered → Numbered → Option (Option ℕ)
+leads_by before m = leads m.number (phase (sents before)) (phase (sents (before ++ m ∷ [])))
+
+-- **the event that led to the phase**; none where it is that of the start
+abbrev pub since : List Numbered → Option ℕ
+since said = last_or None (each_of leads_by said)

@@ -1,0 +1,75 @@
+-- What the marks of documents say of each URI.
+use Rattle.std.specs.Prelude.{◌≡◌, ℕ, ℤ, int_lt, Bool, false, not, List, [], ◌∷◌, if◌then◌else◌}
+use Rattle.std.specs.Prelude.{Option, Some, None, unwrap_or, String}
+use Rattle.std.specs.Global.{Global}
+use Rattle.std.specs.Map.{lookup}
+use Rattle.std.specs.Ordering.{int_eq}
+use Rattle.std.specs.Str.{bytes_eq}
+use Rattle.std.specs.declared.vec.Vec.{Vec}
+use Rattle.lsp_docs.specs.Calls.{Call, opens, changes, closes, saves, shows}
+use Rattle.lsp_docs.specs.declared.snapshot.Match.{Match}
+use Rattle.lsp_docs.specs.declared.snapshot.Match.TheVariants.{Equal, Waits, Missed}
+use Rattle.lsp_docs.specs.Terms.{Terms}
+use Rattle.lsp_verdict.specs.Event.{Event}
+use Rattle.lsp_survey.specs.ByUri.{held_by}
+use Rattle.lsp_survey.specs.Marking.{Step, touches, closed, Marked, marked, unmarked, stepped}
+use Rattle.lsp_survey.specs.Marking.{steps}
+use Rattle.lsp_survey.specs.declared.notes.mark.Mark.{Mark}
+use Rattle.lsp_survey.specs.declared.notes.mark.Touch.TheVariants.{Reached, Compared, Awaited}
+
+-- the events of the snapshots of a version
+abbrev pub events_in : Option (Vec ℕ Global) → List ℕ
+events_in None = []
+events_in (Some v) = v.items
+
+abbrev pub waiting_in : List (ℤ × Vec ℕ Global) → ℤ → List ℕ
+waiting_in es number = events_in (lookup (int_eq number) es)
+
+abbrev pub mark_view : Mark → Marked
+mark_view m = record {
+  brought = m.brought;
+  agreed = m.agreed;
+  waiting = waiting_in m.waiting.entries;
+}
+
+-- the least version is reached by this one
+abbrev pub is_first_reached : ℤ → List (ℤ × Vec ℕ Global) → Bool
+is_first_reached number [] = false
+is_first_reached number (e ∷ es) = not (int_lt number e.0)
+
+abbrev pub rest_of : List (ℤ × Vec ℕ Global) → List (ℤ × Vec ℕ Global)
+rest_of [] = []
+rest_of (e ∷ es) = es
+
+-- what is marked of this URI
+abbrev pub marked_in : List (String Global × Mark) → List ℕ → Marked
+marked_in es uri = unwrap_or (held_by mark_view es uri) unmarked
+
+-- one more step of the URI, and all others are as they were
+abbrev pub StepsOn : List ℕ → Step → List (String Global × Mark) → List (String Global × Mark)
+    → Type 0
+StepsOn uri step old new =
+    (u : List ℕ) → marked_in new u ≡ (if bytes_eq uri u then stepped step (marked_in old u) else
+    marked_in old u)
+
+-- a message, the event of this number, that says this of a document
+abbrev pub DoneBy : ℕ → Option Call → List (String Global × Mark) → List (String Global × Mark)
+    → Type 0
+DoneBy n None old new = new ≡ old
+DoneBy n (Some (opens uri number text)) old new = StepsOn uri (touches Reached n number) old new
+DoneBy n (Some (changes enc kind uri number edits)) old new =
+    StepsOn uri (touches Reached n number) old new
+DoneBy n (Some (closes uri)) old new = StepsOn uri closed old new
+DoneBy n (Some (saves uri text)) old new = new ≡ old
+DoneBy n (Some (shows uri number text)) old new = ⊥
+
+-- a snapshot of the URI and a version, the event of this number, that is answered so
+abbrev pub ShownBy : ℕ → List ℕ → ℤ → Match → List (String Global × Mark)
+    → List (String Global × Mark) → Type 0
+ShownBy n uri number Equal old new = StepsOn uri (touches Compared n number) old new
+ShownBy n uri number Waits old new = StepsOn uri (touches Awaited n number) old new
+ShownBy n uri number Missed old new = new ≡ old
+
+-- **what is marked of each document is what these events left of it**
+abbrev pub AreMarks : Terms → List (String Global × Mark) → List Event → Type 0
+AreMarks terms es events = (uri : List ℕ) → marked_in es uri ≡ marked (steps terms uri events)

@@ -1,0 +1,71 @@
+-- What is noted of requests and phases, and for which messages it stands.
+use Rattle.std.specs.Prelude.{◌≡◌, ℕ, List, ◌++◌, map, drop, length, nat_lt, if◌then◌else◌, Option}
+use Rattle.std.specs.Prelude.{unwrap_or, option_to_list, option_map}
+use Rattle.std.specs.Map.{lookup}
+use Rattle.lsp_docs.specs.Terms.{Terms}
+use Rattle.lsp_rpc.specs.Ident.{Ident, id_view, same_id}
+use Rattle.lsp_rpc.specs.Message.{Message}
+use Rattle.lsp_rpc.specs.declared.message.Id.{Id}
+use Rattle.lsp_session.specs.Handshake.{phase}
+use Rattle.lsp_session.specs.Sent.{answered_from}
+use Rattle.lsp_session.specs.declared.phase.Phase.{Phase}
+use Rattle.lsp_types.specs.declared.side.Side.{Side}
+use Rattle.lsp_types.specs.declared.side.Side.TheVariants.{Editor, Server}
+use Rattle.lsp_verdict.specs.Event.{Event}
+use Rattle.lsp_survey.specs.Asking.{Numbered, Reply, asks, asked, replies, replied, most_replies}
+use Rattle.lsp_survey.specs.Asking.{last_ones, leads, numbered, sents, since}
+use Rattle.lsp_survey.specs.declared.notes.exchange.Exchange.{Exchange}
+use Rattle.lsp_survey.specs.declared.notes.exchange.Given.{Given}
+use Rattle.lsp_survey.specs.declared.notes.session_notes.SessionNotes.{SessionNotes}
+
+-- ---- the requests of one side
+
+abbrev pub given_view : Given → Reply
+given_view g = record { id = id_view g.id; number = g.event }
+
+-- the event that is held of an id
+abbrev pub asked_in : List (Id × ℕ) → Ident → Option ℕ
+asked_in es id = lookup (λ key. same_id id (id_view key)) es
+
+abbrev pub replies_in : Exchange → List Reply
+replies_in e = map given_view e.replies.items
+
+-- where no more may be held, the oldest is let go
+abbrev pub room_in : List Given → List Given
+room_in items = if nat_lt (length items) most_replies then items else drop 1 items
+
+-- one more message of the sender, the event of this number
+pub record Exchanges (side : Side) (n : ℕ) (sender : Side) (m : Message) (old new : Exchange) : Type
+    0 where
+  pub asked : (k : Id) → asked_in new.asked.entries (id_view k)
+      ≡ unwrap_or (asks side (id_view k) n sender m) (asked_in old.asked.entries (id_view k))
+  pub replies : (given : List Reply) → replies_in old ≡ last_ones most_replies given
+      → replies_in new ≡ last_ones most_replies
+      (given ++ option_to_list (option_map (replied n) (answered_from side sender m)))
+
+-- what is noted of the side's requests is what these messages left of it
+pub record IsExchange (side : Side) (e : Exchange) (said : List Numbered) : Type 0 where
+  pub asked_is : (k : Id) → asked_in e.asked.entries (id_view k) ≡ asked side (id_view k) said
+  pub replies_are : replies_in e ≡ last_ones most_replies (replies side said)
+
+-- ---- a session
+
+-- **the notes stand for these messages**
+pub record SessionStands (s : SessionNotes) (said : List Numbered) : Type 0 where
+  pub editor : IsExchange Editor s.editor said
+  pub server : IsExchange Server s.server said
+  pub phase_is : s.phase ≡ phase (sents said)
+  pub since_is : s.since ≡ since said
+
+-- one more message of the sender, the event of this number, after which the session is in this
+-- phase
+pub record SaysOn (n : ℕ) (sender : Side) (m : Message) (behind : Phase)
+    (old new : SessionNotes) : Type 0 where
+  pub editor : Exchanges Editor n sender m old.editor new.editor
+  pub server : Exchanges Server n sender m old.server new.server
+  pub phase_is : new.phase ≡ behind
+  pub since_is : new.since ≡ unwrap_or (leads n old.phase behind) old.since
+
+-- **they stand for the kept messages of these events**
+abbrev pub AreNotes : Terms → SessionNotes → List Event → Type 0
+AreNotes terms s events = SessionStands s (numbered terms events)

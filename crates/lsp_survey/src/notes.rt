@@ -1,0 +1,25 @@
+//! What is noted of the events of a session, in addition to what session and documents hold. No
+//! event is judged here, and no log is read.
+//!
+//! [`Notes`] says which documents are lost: an offence left the held text another than the
+//! sender's. [`Marks`] says which events left a document as it is, and [`SessionNotes`] by which
+//! events requests were asked and answered, and which led to the phase. Of an offence,
+//! [`wants_handshake`] and [`wants_text`] say whether it may follow from an earlier one, and
+//! [`breaks_handshake`] whether it leaves the handshake lost.
+
+mod asks;
+mod exchange;
+mod mark;
+mod marks;
+mod note;
+mod rules;
+mod said;
+mod session_notes;
+
+pub(crate) use asks::{asks_again, asks_handshake};
+pub use mark::Shown;
+pub use marks::Marks;
+pub(crate) use note::{Note, Notes};
+pub(crate) use rules::{breaks_handshake, wants_handshake, wants_text};
+pub(crate) use said::{is_on_lost, note_kept_act, note_refused, note_refused_act};
+pub use session_notes::SessionNotes;

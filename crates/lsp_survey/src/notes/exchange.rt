@@ -1,0 +1,136 @@
+//! By which events the requests of one side were asked and answered.
+ghost use Rattle.std.specs.Prelude.{◌≡◌, ◌++◌, ◌∷◌, [], List, None, Some, OnOk, map, if◌then◌else◌};
+ghost use Rattle.lsp_rpc.specs.Ident.{id_view, same_id};
+ghost use Rattle.lsp_rpc.specs.declared.message.Id.{Id as AnId};
+ghost use Rattle.lsp_survey.specs.Asking.{Reply, last_ones, last_reply, most_replies, replied};
+ghost use Rattle.lsp_survey.specs.SessionNoting.{asked_in, given_view, replies_in, room_in};
+
+use indexmap::IndexMap;
+use lsp_rpc::{Id, Memory, copy_id, same_id};
+use std::alloc::Global;
+use std::collections::VecDeque;
+
+/// How many answers are held at most.
+const MOST_REPLIES: usize = 1024;
+
+/// An answer that was given: the id of its request, and the number of its event.
+#[derive(Drop)]
+pub(crate) struct Given {
+    id: Id,
+    event: u64,
+}
+
+/// The requests of one side: the events of those that are open, and of the last answers.
+#[derive(Drop)]
+pub(crate) struct Exchange {
+    asked: IndexMap<Id, u64>,
+    replies: VecDeque<Given>,
+}
+
+impl Exchange {
+    /// Nothing was asked.
+    pub(crate) fn new(alloc: Global) -> Exchange
+        ensures asked { (k : AnId) → asked_in result.asked.entries (id_view k) ≡ None }
+        ensures replies { replies_in result ≡ [] }
+    {
+        Exchange {
+            asked: IndexMap::new(alloc),
+            replies: VecDeque::new(alloc),
+        }
+    }
+
+    /// The event that asked the open request with this id.
+    pub(crate) fn asked(&self, id: &Id) -> Option<u64>
+        ensures { result ≡ asked_in self.now.asked.entries (id_view id.now) }
+    {
+        self.asked.get(id).copied()
+    }
+
+    /// The event of the last answer that is held to a request with this id.
+    pub(crate) fn answered(&self, id: &Id) -> Option<u64>
+        ensures { result ≡ last_reply (id_view id.now) (replies_in self.now) }
+    {
+        let (first, second) = self.replies.as_slices();
+        last_in(second, id).or(last_in(first, id))
+    }
+
+    /// The event of this number asks a request.
+    pub(crate) fn ask(&mut self, id: &Id, event: u64) -> Result<(), Memory>
+        ensures asked { OnOk result ((k : AnId) → asked_in self.new.asked.entries (id_view k)
+            ≡ (if same_id (id_view id.now)
+            (id_view k) then Some event else asked_in self.old.asked.entries (id_view k))) }
+        ensures replies { self.new.replies ≡ self.old.replies }
+    {
+        put(&mut self.asked, id, event)
+    }
+
+    /// The event of this number answers a request.
+    pub(crate) fn answer(&mut self, id: &Id, event: u64) -> Result<(), Memory>
+        ensures asked { (k : AnId) → asked_in self.new.asked.entries (id_view k)
+            ≡ (if same_id (id_view id.now)
+            (id_view k) then None else asked_in self.old.asked.entries (id_view k)) }
+        ensures replies { OnOk result ((given : List Reply)
+            → replies_in self.old ≡ last_ones most_replies given
+            → replies_in self.new ≡ last_ones most_replies (given
+            ++ replied event (id_view id.now) ∷ [])) }
+    {
+        forget(&mut self.asked, id);
+        push(&mut self.replies, id, event)
+    }
+}
+
+/// Puts the event of a request.
+fn put(asked: &mut IndexMap<Id, u64>, id: &Id, event: u64) -> Result<(), Memory>
+    ensures { OnOk result ((k : AnId) → asked_in asked.new.entries (id_view k)
+        ≡ (if same_id (id_view id.now) (id_view k) then Some event else asked_in asked.old.entries
+        (id_view k))) }
+{
+    let key = copy_id(id)?;
+    asked.insert(key, event)?;
+    Ok(())
+}
+
+/// Takes the event of a request away.
+fn forget(asked: &mut IndexMap<Id, u64>, id: &Id)
+    ensures { (k : AnId) → asked_in asked.new.entries (id_view k)
+        ≡ (if same_id (id_view id.now) (id_view k) then None else asked_in asked.old.entries
+        (id_view k)) }
+{
+    let _ = asked.swap_remove(id);
+}
+
+/// Adds an answer after the others, of which the last ones stay.
+fn push(replies: &mut VecDeque<Given>, id: &Id, event: u64) -> Result<(), Memory>
+    ensures { OnOk result ((given : List Reply)
+        → map given_view replies.old.items ≡ last_ones most_replies given
+        → map given_view replies.new.items
+        ≡ last_ones most_replies (given ++ replied event (id_view id.now) ∷ [])) }
+{
+    let id = copy_id(id)?;
+    make_room(replies);
+    replies.push_back(Given { id, event })?;
+    Ok(())
+}
+
+/// Drops the oldest answer where no more are held.
+fn make_room(replies: &mut VecDeque<Given>)
+    ensures { replies.new.items ≡ room_in replies.old.items }
+{
+    if replies.len() < MOST_REPLIES {
+        return;
+    }
+    let _ = replies.pop_front();
+}
+
+/// The event of the last of these answers to a request with this id.
+fn last_in(replies: &[Given], id: &Id) -> Option<u64>
+    ensures { result ≡ last_reply (id_view id.now) (map given_view replies.now) }
+{
+    let mut last = None;
+    for given in replies {
+        if same_id(id, &given.id) {
+            last = Some(given.event);
+        }
+    }
+    last
+}

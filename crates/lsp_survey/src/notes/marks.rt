@@ -1,0 +1,159 @@
+//! The marks of documents, by URI.
+ghost use Rattle.std.specs.Prelude.{◌≡◌, [], List, OnOk};
+ghost use Rattle.lsp_docs.specs.Terms.{Terms};
+ghost use Rattle.lsp_rpc.specs.View.{act_view};
+ghost use Rattle.lsp_types.specs.declared.change.SyncKind.{SyncKind};
+ghost use Rattle.lsp_types.specs.declared.position.Encoding.{Encoding};
+ghost use Rattle.lsp_verdict.specs.Calls.{call_of};
+ghost use Rattle.lsp_verdict.specs.Event.{Event};
+ghost use Rattle.lsp_survey.specs.Marking.{agreed, brought, closed, steps, touches, unmarked};
+ghost use Rattle.lsp_survey.specs.Marking.{waiting_for};
+ghost use Rattle.lsp_survey.specs.Marks.{AreMarks, DoneBy, ShownBy, StepsOn, marked_in};
+
+use crate::notes::mark::{Mark, Shown, Touch};
+use indexmap::IndexMap;
+use lsp_docs::Match;
+use lsp_rpc::{Act, Memory};
+use std::alloc::Global;
+
+type MarkMap = IndexMap<String, Mark>;
+
+/// Which events left the documents as they are, by URI: which one brought the held version, which
+/// equal snapshot has the greatest version, and which snapshots wait for a version.
+///
+/// It stands for the events of a session of which those that offend are passed over. A document of
+/// which nothing is marked has no entry.
+#[derive(Drop)]
+pub struct Marks {
+    map: MarkMap,
+}
+
+impl Marks {
+    /// Nothing is marked.
+    pub(crate) fn new(alloc: Global) -> Marks
+        ensures { (terms : Terms) → AreMarks terms result.map.entries [] }
+    {
+        Marks {
+            map: IndexMap::new(alloc),
+        }
+    }
+
+    /// The number of the event that brought the held version of a URI, from 1; none where it isn't
+    /// open.
+    pub fn brought(&self, uri: &str) -> Option<u64>
+        ensures { (terms : Terms) (events : List Event) → AreMarks terms self.now.map.entries events
+            → result ≡ brought (steps terms uri.now events) }
+    {
+        match self.map.get(uri) {
+            Some(mark) => mark.brought(),
+            None => None,
+        }
+    }
+
+    /// Of the snapshots that were found equal in the standing opening of a URI, that of the
+    /// greatest version, the last of several; none where none was.
+    pub fn agreed(&self, uri: &str) -> Option<Shown>
+        ensures { (terms : Terms) (events : List Event) → AreMarks terms self.now.map.entries events
+            → result ≡ agreed (steps terms uri.now events) }
+    {
+        match self.map.get(uri) {
+            Some(mark) => mark.agreed(),
+            None => None,
+        }
+    }
+
+    /// The numbers of the events of the snapshots of a URI that wait for this version, in order.
+    pub fn waiting(&self, uri: &str, version: i32) -> &[u64]
+        ensures { (terms : Terms) (events : List Event) → AreMarks terms self.now.map.entries events
+            → result.now ≡ waiting_for version (steps terms uri.now events) }
+    {
+        match self.map.get(uri) {
+            Some(mark) => mark.waiting(version),
+            None => &[],
+        }
+    }
+
+    /// Marks what a message that is kept, the event of this number, does to a document.
+    ///
+    /// # Errors
+    /// `Memory` where memory was refused; nothing is then known of the marks.
+    pub(crate) fn keep_act(&mut self, event: u64, act: &Act) -> Result<(), Memory>
+        ensures { OnOk result ((enc : Encoding) (kind : SyncKind)
+            → DoneBy event (call_of enc kind
+            (act_view act.now)) self.old.map.entries self.new.map.entries) }
+    {
+        match act {
+            Act::DidOpen { uri, version, .. } => {
+                touch(&mut self.map, uri.as_str(), Touch::Reached, event, *version)
+            }
+            Act::DidChange { uri, version, .. } => {
+                touch(&mut self.map, uri.as_str(), Touch::Reached, event, *version)
+            }
+            Act::DidClose { uri } => {
+                close(&mut self.map, uri.as_str());
+                Ok(())
+            }
+            _ => Ok(()),
+        }
+    }
+
+    /// Marks a snapshot that is kept, the event of this number, as it was answered.
+    ///
+    /// # Errors
+    /// `Memory` where memory was refused; nothing is then known of the marks.
+    pub(crate) fn keep_snapshot(
+        &mut self,
+        event: u64,
+        uri: &str,
+        version: i32,
+        answer: Match,
+    ) -> Result<(), Memory>
+        ensures { OnOk result (ShownBy event uri.now version answer self.old.map.entries
+            self.new.map.entries) }
+    {
+        match answer {
+            Match::Equal => touch(&mut self.map, uri, Touch::Compared, event, version),
+            Match::Waits => touch(&mut self.map, uri, Touch::Awaited, event, version),
+            Match::Missed => Ok(()),
+        }
+    }
+}
+
+/// Marks that the event of this number touches a document, at this version.
+fn touch(map: &mut MarkMap, uri: &str, touch: Touch, event: u64, version: i32) -> Result<(), Memory>
+    ensures { OnOk result (StepsOn uri.now
+        (touches touch event version) map.old.entries map.new.entries) }
+{
+    let alloc = *map.allocator();
+    let Some(mark) = map.get_mut(uri) else {
+        return touch_first(map, uri, touch, event, version);
+    };
+    mark.touch(alloc, touch, event, version)
+}
+
+/// Marks the same of a document of which nothing is marked.
+fn touch_first(
+    map: &mut MarkMap,
+    uri: &str,
+    touch: Touch,
+    event: u64,
+    version: i32,
+) -> Result<(), Memory>
+    requires { marked_in map.old.entries uri.now ≡ unmarked }
+    ensures { OnOk result (StepsOn uri.now
+        (touches touch event version) map.old.entries map.new.entries) }
+{
+    let alloc = *map.allocator();
+    let mut mark = Mark::new(alloc);
+    mark.touch(alloc, touch, event, version)?;
+    let key = String::from_str(alloc, uri)?;
+    map.insert(key, mark)?;
+    Ok(())
+}
+
+/// Takes away what is marked of a document.
+fn close(map: &mut MarkMap, uri: &str)
+    ensures { StepsOn uri.now closed map.old.entries map.new.entries }
+{
+    let _ = map.swap_remove(uri);
+}

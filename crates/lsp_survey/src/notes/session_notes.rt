@@ -1,0 +1,131 @@
+//! By which events requests were asked and answered, and which event led to the phase.
+ghost use Rattle.std.specs.Prelude.{◌≡◌, [], List, OnOk, unwrap_or};
+ghost use Rattle.lsp_docs.specs.Terms.{Terms};
+ghost use Rattle.lsp_rpc.specs.Ident.{id_view};
+ghost use Rattle.lsp_rpc.specs.View.{message_view};
+ghost use Rattle.lsp_verdict.specs.Event.{Event};
+ghost use Rattle.lsp_survey.specs.Asking.{answered, asked, leads, numbered, same_phase, since};
+ghost use Rattle.lsp_survey.specs.SessionNoting.{AreNotes, Exchanges};
+
+use crate::notes::exchange::Exchange;
+use lsp_rpc::{Id, Memory, Message, Side};
+use lsp_session::Phase;
+use std::alloc::Global;
+
+/// By which events the requests of both sides were asked and answered, and which one led to the
+/// phase of the session. Of the answers to a side's requests the last 1,024 are held.
+///
+/// It stands for the events of a session of which those that offend are passed over.
+#[derive(Drop)]
+pub struct SessionNotes {
+    editor: Exchange,
+    server: Exchange,
+    phase: Phase,
+    since: Option<u64>,
+}
+
+impl SessionNotes {
+    /// Nothing was said.
+    pub(crate) fn new(alloc: Global) -> SessionNotes
+        ensures { (terms : Terms) → AreNotes terms result [] }
+    {
+        SessionNotes {
+            editor: Exchange::new(alloc),
+            server: Exchange::new(alloc),
+            phase: Phase::Fresh,
+            since: None,
+        }
+    }
+
+    /// The number of the event that asked the open request of this side with this id, from 1.
+    pub fn asked(&self, side: Side, id: &Id) -> Option<u64>
+        ensures { (terms : Terms) (events : List Event) → AreNotes terms self.now events
+            → result ≡ asked side (id_view id.now) (numbered terms events) }
+    {
+        match side {
+            Side::Editor => self.editor.asked(id),
+            Side::Server => self.server.asked(id),
+        }
+    }
+
+    /// The number of the event that answered a request of this side with this id last, from 1,
+    /// where it is among the last 1,024 answers to requests of this side.
+    pub fn answered(&self, side: Side, id: &Id) -> Option<u64>
+        ensures { (terms : Terms) (events : List Event) → AreNotes terms self.now events
+            → result ≡ answered side (id_view id.now) (numbered terms events) }
+    {
+        match side {
+            Side::Editor => self.editor.answered(id),
+            Side::Server => self.server.answered(id),
+        }
+    }
+
+    /// The number of the event that led to the phase of the session, from 1; none where it is that
+    /// of the start.
+    pub fn since(&self) -> Option<u64>
+        ensures { (terms : Terms) (events : List Event) → AreNotes terms self.now events
+            → result ≡ since (numbered terms events) }
+    {
+        self.since
+    }
+
+    /// Notes a message that is kept, the event of this number, after which the session is in this
+    /// phase.
+    ///
+    /// # Errors
+    /// `Memory` where memory was refused; nothing is then known of the requests.
+    pub(crate) fn keep(
+        &mut self,
+        event: u64,
+        side: Side,
+        message: &Message,
+        phase: Phase,
+    ) -> Result<(), Memory>
+        ensures editor { OnOk result
+            (Exchanges Side.Editor event side
+            (message_view message.now) self.old.editor self.new.editor) }
+        ensures server { OnOk result
+            (Exchanges Side.Server event side
+            (message_view message.now) self.old.server self.new.server) }
+        ensures phase { self.new.phase ≡ phase }
+        ensures since { self.new.since
+            ≡ unwrap_or (leads event self.old.phase phase) self.old.since }
+    {
+        if !is_same(self.phase, phase) {
+            self.since = Some(event);
+        }
+        self.phase = phase;
+        self.exchange(event, side, message)
+    }
+
+    /// Notes what a message asks or answers.
+    fn exchange(&mut self, event: u64, side: Side, message: &Message) -> Result<(), Memory>
+        ensures editor { OnOk result
+            (Exchanges Side.Editor event side
+            (message_view message.now) self.old.editor self.new.editor) }
+        ensures server { OnOk result
+            (Exchanges Side.Server event side
+            (message_view message.now) self.old.server self.new.server) }
+        ensures phase { self.new.phase ≡ self.old.phase }
+        ensures since { self.new.since ≡ self.old.since }
+    {
+        match message {
+            Message::Request { id, .. } => match side {
+                Side::Editor => self.editor.ask(id, event),
+                Side::Server => self.server.ask(id, event),
+            },
+            Message::Response { id: Some(id), .. } => match side {
+                Side::Editor => self.server.answer(id, event),
+                Side::Server => self.editor.answer(id, event),
+            },
+            _ => Ok(()),
+        }
+    }
+}
+
+/// Whether two phases are the same.
+fn is_same(one: Phase, other: Phase) -> bool
+    ensures { result ≡ same_phase one other }
+{
+    one == other
+}
