@@ -1,6 +1,7 @@
 //! What an input seems to be that is not what the command reads.
 ghost use Rattle.std.specs.Prelude.{◌≡◌};
-ghost use Rattle.lsp_command.specs.Hints.{begins, has_line_ends, is_compressed, is_stream, log_hint, run_hint, session_hint, hint_of};
+ghost use Rattle.lsp_command.specs.Hints.{begins, has_line_ends, is_compressed, is_stream};
+ghost use Rattle.lsp_command.specs.Hints.{log_hint, run_hint, session_hint, hint_of};
 
 use crate::task_outcome::TaskOutcome;
 use lsp_judge::{EventOutcome, Outcome, RunFault, Verdict};

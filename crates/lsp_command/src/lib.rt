@@ -1,10 +1,10 @@
 //! From what the words of the command line ask for to a run, and from how the run ended to a status
 //! and to what is said of it on standard error.
 //!
-//! `request_of` of `lsp_words`, given on here, reads the words, `run_task` does what they ask for over
-//! any source and sink, and `run_through` does it over a file or standard input and into standard
-//! output. `status_of_task` is the table of statuses, `remark_of`, `report_apart` and `hint_of` are
-//! what a user reads on standard error.
+//! `request_of` of `lsp_words`, given on here, reads the words, `run_task` does what they ask for
+//! over any source and sink, and `run_through` does it over a file or standard input and into
+//! standard output. `status_of_task` is the table of statuses, `remark_of`, `report_apart` and
+//! `hint_of` are what a user reads on standard error.
 #![tactic(auto)]
 
 mod beginning;

@@ -28,9 +28,12 @@ impl<W: Write + Drop> Outlet<W> {
 
     /// A sink that has not failed, and holds no bytes back.
     pub fn new(alloc: Global, writer: W) -> Result<Outlet<W>, AllocError>
-        ensures taken { IfOk result (λ outlet. Appends (W.contents writer) (⟦<Outlet<W> as Sink>⟧.told outlet).bytes []) }
+        ensures taken { IfOk result
+            (λ outlet. Appends (W.contents writer)
+            (⟦<Outlet<W> as Sink>⟧.told outlet).bytes []) }
         ensures empty { IfOk result (λ outlet. unwritten outlet ≡ []) }
-        ensures failures { IfOk result (λ outlet. (⟦<Outlet<W> as Sink>⟧.told outlet).failures ≡ 0) }
+        ensures failures { IfOk result
+            (λ outlet. (⟦<Outlet<W> as Sink>⟧.told outlet).failures ≡ 0) }
     {
         Ok(Outlet {
             writer: BufWriter::with_capacity(alloc, GATHERED, writer).map_err(|_| AllocError)?,
@@ -41,12 +44,15 @@ impl<W: Write + Drop> Outlet<W> {
     /// Writes what was gathered.
     ///
     /// # Errors
-    /// `Failed` where the writer failed, or took none of some bytes. What it did not take stays gathered,
+    /// `Failed` where the writer failed, or took none of some bytes. What it did not take stays
+    /// gathered,
     /// and is written by the next flush.
     pub fn flush(&mut self) -> Result<(), Failed>
         ensures whole { OnOk result (unwritten self.new ≡ []) }
-        ensures bytes { KeepsBytes (⟦<Outlet<W> as Sink>⟧.told self.old) (⟦<Outlet<W> as Sink>⟧.told self.new) }
-        ensures failures { CountsFailure (⟦<Outlet<W> as Sink>⟧.told self.old).failures (⟦<Outlet<W> as Sink>⟧.told self.new).failures result }
+        ensures bytes { KeepsBytes (⟦<Outlet<W> as Sink>⟧.told self.old)
+            (⟦<Outlet<W> as Sink>⟧.told self.new) }
+        ensures failures { CountsFailure (⟦<Outlet<W> as Sink>⟧.told self.old).failures
+            (⟦<Outlet<W> as Sink>⟧.told self.new).failures result }
     {
         let answer = self.writer.flush();
         self.tally.heed(answer)
@@ -61,11 +67,12 @@ impl<W: Write + Drop> Outlet<W> {
     }
 }
 
-/// The answer of a writer that answered so to this many bytes, where taking none of some bytes is an
-/// error.
+/// The answer of a writer that answered so to this many bytes, where taking none of some bytes is
+/// an error.
 fn taken(answer: io::Result<usize>, len: usize) -> io::Result<usize>
     ensures some { IfOk answer (λ n. (0 < n) ⊎ (len ≡ 0) → result ≡ Ok n) }
-    ensures none { IfOk answer (λ n. n ≡ 0 → 0 < len → IsErrAnd result (λ error. error_kind error ≡ WriteZero)) }
+    ensures none { IfOk answer
+        (λ n. n ≡ 0 → 0 < len → IsErrAnd result (λ error. error_kind error ≡ WriteZero)) }
     ensures err { IfErr answer (λ error. result ≡ Err error) }
 {
     match answer {
@@ -81,8 +88,8 @@ impl<W: Write + Drop> Sink for Outlet<W> {
       failures = s.tally.failures;
     } };
 
-    /// Takes bytes as the trait says. It fails where the writer does, or takes none of some bytes; the
-    /// writer is called only where the bytes don't fit behind those that were gathered.
+    /// Takes bytes as the trait says. It fails where the writer does, or takes none of some bytes;
+    /// the writer is called only where the bytes don't fit behind those that were gathered.
     fn put(&mut self, bytes: &[u8]) -> Result<usize, Failed> {
         let answer = taken(self.writer.write(bytes), bytes.len());
         self.tally.count(answer)

@@ -26,8 +26,8 @@ pub fn remark_of(ended: &Result<TaskOutcome, RunFault>) -> Option<&'static str>
 }
 
 /// The report of a fault, where it is not part of what the task writes: `text`, `event`, `normal`,
-/// `upgrade` and `frames --as canonical` write what was asked for and nothing else. Yes is no fault of a
-/// log that was upgraded.
+/// `upgrade` and `frames --as canonical` write what was asked for and nothing else. Yes is no fault
+/// of a log that was upgraded.
 ///
 /// # Errors
 /// `Memory` where memory was refused, and nothing else.
@@ -36,7 +36,9 @@ pub fn report_apart(
     task: Task<'_>,
     outcome: &TaskOutcome,
 ) -> Result<Option<String>, RunFault>
-    ensures report { IfOk result (λ written. option_map (λ report. string_bytes report) written ≡ report_apart task.entry outcome.now) }
+    ensures report { IfOk result
+        (λ written. option_map (λ report. string_bytes report) written
+        ≡ report_apart task.entry outcome.now) }
     ensures fault { IfErr result (λ fault. fault ≡ faults.Memory) }
 {
     match outcome {
@@ -58,7 +60,9 @@ fn run_report_apart(
     task: Task<'_>,
     outcome: &Outcome,
 ) -> Result<Option<String>, RunFault>
-    ensures report { IfOk result (λ written. option_map (λ report. string_bytes report) written ≡ run_report_apart task.entry outcome.now) }
+    ensures report { IfOk result
+        (λ written. option_map (λ report. string_bytes report) written
+        ≡ run_report_apart task.entry outcome.now) }
     ensures fault { IfErr result (λ fault. fault ≡ faults.Memory) }
 {
     match (outcome, task) {

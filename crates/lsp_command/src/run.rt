@@ -33,8 +33,10 @@ pub fn run_task<R: Source, W: Sink>(
       sink_before = W.told sink.old;
       sink_after = W.told sink.new;
     }) result }
-    ensures source_failures { (R.told source.new).failures ≡ source_failures result (R.told source.old).failures }
-    ensures sink_failures { (W.told sink.new).failures ≡ sink_failures result (W.told sink.old).failures }
+    ensures source_failures { (R.told source.new).failures
+        ≡ source_failures result (R.told source.old).failures }
+    ensures sink_failures { (W.told sink.new).failures
+        ≡ sink_failures result (W.told sink.old).failures }
 {
     match task {
         Task::Check(Completeness::Ignored) => of_run(run_check(alloc, source, sink, limits)),

@@ -1,6 +1,7 @@
 //! The status that the program ends with.
 ghost use Rattle.std.specs.Prelude.{◌≡◌};
-ghost use Rattle.lsp_command.specs.Status.{status_of, status_of_event, status_of_fault, status_of_outcome, status_of_task, status_of_words};
+ghost use Rattle.lsp_command.specs.Status.{status_of, status_of_event, status_of_fault};
+ghost use Rattle.lsp_command.specs.Status.{status_of_outcome, status_of_task, status_of_words};
 
 use crate::task_outcome::TaskOutcome;
 use clap::error::ErrorKind;

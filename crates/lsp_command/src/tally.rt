@@ -1,5 +1,6 @@
 //! What came of the calls of a reader or a writer.
-ghost use Rattle.std.specs.Prelude.{◌≡◌, ◌<◌, ◌↔◌, Ok, Some, IfOk, IfErr, OnOk, OnErr, IsErr, IsSome};
+ghost use Rattle.std.specs.Prelude.{◌≡◌, ◌<◌, ◌↔◌, Ok, Some, IfOk, IfErr, OnOk, OnErr, IsErr};
+ghost use Rattle.std.specs.Prelude.{IsSome};
 ghost use Rattle.lsp_frame.specs.Told.{CountsFailure, Raises};
 
 use lsp_frame::Failed;
@@ -36,7 +37,8 @@ impl Tally {
         self.cause
     }
 
-    /// Takes note of a call that was answered so, and answers the same: it fails where the call did.
+    /// Takes note of a call that was answered so, and answers the same: it fails where the call
+    /// did.
     pub(crate) fn heed<T>(&mut self, answer: io::Result<T>) -> Result<T, Failed>
         ensures ok { IfOk answer (λ value. result ≡ Ok value) }
         ensures err { OnErr answer (IsErr result) }
@@ -55,7 +57,8 @@ impl Tally {
         }
     }
 
-    /// Takes note of a call that moved bytes or failed, and answers the same: it fails where the call did.
+    /// Takes note of a call that moved bytes or failed, and answers the same: it fails where the
+    /// call did.
     pub(crate) fn count(&mut self, answer: io::Result<usize>) -> Result<usize, Failed>
         ensures ok { IfOk answer (λ n. result ≡ Ok n) }
         ensures err { OnErr answer (IsErr result) }

@@ -1,5 +1,6 @@
 //! The events of a session, heard one after another.
-ghost use Rattle.std.specs.Prelude.{◌≡◌, ◌++◌, ◌∷◌, [], ℕ, List, None, Some, option_and_then, IfSome, IfOk, IfErr, OnOk, OnErr, map};
+ghost use Rattle.std.specs.Prelude.{◌≡◌, ◌++◌, ◌∷◌, [], ℕ, List, None, Some, option_and_then};
+ghost use Rattle.std.specs.Prelude.{IfSome, IfOk, IfErr, OnOk, OnErr, map};
 ghost use Rattle.std.specs.List.{cons_option};
 ghost use Rattle.lsp_rpc.specs.View.{act_view, changes_view, message_view};
 ghost use Rattle.lsp_rpc.specs.Message.{Message as SpecMessage};
@@ -27,8 +28,8 @@ use std::alloc::Global;
 
 /// What the events heard so far have come to, none of which offends behind those before it.
 ///
-/// It stands for these events: the session for their messages, the documents for their calls, and the
-/// counts for how many they were, as far as each was counted.
+/// It stands for these events: the session for their messages, the documents for their calls, and
+/// the counts for how many they were, as far as each was counted.
 #[derive(Drop)]
 pub struct Events<S: TextStore> {
     pub session: Session,
@@ -61,23 +62,28 @@ impl<S: TextStore> Events<S> {
         self.docs.pack();
     }
 
-    /// Hears a content of a side: the message that it is, but for its params and the value of a result
-    /// that nothing reads, and what that means; unless it breaks a rule behind the events heard. The
-    /// event is not counted: that is for the caller.
+    /// Hears a content of a side: the message that it is, but for its params and the value of a
+    /// result that nothing reads, and what that means; unless it breaks a rule behind the events
+    /// heard. The event is not counted: that is for the caller.
     ///
     /// # Errors
-    /// `Content` by the least of the rules 201 to 209 that the content breaks, else `Message` by the
+    /// `Content` by the least of the rules 201 to 209 that the content breaks, else `Message` by
+    /// the
     /// least of 301 to 702 that the message offends; `Memory` where memory was refused, in place of
     /// whatever would be answered.
     pub fn hear(&mut self, alloc: Global, side: Side, content: &[u8]) -> Result<Spoken, Refused>
         ensures terms { self.new.docs.terms ≡ self.old.docs.terms }
         ensures counts { self.new.counts ≡ self.old.counts }
-        ensures ok { IfOk result (λ spoken. (events : List Event) → Holds self.old.session self.old.docs events
-            → Hears side content.now (message_view spoken.message) (act_view spoken.act) self.old.docs.terms self.new.session self.new.docs events) }
-        ensures refused { IfErr result (λ refused. (events : List Event) → Holds self.old.session self.old.docs events
+        ensures ok { IfOk result
+            (λ spoken. (events : List Event) → Holds self.old.session self.old.docs events
+            → Hears side content.now (message_view spoken.message)
+            (act_view spoken.act) self.old.docs.terms self.new.session self.new.docs events) }
+        ensures refused { IfErr result
+            (λ refused. (events : List Event) → Holds self.old.session self.old.docs events
             → Refuses side content.now self.old.docs.terms events refused) }
         // What is refused leaves what is held.
-        ensures unchanged { OnErr result ((events : List Event) → Holds self.old.session self.old.docs events
+        ensures unchanged { OnErr result ((events : List Event)
+            → Holds self.old.session self.old.docs events
             → Holds self.new.session self.new.docs events) }
     {
         let spoken = spoken_in(alloc, &self.session, &mut self.messages, side, content)?;
@@ -91,13 +97,23 @@ impl<S: TextStore> Events<S> {
     fn follow(&mut self, side: Side, spoken: &Spoken) -> Result<(), Fault>
         ensures terms { self.new.docs.terms ≡ self.old.docs.terms }
         ensures counts { self.new.counts ≡ self.old.counts }
-        ensures ok { OnOk result ((content : List ℕ) (events : List Event) → Says self.old.session side content (message_view spoken.now.message) (act_view spoken.now.act)
+        ensures ok { OnOk result ((content : List ℕ) (events : List Event)
+            → Says self.old.session side content (message_view spoken.now.message)
+            (act_view spoken.now.act)
             → Holds self.old.session self.old.docs events
-            → Hears side content (message_view spoken.now.message) (act_view spoken.now.act) self.old.docs.terms self.new.session self.new.docs events) }
-        ensures rule { IfErr result (λ fault. (content : List ℕ) (events : List Event) → Says self.old.session side content (message_view spoken.now.message) (act_view spoken.now.act)
+            → Hears side content (message_view spoken.now.message)
+            (act_view spoken.now.act) self.old.docs.terms self.new.session self.new.docs
+            events) }
+        ensures rule { IfErr result
+            (λ fault. (content : List ℕ) (events : List Event)
+            → Says self.old.session side content (message_view spoken.now.message)
+            (act_view spoken.now.act)
             → Holds self.old.session self.old.docs events
-            → RefusesBy side content (message_view spoken.now.message) (act_view spoken.now.act) self.old.docs.terms events fault) }
-        ensures unchanged { OnErr result ((content : List ℕ) (events : List Event) → Says self.old.session side content (message_view spoken.now.message) (act_view spoken.now.act)
+            → RefusesBy side content (message_view spoken.now.message)
+            (act_view spoken.now.act) self.old.docs.terms events fault) }
+        ensures unchanged { OnErr result ((content : List ℕ) (events : List Event)
+            → Says self.old.session side content (message_view spoken.now.message)
+            (act_view spoken.now.act)
             → Holds self.old.session self.old.docs events
             → Holds self.new.session self.new.docs events) }
     {
@@ -116,7 +132,9 @@ fn read_content(
     messages: &mut OutlineReader,
     content: &[u8],
 ) -> Result<Message, RpcFault>
-    ensures ok { IfOk result (λ message. (whole : SpecMessage) × Reads content.now whole × IsApart session.now (message_view message) whole) }
+    ensures ok { IfOk result
+        (λ message. (whole : SpecMessage) × Reads content.now whole
+        × IsApart session.now (message_view message) whole) }
     ensures rule { IfErr result (IsRefusal content.now) }
 {
     if session.awaits_initialize() {
@@ -134,8 +152,12 @@ fn read_spoken(
     side: Side,
     content: &[u8],
 ) -> Result<Spoken, Refused>
-    ensures ok { IfOk result (λ spoken. Says session.now side content.now (message_view spoken.message) (act_view spoken.act)) }
-    ensures refused { IfErr result (λ refused. (terms : Terms) (events : List Event) → Refuses side content.now terms events refused) }
+    ensures ok { IfOk result
+        (λ spoken. Says session.now side content.now (message_view spoken.message)
+        (act_view spoken.act)) }
+    ensures refused { IfErr result
+        (λ refused. (terms : Terms) (events : List Event)
+        → Refuses side content.now terms events refused) }
 {
     let mut message = read_content(alloc, session, messages, content)?;
     let act = take_act(alloc, &mut message, side)?;
@@ -152,14 +174,18 @@ fn notice_in(messages: &mut OutlineReader, side: Side, content: &[u8]) -> Option
 
 /// A call whose params its side doesn't read, where the content is one of the common form.
 fn call_in(messages: &mut OutlineReader, side: Side, content: &[u8]) -> Option<Spoken>
-    ensures { (session : SpecSession) → IfSome result (λ spoken. Says session side content.now (message_view spoken.message) (act_view spoken.act)) }
+    ensures { (session : SpecSession)
+        → IfSome result (λ spoken. Says session side content.now (message_view spoken.message)
+        (act_view spoken.act)) }
 {
     messages.read_call(side, content)
 }
 
 /// A message that is read without a tree of values.
 fn common_in(messages: &mut OutlineReader, side: Side, content: &[u8]) -> Option<Spoken>
-    ensures { (session : SpecSession) → IfSome result (λ spoken. Says session side content.now (message_view spoken.message) (act_view spoken.act)) }
+    ensures { (session : SpecSession)
+        → IfSome result (λ spoken. Says session side content.now (message_view spoken.message)
+        (act_view spoken.act)) }
 {
     match notice_in(messages, side, content) {
         Some(spoken) => Some(spoken),
@@ -175,8 +201,12 @@ fn spoken_in(
     side: Side,
     content: &[u8],
 ) -> Result<Spoken, Refused>
-    ensures ok { IfOk result (λ spoken. Says session.now side content.now (message_view spoken.message) (act_view spoken.act)) }
-    ensures refused { IfErr result (λ refused. (terms : Terms) (events : List Event) → Refuses side content.now terms events refused) }
+    ensures ok { IfOk result
+        (λ spoken. Says session.now side content.now (message_view spoken.message)
+        (act_view spoken.act)) }
+    ensures refused { IfErr result
+        (λ refused. (terms : Terms) (events : List Event)
+        → Refuses side content.now terms events refused) }
 {
     match common_in(messages, side, content) {
         Some(spoken) => Ok(spoken),
@@ -195,11 +225,14 @@ fn change<S: TextStore>(
 ) -> Result<(), DocFault>
     ensures terms { docs.new.terms ≡ docs.old.terms }
     ensures ok { OnOk result ((made : List Call) → docs_state.Stands docs.old made
-        → docs_state.Stands docs.new (made ++ changes encoding kind uri.now version (map edit_of (changes_view edits.now)) ∷ [])) }
+        → docs_state.Stands docs.new (made
+        ++ changes encoding kind uri.now version (map edit_of (changes_view edits.now)) ∷ [])) }
     ensures accepted { OnOk result ((made : List Call) → docs_state.Stands docs.old made
-        → call_rule docs.old.terms made (changes encoding kind uri.now version (map edit_of (changes_view edits.now))) ≡ None) }
+        → call_rule docs.old.terms made
+        (changes encoding kind uri.now version (map edit_of (changes_view edits.now))) ≡ None) }
     ensures rule { IfErr result (λ fault. (made : List Call) → docs_state.Stands docs.old made
-        → doc_fault.Names (call_rule docs.old.terms made (changes encoding kind uri.now version (map edit_of (changes_view edits.now)))) fault) }
+        → doc_fault.Names (call_rule docs.old.terms made
+        (changes encoding kind uri.now version (map edit_of (changes_view edits.now)))) fault) }
     ensures err { OnErr result (docs.new ≡ docs.old) }
 {
     docs.did_change(encoding, kind, uri, version, edits)
@@ -214,13 +247,17 @@ fn apply<S: TextStore>(
 ) -> Result<(), DocFault>
     ensures terms { docs.new.terms ≡ docs.old.terms }
     ensures ok { OnOk result ((made : List Call) → docs_state.Stands docs.old made
-        → docs_state.Stands docs.new (made ++ cons_option (call_of encoding kind (act_view act.now)) [])) }
+        → docs_state.Stands docs.new (made
+        ++ cons_option (call_of encoding kind (act_view act.now)) [])) }
     ensures accepted { OnOk result ((made : List Call) → docs_state.Stands docs.old made
-        → option_and_then (call_rule docs.old.terms made) (call_of encoding kind (act_view act.now)) ≡ None) }
+        → option_and_then (call_rule docs.old.terms made)
+        (call_of encoding kind (act_view act.now)) ≡ None) }
     ensures rule { IfErr result (λ fault. (made : List Call) → docs_state.Stands docs.old made
-        → doc_fault.Names (option_and_then (call_rule docs.old.terms made) (call_of encoding kind (act_view act.now))) fault) }
+        → doc_fault.Names (option_and_then (call_rule docs.old.terms made)
+        (call_of encoding kind (act_view act.now))) fault) }
     // Only an act that says something of a document is refused, and then nothing changes.
-    ensures says { OnErr result ((call : Call) × (call_of encoding kind (act_view act.now) ≡ Some call)) }
+    ensures says { OnErr result ((call : Call)
+        × (call_of encoding kind (act_view act.now) ≡ Some call)) }
     ensures err { OnErr result (docs.new ≡ docs.old) }
 {
     match act {

@@ -13,8 +13,8 @@ pub enum Refused {
     /// The content breaks this rule, 201 to 209: nothing is known of what it says.
     #[error("rule {0}")]
     Content(u16),
-    /// The message offends this rule, 301 to 702. Its params are left out, and the value of a result
-    /// where no `initialize` is open.
+    /// The message offends this rule, 301 to 702. Its params are left out, and the value of a
+    /// result where no `initialize` is open.
     #[error("rule {rule}")]
     Message { rule: u16, spoken: Spoken },
     /// Memory was refused.

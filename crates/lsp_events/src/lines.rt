@@ -8,7 +8,8 @@ ghost use Rattle.lsp_rpc.specs.View.{act_view};
 ghost use Rattle.lsp_verdict.specs.Event.{Event};
 ghost use Rattle.lsp_verdict.specs.Report.{line};
 ghost use Rattle.lsp_verdict.specs.RunIo.{Tells};
-ghost use Rattle.lsp_verdict.specs.Shown.{document_words, message_words, snapshot_words, words_behind};
+ghost use Rattle.lsp_verdict.specs.Shown.{document_words, message_words, snapshot_words};
+ghost use Rattle.lsp_verdict.specs.Shown.{words_behind};
 ghost use Rattle.lsp_events.specs.Lines.{IsHeard, line_of, row, spaced};
 
 use crate::heard::{Heard, Place};
@@ -20,7 +21,8 @@ use std::fmt::Write;
 
 /// Adds a number to a line.
 fn push_number(text: &mut String, number: u64) -> Result<(), Memory>
-    ensures { OnOk result (string_bytes text.new ≡ string_bytes text.old ++ spaced (decimal number ∷ [])) }
+    ensures { OnOk result (string_bytes text.new ≡ string_bytes text.old
+        ++ spaced (decimal number ∷ [])) }
 {
     write!(text, " {number}")?;
     Ok(())
@@ -28,7 +30,8 @@ fn push_number(text: &mut String, number: u64) -> Result<(), Memory>
 
 /// Adds the URI of a document to a line.
 fn push_uri(alloc: Global, text: &mut String, uri: &str) -> Result<(), Memory>
-    ensures { OnOk result (string_bytes text.new ≡ string_bytes text.old ++ spaced (quoted uri.now ∷ [])) }
+    ensures { OnOk result (string_bytes text.new ≡ string_bytes text.old
+        ++ spaced (quoted uri.now ∷ [])) }
 {
     text.push_str(" ")?;
     push_quoted(alloc, text, uri)
@@ -73,7 +76,8 @@ fn push_behind_message(
     act: &Act,
 ) -> Result<(), Memory>
     ensures { OnOk result (string_bytes text.new
-        ≡ string_bytes text.old ++ spaced (words_behind lines number (document_words (act_view act.now)))) }
+        ≡ string_bytes text.old ++ spaced
+        (words_behind lines number (document_words (act_view act.now)))) }
 {
     match lines {
         Lines::Short => Ok(()),
@@ -95,7 +99,8 @@ fn push_behind_snapshot(text: &mut String, lines: Lines, number: u64) -> Result<
     }
 }
 
-/// Makes the text the words of a message: the number of the event, the side that sent it, and its words.
+/// Makes the text the words of a message: the number of the event, the side that sent it, and its
+/// words.
 fn fill_message_words(
     alloc: Global,
     text: &mut String,
@@ -122,7 +127,8 @@ fn fill_message_line(
     side: Side,
     spoken: &Spoken,
 ) -> Result<(), Memory>
-    ensures { OnOk result (string_bytes text.new ≡ line (message_words place.event (sent side spoken.now.message spoken.now.act)
+    ensures { OnOk result (string_bytes text.new
+        ≡ line (message_words place.event (sent side spoken.now.message spoken.now.act)
         ++ words_behind lines place.number (document_words (act_view spoken.now.act)))) }
 {
     fill_message_words(alloc, text, place.event, side, spoken)?;
@@ -136,8 +142,8 @@ fn byte_count(text: &str) -> usize
     text.len()
 }
 
-/// Makes the text the words of a snapshot: the number of the event, and the snapshot's version, bytes and
-/// URI, which is JSON text.
+/// Makes the text the words of a snapshot: the number of the event, and the snapshot's version,
+/// bytes and URI, which is JSON text.
 fn fill_snapshot_words(
     alloc: Global,
     text: &mut String,
@@ -165,7 +171,8 @@ fn fill_snapshot_line(
     uri: &str,
     shown: &str,
 ) -> Result<(), Memory>
-    ensures { OnOk result (string_bytes text.new ≡ line (snapshot_words place.event uri.now version (chars shown.now)
+    ensures { OnOk result (string_bytes text.new
+        ≡ line (snapshot_words place.event uri.now version (chars shown.now)
         ++ words_behind lines place.number [])) }
 {
     fill_snapshot_words(alloc, text, place.event, version, uri, shown)?;
@@ -218,7 +225,8 @@ fn write_line<W: Sink>(
 /// Writes the line of an event, short or long, and lets the event go. The text is used to make it.
 ///
 /// # Errors
-/// `Write` is answered where the sink failed, and `Memory` where memory was refused: what was written
+/// `Write` is answered where the sink failed, and `Memory` where memory was refused: what was
+/// written
 /// then begins the line.
 pub fn write_event_line<W: Sink>(
     alloc: Global,

@@ -20,13 +20,15 @@ use lsp_text::TextStore;
 use lsp_verdict::{OpenDocument, Summary};
 use std::alloc::Global;
 
-/// What the events have come to. The open documents and requests are made ready for a walk over all of
-/// them, which changes nothing that is seen.
+/// What the events have come to. The open documents and requests are made ready for a walk over all
+/// of them, which changes nothing that is seen.
 pub fn summary_of<S: TextStore>(alloc: Global, events: &mut Events<S>) -> Result<Summary, Memory>
     ensures session { events.new.session ≡ events.old.session }
     ensures docs { events.new.docs ≡ events.old.docs }
     ensures counts { events.new.counts ≡ events.old.counts }
-    ensures summary { IfOk result (λ summary. (so_far : List Event) → Follows events.old.session events.old.docs events.old.counts so_far
+    ensures summary { IfOk result
+        (λ summary. (so_far : List Event)
+        → Follows events.old.session events.old.docs events.old.counts so_far
         → yes (summary_view summary) ≡ as_given (yes (spec.summary events.old.docs.terms so_far))) }
 {
     events.pack();
@@ -35,7 +37,8 @@ pub fn summary_of<S: TextStore>(alloc: Global, events: &mut Events<S>) -> Result
 
 /// What the events have come to, read off what is held.
 fn summary_now<S: TextStore>(alloc: Global, events: &Events<S>) -> Result<Summary, Memory>
-    ensures { IfOk result (λ summary. (so_far : List Event) → Follows events.now.session events.now.docs events.now.counts so_far
+    ensures { IfOk result (λ summary. (so_far : List Event)
+        → Follows events.now.session events.now.docs events.now.counts so_far
         → yes (summary_view summary) ≡ as_given (yes (spec.summary events.now.docs.terms so_far))) }
 {
     Ok(Summary {
@@ -70,7 +73,8 @@ fn open_document<S: TextStore>(
     docs: &Docs<S>,
     uri: &str,
 ) -> Result<OpenDocument, Memory>
-    ensures { IfOk result (λ found. (calls : List Call) (version : Version) → docs_state.Stands docs.now calls
+    ensures { IfOk result (λ found. (calls : List Call) (version : Version)
+        → docs_state.Stands docs.now calls
         → held docs.now.terms uri.now calls ≡ Some version
         → document_view found ≡ document_of (record { uri = uri.now; version = version })) }
 {
@@ -102,8 +106,10 @@ fn bytes_held<S: TextStore>(docs: &Docs<S>, uri: &str) -> u64
 
 /// The requests that are open: the editor's, then the server's, each in order of asking.
 fn open_requests(alloc: Global, session: &Session) -> Result<Vec<(Side, OpenRequest)>, Memory>
-    ensures { IfOk result (λ found. (so_far : List Event) → session_state.Stands session.now (sent_in so_far)
-        → requests_view found.items ≡ spec.open_of Side.Editor so_far ++ spec.open_of Side.Server so_far) }
+    ensures { IfOk result (λ found. (so_far : List Event)
+        → session_state.Stands session.now (sent_in so_far)
+        → requests_view found.items ≡ spec.open_of Side.Editor so_far
+        ++ spec.open_of Side.Server so_far) }
 {
     let mut found = Vec::new(alloc);
     push_requests(&mut found, Side::Editor, session.pending(Side::Editor))?;
@@ -116,7 +122,8 @@ fn push_requests(
     side: Side,
     pending: &Pending,
 ) -> Result<(), Memory>
-    ensures { OnOk result (requests_view found.new.items ≡ requests_view found.old.items ++ map (λ r. (side, r)) pending.now) }
+    ensures { OnOk result (requests_view found.new.items ≡ requests_view found.old.items
+        ++ map (λ r. (side, r)) pending.now) }
 {
     for index in 0..pending.len() {
         let request = pending.at(index).unwrap();

@@ -2,7 +2,8 @@
 
 ghost use Rattle.std.specs.Prelude.{◌≡◌, ◌<◌, ◌^◌, ◌+◌, [], ◌∷◌, ◌++◌, OnOk};
 ghost use Rattle.std.specs.Str.{chars};
-ghost use Rattle.lsp_facts.specs.Fact.{of_uri, counts_in, fails, by_messages, in_editor, saved_line};
+ghost use Rattle.lsp_facts.specs.Fact.{of_uri, counts_in, fails, by_messages, in_editor};
+ghost use Rattle.lsp_facts.specs.Fact.{saved_line};
 ghost use Rattle.lsp_facts.specs.Fact.{falls_inside, fact_view, facts_view};
 ghost use Rattle.lsp_facts.specs.DocumentFacts.{line_length, first_length};
 

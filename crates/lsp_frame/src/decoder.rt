@@ -226,7 +226,8 @@ impl Decoder {
         ensures held { OnOk result ((bytes : List ℕ) (contents : List (List ℕ)) →
             StandsFor self.old bytes contents →
             IsStream self.old.limits bytes contents self.old.rest None →
-            held_of self.new ≤ self.old.limits.header + self.old.limits.content + length piece.now) }
+            held_of self.new ≤ self.old.limits.header + self.old.limits.content
+            + length piece.now) }
     {
         self.append(piece)
     }
@@ -247,7 +248,8 @@ impl Decoder {
         ensures held { OnOk result ((bytes : List ℕ) (contents : List (List ℕ)) →
             StandsFor self.old bytes contents →
             IsStream self.old.limits bytes contents self.old.rest None →
-            held_of self.new ≤ self.old.limits.header + self.old.limits.content + length piece.items) }
+            held_of self.new ≤ self.old.limits.header + self.old.limits.content
+            + length piece.items) }
     {
         if self.fault.is_some() || self.start < self.end {
             return self.append(piece.as_slice());

@@ -1,5 +1,6 @@
 //! From the bytes of a content to its message.
-ghost use Rattle.std.specs.Prelude.{◌≡◌, ◌<◌, ◌&&◌, ◌∷◌, [], Some, Err, codes, length, IfOk, IfErr, not, option_map, option_and_then, string_bytes, is_some};
+ghost use Rattle.std.specs.Prelude.{◌≡◌, ◌<◌, ◌&&◌, ◌∷◌, [], Some, Err, codes, length, IfOk, IfErr};
+ghost use Rattle.std.specs.Prelude.{not, option_map, option_and_then, string_bytes, is_some};
 ghost use Rattle.serde_json.specs.Data.{string};
 ghost use Rattle.serde_json.specs.Errors.{IsMemory};
 ghost use Rattle.serde_json.specs.View.{view};

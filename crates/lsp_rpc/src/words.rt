@@ -43,7 +43,8 @@ pub fn push_id(alloc: Global, words: &mut String, id: &Id) -> Result<(), Memory>
 
 fn push_response_id(alloc: Global, words: &mut String, id: Option<&Id>) -> Result<(), Memory>
     ensures { OnOk result (string_bytes words.new
-        ≡ string_bytes words.old ++ spec.response_id_text (option_map (λ i. id_view i.now) id.entry)) }
+        ≡ string_bytes words.old
+        ++ spec.response_id_text (option_map (λ i. id_view i.now) id.entry)) }
 {
     match id {
         Some(id) => push_id(alloc, words, id),

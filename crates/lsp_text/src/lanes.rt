@@ -1,6 +1,7 @@
 //! Bytes of UTF-8 counted 32 at a time.
 
-ghost use Rattle.std.specs.Prelude.{◌≡◌, ◌<◌, ◌≤◌, ◌↔◌, length, take, map, count_by, nat_lt, IsTrue};
+ghost use Rattle.std.specs.Prelude.{◌≡◌, ◌<◌, ◌≤◌, ◌↔◌, length, take, map, count_by, nat_lt};
+ghost use Rattle.std.specs.Prelude.{IsTrue};
 ghost use Rattle.std.specs.List.{sum_by};
 ghost use Rattle.lsp_text.specs.Offsets.{byte_units};
 

@@ -36,7 +36,8 @@ impl Counts {
 
     /// Counts one more event.
     pub fn add(&mut self, by: Who)
-        ensures { (events : List Event) (event : Event) → AreCounts self.old events → whose event ≡ by
+        ensures { (events : List Event) (event : Event) → AreCounts self.old events
+            → whose event ≡ by
             → AreCounts self.new (events ++ event ∷ []) }
     {
         match by {

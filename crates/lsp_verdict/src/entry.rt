@@ -35,10 +35,13 @@ pub fn next_entry<R: Source>(log: &mut LogReader, reader: &mut R) -> Result<Entr
     ensures format { KeepsFormat log.old.format log.new.format }
     // A record leaves less to give, so that a caller's loop ends.
     ensures less { IfOk result (λ entry. IfRecord entry (ahead log.new < ahead log.old)) }
-    ensures answer { (start : Told) (records : List logs.Record) → IsAt log.old start (R.told reader.old) records
+    ensures answer { (start : Told) (records : List logs.Record)
+        → IsAt log.old start (R.told reader.old) records
         → EntryIs log.new log.old.limits start (R.told reader.new) log.old.format records result }
-    // Of a fault the reader knows how many bytes of the log stand before it, and the line that stands there.
-    ensures found { (start : Told) (records : List logs.Record) → IsAt log.old start (R.told reader.old) records
+    // Of a fault the reader knows how many bytes of the log stand before it, and the line that
+    // stands there.
+    ensures found { (start : Told) (records : List logs.Record)
+        → IsAt log.old start (R.told reader.old) records
         → FaultIs log.new log.old.limits start (R.told reader.new) records result }
 {
     match log.next(reader) {

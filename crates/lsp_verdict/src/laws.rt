@@ -1,9 +1,13 @@
 //! Laws about the definitions. Each is the contract of a function that does nothing.
 ghost use Rattle.lsp_verdict.specs.FormatOne.{FormatOneKeepsReport, FormatOneKeepsVerdict};
-ghost use Rattle.lsp_verdict.specs.Headline.{BadLogMeansFault, KeptMeansYes, NoNamesTheFirst, YesMeansKept};
-ghost use Rattle.lsp_verdict.specs.Laws.{CutsDontMatter, CutsLeaveVerdict, EventsFirst, OffenceDecides, OneSession, OneVerdict, SidesAreStreams, SnapshotsAreShown, SomeFinal, SomeSession, SomeVerdict};
+ghost use Rattle.lsp_verdict.specs.Headline.{BadLogMeansFault, KeptMeansYes, NoNamesTheFirst};
+ghost use Rattle.lsp_verdict.specs.Headline.{YesMeansKept};
+ghost use Rattle.lsp_verdict.specs.Laws.{CutsDontMatter, CutsLeaveVerdict, EventsFirst};
+ghost use Rattle.lsp_verdict.specs.Laws.{OffenceDecides, OneSession, OneVerdict, SidesAreStreams};
+ghost use Rattle.lsp_verdict.specs.Laws.{SnapshotsAreShown, SomeFinal, SomeSession, SomeVerdict};
 ghost use Rattle.lsp_verdict.specs.TextAfter.{OneText};
-ghost use Rattle.lsp_verdict.specs.Upgraded.{OneUpgrade, SomeUpgrade, UpgradeKeepsYes, UpgradeStays};
+ghost use Rattle.lsp_verdict.specs.Upgraded.{OneUpgrade, SomeUpgrade, UpgradeKeepsYes};
+ghost use Rattle.lsp_verdict.specs.Upgraded.{UpgradeStays};
 
 /// Yes means: the log has no fault, both streams are complete frames, no message breaks the
 /// lifecycle, every response answers one earlier open request and none is answered twice, the

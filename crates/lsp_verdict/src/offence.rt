@@ -32,7 +32,8 @@ impl Offence {
     /// The offence against this rule at the next event.
     pub fn next(counts: &Counts, rule: u16, who: Who, follows: bool) -> Offence
         ensures { (events : List Event) → AreCounts counts.now events
-            → offence_view result ≡ given_offence (record { no = no_next rule who events; follows = follows }) }
+            → offence_view result ≡ given_offence
+            (record { no = no_next rule who events; follows = follows }) }
     {
         let (number, event) = counts.next(who);
         Offence {
@@ -65,7 +66,8 @@ fn follow_report(
     number: u64,
     event: u64,
 ) -> Result<String, Memory>
-    ensures { IfOk result (λ written. string_bytes written ≡ no_lines (codes "follows" ∷ []) (no rule who number event)) }
+    ensures { IfOk result (λ written. string_bytes written
+        ≡ no_lines (codes "follows" ∷ []) (no rule who number event)) }
 {
     let name = who_name(who);
     let text = text_of(rule);
@@ -76,7 +78,8 @@ fn follow_report(
 /// The two lines that list an offence: those of its No, and the word `follows` after the number of
 /// the event if it follows from an earlier one.
 pub fn offence_report(alloc: Global, offence: &Offence) -> Result<String, Memory>
-    ensures { IfOk result (λ written. string_bytes written ≡ offence_lines (offence_view offence.now)) }
+    ensures { IfOk result (λ written. string_bytes written
+        ≡ offence_lines (offence_view offence.now)) }
 {
     let Offence {
         rule,

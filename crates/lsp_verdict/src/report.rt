@@ -133,7 +133,8 @@ fn push_counts(report: &mut String, summary: &Summary) -> Result<(), Memory>
 }
 
 fn summary_report(alloc: Global, summary: &Summary) -> Result<String, Memory>
-    ensures { IfOk result (λ written. string_bytes written ≡ report (yes (summary_view summary.now))) }
+    ensures { IfOk result (λ written. string_bytes written
+        ≡ report (yes (summary_view summary.now))) }
 {
     let mut report = String::from_str(alloc, "yes\n")?;
     push_counts(&mut report, summary)?;

@@ -1,7 +1,9 @@
 //! The commands and options of the command line, and the words of their help.
 ghost use Rattle.std.specs.Prelude.{◌≡◌, [], IfOk, IsOkAnd, true};
 ghost use Rattle.clap.specs.Words.{AddsSubcommand, app_of, shape_of};
-ghost use Rattle.lsp_words.specs.CommandLine.{AreModes, IsArg, IsCommandLine, Modes, check, event, explain, file, flag, frames, mode, normal, number, program, show, text, upgrade, uri};
+ghost use Rattle.lsp_words.specs.CommandLine.{AreModes, IsArg, IsCommandLine, Modes, check, event};
+ghost use Rattle.lsp_words.specs.CommandLine.{explain, file, flag, frames, mode, normal, number};
+ghost use Rattle.lsp_words.specs.CommandLine.{program, show, text, upgrade, uri};
 
 use clap::{Arg, ArgAction, Command, value_parser};
 use std::alloc::{AllocError, Global};

@@ -2,7 +2,9 @@
 ghost use Rattle.std.specs.Prelude.{◌≡◌, IfErr, IfOk, codes, map, option_map, string_bytes};
 ghost use Rattle.clap.specs.Words.{App, one_of, subcommand_rows_of};
 ghost use Rattle.lsp_words.specs.CommandLine.{IsCommandLine};
-ghost use Rattle.lsp_words.specs.Words.{Asks, HasTask, IsFlag, NumberIn, Refuses, RequestIn, TaskIn, check_of, completeness_of, explain_of, file_of, lines_of, listing_of, mode_of, rows_in};
+ghost use Rattle.lsp_words.specs.Words.{Asks, HasTask, IsFlag, NumberIn, Refuses, RequestIn};
+ghost use Rattle.lsp_words.specs.Words.{TaskIn, check_of, completeness_of, explain_of, file_of};
+ghost use Rattle.lsp_words.specs.Words.{lines_of, listing_of, mode_of, rows_in};
 
 use crate::commands::command_line;
 use crate::task::{Request, Task};
@@ -34,8 +36,8 @@ fn completeness_of(set: bool) -> Completeness
     }
 }
 
-/// Which offences are listed, where any but the first are: the options for all and for every one are
-/// set or not.
+/// Which offences are listed, where any but the first are: the options for all and for every one
+/// are set or not.
 fn listing_of(all: bool, every: bool) -> Option<Listing>
     ensures { result ≡ listing_of all every }
 {
@@ -58,8 +60,8 @@ fn check_of<'a>(completeness: Completeness, listing: Option<Listing>) -> Task<'a
     }
 }
 
-/// What explains the verdict on a session, or all that is wrong with it, where the option for that is
-/// set or not.
+/// What explains the verdict on a session, or all that is wrong with it, where the option for that
+/// is set or not.
 fn explain_of<'a>(completeness: Completeness, all: bool) -> Task<'a>
     ensures { result ≡ explain_of completeness all }
 {
@@ -176,7 +178,8 @@ fn request_in<'a>(matches: &ArgMatches<'a>) -> Option<Request<'a>>
 /// Reads the words of a command line, the program's name first.
 ///
 /// # Errors
-/// `OutOfMemory` where memory was refused; `DisplayHelp` and `DisplayVersion` where the words ask for
+/// `OutOfMemory` where memory was refused; `DisplayHelp` and `DisplayVersion` where the words ask
+/// for
 /// these; anything else where they don't parse.
 pub fn request_of<'a>(alloc: Global, words: &'a [String]) -> Result<Request<'a>, Error>
     // The words parse by the command line, and the command found in them asks for the request.

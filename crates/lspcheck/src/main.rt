@@ -114,8 +114,8 @@ fn show_advice<R: Eprint>(rt: &R, file: Option<&str>, advice: Option<Advice>) {
     };
 }
 
-/// The status of a run, of which is said on standard error what is to be said. A failure of standard
-/// error changes nothing.
+/// The status of a run, of which is said on standard error what is to be said. A failure of
+/// standard error changes nothing.
 fn status_shown<R: Eprint>(rt: &R, answer: &Result<TaskOutcome, RunFault>) -> u8 {
     if let Some(remark) = remark_of(answer) {
         let _ = rt.eprintln(remark);
