@@ -68,9 +68,8 @@ impl<S: TextStore> Events<S> {
     ///
     /// # Errors
     /// `Content` by the least of the rules 201 to 209 that the content breaks, else `Message` by
-    /// the
-    /// least of 301 to 702 that the message offends; `Memory` where memory was refused, in place of
-    /// whatever would be answered.
+    /// the least of 301 to 702 that the message offends; `Memory` where memory was refused, in
+    /// place of whatever would be answered.
     pub fn hear(&mut self, alloc: Global, side: Side, content: &[u8]) -> Result<Spoken, Refused>
         ensures terms { self.new.docs.terms ≡ self.old.docs.terms }
         ensures counts { self.new.counts ≡ self.old.counts }
