@@ -226,8 +226,7 @@ fn write_line<W: Sink>(
 ///
 /// # Errors
 /// `Write` is answered where the sink failed, and `Memory` where memory was refused: what was
-/// written
-/// then begins the line.
+/// written then begins the line.
 pub fn write_event_line<W: Sink>(
     alloc: Global,
     writer: &mut W,
