@@ -1,13 +1,13 @@
 -- What a message that is read apart from the value of its result, and left without its params, means to a session.
-use Rattle.std.proofs.Common.{◌≡◌, List, [], ◌∷◌, ◌++◌, false, not, inl, inr, refl, sym, ap, subst, ◌∙◌}
+use Rattle.std.proofs.Common.{◌≡◌, ℕ, List, [], ◌∷◌, ◌++◌, false, not, inl, inr, refl, sym, ap, subst, ◌∙◌}
 use Rattle.std.specs.Prelude.{◌⊎◌}
 use Rattle.lsp_rpc.specs.Act.{Act}
-use Rattle.lsp_rpc.specs.Fault as content
-use Rattle.lsp_rpc.specs.Fault.{rule_unless_read}
 use Rattle.lsp_rpc.specs.Message.{Message, request, notification, response, result, error}
-use Rattle.lsp_rpc.specs.Outline.{outline, without_params, without_result, IsOrLacksResult}
+use Rattle.lsp_rpc.specs.Outline.{outline, without_params, without_result}
 use Rattle.lsp_rpc.specs.Params.{act_at}
-use Rattle.lsp_rpc.specs.declared.fault.RpcFault.{RpcFault}
+use Rattle.lsp_outline.specs.Spoken as spoken
+use Rattle.lsp_outline.specs.declared.outline.Results.{Results}
+use Rattle.lsp_outline.specs.declared.outline.Results.TheVariants.{LeftOut}
 use Rattle.lsp_types.specs.declared.side.Side.{Side}
 use Rattle.lsp_types.specs.declared.side.Side.TheVariants.{Editor, Server}
 use Rattle.lsp_session.specs.Handshake.{is_empty, open_initializes}
@@ -19,11 +19,11 @@ use Rattle.lsp_session.specs.Sent.{Sent}
 use Rattle.lsp_session.specs.State as session
 use Rattle.lsp_session.specs.declared.refusal.Refusal.{Refusal}
 use Rattle.lsp_session.proofs.Unread.{params_unread, result_unread}
-use Rattle.lsp_events.specs.Apart.{IsApart}
+use Rattle.lsp_events.specs.Apart.{IsApart, Says}
 
 -- ---- reading
 
-none_waits : (waiting : List Initialize) → false ≡ not (is_empty waiting) → waiting ≡ []
+pub none_waits : (waiting : List Initialize) → false ≡ not (is_empty waiting) → waiting ≡ []
 none_waits [] h = refl
 none_waits (i ∷ rest) h = absurd (cc)
 
@@ -33,15 +33,7 @@ without_twice (notification method params) = refl
 without_twice (response id (result value)) = refl
 without_twice (response id (error code)) = refl
 
-same_but_result : (said whole : Message) → IsOrLacksResult said whole → without_result said ≡ without_result whole
-same_but_result said whole (inl is) = ap without_result is
-same_but_result said whole (inr is) = ap without_result is ∙ without_twice whole
-
-pub apart : (s : session.State) (said whole : Message) → ((before : List Sent) → session.Stands s before → false ≡ not (is_empty (open_initializes before)))
-    → IsOrLacksResult said whole → IsApart s said whole
-apart s said whole none left = record { same = same_but_result said whole left; read = λ before stands. inl (none_waits (open_initializes before) (none before stands)) }
-
-pub whole_read : (s : session.State) (m : Message) → IsApart s m m
+whole_read : (s : session.State) (m : Message) → IsApart s m m
 whole_read s m = record { same = refl; read = λ before stands. inr refl }
 
 -- ---- what it means
@@ -58,6 +50,42 @@ act_unread Server (response id (error code)) = refl
 
 pub same_act : (side : Side) (said whole : Message) → without_result said ≡ without_result whole → act_at side whole ≡ act_at side said
 same_act side said whole same = act_unread side whole ∙ ap (act_at side) (sym same) ∙ sym (act_unread side said)
+
+outline_split : (m : Message) → outline m ≡ without_params (without_result m)
+outline_split (request id method params) = refl
+outline_split (notification method params) = refl
+outline_split (response id (result value)) = refl
+outline_split (response id (error code)) = refl
+
+-- what is left of a message whose result nothing reads
+module _ (s : session.State) (results : Results) (side : Side) (content : List ℕ) (left : Message)
+    (act : Act)
+    (none : results ≡ LeftOut → (before : List Sent) → session.Stands s before
+    → open_initializes before ≡ []) (h : spoken.Says results side content left act) where
+  said_by : (left ≡ without_params h.whole) ⊎ ((results ≡ LeftOut) × (left ≡ outline h.whole))
+      → Says s side content left act
+  said_by (inl is) = record {
+    whole = h.whole;
+    said = h.whole;
+    reads = h.reads;
+    apart = whole_read s h.whole;
+    rest = is;
+    means = h.means;
+  }
+  said_by (inr out) = record {
+    whole = h.whole;
+    said = without_result h.whole;
+    reads = h.reads;
+    apart = record {
+      same = without_twice h.whole;
+      read = λ before stands. inl (none out.0 before stands);
+    };
+    rest = out.1 ∙ outline_split h.whole;
+    means = sym (act_unread side h.whole) ∙ h.means;
+  }
+
+  pub heard : Says s side content left act
+  heard = said_by h.rest
 
 abbrev Carries : List Sent → Side → Act → Message → Message → Type 0
 Carries before side act said whole =
@@ -107,8 +135,5 @@ module _ (said whole left : Message) (is : left ≡ without_params said) where
       (bare.0 ∙ read.0, bare.1 ∙ read.1)
 
 -- refusals name the same rule
-pub params_named : (side : Side) (said whole : Message) (f : RpcFault) → without_result said ≡ without_result whole → content.Names (rule_unless_read 209 (act_at side said)) f → content.Names (rule_unless_read 209 (act_at side whole)) f
-params_named side said whole f same named = subst (λ o. content.Names (rule_unless_read 209 o) f) (sym (same_act side said whole same)) named
-
 pub rule_named : (before : List Sent) (side : Side) (act : Act) (said whole : Message) (f : Refusal) → Carries before side act said whole → refusal.Names (rule_after before (sent_by side act said)) f → refusal.Names (rule_after before (sent_by side act whole)) f
 rule_named before side act said whole f carries named = subst (λ rule. refusal.Names rule f) carries.0 named

@@ -16,6 +16,7 @@ use Rattle.lsp_rpc.specs.declared.fault.RpcFault.{RpcFault}
 use Rattle.lsp_rpc.specs.declared.fault.RpcFault.TheVariants as contents
 use Rattle.lsp_types.specs.declared.position.Encoding.{Encoding}
 use Rattle.lsp_types.specs.declared.position.Encoding.TheVariants.{Utf16}
+use Rattle.lsp_outline.specs.Spoken.{IsUnspoken}
 use Rattle.lsp_types.specs.declared.side.Side.{Side}
 use Rattle.lsp_types.specs.declared.change.SyncKind.{SyncKind}
 use Rattle.lsp_types.specs.declared.change.SyncKind.TheVariants.{Nothing}
@@ -47,21 +48,13 @@ use Rattle.lsp_verdict.specs.Verdict.{offence, document_rule}
 use Rattle.lsp_verdict.proofs.LookBackLemmas.{each_of-snoc}
 use Rattle.lsp_verdict.proofs.Messages.{sent_in-append}
 
--- a content that is no message
-pub content_refused : (side : Side) (bytes : List ℕ) (terms : Terms) (events : List Event) (f : RpcFault) → reading.IsRefusal bytes f → Refuses side bytes terms events (of_content f)
-content_refused side bytes terms events (contents.Rule rule) breaks = (refl, inl breaks)
-content_refused side bytes terms events contents.Memory e = tt
-
--- params that don't have their shape
-params_by : (side : Side) (bytes : List ℕ) (terms : Terms) (events : List Event) (m : Message) (o : Option Act) (f : RpcFault) → reading.Reads bytes m → act_at side m ≡ o → content.Names (rule_unless_read 209 o) f → Refuses side bytes terms events (of_content f)
-params_by side bytes terms events m o contents.Memory reads is named = tt
-params_by side bytes terms events m None (contents.Rule rule) reads is named =
-    let same : rule ≡ 209 = cc named in
-    (refl, inr (same, record { of = m; reads = reads; unread = is }))
-params_by side bytes terms events m (Some act) (contents.Rule rule) reads is named = let none : None ≡ Some rule = named in absurd cc
-
-pub params_refused : (side : Side) (bytes : List ℕ) (terms : Terms) (events : List Event) (m : Message) (f : RpcFault) → reading.Reads bytes m → content.Names (rule_unless_read 209 (act_at side m)) f → Refuses side bytes terms events (of_content f)
-params_refused side bytes terms events m f reads named = params_by side bytes terms events m (act_at side m) f reads refl named
+-- a content that says nothing
+pub unspoken : (side : Side) (bytes : List ℕ) (terms : Terms) (events : List Event) (f : RpcFault)
+    → IsUnspoken side bytes f → Refuses side bytes terms events (of_content f)
+unspoken side bytes terms events (contents.Rule rule) (inl breaks) = (refl, inl breaks)
+unspoken side bytes terms events (contents.Rule rule) (inr (is, params)) =
+    (refl, inr (is, record { of = params.0; reads = params.1; unread = params.2 }))
+unspoken side bytes terms events contents.Memory e = tt
 
 -- the document rule of a message, under what was agreed
 rule_is : (terms : Terms) (events : List Event) (m : Sent) (enc : Encoding) (kind : SyncKind) → enc ≡ unwrap_or (encoding (sent_in events)) Utf16 → kind ≡ unwrap_or (sync_kind (sent_in events)) Nothing

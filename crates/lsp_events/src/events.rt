@@ -1,26 +1,27 @@
 //! The events of a session, heard one after another.
-ghost use Rattle.std.specs.Prelude.{◌≡◌, ◌++◌, ◌∷◌, [], ℕ, List, None, Some, option_and_then};
-ghost use Rattle.std.specs.Prelude.{IfSome, IfOk, IfErr, OnOk, OnErr, map};
+ghost use Rattle.std.specs.Prelude.{◌≡◌, ◌++◌, ◌∷◌, [], ℕ, List, None, Some, option_and_then, IfOk};
+ghost use Rattle.std.specs.Prelude.{IfErr, OnOk, OnErr, map};
 ghost use Rattle.std.specs.List.{cons_option};
 ghost use Rattle.lsp_rpc.specs.View.{act_view, changes_view, message_view};
-ghost use Rattle.lsp_rpc.specs.Message.{Message as SpecMessage};
-ghost use Rattle.lsp_rpc.specs.Reading.{IsRefusal, Reads};
 ghost use Rattle.lsp_docs.specs.Calls.{Call, changes};
 ghost use Rattle.lsp_docs.specs.Fault as doc_fault;
 ghost use Rattle.lsp_docs.specs.Rules.{call_rule};
 ghost use Rattle.lsp_docs.specs.State as docs_state;
 ghost use Rattle.lsp_docs.specs.Terms.{Terms, terms_of};
-ghost use Rattle.lsp_session.specs.State.{State as SpecSession};
+ghost use Rattle.lsp_outline.specs.declared.outline.Results.TheVariants.{LeftOut};
+ghost use Rattle.lsp_session.specs.Handshake.{open_initializes};
+ghost use Rattle.lsp_session.specs.Sent.{Sent};
+ghost use Rattle.lsp_session.specs.State.{Stands};
 ghost use Rattle.lsp_verdict.specs.Calls.{call_of, edit_of};
 ghost use Rattle.lsp_verdict.specs.Event.{Event};
-ghost use Rattle.lsp_events.specs.Apart.{IsApart, Says};
+ghost use Rattle.lsp_events.specs.Apart.{Says};
 ghost use Rattle.lsp_events.specs.Standing.{Follows, Holds, Hears, Refuses, RefusesBy};
 
 use crate::fault::{Fault, Refused};
 use lsp_docs::{DocFault, Docs};
 use lsp_frame::{Format, Limits};
-use lsp_outline::OutlineReader;
-use lsp_rpc::{Act, Change, Encoding, Message, RpcFault, Side, Spoken, SyncKind, read, take_act};
+use lsp_outline::{OutlineReader, Results};
+use lsp_rpc::{Act, Change, Encoding, Side, Spoken, SyncKind};
 use lsp_session::Session;
 use lsp_text::TextStore;
 use lsp_verdict::Counts;
@@ -85,7 +86,7 @@ impl<S: TextStore> Events<S> {
             → Holds self.old.session self.old.docs events
             → Holds self.new.session self.new.docs events) }
     {
-        let spoken = spoken_in(alloc, &self.session, &mut self.messages, side, content)?;
+        let spoken = spoken_in(&self.session, &mut self.messages, side, content)?;
         match self.follow(side, &spoken) {
             Ok(()) => Ok(spoken),
             Err(fault) => Err(fault.refuse(spoken)),
@@ -124,93 +125,32 @@ impl<S: TextStore> Events<S> {
     }
 }
 
-/// Reads a content. The value of a result is left out where nothing reads it.
-fn read_content(
-    alloc: Global,
-    session: &Session,
-    messages: &mut OutlineReader,
-    content: &[u8],
-) -> Result<Message, RpcFault>
-    ensures ok { IfOk result
-        (λ message. (whole : SpecMessage) × Reads content.now whole
-        × IsApart session.now (message_view message) whole) }
-    ensures rule { IfErr result (IsRefusal content.now) }
+/// Whether the value of a result is wanted: a session that awaits its handshake reads one.
+fn wanted_results(session: &Session) -> Results
+    ensures { result ≡ LeftOut → (before : List Sent) → Stands session.now before
+        → open_initializes before ≡ [] }
 {
     if session.awaits_initialize() {
-        read(alloc, content)
+        Results::Whole
     } else {
-        messages.read_answer(content)
+        Results::LeftOut
     }
 }
 
 /// Reads a content with what it means on its side.
-fn read_spoken(
-    alloc: Global,
-    session: &Session,
-    messages: &mut OutlineReader,
-    side: Side,
-    content: &[u8],
-) -> Result<Spoken, Refused>
-    ensures ok { IfOk result
-        (λ spoken. Says session.now side content.now (message_view spoken.message)
-        (act_view spoken.act)) }
-    ensures refused { IfErr result
-        (λ refused. (terms : Terms) (events : List Event)
-        → Refuses side content.now terms events refused) }
-{
-    let mut message = read_content(alloc, session, messages, content)?;
-    let act = take_act(alloc, &mut message, side)?;
-    Ok(Spoken { message, act })
-}
-
-/// A notification whose params its side reads, where the content is one of the common form.
-fn notice_in(messages: &mut OutlineReader, side: Side, content: &[u8]) -> Option<Spoken>
-    ensures { (session : SpecSession) → IfSome result (λ spoken.
-        Says session side content.now (message_view spoken.message) (act_view spoken.act)) }
-{
-    messages.read_notice(side, content)
-}
-
-/// A call whose params its side doesn't read, where the content is one of the common form.
-fn call_in(messages: &mut OutlineReader, side: Side, content: &[u8]) -> Option<Spoken>
-    ensures { (session : SpecSession)
-        → IfSome result (λ spoken. Says session side content.now (message_view spoken.message)
-        (act_view spoken.act)) }
-{
-    messages.read_call(side, content)
-}
-
-/// A message that is read without a tree of values.
-fn common_in(messages: &mut OutlineReader, side: Side, content: &[u8]) -> Option<Spoken>
-    ensures { (session : SpecSession)
-        → IfSome result (λ spoken. Says session side content.now (message_view spoken.message)
-        (act_view spoken.act)) }
-{
-    match notice_in(messages, side, content) {
-        Some(spoken) => Some(spoken),
-        None => call_in(messages, side, content),
-    }
-}
-
-/// Reads a content with what it means on its side, the most common ones without a tree of values.
 fn spoken_in(
-    alloc: Global,
     session: &Session,
     messages: &mut OutlineReader,
     side: Side,
     content: &[u8],
 ) -> Result<Spoken, Refused>
-    ensures ok { IfOk result
-        (λ spoken. Says session.now side content.now (message_view spoken.message)
-        (act_view spoken.act)) }
-    ensures refused { IfErr result
-        (λ refused. (terms : Terms) (events : List Event)
+    ensures ok { IfOk result (λ spoken. Says session.now side content.now
+        (message_view spoken.message) (act_view spoken.act)) }
+    ensures refused { IfErr result (λ refused. (terms : Terms) (events : List Event)
         → Refuses side content.now terms events refused) }
 {
-    match common_in(messages, side, content) {
-        Some(spoken) => Ok(spoken),
-        None => read_spoken(alloc, session, messages, side, content),
-    }
+    let spoken = messages.hear(side, content, wanted_results(session))?;
+    Ok(spoken)
 }
 
 /// Changes a document.

@@ -1,12 +1,12 @@
 -- What a call means whatever its params are.
 use Rattle.std.proofs.Common.{◌≡◌, ℕ, List, [], ◌∷◌, Bool, true, false, Option, Some, None}
-use Rattle.std.proofs.Common.{if◌then◌else◌, true≢false, sym, ap, ◌∙◌}
+use Rattle.std.proofs.Common.{if◌then◌else◌}
 use Rattle.std.specs.Prelude.{⊤}
 use Rattle.std.specs.Str.{bytes_eq}
 use Rattle.serde_json.specs.Data.{Data}
 use Rattle.lsp_rpc.specs.Act.{Act}
 use Rattle.lsp_rpc.specs.Message.{Message, request, notification, response, result, error}
-use Rattle.lsp_rpc.specs.Outline.{outline, without_params, is_call}
+use Rattle.lsp_rpc.specs.Outline.{outline}
 use Rattle.lsp_rpc.specs.Params.{Row, reads, means, act_by, act_at, editor_requests}
 use Rattle.lsp_rpc.specs.Params.{editor_notifications, server_requests, server_notifications}
 use Rattle.lsp_types.specs.declared.side.Side.{Side}
@@ -77,10 +77,3 @@ act_of_outline Editor (response id (result value)) act h = h
 act_of_outline Editor (response id (error code)) act h = h
 act_of_outline Server (response id (result value)) act h = h
 act_of_outline Server (response id (error code)) act h = h
-
-pub call_outline : (m whole : Message) → is_call m ≡ true → m ≡ outline whole
-    → m ≡ without_params whole
-call_outline m (request id method params) call h = h
-call_outline m (notification method params) call h = h
-call_outline m (response id (result value)) call h = absurd (true≢false (sym call ∙ ap is_call h))
-call_outline m (response id (error code)) call h = absurd (true≢false (sym call ∙ ap is_call h))

@@ -9,3 +9,5 @@ pub mod Spaces
 pub mod Blocks
 pub mod Strings
 pub mod Walking
+pub mod Speaking
+pub mod Negatives

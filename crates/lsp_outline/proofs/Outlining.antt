@@ -1,243 +1,180 @@
--- The parts of a message as members come in, and the message that they make.
+-- The message that its members make, apart from what its params and its result hold.
 use Rattle.std.proofs.Common.{◌≡◌, inl, inr, ℕ, ℤ, List, Bool, true, false, Option, Some, None}
 use Rattle.std.proofs.Common.{option_map, option_and_then, codes, bytes_eq, true≢false, refl, sym}
-use Rattle.std.proofs.Common.{ap, ◌∙◌, subst}
-use Rattle.std.specs.Prelude.{unwrap_or}
+use Rattle.std.proofs.Common.{ap, ◌∙◌}
+use Rattle.std.specs.Prelude.{◌⊎◌, is_some, unwrap_or}
 use Rattle.std.proofs.lemmas.Slice.Eq.{bytes_eq-Decides}
-use Rattle.serde_json.specs.Data.{Data, null, object, Members, put}
-use Rattle.serde_json.specs.Find.{get_member, as_str}
-use Rattle.serde_json.proofs.Views.{get_member-put, get_member-put_other}
+use Rattle.serde_json.specs.Data.{Data, null, boolean, number, string, array, object, Members}
+use Rattle.serde_json.specs.Find.{get_member}
 use Rattle.lsp_rpc.specs.Ident.{Ident}
 use Rattle.lsp_rpc.specs.Message.{Message, request, notification, response, result, error}
-use Rattle.lsp_rpc.specs.Outline.{outline, IsOrIsOutline}
-use Rattle.lsp_outline.specs.Kept.{part_named, with_part, kept}
-use Rattle.lsp_rpc.specs.Reading.{Parts, parts_of, rules_on, least_broken, message_in, call}
-use Rattle.lsp_rpc.specs.Reading.{code_of, reply_in, either, IsMessage}
-use Rattle.lsp_rpc.specs.Shape.{as_id, unless_null, is_structure_or_null, holds_unless_absent}
+use Rattle.lsp_rpc.specs.Outline.{outline, without_params, IsOrIsOutline}
+use Rattle.lsp_rpc.specs.Reading.{IsMessage, code_of}
+use Rattle.lsp_rpc.specs.Shape.{as_id, is_id_or_null, unless_null, is_structure_or_null}
+use Rattle.lsp_rpc.specs.Shape.{holds_unless_absent}
 use Rattle.lsp_rpc.specs.Words.{words_of}
 use Rattle.lsp_rpc.proofs.OutlineWords.{words_by_outline}
-
--- ---- one member more
+use Rattle.lsp_outline.specs.declared.outline.Results.{Results}
+use Rattle.lsp_outline.specs.declared.outline.Results.TheVariants.{LeftOut}
+use Rattle.lsp_outline.specs.Outlined.{id_in, call_in, response_in, lacks_result}
 
 pub differ : (q k : List ℕ) → bytes_eq q k ≡ false → q ≡ k → ⊥
 differ q k h e = true≢false (sym ((bytes_eq-Decides q k).1 e) ∙ h)
 
-turned : (q k : List ℕ) → bytes_eq k q ≡ false → q ≡ k → ⊥
-turned q k h e = differ k q h (sym e)
+-- ---- what is there
 
-module _ (d : Data) (ms : Members) where
-  here : (k : List ℕ) → get_member k (put k d ms) ≡ Some d
-  here k = get_member-put k d ms
+absent : {X : Type 0} (f : Data → X) (o : Option Data) → option_map f o ≡ None → o ≡ None
+absent f None h = refl
+absent f (Some d) h = absurd (cc)
 
-  there : (q k : List ℕ) → bytes_eq q k ≡ false → get_member q (put k d ms) ≡ get_member q ms
-  there q k h = get_member-put_other q k d ms (differ q k h)
+present : {X : Type 0} (f : Data → X) (o : Option Data) (x : X) → option_map f o ≡ Some x
+    → (d : Data) × (o ≡ Some d) × (f d ≡ x)
+present {X = X} f None x h = absurd (cc)
+present {X = X} f (Some d) x h = (d, refl, ap (λ (p : Option X). unwrap_or p x) h)
 
-  away : (q k : List ℕ) → bytes_eq k q ≡ false → get_member q (put k d ms) ≡ get_member q ms
-  away q k h = get_member-put_other q k d ms (turned q k h)
+there : (o : Option Data) → is_some o ≡ true → (d : Data) × (o ≡ Some d)
+there None h = absurd (cc)
+there (Some d) h = (d, refl)
 
-  abbrev Put : List ℕ → Type 0
-  Put k = parts_of (object (put k d ms)) ≡ with_part (part_named k) d (parts_of (object ms))
+missing : (o : Option Data) → is_some o ≡ false → o ≡ None
+missing None h = refl
+missing (Some d) h = absurd (cc)
 
-  put_version : Put (codes "jsonrpc")
-  put_version = let k = codes "jsonrpc" in rw (
-    here k,
-    there (codes "method") k refl,
-    there (codes "id") k refl,
-    there (codes "params") k refl,
-    there (codes "result") k refl,
-    there (codes "error") k refl,
-  )
+-- ---- ids
 
-  put_method : Put (codes "method")
-  put_method = let k = codes "method" in rw (
-    here k,
-    there (codes "jsonrpc") k refl,
-    there (codes "id") k refl,
-    there (codes "params") k refl,
-    there (codes "result") k refl,
-    there (codes "error") k refl,
-  )
+wrapped : (o : Option Ident) (i : Ident) → option_map Some o ≡ Some (Some i) → o ≡ Some i
+wrapped None i h = absurd (cc)
+wrapped (Some j) i h = ap (λ (o : Option (Option Ident)). unwrap_or o None) h
 
-  put_id : Put (codes "id")
-  put_id = let k = codes "id" in rw (
-    here k,
-    there (codes "jsonrpc") k refl,
-    there (codes "method") k refl,
-    there (codes "params") k refl,
-    there (codes "result") k refl,
-    there (codes "error") k refl,
-  )
+not_null : (o : Option Ident) → option_map Some o ≡ Some None → ⊥
+not_null None h = cc
+not_null (Some j) h = cc
 
-  put_params : Put (codes "params")
-  put_params = let k = codes "params" in rw (
-    here k,
-    there (codes "jsonrpc") k refl,
-    there (codes "method") k refl,
-    there (codes "id") k refl,
-    there (codes "result") k refl,
-    there (codes "error") k refl,
-  )
+own_id : (d : Data) (i : Ident) → id_in d ≡ Some (Some i) → as_id d ≡ Some i
+own_id null i h = absurd (cc)
+own_id (boolean b) i h = wrapped (as_id (boolean b)) i h
+own_id (number n) i h = wrapped (as_id (number n)) i h
+own_id (string s) i h = wrapped (as_id (string s)) i h
+own_id (array ds) i h = wrapped (as_id (array ds)) i h
+own_id (object ms) i h = wrapped (as_id (object ms)) i h
 
-  put_result : Put (codes "result")
-  put_result = let k = codes "result" in rw (
-    here k,
-    there (codes "jsonrpc") k refl,
-    there (codes "method") k refl,
-    there (codes "id") k refl,
-    there (codes "params") k refl,
-    there (codes "error") k refl,
-  )
+no_id : (d : Data) → id_in d ≡ Some None → d ≡ null
+no_id null h = refl
+no_id (boolean b) h = absurd (not_null (as_id (boolean b)) h)
+no_id (number n) h = absurd (not_null (as_id (number n)) h)
+no_id (string s) h = absurd (not_null (as_id (string s)) h)
+no_id (array ds) h = absurd (not_null (as_id (array ds)) h)
+no_id (object ms) h = absurd (not_null (as_id (object ms)) h)
 
-  put_error : Put (codes "error")
-  put_error = let k = codes "error" in rw (
-    here k,
-    there (codes "jsonrpc") k refl,
-    there (codes "method") k refl,
-    there (codes "id") k refl,
-    there (codes "params") k refl,
-    there (codes "result") k refl,
-  )
+id_of_response : (d : Data) (id : Option Ident) → id_in d ≡ Some id
+    → (is_id_or_null d ≡ true) × (as_id d ≡ id)
+id_of_response d None h = (ap is_id_or_null (no_id d h), ap as_id (no_id d h))
+id_of_response d (Some i) h =
+    let own = own_id d i h in
+    let good : is_id_or_null d ≡ true = rw own in
+    (good, own)
 
-  put_other : (k : List ℕ) → bytes_eq k (codes "jsonrpc") ≡ false
-      → bytes_eq k (codes "method") ≡ false → bytes_eq k (codes "id") ≡ false
-      → bytes_eq k (codes "params") ≡ false → bytes_eq k (codes "result") ≡ false
-      → bytes_eq k (codes "error") ≡ false → Put k
-  put_other k v m i p r e =
-      rw (
-        v,
-        m,
-        i,
-        p,
-        r,
-        e,
-        away (codes "jsonrpc") k v,
-        away (codes "method") k m,
-        away (codes "id") k i,
-        away (codes "params") k p,
-        away (codes "result") k r,
-        away (codes "error") k e,
-      )
-
-  known : (k name : List ℕ) → Put name → bytes_eq k name ≡ true → Put k
-  known k name h e = subst Put (sym ((bytes_eq-Decides k name).0 e)) h
-
-  by_error : (k : List ℕ) (b : Bool) → bytes_eq k (codes "jsonrpc") ≡ false
-      → bytes_eq k (codes "method") ≡ false → bytes_eq k (codes "id") ≡ false
-      → bytes_eq k (codes "params") ≡ false → bytes_eq k (codes "result") ≡ false
-      → bytes_eq k (codes "error") ≡ b → Put k
-  by_error k true v m i p r e = known k (codes "error") put_error e
-  by_error k false v m i p r e = put_other k v m i p r e
-
-  by_result : (k : List ℕ) (b : Bool) → bytes_eq k (codes "jsonrpc") ≡ false
-      → bytes_eq k (codes "method") ≡ false → bytes_eq k (codes "id") ≡ false
-      → bytes_eq k (codes "params") ≡ false → bytes_eq k (codes "result") ≡ b → Put k
-  by_result k true v m i p r = known k (codes "result") put_result r
-  by_result k false v m i p r = by_error k _ v m i p r refl
-
-  by_params : (k : List ℕ) (b : Bool) → bytes_eq k (codes "jsonrpc") ≡ false
-      → bytes_eq k (codes "method") ≡ false → bytes_eq k (codes "id") ≡ false
-      → bytes_eq k (codes "params") ≡ b → Put k
-  by_params k true v m i p = known k (codes "params") put_params p
-  by_params k false v m i p = by_result k _ v m i p refl
-
-  by_id : (k : List ℕ) (b : Bool) → bytes_eq k (codes "jsonrpc") ≡ false
-      → bytes_eq k (codes "method") ≡ false → bytes_eq k (codes "id") ≡ b → Put k
-  by_id k true v m i = known k (codes "id") put_id i
-  by_id k false v m i = by_params k _ v m i refl
-
-  by_method : (k : List ℕ) (b : Bool) → bytes_eq k (codes "jsonrpc") ≡ false
-      → bytes_eq k (codes "method") ≡ b → Put k
-  by_method k true v m = known k (codes "method") put_method m
-  by_method k false v m = by_id k _ v m refl
-
-  by_version : (k : List ℕ) (b : Bool) → bytes_eq k (codes "jsonrpc") ≡ b → Put k
-  by_version k true v = known k (codes "jsonrpc") put_version v
-  by_version k false v = by_method k _ v refl
-
-  -- with one more member, its part is the new value
-  pub put_part : (k : List ℕ) → Put k
-  put_part k = by_version k _ refl
+pub some_id : (d : Data) (i : Ident) → as_id d ≡ Some i → id_in d ≡ Some (Some i)
+some_id null i h = absurd (cc)
+some_id (boolean b) i h = absurd (cc)
+some_id (number n) i h = ap (option_map Some) h
+some_id (string s) i h = ap (option_map Some) h
+some_id (array ds) i h = absurd (cc)
+some_id (object ms) i h = absurd (cc)
 
 -- ---- the message
 
-abbrev Same : Message → Option Message → Type 0
-Same m o = (whole : Message) × (o ≡ Some whole) × (m ≡ outline whole)
+abbrev Outlines : Members → Message → Type 0
+Outlines ms m = (whole : Message) × IsMessage (object ms) whole × (m ≡ outline whole)
 
-same_some : (m a b : Message) → Some a ≡ Some m → a ≡ outline b → Same m (Some b)
-same_some m a b e h = (b, refl, sym (ap (λ (o : Option Message). unwrap_or o m) e) ∙ h)
+same : (a m : Message) → Some a ≡ Some m → m ≡ a
+same a m h = sym (ap (λ (o : Option Message). unwrap_or o m) h)
 
-called : (method : List ℕ) (id : Option Ident) (params : Option Data) (m : Message)
-    → Some (call method id None) ≡ Some m → Same m (Some (call method id params))
-called method (Some id) params m e =
-    same_some m (request id method None) (request id method params) e refl
-called method None params m e =
-    same_some m (notification method None) (notification method params) e refl
+module _ (ms : Members) (version : get_member (codes "jsonrpc") ms ≡ Some (string (codes "2.0")))
+    (good : holds_unless_absent is_structure_or_null (get_member (codes "params") ms) ≡ true) where
+  abbrev own_params : Option Data
+  own_params = option_and_then unless_null (get_member (codes "params") ms)
 
-called_by : (name : Option (List ℕ)) (id : Option Ident) (params : Option Data) (m : Message)
-    → option_map (λ method. call method id None) name ≡ Some m
-    → Same m (option_map (λ method. call method id params) name)
-called_by None id params m e = absurd (cc)
-called_by (Some method) id params m e = called method id params m e
+  pub call_made : (name : List ℕ) (id : Option (Option Ident)) (m : Message)
+      → get_member (codes "method") ms ≡ Some (string name)
+      → option_map id_in (get_member (codes "id") ms) ≡ option_map Some id
+      → call_in name id ≡ Some m → Outlines ms m
+  call_made name None m method id is =
+      let none = absent id_in _ id in (
+        notification name own_params,
+        record { keeps_rules = rw (version, method, none, good); made = rw (method, none) },
+        same (notification name None) m is,
+      )
+  call_made name (Some None) m method id is = absurd (cc)
+  call_made name (Some (Some i)) m method id is =
+      let d = present id_in _ (Some (Some i)) id in
+      let own = own_id d.0 i d.2 in (
+        request i name own_params,
+        record { keeps_rules = rw (version, method, d.1, own, good); made = rw (method, d.1, own) },
+        same (request i name None) m is,
+      )
 
-failed : (id : Option Ident) (code : Option ℤ) (m : Message)
-    → option_map (response id) (option_map error code) ≡ Some m
-    → Same m (option_map (response id) (option_map error code))
-failed id None m h = absurd (cc)
-failed id (Some code) m h = same_some m (response id (error code)) (response id (error code)) h refl
+  result_made : (id : Option Ident) (d value : Data) (m : Message)
+      → get_member (codes "method") ms ≡ None → get_member (codes "id") ms ≡ Some d
+      → (is_id_or_null d ≡ true) × (as_id d ≡ id)
+      → get_member (codes "result") ms ≡ Some value → get_member (codes "error") ms ≡ None
+      → Some (response id (result null)) ≡ Some m → Outlines ms m
+  result_made id d value m method own i there none is = (
+    response id (result value),
+    record {
+      keeps_rules = rw (version, method, own, i.0, there, none);
+      made = rw (method, own, i.1, there);
+    },
+    same (response id (result null)) m is,
+  )
 
-answered : (id : Option Ident) (r e : Option Data) (m : Message)
-    → option_map (response id) (reply_in (option_map (λ value. null) r) e) ≡ Some m
-    → Same m (option_map (response id) (reply_in r e))
-answered id (Some value) e m h =
-    same_some m (response id (result null)) (response id (result value)) h refl
-answered id None None m h = absurd (cc)
-answered id None (Some e) m h = failed id (code_of e) m h
+  error_made : (id : Option Ident) (d fault : Data) (code : ℤ) (m : Message)
+      → get_member (codes "method") ms ≡ None → get_member (codes "id") ms ≡ Some d
+      → (is_id_or_null d ≡ true) × (as_id d ≡ id)
+      → get_member (codes "result") ms ≡ None → get_member (codes "error") ms ≡ Some fault
+      → code_of fault ≡ Some code → Some (response id (error code)) ≡ Some m → Outlines ms m
+  error_made id d fault code m method own i none there is_code is = (
+    response id (error code),
+    record {
+      keeps_rules = rw (version, method, own, i.0, none, there, is_code);
+      made = rw (method, own, i.1, none, there, is_code);
+    },
+    same (response id (error code)) m is,
+  )
 
-made : (version method id params r e : Option Data) (m : Message)
-    → message_in (kept (record {
-      version = version;
-      method = method;
-      id = id;
-      params = params;
-      result = r;
-      error = e;
-    })) ≡ Some m
-    → Same m (message_in (record {
-      version = version;
-      method = method;
-      id = id;
-      params = params;
-      result = r;
-      error = e;
-    }))
-made version (Some name) id params r e m h =
-    called_by (as_str name) (option_and_then as_id id) (option_and_then unless_null params) m h
-made version None id params r e m h = answered (option_and_then as_id id) r e m h
+  pub response_made : (id : Option Ident) (r : Bool) (e : Option ℤ) (m : Message)
+      → get_member (codes "method") ms ≡ None
+      → option_map id_in (get_member (codes "id") ms) ≡ Some (Some id)
+      → is_some (get_member (codes "result") ms) ≡ r
+      → option_map code_of (get_member (codes "error") ms) ≡ option_map Some e
+      → response_in id r e ≡ Some m → Outlines ms m
+  response_made id true None m method own r e is =
+      let d = present id_in _ (Some id) own in
+      let value = there _ r in
+      result_made id d.0 value.0 m method d.1 (id_of_response d.0 id d.2) value.1
+      (absent code_of _ e) is
+  response_made id true (Some code) m method own r e is = absurd (cc)
+  response_made id false None m method own r e is = absurd (cc)
+  response_made id false (Some code) m method own r e is =
+      let d = present id_in _ (Some id) own in
+      let fault = present code_of _ (Some code) e in
+      error_made id d.0 fault.0 code m method d.1 (id_of_response d.0 id d.2) (missing _ r)
+      fault.1 fault.2 is
 
-either_kept : (r e : Option Data) → either (option_map (λ value. null) r) e ≡ either r e
-either_kept None e = refl
-either_kept (Some value) e = refl
+-- where the outline lacks no result, it lacks the params alone
+pub lacks_params : (m whole : Message) → lacks_result m ≡ false → m ≡ outline whole
+    → m ≡ without_params whole
+lacks_params m (request id method params) none h = h
+lacks_params m (notification method params) none h = h
+lacks_params m (response id (result value)) none h =
+    absurd (true≢false (sym (ap lacks_result h) ∙ none))
+lacks_params m (response id (error code)) none h = h
 
-rules_kept : (p : Parts) → holds_unless_absent is_structure_or_null p.params ≡ true
-    → rules_on (kept p) ≡ rules_on p
-rules_kept p h = rw (h, either_kept p.result p.error)
-
--- what the parts that are kept make is the outline of the value's message
-pub outlined : (ms : Members) (m : Message)
-    → holds_unless_absent is_structure_or_null (parts_of (object ms)).params ≡ true
-    → least_broken (rules_on (kept (parts_of (object ms)))) ≡ None
-    → message_in (kept (parts_of (object ms))) ≡ Some m
-    → (whole : Message) × IsMessage (object ms) whole × (m ≡ outline whole)
-outlined ms m good keeps is =
-    let p = parts_of (object ms) in
-    let whole = made p.version p.method p.id p.params p.result p.error m is in (
-      whole.0,
-      record {
-        keeps_rules = ap least_broken (sym (rules_kept (parts_of (object ms)) good)) ∙ keeps;
-        made = whole.1;
-      },
-      whole.2,
-    )
+pub what_is_left : (results : Results) (m whole : Message)
+    → (results ≡ LeftOut) ⊎ (lacks_result m ≡ false) → m ≡ outline whole
+    → (m ≡ without_params whole) ⊎ ((results ≡ LeftOut) × (m ≡ outline whole))
+what_is_left results m whole (inl out) is = inr (out, is)
+what_is_left results m whole (inr none) is = inl (lacks_params m whole none is)
 
 -- a message and its outline have the same words
 pub same_words : (m whole : Message) → IsOrIsOutline m whole → words_of m ≡ words_of whole

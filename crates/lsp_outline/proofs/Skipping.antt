@@ -68,7 +68,8 @@ number_passed depth digits ts h =
     let read = some_of (number_of digits) h in (
       read.0,
       ap (converted of_json) (value_is depth (Token.number digits ∷ ts))
-          ∙ ap (λ n. option_map {U = Data × List Token} (λ d. (d, ts)) (option_map number n)) read.1,
+          ∙ ap (λ n. option_map {U = Data × List Token} (λ d. (d, ts)) (option_map number n))
+          read.1,
     )
 
 pub array_passed : (depth : ℕ) (ts rest : List Token) (ds : Items) → 0 < depth

@@ -1,3 +1,4 @@
-pub mod Kept
 pub mod Notice
+pub mod Outlined
+pub mod Spoken
 pub mod Walk

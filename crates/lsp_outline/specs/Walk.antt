@@ -1,5 +1,5 @@
 -- What lies between two places of a JSON text.
-use Rattle.std.specs.Prelude.{◌≡◌, ℕ, ◌+◌, ◌-◌, ◌<◌, ◌≤◌, ◌==◌, ◌||◌, List, length, take, drop}
+use Rattle.std.specs.Prelude.{◌≡◌, ℕ, ℤ, ◌+◌, ◌-◌, ◌<◌, ◌≤◌, ◌==◌, ◌||◌, List, length, take, drop}
 use Rattle.std.specs.Prelude.{get_or, true, cond, Some, is_some, nat_eq}
 use Rattle.std.specs.Char.{is_ascii_digit}
 use Rattle.std.specs.List.{list_all, starts_with}
@@ -10,11 +10,21 @@ use Rattle.json.specs.Word.{ends_word}
 use Rattle.json.specs.Print.{IsNumber}
 use Rattle.json.specs.Lex.{lex, between, in_string, Place, fresh, after_value, may_begin, punctuate}
 use Rattle.json.specs.Json.{value, items, members, parse_map, read_key}
-use Rattle.serde_json.specs.Data.{Data, Items, Members, no_members, unsigned}
+use Rattle.serde_json.specs.Data.{Num, unsigned, Data, null, boolean, number, string, array, object}
+use Rattle.serde_json.specs.Data.{Items, Members, no_members}
 use Rattle.serde_json.specs.Read.{of_json, of_items, of_members, converted, number_of}
+use Rattle.lsp_rpc.specs.Shape.{as_integer}
 use Rattle.lsp_outline.specs.declared.walk.Kind.{Kind}
 use Rattle.lsp_outline.specs.declared.walk.Kind.TheVariants as kinds
-use Rattle.lsp_outline.specs.Kept.{kind_of}
+
+-- the kind of a value, as far as params are judged
+abbrev pub kind_of : Data → Kind
+kind_of null = kinds.Null
+kind_of (boolean b) = kinds.Plain
+kind_of (number n) = kinds.Plain
+kind_of (string s) = kinds.Plain
+kind_of (array ds) = kinds.Structure
+kind_of (object ms) = kinds.Structure
 
 -- the kind of a value that begins with this byte
 abbrev pub kind_at : ℕ → Kind
@@ -54,6 +64,13 @@ pub record IsNumeral (d : List ℕ) (from end : ℕ) : Type 0 where
 pub record IsNatural (d : List ℕ) (from end n : ℕ) : Type 0 where
   pub numeral : IsNumeral d from end
   pub value : number_of (part d from end) ≡ Some (unsigned n)
+
+-- an integer of 32 bits, of this value
+pub record IsInteger (d : List ℕ) (from end : ℕ) (z : ℤ) : Type 0 where
+  pub numeral : IsNumeral d from end
+  pub read : Num
+  pub value : number_of (part d from end) ≡ Some read
+  pub small : as_integer (number read) ≡ Some z
 
 -- at most nine digits, none or more, that write this
 pub record AreFewDigits (d : List ℕ) (from end n : ℕ) : Type 0 where

@@ -14,4 +14,4 @@ mod outline;
 mod texts;
 mod walk;
 
-pub use outline::OutlineReader;
+pub use outline::{OutlineReader, Results};

@@ -10,7 +10,7 @@ ghost use Rattle.lsp_rpc.specs.Shape.{as_id, as_integer, unless_null};
 ghost use Rattle.lsp_outline.specs.Walk.{IsValue, AreMembers};
 
 use crate::bytes::{byte_at, spaces_end};
-use crate::numbers::natural_at;
+use crate::numbers::{natural_at, negative_at};
 use crate::walk::{key, literal_end, plain_string, string_copy, value_end};
 use lsp_rpc::Id;
 use std::alloc::Global;
@@ -144,7 +144,31 @@ pub(crate) fn text_unless_null_at(
     Some((Some(copy), end))
 }
 
-/// The id that begins there, a string or an integer that is not negative, and where it ends.
+/// The integer of 32 bits that begins there, and where it ends.
+pub(crate) fn integer_at(text: &str, from: usize) -> Option<(i32, usize)>
+    requires { from ≤ length text.now }
+    ensures { IfSome result (λ r. (d : Data) × ((depth : ℕ) → IsValue depth text.now from r.1 d)
+        × (as_integer d ≡ Some r.0)) }
+{
+    if byte_at(text.as_bytes(), from) == b'-' {
+        return below_zero_at(text, from);
+    }
+    let (n, end) = uinteger_at(text, from)?;
+    Some((n as i32, end))
+}
+
+/// The integer below zero that begins there, and where it ends.
+#[inline(never)]
+fn below_zero_at(text: &str, from: usize) -> Option<(i32, usize)>
+    requires { from ≤ length text.now }
+    ensures { IfSome result (λ r. (d : Data) × ((depth : ℕ) → IsValue depth text.now from r.1 d)
+        × (as_integer d ≡ Some r.0)) }
+{
+    let (n, end) = negative_at(text.as_bytes(), from)?;
+    Some((n, end))
+}
+
+/// The id that begins there, a string or an integer of 32 bits, and where it ends.
 pub(crate) fn id_at(alloc: Global, text: &str, from: usize) -> Option<(Id, usize)>
     requires { from ≤ length text.now }
     ensures { IfSome result (λ r. (d : Data) × ((depth : ℕ) → IsValue depth text.now from r.1 d)
@@ -154,6 +178,6 @@ pub(crate) fn id_at(alloc: Global, text: &str, from: usize) -> Option<(Id, usize
         let (copy, end) = string_copy(alloc, text, from)?;
         return Some((Id::Text(copy), end));
     }
-    let (n, end) = uinteger_at(text, from)?;
-    Some((Id::Number(n as i32), end))
+    let (n, end) = integer_at(text, from)?;
+    Some((Id::Number(n), end))
 }

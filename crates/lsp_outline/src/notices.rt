@@ -26,7 +26,7 @@ use lsp_rpc::{Act, Id, Message, Spoken};
 use lsp_types::{Change, Side};
 use std::alloc::Global;
 
-const VERSION: &str = "2.0";
+pub(crate) const VERSION: &str = "2.0";
 
 /// Which notification it is, of those whose params a side reads.
 #[derive(Clone, Copy)]

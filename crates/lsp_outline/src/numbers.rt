@@ -6,9 +6,10 @@ ghost use Rattle.std.specs.List.{list_all, prefix_len};
 ghost use Rattle.std.specs.Str.Parse.{digits_value};
 ghost use Rattle.json.specs.Print.{IsNumber};
 ghost use Rattle.json.specs.Word.{is_operator, is_space};
-ghost use Rattle.serde_json.specs.Data.{unsigned};
+ghost use Rattle.serde_json.specs.Data.{Num, number, unsigned};
 ghost use Rattle.serde_json.specs.Read.{number_of, number_from};
-ghost use Rattle.lsp_outline.specs.Walk.{IsNumeral, IsNatural, AreFewDigits};
+ghost use Rattle.lsp_rpc.specs.Shape.{as_integer};
+ghost use Rattle.lsp_outline.specs.Walk.{IsNumeral, IsNatural, IsInteger, AreFewDigits};
 
 use crate::bytes::{byte_at, is_delimiter};
 use fast_float::Numeral;
@@ -199,4 +200,37 @@ pub(crate) fn natural_at(bytes: &[u8], from: usize) -> Option<(u64, usize)>
         return long_natural_at(bytes, from);
     }
     Some((u64::from(n), end))
+}
+
+/// The integer below zero and of 32 bits that a sign and this numeral write.
+fn below_zero(numeral: &Numeral<'_>) -> Option<i32>
+    ensures { IfSome result (λ z. (n : Num) × (number_from true numeral.now ≡ Some n)
+        × (as_integer (number n) ≡ Some z)) }
+{
+    let n = numeral.to_u64()?;
+    if n == 0 || n >= 1 << 31 {
+        return None;
+    }
+    Some(-(n as i32))
+}
+
+/// The number that a numeral writes, where it is an integer below zero and of 32 bits.
+fn negative_of(digits: &[u8]) -> Option<i32>
+    ensures { IfSome result (λ z. (n : Num) × (number_of digits.now ≡ Some n)
+        × (as_integer (number n) ≡ Some z)) }
+{
+    if !has_minus(digits) {
+        return None;
+    }
+    below_zero(&Numeral::scan(&digits[1..]))
+}
+
+/// The integer below zero and of 32 bits that begins there, and where it ends.
+pub(crate) fn negative_at(bytes: &[u8], from: usize) -> Option<(i32, usize)>
+    requires { from ≤ length bytes.now }
+    ensures { IfSome result (λ r. IsInteger bytes.now from r.1 r.0) }
+{
+    let end = number_end(bytes, from)?;
+    let n = negative_of(&bytes[from..end])?;
+    Some((n, end))
 }

@@ -1,10 +1,10 @@
-//! Going past JSON values of which only the kind is wanted.
+//! Going past JSON values of which at most the kind is wanted.
 ghost use Rattle.std.specs.Prelude.{◌≡◌, ◌∷◌, ◌+◌, ◌<◌, ◌≤◌, ℕ, List, drop, length, get_or, false};
 ghost use Rattle.std.specs.Prelude.{Some, IfSome, string_bytes};
 ghost use Rattle.json.specs.Lex.{lex, between, colon, begins_colon};
 ghost use Rattle.serde_json.specs.Data.{Data, string, Items, Members};
-ghost use Rattle.lsp_outline.specs.Kept.{kind_of};
-ghost use Rattle.lsp_outline.specs.Walk.{kind_at, IsLiteral, IsValue, AreItems, AreMembers};
+ghost use Rattle.lsp_outline.specs.Walk.{kind_of, kind_at, IsLiteral, IsValue, AreItems};
+ghost use Rattle.lsp_outline.specs.Walk.{AreMembers};
 ghost use Rattle.lsp_outline.specs.Walk.{SomeItems, IsKey};
 ghost use Rattle.lsp_rpc.specs.Shape.{is_structure_or_null};
 
@@ -96,7 +96,7 @@ fn end_before_no_colon(bytes: &[u8], from: usize) -> Option<usize>
 
 /// Where the string ends that begins there and is no key.
 #[inline(always)]
-fn string_end(bytes: &[u8], from: usize) -> Option<usize>
+pub(crate) fn string_end(bytes: &[u8], from: usize) -> Option<usize>
     requires { get_or bytes.now from 0 ≡ 34 }
     ensures { IfSome result (λ end. (s : List ℕ)
         × ((depth : ℕ) → IsValue depth bytes.now from end (string s))) }
