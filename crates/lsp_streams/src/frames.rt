@@ -23,12 +23,8 @@ use lsp_rpc::RpcFault;
 use lsp_verdict::{Mode, Outcome, RunFault, StreamFault, stream_report};
 use std::alloc::Global;
 
-/// How many bytes are asked of the source at once. The unfinished frame at the end of each piece is
-/// moved, so a large piece moves less.
-const PIECE: u64 = 262_144;
-
-/// How many bytes of a content must be missing to drop it where only its length is due.
-const LONG: u64 = 65_536;
+/// How many bytes are asked of the source at once.
+const PIECE: u64 = 65_536;
 
 /// How many bytes a line of numbers has at most: two numbers of 20 digits, a space, and an end.
 const LINE: usize = 42;
@@ -154,7 +150,7 @@ fn long_content(decoder: &Decoder, mode: Mode, left: u64) -> Option<Missing>
         return None;
     }
     let missing = decoder.missing()?;
-    if !(LONG..=left).contains(&(missing.bytes as u64)) {
+    if !(PIECE..=left).contains(&(missing.bytes as u64)) {
         return None;
     }
     Some(missing)
