@@ -37,10 +37,11 @@ use lsp_types::{Change, Encoding, Memory, SyncKind};
 use std::alloc::Global;
 use std::marker::Model;
 
-/// The open documents in order of opening, and the snapshots that wait for their versions.
+/// The open documents in the order in which they were opened, and the snapshots that wait for their
+/// versions.
 ///
 /// It stands for the list of the calls that it accepted (LSP 3.17, "Text Document
-/// Synchronization"). URIs compare byte for byte. A refused call, also one refused for want of
+/// Synchronization"). URIs are compared byte for byte. A refused call, also one refused for lack of
 /// memory, changes nothing.
 #[derive(Drop)]
 pub struct Docs<S: TextStore> {
@@ -95,7 +96,7 @@ impl<S: TextStore> Docs<S> {
         self.documents.len()
     }
 
-    /// The URI of the document at this place in order of opening, from 0.
+    /// The URI of the document at this place in the order in which they were opened, from 0.
     pub fn at(&self, index: usize) -> Option<&str>
         ensures { (calls : List Call) → Stands self.now calls
             → option_map (λ uri. uri.now) result
@@ -493,7 +494,7 @@ impl<S: TextStore> Docs<S> {
             .change(self.limit, encoding, uri, version, change)
     }
 
-    /// Makes the changes in a copy, which takes the place of the held store if no waiting snapshot
+    /// Makes the changes in a copy, which replaces the held store if no waiting snapshot
     /// contradicts it.
     fn change_copy(
         &mut self,

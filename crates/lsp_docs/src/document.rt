@@ -37,7 +37,7 @@ impl<S: TextStore> Document<S> {
         }
     }
 
-    /// Puts a version in the place of the held one, which is kept as the last of at most so many.
+    /// Replaces the held version, which is kept as the last of at most this many.
     pub(crate) fn revise(&mut self, most: usize, version: i32, store: S) -> Result<(), AllocError>
         ensures version { OnOk result (self.new.held.version ≡ version) }
         ensures store { OnOk result (S.content self.new.held.store ≡ S.content store) }
@@ -99,7 +99,7 @@ impl<S: TextStore> Document<S> {
         }
     }
 
-    /// What a snapshot that breaks no rule comes to.
+    /// The outcome for a snapshot that breaks no rule.
     fn answer(&self, version: i32) -> Match
         ensures { result ≡ answer_of version self.now.kept
             (Some (versioned self.now.held.version (S.content self.now.held.store))) }

@@ -47,7 +47,7 @@ abbrev pub equal_facts : Option Shown → List Fact
 equal_facts None = []
 equal_facts (Some shown) = equal_by shown.version shown.event ∷ []
 
--- the snapshots that differ from the text of a call behind these, by their events: of those that
+-- the snapshots that differ from the text of a call after these, by their events: of those that
 -- wait for its version the ones with another text, or it is one itself, by this event
 abbrev pub differing : Terms → List Call → List Step → ℕ → Call → List ℕ
 differing terms before done n (opens uri number text) =
@@ -68,13 +68,13 @@ abbrev pub document_traced : List Step → List ℕ → ℕ → List Fact → Li
 document_traced done snapshots rule plain =
     with_setter (brought done) plain ++ texts_traced (agreed done) snapshots rule
 
--- what an act says of a document behind these events, under what was agreed
+-- what an act says about a document after these events, under what was agreed
 abbrev pub act_call : Terms → List Event → Act → Option Call
 act_call terms before act =
     call_of (unwrap_or (encoding (sent_in (kept_of terms before))) Utf16)
     (unwrap_or (sync_kind (sent_in (kept_of terms before))) Nothing) act
 
--- the facts on a call that breaks this rule behind these events
+-- the facts on a call that breaks this rule after these events
 abbrev pub call_traced : Terms → List Event → ℕ → Option Call → List Fact → List Fact
 call_traced terms before rule None plain = plain
 call_traced terms before rule (Some call) plain =
@@ -101,7 +101,7 @@ session_trace rule said side id =
     else (if rule == 302 then asking_facts side said id ++ answer_facts side said id
     else (if is_within 401 412 rule then number_facts led_by (since said) else []))
 
--- **the facts on an event that offends by this rule behind these**, with the events that brought it
+-- **the facts on an event that offends by this rule after these**, with the events that brought it
 abbrev pub traced : Terms → List Event → Event → ℕ → List Fact → List Fact
 traced terms before (fault side number) rule plain = plain
 traced terms before (message m) rule plain =
@@ -111,7 +111,7 @@ traced terms before (message m) rule plain =
 traced terms before (snapshot uri number text) rule plain =
     call_traced terms before rule (said_at terms before (snapshot uri number text)) plain
 
--- what is said of the event, with the events that brought it
+-- what is said about the event, with the events that brought it
 abbrev pub AreTraced : (List Fact → Type 0) → Terms → List Event → Event → ℕ → List Fact → Type 0
 AreTraced AreSaid terms before event rule facts =
     (plain : List Fact) × AreSaid plain × (facts ≡ traced terms before event rule plain)
@@ -126,7 +126,7 @@ request_by e (Some n) = waits_since e.id e.method n
 abbrev pub waiting_by : List Numbered → Entry → Fact
 waiting_by said e = request_by e (asked Editor e.id said)
 
--- **the facts on a session that ends behind these messages where it lacks something**
+-- **the facts on a session that ends after these messages and is not complete**
 abbrev pub lack_traced : List Numbered → List Fact
 lack_traced said = map (waiting_by said) (open_requests Editor (sents said)) ++ in_phase
     (phase (sents said)) ∷ number_facts led_by (since said)

@@ -1,4 +1,4 @@
-//! What is said of an offence: the line that names its event, and the facts on it.
+//! What is said about an offence: the line that names its event, and the facts on it.
 ghost use Rattle.std.specs.Prelude.{◌≡◌, ◌++◌, ℕ, List, Some, IfOk, OnOk, string_bytes};
 ghost use Rattle.lsp_docs.specs.Terms.{Terms};
 ghost use Rattle.lsp_survey.specs.Asking.{numbered};
@@ -101,8 +101,8 @@ fn push_event(
     }
 }
 
-/// Adds what is said of an offence. The reader stands for the events before it, and the rest is of
-/// its side.
+/// Adds what is said about an offence. The reader stands for the events before it, and the rest is
+/// of its side.
 pub(crate) fn push_said(
     alloc: Global,
     lines: &mut String,
@@ -133,7 +133,7 @@ pub(crate) fn push_said(
 }
 
 /// The facts on how a session ends that breaks this rule: 107 has those on the rest of a side, 303
-/// and 407 those on what the session lacks. The reader stands for all its events.
+/// and 407 those on what is missing from the session. The reader stands for all its events.
 fn end_facts(
     alloc: Global,
     events: &SurveyReader,
@@ -152,8 +152,8 @@ fn end_facts(
     lack_traced(alloc, events)
 }
 
-/// Adds what is said of how a session ends. The reader stands for all its events, and the rest is
-/// of the side that it is said of.
+/// Adds what is said about how a session ends. The reader stands for all its events, and the rest
+/// is that of the side concerned.
 pub(crate) fn push_end(
     alloc: Global,
     lines: &mut String,

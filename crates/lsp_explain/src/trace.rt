@@ -38,8 +38,8 @@ const SAVED_TEXT_DIFFERS: u16 = 608;
 /// The least rule on documents.
 const FIRST_ON_DOCUMENTS: u16 = 601;
 
-/// What is said of a message of a side that offends by this rule, 301 to 702, with the events that
-/// brought it. The reader stands for the events before it.
+/// What is said about a message of a side that offends by this rule, 301 to 702, with the events
+/// that brought it. The reader stands for the events before it.
 pub(crate) fn message_traced(
     alloc: Global,
     events: &SurveyReader,
@@ -62,8 +62,8 @@ pub(crate) fn message_traced(
     Ok(facts)
 }
 
-/// What is said of a snapshot, the event of this number, that offends by this rule, with the events
-/// that brought it. The reader stands for the events before it.
+/// What is said about a snapshot, the event of this number, that offends by this rule, with the
+/// events that brought it. The reader stands for the events before it.
 pub(crate) fn shown_traced(
     alloc: Global,
     events: &SurveyReader,
@@ -265,7 +265,7 @@ fn trace_document(
     push_texts(facts, marks.agreed(uri), snapshots, rule)
 }
 
-/// Puts the event that set the held version beside that version.
+/// Adds the event that set the held version to that fact.
 fn put_setter(facts: &mut Vec<Fact>, brought: Option<u64>) -> Result<(), Memory>
     ensures { OnOk result (facts_view facts.new.items
         ≡ spec.with_setter brought (facts_view facts.old.items)) }
@@ -279,7 +279,7 @@ fn put_setter(facts: &mut Vec<Fact>, brought: Option<u64>) -> Result<(), Memory>
     set_second(facts, event)
 }
 
-/// Puts the event that set the held version beside that version, if the second fact says that.
+/// Adds the event that set the held version, if the second fact is that version.
 fn set_second(facts: &mut Vec<Fact>, event: u64) -> Result<(), Memory>
     requires { 2 ≤ vec_len facts.old }
     ensures { OnOk result (facts_view facts.new.items
@@ -369,9 +369,9 @@ fn push_since(facts: &mut Vec<Fact>, event: Option<u64>) -> Result<(), Memory>
     Ok(facts.push(Fact::Since(event))?)
 }
 
-/// What is said of a session that ends where it lacks something: the requests of the editor's that
-/// wait, in order of asking, with the events that asked them; how far the session has come, and the
-/// event that led there. The reader stands for all its events.
+/// What is said about a session that ends and is not complete: the requests of the editor's that
+/// wait, in the order in which they were sent, with the events that sent them; how far the session
+/// has come, and the event that led there. The reader stands for all its events.
 ///
 /// # Errors
 /// `Memory` where memory was refused.

@@ -65,7 +65,7 @@ fits Nothing edit = false
 fits Full edit = is_none edit.span
 fits Incremental edit = true
 
--- how many changes stand before the first that is not of the kind
+-- how many changes come before the first that is not of the kind
 abbrev pub fitting : SyncKind → List Edit → ℕ
 fitting kind cs = prefix_len (fits kind) cs
 

@@ -1,4 +1,4 @@
--- What is said of a message that offends, read off the messages before.
+-- What is said about a message that offends, read off the messages before.
 use Rattle.std.specs.Prelude.{ℕ, suc, ◌-◌, nat_lt, List, [], ◌∷◌, length, take, if◌then◌else◌}
 use Rattle.std.specs.Prelude.{Option, Some, None, option_map, option_to_list, unwrap_or}
 use Rattle.std.specs.Str.Lossy.{utf8_valid_len}
@@ -13,7 +13,7 @@ use Rattle.lsp_verdict.specs.Offences.{is_within}
 use Rattle.lsp_facts.specs.Fact.{Fact, has_id, in_phase, offers, picks, registers, begins}
 use Rattle.lsp_frame.specs.Front.{shown_bytes}
 
--- ---- contents that are no message: 201 to 209
+-- ---- contents that are not a message: 201 to 209
 
 -- the longest front of some bytes that is UTF-8
 abbrev pub text_front : List ℕ → List ℕ
@@ -40,7 +40,7 @@ pick_facts (Some picked) = picks picked.encoding ∷ []
 abbrev pub offered_bytes : ℕ
 offered_bytes = 256
 
--- how many of the first names fit into so many bytes
+-- how many of the first names fit into this many bytes
 abbrev pub names_fitting : ℕ → List Text → ℕ
 names_fitting room [] = 0
 names_fitting room (name ∷ names) =

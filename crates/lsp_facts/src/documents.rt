@@ -44,7 +44,7 @@ const LATE_SNAPSHOT: u16 = 701;
 /// A snapshot of another text than the one of its version.
 const SNAPSHOT_DIFFERS: u16 = 702;
 
-/// What is said of an act of the editor's that breaks this rule on documents, under what was
+/// What is said about an act of the editor's that breaks this rule on documents, under what was
 /// agreed. The documents are those before the act, which was refused.
 pub fn act_facts<S: TextStore>(
     alloc: Global,
@@ -103,7 +103,7 @@ pub fn act_facts<S: TextStore>(
     }
 }
 
-/// What is said of a snapshot that breaks this rule, under the encoding that was agreed. The
+/// What is said about a snapshot that breaks this rule, under the encoding that was agreed. The
 /// documents are those before the snapshot, which was refused.
 pub fn snapshot_facts<S: TextStore>(
     alloc: Global,
@@ -138,7 +138,7 @@ fn head<S: TextStore>(alloc: Global, docs: &Docs<S>, uri: &str) -> Result<FactLi
     Ok(facts)
 }
 
-/// What is said of an opening.
+/// What is said about an opening.
 fn opening<S: TextStore>(
     alloc: Global,
     docs: &Docs<S>,
@@ -159,7 +159,7 @@ fn opening<S: TextStore>(
     Ok(facts.into_facts())
 }
 
-/// What is said of an opening under its rule.
+/// What is said about an opening under its rule.
 fn of_opening<S: TextStore>(
     alloc: Global,
     docs: &Docs<S>,
@@ -187,7 +187,7 @@ fn of_opening<S: TextStore>(
     Ok(facts)
 }
 
-/// What is said of a text that a waiting snapshot of its version refutes.
+/// What is said about a text that a waiting snapshot of its version refutes.
 fn refuted<S: TextStore>(
     alloc: Global,
     docs: &Docs<S>,
@@ -209,7 +209,7 @@ fn refuted<S: TextStore>(
     Ok(facts)
 }
 
-/// What is said of a change.
+/// What is said about a change.
 fn changing<S: TextStore>(
     alloc: Global,
     docs: &Docs<S>,
@@ -234,7 +234,7 @@ fn changing<S: TextStore>(
     Ok(facts.into_facts())
 }
 
-/// What is said of a change under its rule.
+/// What is said about a change under its rule.
 fn of_change<S: TextStore>(
     alloc: Global,
     docs: &Docs<S>,
@@ -280,7 +280,7 @@ fn of_change<S: TextStore>(
     Ok(facts)
 }
 
-/// What is said of a close.
+/// What is said about a close.
 fn closing<S: TextStore>(
     alloc: Global,
     docs: &Docs<S>,
@@ -296,7 +296,7 @@ fn closing<S: TextStore>(
     Ok(facts.into_facts())
 }
 
-/// What is said of a save with a text.
+/// What is said about a save with a text.
 fn saving<S: TextStore>(
     alloc: Global,
     docs: &Docs<S>,
@@ -314,7 +314,7 @@ fn saving<S: TextStore>(
     Ok(facts.into_facts())
 }
 
-/// What is said of a saved text that is not the held one.
+/// What is said about a saved text that is not the held one.
 fn of_save<S: TextStore>(
     alloc: Global,
     docs: &Docs<S>,
@@ -333,7 +333,7 @@ fn of_save<S: TextStore>(
     difference(alloc, encoding, held.as_str(), text, Against::Saved)
 }
 
-/// What is said of a snapshot under its rule.
+/// What is said about a snapshot under its rule.
 fn of_snapshot<S: TextStore>(
     alloc: Global,
     docs: &Docs<S>,

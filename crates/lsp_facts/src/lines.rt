@@ -407,7 +407,7 @@ pub fn push_message_event(
 }
 
 /// Adds the line of an event that is a content: the same with the words of the message that it is,
-/// whatever its params; with no words where it is no message.
+/// whatever its params; with no words where it is not a message.
 ///
 /// # Errors
 /// `Memory` where memory was refused.

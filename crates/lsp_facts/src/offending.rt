@@ -20,8 +20,8 @@ use std::alloc::Global;
 /// The least rule on documents.
 const FIRST_ON_DOCUMENTS: u16 = 601;
 
-/// What is said of a message of a side that offends by this rule, 301 to 702. Session and documents
-/// hold the kept events before it.
+/// What is said about a message of a side that offends by this rule, 301 to 702. Session and
+/// documents hold the kept events before it.
 ///
 /// # Errors
 /// `Memory` where memory was refused.
@@ -47,8 +47,8 @@ pub fn message_facts<S: TextStore>(
     act_facts(alloc, docs, encoding, kind, &spoken.act, rule)
 }
 
-/// What is said of a snapshot that offends by this rule. Session and documents hold the kept events
-/// before it.
+/// What is said about a snapshot that offends by this rule. Session and documents hold the kept
+/// events before it.
 ///
 /// # Errors
 /// `Memory` where memory was refused.

@@ -46,7 +46,7 @@ pub(crate) fn misfit<S: TextStore>(
     Ok(facts)
 }
 
-/// The facts on the change behind so many others, which is not of the kind: its span, and the
+/// The facts on the change after this many others, which is not of the kind: its span, and the
 /// length of the line in which that begins, where the changes before it can be made.
 fn misfit_at<S: TextStore>(
     alloc: Global,
@@ -72,7 +72,7 @@ fn misfit_at<S: TextStore>(
     Ok(facts)
 }
 
-/// How many changes stand before the first that is not of the kind.
+/// How many changes come before the first that is not of the kind.
 fn count_fitting(kind: SyncKind, changes: &[Change]) -> usize
     ensures { result ≡ prefix_len (λ change. fits kind (edit_of change)) changes.now }
 {
@@ -93,7 +93,7 @@ fn fits_kind(kind: SyncKind, change: &Change) -> bool
     }
 }
 
-/// The facts on the change behind so many others that this rule refuses, on the text that those
+/// The facts on the change after this many others that this rule refuses, on the text that those
 /// made.
 pub(crate) fn refused(
     alloc: Global,

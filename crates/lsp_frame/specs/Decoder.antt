@@ -17,7 +17,8 @@ pub record State : Type 0 where
 abbrev pub empty : Bounds → State
 empty limits = record { limits = limits; kept = []; rest = []; fault = None; room = 0 }
 
--- the room once so many bytes are to follow the rest: the buffer grows only where they don't fit, and only so far
+-- the room once this many bytes are to follow the rest: the buffer grows only where they don't fit,
+-- and only so far
 abbrev pub room_for : State → ℕ → ℕ
 room_for s more = max s.room (length s.rest + more)
 
@@ -86,7 +87,7 @@ pub record StandsFor (s : State) (bytes : List ℕ) (contents : List (List ℕ))
   pub frames : Frames s.limits bytes contents rest
   pub held : IsRestOf s rest
 
--- the stream has these contents and no more, and this fault behind them, or none
+-- the stream has these contents and no more, and this fault after them, or none
 abbrev pub EndsWith : State → List ℕ → List (List ℕ) → Option ℕ → Type 0
 EndsWith s bytes contents None = (s.fault ≡ None) × IsStream s.limits bytes contents s.rest None
 EndsWith s bytes contents (Some rule) = (rest : List ℕ) × IsStream s.limits bytes contents rest (Some rule)

@@ -1,4 +1,4 @@
--- The header part of a frame: what its fields are, and what they say of the content.
+-- The header part of a frame: what its fields are, and what they say about the content.
 use Rattle.std.specs.Prelude.{◌≡◌, ◌⊎◌, ℕ, ◌-◌, ◌<◌, List, [], ◌∷◌, ◌++◌, length, take, drop, map, filter, Bool, true, false, not, ◌||◌, ◌&&◌, ◌==◌, nat_le, Result, Ok, Err, codes, if◌then◌else◌}
 use Rattle.std.specs.List.{flat_map, list_any, list_all, prefix_len, suffix_len, slice_split, AllPass, AllByRecursion}
 use Rattle.std.specs.Char.{is_ascii_digit, is_ascii_alphanumeric, to_ascii_lowercase}
@@ -87,7 +87,7 @@ abbrev pub is_utf8_name : List ℕ → Bool
 is_utf8_name name = is_word name (codes "utf-8") || is_word name (codes "utf8")
     || is_word name (quoted (codes "utf-8")) || is_word name (quoted (codes "utf8"))
 
--- a part that begins with charset= goes on with a name of UTF-8
+-- a part that begins with charset= continues with a name of UTF-8
 abbrev pub fits_charset : List ℕ → Bool
 fits_charset part = not (is_word (take 8 part) (codes "charset=")) || is_utf8_name (drop 8 part)
 

@@ -1,4 +1,4 @@
-//! What a header part says of its content (LSP 3.17, "Header Part").
+//! What a header part says about its content (LSP 3.17, "Header Part").
 ghost use Rattle.std.specs.Prelude.{◌≡◌, ◌<◌, ◌≤◌, ◌-◌, ℕ, List, [], ◌∷◌, ◌++◌, length, true, ◌&&◌};
 ghost use Rattle.std.specs.List.{list_all};
 ghost use Rattle.std.specs.Str.Parse.{digits_value};

@@ -2,7 +2,7 @@
 
 /// The first bytes, as many as a header part may have, do not hold its end.
 pub(crate) const HEADER_TOO_LONG: u16 = 101;
-/// A line of the header part is no field.
+/// A line of the header part is not a field.
 pub(crate) const BAD_LINE: u16 = 102;
 /// Not exactly one field is a `Content-Length`.
 pub(crate) const NOT_ONE_LENGTH: u16 = 103;

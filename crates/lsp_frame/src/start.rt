@@ -1,4 +1,4 @@
-//! What stands at the front of bytes.
+//! What bytes begin with.
 ghost use Rattle.std.specs.Prelude.{◌≡◌, ◌≤◌, length, IfSome};
 ghost use Rattle.std.specs.List.{prefix_len};
 ghost use Rattle.std.specs.Char.{is_ascii_digit};
@@ -38,7 +38,7 @@ fn digits_in_front(bytes: &[u8]) -> usize
         .count()
 }
 
-/// The size of the frame whose header part stands in front, where that is the one line
+/// The size of the frame whose header part the bytes begin with, where that is the one line
 /// `Content-Length: ` and digits, which is the common case. Whatever else stands there is left to
 /// [`read_header`].
 fn plain_size(limits: &Limits, bytes: &[u8]) -> Option<FrameSize>

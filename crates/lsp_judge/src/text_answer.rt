@@ -22,7 +22,7 @@ pub enum TextAnswer {
     /// No document of the URI is open there.
     NoDocument,
     /// The editor sent fewer messages, and the session keeps the rules, apart from bytes at its end
-    /// that are no whole frame.
+    /// that are not a whole frame.
     TooFew,
     /// An event offends, at that message or before it, or the log has a fault before it.
     Refused(Verdict),

@@ -279,7 +279,7 @@ fn outline_of(alloc: Global, content: &[u8]) -> Option<Message>
     message_of(parts)
 }
 
-/// Whether nothing is wanted of the message that its outline lacks.
+/// Whether the outline of the message has all that is wanted.
 fn suffices(results: Results, message: &Message) -> bool
     ensures { IsTrue result
         → (results ≡ LeftOut) ⊎ (lacks_result (message_view message.now) ≡ false) }

@@ -29,7 +29,7 @@ fn id_of(value: Value) -> Result<Id, BrokenRule>
     id_in(value).ok_or(BrokenRule(205))
 }
 
-/// The method, where there is one. Rule 204: it is no string.
+/// The method, where there is one. Rule 204: it is not a string.
 fn method_of(method: Option<Value>) -> Result<Option<String>, BrokenRule>
     ensures ok { IfOk result (λ name.
         option_map view method ≡ option_map (λ s. string (string_bytes s)) name) }
@@ -96,7 +96,7 @@ fn code_of(error: &Value) -> Option<i32>
 }
 
 /// What a response answers. Rule 207: there is not exactly one of a result and an error. Rule 208:
-/// the error is no error object.
+/// the error is not an error object.
 fn answer_of(value: Option<Value>, error: Option<Value>) -> Result<Answer, BrokenRule>
     ensures ok { IfOk result (λ answer.
         reading.reply_in (option_map view value) (option_map view error)
@@ -157,7 +157,7 @@ fn has_version(version: Option<Value>) -> bool
     version.is_some_and(|version| is_text(&version, "2.0"))
 }
 
-/// The method, where there is one. Rule 203: the version is not 2.0. Rule 204: the method is no
+/// The method, where there is one. Rule 203: the version is not 2.0. Rule 204: the method is not a
 /// string.
 fn versioned_method(
     version: Option<Value>,
@@ -199,7 +199,7 @@ fn message_of(value: Value) -> Result<Message, BrokenRule>
     assemble(parts_of(value)?)
 }
 
-/// Why no value was read: memory was refused, or the content is no JSON text (rule 201).
+/// Why no value was read: memory was refused, or the content is not a JSON text (rule 201).
 fn unread(error: &Error) -> RpcFault
     ensures memory { IsMemory error.now → result ≡ Memory }
     ensures rule { ¬ IsMemory error.now → result ≡ Rule 201 }

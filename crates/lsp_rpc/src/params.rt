@@ -18,7 +18,7 @@ use std::mem;
 /// The params do not have the shape of their method.
 pub(crate) const BAD_PARAMS: RpcFault = RpcFault::Rule(209);
 
-/// The params, which have to be there. They are copied where they are only lent.
+/// The params, which must be there. They are copied where they are only lent.
 pub(crate) fn required_params(params: Option<Cow<'_, Value>>) -> Result<Value, RpcFault>
     ensures { Gives view 209 result (option_map lent_view params.entry) }
 {
@@ -66,7 +66,7 @@ pub(crate) fn copied_text(value: &Value) -> Result<String, RpcFault>
     }
 }
 
-/// The member, which has to be a string, moved out of the value.
+/// The member, which must be a string, moved out of the value.
 pub(crate) fn into_text(value: Value, name: &str) -> Option<String>
     ensures { option_map (λ s. string_bytes s) result ≡ spec.required name.now as_str (view value) }
 {

@@ -53,7 +53,7 @@ pub(crate) fn take_member(members: &mut Map<String, Value>, name: &str) -> Optio
     members.remove(name)
 }
 
-/// The parts of a value. Rule 202: it is no object.
+/// The parts of a value. Rule 202: it is not an object.
 pub(crate) fn parts_of(value: Value) -> Result<Parts, BrokenRule>
     ensures ok { IfOk result (λ parts. parts_view parts ≡ reading.parts_of (view value)) }
     ensures object { OnOk result (is_object (view value) ≡ true) }

@@ -11,7 +11,7 @@ use Rattle.lsp_session.specs.Sent.{Sent, is_exit, is_initialize, is_initialized,
 
 -- ---- the table
 
--- what stands before the message
+-- what comes before the message
 pub data Before : Type 0 where
   always : Before
   fresh : Before

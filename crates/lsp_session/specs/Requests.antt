@@ -27,7 +27,7 @@ open_entry side (Some asked) later =
     if is_answered side asked.0 later then []
     else record { id = asked.0; method = asked.1; cancelled = is_cancelled side asked.0 later } ∷ []
 
--- the requests of this side that no later message answers, in order of asking
+-- the requests of this side that no later message answers, in the order in which they were sent
 abbrev pub open_requests : Side → List Sent → List Entry
 open_requests side [] = []
 open_requests side (m ∷ later) = open_entry side (request_by side m) later ++ open_requests side later
@@ -36,7 +36,7 @@ abbrev pub answers_request : Side → Option (Ident × List ℕ) → List Sent �
 answers_request side None between m = false
 answers_request side (Some asked) between m = names (answered_id side m) asked.0 && not (is_answered side asked.0 between)
 
--- `m` answers the request `asked`, where these messages stand between the two
+-- `m` answers the request `asked`, where these messages come between the two
 abbrev pub answers : Sent → List Sent → Sent → Bool
 answers asked between m = answers_request asked.side (request_of asked.message) between m
 

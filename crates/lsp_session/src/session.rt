@@ -151,9 +151,9 @@ impl Session {
         self.asked_by(side)
     }
 
-    /// What the session lacks if it ends here: 303 where a request of the editor, cancelled or not,
-    /// has no response yet (JSON-RPC 2.0, section 4), else 407 where the editor did not send `exit`
-    /// (LSP 3.17, "Exit Notification").
+    /// What is missing if the session ends here: 303 where a request of the editor, cancelled or
+    /// not, has no response yet (JSON-RPC 2.0, section 4), else 407 where the editor did not send
+    /// `exit` (LSP 3.17, "Exit Notification").
     pub fn incomplete(&self) -> Option<u16>
         ensures { (before : List Sent) → Stands self.now before
             → result ≡ complete.incomplete before }

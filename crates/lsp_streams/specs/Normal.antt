@@ -66,7 +66,7 @@ no_at before (show number uri text) = None
 abbrev pub first_broken : List Raw → Option Verdict
 first_broken raws = first_of no_at raws
 
--- 107 where bytes are left that are no whole frame, the editor's first
+-- 107 where bytes are left that are not a whole frame, the editor's first
 abbrev pub rest_of : List Raw → Bool → Bool → Option Verdict
 rest_of raws true server = Some (no_next 107 Editor raws)
 rest_of raws false true = Some (no_next 107 Server raws)

@@ -44,7 +44,7 @@ abbrev pub NormalFormStays : Type 0
 NormalFormStays = (limits : Bounds) → IsInRange limits → (log out : List ℕ) (fault : Option Verdict)
     → IsNormal limits log out fault → length out ≤ limits.log → IsNormal limits out out None
 
--- 101 to 107: a fault of the frames, or bytes that are no whole frame
+-- 101 to 107: a fault of the frames, or bytes that are not a whole frame
 abbrev pub is_frame_rule : ℕ → Bool
 is_frame_rule rule = nat_le 101 rule && nat_le rule 107
 

@@ -54,7 +54,7 @@ abbrev pub is_noted_lost : List (String Global × Note) → Option Call → Bool
 is_noted_lost notes None = false
 is_noted_lost notes (Some call) = (note_in notes (uri_of call)).lost
 
--- what is said of a document, with changes or without, leaves it lost where it breaks the rule
+-- what is said about a document, with changes or without, leaves it lost where it breaks the rule
 abbrev pub loses_by : ℕ → Bool → Bool
 loses_by rule has_changes =
     rule == 602 || (rule == 603 && has_changes || (is_within 604 608 rule || rule == 702))

@@ -14,8 +14,8 @@ use lsp_verdict::{Completeness, Counts, Offence, Who};
 use std::alloc::Global;
 
 /// What is listed of the end of a log without a fault, after the events heard: 107 for each side
-/// whose stream ends inside a frame, the editor's first; where there is none, what the session
-/// lacks to be complete.
+/// whose stream ends inside a frame, the editor's first; where there is none, what is missing
+/// from the session.
 pub(crate) fn ends(
     alloc: Global,
     walk: &Walk,

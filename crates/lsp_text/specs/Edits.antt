@@ -12,7 +12,7 @@ use Rattle.lsp_text.specs.declared.fault.TextFault.TheVariants.{Rule, Memory}
 use Rattle.lsp_text.specs.declared.store.Place.{Place}
 use Rattle.lsp_text.specs.Places.{units, place_of}
 
--- `s` in the place of the characters from `a` up to `b`
+-- `s` in place of the characters from `a` up to `b`
 abbrev pub splice : List ℕ → ℕ → ℕ → List ℕ → List ℕ
 splice t a b s = take a t ++ s ++ drop b t
 
@@ -26,7 +26,7 @@ spliced t None b s limit = Err 605
 spliced t (Some a) None s limit = Err 605
 spliced t (Some a) (Some b) s limit = cond (nat_lt b a) (Err 606) (limited limit (splice t a b s))
 
--- `s` in the place of what a span holds: the text, or the rule that refuses it
+-- `s` in place of what a span holds: the text, or the rule that refuses it
 abbrev pub replaced : Encoding → List ℕ → Span → List ℕ → ℕ → Result (List ℕ) ℕ
 replaced enc t span s limit = spliced t (place_of enc t span.first) (place_of enc t span.second) s limit
 
@@ -35,7 +35,7 @@ abbrev pub changed : Encoding → List ℕ → Option Span → List ℕ → ℕ 
 changed enc t None s limit = limited limit s
 changed enc t (Some span) s limit = replaced enc t span s limit
 
--- a change: `text` in the place of the span, or of all where there is none
+-- a change: `text` in place of the span, or of all where there is none
 pub record Edit : Type 0 where
   pub span : Option Span
   pub text : List ℕ

@@ -1,4 +1,4 @@
-//! A text in one `String`, cut into lines anew at each position.
+//! A text in one `String`, cut into lines again at each position.
 
 ghost use Rattle.std.specs.Prelude.{◌≡◌, ◌≤◌, None, length, MatchOption};
 ghost use Rattle.std.specs.Str.{chars};
@@ -16,7 +16,7 @@ use std::alloc::Global;
 use std::marker::Model;
 
 /// A text in one `String`. A position costs a look at the lines up to its own, and an edit moves
-/// the bytes behind it.
+/// the bytes after it.
 #[derive(Drop)]
 pub struct Plain {
     text: String,

@@ -55,7 +55,8 @@ NamesLack events v =
 
 -- ---- records and logs
 
--- **What Yes says of records whose session has to be complete**: they are kept, and the session was brought to its end.
+-- **What Yes means for records whose session must be complete**: they are kept, and the session was
+-- brought to its end.
 pub record AreComplete (limits : Bounds) (format : Format) (records : List Record) : Type 0 where
   pub kept : AreKept limits format records
   pub ended : IsBroughtToEnd kept.events
@@ -65,12 +66,12 @@ pub record IsComplete (limits : Bounds) (log : List ℕ) : Type 0 where
   pub kept : IsKept limits log
   pub ended : IsBroughtToEnd kept.kept.events
 
--- the records are kept, and what their session lacks is named
+-- the records are kept, and what is missing from their session is reported
 pub record AreCutShort (limits : Bounds) (format : Format) (records : List Record) (v : Verdict) : Type 0 where
   pub kept : AreKept limits format records
   pub names : NamesLack kept.events v
 
--- the log is kept, and what its session lacks is named
+-- the log is kept, and what is missing from its session is reported
 pub record IsCutShort (limits : Bounds) (log : List ℕ) (v : Verdict) : Type 0 where
   pub kept : IsKept limits log
   pub names : NamesLack kept.kept.events v

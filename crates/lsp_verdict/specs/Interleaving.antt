@@ -21,13 +21,13 @@ use Rattle.lsp_verdict.specs.declared.verdict.Who.{Who}
 
 -- ---- each side's own order
 
--- in whose order an event stands; a snapshot stands in the editor's
+-- in whose order an event is; a snapshot is in the editor's
 abbrev pub order_of : Event → Side
 order_of (message m) = m.side
 order_of (fault side rule) = side
 order_of (snapshot uri number text) = Editor
 
--- the event stands in this side's order
+-- the event is in this side's order
 abbrev pub is_own : Side → Event → Bool
 is_own side event = same_side side (order_of event)
 

@@ -20,7 +20,8 @@ use Rattle.lsp_verdict.specs.Verdict.{Verdict, offence, no_by}
 
 -- ---- the events that are kept
 
--- behind events that were kept, those of these that are: an event that offends is passed over, as if it had not been sent
+-- after events that were kept, those of these that are: an event that offends is skipped, as if it
+-- had not been sent
 abbrev pub kept_after : Terms → List Event → List Event → List Event
 kept_after terms before [] = before
 kept_after terms before (event ∷ after) = kept_after terms (if is_some (offence terms before event) then before else before ++ event ∷ []) after
@@ -33,7 +34,7 @@ kept_of terms events = kept_after terms [] events
 abbrev pub rule_at : Terms → List Event → Event → Option ℕ
 rule_at terms before event = offence terms (kept_of terms before) event
 
--- what the event says of a document, under what the kept events before it agreed
+-- what the event says about a document, under what the kept events before it agreed
 abbrev pub said_at : Terms → List Event → Event → Option Call
 said_at terms before event = call_at (kept_of terms before) event
 
@@ -50,7 +51,7 @@ is_within least most rule = nat_le least rule && nat_le rule most
 abbrev pub loses : ℕ → Call → Bool
 loses rule call = rule == 602 || (rule == 603 && has_changes call || (is_within 604 608 rule || rule == 702))
 
--- the call gives the whole text anew
+-- the call gives the whole text again
 abbrev pub renews : Call → Bool
 renews (opens uri number text) = true
 renews (changes enc kind uri number edits) = list_any (λ (edit : Edit). is_none edit.span) edits
@@ -73,7 +74,8 @@ abbrev pub last_or : {A : Type 0} → A → List A → A
 last_or none [] = none
 last_or none (x ∷ xs) = last_or x xs
 
--- **the document of this URI is lost behind these events**: the last one that says anything of that left it so
+-- **the document of this URI is lost after these events**: the last one that says anything about
+-- that left it so
 abbrev pub is_lost : Terms → List ℕ → List Event → Bool
 is_lost terms uri before = last_or false (each_of (lost_by terms uri) before)
 
@@ -94,7 +96,8 @@ breaks_handshake asks rule = rule == 209 && asks || is_within 501 503 rule
 abbrev pub broken_by : Terms → List Noted → Noted → Option ℕ
 broken_by terms before n = option_and_then (λ rule. if breaks_handshake n.asks rule then Some rule else None) (rule_at terms (events_of before) n.event)
 
--- **the handshake is lost behind these events**: an event of it was refused, and no answer has settled it
+-- **the handshake is lost after these events**: an event of it was refused, and no answer has
+-- settled it
 abbrev pub is_handshake_lost : Terms → List Noted → Bool
 is_handshake_lost terms before = is_some (first_of (broken_by terms) before) && not (is_done (sent_in (kept_of terms (events_of before))))
 

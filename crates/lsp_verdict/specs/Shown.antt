@@ -34,7 +34,8 @@ document_words (did_close uri) = quoted uri ∷ []
 document_words (did_save uri text) = quoted uri ∷ []
 document_words _ = []
 
--- what a long line has behind a short one: the number among those of the side, or among the snapshots, and these words
+-- what a long line has after a short one: the number among those of the side, or among the
+-- snapshots, and these words
 abbrev pub words_behind : Lines → ℕ → List (List ℕ) → List (List ℕ)
 words_behind Short number words = []
 words_behind Long number words = decimal number ∷ words
@@ -45,14 +46,14 @@ event_line lines event number (message m) = Some (line (message_words event m ++
 event_line lines event number (fault side rule) = None
 event_line lines event number (snapshot uri version text) = Some (line (snapshot_words event uri version text ++ words_behind lines number []))
 
--- the line of an event behind these
+-- the line of an event after these
 abbrev pub line_at : Lines → List Event → Event → Option (List ℕ)
 line_at lines before event = event_line lines (length before + 1) (count_of (belongs_to (whose event)) before + 1) event
 
 abbrev pub lines_of : Lines → List Event → List ℕ
 lines_of lines events = flat_map (λ shown. shown) (each_of (line_at lines) events)
 
--- how many events stand before the verdict's place
+-- how many events come before the verdict's place
 abbrev pub kept_count : Verdict → List Event → ℕ
 kept_count (no rule who count event) events = event - 1
 kept_count _ events = length events

@@ -14,7 +14,7 @@ pub record Text : Type 0 where
 abbrev pub rule : ℕ → List ℕ → Text
 rule number text = record { number = number; text = text }
 
--- the rules on what a message says behind those before it
+-- the rules on what a message says after those before it
 abbrev pub session_texts : List Text
 session_texts =
     rule 301 (codes "response to no open request")

@@ -1,4 +1,4 @@
-//! What rules say of an offence: whether it may follow from an earlier one, and what it leaves
+//! What rules say about an offence: whether it may follow from an earlier one, and what it leaves
 //! after.
 ghost use Rattle.std.specs.Prelude.{◌≡◌};
 ghost use Rattle.lsp_verdict.specs.Offences.{breaks_handshake, is_within, wants_handshake};
@@ -45,8 +45,8 @@ pub(crate) fn breaks_handshake(asks: bool, rule: u16) -> bool
     is_within(501, 503, rule)
 }
 
-/// Whether what is said of a document, with changes or without, leaves the held text another than
-/// the sender's where it breaks the rule.
+/// Whether what is said about a document, with changes or without, leaves the held text another
+/// than the sender's where it breaks the rule.
 pub(crate) fn loses(rule: u16, has_changes: bool) -> bool
     ensures { result ≡ loses_by rule has_changes }
 {
