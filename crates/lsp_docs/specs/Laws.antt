@@ -9,6 +9,7 @@ use Rattle.lsp_docs.specs.Kept.{kept}
 use Rattle.lsp_docs.specs.Rules.{first_row, differs, call_rule, AreAccepted}
 use Rattle.lsp_docs.specs.Snapshots.{holds_number, comes_to, is_compared}
 use Rattle.lsp_docs.specs.Binding.{standing, binding, IsSet}
+use Rattle.lsp_types.specs.declared.rules.TheConstants as rules
 
 -- **Versions rise.** Of one opening, with no close between: each change raises the version, and without a change version and text stay.
 pub record VersionsRise : Type 0 where
@@ -50,8 +51,8 @@ abbrev pub held_rule : ℤ → Text → Option Version → Option ℕ
 held_rule number t None = None
 held_rule number t (Some v) =
     first_row (
-    (int_lt number v.number, Some 701)
-    ∷ (differs v (versioned number t), Some 702)
+    (int_lt number v.number, Some rules.LATE_SNAPSHOT)
+    ∷ (differs v (versioned number t), Some rules.SNAPSHOT_DIFFERS)
     ∷ [])
 
 -- the version numbers strictly rise

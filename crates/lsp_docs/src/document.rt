@@ -10,11 +10,12 @@ ghost use Rattle.lsp_docs.specs.Answer.{answer_of};
 ghost use Rattle.lsp_docs.specs.Fault.{IsRule, Names};
 ghost use Rattle.lsp_docs.specs.Others.{other_than};
 
-use crate::fault::{DocFault, LATE_SNAPSHOT, SNAPSHOT_DIFFERS};
+use crate::fault::DocFault;
 use crate::history::History;
 use crate::revision::Revision;
 use crate::snapshot::Match;
 use lsp_text::TextStore;
+use lsp_types::rules;
 use std::alloc::{AllocError, Global};
 
 /// The version that is held of a document, and those that are kept of what was held before.
@@ -91,9 +92,9 @@ impl<S: TextStore> Document<S> {
             (Some (versioned self.now.held.version (S.content self.now.held.store))) }
     {
         if self.kept.is_after(version) && version < self.held.version {
-            Some(LATE_SNAPSHOT)
+            Some(rules::LATE_SNAPSHOT)
         } else if self.kept.any_differs(version, text) || self.held.differs(version, text) {
-            Some(SNAPSHOT_DIFFERS)
+            Some(rules::SNAPSHOT_DIFFERS)
         } else {
             None
         }

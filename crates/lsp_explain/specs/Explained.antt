@@ -24,6 +24,7 @@ use Rattle.lsp_facts.specs.FlawFacts.{Rests, rest_of, side_by, unfinished_facts,
 use Rattle.lsp_facts.specs.Lines.{detail_lines, event_line, end_event}
 use Rattle.lsp_explain.specs.Traced.{AreTraced, lack_traced}
 use Rattle.lsp_survey.specs.Asking.{Numbered, numbered}
+use Rattle.lsp_types.specs.declared.rules.TheConstants as rules
 
 -- ---- an event that offends
 
@@ -88,7 +89,8 @@ end_line (bad_log at code) = []
 -- 107 says how the frame begins that is not whole, 303 and 407 what waits after the kept messages
 abbrev pub end_facts : Rests → List Numbered → Verdict → List Fact
 end_facts rests said (no rule by count event) =
-    if rule == 107 then unfinished_facts (rest_of rests (side_by by)) else lack_traced said
+    if rule == rules.STREAM_ENDS_INSIDE_FRAME
+    then unfinished_facts (rest_of rests (side_by by)) else lack_traced said
 end_facts rests said (yes s) = []
 end_facts rests said (bad_log at code) = []
 

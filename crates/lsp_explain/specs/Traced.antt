@@ -26,6 +26,7 @@ use Rattle.lsp_facts.specs.Fact.{Fact, holds, waits, waits_since, holds_by, show
 use Rattle.lsp_facts.specs.Fact.{answered_by, asked_by, led_by, in_phase}
 use Rattle.lsp_facts.specs.MessageFacts.{id_in}
 use Rattle.lsp_facts.specs.Refuting.{refuting}
+use Rattle.lsp_types.specs.declared.rules.TheConstants as rules
 
 -- a fact on an event, where there is one
 abbrev pub number_facts : (ℕ → Fact) → Option ℕ → List Fact
@@ -61,8 +62,8 @@ differing terms before done n (shows uri number text) = n ∷ []
 -- 702: these snapshots; and with 608 the one that was found equal last
 abbrev pub texts_traced : Option Shown → List ℕ → ℕ → List Fact
 texts_traced equal snapshots rule =
-    if rule == 702 then map shown_by snapshots ++ equal_facts equal
-    else (if rule == 608 then equal_facts equal else [])
+    if rule == rules.SNAPSHOT_DIFFERS then map shown_by snapshots ++ equal_facts equal
+    else (if rule == rules.SAVED_TEXT_DIFFERS then equal_facts equal else [])
 
 abbrev pub document_traced : List Step → List ℕ → ℕ → List Fact → List Fact
 document_traced done snapshots rule plain =
@@ -97,15 +98,18 @@ asking_facts side said id = number_facts asked_by (option_and_then (λ own. aske
 -- and is open; 401 to 412: the one that led to the phase
 abbrev pub session_trace : ℕ → List Numbered → Side → Option Ident → List Fact
 session_trace rule said side id =
-    if rule == 301 then answer_facts (other_side side) said id
-    else (if rule == 302 then asking_facts side said id ++ answer_facts side said id
-    else (if is_within 401 412 rule then number_facts led_by (since said) else []))
+    if rule == rules.RESPONSE_TO_NO_OPEN_REQUEST then answer_facts (other_side side) said id
+    else (if rule == rules.ID_ALREADY_OPEN
+    then asking_facts side said id ++ answer_facts side said id
+    else (if is_within rules.EDITOR_BEFORE_INITIALIZE rules.SERVER_WHILE_INITIALIZE_OPEN rule
+    then number_facts led_by (since said) else []))
 
 -- **the facts on an event that offends by this rule after these**, with the events that brought it
 abbrev pub traced : Terms → List Event → Event → ℕ → List Fact → List Fact
 traced terms before (fault side number) rule plain = plain
 traced terms before (message m) rule plain =
-    if nat_lt rule 601 then plain ++ session_trace rule (numbered terms before) m.side
+    if nat_lt rule rules.FIRST_ON_DOCUMENTS
+    then plain ++ session_trace rule (numbered terms before) m.side
     (id_in m.message)
     else call_traced terms before rule (said_at terms before (message m)) plain
 traced terms before (snapshot uri number text) rule plain =

@@ -26,11 +26,9 @@ use lsp_facts::{
 };
 use lsp_rpc::Memory;
 use lsp_survey::{Found, Offending, SurveyReader};
+use lsp_types::rules;
 use lsp_verdict::Offence;
 use std::alloc::Global;
-
-/// A stream that ends inside a frame.
-const ENDS_INSIDE: u16 = 107;
 
 /// The facts on what offends by this rule, the event of this number. The reader stands for the
 /// events before it, and the rest is of its side.
@@ -146,7 +144,7 @@ fn end_facts(
         → facts_view facts.items
         ≡ end_facts rests (numbered (terms_in events.now) before) (no rule who number event)) }
 {
-    if rule == ENDS_INSIDE {
+    if rule == rules::STREAM_ENDS_INSIDE_FRAME {
         return unfinished_facts(alloc, rest);
     }
     lack_traced(alloc, events)

@@ -14,6 +14,7 @@ use Rattle.lsp_facts.specs.DocumentFacts.{AreDocumentFacts}
 use Rattle.lsp_facts.specs.Fact.{Fact}
 use Rattle.lsp_facts.specs.FlawFacts.{Rests, rest_of, frame_facts}
 use Rattle.lsp_facts.specs.MessageFacts.{content_facts, session_facts}
+use Rattle.lsp_types.specs.declared.rules.TheConstants as rules
 
 -- of a content that is not a message, or of the header part that has a fault of the frames; these
 -- are the rests of both sides' whole streams
@@ -35,7 +36,8 @@ AreFactsBy false terms kept m rule facts =
     AreCallFacts terms kept rule (call_at kept (message m)) facts
 
 abbrev pub AreMessageFacts : Terms → List Event → Sent → ℕ → List Fact → Type 0
-AreMessageFacts terms kept m rule facts = AreFactsBy (nat_lt rule 601) terms kept m rule facts
+AreMessageFacts terms kept m rule facts =
+    AreFactsBy (nat_lt rule rules.FIRST_ON_DOCUMENTS) terms kept m rule facts
 
 -- **the facts on an event that offends by this rule after the kept ones before it**
 abbrev pub AreFacts : Rests → Terms → List Event → Raw → Event → ℕ → List Fact → Type 0

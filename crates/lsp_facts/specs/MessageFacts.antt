@@ -12,6 +12,7 @@ use Rattle.lsp_session.specs.Sent.{Sent}
 use Rattle.lsp_verdict.specs.Offences.{is_within}
 use Rattle.lsp_facts.specs.Fact.{Fact, has_id, in_phase, offers, picks, registers, begins}
 use Rattle.lsp_frame.specs.Front.{shown_bytes}
+use Rattle.lsp_types.specs.declared.rules.TheConstants as rules
 
 -- ---- contents that are not a message: 201 to 209
 
@@ -75,7 +76,10 @@ register_facts act = option_to_list (option_map registers (registered act))
 
 abbrev pub session_facts : ℕ → List Sent → Sent → List Fact
 session_facts rule before m =
-    if is_within 301 302 rule then has_id (id_in m.message) ∷ []
-    else (if is_within 401 412 rule then in_phase (phase before) ∷ []
-    else (if is_within 501 503 rule then settled_facts (settled_by before m)
+    if is_within rules.RESPONSE_TO_NO_OPEN_REQUEST rules.ID_ALREADY_OPEN rule
+    then has_id (id_in m.message) ∷ []
+    else (if is_within rules.EDITOR_BEFORE_INITIALIZE rules.SERVER_WHILE_INITIALIZE_OPEN rule
+    then in_phase (phase before) ∷ []
+    else (if is_within rules.BAD_INITIALIZE_RESULT rules.ENCODING_OUTSIDE_PROFILE rule
+    then settled_facts (settled_by before m)
     else register_facts m.act))

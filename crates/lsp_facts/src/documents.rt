@@ -26,23 +26,8 @@ use crate::waiting::first_other;
 use lsp_docs::Docs;
 use lsp_rpc::Act;
 use lsp_text::TextStore;
-use lsp_types::{Change, Encoding, Memory, SyncKind};
+use lsp_types::{Change, Encoding, Memory, SyncKind, rules};
 use std::alloc::Global;
-
-/// A version that is not greater than the held one.
-const VERSION_STAYS: u16 = 603;
-
-/// Changes that are not of the agreed kind.
-const WRONG_KIND: u16 = 604;
-
-/// A text of more bytes of UTF-8 than the limit.
-const OVER_LIMIT: u16 = 607;
-
-/// A snapshot of a lesser version than the held one and each kept one.
-const LATE_SNAPSHOT: u16 = 701;
-
-/// A snapshot of another text than the one of its version.
-const SNAPSHOT_DIFFERS: u16 = 702;
 
 /// What is said about an act of the editor's that breaks this rule on documents, under what was
 /// agreed. The documents are those before the act, which was refused.
@@ -176,12 +161,12 @@ fn of_opening<S: TextStore>(
         (versioned version (chars text.now)) rule facts) }
 {
     let mut facts = FactList::new(alloc);
-    if rule == OVER_LIMIT {
+    if rule == rules::DOCUMENT_OVER_LIMIT {
         facts.push(Fact::Bytes(text.len() as u64))?;
         facts.push(Fact::Limit(docs.limit()))?;
         return Ok(facts);
     }
-    if rule == SNAPSHOT_DIFFERS {
+    if rule == rules::SNAPSHOT_DIFFERS {
         return refuted(alloc, docs, encoding, uri, version, text);
     }
     Ok(facts)
@@ -255,10 +240,10 @@ fn of_change<S: TextStore>(
     let Some(store) = docs.store_of(uri) else {
         return Ok(FactList::new(alloc));
     };
-    if rule == VERSION_STAYS {
+    if rule == rules::VERSION_DOES_NOT_RISE {
         return Ok(FactList::new(alloc));
     }
-    if rule == WRONG_KIND {
+    if rule == rules::CHANGE_NOT_OF_KIND {
         return misfit(alloc, store, encoding, kind, changes, docs.limit());
     }
     let made = make(alloc, store, encoding, changes, docs.limit())?;
@@ -348,7 +333,7 @@ fn of_snapshot<S: TextStore>(
         → AreOfSnapshot encoding (kept docs.now.terms uri.now calls)
         (held docs.now.terms uri.now calls) (versioned version (chars text.now)) rule facts) }
 {
-    if rule == LATE_SNAPSHOT {
+    if rule == rules::LATE_SNAPSHOT {
         return kept_facts(alloc, docs, uri);
     }
     let Some(store) = docs.other_of(uri, version, text) else {

@@ -16,6 +16,7 @@ ghost use Rattle.lsp_facts.specs.MessageFacts as spec;
 use crate::fact::Fact;
 use lsp_rpc::{Act, Id, Memory, Message, Offer, RpcFault, Side, copy_id, picked_of};
 use lsp_session::{Session, is_synchronisation};
+use lsp_types::rules;
 use serde_json::Value;
 use std::alloc::Global;
 use std::str::from_utf8;
@@ -217,9 +218,14 @@ pub fn session_facts(
         → facts_view facts.items ≡ spec.session_facts rule before (sent side message.now act.now)) }
 {
     match rule {
-        301..=302 => id_facts(alloc, message),
-        401..=412 => only(alloc, Fact::Phase(session.phase())),
-        501..=503 => settled_facts(alloc, session, side, message),
+        rules::RESPONSE_TO_NO_OPEN_REQUEST..=rules::ID_ALREADY_OPEN => id_facts(alloc, message),
+        rules::EDITOR_BEFORE_INITIALIZE..=rules::SERVER_WHILE_INITIALIZE_OPEN => only(
+            alloc,
+            Fact::Phase(session.phase()),
+        ),
+        rules::BAD_INITIALIZE_RESULT..=rules::ENCODING_OUTSIDE_PROFILE => settled_facts(
+            alloc, session, side, message,
+        ),
         _ => register_facts(alloc, act),
     }
 }

@@ -9,19 +9,14 @@ ghost use Rattle.lsp_text.specs.Changes.{edit_of, edits_of};
 ghost use Rattle.lsp_facts.specs.DocumentFacts.{fits, misfit_facts, kind_facts, stray, IsStray};
 ghost use Rattle.lsp_facts.specs.DocumentFacts.{IsTooLong, IsReason, IsRefused};
 ghost use Rattle.lsp_facts.specs.Making.{HasStray};
+ghost use Rattle.lsp_types.specs.declared.rules.TheConstants as rules;
 
 use crate::fact::Fact;
 use crate::fact_list::FactList;
 use crate::making::make;
 use lsp_text::{TextStore, char_inside, size_with};
-use lsp_types::{Change, Encoding, Memory, Position, Span, SyncKind};
+use lsp_types::{Change, Encoding, Memory, Position, Span, SyncKind, rules};
 use std::alloc::Global;
-
-/// A position inside a character.
-const INSIDE_CHARACTER: u16 = 605;
-
-/// A text of more bytes of UTF-8 than the limit.
-const OVER_LIMIT: u16 = 607;
 
 /// The facts on changes of another kind than agreed: the kind, and the first change that is not of
 /// it.
@@ -128,12 +123,12 @@ fn reason(
         (chars (string_bytes change.now.text)) limit ≡ Err rule
         → IsReason limit encoding (chars text.now) (edit_of change.now) rule facts) }
 {
-    if rule == INSIDE_CHARACTER {
+    if rule == rules::POSITION_INSIDE_CHARACTER {
         return stray_facts(alloc, encoding, text, change.span);
     }
     let mut facts = FactList::new(alloc);
     facts.push_first_length(text, encoding, change.span)?;
-    if rule == OVER_LIMIT {
+    if rule == rules::DOCUMENT_OVER_LIMIT {
         facts.append(size_facts(alloc, encoding, text, change, limit)?)?;
     }
     Ok(facts)
@@ -181,7 +176,7 @@ fn size_facts(
     limit: u64,
 ) -> Result<FactList, Memory>
     ensures { IfOk result (λ facts. changed encoding (chars text.now) change.now.span
-        (chars (string_bytes change.now.text)) limit ≡ Err OVER_LIMIT
+        (chars (string_bytes change.now.text)) limit ≡ Err rules.DOCUMENT_OVER_LIMIT
         → IsTooLong limit encoding (chars text.now) (edit_of change.now) facts) }
 {
     let mut facts = FactList::new(alloc);

@@ -3,6 +3,7 @@ use Rattle.std.specs.Prelude.{◌≡◌, ℕ, ◌+◌, ◌≤◌, max, List, [],
 use Rattle.lsp_frame.specs.Bounds.{Bounds}
 use Rattle.lsp_frame.specs.Frame.{IsFrame, Begins, Frames, Breaks, HasFault, IsStream}
 use Rattle.lsp_frame.specs.declared.decoder.FrameFault.{FrameFault}
+use Rattle.lsp_types.specs.declared.rules.TheConstants as rules
 
 -- kept: the bytes of frames given that are still in the buffer; rest: the bytes pushed that belong to no frame given;
 -- fault: the fault given; room: how many bytes the buffer has, those that are not yet used included
@@ -109,7 +110,7 @@ pub record Next (old new : State) (answer : Result (Option (List ℕ)) ℕ) : Ty
 abbrev pub finish_at : Option ℕ → List ℕ → Result (Unit {0}) FrameFault
 finish_at (Some rule) rest = Err (record { rule = rule })
 finish_at None [] = Ok tt
-finish_at None (b ∷ rest) = Err (record { rule = 107 })
+finish_at None (b ∷ rest) = Err (record { rule = rules.STREAM_ENDS_INSIDE_FRAME })
 
 -- the fault given; else 107 where a byte is left
 abbrev pub finish_of : State → Result (Unit {0}) FrameFault

@@ -14,9 +14,8 @@ ghost use Rattle.lsp_frame.specs.Front.{HoldsRest};
 
 use crate::io::{Failed, Source};
 use crate::limits::Limits;
-use crate::rule;
 use crate::start::{FrameSize, Start, start_of};
-use lsp_types::Memory;
+use lsp_types::{Memory, rules};
 use std::alloc::{AllocError, Global};
 use std::marker::Model;
 use thiserror::Error;
@@ -453,7 +452,7 @@ impl Decoder {
             Some(rule) => Err(FrameFault { rule }),
             None if self.start == self.end => Ok(()),
             None => Err(FrameFault {
-                rule: rule::UNFINISHED_FRAME,
+                rule: rules::STREAM_ENDS_INSIDE_FRAME,
             }),
         }
     }

@@ -19,7 +19,6 @@ mod header;
 mod io;
 mod laws;
 mod limits;
-mod rule;
 mod start;
 mod write;
 

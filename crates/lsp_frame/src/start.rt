@@ -8,7 +8,7 @@ ghost use Rattle.lsp_frame.specs.Start.{StartsAs, StartsWithHeader};
 use crate::bytes::number_up_to;
 use crate::header::read_header;
 use crate::limits::Limits;
-use crate::rule;
+use lsp_types::rules;
 use memchr::memmem;
 
 /// The lengths in bytes of a frame's two parts.
@@ -73,7 +73,7 @@ pub(crate) fn start_of(limits: &Limits, bytes: &[u8]) -> Start
         if bytes.len() < most {
             return Start::Unfinished;
         }
-        return Start::Fault(rule::HEADER_TOO_LONG);
+        return Start::Fault(rules::HEADER_PART_TOO_LONG);
     };
     let header = at + 4;
     match read_header(limits, &bytes[..header]) {

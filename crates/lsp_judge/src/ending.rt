@@ -10,6 +10,7 @@ ghost use Rattle.lsp_verdict.specs.Verdict.{rest_of};
 use crate::ruling::Ruling;
 use lsp_events::{Events, summary_of};
 use lsp_text::TextStore;
+use lsp_types::rules;
 use lsp_verdict::{Completeness, Counts, Summary, Who};
 use std::alloc::Global;
 
@@ -44,10 +45,10 @@ fn rest_in(counts: &Counts, editor: bool, server: bool) -> Option<Ruling>
         → RestIs result (rest_of so_far editor server) }
 {
     if editor {
-        return Some(Ruling::no_next(counts, 107, Who::Editor));
+        return Some(Ruling::no_next(counts, rules::STREAM_ENDS_INSIDE_FRAME, Who::Editor));
     }
     if server {
-        return Some(Ruling::no_next(counts, 107, Who::Server));
+        return Some(Ruling::no_next(counts, rules::STREAM_ENDS_INSIDE_FRAME, Who::Server));
     }
     None
 }

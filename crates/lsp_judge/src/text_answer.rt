@@ -10,6 +10,7 @@ ghost use Rattle.lsp_judge.specs.TextAnswers.{answer_view};
 use lsp_docs::Docs;
 use lsp_rpc::Memory;
 use lsp_text::TextStore;
+use lsp_types::rules;
 use lsp_verdict::Verdict;
 use std::alloc::Global;
 
@@ -50,7 +51,10 @@ impl TextAnswer {
     {
         match verdict {
             Verdict::Yes(_) => TextAnswer::TooFew,
-            Verdict::No { rule: 107, .. } => TextAnswer::TooFew,
+            Verdict::No {
+                rule: rules::STREAM_ENDS_INSIDE_FRAME,
+                ..
+            } => TextAnswer::TooFew,
             refusal => TextAnswer::Refused(refusal),
         }
     }

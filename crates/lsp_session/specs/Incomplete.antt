@@ -7,6 +7,7 @@ use Rattle.lsp_session.specs.Handshake.{was_sent}
 use Rattle.lsp_session.specs.Negotiation.{first_row}
 use Rattle.lsp_session.specs.Requests.{open_requests}
 use Rattle.lsp_session.specs.Sent.{Sent, is_exit}
+use Rattle.lsp_types.specs.declared.rules.TheConstants as rules
 
 abbrev pub is_any_open : List Entry → Bool
 is_any_open [] = false
@@ -16,6 +17,6 @@ is_any_open (e ∷ es) = true
 abbrev pub incomplete : List Sent → Option ℕ
 incomplete before =
     first_row (
-    (is_any_open (open_requests Editor before), Some 303)
-    ∷ (not (was_sent is_exit before), Some 407)
+    (is_any_open (open_requests Editor before), Some rules.REQUEST_NOT_ANSWERED)
+    ∷ (not (was_sent is_exit before), Some rules.EXIT_MISSING)
     ∷ [])

@@ -6,6 +6,7 @@ use Rattle.lsp_rpc.specs.Message.{Message, request, notification, response}
 use Rattle.lsp_types.specs.declared.side.Side.{Side}
 use Rattle.lsp_session.specs.Entry.{Entry, has_id, ask_rule}
 use Rattle.lsp_session.specs.Sent.{Sent, other_side, request_of, request_by, answered_id, cancelled_id}
+use Rattle.lsp_types.specs.declared.rules.TheConstants as rules
 
 abbrev pub names : Option Ident → Ident → Bool
 names None id = false
@@ -44,8 +45,9 @@ answers asked between m = answers_request asked.side (request_of asked.message) 
 
 -- a response has the id of an open request
 abbrev pub answer_rule : Option Ident → List Entry → Option ℕ
-answer_rule None entries = Some 301
-answer_rule (Some id) entries = if has_id id entries then None else Some 301
+answer_rule None entries = Some rules.RESPONSE_TO_NO_OPEN_REQUEST
+answer_rule (Some id) entries = if has_id id entries
+    then None else Some rules.RESPONSE_TO_NO_OPEN_REQUEST
 
 -- the rule for a message, where these requests of its own and of the other side are open
 abbrev pub id_rule : List Entry → List Entry → Message → Option ℕ

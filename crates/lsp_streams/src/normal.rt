@@ -19,6 +19,7 @@ use crate::raw::Raw;
 use lsp_frame::{Format, Limits, Sink, Source};
 use lsp_log::{write_head_of, write_snapshot};
 use lsp_rpc::Side;
+use lsp_types::rules;
 use lsp_verdict::{Counts, Outcome, RunFault, Verdict, Who, who_of};
 use std::alloc::Global;
 
@@ -71,10 +72,10 @@ fn sound_outcome(events: &LogEvents, counts: &Counts) -> Outcome
         → first_broken given ≡ None → EndsWhole limits records given result }
 {
     if events.ends_inside(Side::Editor) {
-        return no_next(counts, 107, Side::Editor);
+        return no_next(counts, rules::STREAM_ENDS_INSIDE_FRAME, Side::Editor);
     }
     if events.ends_inside(Side::Server) {
-        return no_next(counts, 107, Side::Server);
+        return no_next(counts, rules::STREAM_ENDS_INSIDE_FRAME, Side::Server);
     }
     Outcome::Done
 }

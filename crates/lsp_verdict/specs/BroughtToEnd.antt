@@ -10,6 +10,7 @@ use Rattle.lsp_verdict.specs.declared.verdict.Who.TheVariants as who
 use Rattle.lsp_verdict.specs.Event.{Event, sent_in}
 use Rattle.lsp_verdict.specs.Kept.{Answers, AreKept, IsKept}
 use Rattle.lsp_verdict.specs.Verdict.{Verdict, no_next}
+use Rattle.lsp_types.specs.declared.rules.TheConstants as rules
 
 -- ---- requests and their answers
 
@@ -50,8 +51,9 @@ pub record IsBroughtToEnd (events : List Event) : Type 0 where
 -- 303 names that a request of the editor's has no answer; where each has one, 407 that `exit` was not sent
 abbrev pub NamesLack : List Event → Verdict → Type 0
 NamesLack events v =
-    (HasUnanswered (sent_in events) × (v ≡ no_next 303 who.Editor events))
-    ⊎ (AllAnswered (sent_in events) × (HasExit (sent_in events) → ⊥) × (v ≡ no_next 407 who.Editor events))
+    (HasUnanswered (sent_in events) × (v ≡ no_next rules.REQUEST_NOT_ANSWERED who.Editor events))
+    ⊎ (AllAnswered (sent_in events) × (HasExit (sent_in events) → ⊥)
+    × (v ≡ no_next rules.EXIT_MISSING who.Editor events))
 
 -- ---- records and logs
 

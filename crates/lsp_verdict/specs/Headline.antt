@@ -13,6 +13,7 @@ use Rattle.lsp_verdict.specs.Kept.{NothingOffends, AreFrames, IsKept}
 use Rattle.lsp_verdict.specs.Outcome.{HasRest, IsVerdict, format_or_one, log_terms}
 use Rattle.lsp_verdict.specs.Placed.{IsSession, joined}
 use Rattle.lsp_verdict.specs.Verdict.{Verdict, Summary, yes, no, bad_log, summary, no_by, no_next, offence}
+use Rattle.lsp_types.specs.declared.rules.TheConstants as rules
 
 -- **Yes means kept.**
 abbrev pub YesMeansKept : Type 0
@@ -46,7 +47,9 @@ pub record HasRest107 (limits : Bounds) (format : Format) (records : List Record
   pub server : List ℕ
   pub editor_rest : HasRest limits (joined Editor records) editor
   pub server_rest : HasRest limits (joined Server records) server
-  pub named : ((0 < length editor) × (v ≡ no_next 107 who.Editor events)) ⊎ ((editor ≡ []) × (0 < length server) × (v ≡ no_next 107 who.Server events))
+  pub named : ((0 < length editor) × (v ≡ no_next rules.STREAM_ENDS_INSIDE_FRAME who.Editor events))
+      ⊎ ((editor ≡ []) × (0 < length server)
+      × (v ≡ no_next rules.STREAM_ENDS_INSIDE_FRAME who.Server events))
 
 -- what No means for a log
 pub record Refuses (limits : Bounds) (log : List ℕ) (v : Verdict) : Type 0 where

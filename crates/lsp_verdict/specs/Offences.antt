@@ -17,6 +17,7 @@ use Rattle.lsp_verdict.specs.LookBack.{first_of, each_of}
 use Rattle.lsp_verdict.specs.Placed as placed
 use Rattle.lsp_verdict.specs.Placed.{Raw, broken, show, Placed, Reads}
 use Rattle.lsp_verdict.specs.Verdict.{Verdict, offence, no_by}
+use Rattle.lsp_types.specs.declared.rules.TheConstants as rules
 
 -- ---- the events that are kept
 
@@ -49,7 +50,10 @@ is_within least most rule = nat_le least rule && nat_le rule most
 
 -- a call that offends by this rule leaves the held text another than the sender's: 602, 603 with changes, 604 to 608, 702
 abbrev pub loses : ℕ → Call → Bool
-loses rule call = rule == 602 || (rule == 603 && has_changes call || (is_within 604 608 rule || rule == 702))
+loses rule call = rule == rules.DOCUMENT_NOT_OPEN ||
+    (rule == rules.VERSION_DOES_NOT_RISE && has_changes call ||
+    (is_within rules.CHANGE_NOT_OF_KIND rules.SAVED_TEXT_DIFFERS rule ||
+    rule == rules.SNAPSHOT_DIFFERS))
 
 -- the call gives the whole text again
 abbrev pub renews : Call → Bool
@@ -91,7 +95,8 @@ events_of notes = map (λ (n : Noted). n.event) notes
 
 -- an `initialize` that does not have its shape, or an answer to one that is refused
 abbrev pub breaks_handshake : Bool → ℕ → Bool
-breaks_handshake asks rule = rule == 209 && asks || is_within 501 503 rule
+breaks_handshake asks rule = rule == rules.BAD_METHOD_PARAMS && asks
+    || is_within rules.BAD_INITIALIZE_RESULT rules.ENCODING_OUTSIDE_PROFILE rule
 
 abbrev pub broken_by : Terms → List Noted → Noted → Option ℕ
 broken_by terms before n = option_and_then (λ rule. if breaks_handshake n.asks rule then Some rule else None) (rule_at terms (events_of before) n.event)
@@ -105,11 +110,14 @@ is_handshake_lost terms before = is_some (first_of (broken_by terms) before) && 
 
 -- the rules that are broken where there was no handshake: 301, 401, 402, 411, 412
 abbrev pub wants_handshake : ℕ → Bool
-wants_handshake rule = rule == 301 || (is_within 401 402 rule || is_within 411 412 rule)
+wants_handshake rule = rule == rules.RESPONSE_TO_NO_OPEN_REQUEST ||
+    (is_within rules.EDITOR_BEFORE_INITIALIZE rules.EDITOR_WHILE_INITIALIZE_OPEN rule || is_within
+    rules.SERVER_BEFORE_INITIALIZE rules.SERVER_WHILE_INITIALIZE_OPEN rule)
 
 -- the rules that are broken where the held text is another: 602 to 608, 702
 abbrev pub wants_text : ℕ → Bool
-wants_text rule = is_within 602 608 rule || rule == 702
+wants_text rule = is_within rules.DOCUMENT_NOT_OPEN rules.SAVED_TEXT_DIFFERS rule
+    || rule == rules.SNAPSHOT_DIFFERS
 
 abbrev pub is_on_lost : Terms → List Event → Option Call → Bool
 is_on_lost terms before None = false

@@ -17,6 +17,7 @@ use Rattle.lsp_verdict.specs.Event.{Event, message, fault, snapshot}
 use Rattle.lsp_verdict.specs.Calls.{calls}
 use Rattle.lsp_verdict.specs.Verdict.{Verdict, yes, no, first_no, is_of, belongs_to, count_of, whose}
 use Rattle.lsp_verdict.specs.Report.{line, side_name, report}
+use Rattle.lsp_types.specs.declared.rules.TheConstants as rules
 
 -- ---- events
 
@@ -95,7 +96,8 @@ held_answer (Some v) = text_is v.text
 -- where there is no such message: too few, if nothing but a rest of bytes is wrong
 abbrev pub missing_answer : Verdict → TextAnswer
 missing_answer (yes s) = too_few
-missing_answer (no rule who count event) = if rule == 107 then too_few else refused (no rule who count event)
+missing_answer (no rule who count event) = if rule == rules.STREAM_ENDS_INSIDE_FRAME
+    then too_few else refused (no rule who count event)
 missing_answer v = refused v
 
 -- the text that is held for a URI just after the editor's n-th message, where these are the events up to it

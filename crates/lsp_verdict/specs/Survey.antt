@@ -20,12 +20,13 @@ use Rattle.lsp_verdict.specs.Placed.{joined}
 use Rattle.lsp_verdict.specs.Report.{line, who_name, report}
 use Rattle.lsp_verdict.specs.Texts.{text_of}
 use Rattle.lsp_verdict.specs.Verdict.{Verdict, yes, no, bad_log, Summary, summary, Ending, bad_log_of, no_next}
+use Rattle.lsp_types.specs.declared.rules.TheConstants as rules
 
 -- ---- how a session ends
 
 -- 101 to 106: the frames of this side have a fault, after which its stream is at its end
 abbrev pub is_frame_fault : Side → Event → Bool
-is_frame_fault side (fault by rule) = same_side side by && nat_le rule 106
+is_frame_fault side (fault by rule) = same_side side by && nat_le rule rules.CHARSET_NOT_UTF_8
 is_frame_fault side (message m) = false
 is_frame_fault side (snapshot uri number text) = false
 
@@ -36,8 +37,8 @@ ends_inside side events rest = rest && not (list_any (is_frame_fault side) event
 -- 107 for each side that does, the editor's first
 abbrev pub rests_listed : List Event → Bool → Bool → List Verdict
 rests_listed events editor server =
-    (if editor then no_next 107 who.Editor events ∷ [] else [])
-    ++ (if server then no_next 107 who.Server events ∷ [] else [])
+    (if editor then no_next rules.STREAM_ENDS_INSIDE_FRAME who.Editor events ∷ [] else [])
+    ++ (if server then no_next rules.STREAM_ENDS_INSIDE_FRAME who.Server events ∷ [] else [])
 
 -- 303 or 407, where the session must be complete and the kept events leave a request without an
 -- answer, or have no `exit`

@@ -21,6 +21,7 @@ use Rattle.lsp_verdict.specs.declared.verdict.Who.TheVariants as who
 use Rattle.lsp_verdict.specs.LookBack.{first_of}
 use Rattle.lsp_verdict.specs.Event.{Event, message, fault, snapshot, sent_in}
 use Rattle.lsp_verdict.specs.Calls.{call_at, calls}
+use Rattle.lsp_types.specs.declared.rules.TheConstants as rules
 
 -- ---- offences
 
@@ -133,8 +134,8 @@ bad_log_of (Some flaw) = Some (bad_log flaw.0 flaw.1)
 
 -- 107 where bytes are left that are not a whole frame, the editor's first
 abbrev pub rest_of : List Event → Bool → Bool → Option Verdict
-rest_of events true server = Some (no_next 107 who.Editor events)
-rest_of events false true = Some (no_next 107 who.Server events)
+rest_of events true server = Some (no_next rules.STREAM_ENDS_INSIDE_FRAME who.Editor events)
+rest_of events false true = Some (no_next rules.STREAM_ENDS_INSIDE_FRAME who.Server events)
 rest_of events false false = None
 
 -- the first that applies: an offence, a fault of the log, a rest
