@@ -11,4 +11,7 @@ pub mod Edits
 pub mod Widths
 pub mod Blocks
 pub mod LineEnds
+pub mod SameTexts
+pub mod SameBytes
+pub mod WorkedSameTexts
 pub mod Differing
