@@ -13,5 +13,6 @@ pub mod Blocks
 pub mod LineEnds
 pub mod SameTexts
 pub mod SameBytes
+pub mod SameByLines
 pub mod WorkedSameTexts
 pub mod Differing

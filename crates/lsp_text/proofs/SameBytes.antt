@@ -113,7 +113,7 @@ nothing-encodes (c ∷ cs) =
     some [] ys lt = absurd (omega arith)
     some (x ∷ xs) ys lt = refl
 
-without_last-front : (t x : List ℕ) → has_no_line_end t ≡ true
+pub without_last-front : (t x : List ℕ) → has_no_line_end t ≡ true
     → without_last_feed (t ++ x) ≡ t ++ without_last_feed x
 without_last-front [] x h = refl
 without_last-front (c ∷ t) x h =

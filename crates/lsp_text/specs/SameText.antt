@@ -1,6 +1,6 @@
 -- Texts that are the same, character by character or by their lines alone.
 use Rattle.std.specs.Prelude.{◌≡◌, ◌&&◌, ◌||◌, ℕ, Bool, true, false, cond, List, [], ◌∷◌, ◌++◌}
-use Rattle.std.specs.Prelude.{Option, Some, None}
+use Rattle.std.specs.Prelude.{◌↔◌, map, Option, Some, None}
 use Rattle.std.specs.List.{flat_map}
 use Rattle.std.specs.Str.{bytes_eq}
 use Rattle.lsp_types.specs.declared.line_ends.LineEnds.{LineEnds}
@@ -63,6 +63,31 @@ with_feed l = l.text ++ feed_for l.end
 -- **A LF stands for the end of each line that has one, and nothing else changes.**
 abbrev pub FeedsEndLines : Type 0
 FeedsEndLines = (t : List ℕ) → with_feeds t ≡ flat_map with_feed (lines_of t)
+
+-- the lines of a text without their ends
+abbrev pub line_texts : List ℕ → List (List ℕ)
+line_texts t = map (λ (l : Line). l.text) (lines_of t)
+
+abbrev pub no_more : List (List ℕ) → Bool
+no_more [] = true
+no_more (l ∷ ls) = false
+
+abbrev pub without_empty_last : List (List ℕ) → List (List ℕ)
+without_empty_last [] = []
+without_empty_last (l ∷ ls) =
+    cond (is_nothing l && no_more ls) [] (l ∷ without_empty_last ls)
+
+-- those that count: all but the last, where that is empty and comes after others
+abbrev pub that_count : List (List ℕ) → List (List ℕ)
+that_count [] = []
+that_count (l ∷ ls) = l ∷ without_empty_last ls
+
+-- **Where line ends are ignored, two texts are the same exactly if their lines are**, without their
+-- ends and without an empty last one.
+abbrev pub SameByLines : Type 0
+SameByLines =
+    (a b : List ℕ)
+    → SameText Ignored a b ↔ (that_count (line_texts a) ≡ that_count (line_texts b))
 
 -- ---- taking lines off the front of a text
 

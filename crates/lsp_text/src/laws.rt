@@ -5,7 +5,8 @@ ghost use Rattle.lsp_text.specs.InsideCharacter.{PositionsLieInside};
 ghost use Rattle.lsp_text.specs.Lines.{LinesAreTheCut, LinesOfJoined};
 ghost use Rattle.lsp_text.specs.Places.{PlacesAreDenoted, OnePlaceAtMost, NoneInsideLineEnd};
 ghost use Rattle.lsp_text.specs.Places.{CharactersDenote};
-ghost use Rattle.lsp_text.specs.SameText.{ExactTexts, FeedsEndLines, SameTexts};
+ghost use Rattle.lsp_text.specs.SameText.{ExactTexts, FeedsEndLines, SameByLines};
+ghost use Rattle.lsp_text.specs.SameText.{SameTexts};
 
 /// Every text has exactly one cut into lines, as LSP 3.17, "Text Documents", has them: each line
 /// but the last ends with CR LF, LF or CR, none has a line end inside, and no CR before a LF ends a
@@ -61,6 +62,12 @@ pub fn positions_lie_inside()
 /// the same.
 pub fn same_texts()
     ensures { SameTexts }
+{}
+
+/// Where line ends are ignored, two texts are the same exactly if their lines are, without their ends
+/// and without an empty last one.
+pub fn same_by_lines()
+    ensures { SameByLines }
 {}
 
 /// Where line ends count, the same texts are equal.

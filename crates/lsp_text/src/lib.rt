@@ -30,7 +30,7 @@ pub use fault::{INSIDE_CHARACTER, OVER_LIMIT, REVERSED, TextFault};
 pub use laws::{
     characters_denote, exact_texts_are_equal, feeds_end_lines, line_ends_are_whole,
     lines_are_the_cut, lines_of_joined, one_difference, places_are_denoted, places_have_positions,
-    positions_denote_one_place, positions_lie_inside, same_texts,
+    positions_denote_one_place, positions_lie_inside, same_by_lines, same_texts,
 };
 pub use plain::Plain;
 pub use reading::{char_inside, line_at, size_with, width_of};
