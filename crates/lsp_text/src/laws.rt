@@ -64,8 +64,8 @@ pub fn same_texts()
     ensures { SameTexts }
 {}
 
-/// Where line ends are ignored, two texts are the same exactly if their lines are, without their ends
-/// and without an empty last one.
+/// Where line ends are ignored, two texts are the same exactly if their lines are, without their
+/// ends and without an empty last one.
 pub fn same_by_lines()
     ensures { SameByLines }
 {}
