@@ -32,10 +32,6 @@ pub record AreKept (ps : List (List ℕ)) : Type 0 where
   pub parts : AreParts ps
   pub fits : length (joined ps) < 2 ^ 64
 
--- the bytes don't begin with these
-abbrev pub BeginsOtherwise : List ℕ → List ℕ → Type 0
-BeginsOtherwise front bytes = (rest : List ℕ) → bytes ≡ front ++ rest → ⊥
-
 abbrev pub part_at : List (List ℕ) → ℕ → List ℕ
 part_at ps i = slice_index_or ps i []
 

@@ -10,13 +10,14 @@ ghost use Rattle.lsp_text.specs.Places.{units, place_in_line};
 ghost use Rattle.lsp_text.specs.Offsets.{IsOffset};
 ghost use Rattle.lsp_lined.specs.Ends.{ends_in, ends_with_return, moved_place, CanMove, IsLineEnd};
 ghost use Rattle.lsp_lined.specs.Sums.{sums_of};
-ghost use Rattle.lsp_lined.specs.Parts.{BeginsOtherwise, CanReplace, IsReplacedOr, KeepsEnds};
+ghost use Rattle.lsp_text.specs.SameText.{BeginsOtherwise, due, with_feeds};
+ghost use Rattle.lsp_lined.specs.Parts.{CanReplace, IsReplacedOr, KeepsEnds};
 ghost use Rattle.lsp_lined.specs.Parts.{IsCutInto, IsCutPlace};
 
 use crate::ends::{end_len_before, is_whole, move_places, places_of};
 use crate::part::{LineEnd, Part};
 use crate::sums::{Measure, Sums};
-use lsp_text::{offset_in_line, width_of};
+use lsp_text::{LinesLeft, offset_in_line, take_lines, width_of};
 use lsp_types::Encoding;
 use std::alloc::{AllocError, Global};
 use std::marker::Model;
@@ -147,6 +148,10 @@ impl Part for Block {
 
     fn strip<'a>(&self, whole: &'a str) -> Option<&'a str> {
         whole.strip_prefix(self.as_str())
+    }
+
+    fn take_lines<'a>(&self, left: LinesLeft<'a>) -> Option<LinesLeft<'a>> {
+        take_lines(left, self.as_str())
     }
 }
 

@@ -12,9 +12,10 @@ ghost use Rattle.lsp_lined.specs.Chunks.{HoldReplacedOr, HoldTheSame};
 use crate::block::{Block, cut_into};
 use crate::part::{
     LineEnd, Part, find, find_before, line_end_in, offset_in, push_all, replace_in, share_into,
-    strip_all, sums_in, units_before_in,
+    strip_all, sums_in, take_all, units_before_in,
 };
 use crate::sums::{Measure, Sums};
+use lsp_text::LinesLeft;
 use lsp_types::Encoding;
 use std::alloc::{AllocError, Global};
 use std::marker::Model;
@@ -104,6 +105,10 @@ impl Part for Chunk {
 
     fn strip<'a>(&self, whole: &'a str) -> Option<&'a str> {
         strip_all(held(&self.blocks), whole)
+    }
+
+    fn take_lines<'a>(&self, left: LinesLeft<'a>) -> Option<LinesLeft<'a>> {
+        take_all(held(&self.blocks), left)
     }
 }
 

@@ -115,6 +115,10 @@ impl TextStore for Lined {
         self.lines.spell(text)
     }
 
+    fn same_lines(&self, text: &str) -> bool {
+        self.lines.have(text)
+    }
+
     fn to_text(&self, alloc: Global) -> Result<String, Memory> {
         Ok(self.lines.to_text(alloc)?)
     }

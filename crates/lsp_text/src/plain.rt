@@ -10,6 +10,7 @@ use crate::columns::offset_in_line;
 use crate::counts::measure;
 use crate::cut::FirstLine;
 use crate::fault::TextFault;
+use crate::same::same_lines;
 use crate::store::{Place, TextStore};
 use lsp_types::{Encoding, Memory, Position, Span, rules};
 use std::alloc::Global;
@@ -88,6 +89,10 @@ impl TextStore for Plain {
 
     fn equals(&self, text: &str) -> bool {
         self.text.as_str() == text
+    }
+
+    fn same_lines(&self, text: &str) -> bool {
+        same_lines(self.text.as_str(), text)
     }
 
     fn to_text(&self, alloc: Global) -> Result<String, Memory> {

@@ -6,9 +6,10 @@ ghost use Rattle.std.specs.String.{string_bytes};
 ghost use Rattle.lsp_text.specs.Lines.{lines_of};
 ghost use Rattle.lsp_text.specs.Places.{units, place_of};
 ghost use Rattle.lsp_text.specs.Edits.{replaced, limited, IsFaultOf, IsPlaceOr605};
+ghost use Rattle.lsp_text.specs.SameText.{SameText};
 
 use crate::fault::TextFault;
-use lsp_types::{Encoding, Memory, Position, Span};
+use lsp_types::{Encoding, LineEnds, Memory, Position, Span};
 use std::alloc::Global;
 
 /// A place in a text, between two characters or at its ends: the characters (Unicode scalar values)
@@ -63,6 +64,10 @@ pub trait TextStore: Drop {
     /// Whether it holds this text.
     fn equals(&self, text: &str) -> bool
         ensures { IsTrue result ↔ (content self.now ≡ chars text.now) };
+
+    /// Whether it holds the same text up to line ends ([`crate::same_lines`]).
+    fn same_lines(&self, text: &str) -> bool
+        ensures { IsTrue result ↔ SameText LineEnds.Ignored (content self.now) (chars text.now) };
 
     /// Its text.
     fn to_text(&self, alloc: Global) -> Result<String, Memory>

@@ -5,7 +5,9 @@ ghost use Rattle.std.specs.Prelude.{MatchOption, IfOk, OnOk, OnErr, IsTrue};
 ghost use Rattle.std.specs.List.{replace_range};
 ghost use Rattle.std.specs.Str.{chars, IsUtf8, IsCharBoundary};
 ghost use Rattle.std.specs.String.{string_bytes};
+ghost use Rattle.lsp_types.specs.declared.line_ends.LineEnds.TheVariants.{Ignored};
 ghost use Rattle.lsp_text.specs.Lines.{lines_of};
+ghost use Rattle.lsp_text.specs.SameText.{SameText};
 ghost use Rattle.lsp_text.specs.Places.{units};
 ghost use Rattle.lsp_text.specs.Offsets.{IsAtLine};
 ghost use Rattle.lsp_lined.specs.Steps.{raised, line_bytes, line_number};
@@ -16,10 +18,11 @@ ghost use Rattle.lsp_lined.specs.LentLines.{NoOffsetIn};
 
 use crate::chunk::{Chunk, chunks_in, replace_in_chunks};
 use crate::part::{
-    Part, line_end_in, offset_in, push_all, share_into, strip_all, sums_in, units_before_in,
+    Part, line_end_in, offset_in, push_all, share_into, strip_all, sums_in, take_all,
+    units_before_in,
 };
 use crate::sums::{Measure, Sums};
-use lsp_text::offset_in_line;
+use lsp_text::{LinesLeft, is_taken, offset_in_line, without_last_end};
 use lsp_types::{Encoding, Position};
 use std::alloc::{AllocError, Global};
 use std::marker::Model;
@@ -176,6 +179,15 @@ impl Lines {
             Some(rest) => rest.is_empty(),
             None => false,
         }
+    }
+
+    /// Whether the lines are those of a text, whatever their ends.
+    pub(super) fn have(&self, text: &str) -> bool
+        ensures value { IsTrue result ↔ SameText Ignored self.now text.now }
+        ensures utf8 { IsUtf8 self.now }
+    {
+        let whole = without_last_end(text);
+        is_taken(take_all(&self.chunks, LinesLeft::Rest(whole)), whole)
     }
 
     /// The text of the lines, in a `String` of its own.
