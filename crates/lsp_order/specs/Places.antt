@@ -1,5 +1,7 @@
 -- The order of a map's entries, by their places: slots that hold a place or are empty, and back.
-use Rattle.std.specs.Prelude.{◌≡◌, ℕ, ◌-◌, ◌<◌, List, [], ◌∷◌, ◌++◌, length, map, filter, not, nat_eq, Bool, true, false, if◌then◌else◌, Option, Some, None, slice_get, slice_set, option_to_list}
+use Rattle.std.specs.Prelude.{◌≡◌, ℕ, ◌-◌, ◌<◌, List, [], ◌∷◌, ◌++◌, length, map, filter, not}
+use Rattle.std.specs.Prelude.{nat_eq, Bool, true, false, if◌then◌else◌, Option, Some, None}
+use Rattle.std.specs.Prelude.{slice_get, slice_set, option_to_list}
 use Rattle.std.specs.List.{list_any, IsDistinct}
 use Rattle.std.specs.Map.{keys_of}
 
@@ -11,8 +13,10 @@ places_in (Some place ∷ slots) = place ∷ places_in slots
 
 -- each place stands in its slot, and no other place does
 pub record AreTied (slots : List (Option ℕ)) (slot_of : List ℕ) : Type 0 where
-  pub there : (place slot : ℕ) → slice_get slot_of place ≡ Some slot → slice_get slots slot ≡ Some (Some place)
-  pub back : (slot place : ℕ) → slice_get slots slot ≡ Some (Some place) → slice_get slot_of place ≡ Some slot
+  pub there : (place slot : ℕ) → slice_get slot_of place ≡ Some slot
+      → slice_get slots slot ≡ Some (Some place)
+  pub back : (slot place : ℕ) → slice_get slots slot ≡ Some (Some place)
+      → slice_get slot_of place ≡ Some slot
   pub count : length (places_in slots) ≡ length slot_of
 
 -- this place in a slot, where there is a slot
@@ -41,10 +45,12 @@ moved last left place = if nat_eq place last then left else place
 
 -- the order after a place left
 abbrev pub without_place : ℕ → List ℕ → List ℕ
-without_place left places = map (moved (length places - 1) left) (filter (λ place. not (nat_eq place left)) places)
+without_place left places =
+    map (moved (length places - 1) left) (filter (λ place. not (nat_eq place left)) places)
 
 -- what a map keeps: no two of its keys are equal, and each of its entries stands once in the order
-pub record IsKept {K V : Type 0} (eq : K → K → Bool) (entries : List (K × V)) (places : List ℕ) : Type 0 where
+pub record IsKept {K V : Type 0} (eq : K → K → Bool) (entries : List (K × V))
+    (places : List ℕ) : Type 0 where
   pub order : IsOrder places (length entries)
   pub unique : IsDistinct eq (keys_of entries)
 
