@@ -1,4 +1,5 @@
--- What a session lacks that ends after these messages. (JSON-RPC 2.0, section 4; LSP 3.17, "Server lifecycle".)
+-- What a session lacks that ends after these messages. (JSON-RPC 2.0, section 4; LSP 3.17, "Server
+-- lifecycle".)
 use Rattle.std.specs.Prelude.{ℕ, List, [], ◌∷◌, Bool, true, false, not, Option, Some}
 use Rattle.lsp_types.specs.declared.side.Side.TheVariants.{Editor}
 use Rattle.lsp_session.specs.Entry.{Entry}
