@@ -1,5 +1,5 @@
 -- The order of a map's entries, by their places: slots that hold a place or are empty, and back.
-use Rattle.std.specs.Prelude.{◌≡◌, ℕ, ◌-◌, ◌<◌, List, [], ◌∷◌, ◌++◌, length, map, filter, not}
+use Rattle.std.specs.Prelude.{◌≡◌, ℕ, ◌+◌, ◌-◌, ◌<◌, drop, List, [], ◌∷◌, ◌++◌, length, map, filter, not}
 use Rattle.std.specs.Prelude.{nat_eq, Bool, true, false, if◌then◌else◌, Option, Some, None}
 use Rattle.std.specs.Prelude.{slice_get, slice_set, option_to_list}
 use Rattle.std.specs.List.{list_any, IsDistinct}
@@ -58,3 +58,9 @@ pub record IsKept {K V : Type 0} (eq : K → K → Bool) (entries : List (K × V
 abbrev pub in_order : {X : Type 0} → List ℕ → List X → List X
 in_order [] xs = []
 in_order (place ∷ places) xs = option_to_list (slice_get xs place) ++ in_order places xs
+
+-- the place in the first slot from this one on that is not empty, and the slot after that
+abbrev pub IsNextPlace : List (Option ℕ) → ℕ → Option (ℕ × ℕ) → Type 0
+IsNextPlace slots from None = places_in (drop from slots) ≡ []
+IsNextPlace slots from (Some found) =
+    places_in (drop from slots) ≡ found.0 ∷ places_in (drop found.1 slots)

@@ -12,6 +12,7 @@ ghost use Rattle.lsp_order.specs.Lends.{lends_value, text_row};
 ghost use Rattle.lsp_order.specs.Texts.{is_text};
 
 use crate::order::Order;
+use crate::walk::Walk;
 use indexmap::IndexMap;
 use std::alloc::{AllocError, Global};
 use std::hash::Hash;
@@ -70,6 +71,13 @@ impl<K: Eq + Hash + Drop, V: Drop> OrderedMap<K, V> {
     {
         let place = self.order.at(index)?;
         self.entries.get_index(place)
+    }
+
+    /// A walk over all entries, in order.
+    pub fn walk(&self) -> Walk<'_, K, V>
+        ensures { result ≡ self.now }
+    {
+        Walk::new(&self.entries, self.order.slots())
     }
 
     /// Whether it has this key.

@@ -53,6 +53,13 @@ impl Order {
         }
     }
 
+    /// The slots, each with its place or empty.
+    pub(crate) fn slots(&self) -> &[Option<usize>]
+        ensures { places_in result.now ≡ self.now }
+    {
+        self.slots.as_slice()
+    }
+
     /// Lets the next place enter at the end.
     pub(crate) fn push(&mut self) -> Result<(), AllocError>
         ensures ok { OnOk result (self.new ≡ self.old ++ length self.old ∷ []) }
