@@ -6,6 +6,7 @@ ghost use Rattle.lsp_session.specs.Entry.{request_view, has_id, IdsDiffer, entry
 ghost use Rattle.lsp_session.specs.Entry.{cancel, ask_rule, new_entry};
 ghost use Rattle.lsp_session.specs.Refusal.{Names};
 
+use crate::open_requests::OpenRequests;
 use crate::refusal::Refusal;
 use lsp_order::OrderedMap;
 use lsp_rpc::{Id, Memory, copy_id};
@@ -76,6 +77,15 @@ impl Pending {
     {
         let (_, request) = self.requests.at(index)?;
         Some(request)
+    }
+
+    /// The open requests, one after another, in the order in which they were asked.
+    pub fn walk(&self) -> OpenRequests<'_>
+        ensures { result ≡ self.now }
+    {
+        OpenRequests {
+            walk: self.requests.walk(),
+        }
     }
 
     pub(crate) fn contains(&self, id: &Id) -> bool
