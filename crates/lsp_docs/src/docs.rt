@@ -27,6 +27,7 @@ use crate::fault::{
     VERSION_STAYS, WRONG_KIND,
 };
 use crate::kind::fits_kind;
+use crate::open_uris::OpenUris;
 use crate::opened::OpenDocuments;
 use crate::revision::has_text;
 use crate::snapshot::Match;
@@ -102,6 +103,14 @@ impl<S: TextStore> Docs<S> {
             ≡ slice_get (map (λ h. h.uri) (documents self.now.terms calls)) index }
     {
         self.documents.at(index)
+    }
+
+    /// The URIs of the open documents, one after another, in order of opening.
+    pub fn uris(&self) -> OpenUris<'_, S>
+        ensures { (calls : List Call) → Stands self.now calls
+            → result ≡ map (λ h. h.uri) (documents self.now.terms calls) }
+    {
+        self.documents.uris()
     }
 
     /// Makes ready for a walk over all open documents: after it, until one is closed, [`Docs::at`]

@@ -12,6 +12,7 @@ ghost use Rattle.lsp_docs.specs.State.{text_in, without};
 
 use crate::document::Document;
 use crate::fault::DocFault;
+use crate::open_uris::OpenUris;
 use lsp_order::OrderedMap;
 use lsp_text::TextStore;
 use lsp_types::{Change, Encoding};
@@ -64,6 +65,15 @@ impl<S: TextStore> OpenDocuments<S> {
     {
         let (uri, _) = self.documents.at(index)?;
         Some(uri.as_str())
+    }
+
+    /// The URIs, one after another, in order of opening.
+    pub(crate) fn uris(&self) -> OpenUris<'_, S>
+        ensures { result ≡ map (λ h. h.uri) self.now.held }
+    {
+        OpenUris {
+            walk: self.documents.walk(),
+        }
     }
 
     /// Gives up what closed documents left in the order, so that [`OpenDocuments::at`] finds each
