@@ -59,10 +59,8 @@ fn open_documents<S: TextStore>(alloc: Global, docs: &Docs<S>) -> Result<Vec<Ope
         → map document_view found.items ≡ map document_of (documents docs.now.terms calls)) }
 {
     let mut found = Vec::new(alloc);
-    for index in 0..docs.len() {
-        let Some(uri) = docs.at(index) else {
-            return Ok(found);
-        };
+    let mut uris = docs.uris();
+    while let Some(uri) = uris.next() {
         found.push(open_document(alloc, docs, uri)?)?;
     }
     Ok(found)
@@ -125,8 +123,8 @@ fn push_requests(
     ensures { OnOk result (requests_view found.new.items ≡ requests_view found.old.items
         ++ map (λ r. (side, r)) pending.now) }
 {
-    for index in 0..pending.len() {
-        let request = pending.at(index).unwrap();
+    let mut requests = pending.walk();
+    while let Some(request) = requests.next() {
         found.push((side, copy_request(request)?))?;
     }
     Ok(())
