@@ -96,7 +96,8 @@ impl<S: TextStore> Docs<S> {
         self.documents.len()
     }
 
-    /// The URI of the document at this place in order of opening, from 0.
+    /// The URI of the document at this place in order of opening, from 0. [`Docs::uris`] finds all
+    /// of them faster.
     pub fn at(&self, index: usize) -> Option<&str>
         ensures { (calls : List Call) → Stands self.now calls
             → option_map (λ uri. uri.now) result
@@ -111,14 +112,6 @@ impl<S: TextStore> Docs<S> {
             → result ≡ map (λ h. h.uri) (documents self.now.terms calls) }
     {
         self.documents.uris()
-    }
-
-    /// Makes ready for a walk over all open documents: after it, until one is closed, [`Docs::at`]
-    /// finds each at once.
-    pub fn pack(&mut self)
-        ensures { self.new ≡ self.old }
-    {
-        self.documents.pack();
     }
 
     /// The version that the server holds of a URI, if it is open.

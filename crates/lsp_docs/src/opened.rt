@@ -76,14 +76,6 @@ impl<S: TextStore> OpenDocuments<S> {
         }
     }
 
-    /// Gives up what closed documents left in the order, so that [`OpenDocuments::at`] finds each
-    /// URI at once.
-    pub(crate) fn pack(&mut self)
-        ensures { self.new ≡ self.old }
-    {
-        self.documents.pack();
-    }
-
     pub(crate) fn get(&self, uri: &str) -> Option<&Document<S>>
         ensures held { option_map
             (λ d. versioned d.now.held.version (S.content d.now.held.store)) result

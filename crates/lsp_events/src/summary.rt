@@ -20,23 +20,8 @@ use lsp_text::TextStore;
 use lsp_verdict::{OpenDocument, Summary};
 use std::alloc::Global;
 
-/// What the events have come to. The open documents and requests are made ready for a walk over all
-/// of them, which changes nothing that is seen.
-pub fn summary_of<S: TextStore>(alloc: Global, events: &mut Events<S>) -> Result<Summary, Memory>
-    ensures session { events.new.session ≡ events.old.session }
-    ensures docs { events.new.docs ≡ events.old.docs }
-    ensures counts { events.new.counts ≡ events.old.counts }
-    ensures summary { IfOk result
-        (λ summary. (so_far : List Event)
-        → Follows events.old.session events.old.docs events.old.counts so_far
-        → yes (summary_view summary) ≡ as_given (yes (spec.summary events.old.docs.terms so_far))) }
-{
-    events.pack();
-    summary_now(alloc, events)
-}
-
 /// What the events have come to, read off what is held.
-fn summary_now<S: TextStore>(alloc: Global, events: &Events<S>) -> Result<Summary, Memory>
+pub fn summary_of<S: TextStore>(alloc: Global, events: &Events<S>) -> Result<Summary, Memory>
     ensures { IfOk result (λ summary. (so_far : List Event)
         → Follows events.now.session events.now.docs events.now.counts so_far
         → yes (summary_view summary) ≡ as_given (yes (spec.summary events.now.docs.terms so_far))) }

@@ -64,8 +64,8 @@ impl<K: Eq + Hash + Drop, V: Drop> OrderedMap<K, V> {
         self.entries.len()
     }
 
-    /// The key at this place in the order, from 0, and its value. Where keys have left since the
-    /// map was last packed, this goes past those before it, one by one.
+    /// The key at this place in the order, from 0, and its value. Where keys have left, this goes
+    /// past those before it, one by one.
     pub fn at(&self, index: usize) -> Option<(&K, &V)>
         ensures { option_map deref_pair result ≡ slice_get self.now index }
     {
@@ -125,14 +125,6 @@ impl<K: Eq + Hash + Drop, V: Drop> OrderedMap<K, V> {
         let (place, _, value) = self.entries.swap_remove_full(key)?;
         self.order.remove(place);
         Some(value)
-    }
-
-    /// Makes ready for a walk over all keys: after it, until one leaves, [`OrderedMap::at`] finds
-    /// each at once.
-    pub fn pack(&mut self)
-        ensures { self.new ≡ self.old }
-    {
-        self.order.pack();
     }
 }
 

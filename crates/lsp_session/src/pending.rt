@@ -70,7 +70,8 @@ impl Pending {
         self.requests.len()
     }
 
-    /// The open request at this index, the one asked first at 0.
+    /// The open request at this index, the one asked first at 0. [`Pending::walk`] finds all of
+    /// them faster.
     pub fn at(&self, index: usize) -> Option<&OpenRequest>
         ensures { option_map (λ request. request_view request.now) result
             ≡ slice_get self.now index }
@@ -135,13 +136,5 @@ impl Pending {
         ensures left { self.new ≡ without (id_view id.now) self.old }
     {
         self.requests.remove(id)
-    }
-
-    /// Makes ready for a walk over all open requests: after it, until one is answered,
-    /// [`Pending::at`] finds each at once.
-    pub fn pack(&mut self)
-        ensures { self.new ≡ self.old }
-    {
-        self.requests.pack();
     }
 }
