@@ -8,7 +8,8 @@ use Rattle.lsp_docs.specs.Calls.{Bytes, Call}
 use Rattle.lsp_docs.specs.Documents.{Version, Held, held, documents}
 use Rattle.lsp_docs.specs.State.{State, Stands}
 use Rattle.lsp_text.proofs.Positions.{slice_get-drop}
-use Rattle.lsp_verdict.proofs.ByIndex.{held_at, pushed_one}
+use Rattle.lsp_docs.proofs.Standing.{documents-held}
+use Rattle.lsp_verdict.proofs.ByIndex.{pushed_one}
 use Rattle.lsp_verdict.specs.Given.{document_view}
 use Rattle.lsp_verdict.specs.Verdict.{document_of}
 use Rattle.lsp_verdict.specs.declared.verdict.OpenDocument.{OpenDocument}
@@ -59,7 +60,8 @@ listed_next s calls found new uris after d uri stands listed next passed more ma
         let left : uris ≡ h.uri ∷ map uri_of rest = listed.1.0 ∙ ap (map uri_of) is in
         let same : uri ≡ h.uri = same_Some uri h.uri (next ∙ ap (λ l. slice_get l 0) left) in
         let holds : held s.terms uri calls ≡ Some h.version =
-        ap (λ u. held s.terms u calls) same ∙ held_at s calls n h stands here in
+        ap (λ u. held s.terms u calls) same
+        ∙ documents-held s.terms calls n h stands.accepted here in
         let view : document_view d ≡ document_of h =
         made h.version holds ∙ ap (λ u. document_of (record {
           uri = u;
@@ -68,7 +70,7 @@ listed_next s calls found new uris after d uri stands listed next passed more ma
           n + 1,
           (
             passed ∙ (ap (drop 1) left ∙ ap (map uri_of) (sym (drop-next n docs rest h is))),
-            pushed_one document_view document_of [] found new docs n d h more listed.1.1 here view,
+            pushed_one document_view document_of found new docs n d h more listed.1.1 here view,
           ),
         )
 
