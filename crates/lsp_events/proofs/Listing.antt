@@ -54,7 +54,7 @@ listed_next s calls found new uris after d uri stands listed next passed more ma
     by_rest : (left : List Held) → drop n docs ≡ left → AreListed s calls new after
     by_rest [] is =
         absurd (none-some uri (sym (next ∙ ap (λ l. slice_get l 0)
-            (listed.1.0 ∙ ap (map uri_of) is))))
+        (listed.1.0 ∙ ap (map uri_of) is))))
     by_rest (h ∷ rest) is =
         let here = slice_get-drop docs n h rest is in
         let left : uris ≡ h.uri ∷ map uri_of rest = listed.1.0 ∙ ap (map uri_of) is in
