@@ -11,7 +11,8 @@ use Rattle.lsp_text.specs.Edits.{Edit}
 abbrev pub Bytes : Type 0
 Bytes = List ℕ
 
--- `didOpen`, `didChange` under an encoding and a kind, `didClose`, `didSave`, and a snapshot that shows a text at a version
+-- `didOpen`, `didChange` under an encoding and a kind, `didClose`, `didSave`, and a snapshot that
+-- shows a text at a version
 pub data Call : Type 0 where
   opens : Bytes → ℤ → Text → Call
   changes : Encoding → SyncKind → Bytes → ℤ → List Edit → Call

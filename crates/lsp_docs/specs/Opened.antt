@@ -1,6 +1,7 @@
 -- The open documents as they are kept: what is held of each under its URI, in the order in which
 -- they were opened.
-use Rattle.std.specs.Prelude.{◌≡◌, ℕ, ℤ, List, [], map, Option, Some, None, string_bytes, String, Result, Ok}
+use Rattle.std.specs.Prelude.{◌≡◌, ℕ, ℤ, List, [], map, Option, Some, None, string_bytes, String}
+use Rattle.std.specs.Prelude.{Result, Ok}
 use Rattle.std.specs.Global.{Global}
 use Rattle.lsp_docs.specs.Texts.{Text}
 use Rattle.lsp_docs.specs.Calls.{Bytes}
@@ -26,7 +27,8 @@ abbrev pub kept_of : {D : Type 0} → (D → List Version) → List (String Glob
 kept_of keeps es = map (λ e. record { uri = string_bytes e.0; versions = keeps e.1 }) es
 
 -- the URI is now at this version, with the text that the changes made
-pub record IsSet (old new : List Held) (uri : Bytes) (number : ℤ) (made : Result Text ℕ) : Type 0 where
-  pub text : Text
-  pub is_made : made ≡ Ok text
-  pub is : new ≡ set_in uri (versioned number text) old
+pub record IsSet (old new : List Held) (uri : Bytes) (number : ℤ) (made : Result Text ℕ) : Type 0
+  where
+    pub text : Text
+    pub is_made : made ≡ Ok text
+    pub is : new ≡ set_in uri (versioned number text) old

@@ -1,5 +1,7 @@
 -- What documents hold, and the calls that this stands for.
-use Rattle.std.specs.Prelude.{◌≡◌, ℕ, ℤ, ◌+◌, ◌-◌, ◌^◌, ◌≤◌, min, List, [], ◌∷◌, ◌++◌, filter, length, Bool, false, if◌then◌else◌, Option, Some, None, option_to_list, Result, Ok}
+use Rattle.std.specs.Prelude.{◌≡◌, ℕ, ℤ, ◌+◌, ◌-◌, ◌^◌, ◌≤◌, min, List, [], ◌∷◌, ◌++◌, filter}
+use Rattle.std.specs.Prelude.{length, Bool, false, if◌then◌else◌, Option, Some, None}
+use Rattle.std.specs.Prelude.{option_to_list, Result, Ok}
 use Rattle.std.specs.Str.{bytes_eq}
 use Rattle.lsp_types.specs.declared.position.Encoding.{Encoding}
 use Rattle.lsp_types.specs.declared.change.SyncKind.{SyncKind}
@@ -7,7 +9,8 @@ use Rattle.lsp_docs.specs.Terms.{Terms}
 use Rattle.lsp_docs.specs.Texts.{Text}
 use Rattle.lsp_text.specs.Edits.{Edit, applied}
 use Rattle.lsp_docs.specs.Calls.{Bytes, Call, uri_of}
-use Rattle.lsp_docs.specs.Documents.{Version, versioned, is_after, is_at, is_before, Held, documents}
+use Rattle.lsp_docs.specs.Documents.{Version, versioned, is_after, is_at, is_before, Held}
+use Rattle.lsp_docs.specs.Documents.{documents}
 use Rattle.lsp_docs.specs.Kept.{kept, last_of}
 use Rattle.lsp_docs.specs.Snapshots.{waiting, versions_of}
 use Rattle.lsp_docs.specs.Rules.{rule_of, rule_of_change, AreAccepted}
@@ -47,7 +50,8 @@ held_in uri (h ∷ hs) = if bytes_eq uri h.uri then Some h.version else held_in 
 -- with `v` as the version of the first document of the URI
 abbrev pub set_in : Bytes → Version → List Held → List Held
 set_in uri v [] = []
-set_in uri v (h ∷ hs) = if bytes_eq uri h.uri then record { uri = h.uri; version = v } ∷ hs else h ∷ set_in uri v hs
+set_in uri v (h ∷ hs) = if bytes_eq uri h.uri then record { uri = h.uri; version = v } ∷ hs else
+    h ∷ set_in uri v hs
 
 -- without the first document of the URI
 abbrev pub without : Bytes → List Held → List Held
@@ -67,7 +71,10 @@ KeepsSame old new = (u : Bytes) → kept_in u new ≡ kept_in u old
 -- where at most this many versions of the URI were kept, its held version joins them, and the last
 -- ones are kept, at most this many
 abbrev pub KeepsOn : ℕ → Bytes → Option Version → List Kept → List Kept → Type 0
-KeepsOn most uri h old new = length (kept_in uri old) ≤ most → (u : Bytes) → kept_in u new ≡ (if bytes_eq uri u then last_of most (kept_in u old ++ option_to_list h) else kept_in u old)
+KeepsOn most uri h old new =
+    length (kept_in uri old) ≤ most → (u : Bytes)
+    → kept_in u new ≡ (if bytes_eq uri u then last_of most (kept_in u old ++ option_to_list h) else
+    kept_in u old)
 
 -- nothing is kept of the URI
 abbrev pub KeepsNone : Bytes → List Kept → List Kept → Type 0
@@ -82,7 +89,11 @@ queue_of uri (n ∷ ns) = if bytes_eq uri n.uri then n.versions else queue_of ur
 -- those of the URI that pass the test stay
 abbrev pub keep_in : Bytes → (Version → Bool) → List Queue → List Queue
 keep_in uri p [] = []
-keep_in uri p (n ∷ ns) = if bytes_eq uri n.uri then record { uri = n.uri; versions = filter p n.versions } ∷ ns else n ∷ keep_in uri p ns
+keep_in uri p (n ∷ ns) =
+    if bytes_eq uri n.uri then record {
+      uri = n.uri;
+      versions = filter p n.versions;
+    } ∷ ns else n ∷ keep_in uri p ns
 
 -- the same versions, each as often, in whatever order
 abbrev pub SameVersions : List Version → List Version → Type 0
@@ -151,8 +162,10 @@ early_rule kind number cs h = rule_of_change kind number cs (λ v. None) h
 
 -- the snapshots that wait are those that the definitions give for these calls
 pub record AreWaits (terms : Terms) (w : Waits) (calls : List Call) : Type 0 where
-  pub queues : (uri : Bytes) → SameVersions (queue_of uri w.queues) (versions_of uri (waiting terms calls))
-  pub order : (uri : Bytes) → SameOrder (queue_of uri w.queues) (versions_of uri (waiting terms calls))
+  pub queues : (uri : Bytes)
+      → SameVersions (queue_of uri w.queues) (versions_of uri (waiting terms calls))
+  pub order : (uri : Bytes)
+      → SameOrder (queue_of uri w.queues) (versions_of uri (waiting terms calls))
   pub count : total w.queues ≡ length (waiting terms calls)
   pub missed : w.missed ≡ capped (missed terms calls)
 
@@ -165,4 +178,5 @@ pub record Stands (s : State) (calls : List Call) : Type 0 where
 
 -- the rule that a call breaks, read off the state
 abbrev pub rule_at : State → Call → Option ℕ
-rule_at s c = rule_of s.terms (held_in (uri_of c) s.documents) (kept_in (uri_of c) s.kept) (queue_of (uri_of c) s.waits.queues) c
+rule_at s c = rule_of s.terms (held_in (uri_of c) s.documents) (kept_in (uri_of c) s.kept)
+    (queue_of (uri_of c) s.waits.queues) c

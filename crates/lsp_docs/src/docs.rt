@@ -24,6 +24,7 @@ ghost use Rattle.lsp_docs.specs.Answer.{answer_of};
 use crate::document::Document;
 use crate::fault::DocFault;
 use crate::kind::fits_kind;
+use crate::open_uris::OpenUris;
 use crate::opened::OpenDocuments;
 use crate::revision::has_text;
 use crate::snapshot::Match;
@@ -94,6 +95,7 @@ impl<S: TextStore> Docs<S> {
     }
 
     /// The URI of the document at this place in the order in which they were opened, from 0.
+    /// [`Docs::uris`] finds all of them faster.
     pub fn at(&self, index: usize) -> Option<&str>
         ensures { (calls : List Call) → Stands self.now calls
             → option_map (λ uri. uri.now) result
@@ -102,12 +104,12 @@ impl<S: TextStore> Docs<S> {
         self.documents.at(index)
     }
 
-    /// Makes ready for a walk over all open documents: after it, until one is closed, [`Docs::at`]
-    /// finds each at once.
-    pub fn pack(&mut self)
-        ensures { self.new ≡ self.old }
+    /// The URIs of the open documents, one after another, in order of opening.
+    pub fn uris(&self) -> OpenUris<'_, S>
+        ensures { (calls : List Call) → Stands self.now calls
+            → result ≡ map (λ h. h.uri) (documents self.now.terms calls) }
     {
-        self.documents.pack();
+        self.documents.uris()
     }
 
     /// The version that the server holds of a URI, if it is open.

@@ -12,6 +12,7 @@ ghost use Rattle.lsp_docs.specs.State.{text_in, without};
 
 use crate::document::Document;
 use crate::fault::DocFault;
+use crate::open_uris::OpenUris;
 use lsp_order::OrderedMap;
 use lsp_text::TextStore;
 use lsp_types::{Change, Encoding};
@@ -67,12 +68,13 @@ impl<S: TextStore> OpenDocuments<S> {
         Some(uri.as_str())
     }
 
-    /// Gives up what closed documents left in the order, so that [`OpenDocuments::at`] finds each
-    /// URI at once.
-    pub(crate) fn pack(&mut self)
-        ensures { self.new ≡ self.old }
+    /// The URIs, one after another, in order of opening.
+    pub(crate) fn uris(&self) -> OpenUris<'_, S>
+        ensures { result ≡ map (λ h. h.uri) self.now.held }
     {
-        self.documents.pack();
+        OpenUris {
+            walk: self.documents.walk(),
+        }
     }
 
     pub(crate) fn get(&self, uri: &str) -> Option<&Document<S>>

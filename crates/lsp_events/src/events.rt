@@ -53,16 +53,6 @@ impl<S: TextStore> Events<S> {
         }
     }
 
-    /// Makes ready for a walk over all open documents and requests.
-    pub(crate) fn pack(&mut self)
-        ensures session { self.new.session ≡ self.old.session }
-        ensures docs { self.new.docs ≡ self.old.docs }
-        ensures counts { self.new.counts ≡ self.old.counts }
-    {
-        self.session.pack();
-        self.docs.pack();
-    }
-
     /// Hears a content of a side: the message that it is, but for its params and the value of a
     /// result that nothing reads, and what that means; unless it breaks a rule after the events
     /// heard. The event is not counted: that is for the caller.

@@ -20,23 +20,8 @@ use lsp_text::TextStore;
 use lsp_verdict::{OpenDocument, Summary};
 use std::alloc::Global;
 
-/// The result of the events. The open documents and requests are made ready for a walk over all
-/// of them, which changes nothing that is seen.
-pub fn summary_of<S: TextStore>(alloc: Global, events: &mut Events<S>) -> Result<Summary, Memory>
-    ensures session { events.new.session ≡ events.old.session }
-    ensures docs { events.new.docs ≡ events.old.docs }
-    ensures counts { events.new.counts ≡ events.old.counts }
-    ensures summary { IfOk result
-        (λ summary. (so_far : List Event)
-        → Follows events.old.session events.old.docs events.old.counts so_far
-        → yes (summary_view summary) ≡ as_given (yes (spec.summary events.old.docs.terms so_far))) }
-{
-    events.pack();
-    summary_now(alloc, events)
-}
-
 /// The result of the events, read off what is held.
-fn summary_now<S: TextStore>(alloc: Global, events: &Events<S>) -> Result<Summary, Memory>
+pub fn summary_of<S: TextStore>(alloc: Global, events: &Events<S>) -> Result<Summary, Memory>
     ensures { IfOk result (λ summary. (so_far : List Event)
         → Follows events.now.session events.now.docs events.now.counts so_far
         → yes (summary_view summary) ≡ as_given (yes (spec.summary events.now.docs.terms so_far))) }
@@ -59,10 +44,8 @@ fn open_documents<S: TextStore>(alloc: Global, docs: &Docs<S>) -> Result<Vec<Ope
         → map document_view found.items ≡ map document_of (documents docs.now.terms calls)) }
 {
     let mut found = Vec::new(alloc);
-    for index in 0..docs.len() {
-        let Some(uri) = docs.at(index) else {
-            return Ok(found);
-        };
+    let mut uris = docs.uris();
+    while let Some(uri) = uris.next() {
         found.push(open_document(alloc, docs, uri)?)?;
     }
     Ok(found)
@@ -126,8 +109,8 @@ fn push_requests(
     ensures { OnOk result (requests_view found.new.items ≡ requests_view found.old.items
         ++ map (λ r. (side, r)) pending.now) }
 {
-    for index in 0..pending.len() {
-        let request = pending.at(index).unwrap();
+    let mut requests = pending.walk();
+    while let Some(request) = requests.next() {
         found.push((side, copy_request(request)?))?;
     }
     Ok(())

@@ -175,9 +175,9 @@ fn side_of(offending: &Offending) -> Side
 }
 
 /// What explains the end of a log, where no event offends.
-fn explain_end(alloc: Global, events: &mut SurveyReader, end: End) -> Result<Explanation, Memory>
+fn explain_end(alloc: Global, events: &SurveyReader, end: End) -> Result<Explanation, Memory>
     ensures { IfOk result (λ x. (completeness : Completeness) (limits : Bounds) (start now : Told)
-        → EndsWhole completeness limits events.old start now end
+        → EndsWhole completeness limits events.now start now end
         → TellsEnd completeness limits start now x) }
 {
     let End { listed, bad } = end;
@@ -224,16 +224,16 @@ pub(crate) fn explain_listed(
 /// What explains the verdict where nothing is listed: Yes, or the fault of the log.
 pub(crate) fn explain_sound(
     alloc: Global,
-    events: &mut SurveyReader,
+    events: &SurveyReader,
     bad: Option<Verdict>,
 ) -> Result<Explanation, Memory>
-    ensures { IfOk result (λ x. (notes : List Noted) → IsSound events.old notes
+    ensures { IfOk result (λ x. (notes : List Noted) → IsSound events.now notes
         → (verdict_view x.verdict
-        ≡ first_verdict [] (option_map verdict_view bad) (summary_behind events.old notes))
+        ≡ first_verdict [] (option_map verdict_view bad) (summary_behind events.now notes))
         × (string_bytes x.text ≡ report
-        (first_verdict [] (option_map verdict_view bad) (summary_behind events.old notes))
+        (first_verdict [] (option_map verdict_view bad) (summary_behind events.now notes))
         ++ flaw_lines (option_map verdict_view bad)
-        (flaw_held events.old (option_map verdict_view bad)))) }
+        (flaw_held events.now (option_map verdict_view bad)))) }
 {
     let flaw = flaw_text(alloc, events, &bad)?;
     let verdict = events.sound(bad)?;

@@ -179,13 +179,13 @@ fn explain_cause<W: Sink>(
 /// Explains the end of a log after the offences of its events, and closes the explanation.
 fn close<W: Sink>(
     alloc: Global,
-    events: &mut SurveyReader,
+    events: &SurveyReader,
     writer: &mut W,
     tally: &mut Tally,
     end: End,
 ) -> Result<Verdict, RunFault>
     ensures { (completeness : Completeness) (limits : Bounds) (start now old : Told)
-        → CausesTold completeness limits events.old tally.old start now old (W.told writer.old) end
+        → CausesTold completeness limits events.now tally.old start now old (W.told writer.old) end
         → TellsAll completeness limits start now old (W.told writer.new) result }
 {
     let closing = closing_of(alloc, events, tally, end)?;
@@ -197,13 +197,13 @@ fn close<W: Sink>(
 /// counted with them.
 fn closing_of(
     alloc: Global,
-    events: &mut SurveyReader,
+    events: &SurveyReader,
     tally: &mut Tally,
     end: End,
 ) -> Result<Explanation, Memory>
     ensures tally { OnOk result ((found : List SpecOffence) → IsTally tally.old found
         → IsTally tally.new (found ++ map offence_view end.listed.items)) }
-    ensures closing { IfOk result (λ x. IsClosing events.old tally.old end x) }
+    ensures closing { IfOk result (λ x. IsClosing events.now tally.old end x) }
 {
     let End { listed, bad } = end;
     let mut text = ends_text(alloc, events, tally, listed.as_slice())?;
@@ -242,11 +242,11 @@ fn ends_text(
 /// What follows all offences, and the verdict.
 fn last_of(
     alloc: Global,
-    events: &mut SurveyReader,
+    events: &SurveyReader,
     tally: &Tally,
     bad: Option<Verdict>,
 ) -> Result<Explanation, Memory>
-    ensures { IfOk result (λ x. IsLast events.old tally.now bad x) }
+    ensures { IfOk result (λ x. IsLast events.now tally.now bad x) }
 {
     match tally.first {
         Some(first) => Ok(Explanation {

@@ -393,8 +393,8 @@ fn requests(alloc: Global, pending: &Pending, said: &SessionNotes) -> Result<Vec
         → facts_view facts.items ≡ map (spec.waiting_by (numbered terms before)) pending.now) }
 {
     let mut facts = Vec::new(alloc);
-    for index in 0..pending.len() {
-        let request = pending.at(index).unwrap();
+    let mut requests = pending.walk();
+    while let Some(request) = requests.next() {
         facts.push(request_by(alloc, request, said)?)?;
     }
     Ok(facts)

@@ -18,17 +18,14 @@ use std::alloc::Global;
 /// editor's or the server's that are not a whole frame, or by what is missing from the session.
 pub(crate) fn end_of<S: TextStore>(
     alloc: Global,
-    events: &mut Events<S>,
+    events: &Events<S>,
     editor: bool,
     server: bool,
     completeness: Completeness,
 ) -> Result<Summary, Ruling>
-    ensures session { events.new.session ≡ events.old.session }
-    ensures docs { events.new.docs ≡ events.old.docs }
-    ensures counts { events.new.counts ≡ events.old.counts }
-    ensures answer { (so_far : List Event) → Follows events.old.session events.old.docs
-        events.old.counts so_far
-        → EndIs result (end_by completeness events.old.docs.terms so_far editor server) }
+    ensures { (so_far : List Event) → Follows events.now.session events.now.docs events.now.counts
+        so_far
+        → EndIs result (end_by completeness events.now.docs.terms so_far editor server) }
 {
     if let Some(ruling) = rest_in(&events.counts, editor, server) {
         return Err(ruling);

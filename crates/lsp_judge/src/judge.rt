@@ -288,16 +288,15 @@ impl<S: TextStore> Judge<S> {
     }
 
     /// What is given where the session ends here.
-    fn end(&mut self, completeness: Completeness) -> Result<Summary, Ruling>
-        ensures same { self.new ≡ self.old }
-        ensures answer { (events : List Event) → Follows self.old.messages self.old.documents
-            self.old.counts events
-            → EndIs result (end_by completeness self.old.documents.terms events
-            (ends_inside self.old.streams.editor) (ends_inside self.old.streams.server)) }
+    fn end(&self, completeness: Completeness) -> Result<Summary, Ruling>
+        ensures { (events : List Event) → Follows self.now.messages self.now.documents
+            self.now.counts events
+            → EndIs result (end_by completeness self.now.documents.terms events
+            (ends_inside self.now.streams.editor) (ends_inside self.now.streams.server)) }
     {
         let editor = self.streams.ends_inside(Side::Editor);
         let server = self.streams.ends_inside(Side::Server);
-        end_of(self.alloc, &mut self.events, editor, server, completeness)
+        end_of(self.alloc, &self.events, editor, server, completeness)
     }
 
     /// Hears what a record brings, up to the first event that offends.

@@ -1,5 +1,6 @@
 -- The rules and readings as a session finds them by what it keeps.
-use Rattle.std.specs.Prelude.{ℕ, List, [], ◌∷◌, Bool, true, not, ◌&&◌, ◌||◌, Option, Some, None, is_some}
+use Rattle.std.specs.Prelude.{ℕ, List, [], ◌∷◌, Bool, true, not, ◌&&◌, ◌||◌, Option, Some, None}
+use Rattle.std.specs.Prelude.{is_some}
 use Rattle.std.specs.Option.{option_or}
 use Rattle.lsp_rpc.specs.Act.{Act}
 use Rattle.lsp_rpc.specs.Message.{Message}
@@ -11,7 +12,8 @@ use Rattle.lsp_session.specs.Lifecycle.{is_early, reports_on}
 use Rattle.lsp_session.specs.Negotiation.{first_row, register_rule, settled_rule}
 use Rattle.lsp_session.specs.OpenInitialize.{Initialize}
 use Rattle.lsp_session.specs.Requests.{id_rule}
-use Rattle.lsp_session.specs.Sent.{Sent, is_exit, is_initialize, is_initialized, is_response, other_side}
+use Rattle.lsp_session.specs.Sent.{Sent, is_exit, is_initialize, is_initialized, is_response}
+use Rattle.lsp_session.specs.Sent.{other_side}
 use Rattle.lsp_session.specs.State.{State, agreed_in}
 use Rattle.lsp_session.specs.declared.negotiation.Agreed.{Agreed}
 use Rattle.lsp_types.specs.declared.rules.TheConstants as rules

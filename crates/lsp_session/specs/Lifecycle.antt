@@ -1,5 +1,6 @@
 -- Who may send what, and when. (LSP 3.17, "Server lifecycle".)
-use Rattle.std.specs.Prelude.{ℕ, List, [], ◌∷◌, Bool, true, false, not, ◌&&◌, if◌then◌else◌, Option, Some, None}
+use Rattle.std.specs.Prelude.{ℕ, List, [], ◌∷◌, Bool, true, false, not, ◌&&◌, if◌then◌else◌, Option}
+use Rattle.std.specs.Prelude.{Some, None}
 use Rattle.std.specs.List.{list_any}
 use Rattle.lsp_rpc.specs.Ident.{Ident, same_id}
 use Rattle.lsp_rpc.specs.Act.{Act, early, progress}
@@ -7,7 +8,8 @@ use Rattle.lsp_types.specs.declared.side.Side.{Side}
 use Rattle.lsp_types.specs.declared.side.Side.TheVariants.{Editor, Server}
 use Rattle.lsp_session.specs.Handshake.{is_done, is_fresh, is_waiting, open_initializes, was_sent}
 use Rattle.lsp_session.specs.OpenInitialize.{Initialize}
-use Rattle.lsp_session.specs.Sent.{Sent, is_exit, is_initialize, is_initialized, is_response, is_shutdown, same_side}
+use Rattle.lsp_session.specs.Sent.{Sent, is_exit, is_initialize, is_initialized, is_response}
+use Rattle.lsp_session.specs.Sent.{is_shutdown, same_side}
 use Rattle.lsp_types.specs.declared.rules.TheConstants as rules
 
 -- ---- the table
@@ -44,7 +46,12 @@ pub record Row : Type 0 where
   pub answer : Option ℕ
 
 abbrev pub row : Side → Before → Kind → Option ℕ → Row
-row sender before kind answer = record { sender = sender; before = before; kind = kind; answer = answer }
+row sender before kind answer = record {
+  sender = sender;
+  before = before;
+  kind = kind;
+  answer = answer;
+}
 
 abbrev pub allowed : Option ℕ
 allowed = None
@@ -107,7 +114,8 @@ is_kind unanswered m an_early_call = is_call m && is_early m.act
 is_kind unanswered m its_progress = is_call m && reports_on unanswered m.act
 
 abbrev pub fits : List Sent → Sent → Row → Bool
-fits before m row = same_side row.sender m.side && (is_kind (open_initializes before) m row.kind && holds before row.before)
+fits before m row = same_side row.sender m.side &&
+    (is_kind (open_initializes before) m row.kind && holds before row.before)
 
 abbrev pub first_answer : (Row → Bool) → List Row → Option ℕ
 first_answer test [] = allowed

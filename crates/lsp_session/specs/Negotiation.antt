@@ -1,6 +1,7 @@
 -- What the two sides agree on: the encoding of columns, and how changes are sent.
 -- (LSP 3.17, "Initialize Request", "PositionEncodingKind" and "Text Document Synchronization".)
-use Rattle.std.specs.Prelude.{ℕ, List, [], ◌∷◌, Bool, false, not, ◌||◌, if◌then◌else◌, Option, Some, None, is_some, option_map, option_and_then, codes}
+use Rattle.std.specs.Prelude.{ℕ, List, [], ◌∷◌, Bool, false, not, ◌||◌, if◌then◌else◌, Option, Some}
+use Rattle.std.specs.Prelude.{None, is_some, option_map, option_and_then, codes}
 use Rattle.std.specs.List.{list_any}
 use Rattle.std.specs.Option.{option_or}
 use Rattle.std.specs.Str.{bytes_eq}
@@ -33,7 +34,8 @@ encoding_named name =
 -- ---- what was agreed
 
 abbrev pub agreed_by : Picked → Option Agreed
-agreed_by picked = option_map (λ encoding. record { encoding = encoding; kind = picked.kind }) (encoding_named picked.encoding)
+agreed_by picked = option_map (λ encoding. record { encoding = encoding; kind = picked.kind })
+    (encoding_named picked.encoding)
 
 -- what a result agrees on
 abbrev pub agreed_at : Data → Option Agreed
@@ -59,7 +61,8 @@ lists (Some names) name = list_any (bytes_eq name) names
 abbrev pub offers : Offer → Text → Bool
 offers offer name = bytes_eq name (codes "utf-16") || lists offer.encodings name
 
--- the rule that a result breaks which answers this offer; it picks nothing where it does not have the shape
+-- the rule that a result breaks which answers this offer; it picks nothing where it does not have
+-- the shape
 abbrev pub pick_rule : Offer → Option Picked → Option ℕ
 pick_rule offer None = Some rules.BAD_INITIALIZE_RESULT
 pick_rule offer (Some picked) =
@@ -73,7 +76,8 @@ settled_rule None = None
 settled_rule (Some settled) = pick_rule settled.offer (picked_at settled.value)
 
 abbrev pub synchronisation : List Text
-synchronisation = codes "textDocument/didOpen" ∷ codes "textDocument/didChange" ∷ codes "textDocument/didClose" ∷ []
+synchronisation = codes "textDocument/didOpen" ∷ codes "textDocument/didChange" ∷ codes
+    "textDocument/didClose" ∷ []
 
 abbrev pub is_synchronisation : Text → Bool
 is_synchronisation method = list_any (bytes_eq method) synchronisation
@@ -90,7 +94,8 @@ register_rule Server act = if registers_synchronisation act
 
 -- the rule of the negotiation that the message breaks
 abbrev pub negotiation_rule : List Sent → Sent → Option ℕ
-negotiation_rule before m = option_or (settled_rule (settled_by before m)) (register_rule m.side m.act)
+negotiation_rule before m =
+    option_or (settled_rule (settled_by before m)) (register_rule m.side m.act)
 
 -- 501 of a result that answers an `initialize`, and the rule given of any other message
 abbrev pub shape_rule : Option Settled → Option ℕ → Option ℕ

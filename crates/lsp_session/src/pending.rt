@@ -6,6 +6,7 @@ ghost use Rattle.lsp_session.specs.Entry.{request_view, has_id, IdsDiffer, entry
 ghost use Rattle.lsp_session.specs.Entry.{cancel, ask_rule, new_entry};
 ghost use Rattle.lsp_session.specs.Refusal.{Names};
 
+use crate::open_requests::OpenRequests;
 use crate::refusal::Refusal;
 use lsp_order::OrderedMap;
 use lsp_rpc::{Id, Memory, copy_id};
@@ -70,13 +71,23 @@ impl Pending {
         self.requests.len()
     }
 
-    /// The open request at this index, the one asked first at 0.
+    /// The open request at this index, the one asked first at 0. [`Pending::walk`] finds all of
+    /// them faster.
     pub fn at(&self, index: usize) -> Option<&OpenRequest>
         ensures { option_map (λ request. request_view request.now) result
             ≡ slice_get self.now index }
     {
         let (_, request) = self.requests.at(index)?;
         Some(request)
+    }
+
+    /// The open requests, one after another, in the order in which they were asked.
+    pub fn walk(&self) -> OpenRequests<'_>
+        ensures { result ≡ self.now }
+    {
+        OpenRequests {
+            walk: self.requests.walk(),
+        }
     }
 
     pub(crate) fn contains(&self, id: &Id) -> bool
@@ -126,13 +137,5 @@ impl Pending {
         ensures left { self.new ≡ without (id_view id.now) self.old }
     {
         self.requests.remove(id)
-    }
-
-    /// Makes ready for a walk over all open requests: after it, until one is answered,
-    /// [`Pending::at`] finds each at once.
-    pub fn pack(&mut self)
-        ensures { self.new ≡ self.old }
-    {
-        self.requests.pack();
     }
 }

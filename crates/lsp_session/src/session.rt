@@ -196,14 +196,6 @@ impl Session {
         self.settled_by(side, message)
     }
 
-    /// Makes ready for a walk over all open requests of both sides ([`Pending::pack`]).
-    pub fn pack(&mut self)
-        ensures { self.new ≡ self.old }
-    {
-        self.editor.pack();
-        self.server.pack();
-    }
-
     fn asked_by(&self, side: Side) -> &Pending
         ensures { result.now ≡ by_state.open_of side self.now }
     {

@@ -130,18 +130,18 @@ impl SurveyReader {
     }
 
     /// The verdict where nothing is listed: the fault of the log, else Yes.
-    pub fn sound(&mut self, bad: Option<Verdict>) -> Result<Verdict, Memory>
+    pub fn sound(&self, bad: Option<Verdict>) -> Result<Verdict, Memory>
         ensures { IfOk result (λ verdict. (notes : List Noted)
-            → Follows self.old.walk.events.session self.old.walk.events.docs
-            self.old.walk.events.counts (events_of notes)
-            → as_given (yes (summary self.old.walk.events.docs.terms (events_of notes)))
-            ≡ yes (summary self.old.walk.events.docs.terms (events_of notes))
+            → Follows self.now.walk.events.session self.now.walk.events.docs
+            self.now.walk.events.counts (events_of notes)
+            → as_given (yes (summary self.now.walk.events.docs.terms (events_of notes)))
+            ≡ yes (summary self.now.walk.events.docs.terms (events_of notes))
             → verdict_view verdict ≡ first_verdict [] (option_map verdict_view bad)
-            (summary self.old.walk.events.docs.terms (events_of notes))) }
+            (summary self.now.walk.events.docs.terms (events_of notes))) }
     {
         match bad {
             Some(verdict) => Ok(verdict),
-            None => Ok(Verdict::Yes(summary_of(self.alloc, &mut self.walk.events)?)),
+            None => Ok(Verdict::Yes(summary_of(self.alloc, &self.walk.events)?)),
         }
     }
 

@@ -16,13 +16,13 @@ returns-in-Some-clause-verdict g c =
 pub returns-in-Ok-clause-verdict : goal.returns-in-Ok-clause-verdict
 returns-in-Ok-clause-verdict g c = λ records v stands final.
     let given = ap (λ (s : State). s.given) (sym c.self.view_is) ∙ c.in_default.is in
-    let told = rw c.in-Ok.is at c.end.ensures.answer in
+    let told = rw c.in-Ok.is at c.end.ensures in
     open_final c.args.completeness c.args.self.now records _ v given told stands final
 
 pub returns-in-Err-clause-verdict : goal.returns-in-Err-clause-verdict
 returns-in-Err-clause-verdict g c =
     let given = ap (λ (s : State). s.given) (sym c.self.view_is) ∙ c.in_default.is in
-    let told = rw c.in-Err.is at c.end.ensures.answer in
+    let told = rw c.in-Err.is at c.end.ensures in
     IfOk-weaker c.answer-in-Err.result _ _
     (λ answer is records v stands final.
     open_final c.args.completeness c.args.self.now records _ v given
