@@ -18,7 +18,6 @@ pub mod Given
 pub mod TextAfter
 pub mod Interleaving
 pub mod Counting
-pub mod Drained
 pub mod Entries
 pub mod Upgraded
 pub mod Complete
