@@ -26,7 +26,7 @@ use Rattle.lsp_verdict.specs.declared.outcome.RunFault.TheVariants as faults
 
 -- ---- logs
 
--- these records go on behind those
+-- these records go on after those
 abbrev pub GoesBehind : List Record → List Record → Type 0
 GoesBehind front records = (more : List Record) × (records ≡ front ++ more)
 
@@ -53,7 +53,7 @@ abbrev pub flaw_of : End → Option (ℕ × LogCode)
 flaw_of Sound = None
 flaw_of (Bad number fault) = Some (number, fault)
 
--- the log ends behind these records, with this fault or none
+-- the log ends after these records, with this fault or none
 pub record EndsBehind (r : reader.State) (limits : Bounds) (start now : Told)
     (records : List Record) (flaw : Option (ℕ × LogCode)) : Type 0 where
   pub of_read : OfRead limits start now (IsLogOf r limits records flaw)
@@ -80,7 +80,7 @@ pub record Ended (limits : Bounds) (format : Option Format) (e : LogEvents) (sta
   pub reads : Reads limits format e start now records given []
   pub ends : EndsBehind e.log limits start now records (flaw_of end)
 
--- reading broke off behind these records and events of a log of this format
+-- reading broke off after these records and events of a log of this format
 pub record BrokeOff (limits : Bounds) (start now : Told) (format : Option Format)
     (records : List Record) (given : List Raw) (fault : RunFault) : Type 0 where
   pub of_read : OfRead limits start now (HasGiven limits format records given)
@@ -95,7 +95,7 @@ Opens limits start now e =
 
 -- ---- the next event
 
--- one more event of these records, or of more, or the end of the log behind them
+-- one more event of these records, or of more, or the end of the log after them
 abbrev pub Gives : Bounds → Option Format → LogEvents → Told → Told → List Record → List Raw
     → Result Next RunFault → Type 0
 Gives limits format e start now records given (Ok (next.Event raw)) =

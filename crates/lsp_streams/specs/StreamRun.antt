@@ -15,7 +15,7 @@ use Rattle.lsp_verdict.specs.declared.outcome.StreamFault.TheVariants.{Rule, Too
 
 -- ---- a stream
 
--- the fault of a stream: that of its frames; else that it goes on behind the limit; else that bytes
+-- the fault of a stream: that of its frames; else that it goes on after the limit; else that bytes
 -- are left
 abbrev pub fault_of : Option ℕ → Bool → List ℕ → Option StreamFault
 fault_of (Some rule) longer rest = Some (Rule rule)
@@ -34,7 +34,7 @@ pub record HasParts (limits : Bounds) (mode : Mode) (stream parts : List ℕ)
   pub runs_through : RunsThrough mode 1 contents
       (fault_of fault (nat_lt limits.log (length stream)) rest) parts outcome
 
--- what stands behind the parts
+-- what comes after the parts
 abbrev pub closing : Mode → Outcome → List ℕ
 closing mode Done = []
 closing Lengths (Stream frame fault) = stream_report frame fault

@@ -73,8 +73,7 @@ StepsBy None side old new (Some (due.Broken by rule)) =
     (by ≡ side) × decoder.Next old new (Err rule)
 StepsBy None side old new (Some due.Snapshot) = ⊥
 
--- the decoder of a side went past its next event, of which there is none behind a fault that it
--- gave
+-- the decoder of a side went past its next event, of which there is none after a fault that it gave
 abbrev pub StepsSide : Side → decoder.State → decoder.State → Option Due → Type 0
 StepsSide side old new next = StepsBy old.fault side old new next
 
@@ -93,7 +92,7 @@ Steps old new next = StepsAt old.turn old new next
 
 -- ---- records
 
--- **a side's decoder has still to give these events of these bytes**: contents, and behind them a
+-- **a side's decoder has still to give these events of these bytes**: contents, and after them a
 -- fault that it did not give
 pub record IsDue (side : Side) (d : decoder.State) (bytes : List ℕ) (due : List Raw) : Type 0 where
   pub given : List (List ℕ)

@@ -44,7 +44,7 @@ fn write_numbers<W: Sink>(writer: &mut W, frame: u64, len: u64, end: u8) -> Resu
         (W.told writer.new)
         result (numbers frame len (end ∷ [])) }
 {
-    // Filled from behind, so that the line is put at once.
+    // Filled from its end, so that the line is put at once.
     let mut line = [end; LINE];
     let size = fill_number(&mut line, len, LINE - 1);
     line[size - 1] = b' ';
@@ -245,7 +245,7 @@ fn write_parts<R: Source, W: Sink>(
     }
 }
 
-/// Writes the report of a fault behind the parts, in the modes that write it to the same sink.
+/// Writes the report of a fault after the parts, in the modes that write it to the same sink.
 fn write_closing<W: Sink>(
     alloc: Global,
     writer: &mut W,

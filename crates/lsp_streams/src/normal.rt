@@ -64,7 +64,7 @@ fn write_event<W: Sink>(
     }
 }
 
-/// The outcome where the log ends without a fault, behind events that were counted.
+/// The outcome where the log ends without a fault, after events that were counted.
 fn sound_outcome(events: &LogEvents, counts: &Counts) -> Outcome
     ensures { (limits : Bounds) (records : List log.Record) (given : List PlacedRaw)
         → Stands limits events.now.streams records given [] → Counted counts.now given
@@ -79,7 +79,7 @@ fn sound_outcome(events: &LogEvents, counts: &Counts) -> Outcome
     Outcome::Done
 }
 
-/// The outcome where the log ends so, behind events that were counted.
+/// The outcome where the log ends so, after events that were counted.
 fn outcome_at(events: &LogEvents, counts: &Counts, end: End) -> Outcome
     ensures { (limits : Bounds) (records : List log.Record) (given : List PlacedRaw)
         → Stands limits events.now.streams records given [] → Counted counts.now given
@@ -141,7 +141,7 @@ fn write_events<R: Source, W: Sink>(
 /// A content is written as its canonical frame (LSP 3.17, "Base Protocol"), in records of its side
 /// that are full but for the last; a snapshot is written as it is. Contents are kept byte for byte
 /// and are not read as JSON, and nothing is judged. A fault of a side's frames or of the log ends
-/// the normal form behind the records of the events before it, and so do bytes at the end that are
+/// the normal form after the records of the events before it, and so do bytes at the end that are
 /// no whole frame; the outcome is then the verdict at that fault, and else `Done`.
 ///
 /// The answer is `Read` where the source failed, `Write` where the sink did, and `Memory` where

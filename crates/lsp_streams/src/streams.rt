@@ -1,5 +1,5 @@
 //! The frames of both sides, and their events one after another.
-ghost use Rattle.std.specs.Prelude.{◌≡◌, ◌++◌, ◌∷◌, [], ℕ, List, OnOk, OnErr};
+ghost use Rattle.std.specs.Prelude.{◌≡◌, ◌++◌, ◌∷◌, [], List, OnOk, OnErr};
 ghost use Rattle.std.specs.Borrow.{sem};
 ghost use Rattle.lsp_frame.specs.Bounds.{Bounds};
 ghost use Rattle.lsp_log.specs.Log as log;
@@ -46,13 +46,13 @@ pub(crate) enum Due {
 /// contents are read.
 ///
 /// It stands for the records pushed and the events given. The events of a record are contents that
-/// its bytes make whole and a fault of its side's frames, behind which that side has no more; or a
+/// its bytes make whole and a fault of its side's frames, after which that side has no more; or a
 /// snapshot.
 #[derive(Drop)]
 pub struct Streams {
     editor: Decoder,
     server: Decoder,
-    /// The snapshot pushed last, until the event behind it is asked for.
+    /// The snapshot pushed last, until the event after it is asked for.
     snapshot: Option<Snapshot>,
     turn: Option<Turn>,
 }
@@ -131,8 +131,8 @@ impl Streams {
         }
     }
 
-    /// The bytes of a side behind its last whole frame. Behind a fault of its frames they go at
-    /// least as far as that is seen.
+    /// The bytes of a side after its last whole frame. After a fault of its frames they go at least
+    /// as far as that is seen.
     pub fn rest(&self, side: Side) -> &[u8]
         ensures { result.now ≡ (decoder_of side self.now).rest }
     {

@@ -15,7 +15,7 @@ use Rattle.lsp_frame.proofs.Writing.{wrote_nothing, wrote_then}
 use Rattle.lsp_log.specs.Log.{Record, first_line}
 use Rattle.lsp_log.specs.declared.fault.LogCode.{LogCode}
 use Rattle.lsp_streams.specs.LogEvents as log_events
-use Rattle.lsp_streams.specs.LogEvents.{Gives, HasGiven, IsLogOf, Opens, Reads, flaw_of}
+use Rattle.lsp_streams.specs.LogEvents.{Gives, HasGiven, IsLogOf, Opens, flaw_of}
 use Rattle.lsp_streams.specs.Normal.{form_of, fault_of, EndsNormal, BeginsNormal, IsNormal}
 use Rattle.lsp_streams.specs.NormalSteps.{mark, CarriesCapped, spelled, IsLate, EndsLog, EndsWhole}
 use Rattle.lsp_streams.specs.NormalSteps.{WritesEvent, SoFar, Ended, BrokeOff}
@@ -72,7 +72,7 @@ late_source faults.Read n late = absurd late
 late_source faults.Write n late = refl
 late_source faults.Memory n late = refl
 
--- a fault behind what was written
+-- a fault after what was written
 failures_along : (fault : RunFault) (a b c : ℕ) → b ≡ a → c ≡ sink_failures_after fault b
     → c ≡ sink_failures_after fault a
 failures_along fault a b c same is = is ∙ ap (sink_failures_after fault) same
@@ -140,7 +140,7 @@ none_formed limits e counts start now old (records, due, reads) counted =
 module _ (limits : Bounds) (format : Option Format) (old new : LogEvents) (counts : Counts)
     (start before now sink_before sink_now : Told)
     (so : SoFar limits format old counts start before sink_before sink_now) where
-  -- its records are written behind those before
+  -- its records are written after those before
   wrote_more : (raw : Raw) (sink_new : Told)
       → Wrote sink_now sink_new (spelled limits.chunk (raw ∷ []))
       → Wrote sink_before sink_new (spelled limits.chunk (so.given ++ raw ∷ []))
@@ -307,7 +307,7 @@ module _ (limits : Bounds) (format : Option Format) (old new : LogEvents) (count
         form : List ℕ
         form = form_of (format_or_one format) limits.chunk so.given
 
-        -- the normal form of a log of these records, behind which it ends
+        -- the normal form of a log of these records, after which it ends
         normal_of : (log : List ℕ) (editor server : List ℕ)
             → IsLogOf new.log limits records (flaw_of end) log
             → HasRest limits (joined Editor records) editor
