@@ -1,6 +1,5 @@
 -- The normal form of a log, against that of the events that were given.
 use Rattle.std.specs.Option.{option_or}
-use Rattle.std.specs.Prelude.{unwrap_or}
 use Rattle.std.proofs.Common.{◌≡◌, ℕ, ◌+◌, ◌-◌, ◌<◌, List, [], ◌∷◌, ◌++◌, length, map, Option, Some}
 use Rattle.std.proofs.Common.{None, Ok, Err, refl, sym, ap, subst, ◌∙◌, append_assoc, append-nil}
 use Rattle.std.proofs.Common.{arith}
@@ -9,7 +8,6 @@ use Rattle.lsp_frame.specs.Bounds.{Bounds}
 use Rattle.lsp_frame.specs.Sink.{Wrote, Stopped}
 use Rattle.lsp_frame.specs.Told.{Told}
 use Rattle.lsp_frame.specs.declared.format.Format.{Format}
-use Rattle.lsp_frame.specs.declared.format.Format.TheVariants.{One}
 use Rattle.lsp_frame.proofs.Telling.{took_nothing, took_then}
 use Rattle.lsp_frame.proofs.Writing.{wrote_nothing, wrote_then}
 use Rattle.lsp_log.specs.Log.{Record, first_line}
@@ -46,16 +44,6 @@ use Rattle.lsp_streams.proofs.Forming.Counts.{end_exact, carries_exact}
 use Rattle.lsp_streams.proofs.Forming.Forms.{one_broken, one_sound, spelled_behind, spelled_broken}
 use Rattle.lsp_streams.proofs.Forming.OneForm.{broken_normal, due_first}
 use Rattle.lsp_streams.proofs.Pulling.{log_of, reads_failures, reads_given}
-
--- a log of no format is written as one of format 1
-pub one_or_format : (known : Option Format) (o : Option Format) (format : Format) → o ≡ known
-    → format ≡ unwrap_or o One → format_or_one known ≡ format
-one_or_format known o format same is =
-    sym (is ∙ ap (λ (p : Option Format). unwrap_or p One) same ∙ by_format known)
-  where
-    by_format : (p : Option Format) → unwrap_or p One ≡ format_or_one p
-    by_format None = refl
-    by_format (Some f) = refl
 
 -- ---- an outcome, and a fault
 
