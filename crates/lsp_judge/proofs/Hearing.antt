@@ -11,8 +11,8 @@ use Rattle.lsp_events.specs.Lines.{IsHeard}
 use Rattle.lsp_events.specs.Standing.{Follows}
 use Rattle.lsp_events.specs.declared.heard.Heard.{Heard}
 use Rattle.lsp_streams.specs.Streams as frames
-use Rattle.lsp_streams.specs.Streams.{raw_view}
-use Rattle.lsp_streams.specs.declared.raw.Raw as code
+use Rattle.lsp_verdict.specs.Lent.{raw_view}
+use Rattle.lsp_verdict.specs.declared.raw.Raw as code
 use Rattle.lsp_verdict.specs.Event.{Event}
 use Rattle.lsp_verdict.specs.Given.{as_given}
 use Rattle.lsp_verdict.specs.Outcome.{Offends}

@@ -5,14 +5,15 @@ ghost use Rattle.lsp_frame.specs.Bounds.{Bounds};
 ghost use Rattle.lsp_log.specs.Log as log;
 ghost use Rattle.lsp_log.specs.Records.{record_view};
 ghost use Rattle.lsp_verdict.specs.Placed as placed;
-ghost use Rattle.lsp_streams.specs.Streams.{Stands, Steps, StepsSide, IsHeld, IsRaw, raw_view};
+ghost use Rattle.lsp_streams.specs.Streams.{Stands, Steps, StepsSide, IsHeld, IsRaw};
+ghost use Rattle.lsp_verdict.specs.Lent.{raw_view};
 ghost use Rattle.lsp_streams.specs.Streams.{decoder_of, ends_inside};
 ghost use Rattle.lsp_streams.specs.Lending.{LendsRaw};
 
-use crate::raw::Raw;
 use lsp_frame::{Decoder, Limits};
 use lsp_log::Record;
 use lsp_rpc::{Memory, Side};
+use lsp_verdict::Raw;
 use std::alloc::Global;
 use std::marker::Model;
 

@@ -22,7 +22,7 @@ ghost use Rattle.lsp_survey.specs.Marking.{number_next};
 ghost use Rattle.lsp_survey.specs.Marks.{DoneBy, ShownBy};
 ghost use Rattle.lsp_survey.specs.Notes.{AreAfter, asks_of};
 ghost use Rattle.lsp_survey.specs.SessionNoting.{SaysOn};
-ghost use Rattle.lsp_streams.specs.Streams.{raw_view};
+ghost use Rattle.lsp_verdict.specs.Lent.{raw_view};
 ghost use Rattle.lsp_survey.specs.Ending.{lack_by};
 ghost use Rattle.lsp_survey.specs.Walking.{Counted, Hears, IsShown, IsUnread, PassesOver, Walks};
 ghost use Rattle.lsp_survey.specs.Walking.{offence_of};

@@ -15,6 +15,7 @@ pub mod RunIo
 pub mod StreamReport
 pub mod Shown
 pub mod Given
+pub mod Lent
 pub mod TextAfter
 pub mod Interleaving
 pub mod Counting

@@ -17,12 +17,12 @@ use Rattle.lsp_streams.specs.LogEvents.{Gives, HasGiven, IsLogOf, Opens, flaw_of
 use Rattle.lsp_streams.specs.Normal.{form_of, fault_of, EndsNormal, BeginsNormal, IsNormal}
 use Rattle.lsp_streams.specs.NormalSteps.{mark, CarriesCapped, spelled, IsLate, EndsLog, EndsWhole}
 use Rattle.lsp_streams.specs.NormalSteps.{WritesEvent, SoFar, Ended, BrokeOff}
-use Rattle.lsp_streams.specs.Streams.{raw_view}
+use Rattle.lsp_verdict.specs.Lent.{raw_view}
 use Rattle.lsp_streams.specs.declared.log_events.End.{End}
 use Rattle.lsp_streams.specs.declared.log_events.End.TheVariants.{Sound, Bad}
 use Rattle.lsp_streams.specs.declared.log_events.LogEvents.{LogEvents}
 use Rattle.lsp_streams.specs.declared.log_events.Next.TheVariants as next
-use Rattle.lsp_streams.specs.declared.raw.Raw as code
+use Rattle.lsp_verdict.specs.declared.raw.Raw as code
 use Rattle.lsp_verdict.specs.Counting.{AreCounts}
 use Rattle.lsp_types.specs.declared.side.Side.TheVariants.{Editor, Server}
 use Rattle.lsp_verdict.specs.Outcome.{HasRest, ending, format_or_one}
