@@ -10,7 +10,6 @@ use Rattle.lsp_docs.specs.State as docs
 use Rattle.lsp_docs.specs.Terms.{Terms}
 use Rattle.lsp_verdict.specs.Calls.{call_at, calls}
 use Rattle.lsp_verdict.specs.Contents.{ReadsAs}
-use Rattle.lsp_verdict.specs.Counting.{AreCounts}
 use Rattle.lsp_verdict.specs.Event.{Event, message, fault, snapshot, sent_in}
 use Rattle.lsp_verdict.specs.Lent.{whose_raw}
 use Rattle.lsp_verdict.specs.Placed.{Raw, content, broken, show, Reads}

@@ -3,13 +3,8 @@ use Rattle.std.proofs.Common.{◌≡◌, ℕ, List, [], ◌∷◌, ◌++◌, Opt
 use Rattle.std.specs.Prelude.{◌⊎◌, ℤ, chars, option_and_then, unwrap_or}
 use Rattle.std.specs.Option.{option_or}
 use Rattle.std.specs.List.{cons_option}
-use Rattle.lsp_rpc.specs.Act.{Act}
-use Rattle.lsp_rpc.specs.Fault as content
-use Rattle.lsp_rpc.specs.Fault.{rule_unless_read}
 use Rattle.lsp_rpc.specs.Message.{Message}
 use Rattle.lsp_rpc.specs.Outline.{outline, without_params}
-use Rattle.lsp_rpc.specs.Params.{act_at}
-use Rattle.lsp_rpc.specs.Reading as reading
 use Rattle.lsp_rpc.specs.View.{act_view, message_view}
 use Rattle.lsp_rpc.specs.declared.act.Spoken.{Spoken}
 use Rattle.lsp_rpc.specs.declared.fault.RpcFault.{RpcFault}

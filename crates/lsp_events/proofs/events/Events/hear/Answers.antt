@@ -2,7 +2,6 @@ use Rattle.std.proofs.Common.{refl, sym, subst, ◌∙◌, w32, rules, chars}
 use Rattle.std.proofs.lemmas.Int.{to_z-of_z}
 use Rattle.std.proofs.lemmas.Result.{err_from_is_err_and}
 use mir.Val.{SFits}
-use Rattle.lsp_docs.specs.State as docs
 use Rattle.lsp_verdict.specs.Calls.{calls}
 use Rattle.lsp_verdict.specs.Counting.{AreCounts}
 use Rattle.lsp_verdict.specs.Event.{message, snapshot}
