@@ -7,7 +7,7 @@ use Rattle.lsp_docs.specs.State as docs
 use Rattle.lsp_docs.specs.Terms.{Terms}
 use Rattle.lsp_events.specs.Standing.{Holds}
 use Rattle.lsp_session.specs.State as session
-use Rattle.lsp_survey.specs.Notes.{note_in, note_of, note_after, AreAfter, is_noted_lost}
+use Rattle.lsp_survey.specs.Notes.{note_of, note_after, AreAfter, is_noted_lost}
 use Rattle.lsp_survey.specs.Marks.{AreMarks}
 use Rattle.lsp_survey.specs.SessionNoting.{AreNotes}
 use Rattle.lsp_survey.specs.Walking.{WalksBy, Walks, offence_of, PassesOver}

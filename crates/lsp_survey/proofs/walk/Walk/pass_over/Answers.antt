@@ -1,4 +1,3 @@
-use Rattle.std.proofs.Common.{subst}
 use Rattle.std.proofs.lemmas.Result.{IfOk-weaker}
 use Rattle.lsp_verdict.specs.Lent.{raw_view}
 use Rattle.lsp_survey.proofs.Hearing.{message_refused}
