@@ -12,7 +12,7 @@ use Rattle.lsp_events.specs.Faults.{rule_of}
 use Rattle.lsp_events.specs.Lines.{IsHeard}
 use Rattle.lsp_events.specs.Standing.{AnswersAs, Holds, Keeps}
 use Rattle.lsp_events.specs.declared.fault.Refused.TheVariants as refused
-use Rattle.lsp_events.specs.declared.heard.Heard as events
+use Rattle.lsp_events.specs.declared.heard.Heard as lent
 use Rattle.lsp_events.specs.declared.heard.Heard.TheVariants as kept
 use Rattle.lsp_rpc.specs.Act.{Act}
 use Rattle.lsp_rpc.specs.Message.{Message, request, notification, response, result, error}
@@ -136,7 +136,7 @@ module _ (old new : Walk) (notes : List Noted) (number : ℕ) (walks : Walks old
       (other_unsaid terms new.said events n.event
       (subst (λ (m : SessionNotes). AreNotes terms m events) (sym noted.2) walks.said) refl)
 
-  by_event : (raw : Raw) (given : events.Heard) (event : Event) → Reads raw event
+  by_event : (raw : Raw) (given : lent.Heard) (event : Event) → Reads raw event
       → IsHeard event given → AnswersAs terms before given → offence terms before event ≡ None
       → Holds new.events.session new.events.docs (before ++ event ∷ [])
       → AreCounts new.events.counts (events ++ event ∷ []) → NotesKept number given old new
@@ -174,7 +174,7 @@ module _ (old new : Walk) (notes : List Noted) (number : ℕ) (walks : Walks old
 
 -- the next event was heard, kept and noted
 pub kept_heard : (raw : Raw) (old new : Walk) (notes : List Noted) (number : ℕ)
-    (given : events.Heard) (m : session.State) (d : docs.State) (c : Counts) → Walks old notes
+    (given : lent.Heard) (m : session.State) (d : docs.State) (c : Counts) → Walks old notes
     → number ≡ number_next (events_of notes) → d.terms ≡ old.events.docs.terms
     → new.events.session ≡ m → new.events.docs ≡ d → new.events.counts ≡ c
     → new.broken ≡ old.broken
@@ -214,34 +214,32 @@ still_walks old new notes walks terms_are holds counts notes_are is_broken marks
     })
 
 module _ (old new : Walk) (notes : List Noted) (given : Heard) (walks : Walks old notes) where
-  abbrev terms : Terms
-  terms = old.events.docs.terms
-
   -- a fault of the frames
   pub frames_refused : (side : Side) (code rule : ℕ)
-      → IsRefused (broken side code) terms notes (refused.Rule rule)
+      → IsRefused (broken side code) old.events.docs.terms notes (refused.Rule rule)
       → PassesOver old new (who_of side) rule false (λ enc kind. None) (λ o. o ≡ what.Frames side)
-      given → Hears (broken side code) terms new notes given
+      given → Hears (broken side code) old.events.docs.terms new notes given
   frames_refused side code rule is passes =
       let n : Noted = record { event = fault side code; asks = false } in
       passed_over (broken side code) old new notes n (who_of side) rule (λ enc kind. None) Utf16
       Nothing (λ o. o ≡ what.Frames side) given walks (refl, refl) refl (ap rule_of (sym is)) refl
-      (λ o e. subst (IsOffending (broken side code) terms (kept_of terms (events_of notes)) rule)
-      (sym e) refl) passes
+      (λ o e. subst (IsOffending (broken side code) old.events.docs.terms
+      (kept_of old.events.docs.terms (events_of notes)) rule) (sym e) refl) passes
 
   -- a content that is no message with a meaning
   pub content_refused : (side : Side) (bytes : List ℕ) (rule : ℕ) (asks : Bool)
-      → IsRefused (content side bytes) terms notes (refused.Rule rule)
+      → IsRefused (content side bytes) old.events.docs.terms notes (refused.Rule rule)
       → Asks (content side bytes) asks
       → PassesOver old new (who_of side) rule asks (λ e k. None) (IsUnread side bytes) given
-      → Hears (content side bytes) terms new notes given
+      → Hears (content side bytes) old.events.docs.terms new notes given
   content_refused side bytes rule asks reads asked passes =
       let n : Noted = record { event = fault side rule; asks = asks } in
       passed_over (content side bytes) old new notes n (who_of side) rule (λ e k. None) Utf16
       Nothing (IsUnread side bytes) given walks (reads, asked) refl refl refl is_such passes
     where
       is_such : (o : Offending) → IsUnread side bytes o
-          → IsOffending (content side bytes) terms (kept_of terms (events_of notes)) rule o
+          → IsOffending (content side bytes) old.events.docs.terms
+          (kept_of old.events.docs.terms (events_of notes)) rule o
       is_such (what.Frames by) u = absurd u
       is_such (what.Content by bytes') u = (u.0, u.1, reads)
       is_such (what.Message by spoken) u = absurd u
@@ -249,11 +247,12 @@ module _ (old new : Walk) (notes : List Noted) (given : Heard) (walks : Walks ol
 
   -- a message
   pub message_refused : (raw : Raw) (side : Side) (rule : ℕ) (spoken : Spoken)
-      → IsRefused raw terms notes (refused.Message side rule spoken)
+      → IsRefused raw old.events.docs.terms notes (refused.Message side rule spoken)
       → PassesOver old new (who_of side) rule (asks_of side (message_view spoken.message))
       (λ e k. call_of e k (act_view spoken.act)) (λ o. o ≡ what.Message side spoken) given
-      → Hears raw terms new notes given
+      → Hears raw old.events.docs.terms new notes given
   message_refused (content side bytes) by rule spoken (same, refuses) passes =
+      let terms : Terms = old.events.docs.terms in
       let kept : List Event = kept_of terms (events_of notes) in
       let enc = unwrap_or (encoding (sent_in kept)) Utf16 in
       let kind = unwrap_or (sync_kind (sent_in kept)) Nothing in
@@ -273,10 +272,10 @@ module _ (old new : Walk) (notes : List Noted) (given : Heard) (walks : Walks ol
 
   -- a snapshot
   pub snapshot_refused : (number : ℤ) (uri text : List ℕ) (rule : ℕ)
-      → IsRefused (show number uri text) terms notes (refused.Rule rule)
+      → IsRefused (show number uri text) old.events.docs.terms notes (refused.Rule rule)
       → PassesOver old new who.Snapshot rule false
       (λ e k. Some (shows uri number (chars text))) (IsShown number uri text) given
-      → Hears (show number uri text) terms new notes given
+      → Hears (show number uri text) old.events.docs.terms new notes given
   snapshot_refused number uri text rule offends passes =
       let n : Noted = record { event = snapshot uri number (chars text); asks = false } in
       passed_over (show number uri text) old new notes n who.Snapshot rule

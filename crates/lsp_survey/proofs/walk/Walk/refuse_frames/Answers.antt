@@ -12,11 +12,11 @@ returns-clause-passes c =
       found = _;
       is_given = refl;
       is_such = refl;
-      counted = refused.counted;
+      counted = rw c.who_of.ensures at refused.counted;
       noted = λ enc kind. subst (λ (w : Notes).
           AreAfter (Some c.args.rule) None old.notes.map.entries w.map.entries) (sym refused.notes)
           (nothing_said (Some c.args.rule) old.notes.map.entries);
       marks = refused.marks;
       said = refused.said;
-      offence = λ enc kind notes w. refused.offence notes w;
+      offence = λ enc kind notes w. rw c.who_of.ensures at (refused.offence notes w);
     }
