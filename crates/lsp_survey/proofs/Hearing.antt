@@ -93,7 +93,8 @@ module _ (old new : Walk) (notes : List Noted) (number : ℕ) (walks : Walks old
       → sent.act ≡ act → rule_at terms events (message sent) ≡ None
       → Holds new.events.session new.events.docs (before ++ message sent ∷ [])
       → AreCounts new.events.counts (events ++ message sent ∷ [])
-      → NotesMessage number by said act old new → Hears (content side bytes) terms new notes heard.Kept
+      → NotesMessage number by said act old new
+      → Hears (content side bytes) terms new notes heard.Kept
   message_heard side by bytes sent said act reads is_by says means clean holds counted noted =
       let enc = unwrap_or (encoding (sent_in before)) Utf16 in
       let kind = unwrap_or (sync_kind (sent_in before)) Nothing in
@@ -143,8 +144,8 @@ module _ (old new : Walk) (notes : List Noted) (number : ℕ) (walks : Walks old
       → Hears raw terms new notes heard.Kept
   by_event (content side bytes) (kept.Message by spoken) (message sent) reads is answers clean holds
       counted noted =
-      message_heard side by bytes sent (message_view spoken.message) (act_view spoken.act) reads is.0
-      is.1 is.2 clean holds counted noted
+      message_heard side by bytes sent (message_view spoken.message) (act_view spoken.act) reads
+      is.0 is.1 is.2 clean holds counted noted
   by_event (broken side rule) (kept.Message by spoken) (message sent) reads is answers clean holds
       counted noted = absurd cc
   by_event (show n uri text) (kept.Message by spoken) (message sent) reads is answers clean holds
@@ -168,7 +169,8 @@ module _ (old new : Walk) (notes : List Noted) (number : ℕ) (walks : Walks old
       snapshot_heard (show n name shown) uri.now (chars text.now) version answer
       (subst (λ (e : Event). Reads (show n name shown) e) same reads) refl
       (subst (λ (e : Event). offence terms before e ≡ None) same clean)
-      (subst (λ (e : Event). Holds new.events.session new.events.docs (before ++ e ∷ [])) same holds)
+      (subst (λ (e : Event). Holds new.events.session new.events.docs (before ++ e ∷ [])) same
+      holds)
       (subst (λ (e : Event). AreCounts new.events.counts (events ++ e ∷ [])) same counted) answers
       noted
 

@@ -128,8 +128,8 @@ kept_holds terms notes n rule m d is holds =
     ∙ kept-refused terms (events_of notes) n.event rule is)) holds
 
 -- it was passed over
-pub passed_over : (raw : Raw) (old new : Walk) (notes : List Noted) (n : Noted) (by : Who) (rule : ℕ)
-    (says : Encoding → SyncKind → Option Call) (enc : Encoding) (kind : SyncKind)
+pub passed_over : (raw : Raw) (old new : Walk) (notes : List Noted) (n : Noted) (by : Who)
+    (rule : ℕ) (says : Encoding → SyncKind → Option Call) (enc : Encoding) (kind : SyncKind)
     (IsSuch : Offending → Type 0) (given : Heard) → Walks old notes → IsNoted raw n
     → whose n.event ≡ by → rule_at old.events.docs.terms (events_of notes) n.event ≡ Some rule
     → said_at old.events.docs.terms (events_of notes) n.event ≡ says enc kind
