@@ -25,7 +25,7 @@ use Rattle.lsp_session.specs.Sent.{Sent}
 use Rattle.lsp_session.specs.State as session
 use Rattle.lsp_docs.specs.State as docs
 use Rattle.lsp_survey.specs.Marking.{number_next}
-use Rattle.lsp_survey.specs.Marks.{AreMarks, DoneBy}
+use Rattle.lsp_survey.specs.Marks.{AreMarks, DoneBy, ShownBy}
 use Rattle.lsp_survey.specs.SessionNoting.{AreNotes, SaysOn}
 use Rattle.lsp_survey.specs.declared.notes.marks.Marks.{Marks}
 use Rattle.lsp_survey.specs.declared.notes.note.Notes.{Notes}
@@ -173,6 +173,29 @@ module _ (old new : Walk) (notes : List Noted) (number : ℕ) (walks : Walks old
       holds)
       (subst (λ (e : Event). AreCounts new.events.counts (events ++ e ∷ [])) same counted) answers
       noted
+
+-- what was noted before is all that matters
+pub noted_after : (number : ℕ) (given : lent.Heard) (mid old new : Walk) → mid.notes ≡ old.notes
+    → mid.marks ≡ old.marks → mid.said ≡ old.said → NotesKept number given mid new
+    → NotesKept number given old new
+noted_after number (kept.Message side spoken) mid old new notes marks said noted =
+    let act : Act = act_view spoken.act in (
+      λ enc kind. subst (λ (w : Notes).
+          AreAfter None (call_of enc kind act) w.map.entries new.notes.map.entries) notes
+          (noted.0 enc kind),
+      λ enc kind. subst (λ (w : Marks).
+          DoneBy number (call_of enc kind act) w.map.entries new.marks.map.entries) marks
+          (noted.1 enc kind),
+      λ sents stands. subst (λ (w : SessionNotes).
+          SaysOn number side (message_view spoken.message) (phase sents) w new.said) said
+          (noted.2 sents stands),
+    )
+noted_after number (kept.Snapshot version uri text answer) mid old new notes marks said noted = (
+  noted.0 ∙ notes,
+  subst (λ (w : Marks).
+      ShownBy number uri.now version answer w.map.entries new.marks.map.entries) marks noted.1,
+  noted.2 ∙ said,
+)
 
 -- the next event was heard, kept and noted
 pub kept_heard : (raw : Raw) (old new : Walk) (notes : List Noted) (number : ℕ)

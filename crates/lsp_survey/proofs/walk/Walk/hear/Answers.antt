@@ -4,7 +4,7 @@ use Rattle.lsp_docs.specs.Terms.{Terms}
 use Rattle.lsp_verdict.specs.Lent.{raw_view}
 use Rattle.lsp_verdict.specs.Offences.{events_of, kept_of}
 use Rattle.lsp_survey.specs.Walking.{Hears, IsRefused}
-use Rattle.lsp_survey.proofs.Hearing.{kept_heard, still_walks}
+use Rattle.lsp_survey.proofs.Hearing.{kept_heard, noted_after, still_walks}
 use Rattle.lsp_survey.proofs.walk.Walk.hear.Goals as goal
 
 pub returns-in-Ok-clause-heard : goal.returns-in-Ok-clause-heard
@@ -19,7 +19,10 @@ returns-in-Ok-clause-heard c =
     c.hear.new.self.counts walks
     (c.number_next-number.ensures (events_of before) walks.counted) c.in-Ok.ensures.terms
     (λ i. (same i).session) (λ i. (same i).docs) (λ i. (same i).counts) c.keep.ensures.same.1
-    (c.in-Ok.ensures.ok kept walks.holds) keeps.1))
+    (c.in-Ok.ensures.ok kept walks.holds)
+    (noted_after c.number_next-number.result c.in-Ok.kept (record old {
+      events = c.hear.new.self;
+    }) old c.keep.new.self refl refl refl keeps.1)))
     c.keep.ensures.keeps
 
 pub returns-in-Err-clause-heard : goal.returns-in-Err-clause-heard
