@@ -1,15 +1,10 @@
 -- How a content is heard: read, admitted, and taken over.
 use Rattle.std.proofs.Common.{◌≡◌, ℕ, List, [], ◌∷◌, ◌++◌, Option, Some, None, inl, inr, refl, sym, ap, subst, ◌∙◌}
-use Rattle.std.specs.Prelude.{◌⊎◌, option_and_then, unwrap_or}
+use Rattle.std.specs.Prelude.{◌⊎◌, ℤ, chars, option_and_then, unwrap_or}
 use Rattle.std.specs.Option.{option_or}
 use Rattle.std.specs.List.{cons_option}
-use Rattle.lsp_rpc.specs.Act.{Act}
-use Rattle.lsp_rpc.specs.Fault as content
-use Rattle.lsp_rpc.specs.Fault.{rule_unless_read}
 use Rattle.lsp_rpc.specs.Message.{Message}
 use Rattle.lsp_rpc.specs.Outline.{outline, without_params}
-use Rattle.lsp_rpc.specs.Params.{act_at}
-use Rattle.lsp_rpc.specs.Reading as reading
 use Rattle.lsp_rpc.specs.View.{act_view, message_view}
 use Rattle.lsp_rpc.specs.declared.act.Spoken.{Spoken}
 use Rattle.lsp_rpc.specs.declared.fault.RpcFault.{RpcFault}
@@ -28,7 +23,7 @@ use Rattle.lsp_session.specs.Sent.{Sent}
 use Rattle.lsp_session.specs.State as session
 use Rattle.lsp_session.specs.declared.refusal.Refusal.{Refusal}
 use Rattle.lsp_session.specs.declared.refusal.Refusal.TheVariants as refusals
-use Rattle.lsp_docs.specs.Calls.{Call}
+use Rattle.lsp_docs.specs.Calls.{Call, shows}
 use Rattle.lsp_docs.specs.Fault as docs_fault
 use Rattle.lsp_docs.specs.Rules.{call_rule}
 use Rattle.lsp_docs.specs.State as docs
@@ -37,20 +32,23 @@ use Rattle.lsp_docs.specs.declared.fault.DocFault.TheVariants as faults
 use Rattle.lsp_docs.specs.Terms.{Terms}
 use Rattle.lsp_verdict.specs.Calls.{call_of, call_at, calls}
 use Rattle.lsp_verdict.specs.Contents.{IsSent, ReadsAs}
-use Rattle.lsp_verdict.specs.Event.{Event, message, fault as broken, sent_in}
-use Rattle.lsp_events.specs.Faults.{of_content, of_message, of_call, refused_by, rule_of}
-use Rattle.lsp_events.specs.Standing.{Hears, Refuses, RefusesBy}
+use Rattle.lsp_verdict.specs.Event.{Event, message, fault as broken, snapshot, sent_in}
+use Rattle.lsp_events.specs.Faults.{of_content, of_message, of_call, of_snapshot, refused_by}
+use Rattle.lsp_events.specs.Faults.{rule_of}
+use Rattle.lsp_events.specs.Standing.{Hears, Refuses, RefusesBy, RefusesContent, RefusesSnapshot}
 use Rattle.lsp_events.specs.declared.fault.Fault.{Fault}
 use Rattle.lsp_events.specs.declared.fault.Fault.TheVariants as own
 use Rattle.lsp_events.specs.declared.fault.Refused.{Refused}
 use Rattle.lsp_events.specs.declared.fault.Refused.TheVariants as refused
+use Rattle.lsp_verdict.specs.Placed as placed
+use Rattle.lsp_verdict.specs.Placed.{Raw, Reads}
 use Rattle.lsp_verdict.specs.Verdict.{offence, document_rule}
 use Rattle.lsp_verdict.proofs.LookBackLemmas.{each_of-snoc}
 use Rattle.lsp_verdict.proofs.Messages.{sent_in-append}
 
 -- a content that says nothing
 pub unspoken : (side : Side) (bytes : List ℕ) (terms : Terms) (events : List Event) (f : RpcFault)
-    → IsUnspoken side bytes f → Refuses side bytes terms events (of_content f)
+    → IsUnspoken side bytes f → RefusesContent side bytes terms events (of_content f)
 unspoken side bytes terms events (contents.Rule rule) (inl breaks) = (refl, inl breaks)
 unspoken side bytes terms events (contents.Rule rule) (inr (is, params)) =
     (refl, inr (is, record { of = params.0; reads = params.1; unread = params.2 }))
@@ -116,12 +114,40 @@ module _ (side : Side) (bytes : List ℕ) (terms : Terms) (events : List Event) 
 -- ---- refusals
 
 -- a message that offends the rule of a fault is refused with it
-pub refused_as : (side : Side) (bytes : List ℕ) (terms : Terms) (events : List Event) (spoken : Spoken) (f : Fault) → RefusesBy side bytes (message_view spoken.message) (act_view spoken.act) terms events f → Refuses side bytes terms events (refused_by f spoken)
-refused_as side bytes terms events spoken (own.Rule rule) refuses = refuses
+pub refused_as : (side : Side) (bytes : List ℕ) (terms : Terms) (events : List Event)
+    (spoken : Spoken) (f : Fault)
+    → RefusesBy side bytes (message_view spoken.message) (act_view spoken.act) terms events f
+    → RefusesContent side bytes terms events (refused_by f side spoken)
+refused_as side bytes terms events spoken (own.Rule rule) refuses = (refl, refuses)
 refused_as side bytes terms events spoken own.Memory refuses = tt
 
+-- a snapshot that the documents don't accept
+pub snapshot_refused : (uri text : List ℕ) (number : ℤ) (terms : Terms) (events : List Event)
+    (f : DocFault) → docs_fault.Names (call_rule terms (calls events) (shows uri number text)) f
+    → RefusesSnapshot (snapshot uri number text) terms events (of_snapshot f)
+snapshot_refused uri text number terms events (faults.Rule rule) named = named
+snapshot_refused uri text number terms events faults.Memory named = tt
+
+content_event : (side : Side) (bytes : List ℕ) (terms : Terms) (events : List Event) (r : Refused)
+    (rule : ℕ) → rule_of r ≡ Some rule → RefusesContent side bytes terms events r
+    → (event : Event) × ReadsAs side bytes event × (offence terms events event ≡ Some rule)
+content_event side bytes terms events (refused.Rule code) rule is refuses =
+    (broken side code, refuses, is)
+content_event side bytes terms events (refused.Message by code spoken) rule is (same, refuses) =
+    (message refuses.sent, refuses.reads, refuses.offends ∙ is)
+content_event side bytes terms events refused.Memory rule is refuses = absurd (cc)
+
 -- what is refused is an event that offends this rule
-pub refused_event : (side : Side) (bytes : List ℕ) (terms : Terms) (events : List Event) (r : Refused) (rule : ℕ) → rule_of r ≡ Some rule → Refuses side bytes terms events r → (event : Event) × ReadsAs side bytes event × (offence terms events event ≡ Some rule)
-refused_event side bytes terms events (refused.Content code) rule is refuses = (broken side code, refuses, is)
-refused_event side bytes terms events (refused.Message code spoken) rule is refuses = (message refuses.sent, refuses.reads, refuses.offends ∙ is)
-refused_event side bytes terms events refused.Memory rule is refuses = absurd (cc)
+pub refused_event : (raw : Raw) (terms : Terms) (events : List Event) (r : Refused) (rule : ℕ)
+    → rule_of r ≡ Some rule → Refuses raw terms events r
+    → (event : Event) × Reads raw event × (offence terms events event ≡ Some rule)
+refused_event (placed.content side bytes) terms events r rule is refuses =
+    content_event side bytes terms events r rule is refuses
+refused_event (placed.broken side code) terms events r rule is refuses =
+    (broken side code, refl, ap rule_of (sym refuses) ∙ is)
+refused_event (placed.show number uri text) terms events (refused.Rule code) rule is refuses =
+    (snapshot uri number (chars text), refl, refuses ∙ is)
+refused_event (placed.show number uri text) terms events (refused.Message by code spoken) rule is
+    refuses = absurd refuses
+refused_event (placed.show number uri text) terms events refused.Memory rule is refuses =
+    absurd (cc)

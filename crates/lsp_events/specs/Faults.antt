@@ -7,14 +7,19 @@ use Rattle.lsp_session.specs.declared.refusal.Refusal.{Refusal}
 use Rattle.lsp_session.specs.declared.refusal.Refusal.TheVariants as messages
 use Rattle.lsp_docs.specs.declared.fault.DocFault.{DocFault}
 use Rattle.lsp_docs.specs.declared.fault.DocFault.TheVariants as calls
+use Rattle.lsp_types.specs.declared.side.Side.{Side}
 use Rattle.lsp_events.specs.declared.fault.Fault.{Fault}
 use Rattle.lsp_events.specs.declared.fault.Fault.TheVariants as faults
 use Rattle.lsp_events.specs.declared.fault.Refused.{Refused}
-use Rattle.lsp_events.specs.declared.fault.Refused.TheVariants.{Content, Message, Memory}
+use Rattle.lsp_events.specs.declared.fault.Refused.TheVariants.{Rule, Message, Memory}
 
 abbrev pub of_content : RpcFault → Refused
-of_content (contents.Rule rule) = Content rule
+of_content (contents.Rule rule) = Rule rule
 of_content contents.Memory = Memory
+
+abbrev pub of_snapshot : DocFault → Refused
+of_snapshot (calls.Rule rule) = Rule rule
+of_snapshot calls.Memory = Memory
 
 abbrev pub of_message : Refusal → Fault
 of_message (messages.Rule rule) = faults.Rule rule
@@ -24,13 +29,13 @@ abbrev pub of_call : DocFault → Fault
 of_call (calls.Rule rule) = faults.Rule rule
 of_call calls.Memory = faults.Memory
 
--- the refusal of this message for a fault
-abbrev pub refused_by : Fault → Spoken → Refused
-refused_by (faults.Rule rule) spoken = Message rule spoken
-refused_by faults.Memory spoken = Memory
+-- the refusal of this message of a side for a fault
+abbrev pub refused_by : Fault → Side → Spoken → Refused
+refused_by (faults.Rule rule) side spoken = Message side rule spoken
+refused_by faults.Memory side spoken = Memory
 
 -- the rule that is broken, unless memory ran out
 abbrev pub rule_of : Refused → Option ℕ
-rule_of (Content rule) = Some rule
-rule_of (Message rule spoken) = Some rule
+rule_of (Rule rule) = Some rule
+rule_of (Message side rule spoken) = Some rule
 rule_of Memory = None

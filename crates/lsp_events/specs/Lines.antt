@@ -10,13 +10,16 @@ use Rattle.lsp_events.specs.declared.heard.Heard.{Heard}
 use Rattle.lsp_events.specs.declared.heard.Heard.TheVariants as heard
 use Rattle.lsp_events.specs.declared.heard.Place.{Place}
 
--- the event was heard as this: a message but for its params and the value of a result, with what it means, or a snapshot
+-- the event was heard as this: a message but for its params and the value of a result, with what it
+-- means, or a snapshot
 abbrev pub IsHeard : Event → Heard → Type 0
-IsHeard (message sent) (heard.Message side spoken) = (sent.side ≡ side) × (outline sent.message ≡ outline (message_view spoken.message)) × (sent.act ≡ act_view spoken.act)
-IsHeard (message sent) (heard.Snapshot version uri text) = ⊥
+IsHeard (message sent) (heard.Message side spoken) =
+    (sent.side ≡ side) × (outline sent.message ≡ outline (message_view spoken.message))
+    × (sent.act ≡ act_view spoken.act)
+IsHeard (message sent) (heard.Snapshot version uri text answer) = ⊥
 IsHeard (fault side rule) given = ⊥
 IsHeard (snapshot uri number text) (heard.Message side spoken) = ⊥
-IsHeard (snapshot uri number text) (heard.Snapshot version name shown) =
+IsHeard (snapshot uri number text) (heard.Snapshot version name shown answer) =
     (uri ≡ name.now) × (number ≡ version) × (text ≡ chars shown.now)
 
 -- the line of the event at this place, empty for a fault

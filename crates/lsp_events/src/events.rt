@@ -15,19 +15,22 @@ ghost use Rattle.lsp_session.specs.State.{Stands};
 ghost use Rattle.lsp_verdict.specs.Calls.{call_of, edit_of};
 ghost use Rattle.lsp_verdict.specs.Event.{Event};
 ghost use Rattle.lsp_events.specs.Apart.{Says};
-ghost use Rattle.lsp_events.specs.Standing.{Follows, Holds, Hears, Refuses, RefusesBy};
+ghost use Rattle.lsp_verdict.specs.Lent.{raw_view};
+ghost use Rattle.lsp_events.specs.Standing.{Follows, Holds, Hears, Keeps, Refuses, RefusesBy};
+ghost use Rattle.lsp_events.specs.Standing.{RefusesContent};
 
 use crate::fault::{Fault, Refused};
+use crate::heard::Heard;
 use lsp_docs::{DocFault, Docs};
 use lsp_frame::{Format, Limits};
 use lsp_outline::{OutlineReader, Results};
 use lsp_rpc::{Act, Change, Encoding, Side, Spoken, SyncKind};
 use lsp_session::Session;
 use lsp_text::TextStore;
-use lsp_verdict::Counts;
+use lsp_verdict::{Counts, Raw, Who, who_of};
 use std::alloc::Global;
 
-/// The result of the events heard so far, none of which offends after those before it.
+/// What the events heard so far have come to, none of which offends after those before it.
 ///
 /// It stands for these events: the session for their messages, the documents for their calls, and
 /// the counts for how many they were, as far as each was counted.
@@ -53,33 +56,69 @@ impl<S: TextStore> Events<S> {
         }
     }
 
-    /// Hears a content of a side: the message that it is, but for its params and the value of a
-    /// result that nothing reads, and what that means; unless it breaks a rule after the events
-    /// heard. The event is not counted: that is for the caller.
+    /// Hears the next event and counts it, unless it breaks a rule after the events heard. A
+    /// message is given without its params, and without the value of a result that nothing reads.
     ///
     /// # Errors
-    /// `Content` by the least of the rules 201 to 209 that the content breaks, else `Message` by
-    /// the least of 301 to 702 that the message offends; `Memory` where memory was refused, in
-    /// place of whatever would be answered.
-    pub fn hear(&mut self, alloc: Global, side: Side, content: &[u8]) -> Result<Spoken, Refused>
+    /// `Message` by the least of the rules 301 to 702 that a message offends. `Rule` by that of a
+    /// fault of the frames, by the least of 201 to 209 that a content breaks, and by the least of
+    /// 701 and 702 that a snapshot breaks. `Memory` where memory was refused, in place of whatever
+    /// would be answered about a content or a snapshot. What is held and the counts stay, so that
+    /// the event after it can be heard.
+    pub fn hear<'a>(&mut self, raw: Raw<'a>) -> Result<Heard<'a>, Refused>
+        ensures terms { self.new.docs.terms ≡ self.old.docs.terms }
+        ensures ok { IfOk result (λ heard. (events : List Event)
+            → Holds self.old.session self.old.docs events
+            → Keeps (raw_view raw.entry) self.old.docs.terms self.old.counts heard
+            self.new.session self.new.docs self.new.counts events) }
+        ensures rule { IfErr result (λ refused. (events : List Event)
+            → Holds self.old.session self.old.docs events
+            → Refuses (raw_view raw.entry) self.old.docs.terms events refused) }
+        ensures err { OnErr result ((events : List Event)
+            → Holds self.old.session self.old.docs events
+            → Holds self.new.session self.new.docs events) }
+        ensures uncounted { OnErr result (self.new.counts ≡ self.old.counts) }
+    {
+        match raw {
+            Raw::Content { side, content } => {
+                let spoken = self.hear_content(side, content)?;
+                self.counts.add(who_of(side));
+                Ok(Heard::Message { side, spoken })
+            }
+            Raw::Broken { rule, .. } => Err(Refused::Rule(rule)),
+            Raw::Snapshot { version, uri, text } => {
+                let answer = self.docs.snapshot(uri, version, text)?;
+                self.counts.add(Who::Snapshot);
+                Ok(Heard::Snapshot {
+                    version,
+                    uri,
+                    text,
+                    answer,
+                })
+            }
+        }
+    }
+
+    /// Reads a content of a side, admits the message that it is, and takes over what that says
+    /// about a document.
+    fn hear_content(&mut self, side: Side, content: &[u8]) -> Result<Spoken, Refused>
         ensures terms { self.new.docs.terms ≡ self.old.docs.terms }
         ensures counts { self.new.counts ≡ self.old.counts }
         ensures ok { IfOk result
             (λ spoken. (events : List Event) → Holds self.old.session self.old.docs events
             → Hears side content.now (message_view spoken.message)
             (act_view spoken.act) self.old.docs.terms self.new.session self.new.docs events) }
-        ensures refused { IfErr result
+        ensures rule { IfErr result
             (λ refused. (events : List Event) → Holds self.old.session self.old.docs events
-            → Refuses side content.now self.old.docs.terms events refused) }
-        // What is refused leaves what is held.
-        ensures unchanged { OnErr result ((events : List Event)
+            → RefusesContent side content.now self.old.docs.terms events refused) }
+        ensures err { OnErr result ((events : List Event)
             → Holds self.old.session self.old.docs events
             → Holds self.new.session self.new.docs events) }
     {
         let spoken = spoken_in(&self.session, &mut self.messages, side, content)?;
         match self.follow(side, &spoken) {
             Ok(()) => Ok(spoken),
-            Err(fault) => Err(fault.refuse(spoken)),
+            Err(fault) => Err(fault.refuse(side, spoken)),
         }
     }
 
@@ -101,7 +140,7 @@ impl<S: TextStore> Events<S> {
             → Holds self.old.session self.old.docs events
             → RefusesBy side content (message_view spoken.now.message)
             (act_view spoken.now.act) self.old.docs.terms events fault) }
-        ensures unchanged { OnErr result ((content : List ℕ) (events : List Event)
+        ensures err { OnErr result ((content : List ℕ) (events : List Event)
             → Says self.old.session side content (message_view spoken.now.message)
             (act_view spoken.now.act)
             → Holds self.old.session self.old.docs events
@@ -136,8 +175,8 @@ fn spoken_in(
 ) -> Result<Spoken, Refused>
     ensures ok { IfOk result (λ spoken. Says session.now side content.now
         (message_view spoken.message) (act_view spoken.act)) }
-    ensures refused { IfErr result (λ refused. (terms : Terms) (events : List Event)
-        → Refuses side content.now terms events refused) }
+    ensures rule { IfErr result (λ refused. (terms : Terms) (events : List Event)
+        → RefusesContent side content.now terms events refused) }
 {
     let spoken = messages.hear(side, content, wanted_results(session))?;
     Ok(spoken)

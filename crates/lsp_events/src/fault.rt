@@ -3,20 +3,25 @@ ghost use Rattle.std.specs.Prelude.{◌≡◌};
 ghost use Rattle.lsp_events.specs.Faults.{rule_of, refused_by};
 
 use lsp_docs::DocFault;
-use lsp_rpc::{RpcFault, Spoken};
+use lsp_rpc::{RpcFault, Side, Spoken};
 use lsp_session::Refusal;
 use thiserror::Error;
 
-/// Why a content is refused, by the least rule that it breaks.
+/// Why an event is refused, by the least rule that it breaks.
 #[derive(Debug, Drop, Error)]
 pub enum Refused {
-    /// The content breaks this rule, 201 to 209: nothing is known of what it says.
+    /// A fault of the frames has this rule, 101 to 106; a content of which nothing else is known
+    /// breaks it, 201 to 209; or a snapshot does, 701 or 702.
     #[error("rule {0}")]
-    Content(u16),
-    /// The message offends this rule, 301 to 702. Its params are left out, and the value of a
-    /// result where no `initialize` is open.
+    Rule(u16),
+    /// The message of this side offends this rule, 301 to 702. Its params are left out, and the
+    /// value of a result where no `initialize` is open.
     #[error("rule {rule}")]
-    Message { rule: u16, spoken: Spoken },
+    Message {
+        side: Side,
+        rule: u16,
+        spoken: Spoken,
+    },
     /// Memory was refused.
     #[error("out of memory")]
     Memory,
@@ -28,8 +33,8 @@ impl Refused {
         ensures { result ≡ rule_of self.now }
     {
         match self {
-            Refused::Content(rule) => Some(*rule),
-            Refused::Message { rule, spoken: _ } => Some(*rule),
+            Refused::Rule(rule) => Some(*rule),
+            Refused::Message { rule, .. } => Some(*rule),
             Refused::Memory => None,
         }
     }
@@ -42,8 +47,21 @@ impl From<RpcFault> for Refused {
 
     fn from(fault: RpcFault) -> Refused {
         match fault {
-            RpcFault::Rule(rule) => Refused::Content(rule),
+            RpcFault::Rule(rule) => Refused::Rule(rule),
             RpcFault::Memory => Refused::Memory,
+        }
+    }
+}
+
+impl From<DocFault> for Refused {
+    ghost use Rattle.lsp_events.specs.Faults.{of_snapshot};
+
+    ghost from_gives = { λ fault e. e ≡ of_snapshot fault };
+
+    fn from(fault: DocFault) -> Refused {
+        match fault {
+            DocFault::Rule(rule) => Refused::Rule(rule),
+            DocFault::Memory => Refused::Memory,
         }
     }
 }
@@ -56,12 +74,12 @@ pub(crate) enum Fault {
 }
 
 impl Fault {
-    /// The refusal of this message.
-    pub(crate) fn refuse(self, spoken: Spoken) -> Refused
-        ensures { result ≡ refused_by self spoken }
+    /// The refusal of this message of a side.
+    pub(crate) fn refuse(self, side: Side, spoken: Spoken) -> Refused
+        ensures { result ≡ refused_by self side spoken }
     {
         match self {
-            Fault::Rule(rule) => Refused::Message { rule, spoken },
+            Fault::Rule(rule) => Refused::Message { side, rule, spoken },
             Fault::Memory => Refused::Memory,
         }
     }

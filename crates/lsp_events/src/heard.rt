@@ -1,4 +1,5 @@
 //! Events that were heard, and where they stand.
+use lsp_docs::Match;
 use lsp_rpc::{Side, Spoken};
 
 /// An event that was heard and doesn't offend. The texts of a snapshot are lent.
@@ -9,11 +10,12 @@ pub enum Heard<'a> {
         side: Side,
         spoken: Spoken,
     },
-    /// A text that the editor showed.
+    /// A text that the editor showed, and how it was compared.
     Snapshot {
         version: i32,
         uri: &'a str,
         text: &'a str,
+        answer: Match,
     },
 }
 

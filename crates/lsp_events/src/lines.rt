@@ -199,6 +199,7 @@ fn fill_event_line(
             version,
             uri,
             text: shown,
+            answer: _,
         } => {
             let version = *version;
             fill_snapshot_line(alloc, text, lines, place, version, *uri, *shown)

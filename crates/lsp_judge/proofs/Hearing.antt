@@ -7,12 +7,11 @@ use Rattle.lsp_session.specs.State as session
 use Rattle.lsp_docs.specs.State as docs
 use Rattle.lsp_docs.specs.Terms.{Terms, terms_of}
 use Rattle.lsp_log.specs.Log.{Record}
-use Rattle.lsp_events.specs.Lines.{IsHeard}
-use Rattle.lsp_events.specs.Standing.{Follows}
+use Rattle.lsp_events.specs.Standing.{Keeps as KeepsOne}
 use Rattle.lsp_events.specs.declared.heard.Heard.{Heard}
 use Rattle.lsp_streams.specs.Streams as frames
-use Rattle.lsp_streams.specs.Streams.{raw_view}
-use Rattle.lsp_streams.specs.declared.raw.Raw as code
+use Rattle.lsp_verdict.specs.Lent.{raw_view}
+use Rattle.lsp_verdict.specs.declared.raw.Raw as code
 use Rattle.lsp_verdict.specs.Event.{Event}
 use Rattle.lsp_verdict.specs.Given.{as_given}
 use Rattle.lsp_verdict.specs.Outcome.{Offends}
@@ -20,32 +19,31 @@ use Rattle.lsp_verdict.specs.Placed.{Raw, Placed, Reads, IsSession}
 use Rattle.lsp_verdict.specs.Verdict.{Verdict, no, first_no, no_at}
 use Rattle.lsp_verdict.specs.declared.counts.Counts.{Counts}
 use Rattle.lsp_judge.specs.Heard.{HasHeard, HearsOne}
-use Rattle.lsp_judge.specs.Rulings.{IsNoAtSome}
+use Rattle.lsp_judge.specs.Rulings.{IsNoAt}
 use Rattle.lsp_judge.specs.Standing.{State, IsHearing, IsOpen, Keeps, Rules}
 use Rattle.lsp_judge.specs.declared.ruling.Ruling.{Ruling}
 use Rattle.lsp_judge.specs.declared.ruling.Ruling.TheVariants.{No, BadLog, Memory}
+use Rattle.lsp_events.proofs.Following.{follows_on}
 use Rattle.lsp_verdict.proofs.OneEvent.{some_list, lists_join}
 use Rattle.lsp_verdict.proofs.Verdicts.{no_found}
 
 -- ---- one more event
 
--- it doesn't offend
+-- it is kept
 pub hears_one : (terms : Terms) (old_m new_m : session.State) (old_d new_d : docs.State)
-    (old_c new_c : Counts) (raws : List Raw) (heard : List Event) (raw : Raw) (event : Event)
-    (given : Heard) → HasHeard terms old_m old_d old_c raws heard
-    → Reads raw event → IsHeard event given → new_d.terms ≡ old_d.terms
-    → Follows new_m new_d new_c (heard ++ event ∷ [])
+    (old_c new_c : Counts) (raws : List Raw) (heard : List Event) (raw : Raw) (given : Heard)
+    → HasHeard terms old_m old_d old_c raws heard → new_d.terms ≡ old_d.terms
+    → KeepsOne raw old_d.terms old_c given new_m new_d new_c heard
     → HearsOne terms new_m new_d new_c raws heard raw given
-hears_one terms old_m new_m old_d new_d old_c new_c raws heard raw event given has reads is same
-    follows = (
-      event,
-      is,
-      record {
-        read = lists_join raws (raw ∷ []) heard (event ∷ []) has.read (reads, tt);
-        by = same ∙ has.by;
-        follows = follows;
-      },
-    )
+hears_one terms old_m new_m old_d new_d old_c new_c raws heard raw given has same k = (
+  k.event,
+  k.is_heard,
+  record {
+    read = lists_join raws (raw ∷ []) heard (k.event ∷ []) has.read (k.reads, tt);
+    by = same ∙ has.by;
+    follows = follows_on raw old_m new_m old_d new_d old_c new_c given heard has.follows same k;
+  },
+)
 
 -- behind these events of the records, none of which offends, comes one that does, and this is the
 -- No at it
@@ -70,7 +68,7 @@ module _ (limits : Bounds) (format : Format) (m : session.State) (d : docs.State
     (records : List Record) (past later : List Raw) (before : List Event)
     (has : HasHeard (terms_of limits format) m d c past before) where
   pub stops : (raw : Raw) (ruling : Ruling) → Placed limits records (past ++ raw ∷ later)
-      → IsNoAtSome d.terms before (Reads raw) ruling → Stops limits format records before ruling
+      → IsNoAt d.terms before (Reads raw) ruling → Stops limits format records before ruling
   stops raw (No rule who number at) placed (event, reads, named) =
       let extra = some_list later in
       record {
@@ -156,7 +154,7 @@ heard_on s new m d c records heard due raw event h (later, first, stands) has = 
 pub stopped : (s : State) (new : frames.State) (records : List Record) (heard : List Event)
     (due : List Raw) (raw : code.Raw) (ruling : Ruling) → (h : IsHearing s records heard due)
     → frames.Gives s.limits new records h.past due (Some raw)
-    → IsNoAtSome s.documents.terms heard (Reads (raw_view raw)) ruling
+    → IsNoAt s.documents.terms heard (Reads (raw_view raw)) ruling
     → Rules s.limits s.format records ruling
 stopped s new records heard due raw ruling h (later, first, stands) named =
     stops_rules s.limits s.format records heard ruling

@@ -19,12 +19,13 @@ use Rattle.lsp_events.specs.declared.heard.Heard.{Heard}
 use Rattle.lsp_streams.specs.LogEvents as streams
 use Rattle.lsp_streams.specs.LogEvents.{HasGiven, IsLogOf, NextIs, Reads}
 use Rattle.lsp_streams.specs.LogEvents.{Ended, flaw_of}
-use Rattle.lsp_streams.specs.Streams.{raw_view, ends_inside}
+use Rattle.lsp_streams.specs.Streams.{ends_inside}
+use Rattle.lsp_verdict.specs.Lent.{raw_view}
 use Rattle.lsp_streams.specs.declared.log_events.End.{End}
 use Rattle.lsp_streams.specs.declared.log_events.End.TheVariants.{Bad}
 use Rattle.lsp_streams.specs.declared.log_events.LogEvents.{LogEvents}
 use Rattle.lsp_streams.specs.declared.log_events.Next.TheVariants as next
-use Rattle.lsp_streams.specs.declared.raw.Raw as lent
+use Rattle.lsp_verdict.specs.declared.raw.Raw as lent
 use Rattle.lsp_streams.proofs.Pulling.{reads_failures, reads_given}
 use Rattle.lsp_verdict.specs.Complete.{IsCompleteVerdict, IsFinalBy, IsVerdictBy, completed}
 use Rattle.lsp_verdict.specs.Event.{Event}
@@ -53,7 +54,7 @@ use Rattle.lsp_judge.specs.Ending.{end_by}
 use Rattle.lsp_judge.specs.Heard.{HasHeard, HearsOne}
 use Rattle.lsp_judge.specs.LogEvents.{EndsAt, EndsBy, BeginsWith, SoFar, HasEnded, Finishes, Found}
 use Rattle.lsp_judge.specs.LogEvents.{BrokeOff}
-use Rattle.lsp_judge.specs.Rulings.{verdict_in, IsNoAtSome}
+use Rattle.lsp_judge.specs.Rulings.{verdict_in, IsNoAt}
 use Rattle.lsp_judge.specs.declared.event_reader.EventReader.{EventReader}
 use Rattle.lsp_judge.specs.declared.ruling.Ruling.{Ruling}
 use Rattle.lsp_judge.specs.declared.ruling.Ruling.TheVariants as rulings
@@ -289,7 +290,7 @@ module _ (limits : Bounds) (format : Option Format) (e : LogEvents) (m : session
 
   -- the next event offends
   offended_in : (raw : Raw) (rule : ℕ) (by : Who) (number event : ℕ) (front : List Record)
-      (log : List ℕ) → IsNoAtSome d.terms heard (ReadsRaw raw) (rulings.No rule by number event)
+      (log : List ℕ) → IsNoAt d.terms heard (ReadsRaw raw) (rulings.No rule by number event)
       → HasGiven limits format front (given ++ raw ∷ []) log
       → EndsAt limits log heard (no rule by number event)
   offended_in raw rule by number event front log named h =
@@ -423,7 +424,7 @@ module _ (limits : Bounds) (e : EventReader) (start mid now : Told) (heard : Lis
     pub offended : (completeness : Completeness) (ruling : Ruling) (v : code.Verdict)
         → verdict_in ruling ≡ Some (verdict_view v)
         → ((so_far : List Event) → Follows e.events.session e.events.docs e.events.counts so_far
-        → IsNoAtSome e.events.docs.terms so_far (ReadsRaw (raw_view raw)) ruling)
+        → IsNoAt e.events.docs.terms so_far (ReadsRaw (raw_view raw)) ruling)
         → Found completeness limits start now heard (verdict_view v)
     offended completeness (rulings.No rule by number event) v is told_no =
         let named : no rule by number event ≡ verdict_view v = cc is in

@@ -1,15 +1,13 @@
 -- One more record, and for which records a judge stands.
 use Rattle.std.proofs.Common.{◌≡◌, List, [], ◌++◌, Option, Some, None, refl, sym, ap, subst, ◌∙◌}
-use Rattle.std.specs.Prelude.{option_map, unwrap_or}
+use Rattle.std.specs.Prelude.{option_map}
 use Rattle.lsp_frame.specs.Bounds.{Bounds, IsInRange}
 use Rattle.lsp_frame.specs.declared.format.Format.{Format}
-use Rattle.lsp_frame.specs.declared.format.Format.TheVariants.{One}
 use Rattle.lsp_docs.specs.Terms.{Terms, terms_of}
 use Rattle.lsp_log.specs.Log.{Record}
 use Rattle.lsp_streams.specs.Streams as frames
 use Rattle.lsp_verdict.specs.Event.{Event}
 use Rattle.lsp_verdict.specs.Given.{as_given}
-use Rattle.lsp_verdict.specs.Outcome.{format_or_one}
 use Rattle.lsp_verdict.specs.Placed.{IsSession}
 use Rattle.lsp_judge.specs.Rulings.{verdict_in}
 use Rattle.lsp_events.specs.Standing.{Follows}
@@ -175,14 +173,3 @@ ruled_stands old new rs more ruling v none is limits format given rules p = reco
         (no rule by number at)) (sym limits) o)
     by_ruling (BadLog number code) named o = absurd o
     by_ruling Memory named o = let same : None ≡ Some v = named in absurd cc
-
--- ---- the format of a log
-
--- by which its records are judged
-pub judged_by : (known asked : Option Format) (format : Format) → format ≡ unwrap_or asked One
-    → asked ≡ known → format ≡ format_or_one known
-judged_by known asked format is same = is ∙ ap (λ o. unwrap_or o One) same ∙ by_format known
-  where
-    by_format : (o : Option Format) → unwrap_or o One ≡ format_or_one o
-    by_format None = refl
-    by_format (Some f) = refl

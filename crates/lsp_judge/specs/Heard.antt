@@ -1,19 +1,13 @@
 -- The events that were heard, and what one more is heard as.
-use Rattle.std.specs.Prelude.{◌≡◌, ℕ, List, [], ◌∷◌, ◌++◌}
+use Rattle.std.specs.Prelude.{◌≡◌, List, [], ◌∷◌, ◌++◌}
 use Rattle.std.specs.List.{AllZip}
-use Rattle.lsp_rpc.specs.Act.{Act}
-use Rattle.lsp_rpc.specs.Message as rpc
-use Rattle.lsp_rpc.specs.Outline.{outline}
-use Rattle.lsp_types.specs.declared.side.Side.{Side}
-use Rattle.lsp_session.specs.Sent.{Sent}
 use Rattle.lsp_session.specs.State as session
 use Rattle.lsp_docs.specs.State as docs
 use Rattle.lsp_docs.specs.Terms.{Terms}
 use Rattle.lsp_events.specs.Lines.{IsHeard}
 use Rattle.lsp_events.specs.Standing.{Follows}
 use Rattle.lsp_events.specs.declared.heard.Heard.{Heard}
-use Rattle.lsp_verdict.specs.Contents.{IsSent}
-use Rattle.lsp_verdict.specs.Event.{Event, message}
+use Rattle.lsp_verdict.specs.Event.{Event}
 use Rattle.lsp_verdict.specs.Placed.{Raw, Reads}
 use Rattle.lsp_verdict.specs.declared.counts.Counts.{Counts}
 
@@ -30,14 +24,3 @@ abbrev pub HearsOne : Terms → session.State → docs.State → Counts → List
 HearsOne terms messages documents counts raws heard raw given =
     (event : Event) × IsHeard event given
     × HasHeard terms messages documents counts (raws ++ raw ∷ []) (heard ++ event ∷ [])
-
--- the content is this message of the side, but for its params and the value of a result, and means
--- this act; it was heard after these events
-pub record HeardAs (side : Side) (content : List ℕ) (said : rpc.Message) (act : Act)
-    (messages : session.State) (documents : docs.State) (counts : Counts)
-    (events : List Event) : Type 0 where
-  pub sent : Sent
-  pub reads : IsSent side content sent
-  pub says : outline sent.message ≡ outline said
-  pub means : sent.act ≡ act
-  pub follows : Follows messages documents counts (events ++ message sent ∷ [])

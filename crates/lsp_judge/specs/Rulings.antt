@@ -13,19 +13,13 @@ verdict_in (No rule who number event) = Some (no rule who number event)
 verdict_in (BadLog number code) = Some (bad_log number code)
 verdict_in Memory = None
 
--- the ruling is the No at this event, unless memory ran out
-abbrev pub IsNoAt : Terms → List Event → Event → Ruling → Type 0
-IsNoAt terms before event (No rule who number at) =
-    (v : Verdict) × (no_at terms before event ≡ Some v) × (no rule who number at ≡ as_given v)
-IsNoAt terms before event (BadLog number code) = ⊥
-IsNoAt terms before event Memory = Unit {0}
-
 -- the ruling is the No at an event of this kind, unless memory ran out
-abbrev pub IsNoAtSome : Terms → List Event → (Event → Type 0) → Ruling → Type 0
-IsNoAtSome terms before IsSuch (No rule who number at) =
-    (event : Event) × IsSuch event × IsNoAt terms before event (No rule who number at)
-IsNoAtSome terms before IsSuch (BadLog number code) = ⊥
-IsNoAtSome terms before IsSuch Memory = Unit {0}
+abbrev pub IsNoAt : Terms → List Event → (Event → Type 0) → Ruling → Type 0
+IsNoAt terms before IsSuch (No rule who number at) =
+    (event : Event) × IsSuch event
+    × ((v : Verdict) × (no_at terms before event ≡ Some v) × (no rule who number at ≡ as_given v))
+IsNoAt terms before IsSuch (BadLog number code) = ⊥
+IsNoAt terms before IsSuch Memory = Unit {0}
 
 -- the ruling is this refusal, and there is none where there is none
 abbrev pub RestIs : Option Ruling → Option Verdict → Type 0

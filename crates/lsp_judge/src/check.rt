@@ -92,7 +92,7 @@ fn verdict_of<R: Source>(
         match events.log.next(reader) {
             Err(fault) => return Err(fault),
             Ok(Next::End(end)) => return Ok(events.finish(alloc, end)?),
-            Ok(Next::Event(raw)) => match hear(alloc, &mut events.events, raw) {
+            Ok(Next::Event(raw)) => match hear(&mut events.events, raw) {
                 Ok(heard) => drop(heard),
                 Err(ruling) => return Ok(ruling.answer()?),
             },

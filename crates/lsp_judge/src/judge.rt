@@ -309,7 +309,7 @@ impl<S: TextStore> Judge<S> {
     {
         self.streams.push(next)?;
         while let Some(raw) = self.streams.next() {
-            drop(hear(self.alloc, &mut self.events, raw)?);
+            drop(hear(&mut self.events, raw)?);
         }
         Ok(())
     }

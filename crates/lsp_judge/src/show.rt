@@ -104,7 +104,7 @@ fn show_log<R: Source, W: Sink>(
         match events.log.next(reader) {
             Err(fault) => return Err(fault),
             Ok(Next::End(end)) => return Ok(events.finish(alloc, end)?),
-            Ok(Next::Event(raw)) => match hear(alloc, &mut events.events, raw) {
+            Ok(Next::Event(raw)) => match hear(&mut events.events, raw) {
                 Ok(heard) => {
                     let place = place_of(&events.events.counts, &heard);
                     write_event_line(alloc, writer, &mut line, lines, place, heard)?;

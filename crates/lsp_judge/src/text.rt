@@ -59,7 +59,7 @@ fn text_by<R: Source>(
         match events.log.next(reader) {
             Err(fault) => return Err(fault),
             Ok(Next::End(end)) => return Ok(TextAnswer::missing(events.finish(alloc, end)?)),
-            Ok(Next::Event(raw)) => match hear(alloc, &mut events.events, raw) {
+            Ok(Next::Event(raw)) => match hear(&mut events.events, raw) {
                 Ok(heard) => drop(heard),
                 Err(ruling) => return Ok(TextAnswer::missing(ruling.answer()?)),
             },

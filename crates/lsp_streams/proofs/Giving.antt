@@ -92,7 +92,7 @@ module _ (side : Side) (d : State) (bytes : List ℕ) (due : List Raw) (h : IsDu
       are = sym none;
     }
 
-    -- behind a fault that was given there is none
+    -- after a fault that was given there is none
     pub over : (rule : ℕ) → d.fault ≡ Some rule → (due ≡ []) × IsDue side d bytes []
     over rule gave =
         let stream = broken_stream d bytes h.given rule gave h.stands in

@@ -17,39 +17,11 @@ use Rattle.lsp_streams.specs.declared.streams.Turn.TheVariants as turn
 use Rattle.lsp_streams.proofs.Giving.{broken_stream, over}
 use Rattle.lsp_types.specs.declared.side.Side.{Side}
 use Rattle.lsp_types.specs.declared.side.Side.TheVariants.{Editor, Server}
-use Rattle.lsp_verdict.specs.Placed.{Raw, content, broken, show, new_fault, joined}
+use Rattle.lsp_verdict.specs.Placed.{Raw, content, broken, new_fault, joined}
 use Rattle.lsp_verdict.proofs.Below.{one_stream}
-use Rattle.lsp_verdict.proofs.Streams.Joined.{is_own, own_is_stream}
+use Rattle.lsp_verdict.proofs.Streams.Joined.{all_own, is_own, none_own, own_is_stream}
 
 -- ---- the events of a side
-
-all_own : (side by : Side) → same_side side by ≡ true → (contents : List (List ℕ)) (f g : Option ℕ)
-    → filter (is_own side) (map (content by) contents ++ new_fault by f g)
-    ≡ map (content by) contents ++ new_fault by f g
-all_own side by same [] None (Some rule) =
-    ap (λ b. let rs : List Raw = if b then broken by rule ∷ [] else [] in rs) same
-all_own side by same [] None None = refl
-all_own side by same [] (Some rule) g = refl
-all_own side by same (bytes ∷ contents) f g =
-    let rest : List Raw = map (content by) contents ++ new_fault by f g in
-    ap (λ b. let rs : List Raw =
-    if b then content by bytes ∷ filter (is_own side) rest else filter (is_own side) rest in rs)
-    same
-    ∙ ap (λ w. content by bytes ∷ w) (all_own side by same contents f g)
-
-none_own : (side by : Side) → same_side side by ≡ false
-    → (contents : List (List ℕ)) (f g : Option ℕ)
-    → filter (is_own side) (map (content by) contents ++ new_fault by f g) ≡ []
-none_own side by other [] None (Some rule) =
-    ap (λ b. let rs : List Raw = if b then broken by rule ∷ [] else [] in rs) other
-none_own side by other [] None None = refl
-none_own side by other [] (Some rule) g = refl
-none_own side by other (bytes ∷ contents) f g =
-    let rest : List Raw = map (content by) contents ++ new_fault by f g in
-    ap (λ b. let rs : List Raw =
-    if b then content by bytes ∷ filter (is_own side) rest else filter (is_own side) rest in rs)
-    other
-    ∙ none_own side by other contents f g
 
 shown_own : (side : Side) (o : Option Snapshot) → filter (is_own side) (shown o) ≡ []
 shown_own side None = refl
@@ -108,7 +80,7 @@ one_own : (side : Side) (rule : ℕ) (b : Bool) → b ≡ true
 one_own side rule true e = refl
 one_own side rule false e = absurd cc
 
--- the frames of these bytes have a fault, and what the decoder holds behind the last whole one goes
+-- the frames of these bytes have a fault, and what the decoder holds after the last whole one goes
 -- at least as far as that is seen
 pub record AreBroken (limits : Bounds) (d : decoder.State) (bytes : List ℕ) (rule : ℕ) : Type 0
   where
@@ -163,7 +135,7 @@ module _ (limits : Bounds) (s : State) (records : List Record) (given due : List
       by_turn (Some turn.Snapshot) e r shows =
           ap (filter (is_own Server)) shows ∙ shown_own Server s.snapshot
 
-  -- **of the events given, those of a side are contents, and behind them the fault that its decoder
+  -- **of the events given, those of a side are contents, and after them the fault that its decoder
   -- gave**
   pub given_own : (side : Side)
       → (contents : List (List ℕ))

@@ -303,7 +303,7 @@ goes_on limits format start now records given e none h =
     subst (λ (o : Option End). HasRead o e.log limits start now records) none h.read in
     (record { same = h.same; at = read.0; stands = h.stands }, read.1)
 
--- what was taken behind these records
+-- what was taken after these records
 pub took : (limits : Bounds) (format : Option Format) (start now : Told) (records : List Record)
     (given : List Raw) (old new : LogEvents) (result : Result (Unit {0}) RunFault)
     → old.log.format ≡ format → IsSome old.log.format
@@ -332,7 +332,7 @@ took limits format start now records given old new result is known keeps takes =
         subst (λ (o : Option Format). BrokeOff limits start now o records given fault)
         (sym same ∙ is) (broke f same)
 
--- what was found behind more records
+-- what was found after more records
 pub finds_more : (limits : Bounds) (format : Option Format) (e : LogEvents) (start now : Told)
     (records more : List Record) (given : List Raw) (result : Result Step RunFault)
     → Finds limits format e start now (records ++ more) given result

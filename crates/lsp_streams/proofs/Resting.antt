@@ -13,7 +13,6 @@ use Rattle.lsp_streams.proofs.Giving.{none_due}
 use Rattle.lsp_streams.proofs.Owning.{given_own, own_limits}
 use Rattle.lsp_streams.proofs.Streaming.{own_due}
 use Rattle.lsp_types.specs.declared.side.Side.{Side}
-use Rattle.lsp_types.specs.declared.side.Side.TheVariants.{Editor, Server}
 use Rattle.lsp_verdict.specs.Outcome.{HasRest, is_rest}
 use Rattle.lsp_verdict.specs.Placed.{Raw, content, broken, show, new_fault, joined}
 use Rattle.lsp_verdict.proofs.Streams.Joined.{is_own}

@@ -399,3 +399,11 @@ pushed_fault s piece = by_fault s.fault
     by_fault : (o : Option ℕ) → (decoder.taken_at o s (length piece) piece).fault ≡ s.fault
     by_fault None = refl
     by_fault (Some rule) = refl
+
+pub pushed_limits : (s : decoder.State) (piece : List ℕ)
+    → (decoder.pushed s piece).limits ≡ s.limits
+pushed_limits s piece = by_fault s.fault
+  where
+    by_fault : (o : Option ℕ) → (decoder.taken_at o s (length piece) piece).limits ≡ s.limits
+    by_fault None = refl
+    by_fault (Some rule) = refl

@@ -10,7 +10,8 @@ use Rattle.lsp_log.specs.Reader as reader
 use Rattle.lsp_log.specs.Reader.{ahead}
 use Rattle.lsp_log.specs.declared.fault.LogCode.{LogCode}
 use Rattle.lsp_streams.specs.Streams as streams
-use Rattle.lsp_streams.specs.Streams.{IsHeld, IsRaw, Stands, raw_view}
+use Rattle.lsp_streams.specs.Streams.{IsHeld, IsRaw, Stands}
+use Rattle.lsp_verdict.specs.Lent.{raw_view}
 use Rattle.lsp_streams.specs.declared.log_events.End.{End}
 use Rattle.lsp_streams.specs.declared.log_events.End.TheVariants.{Sound, Bad}
 use Rattle.lsp_streams.specs.declared.log_events.LogEvents.{LogEvents}

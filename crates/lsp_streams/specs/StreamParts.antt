@@ -42,7 +42,7 @@ outcome_at frame None = Done
 outcome_at frame (Some fault) = Stream frame fault
 
 -- the parts of contents, the first of which has this number, up to the first content that has none;
--- the fault follows them all
+-- after them all comes the fault
 abbrev pub RunsThrough : Mode → ℕ → List (List ℕ) → Option StreamFault → List ℕ → Outcome → Type 0
 RunsThrough mode frame [] fault parts outcome = (parts ≡ []) × (outcome ≡ outcome_at frame fault)
 RunsThrough mode frame (content ∷ contents) fault parts outcome =

@@ -16,8 +16,8 @@ use Rattle.lsp_types.specs.declared.rules.TheConstants as rules
 
 -- ---- a stream
 
--- the fault of a stream: that of its frames; else that it continues past the limit; else that bytes
--- are left
+-- the fault of a stream: that of its frames; else that it continues after the limit; else that
+-- bytes are left
 abbrev pub fault_of : Option ℕ → Bool → List ℕ → Option StreamFault
 fault_of (Some rule) longer rest = Some (Rule rule)
 fault_of None true rest = Some TooLong
@@ -35,7 +35,7 @@ pub record HasParts (limits : Bounds) (mode : Mode) (stream parts : List ℕ)
   pub runs_through : RunsThrough mode 1 contents
       (fault_of fault (nat_lt limits.log (length stream)) rest) parts outcome
 
--- what follows the parts
+-- what comes after the parts
 abbrev pub closing : Mode → Outcome → List ℕ
 closing mode Done = []
 closing Lengths (Stream frame fault) = stream_report frame fault

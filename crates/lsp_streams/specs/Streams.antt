@@ -6,8 +6,6 @@ use Rattle.lsp_frame.specs.Buffer.{last_of}
 use Rattle.lsp_frame.specs.Decoder as decoder
 use Rattle.lsp_frame.specs.Frame.{IsStream}
 use Rattle.lsp_log.specs.Log.{Record}
-use Rattle.lsp_streams.specs.declared.raw.Raw as code
-use Rattle.lsp_streams.specs.declared.raw.Raw.TheVariants as raws
 use Rattle.lsp_streams.specs.declared.streams.Due.{Due}
 use Rattle.lsp_streams.specs.declared.streams.Due.TheVariants as due
 use Rattle.lsp_streams.specs.declared.streams.Snapshot.{Snapshot}
@@ -15,8 +13,10 @@ use Rattle.lsp_streams.specs.declared.streams.Turn.{Turn}
 use Rattle.lsp_streams.specs.declared.streams.Turn.TheVariants as turn
 use Rattle.lsp_types.specs.declared.side.Side.{Side}
 use Rattle.lsp_types.specs.declared.side.Side.TheVariants.{Editor, Server}
+use Rattle.lsp_verdict.specs.Lent.{raw_view}
 use Rattle.lsp_verdict.specs.Outcome.{is_rest}
 use Rattle.lsp_verdict.specs.Placed.{Raw, content, broken, show, new_fault, Placed, joined}
+use Rattle.lsp_verdict.specs.declared.raw.Raw as code
 
 -- ---- what is held
 
@@ -38,12 +38,6 @@ FitsTurn (Some turn.Snapshot) snapshot = IsSome snapshot
 FitsTurn turn snapshot = Unit {0}
 
 -- ---- an event
-
--- an event that is lent, as one of a session
-abbrev pub raw_view : code.Raw → Raw
-raw_view (raws.Content side bytes) = content side bytes.now
-raw_view (raws.Broken side rule) = broken side rule
-raw_view (raws.Snapshot version uri text) = show version uri.now text.now
 
 -- the snapshot that is held
 abbrev pub shown : Option Snapshot → List Raw
@@ -73,8 +67,7 @@ StepsBy None side old new (Some (due.Broken by rule)) =
     (by ≡ side) × decoder.Next old new (Err rule)
 StepsBy None side old new (Some due.Snapshot) = ⊥
 
--- the decoder of a side skipped its next event, of which there is none after a fault that it
--- gave
+-- the decoder of a side skipped its next event, of which there is none after a fault that it gave
 abbrev pub StepsSide : Side → decoder.State → decoder.State → Option Due → Type 0
 StepsSide side old new next = StepsBy old.fault side old new next
 

@@ -5,14 +5,13 @@ ghost use Rattle.lsp_frame.specs.Bounds.{Bounds};
 ghost use Rattle.lsp_frame.specs.Told.{Told, Took};
 ghost use Rattle.lsp_streams.specs.Event.{IsEvent, BeginsEvent};
 ghost use Rattle.lsp_streams.specs.EventSteps.{Answers, Finds, HasPassed, IsOfEnd};
-ghost use Rattle.lsp_streams.specs.Streams.{raw_view};
+ghost use Rattle.lsp_verdict.specs.Lent.{raw_view};
 ghost use Rattle.lsp_verdict.specs.RunIo.{OfRead, GaveAtMost, source_failures, sink_failures};
 
 use crate::log_events::{End, LogEvents, Next};
-use crate::raw::Raw;
 use lsp_frame::{Limits, Sink, Source, put_all};
 use lsp_log::LogCode;
-use lsp_verdict::RunFault;
+use lsp_verdict::{Raw, RunFault};
 use std::alloc::Global;
 
 /// How a run ended that was asked for one event, and met no fault of reading, writing or memory.

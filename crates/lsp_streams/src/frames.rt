@@ -44,7 +44,7 @@ fn write_numbers<W: Sink>(writer: &mut W, frame: u64, len: u64, end: u8) -> Resu
         (W.told writer.new)
         result (numbers frame len (end ∷ [])) }
 {
-    // Filled from the end, so that the line is put at once.
+    // Filled from its end, so that the line is put at once.
     let mut line = [end; LINE];
     let size = fill_number(&mut line, len, LINE - 1);
     line[size - 1] = b' ';

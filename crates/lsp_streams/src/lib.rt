@@ -9,7 +9,6 @@ mod log_events;
 mod normal;
 mod normal_laws;
 mod pieces;
-mod raw;
 mod stream_laws;
 mod streams;
 
@@ -22,6 +21,5 @@ pub use normal_laws::{
     normal_form_keeps_events, normal_form_keeps_verdict, normal_form_stays, one_normal_form,
     some_normal_form,
 };
-pub use raw::Raw;
 pub use stream_laws::{one_run, some_run};
 pub use streams::Streams;

@@ -1,5 +1,5 @@
 //! The events of a log one after another, before their contents are read.
-ghost use Rattle.std.specs.Prelude.{◌≡◌, ◌++◌, ◌<◌, [], IfOk, IfErr, List, None, Option, OnOk, Ok};
+ghost use Rattle.std.specs.Prelude.{◌≡◌, ◌<◌, IfOk, IfErr, List, None, Option, OnOk, Ok};
 ghost use Rattle.std.specs.Borrow.{sem};
 ghost use Rattle.lsp_frame.specs.Bounds.{Bounds};
 ghost use Rattle.lsp_frame.specs.Told.{Told};
@@ -13,12 +13,11 @@ ghost use Rattle.lsp_streams.specs.LogEvents.{unread};
 ghost use Rattle.lsp_streams.specs.LogLending.{LendsNext};
 ghost use Rattle.lsp_streams.specs.Streams.{decoder_of, ends_inside};
 
-use crate::raw::Raw;
 use crate::streams::{Due, Streams};
 use lsp_frame::{Format, Limits, Source};
 use lsp_log::{LogCode, LogReader};
 use lsp_rpc::Side;
-use lsp_verdict::{Entry, RunFault, next_entry};
+use lsp_verdict::{Entry, Raw, RunFault, next_entry};
 use std::alloc::Global;
 
 /// What a log has next.

@@ -9,18 +9,18 @@ ghost use Rattle.lsp_streams.specs.Normal as normal;
 ghost use Rattle.lsp_streams.specs.Normal.{first_broken, EndsNormal, BeginsNormal};
 ghost use Rattle.lsp_streams.specs.NormalSteps.{Counted, CarriesCapped, EndsLog, EndsWhole, Forms};
 ghost use Rattle.lsp_streams.specs.NormalSteps.{WritesEvent, WroteHead};
-ghost use Rattle.lsp_streams.specs.Streams.{Stands, raw_view};
+ghost use Rattle.lsp_streams.specs.Streams.{Stands};
+ghost use Rattle.lsp_verdict.specs.Lent.{raw_view};
 ghost use Rattle.lsp_verdict.specs.Placed.{Raw as PlacedRaw};
 ghost use Rattle.lsp_verdict.specs.RunIo.{OfRead, GaveAtMost, source_failures, sink_failures};
 
 use crate::log_events::{End, LogEvents, Next};
 use crate::pieces::Pieces;
-use crate::raw::Raw;
 use lsp_frame::{Format, Limits, Sink, Source};
 use lsp_log::{write_head_of, write_snapshot};
 use lsp_rpc::Side;
 use lsp_types::rules;
-use lsp_verdict::{Counts, Outcome, RunFault, Verdict, Who, who_of};
+use lsp_verdict::{Counts, Outcome, Raw, RunFault, Verdict, Who, who_of};
 use std::alloc::Global;
 
 /// No at the event that comes next, with the number that the side's next message has.

@@ -1,18 +1,19 @@
 //! The frames of both sides, and their events one after another.
-ghost use Rattle.std.specs.Prelude.{◌≡◌, ◌++◌, ◌∷◌, [], ℕ, List, OnOk, OnErr};
+ghost use Rattle.std.specs.Prelude.{◌≡◌, ◌++◌, ◌∷◌, [], List, OnOk, OnErr};
 ghost use Rattle.std.specs.Borrow.{sem};
 ghost use Rattle.lsp_frame.specs.Bounds.{Bounds};
 ghost use Rattle.lsp_log.specs.Log as log;
 ghost use Rattle.lsp_log.specs.Records.{record_view};
 ghost use Rattle.lsp_verdict.specs.Placed as placed;
-ghost use Rattle.lsp_streams.specs.Streams.{Stands, Steps, StepsSide, IsHeld, IsRaw, raw_view};
+ghost use Rattle.lsp_streams.specs.Streams.{Stands, Steps, StepsSide, IsHeld, IsRaw};
+ghost use Rattle.lsp_verdict.specs.Lent.{raw_view};
 ghost use Rattle.lsp_streams.specs.Streams.{decoder_of, ends_inside};
 ghost use Rattle.lsp_streams.specs.Lending.{LendsRaw};
 
-use crate::raw::Raw;
 use lsp_frame::{Decoder, Limits};
 use lsp_log::Record;
 use lsp_rpc::{Memory, Side};
+use lsp_verdict::Raw;
 use std::alloc::Global;
 use std::marker::Model;
 
@@ -131,8 +132,8 @@ impl Streams {
         }
     }
 
-    /// The bytes of a side after its last whole frame. After a fault of its frames they go at
-    /// least as far as that is seen.
+    /// The bytes of a side after its last whole frame. After a fault of its frames they go at least
+    /// as far as that is seen.
     pub fn rest(&self, side: Side) -> &[u8]
         ensures { result.now ≡ (decoder_of side self.now).rest }
     {

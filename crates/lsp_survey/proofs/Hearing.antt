@@ -1,6 +1,6 @@
--- How a walk hears a content, a fault of the frames, and a snapshot.
+-- How a walk goes on: with an event that is kept, and with one that offends.
 use Rattle.std.specs.Prelude.{unwrap_or, chars, ℤ}
-use Rattle.std.proofs.Common.{◌≡◌, ℕ, Bool, false, List, [], ◌∷◌, ◌++◌, Option, Some, None, refl}
+use Rattle.std.proofs.Common.{◌≡◌, ℕ, Bool, false, List, [], ◌∷◌, ◌++◌, Some, None, refl}
 use Rattle.std.proofs.Common.{sym, ap, subst, ◌∙◌}
 use Rattle.lsp_docs.specs.Calls.{Call, shows}
 use Rattle.lsp_docs.specs.Answer.{answer_of}
@@ -8,7 +8,12 @@ use Rattle.lsp_docs.specs.Documents.{held}
 use Rattle.lsp_docs.specs.Kept.{kept as kept_versions}
 use Rattle.lsp_docs.specs.declared.snapshot.Match.{Match}
 use Rattle.lsp_docs.specs.Terms.{Terms}
-use Rattle.lsp_events.specs.Standing.{Holds, RefusesMessage, Hears as HearsContent}
+use Rattle.lsp_events.specs.Faults.{rule_of}
+use Rattle.lsp_events.specs.Lines.{IsHeard}
+use Rattle.lsp_events.specs.Standing.{AnswersAs, Holds, Keeps}
+use Rattle.lsp_events.specs.declared.fault.Refused.TheVariants as refused
+use Rattle.lsp_events.specs.declared.heard.Heard as lent
+use Rattle.lsp_events.specs.declared.heard.Heard.TheVariants as kept
 use Rattle.lsp_rpc.specs.Act.{Act}
 use Rattle.lsp_rpc.specs.Message.{Message, request, notification, response, result, error}
 use Rattle.lsp_rpc.specs.Outline.{outline}
@@ -18,38 +23,38 @@ use Rattle.lsp_session.specs.Negotiation.{encoding, sync_kind}
 use Rattle.lsp_session.specs.Handshake.{phase}
 use Rattle.lsp_session.specs.Sent.{Sent}
 use Rattle.lsp_session.specs.State as session
+use Rattle.lsp_docs.specs.State as docs
 use Rattle.lsp_survey.specs.Marking.{number_next}
 use Rattle.lsp_survey.specs.Marks.{AreMarks, DoneBy, ShownBy}
 use Rattle.lsp_survey.specs.SessionNoting.{AreNotes, SaysOn}
 use Rattle.lsp_survey.specs.declared.notes.marks.Marks.{Marks}
+use Rattle.lsp_survey.specs.declared.notes.note.Notes.{Notes}
 use Rattle.lsp_survey.specs.declared.notes.session_notes.SessionNotes.{SessionNotes}
-use Rattle.lsp_survey.specs.Notes.{AreAfter, asks_of}
-use Rattle.lsp_survey.specs.Walking.{Walks, Counted, IsShown, IsUnread, PassesOver, IsOffending}
-use Rattle.lsp_survey.specs.Walking.{Hears}
+use Rattle.lsp_survey.specs.Notes.{AreAfter, asks_of, note_in}
+use Rattle.lsp_survey.specs.Walking.{Walks, WalksBy, IsRefused, IsShown, IsUnread, PassesOver}
+use Rattle.lsp_survey.specs.Walking.{IsOffending, Hears, NotesKept, NotesMessage, NotesSnapshot}
 use Rattle.lsp_survey.specs.declared.offending.Heard.{Heard}
 use Rattle.lsp_survey.specs.declared.offending.Heard.TheVariants as heard
 use Rattle.lsp_survey.specs.declared.offending.Offending.{Offending}
 use Rattle.lsp_survey.specs.declared.offending.Offending.TheVariants as what
 use Rattle.lsp_survey.specs.declared.walk.Walk.{Walk}
-use Rattle.lsp_types.specs.declared.change.SyncKind.{SyncKind}
 use Rattle.lsp_types.specs.declared.change.SyncKind.TheVariants.{Nothing}
-use Rattle.lsp_types.specs.declared.position.Encoding.{Encoding}
 use Rattle.lsp_types.specs.declared.position.Encoding.TheVariants.{Utf16}
 use Rattle.lsp_types.specs.declared.side.Side.{Side}
 use Rattle.lsp_types.specs.declared.side.Side.TheVariants.{Editor, Server}
 use Rattle.lsp_verdict.specs.Calls.{call_of, calls}
 use Rattle.lsp_verdict.specs.Counting.{AreCounts}
 use Rattle.lsp_verdict.specs.declared.counts.Counts.{Counts}
-use Rattle.lsp_verdict.specs.Contents.{IsSent, ReadsAs}
+use Rattle.lsp_verdict.specs.Contents.{IsSent}
 use Rattle.lsp_verdict.specs.Event.{Event, message, fault, snapshot, sent_in}
 use Rattle.lsp_verdict.specs.Offences.{Noted, Asks, asks_handshake, events_of, kept_of, rule_at}
-use Rattle.lsp_verdict.specs.Placed.{Raw, content, broken, show}
-use Rattle.lsp_verdict.specs.Verdict.{who_of}
-use Rattle.lsp_verdict.specs.declared.verdict.Who.{Who}
+use Rattle.lsp_verdict.specs.Placed.{Raw, content, broken, show, Reads}
+use Rattle.lsp_verdict.specs.Verdict.{offence, who_of}
 use Rattle.lsp_verdict.specs.declared.verdict.Who.TheVariants as who
 use Rattle.lsp_verdict.proofs.Offences.Surveying.{by_asking}
 use Rattle.lsp_verdict.proofs.Offences.Steps.{kept-push}
 use Rattle.lsp_survey.proofs.MarkSteps.{act_done, shown_done}
+use Rattle.lsp_survey.proofs.Noting.{notes_stay}
 use Rattle.lsp_survey.proofs.Passing.{passed_over, kept_on}
 use Rattle.lsp_survey.proofs.SessionSteps.{message_noted, other_unsaid}
 
@@ -68,177 +73,236 @@ asks_said Editor bytes sent said is same =
     (sym (asks_alike sent.message) ∙ ap asks_handshake same ∙ asks_alike said)
 asks_said Server bytes sent said is same = refl
 
--- ---- frames
+-- ---- an event that is kept
 
-pub frames_heard : (old new : Walk) (notes : List Noted) (side : Side) (rule : ℕ) (by : Who)
-    (given : Heard) → by ≡ who_of side → Walks old notes
-    → PassesOver old new by rule false (λ enc kind. None) (λ o. o ≡ what.Frames side) given
-    → Hears (broken side rule) old.events.docs.terms new notes given
-frames_heard old new notes side rule by given is walks passes =
-    let n : Noted = record { event = fault side rule; asks = false } in
-    passed_over (broken side rule) old old new notes n by rule (λ enc kind. None) Utf16 Nothing
-    (λ o. o ≡ what.Frames side) given walks refl refl refl refl refl refl walks.holds
-    (refl, refl) (sym is) refl refl
-    (λ o e. subst (IsOffending (broken side rule) old.events.docs.terms
-    (kept_of old.events.docs.terms (events_of notes)) rule) (sym e) refl) passes
-
--- ---- contents
-
-module _ (old mid new : Walk) (notes : List Noted) (side : Side) (bytes : List ℕ) (given : Heard)
-    (walks : Walks old notes)
-    (counts : mid.events.counts ≡ old.events.counts) (same : mid.notes ≡ old.notes)
-    (broken_is : mid.broken ≡ old.broken) (marks_are : mid.marks ≡ old.marks)
-    (said_are : mid.said ≡ old.said)
-    (same_terms : mid.events.docs.terms ≡ old.events.docs.terms) where
+module _ (old new : Walk) (notes : List Noted) (number : ℕ) (walks : Walks old notes)
+    (is_number : number ≡ number_next (events_of notes))
+    (terms_are : new.events.docs.terms ≡ old.events.docs.terms)
+    (is_broken : new.broken ≡ old.broken) where
   abbrev terms : Terms
   terms = old.events.docs.terms
 
-  abbrev kept : List Event
-  kept = kept_of terms (events_of notes)
+  abbrev events : List Event
+  events = events_of notes
 
-  abbrev enc : Encoding
-  enc = unwrap_or (encoding (sent_in kept)) Utf16
+  abbrev before : List Event
+  before = kept_of terms events
 
-  abbrev kind : SyncKind
-  kind = unwrap_or (sync_kind (sent_in kept)) Nothing
+  message_heard : (side by : Side) (bytes : List ℕ) (sent : Sent) (said : Message) (act : Act)
+      → IsSent side bytes sent → sent.side ≡ by → outline sent.message ≡ outline said
+      → sent.act ≡ act → rule_at terms events (message sent) ≡ None
+      → Holds new.events.session new.events.docs (before ++ message sent ∷ [])
+      → AreCounts new.events.counts (events ++ message sent ∷ [])
+      → NotesMessage number by said act old new
+      → Hears (content side bytes) terms new notes heard.Kept
+  message_heard side by bytes sent said act reads is_by says means clean holds counted noted =
+      let enc = unwrap_or (encoding (sent_in before)) Utf16 in
+      let kind = unwrap_or (sync_kind (sent_in before)) Nothing in
+      let more : before ++ message sent ∷ [] ≡ kept_of terms (events ++ message sent ∷ []) =
+      sym (kept-push terms events (message sent) clean) in
+      let told : SaysOn number by said
+      (phase (sent_in (kept_of terms (events ++ message sent ∷ [])))) old.said new.said =
+      subst (λ (es : List Event). SaysOn number by said (phase (sent_in es)) old.said new.said) more
+      (noted.2 (sent_in (before ++ message sent ∷ [])) holds.sent) in
+      let n : Noted = record { event = message sent; asks = asks_of side said } in
+      kept_on (content side bytes) old new notes n (call_of enc kind act) walks
+      (reads, asks_said side bytes sent said reads says) clean (ap (call_of enc kind) means)
+      terms_are holds counted is_broken (noted.0 enc kind)
+      (act_done terms old.marks.map.entries new.marks.map.entries events sent number walks.marked
+      clean is_number
+      (λ e k. subst (λ (a : Act). DoneBy number (call_of e k a) old.marks.map.entries
+      new.marks.map.entries) (sym means) (noted.1 e k)))
+      (message_noted terms old.said new.said events sent said number walks.said clean is_number says
+      (subst (λ (s : Side). SaysOn number s said
+      (phase (sent_in (kept_of terms (events ++ message sent ∷ [])))) old.said new.said)
+      (sym is_by) told))
 
-  -- a content that breaks a rule
-  pub unread_heard : (rule : ℕ) (asks : Bool) → Holds mid.events.session mid.events.docs kept
-      → ReadsAs side bytes (fault side rule) → Asks (content side bytes) asks
-      → PassesOver mid new (who_of side) rule asks (λ e k. None) (IsUnread side bytes) given
-      → Hears (content side bytes) terms new notes given
-  unread_heard rule asks holds reads asked passes =
+  snapshot_heard : (raw : Raw) (uri text : List ℕ) (version : ℤ) (answer : Match)
+      → Reads raw (snapshot uri version text) → Asks raw false
+      → rule_at terms events (snapshot uri version text) ≡ None
+      → Holds new.events.session new.events.docs (before ++ snapshot uri version text ∷ [])
+      → AreCounts new.events.counts (events ++ snapshot uri version text ∷ [])
+      → answer ≡ answer_of version (kept_versions terms uri (calls before))
+      (held terms uri (calls before))
+      → NotesSnapshot number uri version answer old new → Hears raw terms new notes heard.Kept
+  snapshot_heard raw uri text version answer reads asks clean holds counted answers noted =
+      let call : Call = shows uri version text in
+      let n : Noted = record { event = snapshot uri version text; asks = false } in
+      kept_on raw old new notes n (Some call) walks (reads, asks) clean refl terms_are holds counted
+      is_broken
+      (subst (λ (w : Notes). AreAfter None (Some call) old.notes.map.entries w.map.entries)
+      (sym noted.0) (notes_stay None call old.notes.map.entries refl))
+      (shown_done terms old.marks.map.entries new.marks.map.entries events uri version text number
+      answer walks.marked clean is_number answers noted.1)
+      (other_unsaid terms new.said events n.event
+      (subst (λ (m : SessionNotes). AreNotes terms m events) (sym noted.2) walks.said) refl)
+
+  by_event : (raw : Raw) (given : lent.Heard) (event : Event) → Reads raw event
+      → IsHeard event given → AnswersAs terms before given → offence terms before event ≡ None
+      → Holds new.events.session new.events.docs (before ++ event ∷ [])
+      → AreCounts new.events.counts (events ++ event ∷ []) → NotesKept number given old new
+      → Hears raw terms new notes heard.Kept
+  by_event (content side bytes) (kept.Message by spoken) (message sent) reads is answers clean holds
+      counted noted =
+      message_heard side by bytes sent (message_view spoken.message) (act_view spoken.act) reads
+      is.0 is.1 is.2 clean holds counted noted
+  by_event (broken side rule) (kept.Message by spoken) (message sent) reads is answers clean holds
+      counted noted = absurd cc
+  by_event (show n uri text) (kept.Message by spoken) (message sent) reads is answers clean holds
+      counted noted = absurd cc
+  by_event raw (kept.Message by spoken) (fault side rule) reads is answers clean holds counted
+      noted = absurd is
+  by_event raw (kept.Message by spoken) (snapshot u m t) reads is answers clean holds counted
+      noted = absurd is
+  by_event raw (kept.Snapshot version uri text answer) (message sent) reads is answers clean holds
+      counted noted = absurd is
+  by_event raw (kept.Snapshot version uri text answer) (fault side rule) reads is answers clean
+      holds counted noted = absurd is
+  by_event (content side bytes) (kept.Snapshot version uri text answer) (snapshot u m t) reads is
+      answers clean holds counted noted = absurd reads
+  by_event (broken side rule) (kept.Snapshot version uri text answer) (snapshot u m t) reads is
+      answers clean holds counted noted = absurd cc
+  by_event (show n name shown) (kept.Snapshot version uri text answer) (snapshot u m t) reads is
+      answers clean holds counted noted =
+      let same : snapshot u m t ≡ snapshot uri.now version (chars text.now) =
+      λ i. snapshot (is.0 i) (is.1 i) (is.2 i) in
+      snapshot_heard (show n name shown) uri.now (chars text.now) version answer
+      (subst (λ (e : Event). Reads (show n name shown) e) same reads) refl
+      (subst (λ (e : Event). offence terms before e ≡ None) same clean)
+      (subst (λ (e : Event). Holds new.events.session new.events.docs (before ++ e ∷ [])) same
+      holds)
+      (subst (λ (e : Event). AreCounts new.events.counts (events ++ e ∷ [])) same counted) answers
+      noted
+
+-- what was noted before is all that matters
+pub noted_after : (number : ℕ) (given : lent.Heard) (mid old new : Walk) → mid.notes ≡ old.notes
+    → mid.marks ≡ old.marks → mid.said ≡ old.said → NotesKept number given mid new
+    → NotesKept number given old new
+noted_after number (kept.Message side spoken) mid old new notes marks said noted =
+    let act : Act = act_view spoken.act in (
+      λ enc kind. subst (λ (w : Notes).
+          AreAfter None (call_of enc kind act) w.map.entries new.notes.map.entries) notes
+          (noted.0 enc kind),
+      λ enc kind. subst (λ (w : Marks).
+          DoneBy number (call_of enc kind act) w.map.entries new.marks.map.entries) marks
+          (noted.1 enc kind),
+      λ sents stands. subst (λ (w : SessionNotes).
+          SaysOn number side (message_view spoken.message) (phase sents) w new.said) said
+          (noted.2 sents stands),
+    )
+noted_after number (kept.Snapshot version uri text answer) mid old new notes marks said noted = (
+  noted.0 ∙ notes,
+  subst (λ (w : Marks).
+      ShownBy number uri.now version answer w.map.entries new.marks.map.entries) marks noted.1,
+  noted.2 ∙ said,
+)
+
+-- the next event was heard, kept and noted
+pub kept_heard : (raw : Raw) (old new : Walk) (notes : List Noted) (number : ℕ)
+    (given : lent.Heard) (m : session.State) (d : docs.State) (c : Counts) → Walks old notes
+    → number ≡ number_next (events_of notes) → d.terms ≡ old.events.docs.terms
+    → new.events.session ≡ m → new.events.docs ≡ d → new.events.counts ≡ c
+    → new.broken ≡ old.broken
+    → Keeps raw old.events.docs.terms old.events.counts given m d c
+    (kept_of old.events.docs.terms (events_of notes))
+    → NotesKept number given old new → Hears raw old.events.docs.terms new notes heard.Kept
+kept_heard raw old new notes number given m d c walks is_number terms_are same_m same_d same_c
+    is_broken k noted =
+    let events : List Event = events_of notes in
+    let before : List Event = kept_of old.events.docs.terms events in
+    by_event old new notes number walks is_number
+    (ap (λ (w : docs.State). w.terms) same_d ∙ terms_are) is_broken raw given k.event k.reads
+    k.is_heard k.answers k.clean
+    (subst (λ (w : session.State). Holds w new.events.docs (before ++ k.event ∷ [])) (sym same_m)
+    (subst (λ (w : docs.State). Holds m w (before ++ k.event ∷ [])) (sym same_d) k.holds))
+    (subst (λ (w : Counts). AreCounts w (events ++ k.event ∷ [])) (sym same_c)
+    (k.counted events walks.counted)) noted
+
+-- ---- an event that offends
+
+-- a walk whose events refused one is where it was
+pub still_walks : (old new : Walk) (notes : List Noted) → Walks old notes
+    → new.events.docs.terms ≡ old.events.docs.terms
+    → Holds new.events.session new.events.docs (kept_of old.events.docs.terms (events_of notes))
+    → new.events.counts ≡ old.events.counts → new.notes ≡ old.notes → new.broken ≡ old.broken
+    → new.marks ≡ old.marks → new.said ≡ old.said → Walks new notes
+still_walks old new notes walks terms_are holds counts notes_are is_broken marks said =
+    let terms : Terms = old.events.docs.terms in
+    let events : List Event = events_of notes in
+    subst (λ (t : Terms). WalksBy t new notes) (sym terms_are) (record {
+      holds = holds;
+      counted = subst (λ (c : Counts). AreCounts c events) (sym counts) walks.counted;
+      noted = λ uri. ap (λ (w : Notes). note_in w.map.entries uri) notes_are ∙ walks.noted uri;
+      is_broken = is_broken ∙ walks.is_broken;
+      marked = subst (λ (m : Marks). AreMarks terms m.map.entries events) (sym marks) walks.marked;
+      said = subst (λ (m : SessionNotes). AreNotes terms m events) (sym said) walks.said;
+    })
+
+module _ (old new : Walk) (notes : List Noted) (given : Heard) (walks : Walks old notes) where
+  -- a fault of the frames
+  pub frames_refused : (side : Side) (code rule : ℕ)
+      → IsRefused (broken side code) old.events.docs.terms notes (refused.Rule rule)
+      → PassesOver old new (who_of side) rule false (λ enc kind. None) (λ o. o ≡ what.Frames side)
+      given → Hears (broken side code) old.events.docs.terms new notes given
+  frames_refused side code rule is passes =
+      let n : Noted = record { event = fault side code; asks = false } in
+      passed_over (broken side code) old new notes n (who_of side) rule (λ enc kind. None) Utf16
+      Nothing (λ o. o ≡ what.Frames side) given walks (refl, refl) refl (ap rule_of (sym is)) refl
+      (λ o e. subst (IsOffending (broken side code) old.events.docs.terms
+      (kept_of old.events.docs.terms (events_of notes)) rule) (sym e) refl) passes
+
+  -- a content that is no message with a meaning
+  pub content_refused : (side : Side) (bytes : List ℕ) (rule : ℕ) (asks : Bool)
+      → IsRefused (content side bytes) old.events.docs.terms notes (refused.Rule rule)
+      → Asks (content side bytes) asks
+      → PassesOver old new (who_of side) rule asks (λ e k. None) (IsUnread side bytes) given
+      → Hears (content side bytes) old.events.docs.terms new notes given
+  content_refused side bytes rule asks reads asked passes =
       let n : Noted = record { event = fault side rule; asks = asks } in
-      passed_over (content side bytes) old mid new notes n (who_of side) rule (λ e k. None) enc kind
-      (IsUnread side bytes) given walks counts same broken_is marks_are said_are same_terms
-      holds (reads, asked) refl refl refl is_such passes
+      passed_over (content side bytes) old new notes n (who_of side) rule (λ e k. None) Utf16
+      Nothing (IsUnread side bytes) given walks (reads, asked) refl refl refl is_such passes
     where
       is_such : (o : Offending) → IsUnread side bytes o
-          → IsOffending (content side bytes) terms kept rule o
+          → IsOffending (content side bytes) old.events.docs.terms
+          (kept_of old.events.docs.terms (events_of notes)) rule o
       is_such (what.Frames by) u = absurd u
       is_such (what.Content by bytes') u = (u.0, u.1, reads)
       is_such (what.Message by spoken) u = absurd u
       is_such (what.Snapshot version uri text) u = absurd u
 
-  -- a message that offends
-  pub refused_heard : (rule : ℕ) (spoken : Spoken) → Holds mid.events.session mid.events.docs kept
-      → RefusesMessage side bytes (message_view spoken.message) (act_view spoken.act) terms kept
-      rule
-      → PassesOver mid new (who_of side) rule (asks_of side (message_view spoken.message))
+  -- a message
+  pub message_refused : (raw : Raw) (side : Side) (rule : ℕ) (spoken : Spoken)
+      → IsRefused raw old.events.docs.terms notes (refused.Message side rule spoken)
+      → PassesOver old new (who_of side) rule (asks_of side (message_view spoken.message))
       (λ e k. call_of e k (act_view spoken.act)) (λ o. o ≡ what.Message side spoken) given
-      → Hears (content side bytes) terms new notes given
-  refused_heard rule spoken holds refuses passes =
-      let sent = refuses.sent in
-      let n : Noted = record {
-        event = message sent;
-        asks =
-            asks_of side (message_view spoken.message);
-      } in
-      passed_over (content side bytes) old mid new notes n (who_of side) rule
-      (λ e k. call_of e k (act_view spoken.act)) enc kind (λ o. o ≡ what.Message side spoken)
-      given walks counts same broken_is marks_are said_are same_terms holds (
-        refuses.reads,
-        asks_said side bytes sent (message_view spoken.message) refuses.reads
-            refuses.says,
-      ) (ap who_of refuses.reads.by) refuses.offends
-      (ap (call_of enc kind) refuses.means)
-      (λ o e. subst (IsOffending (content side bytes) terms kept rule) (sym e) (refl, refuses))
-      passes
-
-  -- a message that is kept
-  pub message_heard : (said : Message) (act : Act)
-      → HearsContent side bytes said act terms mid.events.session mid.events.docs kept
-      → given ≡ heard.Kept → Counted mid new (who_of side) None false
-      → ((e : Encoding) (k : SyncKind)
-      → AreAfter None (call_of e k act) mid.notes.map.entries new.notes.map.entries)
-      → ((events : List Event) → AreCounts mid.events.counts events → (e : Encoding) (k : SyncKind)
-      → DoneBy (number_next events) (call_of e k act) mid.marks.map.entries new.marks.map.entries)
-      → ((events : List Event) (sents : List Sent) → AreCounts mid.events.counts events
-      → session.Stands mid.events.session sents
-      → SaysOn (number_next events) side said (phase sents) mid.said new.said)
-      → Hears (content side bytes) terms new notes given
-  message_heard said act hears is_kept counted noted does says =
-      let sent = hears.sent in
-      let events = events_of notes in
-      let are_counts = subst (λ (c : Counts). AreCounts c events) (sym counts) walks.counted in
-      let marks_before = subst (λ (m : Marks). AreMarks terms m.map.entries events) (sym marks_are)
-      walks.marked in
-      let notes_before = subst (λ (m : SessionNotes). AreNotes terms m events) (sym said_are)
-      walks.said in
-      let more : kept ++ message sent ∷ [] ≡ kept_of terms (events ++ message sent ∷ []) =
-      sym (kept-push terms events (message sent) hears.clean) in
-      let tells : SaysOn (number_next events) side said
-      (phase (sent_in (kept_of terms (events ++ message sent ∷ [])))) mid.said new.said =
-      subst (λ (es : List Event). SaysOn (number_next events) side said (phase (sent_in es))
-      mid.said new.said) more (says events (sent_in (kept ++ message sent ∷ [])) are_counts
-      hears.holds.sent) in
-      let n : Noted = record { event = message sent; asks = asks_of side said } in
-      kept_on (content side bytes) old mid new notes n (who_of side) 0 (λ e k. call_of e k act) enc
-      kind (λ o. Unit {0}) given walks counts same broken_is same_terms hears.holds
-      (hears.reads, asks_said side bytes sent said hears.reads hears.says)
-      (ap who_of hears.reads.by) hears.clean (ap (call_of enc kind) hears.means) is_kept counted
-      (noted enc kind)
-      (act_done terms mid.marks.map.entries new.marks.map.entries events sent (number_next events)
-      marks_before hears.clean refl
-      (λ e k. subst (λ (a : Act). DoneBy (number_next events) (call_of e k a) mid.marks.map.entries
-      new.marks.map.entries) (sym hears.means) (does events are_counts e k)))
-      (message_noted terms mid.said new.said events sent said (number_next events) notes_before
-      hears.clean refl hears.says
-      (subst (λ (by : Side). SaysOn (number_next events) by said
-      (phase (sent_in (kept_of terms (events ++ message sent ∷ [])))) mid.said new.said)
-      (sym hears.reads.by) tells))
-
--- ---- snapshots
-
-module _ (old mid new : Walk) (notes : List Noted) (number : ℤ) (uri text : List ℕ) (given : Heard)
-    (walks : Walks old notes)
-    (counts : mid.events.counts ≡ old.events.counts) (same : mid.notes ≡ old.notes)
-    (broken_is : mid.broken ≡ old.broken) (marks_are : mid.marks ≡ old.marks)
-    (said_are : mid.said ≡ old.said)
-    (same_terms : mid.events.docs.terms ≡ old.events.docs.terms) where
-  abbrev raw : Raw
-  raw = show number uri text
-
-  abbrev shown : Noted
-  shown = record { event = snapshot uri number (chars text); asks = false }
-
-  abbrev says : Encoding → SyncKind → Option Call
-  says e k = Some (shows uri number (chars text))
-
-  pub late_heard : (rule : ℕ)
-      → Holds mid.events.session mid.events.docs (kept_of old.events.docs.terms (events_of notes))
-      → rule_at old.events.docs.terms (events_of notes) shown.event ≡ Some rule
-      → PassesOver mid new who.Snapshot rule false says (IsShown number uri text) given
       → Hears raw old.events.docs.terms new notes given
-  late_heard rule holds is passes =
-      passed_over raw old mid new notes shown who.Snapshot rule says Utf16 Nothing
-      (IsShown number uri text) given walks counts same broken_is marks_are said_are same_terms
-      holds (refl, refl) refl is refl
-      (λ o is. is) passes
+  message_refused (content side bytes) by rule spoken (same, refuses) passes =
+      let terms : Terms = old.events.docs.terms in
+      let kept : List Event = kept_of terms (events_of notes) in
+      let enc = unwrap_or (encoding (sent_in kept)) Utf16 in
+      let kind = unwrap_or (sync_kind (sent_in kept)) Nothing in
+      let said = message_view spoken.message in
+      let sent = refuses.sent in
+      let n : Noted = record { event = message sent; asks = asks_of by said } in
+      let asked = subst (λ (s : Side). Asks (content side bytes) (asks_of s said)) (sym same)
+      (asks_said side bytes sent said refuses.reads refuses.says) in
+      passed_over (content side bytes) old new notes n (who_of by) rule
+      (λ e k. call_of e k (act_view spoken.act)) enc kind (λ o. o ≡ what.Message by spoken) given
+      walks (refuses.reads, asked) (ap who_of (refuses.reads.by ∙ sym same)) refuses.offends
+      (ap (call_of enc kind) refuses.means)
+      (λ o e. subst (IsOffending (content side bytes) terms kept rule) (sym e) (same, refuses))
+      passes
+  message_refused (broken side code) by rule spoken is passes = absurd cc
+  message_refused (show number uri text) by rule spoken is passes = absurd is
 
-  pub shown_heard : Holds mid.events.session mid.events.docs
-      (kept_of old.events.docs.terms (events_of notes) ++ shown.event ∷ [])
-      → rule_at old.events.docs.terms (events_of notes) shown.event ≡ None
-      → given ≡ heard.Kept → Counted mid new who.Snapshot None false
-      → AreAfter None (says Utf16 Nothing) mid.notes.map.entries new.notes.map.entries
-      → (answer : Match) → answer ≡ answer_of number
-      (kept_versions old.events.docs.terms uri
-      (calls (kept_of old.events.docs.terms (events_of notes))))
-      (held old.events.docs.terms uri (calls (kept_of old.events.docs.terms (events_of notes))))
-      → ((events : List Event) → AreCounts mid.events.counts events
-      → ShownBy (number_next events) uri number answer mid.marks.map.entries new.marks.map.entries)
-      → new.said ≡ mid.said → Hears raw old.events.docs.terms new notes given
-  shown_heard holds is is_kept counted noted answer answers does unsaid =
-      let terms = old.events.docs.terms in
-      let events = events_of notes in
-      kept_on raw old mid new notes shown who.Snapshot 0 says Utf16 Nothing (λ o. Unit {0}) given
-      walks counts same broken_is same_terms holds (refl, refl) refl is refl is_kept counted
-      noted
-      (shown_done terms mid.marks.map.entries new.marks.map.entries events uri number (chars text)
-      (number_next events) answer
-      (subst (λ (m : Marks). AreMarks terms m.map.entries events) (sym marks_are) walks.marked) is
-      refl answers
-      (does events (subst (λ (c : Counts). AreCounts c events) (sym counts) walks.counted)))
-      (other_unsaid terms new.said events shown.event
-      (subst (λ (m : SessionNotes). AreNotes terms m events) (sym (unsaid ∙ said_are))
-      walks.said) refl)
+  -- a snapshot
+  pub snapshot_refused : (number : ℤ) (uri text : List ℕ) (rule : ℕ)
+      → IsRefused (show number uri text) old.events.docs.terms notes (refused.Rule rule)
+      → PassesOver old new who.Snapshot rule false
+      (λ e k. Some (shows uri number (chars text))) (IsShown number uri text) given
+      → Hears (show number uri text) old.events.docs.terms new notes given
+  snapshot_refused number uri text rule offends passes =
+      let n : Noted = record { event = snapshot uri number (chars text); asks = false } in
+      passed_over (show number uri text) old new notes n who.Snapshot rule
+      (λ e k. Some (shows uri number (chars text))) Utf16 Nothing (IsShown number uri text) given
+      walks (refl, refl) refl offends refl (λ o is. is) passes

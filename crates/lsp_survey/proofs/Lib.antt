@@ -8,7 +8,6 @@ pub mod SessionSteps
 pub mod Waiting
 pub mod Passing
 pub mod Hearing
-pub mod OkParts
 pub mod FrameRules
 pub mod Rests
 pub mod Ending

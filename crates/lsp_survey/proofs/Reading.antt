@@ -1,23 +1,23 @@
 -- The events of a log against what is listed of it.
-use Rattle.std.specs.Prelude.{map, option_map, unwrap_or}
+use Rattle.std.specs.Prelude.{map, option_map}
 use Rattle.std.specs.List.{AllZip, cons_option}
 use Rattle.std.proofs.Common.{◌≡◌, ℕ, ◌+◌, ◌-◌, ◌<◌, ◌≤◌, ◌^◌, List, [], ◌∷◌, ◌++◌, length}
-use Rattle.std.proofs.Common.{length-append, Option, Some, None, Ok, Err, refl, sym, ap, subst, ◌∙◌}
+use Rattle.std.proofs.Common.{length-append, Option, Ok, Err, refl, sym, ap, subst, ◌∙◌}
 use Rattle.std.proofs.Common.{append_assoc, append-nil, arith}
 use Rattle.std.proofs.lemmas.List.{length-map}
 use Rattle.lsp_docs.specs.Terms.{Terms}
 use Rattle.lsp_frame.specs.Bounds.{Bounds, IsInRange}
 use Rattle.lsp_frame.specs.Told.{Told}
 use Rattle.lsp_frame.specs.declared.format.Format.{Format}
-use Rattle.lsp_frame.specs.declared.format.Format.TheVariants.{One}
 use Rattle.lsp_log.specs.Log.{Record, IsLog}
 use Rattle.lsp_log.specs.declared.fault.LogCode.{LogCode}
 use Rattle.lsp_streams.specs.LogEvents.{GoesBehind, HasGiven, NextIs, Opens, Reads}
-use Rattle.lsp_streams.specs.Streams.{Stands, raw_view}
+use Rattle.lsp_streams.specs.Streams.{Stands}
+use Rattle.lsp_verdict.specs.Lent.{raw_view}
 use Rattle.lsp_streams.specs.declared.log_events.End as log_end
 use Rattle.lsp_streams.specs.declared.log_events.LogEvents.{LogEvents}
 use Rattle.lsp_streams.specs.declared.log_events.Next.TheVariants as next
-use Rattle.lsp_streams.specs.declared.raw.Raw as lent
+use Rattle.lsp_verdict.specs.declared.raw.Raw as lent
 use Rattle.lsp_streams.proofs.Owning.{given_fault}
 use Rattle.lsp_streams.proofs.Pulling.{reads_failures, reads_given}
 use Rattle.lsp_types.specs.declared.side.Side.TheVariants.{Editor, Server}
@@ -31,7 +31,7 @@ use Rattle.lsp_survey.specs.declared.survey_reader.SurveyReader.{SurveyReader}
 use Rattle.lsp_verdict.specs.LookBack.{each_from}
 use Rattle.lsp_verdict.specs.Offences.{Noted, Offence, IsNoted, events_of, offence_at, offence_by}
 use Rattle.lsp_verdict.specs.Offences.{offences}
-use Rattle.lsp_verdict.specs.Outcome.{HasRest, ending, format_or_one, log_terms}
+use Rattle.lsp_verdict.specs.Outcome.{HasRest, ending, log_terms}
 use Rattle.lsp_verdict.specs.Placed.{Raw, content, broken, show, Placed, joined}
 use Rattle.lsp_verdict.specs.RunIo.{BreaksOff, OfRead}
 use Rattle.lsp_verdict.specs.Survey.{IsSurvey, by_itself, ends_listed}
@@ -232,15 +232,6 @@ nothing_heard limits e start now (records, due, reads) terms walks = record {
   terms_are = terms;
   lists = refl;
 }
-
--- by which its records are judged
-pub judged_by : (known asked : Option Format) (format : Format) → format ≡ unwrap_or asked One
-    → asked ≡ known → format ≡ format_or_one known
-judged_by known asked format is same = is ∙ ap (λ o. unwrap_or o One) same ∙ by_format known
-  where
-    by_format : (o : Option Format) → unwrap_or o One ≡ format_or_one o
-    by_format None = refl
-    by_format (Some f) = refl
 
 -- the log could not be opened
 pub unopened : (completeness : Completeness) (limits : Bounds) (start now : Told) (fault : RunFault)

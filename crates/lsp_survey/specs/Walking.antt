@@ -1,12 +1,21 @@
 -- What a walk over the events of a session holds, and how one more event is heard.
-use Rattle.std.specs.Prelude.{◌≡◌, ℕ, ℤ, List, [], ◌∷◌, ◌++◌, Bool, false, ◌&&◌, ◌||◌, Option, Some}
+use Rattle.std.specs.Prelude.{◌≡◌, ℕ, ℤ, List, [], ◌∷◌, ◌++◌, Bool, ◌&&◌, ◌||◌, Option, Some}
 use Rattle.std.specs.Prelude.{None, is_some, string_bytes}
 use Rattle.lsp_docs.specs.Calls.{Call}
 use Rattle.lsp_docs.specs.Terms.{Terms}
-use Rattle.lsp_events.specs.Standing.{Holds, RefusesMessage}
+use Rattle.lsp_docs.specs.declared.snapshot.Match.{Match}
+use Rattle.lsp_events.specs.Standing.{Holds, Refuses, RefusesMessage}
+use Rattle.lsp_events.specs.declared.fault.Refused.{Refused}
+use Rattle.lsp_events.specs.declared.heard.Heard as events
+use Rattle.lsp_events.specs.declared.heard.Heard.TheVariants as kept
+use Rattle.lsp_rpc.specs.Act.{Act}
+use Rattle.lsp_rpc.specs.Message.{Message}
 use Rattle.lsp_rpc.specs.View.{act_view, message_view}
-use Rattle.lsp_survey.specs.Marks.{AreMarks}
-use Rattle.lsp_survey.specs.SessionNoting.{AreNotes}
+use Rattle.lsp_session.specs.Handshake.{phase}
+use Rattle.lsp_session.specs.Sent.{Sent}
+use Rattle.lsp_session.specs.State.{Stands}
+use Rattle.lsp_survey.specs.Marks.{AreMarks, DoneBy, ShownBy}
+use Rattle.lsp_survey.specs.SessionNoting.{AreNotes, SaysOn}
 use Rattle.lsp_survey.specs.Notes.{note_in, note_of, AreAfter, is_noted_lost}
 use Rattle.lsp_survey.specs.declared.offending.Found.{Found}
 use Rattle.lsp_survey.specs.declared.offending.Heard.{Heard}
@@ -17,6 +26,7 @@ use Rattle.lsp_survey.specs.declared.walk.Walk.{Walk}
 use Rattle.lsp_types.specs.declared.change.SyncKind.{SyncKind}
 use Rattle.lsp_types.specs.declared.position.Encoding.{Encoding}
 use Rattle.lsp_types.specs.declared.side.Side.{Side}
+use Rattle.lsp_verdict.specs.Calls.{call_of}
 use Rattle.lsp_verdict.specs.Counting.{AreCounts}
 use Rattle.lsp_verdict.specs.Contents.{ReadsAs}
 use Rattle.lsp_verdict.specs.Event.{Event, fault}
@@ -47,19 +57,42 @@ Walks w notes = WalksBy w.events.docs.terms w notes
 
 -- ---- one more event
 
--- an event that offends by this rule, or is kept, breaks the handshake
-abbrev pub breaks_by : Option ℕ → Bool → Bool
-breaks_by None asks = false
-breaks_by (Some rule) asks = breaks_handshake asks rule
+-- the event was refused so after the kept ones of these
+abbrev pub IsRefused : Raw → Terms → List Noted → Refused → Type 0
+IsRefused raw terms before refused = Refuses raw terms (kept_of terms (events_of before)) refused
 
--- one more event of theirs was counted, which offends by this rule or is kept; the result of the
--- kept events is as it was
-pub record Counted (old new : Walk) (by : Who) (rule : Option ℕ) (asks : Bool) : Type 0 where
+-- a message of the side that is kept, the event of this number, was noted
+abbrev pub NotesMessage : ℕ → Side → Message → Act → Walk → Walk → Type 0
+NotesMessage number side said act old new =
+    ((enc : Encoding) (kind : SyncKind)
+    → AreAfter None (call_of enc kind act) old.notes.map.entries new.notes.map.entries)
+    × ((enc : Encoding) (kind : SyncKind)
+    → DoneBy number (call_of enc kind act) old.marks.map.entries new.marks.map.entries)
+    × ((sents : List Sent) → Stands new.events.session sents
+    → SaysOn number side said (phase sents) old.said new.said)
+
+-- a snapshot that is kept, the event of this number, was noted as it was answered
+abbrev pub NotesSnapshot : ℕ → List ℕ → ℤ → Match → Walk → Walk → Type 0
+NotesSnapshot number uri version answer old new =
+    (new.notes ≡ old.notes)
+    × ShownBy number uri version answer old.marks.map.entries new.marks.map.entries
+    × (new.said ≡ old.said)
+
+-- the event that is kept, of this number, was noted
+abbrev pub NotesKept : ℕ → events.Heard → Walk → Walk → Type 0
+NotesKept number (kept.Message side spoken) old new =
+    NotesMessage number side (message_view spoken.message) (act_view spoken.act) old new
+NotesKept number (kept.Snapshot version uri text answer) old new =
+    NotesSnapshot number uri.now version answer old new
+
+-- one more event of theirs was counted, which offends by this rule; the result of the kept events
+-- is as it was
+pub record Counted (old new : Walk) (by : Who) (rule : ℕ) (asks : Bool) : Type 0 where
   pub session : new.events.session ≡ old.events.session
   pub documents : new.events.docs ≡ old.events.docs
   pub counts : (events : List Event) (event : Event) → AreCounts old.events.counts events
       → whose event ≡ by → AreCounts new.events.counts (events ++ event ∷ [])
-  pub is_broken : new.broken ≡ (old.broken || breaks_by rule asks)
+  pub is_broken : new.broken ≡ (old.broken || breaks_handshake asks rule)
 
 -- the offence by this rule at the event of theirs that comes next, which speaks of a lost document
 -- or does not
@@ -88,7 +121,7 @@ pub record PassesOver (old new : Walk) (by : Who) (rule : ℕ) (asks : Bool)
   pub found : Found
   pub is_given : given ≡ heard.Offence found
   pub is_such : IsSuch found.offending
-  pub counted : Counted old new by (Some rule) asks
+  pub counted : Counted old new by rule asks
   pub noted : (enc : Encoding) (kind : SyncKind)
       → AreAfter (Some rule) (says enc kind) old.notes.map.entries new.notes.map.entries
   pub marks : new.marks ≡ old.marks

@@ -5,11 +5,6 @@ ghost use Rattle.lsp_docs.specs.Calls.{shows};
 ghost use Rattle.lsp_docs.specs.Terms.{terms_of};
 ghost use Rattle.lsp_events.specs.Standing.{Holds};
 ghost use Rattle.lsp_rpc.specs.View.{act_view, message_view};
-ghost use Rattle.lsp_session.specs.Handshake.{phase};
-ghost use Rattle.lsp_session.specs.Sent.{Sent};
-ghost use Rattle.lsp_session.specs.State.{Stands};
-ghost use Rattle.lsp_types.specs.declared.change.SyncKind.{SyncKind};
-ghost use Rattle.lsp_types.specs.declared.position.Encoding.{Encoding};
 ghost use Rattle.lsp_verdict.specs.Calls.{call_of};
 ghost use Rattle.lsp_verdict.specs.Counting.{AreCounts};
 ghost use Rattle.lsp_verdict.specs.Event.{Event};
@@ -19,26 +14,23 @@ ghost use Rattle.lsp_verdict.specs.Offences.{wants_handshake, wants_text};
 ghost use Rattle.lsp_verdict.specs.Placed as placed;
 ghost use Rattle.lsp_verdict.specs.Verdict as spec;
 ghost use Rattle.lsp_survey.specs.Marking.{number_next};
-ghost use Rattle.lsp_survey.specs.Marks.{DoneBy, ShownBy};
-ghost use Rattle.lsp_survey.specs.Notes.{AreAfter, asks_of};
-ghost use Rattle.lsp_survey.specs.SessionNoting.{SaysOn};
-ghost use Rattle.lsp_streams.specs.Streams.{raw_view};
+ghost use Rattle.lsp_survey.specs.Notes.{asks_of};
+ghost use Rattle.lsp_verdict.specs.Lent.{raw_view};
 ghost use Rattle.lsp_survey.specs.Ending.{lack_by};
-ghost use Rattle.lsp_survey.specs.Walking.{Counted, Hears, IsShown, IsUnread, PassesOver, Walks};
-ghost use Rattle.lsp_survey.specs.Walking.{offence_of};
+ghost use Rattle.lsp_survey.specs.Walking.{Counted, Hears, IsRefused, IsShown, IsUnread};
+ghost use Rattle.lsp_survey.specs.Walking.{NotesKept, NotesMessage, PassesOver, Walks, offence_of};
 
 use crate::notes::{
     Marks, Notes, SessionNotes, asks_again, asks_handshake, breaks_handshake, is_on_lost,
     note_kept_act, note_refused, note_refused_act, wants_handshake, wants_text,
 };
 use crate::offending::{Found, Heard, Offending};
-use lsp_docs::{DocFault, Match};
+use lsp_events as events;
 use lsp_events::{Events, Refused};
 use lsp_frame::{Format, Limits};
 use lsp_lined::Lined;
 use lsp_rpc::{Memory, Side, Spoken};
-use lsp_streams::Raw;
-use lsp_verdict::{Completeness, Counts, Offence, Who, who_of};
+use lsp_verdict::{Completeness, Counts, Offence, Raw, Who, who_of};
 use std::alloc::Global;
 
 /// The result of the events of a session, where each that offends is skipped.
@@ -77,10 +69,10 @@ impl Walk {
         ensures heard { IfOk result (λ heard. (before : List Noted) → Walks self.old before
             → Hears (raw_view raw.entry) self.old.events.docs.terms self.new before heard) }
     {
-        match raw {
-            Raw::Content { side, content } => self.content(alloc, side, content),
-            Raw::Broken { side, rule } => Ok(self.frames(side, rule)),
-            Raw::Snapshot { version, uri, text } => self.snapshot(alloc, version, uri, text),
+        let number = number_next(&self.events.counts);
+        match self.events.hear(raw) {
+            Ok(kept) => self.keep(number, kept),
+            Err(refused) => self.pass_over(alloc, raw, refused),
         }
     }
 
@@ -95,118 +87,90 @@ impl Walk {
         }
     }
 
-    /// Hears a content of a side.
-    fn content(&mut self, alloc: Global, side: Side, content: &[u8]) -> Result<Heard, Memory>
-        ensures terms { self.new.events.docs.terms ≡ self.old.events.docs.terms }
-        ensures heard { IfOk result (λ heard. (before : List Noted) → Walks self.old before
-            → Hears (placed.content side content.now) self.old.events.docs.terms self.new before
-            heard) }
+    /// Takes over the event of this number, which was heard and is kept.
+    fn keep(&mut self, number: u64, kept: events::Heard<'_>) -> Result<Heard, Memory>
+        ensures same { (self.new.events ≡ self.old.events) × (self.new.broken ≡ self.old.broken) }
+        ensures keeps { IfOk result (λ heard. (heard ≡ Heard.Kept)
+            × NotesKept number kept.entry self.old self.new) }
     {
-        match self.events.hear(alloc, side, content) {
-            Ok(spoken) => self.keep_message(side, spoken),
-            Err(Refused::Content(rule)) => self.refuse_content(alloc, side, rule, content),
-            Err(Refused::Message { rule, spoken }) => self.refuse_message(side, rule, spoken),
-            Err(Refused::Memory) => Err(Memory),
-        }
-    }
-
-    /// Hears a text that the editor showed.
-    fn snapshot(
-        &mut self,
-        alloc: Global,
-        version: i32,
-        uri: &str,
-        text: &str,
-    ) -> Result<Heard, Memory>
-        ensures terms { self.new.events.docs.terms ≡ self.old.events.docs.terms }
-        ensures heard { IfOk result (λ heard. (before : List Noted) → Walks self.old before
-            → Hears (placed.show version uri.now text.now) self.old.events.docs.terms self.new
-            before heard) }
-    {
-        match self.events.docs.snapshot(uri, version, text) {
-            Ok(answer) => self.keep_snapshot(uri, version, answer),
-            Err(DocFault::Rule(rule)) => self.refuse_snapshot(alloc, rule, version, uri, text),
-            Err(DocFault::Memory) => Err(Memory),
-        }
-    }
-
-    /// Hears a fault of the frames of a side.
-    fn frames(&mut self, side: Side, rule: u16) -> Heard
-        ensures terms { self.new.events.docs.terms ≡ self.old.events.docs.terms }
-        ensures heard { (before : List Noted) → Walks self.old before
-            → Hears (placed.broken side rule) self.old.events.docs.terms self.new before result }
-    {
-        let offence = self.refuse(rule, who_of(side), false, false);
-        Heard::Offence(Found {
-            offence,
-            offending: Offending::Frames(side),
-        })
-    }
-
-    /// Takes over a message that is kept.
-    fn keep_message(&mut self, side: Side, spoken: Spoken) -> Result<Heard, Memory>
-        ensures kept { IfOk result (λ heard. heard ≡ Heard.Kept) }
-        ensures terms { self.new.events.docs.terms ≡ self.old.events.docs.terms }
-        ensures counted { OnOk result (Counted self.old self.new (spec.who_of side) None false) }
-        ensures noted { OnOk result ((enc : Encoding) (kind : SyncKind)
-            → AreAfter None (call_of enc kind
-            (act_view spoken.act)) self.old.notes.map.entries self.new.notes.map.entries) }
-        ensures marked { OnOk result ((events : List Event)
-            → AreCounts self.old.events.counts events → (enc : Encoding) (kind : SyncKind)
-            → DoneBy (number_next events)
-            (call_of enc kind (act_view spoken.act)) self.old.marks.map.entries
-            self.new.marks.map.entries) }
-        ensures said { OnOk result ((events : List Event) (sents : List Sent)
-            → AreCounts self.old.events.counts events → Stands self.old.events.session sents
-            → SaysOn (number_next events) side (message_view spoken.message)
-            (phase sents) self.old.said self.new.said) }
-    {
-        let noted = self.note(side, &spoken);
-        drop(spoken);
+        let noted = self.note(number, &kept);
+        drop(kept);
         noted?;
-        self.events.counts.add(who_of(side));
         Ok(Heard::Kept)
     }
 
-    /// Notes a message that is kept.
-    fn note(&mut self, side: Side, spoken: &Spoken) -> Result<(), Memory>
+    /// Notes the event of this number, which was heard and is kept.
+    fn note(&mut self, number: u64, kept: &events::Heard<'_>) -> Result<(), Memory>
         ensures same { (self.new.events ≡ self.old.events) × (self.new.broken ≡ self.old.broken) }
-        ensures noted { OnOk result ((enc : Encoding) (kind : SyncKind)
-            → AreAfter None (call_of enc kind
-            (act_view spoken.now.act)) self.old.notes.map.entries self.new.notes.map.entries) }
-        ensures marked { OnOk result ((events : List Event)
-            → AreCounts self.old.events.counts events → (enc : Encoding) (kind : SyncKind)
-            → DoneBy (number_next events)
-            (call_of enc kind (act_view spoken.now.act)) self.old.marks.map.entries
-            self.new.marks.map.entries) }
-        ensures said { OnOk result ((events : List Event) (sents : List Sent)
-            → AreCounts self.old.events.counts events → Stands self.old.events.session sents
-            → SaysOn (number_next events) side (message_view spoken.now.message)
-            (phase sents) self.old.said self.new.said) }
+        ensures noted { OnOk result (NotesKept number kept.now self.old self.new) }
     {
-        let number = number_next(&self.events.counts);
+        match kept {
+            events::Heard::Message { side, spoken } => self.note_message(number, *side, spoken),
+            events::Heard::Snapshot {
+                version,
+                uri,
+                text: _,
+                answer,
+            } => {
+                let version = *version;
+                self.marks.keep_snapshot(number, *uri, version, *answer)
+            }
+        }
+    }
+
+    /// Notes the message of this number, which was heard and is kept.
+    fn note_message(&mut self, number: u64, side: Side, spoken: &Spoken) -> Result<(), Memory>
+        ensures same { (self.new.events ≡ self.old.events) × (self.new.broken ≡ self.old.broken) }
+        ensures noted { OnOk result (NotesMessage number side (message_view spoken.now.message)
+            (act_view spoken.now.act) self.old self.new) }
+    {
         let phase = self.events.session.phase();
         note_kept_act(&mut self.notes, &spoken.act)?;
         self.marks.keep_act(number, &spoken.act)?;
         self.said.keep(number, side, &spoken.message, phase)
     }
 
-    /// Takes over a snapshot that is kept, as it was answered.
-    fn keep_snapshot(&mut self, uri: &str, version: i32, answer: Match) -> Result<Heard, Memory>
-        ensures kept { IfOk result (λ heard. heard ≡ Heard.Kept) }
+    /// Skips the event that was refused so.
+    fn pass_over(&mut self, alloc: Global, raw: Raw<'_>, refused: Refused) -> Result<Heard, Memory>
         ensures terms { self.new.events.docs.terms ≡ self.old.events.docs.terms }
-        ensures notes { self.new.notes ≡ self.old.notes }
-        ensures said { self.new.said ≡ self.old.said }
-        ensures counted { OnOk result (Counted self.old self.new Who.Snapshot None false) }
-        ensures marked { OnOk result ((events : List Event)
-            → AreCounts self.old.events.counts events
-            → ShownBy (number_next events) uri.now version answer self.old.marks.map.entries
-            self.new.marks.map.entries) }
+        ensures heard { IfOk result (λ heard. (before : List Noted) → Walks self.old before
+            → IsRefused (raw_view raw.entry) self.old.events.docs.terms before refused
+            → Hears (raw_view raw.entry) self.old.events.docs.terms self.new before heard) }
     {
-        let number = number_next(&self.events.counts);
-        self.marks.keep_snapshot(number, uri, version, answer)?;
-        self.events.counts.add(Who::Snapshot);
-        Ok(Heard::Kept)
+        match refused {
+            Refused::Message { side, rule, spoken } => self.refuse_message(side, rule, spoken),
+            Refused::Rule(rule) => self.refuse_raw(alloc, rule, raw),
+            Refused::Memory => Err(Memory),
+        }
+    }
+
+    /// Skips the event that breaks this rule, and of which no message is known.
+    fn refuse_raw(&mut self, alloc: Global, rule: u16, raw: Raw<'_>) -> Result<Heard, Memory>
+        ensures terms { self.new.events.docs.terms ≡ self.old.events.docs.terms }
+        ensures heard { IfOk result (λ heard. (before : List Noted) → Walks self.old before
+            → IsRefused (raw_view raw.entry) self.old.events.docs.terms before (Refused.Rule rule)
+            → Hears (raw_view raw.entry) self.old.events.docs.terms self.new before heard) }
+    {
+        match raw {
+            Raw::Content { side, content } => self.refuse_content(alloc, side, rule, content),
+            Raw::Broken { side, .. } => Ok(self.refuse_frames(side, rule)),
+            Raw::Snapshot { version, uri, text } => {
+                self.refuse_snapshot(alloc, rule, version, uri, text)
+            }
+        }
+    }
+
+    /// Skips a fault of the frames of a side.
+    fn refuse_frames(&mut self, side: Side, rule: u16) -> Heard
+        ensures terms { self.new.events.docs.terms ≡ self.old.events.docs.terms }
+        ensures passes { PassesOver self.old self.new (spec.who_of side) rule false
+            (λ enc kind. None) (λ what. what ≡ Offending.Frames side) result }
+    {
+        let offence = self.refuse(rule, who_of(side), false, false);
+        Heard::Offence(Found {
+            offence,
+            offending: Offending::Frames(side),
+        })
     }
 
     /// Skips a message that offends by this rule.
@@ -278,7 +242,7 @@ impl Walk {
 
     /// Counts an event that offends by this rule, and gives its offence.
     fn refuse(&mut self, rule: u16, by: Who, asks: bool, on_lost: bool) -> Offence
-        ensures counted { Counted self.old self.new by (Some rule) asks }
+        ensures counted { Counted self.old self.new by rule asks }
         ensures notes { self.new.notes ≡ self.old.notes }
         ensures marks { self.new.marks ≡ self.old.marks }
         ensures said { self.new.said ≡ self.old.said }

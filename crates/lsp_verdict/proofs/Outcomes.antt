@@ -1,10 +1,12 @@
 -- Records have one verdict.
 use Rattle.std.proofs.Common.{◌≡◌, ℕ, List, [], ◌∷◌, ◌++◌, refl, sym, ap, subst, ◌∙◌, append_assoc, Option, Some}
+use Rattle.std.proofs.Common.{None}
 use Rattle.std.specs.Prelude.{if◌then◌else◌, unwrap_or}
 use Rattle.std.specs.Option.{option_or}
 use Rattle.std.specs.List.{AllZip}
 use Rattle.lsp_frame.specs.Bounds.{Bounds}
 use Rattle.lsp_frame.specs.declared.format.Format.{Format}
+use Rattle.lsp_frame.specs.declared.format.Format.TheVariants.{One}
 use Rattle.lsp_types.specs.declared.side.Side.{Side}
 use Rattle.lsp_types.specs.declared.side.Side.TheVariants.{Editor, Server}
 use Rattle.lsp_session.specs.Sent.{same_side}
@@ -13,7 +15,7 @@ use Rattle.lsp_log.specs.Log.{Record, chunk, shown}
 use Rattle.lsp_log.specs.declared.fault.LogCode.{LogCode}
 use Rattle.lsp_verdict.specs.Event.{Event}
 use Rattle.lsp_verdict.specs.Laws.{merged, put, CutsLeaveVerdict}
-use Rattle.lsp_verdict.specs.Outcome.{HasRest, ending, IsFinal, Offends}
+use Rattle.lsp_verdict.specs.Outcome.{HasRest, ending, format_or_one, IsFinal, Offends}
 use Rattle.lsp_verdict.specs.Placed.{Raw, show, Reads, PlacedAfter, IsSession, joined}
 use Rattle.lsp_verdict.specs.Verdict.{Verdict, Ending, first_no, verdict, yes, summary, bad_log_of, rest_of}
 use Rattle.lsp_verdict.proofs.Below.{one_stream}
@@ -106,3 +108,14 @@ offends_final limits format rs more fault v w p q =
     let cut = session_front limits rs more p.events q.events p.session q.session in
     sym (says_no (terms_of limits format) q.events (ending fault q.editor q.server) v
     (ap (first_no (terms_of limits format)) cut.1 ∙ first_of-more _ p.events cut.0 v p.offends)) ∙ q.says
+
+-- ---- the format of a log
+
+-- by which its records are judged
+pub judged_by : (known asked : Option Format) (format : Format) → format ≡ unwrap_or asked One
+    → asked ≡ known → format ≡ format_or_one known
+judged_by known asked format is same = is ∙ ap (λ o. unwrap_or o One) same ∙ by_format known
+  where
+    by_format : (o : Option Format) → unwrap_or o One ≡ format_or_one o
+    by_format None = refl
+    by_format (Some f) = refl

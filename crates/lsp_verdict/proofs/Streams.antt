@@ -1,7 +1,5 @@
 -- The stream of no bytes, and of more bytes.
 pub mod Joined
-pub mod Drained
-pub mod Due
 use Rattle.std.proofs.Common.{ℕ, List, [], ◌++◌, None, inl, inr, refl, subst, ap, length, arith}
 use Rattle.std.specs.Prelude.{map}
 use Rattle.std.proofs.lemmas.List.{length-append}

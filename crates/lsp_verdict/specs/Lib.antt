@@ -15,10 +15,10 @@ pub mod RunIo
 pub mod StreamReport
 pub mod Shown
 pub mod Given
+pub mod Lent
 pub mod TextAfter
 pub mod Interleaving
 pub mod Counting
-pub mod Drained
 pub mod Entries
 pub mod Upgraded
 pub mod Complete

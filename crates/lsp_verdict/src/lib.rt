@@ -18,6 +18,7 @@ mod names;
 mod offence;
 mod offence_laws;
 mod outcome;
+mod raw;
 mod report;
 mod texts;
 mod verdict;
@@ -47,5 +48,6 @@ pub use offence_laws::{
     nothing_listed, one_survey, some_survey, survey_agrees,
 };
 pub use outcome::{Mode, Outcome, RunFault, StreamFault};
+pub use raw::Raw;
 pub use report::{frame_report, report_of, stream_report, verdict_report};
 pub use verdict::{OpenDocument, Summary, Verdict, Who, who_of};

@@ -1,4 +1,4 @@
--- How a log without a fault ends, behind events that were counted.
+-- How a log without a fault ends, after events that were counted.
 use Rattle.std.specs.Option.{option_or}
 use Rattle.std.proofs.Common.{◌≡◌, List, [], ◌∷◌, ◌++◌, Bool, true, false, Option, Some, None, refl}
 use Rattle.std.proofs.Common.{sym, ap, subst, ◌∙◌}

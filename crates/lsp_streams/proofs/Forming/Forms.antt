@@ -1,4 +1,4 @@
--- The records of events, behind others and behind a fault of the frames.
+-- The records of events, after others and after a fault of the frames.
 use Rattle.std.specs.Prelude.{map, filter}
 use Rattle.std.specs.List.{flat_map}
 use Rattle.std.proofs.Common.{◌≡◌, ℕ, suc, ◌+◌, List, [], ◌∷◌, ◌++◌, length, Option, Some, None}

@@ -1,6 +1,5 @@
 -- The normal form of a log, against that of the events that were given.
 use Rattle.std.specs.Option.{option_or}
-use Rattle.std.specs.Prelude.{unwrap_or}
 use Rattle.std.proofs.Common.{◌≡◌, ℕ, ◌+◌, ◌-◌, ◌<◌, List, [], ◌∷◌, ◌++◌, length, map, Option, Some}
 use Rattle.std.proofs.Common.{None, Ok, Err, refl, sym, ap, subst, ◌∙◌, append_assoc, append-nil}
 use Rattle.std.proofs.Common.{arith}
@@ -9,22 +8,21 @@ use Rattle.lsp_frame.specs.Bounds.{Bounds}
 use Rattle.lsp_frame.specs.Sink.{Wrote, Stopped}
 use Rattle.lsp_frame.specs.Told.{Told}
 use Rattle.lsp_frame.specs.declared.format.Format.{Format}
-use Rattle.lsp_frame.specs.declared.format.Format.TheVariants.{One}
 use Rattle.lsp_frame.proofs.Telling.{took_nothing, took_then}
 use Rattle.lsp_frame.proofs.Writing.{wrote_nothing, wrote_then}
 use Rattle.lsp_log.specs.Log.{Record, first_line}
 use Rattle.lsp_log.specs.declared.fault.LogCode.{LogCode}
 use Rattle.lsp_streams.specs.LogEvents as log_events
-use Rattle.lsp_streams.specs.LogEvents.{Gives, HasGiven, IsLogOf, Opens, Reads, flaw_of}
+use Rattle.lsp_streams.specs.LogEvents.{Gives, HasGiven, IsLogOf, Opens, flaw_of}
 use Rattle.lsp_streams.specs.Normal.{form_of, fault_of, EndsNormal, BeginsNormal, IsNormal}
 use Rattle.lsp_streams.specs.NormalSteps.{mark, CarriesCapped, spelled, IsLate, EndsLog, EndsWhole}
 use Rattle.lsp_streams.specs.NormalSteps.{WritesEvent, SoFar, Ended, BrokeOff}
-use Rattle.lsp_streams.specs.Streams.{raw_view}
+use Rattle.lsp_verdict.specs.Lent.{raw_view}
 use Rattle.lsp_streams.specs.declared.log_events.End.{End}
 use Rattle.lsp_streams.specs.declared.log_events.End.TheVariants.{Sound, Bad}
 use Rattle.lsp_streams.specs.declared.log_events.LogEvents.{LogEvents}
 use Rattle.lsp_streams.specs.declared.log_events.Next.TheVariants as next
-use Rattle.lsp_streams.specs.declared.raw.Raw as code
+use Rattle.lsp_verdict.specs.declared.raw.Raw as code
 use Rattle.lsp_verdict.specs.Counting.{AreCounts}
 use Rattle.lsp_types.specs.declared.side.Side.TheVariants.{Editor, Server}
 use Rattle.lsp_verdict.specs.Outcome.{HasRest, ending, format_or_one}
@@ -47,16 +45,6 @@ use Rattle.lsp_streams.proofs.Forming.Forms.{one_broken, one_sound, spelled_behi
 use Rattle.lsp_streams.proofs.Forming.OneForm.{broken_normal, due_first}
 use Rattle.lsp_streams.proofs.Pulling.{log_of, reads_failures, reads_given}
 
--- a log of no format is written as one of format 1
-pub one_or_format : (known : Option Format) (o : Option Format) (format : Format) → o ≡ known
-    → format ≡ unwrap_or o One → format_or_one known ≡ format
-one_or_format known o format same is =
-    sym (is ∙ ap (λ (p : Option Format). unwrap_or p One) same ∙ by_format known)
-  where
-    by_format : (p : Option Format) → unwrap_or p One ≡ format_or_one p
-    by_format None = refl
-    by_format (Some f) = refl
-
 -- ---- an outcome, and a fault
 
 -- an outcome that carries a fault is not `Done`
@@ -72,7 +60,7 @@ late_source faults.Read n late = absurd late
 late_source faults.Write n late = refl
 late_source faults.Memory n late = refl
 
--- a fault behind what was written
+-- a fault after what was written
 failures_along : (fault : RunFault) (a b c : ℕ) → b ≡ a → c ≡ sink_failures_after fault b
     → c ≡ sink_failures_after fault a
 failures_along fault a b c same is = is ∙ ap (sink_failures_after fault) same
@@ -140,7 +128,7 @@ none_formed limits e counts start now old (records, due, reads) counted =
 module _ (limits : Bounds) (format : Option Format) (old new : LogEvents) (counts : Counts)
     (start before now sink_before sink_now : Told)
     (so : SoFar limits format old counts start before sink_before sink_now) where
-  -- its records are written behind those before
+  -- its records are written after those before
   wrote_more : (raw : Raw) (sink_new : Told)
       → Wrote sink_now sink_new (spelled limits.chunk (raw ∷ []))
       → Wrote sink_before sink_new (spelled limits.chunk (so.given ++ raw ∷ []))
@@ -307,7 +295,7 @@ module _ (limits : Bounds) (format : Option Format) (old new : LogEvents) (count
         form : List ℕ
         form = form_of (format_or_one format) limits.chunk so.given
 
-        -- the normal form of a log of these records, behind which it ends
+        -- the normal form of a log of these records, after which it ends
         normal_of : (log : List ℕ) (editor server : List ℕ)
             → IsLogOf new.log limits records (flaw_of end) log
             → HasRest limits (joined Editor records) editor

@@ -32,7 +32,7 @@ same_parts limits mode stream p q a b x y =
     same.contents x.runs_through))
     y.runs_through
 
--- all that is due begins with the parts, and goes on with what stands behind them
+-- all that is due begins with the parts, and goes on with what comes after them
 pub due_is : (limits : Bounds) (mode : Mode) (stream parts out : List ℕ) (a b : Outcome)
     → HasParts limits mode stream parts a → IsRun limits mode stream out b
     → out ≡ parts ++ closing mode a

@@ -1,4 +1,4 @@
--- A run with what stands behind its parts.
+-- A run with what comes after its parts.
 use Rattle.std.proofs.Common.{◌≡◌, ℕ, ◌+◌, ◌<◌, List, [], ◌∷◌, ◌++◌, length, Bool, true, false}
 use Rattle.std.proofs.Common.{Option, Some, None, Err, replicate, refl, sym, subst, ◌∙◌}
 use Rattle.std.proofs.Common.{append_assoc, arith, inl, inr}
@@ -44,14 +44,14 @@ ran limits mode before after sink_before sink_mid sink_after outcome parts close
   read_map limits before after _ _ (λ stream has. (parts.parts, has, refl)) parts.due,
 )
 
--- what is due behind the parts goes on as what is written does
+-- what is due after the parts goes on as what is written does
 due_on : (limits : Bounds) (mode : Mode) (stream parts written left : List ℕ) (outcome : Outcome)
     → parts ++ closing mode outcome ≡ written ++ left → HasParts limits mode stream parts outcome
     → BeginsRun limits mode stream written
 due_on limits mode stream parts written left outcome whole has =
     λ out other run. (left, due_is limits mode stream parts out outcome other has run ∙ whole)
 
--- a prefix of what stands behind the parts was written
+-- a prefix of what comes after the parts was written
 closing_stopped : (limits : Bounds) (mode : Mode)
     (before after sink_before sink_mid sink_after : Told) (outcome : Outcome)
     → WroteParts limits mode before after sink_before sink_mid outcome
@@ -67,7 +67,7 @@ closing_stopped limits mode before after sink_before sink_mid sink_after outcome
           parts.due,
     )
 
--- nothing of what stands behind the parts was written
+-- nothing of what comes after the parts was written
 closing_refused : (limits : Bounds) (mode : Mode) (before after sink_before sink_after : Told)
     (outcome : Outcome) → WroteParts limits mode before after sink_before sink_after outcome
     → BeganRun limits mode before after sink_before sink_after
@@ -98,7 +98,7 @@ broken limits mode before after sink_before sink_after fault off = (
   },
 )
 
--- a run stopped behind the parts
+-- a run stopped after the parts
 pub closing_cut : (limits : Bounds) (mode : Mode)
     (before after sink_before sink_mid sink_after : Told) (outcome : Outcome) (fault : RunFault)
     → WroteParts limits mode before after sink_before sink_mid outcome

@@ -1,4 +1,4 @@
--- A line of two numbers that was filled from behind.
+-- A line of two numbers that was filled from its end.
 use Rattle.std.specs.Prelude.{codes, decimal}
 use Rattle.std.proofs.Common.{◌≡◌, ℕ, ◌+◌, ◌-◌, ◌≤◌, List, [], ◌∷◌, ◌++◌, length, take, drop, set}
 use Rattle.std.proofs.Common.{replicate, refl, ap, ◌∙◌, length-drop, arith}

@@ -115,7 +115,7 @@ parts_push mode frame (c ∷ cs) content parts part a is =
     (plus_more frame (length cs)) is) in
     (a.0, a.1 ++ part, a.2, others, ap (λ (w : List ℕ). w ++ part) a.4 ∙ append_assoc a.0 a.1 part)
 
--- where each content has a part, the fault behind them stands
+-- where each content has a part, the fault after them stands
 pub run_through : (mode : Mode) (frame : ℕ) (contents : List (List ℕ)) (fault : Option StreamFault)
     (parts : List ℕ) (at : ℕ) → at ≡ frame + length contents → AreParts mode frame contents parts
     → RunsThrough mode frame contents fault parts (outcome_at at fault)
@@ -130,7 +130,7 @@ run_through mode frame (c ∷ cs) fault parts at is are =
       are.4,
     )
 
--- a content that is refused behind them ends the run
+-- a content that is refused after them ends the run
 pub run_refused : (mode : Mode) (frame : ℕ) (contents : List (List ℕ)) (content : List ℕ)
     (more : List (List ℕ)) (fault : Option StreamFault) (parts : List ℕ) (rule at : ℕ)
     → at ≡ frame + length contents → AreParts mode frame contents parts → Refuses mode content rule

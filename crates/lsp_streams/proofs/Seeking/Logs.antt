@@ -12,7 +12,7 @@ use Rattle.lsp_streams.specs.Event.{content_at, outcome_of, outcome_at, event_at
 use Rattle.lsp_streams.specs.Event.{BeginsEvent}
 use Rattle.lsp_streams.specs.EventSteps.{Answers, Finds, Found, HasPassed, IsOfEnd}
 use Rattle.lsp_streams.specs.LogEvents.{Ended, Gives, HasGiven, IsLogOf, Opens, Reads, flaw_of}
-use Rattle.lsp_streams.specs.Streams.{raw_view}
+use Rattle.lsp_verdict.specs.Lent.{raw_view}
 use Rattle.lsp_streams.specs.declared.event.Answer.{Answer}
 use Rattle.lsp_streams.specs.declared.event.EventOutcome.{EventOutcome}
 use Rattle.lsp_streams.specs.declared.event.EventOutcome.TheVariants.{FewerEvents}
@@ -20,7 +20,7 @@ use Rattle.lsp_streams.specs.declared.log_events.End.{End}
 use Rattle.lsp_streams.specs.declared.log_events.End.TheVariants.{Sound, Bad}
 use Rattle.lsp_streams.specs.declared.log_events.LogEvents.{LogEvents}
 use Rattle.lsp_streams.specs.declared.log_events.Next.TheVariants as next
-use Rattle.lsp_streams.specs.declared.raw.Raw as code
+use Rattle.lsp_verdict.specs.declared.raw.Raw as code
 use Rattle.lsp_verdict.specs.Placed.{Raw, content, broken, show}
 use Rattle.lsp_verdict.specs.RunIo.{OfRead, BreaksOff, failures_after}
 use Rattle.lsp_verdict.specs.declared.outcome.RunFault.{RunFault}

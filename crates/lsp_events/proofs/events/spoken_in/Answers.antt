@@ -4,8 +4,8 @@ use Rattle.lsp_events.proofs.Apart.{heard}
 use Rattle.lsp_events.proofs.Hearing.{unspoken}
 use Rattle.lsp_events.proofs.events.spoken_in.Goals as goal
 
-pub returns-in_err-spoken-clause-refused : goal.returns-in_err-spoken-clause-refused
-returns-in_err-spoken-clause-refused c =
+pub returns-in_err-spoken-clause-rule : goal.returns-in_err-spoken-clause-rule
+returns-in_err-spoken-clause-rule c =
     let p = err_from_is_err_and c.from_residual.result c.from_residual.ensures.1 in
     rw p.1 (λ terms events. rw p.2
     (unspoken c.args.side c.args.content.now terms events _ c.in_err-spoken.ensures.rule))

@@ -1,9 +1,10 @@
-use Rattle.std.proofs.Common.{sym, subst}
+use Rattle.std.proofs.Common.{subst}
 use Rattle.std.proofs.lemmas.Result.{err_from_is_err_and}
 use Rattle.lsp_frame.specs.Sink.{Wrote, Stopped}
 use Rattle.lsp_frame.specs.declared.format.Format.{Format}
 use Rattle.lsp_log.specs.Log.{first_line}
-use Rattle.lsp_streams.proofs.Forming.Logs.{head_cut, none_read, one_or_format}
+use Rattle.lsp_verdict.proofs.Outcomes.{judged_by}
+use Rattle.lsp_streams.proofs.Forming.Logs.{head_cut, none_read}
 use Rattle.lsp_streams.proofs.normal.write_normal.Goals as goal
 
 pub write_events-requires : goal.write_events-requires
@@ -21,9 +22,8 @@ returns-in_err-write_head_of g c =
     let sink = g.W.Sink.told c.args.writer.now in
     let new = g.W.Sink.told c.write_head_of.new.writer in
     let events = c.in_ok-events.events in
-    let format = one_or_format events.log.format c.format.result c.unwrap_or.result c.format.ensures
-    c.unwrap_or.ensures in
-    let stopped = subst (λ (f : Format). Stopped sink new (first_line f)) (sym format)
+    let format = judged_by _ _ _ c.unwrap_or.ensures c.format.ensures in
+    let stopped = subst (λ (f : Format). Stopped sink new (first_line f)) format
     c.in_err-write_head_of.ensures in
     rw (p.1, p.2) (head_cut c.args.limits events _ _ sink new c.in_ok-events.ensures.ok stopped)
 
@@ -32,8 +32,7 @@ returns g c =
     let sink = g.W.Sink.told c.args.writer.now in
     let mid = g.W.Sink.told c.write_head_of.new.writer in
     let events = c.in_ok-events.events in
-    let format = one_or_format events.log.format c.format.result c.unwrap_or.result c.format.ensures
-    c.unwrap_or.ensures in
-    let head = subst (λ (f : Format). Wrote sink mid (first_line f)) (sym format)
+    let format = judged_by _ _ _ c.unwrap_or.ensures c.format.ensures in
+    let head = subst (λ (f : Format). Wrote sink mid (first_line f)) format
     c.in_ok-write_head_of.ensures in
     c.write_events.ensures _ sink c.in_ok-events.ensures.ok head

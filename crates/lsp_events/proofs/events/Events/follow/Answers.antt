@@ -26,8 +26,8 @@ returns-in_err-admit-clause-rule g c =
     (rule_named (sent_in events) c.args.side act left h.whole _ carries (c.in_err-admit.ensures.rule (sent_in events) holds.sent))
     (whole_left h.said h.whole left h.rest (sent_in events) (h.apart.read (sent_in events) holds.sent))))
 
-pub returns-in_err-admit-clause-unchanged : goal.returns-in_err-admit-clause-unchanged
-returns-in_err-admit-clause-unchanged g c =
+pub returns-in_err-admit-clause-err : goal.returns-in_err-admit-clause-err
+returns-in_err-admit-clause-err g c =
     let p = err_from_is_err_and c.from_residual.result c.from_residual.ensures.1 in
     rw p.1 (λ content events h holds.
     record {
@@ -50,8 +50,8 @@ returns-in_err-apply-clause-rule g c =
     _ (c.in_err-apply.ensures.rule (calls events) holds.called)
     (whole_left h.said h.whole left h.rest (sent_in events) (h.apart.read (sent_in events) holds.sent))))
 
-pub returns-in_err-apply-clause-unchanged : goal.returns-in_err-apply-clause-unchanged
-returns-in_err-apply-clause-unchanged g c =
+pub returns-in_err-apply-clause-err : goal.returns-in_err-apply-clause-err
+returns-in_err-apply-clause-err g c =
     let p = err_from_is_err_and c.from_residual-in_err-apply.result c.from_residual-in_err-apply.ensures.1 in
     let left = message_view c.args.spoken.now.message in
     let act = act_view c.args.spoken.now.act in

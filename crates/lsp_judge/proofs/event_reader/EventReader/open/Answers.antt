@@ -2,7 +2,7 @@ use Rattle.std.proofs.Common.{◌∙◌, ap}
 use Rattle.std.proofs.lemmas.Result.{err_from_is_err_and}
 use Rattle.lsp_docs.specs.Terms.{terms_of}
 use Rattle.lsp_judge.proofs.LogEvents.{nothing_heard, unopened}
-use Rattle.lsp_judge.proofs.Records.{judged_by}
+use Rattle.lsp_verdict.proofs.Outcomes.{judged_by}
 use Rattle.lsp_judge.proofs.event_reader.EventReader.open.Goals as goal
 
 pub returns-in_err-log-clause-answer : goal.returns-in_err-log-clause-answer

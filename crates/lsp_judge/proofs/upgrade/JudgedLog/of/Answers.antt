@@ -1,5 +1,5 @@
 use Rattle.std.proofs.Common.{◌∙◌}
-use Rattle.lsp_judge.proofs.Records.{judged_by}
+use Rattle.lsp_verdict.proofs.Outcomes.{judged_by}
 use Rattle.lsp_judge.proofs.upgrade.JudgedLog.of.Goals as goal
 
 pub returns-clause-format : goal.returns-clause-format

@@ -2,8 +2,8 @@ use Rattle.std.proofs.Common.{ap, ◌∙◌, w32, rules}
 use Rattle.std.proofs.lemmas.Int.{to_z-of_z}
 use mir.Val.{SFits}
 use Rattle.lsp_frame.specs.Decoder.{State}
-use Rattle.lsp_verdict.proofs.Streams.Drained.{pushed_limits}
-use Rattle.lsp_streams.proofs.Streaming.{editor_pushed, server_pushed, shown_pushed, pushed_fault}
+use Rattle.lsp_streams.proofs.Streaming.{editor_pushed, pushed_fault, pushed_limits, server_pushed}
+use Rattle.lsp_streams.proofs.Streaming.{shown_pushed}
 use Rattle.lsp_streams.proofs.streams.Streams.push.Goals as goal
 
 pub returns-in_ok-push_owned-in-Bytes-Editor-default-clause-ok :

@@ -1,6 +1,7 @@
 use Rattle.std.proofs.Common.{◌∙◌, ap}
 use Rattle.lsp_docs.specs.Terms.{terms_of}
-use Rattle.lsp_survey.proofs.Reading.{judged_by, nothing_heard}
+use Rattle.lsp_verdict.proofs.Outcomes.{judged_by}
+use Rattle.lsp_survey.proofs.Reading.{nothing_heard}
 use Rattle.lsp_survey.proofs.survey_reader.SurveyReader.open.Goals as goal
 
 pub returns-clause-fresh : goal.returns-clause-fresh

@@ -1,4 +1,8 @@
 //! An event of a session before its content is read.
+ghost use Rattle.std.specs.Prelude.{◌≡◌};
+ghost use Rattle.lsp_verdict.specs.Lent.{raw_view, whose_raw};
+
+use crate::verdict::{Who, who_of};
 use lsp_rpc::Side;
 
 /// An event before its content is read, lent from where it is held.
@@ -20,4 +24,17 @@ pub enum Raw<'a> {
         uri: &'a str,
         text: &'a str,
     },
+}
+
+impl Raw<'_> {
+    /// Whose event it is.
+    pub fn who(&self) -> Who
+        ensures { result ≡ whose_raw (raw_view self.now) }
+    {
+        match self {
+            Raw::Content { side, .. } => who_of(*side),
+            Raw::Broken { side, .. } => who_of(*side),
+            Raw::Snapshot { .. } => Who::Snapshot,
+        }
+    }
 }
