@@ -8,6 +8,7 @@ ghost use Rattle.lsp_command.specs.Beginnings.{kept};
 ghost use Rattle.lsp_command.specs.Ports.{first_bytes, input_error};
 
 use crate::beginning::Beginning;
+use crate::pace::Supply;
 use crate::tally::Tally;
 use lsp_frame::{Failed, Source};
 use std::alloc::{AllocError, Global};
@@ -18,17 +19,18 @@ use std::io::{BufRead, BufReader, Read};
 const GATHERED: usize = 65_536;
 
 /// A source over a reader of std, which reads ahead. It keeps what the reader gave first, and the
-/// error by which it last failed.
+/// error by which it last failed, and notes whether anything is left of what was read ahead.
 #[derive(Drop)]
-pub struct Inlet<R> {
+pub struct Inlet<'a, R> {
     reader: BufReader<R>,
     beginning: Beginning,
     tally: Tally,
+    supply: &'a Supply,
 }
 
-impl<R: Read + Drop> Inlet<R> {
+impl<'a, R: Read + Drop> Inlet<'a, R> {
     /// A source that has not failed and gave nothing yet.
-    pub fn new(alloc: Global, reader: R) -> Result<Inlet<R>, AllocError>
+    pub fn new(alloc: Global, reader: R, supply: &'a Supply) -> Result<Inlet<'a, R>, AllocError>
         ensures remaining { IfOk result (λ inlet.
             Consumes (R.remaining reader) (⟦<Inlet<R> as Source>⟧.told inlet).bytes []) }
         ensures first { IfOk result (λ inlet. first_bytes inlet ≡ []) }
@@ -39,6 +41,7 @@ impl<R: Read + Drop> Inlet<R> {
             reader: BufReader::with_capacity(alloc, GATHERED, reader).map_err(|_| AllocError)?,
             beginning: Beginning::new(),
             tally: Tally::new(),
+            supply,
         })
     }
 
@@ -58,7 +61,7 @@ impl<R: Read + Drop> Inlet<R> {
     }
 }
 
-impl<R: Read> Source for Inlet<R> {
+impl<R: Read> Source for Inlet<'_, R> {
     ghost told = { λ s. record {
       bytes = ⟦<BufReader<R> as Read>⟧.remaining s.reader;
       count = s.tally.bytes;
@@ -85,6 +88,7 @@ impl<R: Read> Source for Inlet<R> {
         ensures same_first { OnErr result (first_bytes self.new ≡ first_bytes self.old) }
     {
         let answer = self.reader.read(buffer);
+        self.supply.note(self.reader.buffer().len());
         let count = self.tally.count(answer)?;
         self.beginning.keep(&buffer[..count]);
         Ok(count)
@@ -119,13 +123,14 @@ impl<R: Read> Source for Inlet<R> {
         buffer.extend_from_slice(ahead).unwrap();
         self.beginning.keep(ahead);
         self.reader.consume(count);
+        self.supply.note(self.reader.buffer().len());
         self.tally.count(Ok(count))
     }
 }
 
 /// Appends what one call of the input gives, at most so many bytes and [`GATHERED`].
 fn pull_fresh<R: Read>(
-    inlet: &mut Inlet<R>,
+    inlet: &mut Inlet<'_, R>,
     buffer: &mut Vec<u8>,
     most: usize,
 ) -> Result<usize, Failed>

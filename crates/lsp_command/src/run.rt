@@ -74,8 +74,8 @@ pub fn run_task<R: Source, W: Sink>(
 pub fn run_through<R: Read + Drop, W: Write + Drop>(
     alloc: Global,
     task: Task<'_>,
-    inlet: &mut Inlet<R>,
-    outlet: &mut Outlet<W>,
+    inlet: &mut Inlet<'_, R>,
+    outlet: &mut Outlet<'_, W>,
     limits: Limits,
 ) -> Result<TaskOutcome, RunFault>
     ensures ran { RanThrough limits task.entry (record {
