@@ -32,10 +32,10 @@ impl<'a, R: Read + Drop> Inlet<'a, R> {
     /// A source that has not failed and gave nothing yet.
     pub fn new(alloc: Global, reader: R, supply: &'a Supply) -> Result<Inlet<'a, R>, AllocError>
         ensures remaining { IfOk result (λ inlet.
-            Consumes (R.remaining reader) (⟦<Inlet<R> as Source>⟧.told inlet).bytes []) }
+            Consumes (R.remaining reader) (⟦<Inlet<'a, R> as Source>⟧.told inlet).bytes []) }
         ensures first { IfOk result (λ inlet. first_bytes inlet ≡ []) }
         ensures failures { IfOk result (λ inlet.
-            (⟦<Inlet<R> as Source>⟧.told inlet).failures ≡ 0) }
+            (⟦<Inlet<'a, R> as Source>⟧.told inlet).failures ≡ 0) }
     {
         Ok(Inlet {
             reader: BufReader::with_capacity(alloc, GATHERED, reader).map_err(|_| AllocError)?,
@@ -55,13 +55,13 @@ impl<'a, R: Read + Drop> Inlet<'a, R> {
     /// Why the last call failed that did.
     pub fn cause(&self) -> Option<io::Error>
         ensures value { result ≡ input_error self.now }
-        ensures failed { IsSome result ↔ (0 < (⟦<Inlet<R> as Source>⟧.told self.now).failures) }
+        ensures failed { IsSome result ↔ (0 < (⟦<Inlet<'a, R> as Source>⟧.told self.now).failures) }
     {
         self.tally.cause()
     }
 }
 
-impl<R: Read> Source for Inlet<'_, R> {
+impl<'a, R: Read> Source for Inlet<'a, R> {
     ghost told = { λ s. record {
       bytes = ⟦<BufReader<R> as Read>⟧.remaining s.reader;
       count = s.tally.bytes;
@@ -73,15 +73,15 @@ impl<R: Read> Source for Inlet<'_, R> {
     fn pull(&mut self, buffer: &mut [u8]) -> Result<usize, Failed>
         ensures count { ReadsAtMost result buffer.new }
         ensures gave { IfOk result (λ n.
-            Gave (⟦<Inlet<R> as Source>⟧.told self.old) (⟦<Inlet<R> as Source>⟧.told self.new)
+            Gave (⟦<Inlet<'a, R> as Source>⟧.told self.old) (⟦<Inlet<'a, R> as Source>⟧.told self.new)
             (take n buffer.new)) }
         ensures end { IfOk result (λ n.
-            n ≡ 0 → 0 < length buffer.new → IsAtEnd (⟦<Inlet<R> as Source>⟧.told self.new).bytes) }
+            n ≡ 0 → 0 < length buffer.new → IsAtEnd (⟦<Inlet<'a, R> as Source>⟧.told self.new).bytes) }
         ensures err { OnErr result
-            (KeepsBytes (⟦<Inlet<R> as Source>⟧.told self.old)
-            (⟦<Inlet<R> as Source>⟧.told self.new)) }
-        ensures failures { CountsFailure (⟦<Inlet<R> as Source>⟧.told self.old).failures
-            (⟦<Inlet<R> as Source>⟧.told self.new).failures result }
+            (KeepsBytes (⟦<Inlet<'a, R> as Source>⟧.told self.old)
+            (⟦<Inlet<'a, R> as Source>⟧.told self.new)) }
+        ensures failures { CountsFailure (⟦<Inlet<'a, R> as Source>⟧.told self.old).failures
+            (⟦<Inlet<'a, R> as Source>⟧.told self.new).failures result }
         // The first bytes are kept.
         ensures first { IfOk result (λ n.
             first_bytes self.new ≡ take 32 (first_bytes self.old ++ take n buffer.new)) }
@@ -100,16 +100,16 @@ impl<R: Read> Source for Inlet<'_, R> {
         requires room { vec_len buffer.old + most ≤ vec_capacity buffer.old }
         ensures room { vec_capacity buffer.old ≤ vec_capacity buffer.new }
         ensures gave { IfOk result (λ n.
-            GaveOnto (⟦<Inlet<R> as Source>⟧.told self.old) (⟦<Inlet<R> as Source>⟧.told self.new)
+            GaveOnto (⟦<Inlet<'a, R> as Source>⟧.told self.old) (⟦<Inlet<'a, R> as Source>⟧.told self.new)
             buffer.old.items buffer.new.items most n) }
         ensures end { IfOk result (λ n.
-            n ≡ 0 → 0 < most → IsAtEnd (⟦<Inlet<R> as Source>⟧.told self.new).bytes) }
+            n ≡ 0 → 0 < most → IsAtEnd (⟦<Inlet<'a, R> as Source>⟧.told self.new).bytes) }
         ensures same { OnErr result (buffer.new.items ≡ buffer.old.items) }
         ensures err { OnErr result
-            (KeepsBytes (⟦<Inlet<R> as Source>⟧.told self.old)
-            (⟦<Inlet<R> as Source>⟧.told self.new)) }
-        ensures failures { CountsFailure (⟦<Inlet<R> as Source>⟧.told self.old).failures
-            (⟦<Inlet<R> as Source>⟧.told self.new).failures result }
+            (KeepsBytes (⟦<Inlet<'a, R> as Source>⟧.told self.old)
+            (⟦<Inlet<'a, R> as Source>⟧.told self.new)) }
+        ensures failures { CountsFailure (⟦<Inlet<'a, R> as Source>⟧.told self.old).failures
+            (⟦<Inlet<'a, R> as Source>⟧.told self.new).failures result }
         // The first bytes are kept.
         ensures first { OnOk result (first_bytes self.new
             ≡ take 32 (first_bytes self.old ++ appended_bytes buffer.old.items buffer.new.items)) }
@@ -129,24 +129,24 @@ impl<R: Read> Source for Inlet<'_, R> {
 }
 
 /// Appends what one call of the input gives, at most so many bytes and [`GATHERED`].
-fn pull_fresh<R: Read>(
-    inlet: &mut Inlet<'_, R>,
+fn pull_fresh<'a, R: Read>(
+    inlet: &mut Inlet<'a, R>,
     buffer: &mut Vec<u8>,
     most: usize,
 ) -> Result<usize, Failed>
     requires room { vec_len buffer.old + most ≤ vec_capacity buffer.old }
     ensures room { vec_capacity buffer.old ≤ vec_capacity buffer.new }
     ensures gave { IfOk result (λ n.
-        GaveOnto (⟦<Inlet<R> as Source>⟧.told inlet.old) (⟦<Inlet<R> as Source>⟧.told inlet.new)
+        GaveOnto (⟦<Inlet<'a, R> as Source>⟧.told inlet.old) (⟦<Inlet<'a, R> as Source>⟧.told inlet.new)
         buffer.old.items buffer.new.items most n) }
     ensures end { IfOk result (λ n.
-        n ≡ 0 → 0 < most → IsAtEnd (⟦<Inlet<R> as Source>⟧.told inlet.new).bytes) }
+        n ≡ 0 → 0 < most → IsAtEnd (⟦<Inlet<'a, R> as Source>⟧.told inlet.new).bytes) }
     ensures same { OnErr result (buffer.new.items ≡ buffer.old.items) }
     ensures err { OnErr result
-        (KeepsBytes (⟦<Inlet<R> as Source>⟧.told inlet.old)
-        (⟦<Inlet<R> as Source>⟧.told inlet.new)) }
-    ensures failures { CountsFailure (⟦<Inlet<R> as Source>⟧.told inlet.old).failures
-        (⟦<Inlet<R> as Source>⟧.told inlet.new).failures result }
+        (KeepsBytes (⟦<Inlet<'a, R> as Source>⟧.told inlet.old)
+        (⟦<Inlet<'a, R> as Source>⟧.told inlet.new)) }
+    ensures failures { CountsFailure (⟦<Inlet<'a, R> as Source>⟧.told inlet.old).failures
+        (⟦<Inlet<'a, R> as Source>⟧.told inlet.new).failures result }
     ensures first { OnOk result (first_bytes inlet.new
         ≡ take 32 (first_bytes inlet.old ++ appended_bytes buffer.old.items buffer.new.items)) }
     ensures same_first { OnErr result (first_bytes inlet.new ≡ first_bytes inlet.old) }

@@ -32,10 +32,10 @@ impl<'a, W: Write + Drop> Outlet<'a, W> {
     pub fn new(alloc: Global, writer: W, pace: Pace<'a>) -> Result<Outlet<'a, W>, AllocError>
         ensures taken { IfOk result
             (λ outlet. Appends (W.contents writer)
-            (⟦<Outlet<W> as Sink>⟧.told outlet).bytes []) }
+            (⟦<Outlet<'a, W> as Sink>⟧.told outlet).bytes []) }
         ensures empty { IfOk result (λ outlet. unwritten outlet ≡ []) }
         ensures failures { IfOk result
-            (λ outlet. (⟦<Outlet<W> as Sink>⟧.told outlet).failures ≡ 0) }
+            (λ outlet. (⟦<Outlet<'a, W> as Sink>⟧.told outlet).failures ≡ 0) }
     {
         Ok(Outlet {
             writer: BufWriter::with_capacity(alloc, GATHERED, writer).map_err(|_| AllocError)?,
@@ -52,10 +52,10 @@ impl<'a, W: Write + Drop> Outlet<'a, W> {
     /// and is written by the next flush.
     pub fn flush(&mut self) -> Result<(), Failed>
         ensures whole { OnOk result (unwritten self.new ≡ []) }
-        ensures bytes { KeepsBytes (⟦<Outlet<W> as Sink>⟧.told self.old)
-            (⟦<Outlet<W> as Sink>⟧.told self.new) }
-        ensures failures { CountsFailure (⟦<Outlet<W> as Sink>⟧.told self.old).failures
-            (⟦<Outlet<W> as Sink>⟧.told self.new).failures result }
+        ensures bytes { KeepsBytes (⟦<Outlet<'a, W> as Sink>⟧.told self.old)
+            (⟦<Outlet<'a, W> as Sink>⟧.told self.new) }
+        ensures failures { CountsFailure (⟦<Outlet<'a, W> as Sink>⟧.told self.old).failures
+            (⟦<Outlet<'a, W> as Sink>⟧.told self.new).failures result }
     {
         let answer = self.writer.flush();
         self.tally.heed(answer)
@@ -64,8 +64,8 @@ impl<'a, W: Write + Drop> Outlet<'a, W> {
     /// Writes what was gathered, if that is due after a put. What the writer does not take stays
     /// gathered, and the next flush has its error.
     fn keep_pace(&mut self)
-        ensures bytes { KeepsBytes (⟦<Outlet<W> as Sink>⟧.told self.old)
-            (⟦<Outlet<W> as Sink>⟧.told self.new) }
+        ensures bytes { KeepsBytes (⟦<Outlet<'a, W> as Sink>⟧.told self.old)
+            (⟦<Outlet<'a, W> as Sink>⟧.told self.new) }
         ensures tally { self.new.tally ≡ self.old.tally }
     {
         if self.pace.is_due() {
@@ -76,7 +76,7 @@ impl<'a, W: Write + Drop> Outlet<'a, W> {
     /// Why the last call failed that did.
     pub fn cause(&self) -> Option<io::Error>
         ensures value { result ≡ output_error self.now }
-        ensures failed { IsSome result ↔ (0 < (⟦<Outlet<W> as Sink>⟧.told self.now).failures) }
+        ensures failed { IsSome result ↔ (0 < (⟦<Outlet<'a, W> as Sink>⟧.told self.now).failures) }
     {
         self.tally.cause()
     }
@@ -96,7 +96,7 @@ fn taken(answer: io::Result<usize>, len: usize) -> io::Result<usize>
     }
 }
 
-impl<W: Write + Drop> Sink for Outlet<'_, W> {
+impl<'a, W: Write + Drop> Sink for Outlet<'a, W> {
     ghost told = { λ s. record {
       bytes = ⟦<BufWriter<W> as Write>⟧.contents s.writer;
       count = s.tally.bytes;
