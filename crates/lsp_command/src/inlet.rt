@@ -73,10 +73,10 @@ impl<'a, R: Read> Source for Inlet<'a, R> {
     fn pull(&mut self, buffer: &mut [u8]) -> Result<usize, Failed>
         ensures count { ReadsAtMost result buffer.new }
         ensures gave { IfOk result (λ n.
-            Gave (⟦<Inlet<'a, R> as Source>⟧.told self.old) (⟦<Inlet<'a, R> as Source>⟧.told self.new)
-            (take n buffer.new)) }
-        ensures end { IfOk result (λ n.
-            n ≡ 0 → 0 < length buffer.new → IsAtEnd (⟦<Inlet<'a, R> as Source>⟧.told self.new).bytes) }
+            Gave (⟦<Inlet<'a, R> as Source>⟧.told self.old)
+            (⟦<Inlet<'a, R> as Source>⟧.told self.new) (take n buffer.new)) }
+        ensures end { IfOk result (λ n. n ≡ 0 → 0 < length buffer.new
+            → IsAtEnd (⟦<Inlet<'a, R> as Source>⟧.told self.new).bytes) }
         ensures err { OnErr result
             (KeepsBytes (⟦<Inlet<'a, R> as Source>⟧.told self.old)
             (⟦<Inlet<'a, R> as Source>⟧.told self.new)) }
@@ -100,8 +100,8 @@ impl<'a, R: Read> Source for Inlet<'a, R> {
         requires room { vec_len buffer.old + most ≤ vec_capacity buffer.old }
         ensures room { vec_capacity buffer.old ≤ vec_capacity buffer.new }
         ensures gave { IfOk result (λ n.
-            GaveOnto (⟦<Inlet<'a, R> as Source>⟧.told self.old) (⟦<Inlet<'a, R> as Source>⟧.told self.new)
-            buffer.old.items buffer.new.items most n) }
+            GaveOnto (⟦<Inlet<'a, R> as Source>⟧.told self.old)
+            (⟦<Inlet<'a, R> as Source>⟧.told self.new) buffer.old.items buffer.new.items most n) }
         ensures end { IfOk result (λ n.
             n ≡ 0 → 0 < most → IsAtEnd (⟦<Inlet<'a, R> as Source>⟧.told self.new).bytes) }
         ensures same { OnErr result (buffer.new.items ≡ buffer.old.items) }
@@ -137,8 +137,8 @@ fn pull_fresh<'a, R: Read>(
     requires room { vec_len buffer.old + most ≤ vec_capacity buffer.old }
     ensures room { vec_capacity buffer.old ≤ vec_capacity buffer.new }
     ensures gave { IfOk result (λ n.
-        GaveOnto (⟦<Inlet<'a, R> as Source>⟧.told inlet.old) (⟦<Inlet<'a, R> as Source>⟧.told inlet.new)
-        buffer.old.items buffer.new.items most n) }
+        GaveOnto (⟦<Inlet<'a, R> as Source>⟧.told inlet.old)
+        (⟦<Inlet<'a, R> as Source>⟧.told inlet.new) buffer.old.items buffer.new.items most n) }
     ensures end { IfOk result (λ n.
         n ≡ 0 → 0 < most → IsAtEnd (⟦<Inlet<'a, R> as Source>⟧.told inlet.new).bytes) }
     ensures same { OnErr result (buffer.new.items ≡ buffer.old.items) }
