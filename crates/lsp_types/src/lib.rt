@@ -3,12 +3,14 @@
 #![tactic(auto)]
 
 mod change;
+mod laws;
 mod memory;
 mod position;
 pub mod rules;
 mod side;
 
 pub use change::{Change, SyncKind};
+pub use laws::{documents_begin_at_601, rules_are_numbered};
 pub use memory::Memory;
 pub use position::{Encoding, Position, Span};
 pub use side::Side;
