@@ -3,6 +3,7 @@
 #![tactic(auto)]
 
 mod change;
+mod laws;
 mod line_ends;
 mod memory;
 mod position;
@@ -10,6 +11,7 @@ pub mod rules;
 mod side;
 
 pub use change::{Change, SyncKind};
+pub use laws::{documents_begin_at_601, rules_are_numbered};
 pub use line_ends::LineEnds;
 pub use memory::Memory;
 pub use position::{Encoding, Position, Span};
