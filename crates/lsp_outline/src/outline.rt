@@ -17,7 +17,9 @@ ghost use Rattle.lsp_rpc.specs.declared.fault.RpcFault.TheVariants.{Memory};
 
 use crate::message::{Left, Reads, left_of_text};
 use crate::params::{Told, act_by};
-use lsp_rpc::{Act, Answer, Message, Method, RpcFault, Spoken, method_of, read, take_act, words_of};
+use lsp_rpc::{
+    Act, Answer, Message, Method, RpcFault, Spoken, method_of, read, take_act, words_of,
+};
 use lsp_types::Side;
 use std::alloc::Global;
 
@@ -48,13 +50,12 @@ fn has_result(message: &Message) -> bool
     }
 }
 
-/// What the params of the text mean by this method, of which this was told so far. They are read
-/// once more where they came before their method.
-fn act_read(alloc: Global, method: Method, told: Option<Told>, text: &str) -> Option<Act>
+/// What the text means as a call of this method, whose params are not read or came before it.
+fn act_otherwise(alloc: Global, method: Method, text: &str) -> Option<Act>
     ensures { IfSome result (λ act. (ms : Members) → read_text text.now ≡ Some (object ms)
-        → Tells ms told → Means ms method (act_view act)) }
+        → Means ms method (act_view act)) }
 {
-    match act_by(method, told) {
+    match method.plain_act() {
         Some(act) => Some(act),
         None => {
             let again = left_of_text(alloc, Reads::OfMethod(method), text)?;
@@ -63,14 +64,15 @@ fn act_read(alloc: Global, method: Method, told: Option<Told>, text: &str) -> Op
     }
 }
 
-/// What the text means as a call of this method, of whose params this was told so far.
+/// What the text means as a call of this method, of whose params this was told.
+#[inline(always)]
 fn act_meant(alloc: Global, method: Method, told: Option<Told>, text: &str) -> Option<Act>
     ensures { IfSome result (λ act. (ms : Members) → read_text text.now ≡ Some (object ms)
         → Tells ms told → Means ms method (act_view act)) }
 {
-    match method.plain_act() {
+    match act_by(method, told) {
         Some(act) => Some(act),
-        None => act_read(alloc, method, told, text),
+        None => act_otherwise(alloc, method, text),
     }
 }
 

@@ -16,7 +16,9 @@ ghost use Rattle.lsp_rpc.specs.View.{act_view, changes_view};
 
 use crate::bytes::byte_at;
 use crate::edits::changes_at;
-use crate::members::{Gathered, id_at, object_at, object_into, skipped, text_unless_null_at, uinteger_at};
+use crate::members::{
+    Gathered, id_at, object_at, object_into, skipped, text_unless_null_at, uinteger_at,
+};
 use crate::walk::{kind_at, string_copy};
 use lsp_rpc::{Act, Id, Method};
 use lsp_types::Change;
@@ -314,6 +316,7 @@ pub(crate) struct Told {
 }
 
 /// What it means, where it was read by this method.
+#[inline(always)]
 pub(crate) fn act_by(method: Method, told: Option<Told>) -> Option<Act>
     ensures { IfSome result (λ act. (params : Option Data)
         → meant_by told params ≡ act_told told

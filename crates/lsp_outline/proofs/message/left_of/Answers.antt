@@ -20,7 +20,7 @@ returns-in_ok-message-in-Some c =
 pub returns-in_ok-message-in-None : goal.returns-in_ok-message-in-None
 returns-in_ok-message-in-None c =
     let parts = c.args.parts in
-    let own = option_map id_view c.in_ok-message-in-None.field-0 in
+    let own = option_map id_view c.in_ok-id-in-None.field-0 in
     let seen : Option (Option Id) → Option (Option Ident) =
     option_map (λ id. option_map id_view id) in
     let message = c.in_ok-message-in-None in λ ms h.

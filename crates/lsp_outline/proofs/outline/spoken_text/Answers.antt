@@ -8,16 +8,16 @@ use Rattle.lsp_outline.proofs.outline.spoken_text.Goals as goal
 
 pub returns : goal.returns
 returns c =
-    let found = c.in_ok-Left.ensures in
+    let found = c.in_ok-message.ensures in
     let is = found.2 in
-    let m = message_view c.in_ok-Left.message in (
+    let m = message_view c.in_ok-message.message in (
       found.0,
       found.1,
       record {
         whole = is.whole;
         is = is.is;
-        means = means_by c.args.side c.in_method.method (get_member (codes "params") found.0) m
-            is.whole is.rest c.method_of.ensures is.params
+        means = means_by c.args.side _ (get_member (codes "params") found.0) m
+            is.whole is.rest c.method_of-method.ensures is.params
             ∙ c.in_ok-act.ensures found.0 found.1 is.tells;
         rest = what_is_left c.args.results m is.whole (c.if-not-suffices.ensures refl) is.rest;
       },

@@ -73,10 +73,10 @@ returns-in_ok-id-in-id c =
       }),
     )
 
-pub returns-in_ok-end-in-params : goal.returns-in_ok-end-in-params
-returns-in_ok-end-in-params c =
+pub returns-in_ok-told-in-params : goal.returns-in_ok-told-in-params
+returns-in_ok-told-in-params c =
     let k = c.args.name.now in
-    let read = c.in_ok-end-in-params.ensures in
+    let read = c.in_ok-told-in-params.ensures in
     let d = read.0 in
     let is = c.in-params.is in (
       d,
@@ -87,7 +87,7 @@ returns-in_ok-end-in-params c =
         id = beside (option_map id_in) (codes "id") (codes "params") k d ms _ refl is h.id;
         params = last_of (holds_unless_absent is_structure_or_null) (codes "params") k d ms _ is
             read.2;
-        told = last_of (meant_by c.in_ok-end-in-params.told) (codes "params") k d ms _ is read.3;
+        told = last_of (meant_by c.in_ok-told-in-params.told) (codes "params") k d ms _ is read.3;
         result = beside is_some (codes "result") (codes "params") k d ms _ refl is h.result;
         error = beside (option_map code_of) (codes "error") (codes "params") k d ms _ refl is
             h.error;

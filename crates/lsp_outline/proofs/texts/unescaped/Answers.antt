@@ -9,7 +9,7 @@ use Rattle.json.specs.Run.{is_plain, Escape}
 use Rattle.json.specs.Text.{after_backslash}
 use Rattle.lsp_outline.specs.Walk.{IsRun, IsText}
 use Rattle.lsp_outline.proofs.Strings.{run_none, run_on, closed, escaped}
-use Rattle.lsp_outline.proofs.texts.text_copy.Goals as goal
+use Rattle.lsp_outline.proofs.texts.unescaped.Goals as goal
 
 pub runs-init : goal.runs-init
 runs-init c =
