@@ -15,7 +15,7 @@ ghost use Rattle.lsp_rpc.specs.View.{act_view, message_view};
 ghost use Rattle.lsp_rpc.specs.Words.{words_of as spec_words_of};
 ghost use Rattle.lsp_rpc.specs.declared.fault.RpcFault.TheVariants.{Memory};
 
-use crate::message::{Left, Reads, left_of_text};
+use crate::message::{Reads, left_of_text};
 use crate::params::{Told, act_by};
 use lsp_rpc::{
     Act, Answer, Message, Method, RpcFault, Spoken, method_of, read, take_act, words_of,
@@ -81,13 +81,16 @@ fn spoken_text(alloc: Global, side: Side, text: &str, results: Results) -> Optio
     ensures { IfSome result (λ spoken. (ms : Members) × (read_text text.now ≡ Some (object ms))
         × SaysSo results side ms (message_view spoken.message) (act_view spoken.act)) }
 {
-    let Left { message, told } = left_of_text(alloc, Reads::OfSide(side), text)?;
-    if !suffices(results, &message) {
+    let left = left_of_text(alloc, Reads::OfSide(side), text)?;
+    if !suffices(results, &left.message) {
         return None;
     }
-    let method = method_of(side, &message);
-    let act = act_meant(alloc, method, told, text)?;
-    Some(Spoken { message, act })
+    let method = method_of(side, &left.message);
+    let act = act_meant(alloc, method, left.told, text)?;
+    Some(Spoken {
+        message: left.message,
+        act,
+    })
 }
 
 /// What a content of the side says, where it has the common form.

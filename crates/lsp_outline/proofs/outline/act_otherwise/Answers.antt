@@ -13,9 +13,9 @@ pub returns-in-Some : goal.returns-in-Some
 returns-in-Some c = λ ms read.
     c.in-Some.ensures (option_and_then unless_null (get_member (codes "params") ms))
 
-pub returns-in-None : goal.returns-in-None
-returns-in-None c =
-    let again = c.in_ok-again.ensures in
+pub returns-in_ok-again-in-None : goal.returns-in_ok-again-in-None
+returns-in_ok-again-in-None c =
+    let again = c.in_ok-again-in-None.ensures in
     IfSome_then c.act_by.result c.act_by.ensures (λ act by ms read.
     subst (λ (x : Members). Means x c.args.method (act_view act))
     (one_object again.0 ms (read_text c.args.text.now) again.1 read)

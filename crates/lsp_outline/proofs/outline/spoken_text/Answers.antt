@@ -8,9 +8,9 @@ use Rattle.lsp_outline.proofs.outline.spoken_text.Goals as goal
 
 pub returns : goal.returns
 returns c =
-    let found = c.in_ok-message.ensures in
+    let found = c.in_ok-left.ensures in
     let is = found.2 in
-    let m = message_view c.in_ok-message.message in (
+    let m = message_view c.in_ok-left.left.message in (
       found.0,
       found.1,
       record {
