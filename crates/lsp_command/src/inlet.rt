@@ -27,7 +27,7 @@ pub struct Inlet<R> {
 }
 
 impl<R: Read + Drop> Inlet<R> {
-    /// A source that has not failed and gave nothing yet.
+    /// A source that has not failed and has given nothing yet.
     pub fn new(alloc: Global, reader: R) -> Result<Inlet<R>, AllocError>
         ensures remaining { IfOk result (λ inlet.
             Consumes (R.remaining reader) (⟦<Inlet<R> as Source>⟧.told inlet).bytes []) }
@@ -123,7 +123,7 @@ impl<R: Read> Source for Inlet<R> {
     }
 }
 
-/// Appends what one call of the input gives, at most so many bytes and [`GATHERED`].
+/// Appends what one call of the input gives, at most this many bytes and [`GATHERED`].
 fn pull_fresh<R: Read>(
     inlet: &mut Inlet<R>,
     buffer: &mut Vec<u8>,

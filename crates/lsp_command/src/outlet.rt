@@ -89,7 +89,7 @@ impl<W: Write + Drop> Sink for Outlet<W> {
     } };
 
     /// Takes bytes as the trait says. It fails where the writer does, or takes none of some bytes;
-    /// the writer is called only where the bytes don't fit behind those that were gathered.
+    /// the writer is called only where the bytes don't fit after those that were gathered.
     fn put(&mut self, bytes: &[u8]) -> Result<usize, Failed> {
         let answer = taken(self.writer.write(bytes), bytes.len());
         self.tally.count(answer)

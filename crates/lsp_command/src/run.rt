@@ -69,7 +69,7 @@ pub fn run_task<R: Source, W: Sink>(
     }
 }
 
-/// Does the task over an input and into an output. What the task wrote is handed on also where it
+/// Does the task over an input and into an output. What the task wrote is passed on also where it
 /// failed.
 pub fn run_through<R: Read + Drop, W: Write + Drop>(
     alloc: Global,

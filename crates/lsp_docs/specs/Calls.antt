@@ -1,4 +1,5 @@
--- What is said of documents, one call after another: a URI, and then what the message or the snapshot says of it.
+-- What is said about documents, one call after another: a URI, and then what the message or the
+-- snapshot says about it.
 use Rattle.std.specs.Prelude.{ℕ, ℤ, List, Bool, false, Option}
 use Rattle.std.specs.Str.{bytes_eq}
 use Rattle.lsp_types.specs.declared.position.Encoding.{Encoding}

@@ -45,12 +45,13 @@ abbrev pub revised_by : Terms → Bytes → Version → List Call → Version
 revised_by terms uri v [] = v
 revised_by terms uri v (c ∷ cs) = revised_by terms uri (revised terms uri v c) cs
 
--- what an opening has come to after these calls, unless one of them closes it
+-- the version and text of an opening after these calls, unless one of them closes it
 abbrev pub held_since : Terms → Bytes → List Call → Option Version → Option Version
 held_since terms uri after None = None
 held_since terms uri after (Some v) = if list_any (is_close uri) after then None else Some (revised_by terms uri v after)
 
--- what is held of this URI after the calls: its opening that no close stands behind, with all later changes
+-- what is held of this URI after the calls: its opening that no close follows, with all later
+-- changes
 abbrev pub held : Terms → Bytes → List Call → Option Version
 held terms uri [] = None
 held terms uri (c ∷ after) = option_or (held_since terms uri after (opening uri c)) (held terms uri after)
@@ -68,7 +69,7 @@ abbrev pub held_entry : Terms → Call → List Call → List Held
 held_entry terms (opens uri number t) after = as_held uri (held_since terms uri after (Some (versioned number t)))
 held_entry terms _ after = []
 
--- the open documents, in order of opening
+-- the open documents, in the order in which they were opened
 abbrev pub documents : Terms → List Call → List Held
 documents terms [] = []
 documents terms (c ∷ after) = held_entry terms c after ++ documents terms after

@@ -5,7 +5,7 @@ use Rattle.lsp_docs.specs.Terms.{Terms}
 use Rattle.lsp_docs.specs.Calls.{Bytes, Call, is_close, is_change}
 use Rattle.lsp_docs.specs.Documents.{Version, held}
 
--- the version that a `didChange` of the URI replaced, where no `didClose` stands behind it
+-- the version that a `didChange` of the URI replaced, where no `didClose` follows it
 abbrev pub past_entry : Terms → Bytes → List Call → Call → List Call → List Version
 past_entry terms uri before c after = if is_change uri c && not (list_any (is_close uri) after) then option_to_list (held terms uri before) else []
 
@@ -17,7 +17,7 @@ past_in terms uri before (c ∷ after) = past_entry terms uri before c after ++ 
 abbrev pub past : Terms → Bytes → List Call → List Version
 past terms uri calls = past_in terms uri [] calls
 
--- the last so many
+-- the last versions, at most this many
 abbrev pub last_of : ℕ → List Version → List Version
 last_of n vs = drop (length vs - n) vs
 

@@ -9,6 +9,7 @@ use Rattle.lsp_docs.specs.Kept.{kept}
 use Rattle.lsp_docs.specs.Rules.{first_row, differs, call_rule, AreAccepted}
 use Rattle.lsp_docs.specs.Snapshots.{holds_number, comes_to, is_compared}
 use Rattle.lsp_docs.specs.Binding.{standing, binding, IsSet}
+use Rattle.lsp_types.specs.declared.rules.TheConstants as rules
 
 -- **Versions rise.** Of one opening, with no close between: each change raises the version, and without a change version and text stay.
 pub record VersionsRise : Type 0 where
@@ -17,19 +18,22 @@ pub record VersionsRise : Type 0 where
   pub stays : (terms : Terms) (uri : Bytes) (calls more : List Call) (v w : Version) → AreAccepted terms (calls ++ more) → list_any (is_close uri) more ≡ false
       → held terms uri calls ≡ Some v → held terms uri (calls ++ more) ≡ Some w → list_any (is_change uri) more ≡ false → v ≡ w
 
--- **Snapshots agree.** A held text is that of each snapshot of its version, shown before or behind it, with no close between.
+-- **Snapshots agree.** A held text is that of each snapshot of its version, shown before or after
+-- it, with no close between.
 pub record SnapshotsAgree : Type 0 where
   pub earlier : (terms : Terms) (before between : List Call) (uri : Bytes) (n : ℤ) (t : Text) (v : Version) → AreAccepted terms (before ++ shows uri n t ∷ between)
       → list_any (is_close uri) between ≡ false → held terms uri (before ++ shows uri n t ∷ between) ≡ Some v → v.number ≡ n → v.text ≡ t
   pub later : (terms : Terms) (before between : List Call) (uri : Bytes) (n : ℤ) (t : Text) (v : Version) → AreAccepted terms (before ++ between ++ shows uri n t ∷ [])
       → list_any (is_close uri) between ≡ false → held terms uri before ≡ Some v → v.number ≡ n → v.text ≡ t
 
--- **After any of the calls, a held text is that of each snapshot that is bound to its opening and shows its version**, wherever the snapshot stands in the list.
+-- **After any of the calls, a held text is that of each snapshot that is bound to its opening and
+-- shows its version**, wherever the snapshot is in the list.
 abbrev pub HeldIsShown : Type 0
 HeldIsShown = (terms : Terms) (before after front back : List Call) (uri : Bytes) (n : ℤ) (t : Text) (v : Version) → AreAccepted terms (before ++ after)
     → before ++ after ≡ front ++ shows uri n t ∷ back → binding uri front back ≡ standing uri before → held terms uri before ≡ Some v → v.number ≡ n → v.text ≡ t
 
--- **Each open document is held**: what the list of the open documents has at a place is what is held of that URI, and no URI stands at two places.
+-- **Each open document is held**: what the list of the open documents has at a place is what is
+-- held of that URI, and no URI has two places.
 pub record DocumentsAreHeld : Type 0 where
   pub each : (terms : Terms) (calls : List Call) (i : ℕ) (h : Held) → AreAccepted terms calls → slice_get (documents terms calls) i ≡ Some h → held terms h.uri calls ≡ Some h.version
   pub once : (terms : Terms) (calls : List Call) (i j : ℕ) (g h : Held) → AreAccepted terms calls → slice_get (documents terms calls) i ≡ Some g
@@ -47,8 +51,8 @@ abbrev pub held_rule : ℤ → Text → Option Version → Option ℕ
 held_rule number t None = None
 held_rule number t (Some v) =
     first_row (
-    (int_lt number v.number, Some 701)
-    ∷ (differs v (versioned number t), Some 702)
+    (int_lt number v.number, Some rules.LATE_SNAPSHOT)
+    ∷ (differs v (versioned number t), Some rules.SNAPSHOT_DIFFERS)
     ∷ [])
 
 -- the version numbers strictly rise

@@ -13,6 +13,7 @@ use Rattle.lsp_docs.specs.Calls.{Call, opens, changes, closes, saves, shows, uri
 use Rattle.lsp_docs.specs.Documents.{Version, versioned, is_after, held}
 use Rattle.lsp_docs.specs.Kept.{kept}
 use Rattle.lsp_docs.specs.Snapshots.{waiting, versions_of}
+use Rattle.lsp_types.specs.declared.rules.TheConstants as rules
 
 -- the rule of the first row whose test holds
 abbrev pub first_row : List (Bool × Option ℕ) → Option ℕ
@@ -25,7 +26,7 @@ differs v s = int_eq v.number s.number && not (bytes_eq v.text s.text)
 
 -- 702: a snapshot that waits for this version has another text
 abbrev pub version_rule : List Version → Version → Option ℕ
-version_rule waits v = if list_any (differs v) waits then Some 702 else None
+version_rule waits v = if list_any (differs v) waits then Some rules.SNAPSHOT_DIFFERS else None
 
 -- the changes are of the agreed kind: under Full none has a span, under None there is no change
 abbrev pub fits_kind : SyncKind → List Edit → Bool
@@ -40,11 +41,11 @@ text_rule waits number (Ok t) = version_rule waits (versioned number t)
 
 -- `didChange`: 602 not open; 603 the version does not rise; 604 not of the agreed kind; else what its changes break of the held text
 abbrev pub rule_of_change : SyncKind → ℤ → List Edit → (Version → Option ℕ) → Option Version → Option ℕ
-rule_of_change kind number cs broken None = Some 602
+rule_of_change kind number cs broken None = Some rules.DOCUMENT_NOT_OPEN
 rule_of_change kind number cs broken (Some v) =
     first_row (
-    (not (int_lt v.number number), Some 603)
-    ∷ (not (fits_kind kind cs), Some 604)
+    (not (int_lt v.number number), Some rules.VERSION_DOES_NOT_RISE)
+    ∷ (not (fits_kind kind cs), Some rules.CHANGE_NOT_OF_KIND)
     ∷ (true, broken v)
     ∷ [])
 
@@ -55,7 +56,7 @@ change_rule terms waits enc kind number cs h =
 
 -- `didSave`: 608 the document is open, and the saved text is another than the held one
 abbrev pub save_rule : Option Text → Option Version → Option ℕ
-save_rule (Some t) (Some v) = if bytes_eq v.text t then None else Some 608
+save_rule (Some t) (Some v) = if bytes_eq v.text t then None else Some rules.SAVED_TEXT_DIFFERS
 save_rule _ _ = None
 
 -- a snapshot: 701 its version is below each kept one and the held one; 702 a kept one or the held one is of its version, with another text
@@ -63,20 +64,24 @@ abbrev pub show_rule : ℤ → Text → List Version → Option Version → Opti
 show_rule number t kept None = None
 show_rule number t kept (Some v) =
     first_row (
-    (list_all (is_after number) kept && int_lt number v.number, Some 701)
-    ∷ (list_any (λ w. differs w (versioned number t)) kept || differs v (versioned number t), Some 702)
+    (list_all (is_after number) kept && int_lt number v.number, Some rules.LATE_SNAPSHOT)
+    ∷ (
+      list_any (λ w. differs w (versioned number t)) kept
+          || differs v (versioned number t),
+      Some rules.SNAPSHOT_DIFFERS,
+    )
     ∷ [])
 
 -- the least rule that a call breaks, where this is held of its URI, these versions are kept and these snapshots wait
 abbrev pub rule_of : Terms → Option Version → List Version → List Version → Call → Option ℕ
 rule_of terms h kept waits (opens uri number t) =
     first_row (
-    (is_some h, Some 601)
-    ∷ (nat_lt terms.limit (byte_len t), Some 607)
+    (is_some h, Some rules.DOCUMENT_ALREADY_OPEN)
+    ∷ (nat_lt terms.limit (byte_len t), Some rules.DOCUMENT_OVER_LIMIT)
     ∷ (true, version_rule waits (versioned number t))
     ∷ [])
 rule_of terms h kept waits (changes enc kind uri number cs) = change_rule terms waits enc kind number cs h
-rule_of terms h kept waits (closes uri) = if is_some h then None else Some 602
+rule_of terms h kept waits (closes uri) = if is_some h then None else Some rules.DOCUMENT_NOT_OPEN
 rule_of terms h kept waits (saves uri t) = save_rule t h
 rule_of terms h kept waits (shows uri number t) = show_rule number t kept h
 

@@ -64,7 +64,8 @@ kept_in uri (k ∷ ks) = if bytes_eq uri k.uri then k.versions else kept_in uri 
 abbrev pub KeepsSame : List Kept → List Kept → Type 0
 KeepsSame old new = (u : Bytes) → kept_in u new ≡ kept_in u old
 
--- the held version of the URI joins the last so many that are kept of it, where no more than so many were
+-- where at most this many versions of the URI were kept, its held version joins them, and the last
+-- ones are kept, at most this many
 abbrev pub KeepsOn : ℕ → Bytes → Option Version → List Kept → List Kept → Type 0
 KeepsOn most uri h old new = length (kept_in uri old) ≤ most → (u : Bytes) → kept_in u new ≡ (if bytes_eq uri u then last_of most (kept_in u old ++ option_to_list h) else kept_in u old)
 
@@ -109,14 +110,15 @@ pub record IsReleased (uri : Bytes) (old new : List Queue) : Type 0 where
   pub others : (u : Bytes) → bytes_eq u uri ≡ false → queue_of u new ≡ queue_of u old
   pub count : total new + length (queue_of uri old) ≡ total old
 
--- the URI comes to this version: the snapshots of a greater one wait on, those of a lesser one are missed
+-- the URI reaches this version: the snapshots of a greater one wait on, those of a lesser one are
+-- missed
 abbrev pub reached : Bytes → ℤ → Waits → Waits
 reached uri number w = record {
   queues = keep_in uri (is_after number) w.queues;
   missed = capped (w.missed + length (filter (is_before number) (queue_of uri w.queues)));
 }
 
--- one more snapshot was passed over before it was shown
+-- one more snapshot was skipped before it was shown
 abbrev pub missed_one : Waits → Waits
 missed_one w = record { queues = w.queues; missed = capped (w.missed + 1) }
 
@@ -129,11 +131,11 @@ abbrev pub text_in : Option Version → Text
 text_in None = []
 text_in (Some v) = v.text
 
--- what the changes make of the held text
+-- the held text with the changes made
 abbrev pub changed_at : State → Encoding → Bytes → List Edit → Result Text ℕ
 changed_at s enc uri cs = applied s.terms.limit enc (text_in (held_in uri s.documents)) cs
 
--- the URI has come to this version, with the text that the changes made, and its held version is kept
+-- the URI is now at this version, with the text that the changes made, and its held version is kept
 pub record IsChanged (old new : State) (uri : Bytes) (number : ℤ) (r : Result Text ℕ) : Type 0 where
   pub text : Text
   pub made : r ≡ Ok text

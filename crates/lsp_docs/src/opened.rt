@@ -1,4 +1,4 @@
-//! The documents that are open, in order of opening.
+//! The documents that are open, in the order in which they were opened.
 
 ghost use Rattle.std.specs.Prelude.{◌≡◌, [], ◌++◌, ◌∷◌, None, true, false, length, map, slice_get};
 ghost use Rattle.std.specs.Prelude.{is_some, IfErr, OnOk, OnErr, option_map};
@@ -18,7 +18,8 @@ use lsp_types::{Change, Encoding};
 use std::alloc::{AllocError, Global};
 use std::marker::Model;
 
-/// The open documents. Contracts see their list, in order of opening, and what is kept of each URI.
+/// The open documents. Contracts see their list, in the order in which they were opened, and what
+/// is kept of each URI.
 #[derive(Drop)]
 pub(crate) struct OpenDocuments<S: TextStore> {
     documents: OrderedMap<String, Document<S>>,
@@ -57,7 +58,7 @@ impl<S: TextStore> OpenDocuments<S> {
         self.documents.len()
     }
 
-    /// The URI at this place in order of opening, from 0.
+    /// The URI at this place in the order in which they were opened, from 0.
     pub(crate) fn at(&self, index: usize) -> Option<&str>
         ensures { option_map (λ uri. uri.now) result
             ≡ slice_get (map (λ h. h.uri) self.now.held) index }
@@ -108,7 +109,7 @@ impl<S: TextStore> OpenDocuments<S> {
         self.documents.remove_str(uri).is_some()
     }
 
-    /// Puts a version in the place of the held one, which is kept as the last of at most so many.
+    /// Replaces the held version, which is kept as the last of at most this many.
     pub(crate) fn revise(
         &mut self,
         most: usize,

@@ -28,7 +28,7 @@ pub record Holds (messages : session.State) (documents : docs.State) (events : L
   pub sent : session.Stands messages (sent_in events)
   pub called : docs.Stands documents (calls events)
 
--- none of these events offends, and what is held is what they come to
+-- none of these events offends, and what is held is their result
 pub record Follows (messages : session.State) (documents : docs.State) (counts : Counts) (events : List Event) : Type 0 where
   pub clean : first_no documents.terms events ≡ None
   pub holds : Holds messages documents events
@@ -36,7 +36,8 @@ pub record Follows (messages : session.State) (documents : docs.State) (counts :
 
 -- ---- a content
 
--- the content is this message, but for its params and the value of a result, and means this act; it doesn't offend, and what is held is what the events come to with it
+-- the content is this message, but for its params and the value of a result, and means this act; it
+-- doesn't offend, and what is held is the result of the events with it
 pub record Hears (side : Side) (content : List ℕ) (said : rpc.Message) (act : Act) (terms : Terms) (messages : session.State) (documents : docs.State) (events : List Event) : Type 0 where
   pub sent : Sent
   pub reads : IsSent side content sent

@@ -27,7 +27,7 @@ use lsp_text::TextStore;
 use lsp_verdict::Counts;
 use std::alloc::Global;
 
-/// What the events heard so far have come to, none of which offends behind those before it.
+/// The result of the events heard so far, none of which offends after those before it.
 ///
 /// It stands for these events: the session for their messages, the documents for their calls, and
 /// the counts for how many they were, as far as each was counted.
@@ -64,7 +64,7 @@ impl<S: TextStore> Events<S> {
     }
 
     /// Hears a content of a side: the message that it is, but for its params and the value of a
-    /// result that nothing reads, and what that means; unless it breaks a rule behind the events
+    /// result that nothing reads, and what that means; unless it breaks a rule after the events
     /// heard. The event is not counted: that is for the caller.
     ///
     /// # Errors
@@ -93,7 +93,7 @@ impl<S: TextStore> Events<S> {
         }
     }
 
-    /// Admits the message that a content is, and takes over what it says of a document.
+    /// Admits the message that a content is, and takes over what it says about a document.
     fn follow(&mut self, side: Side, spoken: &Spoken) -> Result<(), Fault>
         ensures terms { self.new.docs.terms ≡ self.old.docs.terms }
         ensures counts { self.new.counts ≡ self.old.counts }
@@ -177,7 +177,7 @@ fn change<S: TextStore>(
     docs.did_change(encoding, kind, uri, version, edits)
 }
 
-/// Takes over what an act says of a document.
+/// Takes over what an act says about a document.
 fn apply<S: TextStore>(
     docs: &mut Docs<S>,
     encoding: Encoding,

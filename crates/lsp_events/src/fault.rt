@@ -48,7 +48,7 @@ impl From<RpcFault> for Refused {
     }
 }
 
-/// Why a message is refused: by its least rule, or for want of memory.
+/// Why a message is refused: by its least rule, or since memory was refused.
 #[derive(Clone, Copy, Debug, PartialEq, Eq)]
 pub(crate) enum Fault {
     Rule(u16),

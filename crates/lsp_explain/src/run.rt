@@ -32,9 +32,9 @@ use lsp_verdict::{
 };
 use std::alloc::Global;
 
-/// Reads a log and writes the report of the verdict on it, and behind a No what is wrong: the line
-/// that names the first event that offends, and the facts on it. Behind the report of a bad log
-/// stand the number of its record, how many bytes stand before that, and the line that stands
+/// Reads a log and writes the report of the verdict on it, and after a No what is wrong: the line
+/// that names the first event that offends, and the facts on it. After the report of a bad log
+/// come the number of its record, how many bytes come before that, and the line that is
 /// there.
 ///
 /// It reads up to the first event that offends, and nothing is written before the verdict is known.
@@ -49,7 +49,7 @@ pub fn run_explain<R: Source, W: Sink>(
     limits: Limits,
     completeness: Completeness,
 ) -> Result<Outcome, RunFault>
-    // The answer is the verdict on the log read, however that goes on where its end was not met.
+    // The answer is the verdict on the log read, however it continues where its end was not met.
     ensures judged { IfOk result (λ outcome. (v : Verdict) × (outcome ≡ Outcome.Judged v)) }
     ensures verdict { (v : Verdict) → result ≡ Ok (Outcome.Judged v)
         → OfRead limits (R.told reader.old) (R.told reader.new)
@@ -62,7 +62,7 @@ pub fn run_explain<R: Source, W: Sink>(
     ensures ended { (s : Summary) → result ≡ Ok (Outcome.Judged (Verdict.Yes s))
         → IsAtEnd (R.told reader.new).bytes }
 
-    // After a read fault or for want of memory nothing is written.
+    // After a read fault or where memory was refused nothing is written.
     ensures read_fault { result ≡ Err RunFault.Read → W.told writer.new ≡ W.told writer.old }
     ensures memory { result ≡ Err RunFault.Memory → W.told writer.new ≡ W.told writer.old }
     // What is written before a write fault begins the explanation.
@@ -198,8 +198,7 @@ pub(crate) fn side_by(who: Who) -> Side
     }
 }
 
-/// What explains what is listed of the end of a session. The rest is of the side that it is said
-/// of.
+/// What explains what is listed about the end of a session. The rest is that of the side concerned.
 pub(crate) fn explain_listed(
     alloc: Global,
     events: &SurveyReader,

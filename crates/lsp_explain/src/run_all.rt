@@ -32,12 +32,12 @@ use lsp_verdict::{
 use std::alloc::Global;
 
 /// Reads a log to its end, and explains each offence in it that follows from no earlier one: the
-/// two lines of its No, the line that names its event, and the facts on it. Behind them stand the
+/// two lines of its No, the line that names its event, and the facts on it. After them come the
 /// lines of a fault of the log with the number of its record, and how many offences were found. Of
 /// a log with nothing wrong it is the report of the verdict.
 ///
-/// An event that offends is passed over, as if it had not been sent, and the next is judged after
-/// those that keep the rules. What is said of an offence is written when it is found.
+/// An event that offends is skipped, as if it had not been sent, and the next is judged after
+/// those that keep the rules. What is said about an offence is written when it is found.
 ///
 /// # Errors
 /// `Read` where the source failed, `Write` where the sink did, and `Memory` where memory was
@@ -50,7 +50,7 @@ pub fn run_explain_all<R: Source, W: Sink>(
     limits: Limits,
     completeness: Completeness,
 ) -> Result<Outcome, RunFault>
-    // The answer is the verdict on the log read, however that goes on where its end was not met:
+    // The answer is the verdict on the log read, however it continues where its end was not met:
     // the one that `run_check` gives, or `run_check_complete`.
     ensures judged { IfOk result (λ outcome. (v : Verdict) × (outcome ≡ Outcome.Judged v)) }
     ensures verdict { (v : Verdict) → result ≡ Ok (Outcome.Judged v)
@@ -176,7 +176,7 @@ fn explain_cause<W: Sink>(
     Ok(())
 }
 
-/// Explains the end of a log behind the offences of its events, and closes the explanation.
+/// Explains the end of a log after the offences of its events, and closes the explanation.
 fn close<W: Sink>(
     alloc: Global,
     events: &mut SurveyReader,
@@ -193,7 +193,7 @@ fn close<W: Sink>(
     Ok(closing.verdict)
 }
 
-/// What stands behind the offences of the events, and the verdict. What is listed of the end is
+/// What follows the offences of the events, and the verdict. What is listed of the end is
 /// counted with them.
 fn closing_of(
     alloc: Global,
@@ -239,7 +239,7 @@ fn ends_text(
     Ok(text)
 }
 
-/// What stands behind all offences, and the verdict.
+/// What follows all offences, and the verdict.
 fn last_of(
     alloc: Global,
     events: &mut SurveyReader,

@@ -1,4 +1,4 @@
-//! What a header part says of its content (LSP 3.17, "Header Part").
+//! What a header part says about its content (LSP 3.17, "Header Part").
 ghost use Rattle.std.specs.Prelude.{◌≡◌, ◌<◌, ◌≤◌, ◌-◌, ℕ, List, [], ◌∷◌, ◌++◌, length, true, ◌&&◌};
 ghost use Rattle.std.specs.List.{list_all};
 ghost use Rattle.std.specs.Str.Parse.{digits_value};
@@ -9,7 +9,7 @@ ghost use Rattle.lsp_frame.specs.Reading.{field_view, Holds};
 use crate::bytes::{all_digits, number_up_to};
 use crate::field::{Field, split_field, trim};
 use crate::limits::Limits;
-use crate::rule;
+use lsp_types::rules;
 
 /// The values that stand as the length of the content.
 #[derive(Clone, Copy)]
@@ -31,11 +31,11 @@ fn length_of(limits: &Limits, value: &[u8]) -> Result<u64, u16>
     ensures { result ≡ length_of limits.now value.now }
 {
     if !is_number(value) {
-        return Err(rule::BAD_NUMBER);
+        return Err(rules::BAD_CONTENT_LENGTH);
     }
     match number_up_to(value, limits.content()) {
         Some(length) => Ok(length),
-        None => Err(rule::CONTENT_TOO_LONG),
+        None => Err(rules::CONTENT_TOO_LONG),
     }
 }
 
@@ -61,7 +61,7 @@ impl<'a> Lengths<'a> {
     {
         match self {
             Lengths::One(value) => length_of(limits, value),
-            Lengths::Missing | Lengths::Several => Err(rule::NOT_ONE_LENGTH),
+            Lengths::Missing | Lengths::Several => Err(rules::NOT_ONE_CONTENT_LENGTH),
         }
     }
 }
@@ -112,7 +112,7 @@ pub(crate) fn read_header(limits: &Limits, header: &[u8]) -> Result<u64, u16>
     let mut rest = header;
     while rest != b"\r\n".as_slice() {
         let Some((field, after)) = split_field(rest) else {
-            return Err(rule::BAD_LINE);
+            return Err(rules::BAD_HEADER_LINE);
         };
         lengths = lengths.with(&field);
         fits = fits && fits_charsets(&field);
@@ -122,6 +122,6 @@ pub(crate) fn read_header(limits: &Limits, header: &[u8]) -> Result<u64, u16>
     if fits {
         Ok(length)
     } else {
-        Err(rule::OTHER_CHARSET)
+        Err(rules::CHARSET_NOT_UTF_8)
     }
 }

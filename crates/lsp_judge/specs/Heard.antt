@@ -32,7 +32,7 @@ HearsOne terms messages documents counts raws heard raw given =
     × HasHeard terms messages documents counts (raws ++ raw ∷ []) (heard ++ event ∷ [])
 
 -- the content is this message of the side, but for its params and the value of a result, and means
--- this act; it was heard behind these events
+-- this act; it was heard after these events
 pub record HeardAs (side : Side) (content : List ℕ) (said : rpc.Message) (act : Act)
     (messages : session.State) (documents : docs.State) (counts : Counts)
     (events : List Event) : Type 0 where

@@ -1,4 +1,4 @@
-//! What the next event is heard as, behind those before it.
+//! What the next event is heard as, after those before it.
 ghost use Rattle.std.specs.Prelude.{◌≡◌, ◌++◌, ◌∷◌, [], ℕ, List, chars, IfOk, IfErr, OnOk};
 ghost use Rattle.lsp_rpc.specs.View.{act_view, message_view};
 ghost use Rattle.lsp_docs.specs.Terms.{Terms};

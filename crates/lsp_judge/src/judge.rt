@@ -37,7 +37,7 @@ use std::marker::Model;
 /// Judges a recorded session of an editor and a language server, record by record.
 ///
 /// It stands for the records taken. From the first record on that brings an event which offends,
-/// it answers the No at that event; a No, a fault of the log and a want of memory stay.
+/// it answers the No at that event; a No, a fault of the log and a refusal of memory stay.
 #[derive(Drop)]
 pub struct Judge<S: TextStore> {
     alloc: Global,
@@ -116,12 +116,12 @@ impl<S: TextStore> Judge<S> {
             → NoneOffends self.old.limits self.old.format (records ++ record_view next ∷ []) }
         ensures given { IfOk result (λ answer. option_map verdict_view answer
             ≡ is_given self.new.given) }
-        // What was given for good is given again, and nothing changes.
+        // The final answer is given again, and nothing changes.
         ensures repeats { (given : spec.Verdict) → is_given self.old.given ≡ Some given
             → IfOk result (λ answer. option_map verdict_view answer ≡ Some given) }
         ensures stays { (given : spec.Verdict) → is_given self.old.given ≡ Some given
             → self.new ≡ self.old }
-        // So is a want of memory.
+        // So is a refusal of memory.
         ensures refused { WasRefused self.old.given → IsErr result }
         ensures stays_refused { WasRefused self.old.given → self.new ≡ self.old }
         ensures memory { OnErr result (WasRefused self.new.given) }
@@ -138,8 +138,8 @@ impl<S: TextStore> Judge<S> {
         }
     }
 
-    /// What a fault of the log behind the records makes of the session: the No that was answered
-    /// before, and else the fault.
+    /// The outcome of the session where the log has a fault after the records: the No that was
+    /// answered before, and else the fault.
     pub fn bad_log(&mut self, number: u64, fault: LogCode) -> Verdict
         requires memory { WasRefused self.old.given → ⊥ }
         ensures limits { self.new.limits ≡ self.old.limits }
@@ -157,10 +157,10 @@ impl<S: TextStore> Judge<S> {
             → Stands self.old records
             → result ≡ Verdict.BadLog at code
             → (at ≡ number) × (code ≡ fault) × NoneOffends self.old.limits self.old.format records }
-        // Of a judge that gave nothing yet the fault is given.
+        // Of a judge that has given nothing yet the fault is given.
         ensures ungiven { self.old.given ≡ None → result ≡ Verdict.BadLog number fault }
         ensures given { Some (verdict_view result) ≡ is_given self.new.given }
-        // What was given for good is given again, and nothing changes.
+        // The final answer is given again, and nothing changes.
         ensures repeats { (given : spec.Verdict) → is_given self.old.given ≡ Some given
             → verdict_view result ≡ given }
         ensures stays { (given : spec.Verdict) → is_given self.old.given ≡ Some given
@@ -200,12 +200,12 @@ impl<S: TextStore> Judge<S> {
         ensures unchanged { (s : Summary) → result ≡ Ok (Verdict.Yes s) → self.new ≡ self.old }
         ensures given { IfOk result (λ answer. IfRefused (verdict_view answer)
             (is_given self.new.given ≡ Some (verdict_view answer))) }
-        // What was given for good is given again, and nothing changes.
+        // The final answer is given again, and nothing changes.
         ensures repeats { (given : spec.Verdict) → is_given self.old.given ≡ Some given
             → IfOk result (λ answer. verdict_view answer ≡ given) }
         ensures stays { (given : spec.Verdict) → is_given self.old.given ≡ Some given
             → self.new ≡ self.old }
-        // So is a want of memory.
+        // So is a refusal of memory.
         ensures refused { WasRefused self.old.given → IsErr result }
         ensures stays_refused { WasRefused self.old.given → self.new ≡ self.old }
         ensures memory { OnErr result (WasRefused self.new.given) }
@@ -213,8 +213,8 @@ impl<S: TextStore> Judge<S> {
         self.finish_by(Completeness::Ignored)
     }
 
-    /// The verdict on the records taken, of a log without a fault whose session has to be complete:
-    /// that of [`Judge::finish`], but in the place of Yes No by 303 where a request of the editor's
+    /// The verdict on the records taken, of a log without a fault whose session must be complete:
+    /// that of [`Judge::finish`], but in place of Yes a No by 303 where a request of the editor's
     /// has no answer (JSON-RPC 2.0, section 4), else by 407 where the editor did not send `exit`
     /// (LSP 3.17, "Exit Notification").
     pub fn finish_complete(&mut self) -> Result<Verdict, Memory>
@@ -225,8 +225,8 @@ impl<S: TextStore> Judge<S> {
             → IsCompleteFinal self.old.limits self.old.format records None v
             → verdict_view answer ≡ as_given v) }
         // Yes means that the records are kept and the session was brought to its end, and a No
-        // names the first event that offends, or the stream that ends inside a frame, or what the
-        // session of records that are kept lacks.
+        // names the first event that offends, or the stream that ends inside a frame, or what is
+        // missing from the session of records that are kept.
         ensures yes { (records : List log.Record) (s : Summary) → Stands self.old records
             → result ≡ Ok (Verdict.Yes s) → AreComplete self.old.limits self.old.format records }
         ensures no { (records : List log.Record) (rule number event : ℕ) (who : Who)
@@ -243,12 +243,12 @@ impl<S: TextStore> Judge<S> {
         ensures unchanged { (s : Summary) → result ≡ Ok (Verdict.Yes s) → self.new ≡ self.old }
         ensures given { IfOk result (λ answer. IfRefused (verdict_view answer)
             (is_given self.new.given ≡ Some (verdict_view answer))) }
-        // What was given for good is given again, and nothing changes.
+        // The final answer is given again, and nothing changes.
         ensures repeats { (given : spec.Verdict) → is_given self.old.given ≡ Some given
             → IfOk result (λ answer. verdict_view answer ≡ given) }
         ensures stays { (given : spec.Verdict) → is_given self.old.given ≡ Some given
             → self.new ≡ self.old }
-        // So is a want of memory.
+        // So is a refusal of memory.
         ensures refused { WasRefused self.old.given → IsErr result }
         ensures stays_refused { WasRefused self.old.given → self.new ≡ self.old }
         ensures memory { OnErr result (WasRefused self.new.given) }

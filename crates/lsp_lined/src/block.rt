@@ -176,7 +176,7 @@ impl Block {
         held.text.as_str()
     }
 
-    /// The same block with a text in the place of some bytes.
+    /// The same block with some bytes replaced by a text.
     fn rebuilt(&self, from: usize, to: usize, text: &str) -> Result<Block, AllocError>
         requires can { CanReplace self.now from to }
         requires room { length self.now + length text.now ≤ MOST }
@@ -190,7 +190,7 @@ impl Block {
     }
 }
 
-/// The sums of a block where a text takes the place of some bytes, if no line end comes, goes, or
+/// The sums of a block where a text replaces some bytes, if no line end comes, goes, or
 /// is joined.
 fn kept_sums(block: &Block, from: usize, to: usize, text: &str) -> Option<Sums>
     requires can { CanReplace block.now from to }
@@ -217,7 +217,7 @@ fn is_return_last(text: &str) -> bool
     bytes.len() > 0 && bytes[bytes.len() - 1] == b'\r'
 }
 
-/// Puts a text in the place of some bytes of a text that others may hold too, in one of its own.
+/// Replaces some bytes of a text that others may hold too, in a text of its own.
 fn replace_shared(
     shared: &mut Rc<BlockText>,
     from: usize,

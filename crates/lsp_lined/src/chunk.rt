@@ -136,7 +136,7 @@ fn held(shared: &Rc<Blocks>) -> &[Block]
     &blocks.items
 }
 
-/// Puts a text in the place of some bytes of one block, if that has room, in blocks of its own.
+/// Replaces some bytes of one block by a text, if that has room, in blocks of its own.
 fn replace_shared(
     shared: &mut Rc<Blocks>,
     sums: Sums,
@@ -205,7 +205,7 @@ pub(crate) fn between(
     chunks_of(alloc, blocks)
 }
 
-/// The same of blocks. The block before the first cut and the one after the second are cut anew
+/// The same of blocks. The block before the first cut and the one after the second are cut again
 /// with the text, so that no CR and LF are kept apart.
 fn recut(
     alloc: Global,
@@ -246,7 +246,7 @@ fn in_one(alloc: Global, front: &str, text: &str, back: &str) -> Result<String, 
     Ok(whole)
 }
 
-/// Puts a text in the place of some bytes of chunks, in one block where it can. Answers the sums of
+/// Replaces some bytes of chunks by a text, in one block where it can. Answers the sums of
 /// all.
 pub(crate) fn replace_in_chunks(
     alloc: Global,
@@ -266,7 +266,7 @@ pub(crate) fn replace_in_chunks(
     }
 }
 
-/// The same with blocks that are cut anew.
+/// The same with blocks that are cut again.
 fn rebuild(
     alloc: Global,
     chunks: &mut Vec<Chunk>,
@@ -292,7 +292,7 @@ fn rebuild(
     Ok(sums_in(chunks))
 }
 
-/// Puts chunks in the place of those from `first` up to `end`.
+/// Replaces by chunks those from `first` up to `end`.
 fn put(
     chunks: &mut Vec<Chunk>,
     first: usize,

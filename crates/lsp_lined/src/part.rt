@@ -57,7 +57,7 @@ pub(crate) trait Part: Drop {
         requires { IsCharBoundary (text self.now) offset }
         ensures { result ≡ units encoding (chars (take offset (text self.now))) };
 
-    /// Puts a text in the place of some bytes, in a part of its own, if it has room. Answers
+    /// Replaces some bytes by a text, in a part of its own, if it has room. Answers
     /// whether it did.
     fn replace(&mut self, from: usize, to: usize, inserted: &str) -> Result<bool, AllocError>
         requires can { CanReplace (text self.old) from to }
@@ -153,7 +153,7 @@ pub(crate) fn spot_in<T: Part>(parts: &[T], from: usize, to: usize) -> Option<Sp
     })
 }
 
-/// Puts a text in the place of some bytes of one part, if the edit stays in one that has room.
+/// Replaces some bytes of one part by a text, if the edit stays in one that has room.
 /// Answers the new sums if it did.
 pub(crate) fn replace_in<T: Part>(
     parts: &mut Vec<T>,

@@ -9,7 +9,7 @@ places_in [] = []
 places_in (None ∷ slots) = places_in slots
 places_in (Some place ∷ slots) = place ∷ places_in slots
 
--- each place stands in its slot, and no other place does
+-- each place is in its slot, and no other place is
 pub record AreTied (slots : List (Option ℕ)) (slot_of : List ℕ) : Type 0 where
   pub there : (place slot : ℕ) → slice_get slot_of place ≡ Some slot → slice_get slots slot ≡ Some (Some place)
   pub back : (slot place : ℕ) → slice_get slots slot ≡ Some (Some place) → slice_get slot_of place ≡ Some slot
@@ -43,7 +43,7 @@ moved last left place = if nat_eq place last then left else place
 abbrev pub without_place : ℕ → List ℕ → List ℕ
 without_place left places = map (moved (length places - 1) left) (filter (λ place. not (nat_eq place left)) places)
 
--- what a map keeps: no two of its keys are equal, and each of its entries stands once in the order
+-- what a map keeps: no two of its keys are equal, and each of its entries occurs once in the order
 pub record IsKept {K V : Type 0} (eq : K → K → Bool) (entries : List (K × V)) (places : List ℕ) : Type 0 where
   pub order : IsOrder places (length entries)
   pub unique : IsDistinct eq (keys_of entries)

@@ -22,9 +22,9 @@ use std::marker::Model;
 /// of the keys with their values.
 #[derive(Drop)]
 pub struct OrderedMap<K: Eq + Hash, V> {
-    /// The entries. Where one leaves, the last takes its place.
+    /// The entries. Where one leaves, the last moves to its place.
     entries: IndexMap<K, V>,
-    /// Their places in the order of entering.
+    /// Their places in the order in which they entered.
     order: Order,
 }
 
@@ -64,7 +64,7 @@ impl<K: Eq + Hash + Drop, V: Drop> OrderedMap<K, V> {
     }
 
     /// The key at this place in the order, from 0, and its value. Where keys have left since the
-    /// map was last packed, this goes past those before it, one by one.
+    /// map was last packed, this walks past those before it, one by one.
     pub fn at(&self, index: usize) -> Option<(&K, &V)>
         ensures { option_map deref_pair result ≡ slice_get self.now index }
     {

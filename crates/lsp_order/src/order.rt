@@ -67,7 +67,7 @@ impl Order {
         Ok(())
     }
 
-    /// Lets a place leave. The last place takes its number, and each keeps where it stands in the
+    /// Removes a place. The last place takes its number, and each keeps its place in the
     /// order. Takes no memory.
     pub(crate) fn remove(&mut self, place: usize)
         requires { place < length self.old }

@@ -1,5 +1,5 @@
 //! Objects read without a tree of values: the members that are wanted are gathered as they come,
-//! and the others are gone past.
+//! and the others are skipped.
 ghost use Rattle.std.specs.Prelude.{◌≡◌, ◌^◌, ℕ, ◌<◌, ◌≤◌, length, pos, Some, IfSome, option_map};
 ghost use Rattle.std.specs.Prelude.{string_bytes};
 ghost use Rattle.serde_json.specs.Data.{Data, Members, object, string, no_members, put};
@@ -38,7 +38,7 @@ pub(crate) trait Gathered: Drop {
             × ((ms : Members) → gathers ms self.old → gathers (put name.now d ms) self.new)) };
 }
 
-/// Gathers the members of the object whose brace stands before there, and gives where it ends.
+/// Gathers the members of the object whose brace is just before that place, and gives its end.
 #[inline(always)]
 fn rest_of_object<T: Gathered>(
     alloc: Global,

@@ -27,7 +27,7 @@ const VERSION: &str = "2.0";
 /// By what method the params of a message are read.
 #[derive(Clone, Copy)]
 pub(crate) enum Reads {
-    /// They are gone past.
+    /// They are skipped.
     Nothing,
     /// By the one that the side's message names before them.
     OfSide(Side),
@@ -236,7 +236,7 @@ fn response_of(id: Option<Id>, has_result: bool, error: Option<i32>) -> Option<M
     Some(Message::Response { id, answer })
 }
 
-/// A message without its params and the value of its result, with what the params were read to mean.
+/// A message without its params and the value of its result, with what was read of the params.
 #[derive(Drop)]
 pub(crate) struct Left {
     pub(crate) message: Message,

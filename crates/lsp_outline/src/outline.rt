@@ -14,6 +14,7 @@ ghost use Rattle.lsp_rpc.specs.Reading as reading;
 ghost use Rattle.lsp_rpc.specs.View.{act_view, message_view};
 ghost use Rattle.lsp_rpc.specs.Words.{words_of as spec_words_of};
 ghost use Rattle.lsp_rpc.specs.declared.fault.RpcFault.TheVariants.{Memory};
+ghost use Rattle.lsp_types.specs.declared.rules.TheConstants as rules;
 
 use crate::message::{Reads, left_of_text};
 use crate::params::{Told, act_by};
@@ -30,7 +31,7 @@ pub enum Results {
     LeftOut,
 }
 
-/// Whether nothing is wanted of the message that its outline lacks.
+/// Whether the outline of the message has all that is wanted.
 fn suffices(results: Results, message: &Message) -> bool
     ensures { IsTrue result
         → (results ≡ LeftOut) ⊎ (lacks_result (message_view message.now) ≡ false) }
@@ -118,7 +119,7 @@ fn meant(alloc: Global, side: Side, message: Message) -> Result<Spoken, RpcFault
         (params.act_at side (message_view message) ≡ Some (act_view spoken.act))
         × (message_view spoken.message ≡ without_params (message_view message))) }
     ensures rule { IfErr result (Names
-        (rule_unless_read 209 (params.act_at side (message_view message)))) }
+        (rule_unless_read rules.BAD_METHOD_PARAMS (params.act_at side (message_view message)))) }
 {
     let mut message = message;
     let act = take_act(alloc, &mut message, side)?;

@@ -76,8 +76,7 @@ impl Gathered for DocumentParts {
     }
 }
 
-/// The members of the params of a notification on a document. The `text` may be null, which stands
-/// for none.
+/// The members of the params of a notification on a document. A `text` that is null is none.
 #[derive(Drop)]
 struct ParamsParts {
     document: Option<DocumentParts>,
@@ -178,7 +177,8 @@ fn saved(document: DocumentParts, text: Option<String>) -> Option<Act>
 
 /// What a notification on a document means with these params.
 fn act_in(method: Method, parts: ParamsParts) -> Option<Act>
-    ensures { IfSome result (λ act. spec.act_in method (spec.notice_view parts) ≡ Some (act_view act)) }
+    ensures { IfSome result
+        (λ act. spec.act_in method (spec.notice_view parts) ≡ Some (act_view act)) }
 {
     match method {
         Method::DidOpen => opened(parts.document?),

@@ -3,6 +3,7 @@ use Rattle.std.specs.Prelude.{◌≡◌, ℕ, List, [], ◌∷◌, map, Bool, tr
 use Rattle.lsp_rpc.specs.Ident.{Ident, same_id, id_view}
 use Rattle.lsp_rpc.specs.declared.message.Id.{Id}
 use Rattle.lsp_session.specs.declared.pending.OpenRequest.{OpenRequest}
+use Rattle.lsp_types.specs.declared.rules.TheConstants as rules
 
 -- an open request, apart from where its texts lie in memory
 pub record Entry : Type 0 where
@@ -54,4 +55,4 @@ cancel id es = map (marked id) es
 
 -- a request has an id that is not open
 abbrev pub ask_rule : Ident → List Entry → Option ℕ
-ask_rule id es = if has_id id es then Some 302 else None
+ask_rule id es = if has_id id es then Some rules.ID_ALREADY_OPEN else None

@@ -15,6 +15,7 @@ use Rattle.lsp_types.specs.declared.change.SyncKind.{SyncKind}
 use Rattle.lsp_session.specs.Handshake.{Settled, first_settled, settled_by}
 use Rattle.lsp_session.specs.Sent.{Sent}
 use Rattle.lsp_session.specs.declared.negotiation.Agreed.{Agreed}
+use Rattle.lsp_types.specs.declared.rules.TheConstants as rules
 
 -- the first row that fits
 abbrev pub first_row : {X : Type 0} → List (Bool × Option X) → Option X
@@ -60,11 +61,11 @@ offers offer name = bytes_eq name (codes "utf-16") || lists offer.encodings name
 
 -- the rule that a result breaks which answers this offer; it picks nothing where it does not have the shape
 abbrev pub pick_rule : Offer → Option Picked → Option ℕ
-pick_rule offer None = Some 501
+pick_rule offer None = Some rules.BAD_INITIALIZE_RESULT
 pick_rule offer (Some picked) =
     first_row (
-    (not (offers offer picked.encoding), Some 502)
-    ∷ (not (is_some (encoding_named picked.encoding)), Some 503)
+    (not (offers offer picked.encoding), Some rules.ENCODING_NOT_OFFERED)
+    ∷ (not (is_some (encoding_named picked.encoding)), Some rules.ENCODING_OUTSIDE_PROFILE)
     ∷ [])
 
 abbrev pub settled_rule : Option Settled → Option ℕ
@@ -84,7 +85,8 @@ registers_synchronisation _ = false
 -- the server registers for opens, changes or closes of documents
 abbrev pub register_rule : Side → Act → Option ℕ
 register_rule Editor act = None
-register_rule Server act = if registers_synchronisation act then Some 504 else None
+register_rule Server act = if registers_synchronisation act
+    then Some rules.DYNAMIC_REGISTRATION else None
 
 -- the rule of the negotiation that the message breaks
 abbrev pub negotiation_rule : List Sent → Sent → Option ℕ
@@ -93,7 +95,8 @@ negotiation_rule before m = option_or (settled_rule (settled_by before m)) (regi
 -- 501 of a result that answers an `initialize`, and the rule given of any other message
 abbrev pub shape_rule : Option Settled → Option ℕ → Option ℕ
 shape_rule None other = other
-shape_rule (Some settled) other = if is_some (picked_at settled.value) then None else Some 501
+shape_rule (Some settled) other = if is_some (picked_at settled.value)
+    then None else Some rules.BAD_INITIALIZE_RESULT
 
 -- the same, without 502 and 503, for which the name of the encoding is copied
 abbrev pub early_negotiation_rule : List Sent → Sent → Option ℕ

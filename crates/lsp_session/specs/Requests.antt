@@ -6,6 +6,7 @@ use Rattle.lsp_rpc.specs.Message.{Message, request, notification, response}
 use Rattle.lsp_types.specs.declared.side.Side.{Side}
 use Rattle.lsp_session.specs.Entry.{Entry, has_id, ask_rule}
 use Rattle.lsp_session.specs.Sent.{Sent, other_side, request_of, request_by, answered_id, cancelled_id}
+use Rattle.lsp_types.specs.declared.rules.TheConstants as rules
 
 abbrev pub names : Option Ident → Ident → Bool
 names None id = false
@@ -27,7 +28,7 @@ open_entry side (Some asked) later =
     if is_answered side asked.0 later then []
     else record { id = asked.0; method = asked.1; cancelled = is_cancelled side asked.0 later } ∷ []
 
--- the requests of this side that no later message answers, in order of asking
+-- the requests of this side that no later message answers, in the order in which they were sent
 abbrev pub open_requests : Side → List Sent → List Entry
 open_requests side [] = []
 open_requests side (m ∷ later) = open_entry side (request_by side m) later ++ open_requests side later
@@ -36,7 +37,7 @@ abbrev pub answers_request : Side → Option (Ident × List ℕ) → List Sent �
 answers_request side None between m = false
 answers_request side (Some asked) between m = names (answered_id side m) asked.0 && not (is_answered side asked.0 between)
 
--- `m` answers the request `asked`, where these messages stand between the two
+-- `m` answers the request `asked`, where these messages come between the two
 abbrev pub answers : Sent → List Sent → Sent → Bool
 answers asked between m = answers_request asked.side (request_of asked.message) between m
 
@@ -44,8 +45,9 @@ answers asked between m = answers_request asked.side (request_of asked.message) 
 
 -- a response has the id of an open request
 abbrev pub answer_rule : Option Ident → List Entry → Option ℕ
-answer_rule None entries = Some 301
-answer_rule (Some id) entries = if has_id id entries then None else Some 301
+answer_rule None entries = Some rules.RESPONSE_TO_NO_OPEN_REQUEST
+answer_rule (Some id) entries = if has_id id entries
+    then None else Some rules.RESPONSE_TO_NO_OPEN_REQUEST
 
 -- the rule for a message, where these requests of its own and of the other side are open
 abbrev pub id_rule : List Entry → List Entry → Message → Option ℕ

@@ -9,6 +9,7 @@ ghost use Rattle.lsp_session.specs.Refusal.{Names};
 use crate::refusal::Refusal;
 use lsp_order::OrderedMap;
 use lsp_rpc::{Id, Memory, copy_id};
+use lsp_types::rules;
 use std::alloc::Global;
 use std::marker::Model;
 
@@ -95,7 +96,7 @@ impl Pending {
         ensures unchanged { OnErr result (self.new ≡ self.old) }
     {
         if self.contains(id) {
-            return Err(Refusal::Rule(302));
+            return Err(Refusal::Rule(rules::ID_ALREADY_OPEN));
         }
         let key = copy_id(id)?;
         let request = new_request(self.requests.allocator(), id, method)?;

@@ -26,7 +26,7 @@ use Rattle.lsp_verdict.specs.declared.outcome.RunFault.TheVariants as faults
 
 -- ---- logs
 
--- these records go on behind those
+-- these records continue after those
 abbrev pub GoesBehind : List Record → List Record → Type 0
 GoesBehind front records = (more : List Record) × (records ≡ front ++ more)
 
@@ -41,7 +41,7 @@ pub record HasGiven (limits : Bounds) (format : Option Format) (front : List Rec
   pub placed : Placed limits records (given ++ later)
 
 -- the log has these records and this fault, or none; of a fault its reader knows how many bytes of
--- the log stand before it, and the line that stands there
+-- the log come before it, and the line that is there
 abbrev pub IsLogOf : reader.State → Bounds → List Record → Option (ℕ × LogCode) → List ℕ → Type 0
 IsLogOf r limits records None log = IsLog limits log r.format records None
 IsLogOf r limits records (Some flaw) log = ShowsFault r limits records flaw log
@@ -53,7 +53,7 @@ abbrev pub flaw_of : End → Option (ℕ × LogCode)
 flaw_of Sound = None
 flaw_of (Bad number fault) = Some (number, fault)
 
--- the log ends behind these records, with this fault or none
+-- the log ends after these records, with this fault or none
 pub record EndsBehind (r : reader.State) (limits : Bounds) (start now : Told)
     (records : List Record) (flaw : Option (ℕ × LogCode)) : Type 0 where
   pub of_read : OfRead limits start now (IsLogOf r limits records flaw)
@@ -80,7 +80,7 @@ pub record Ended (limits : Bounds) (format : Option Format) (e : LogEvents) (sta
   pub reads : Reads limits format e start now records given []
   pub ends : EndsBehind e.log limits start now records (flaw_of end)
 
--- reading broke off behind these records and events of a log of this format
+-- reading broke off after these records and events of a log of this format
 pub record BrokeOff (limits : Bounds) (start now : Told) (format : Option Format)
     (records : List Record) (given : List Raw) (fault : RunFault) : Type 0 where
   pub of_read : OfRead limits start now (HasGiven limits format records given)
@@ -95,7 +95,7 @@ Opens limits start now e =
 
 -- ---- the next event
 
--- one more event of these records, or of more, or the end of the log behind them
+-- one more event of these records, or of more, or the end of the log after them
 abbrev pub Gives : Bounds → Option Format → LogEvents → Told → Told → List Record → List Raw
     → Result Next RunFault → Type 0
 Gives limits format e start now records given (Ok (next.Event raw)) =
@@ -119,7 +119,7 @@ abbrev pub HoldsStep : streams.State → Step → Type 0
 HoldsStep s (step.Event due) = IsHeld s due
 HoldsStep s (step.End end) = Unit {0}
 
--- the event was gone past, and is such a one
+-- the event was skipped, and is such a one
 abbrev pub Finds : Bounds → Option Format → LogEvents → Told → Told → List Record → List Raw
     → Result Step RunFault → Type 0
 Finds limits format e start now records given (Ok (step.Event due)) =
@@ -131,7 +131,7 @@ Finds limits format e start now records given (Ok (step.End end)) =
 Finds limits format e start now records given (Err fault) =
     (more : List Record) × BrokeOff limits start now format (records ++ more) given fault
 
--- these records were taken, all of their events were given, and the log goes on
+-- these records were taken, all of their events were given, and the log continues
 pub record IsIdle (limits : Bounds) (e : LogEvents) (start now : Told) (records : List Record)
     (given : List Raw) : Type 0 where
   pub same : e.log.limits ≡ limits

@@ -31,7 +31,7 @@ use Rattle.lsp_verdict.specs.declared.outcome.RunFault.{RunFault}
 use Rattle.lsp_verdict.specs.declared.outcome.RunFault.TheVariants as faults
 use Rattle.lsp_verdict.specs.declared.verdict.Verdict.TheVariants as verdicts
 
--- an event in the place of one that is not read, by which it is counted
+-- an event that replaces one that is not read, by which it is counted
 abbrev pub mark : Raw → Event
 mark (content side bytes) = event.fault side 0
 mark (broken side rule) = event.fault side rule
@@ -83,7 +83,7 @@ WritesEvent size counts old new before raw (Err fault) =
 
 -- ---- the events of a log
 
--- the outcome is that of a log that ends behind these records, which bring these events, without a
+-- the outcome is that of a log that ends after these records, which bring these events, without a
 -- fault
 pub record EndsWhole (limits : Bounds) (records : List Record) (raws : List Raw)
     (outcome : Outcome) : Type 0 where
@@ -93,7 +93,7 @@ pub record EndsWhole (limits : Bounds) (records : List Record) (raws : List Raw)
   pub server_rest : HasRest limits (joined Server records) server
   pub carries : CarriesCapped outcome (fault_of raws (ending None editor server))
 
--- the outcome is that of a log that ends so behind these records
+-- the outcome is that of a log that ends so after these records
 abbrev pub EndsLog : Bounds → List Record → List Raw → End → Outcome → Type 0
 EndsLog limits records raws Sound outcome = EndsWhole limits records raws outcome
 EndsLog limits records raws (Bad number fault) outcome =

@@ -36,13 +36,13 @@ Refuses Lengths content rule = ⊥
 Refuses Canonical content rule = ⊥
 Refuses Kinds content rule = BreaksRule content rule
 
--- a fault has the number of the frame behind those before it
+-- a fault has the number of the frame after those before it
 abbrev pub outcome_at : ℕ → Option StreamFault → Outcome
 outcome_at frame None = Done
 outcome_at frame (Some fault) = Stream frame fault
 
 -- the parts of contents, the first of which has this number, up to the first content that has none;
--- behind them all stands the fault
+-- the fault follows them all
 abbrev pub RunsThrough : Mode → ℕ → List (List ℕ) → Option StreamFault → List ℕ → Outcome → Type 0
 RunsThrough mode frame [] fault parts outcome = (parts ≡ []) × (outcome ≡ outcome_at frame fault)
 RunsThrough mode frame (content ∷ contents) fault parts outcome =

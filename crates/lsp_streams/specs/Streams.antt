@@ -73,7 +73,7 @@ StepsBy None side old new (Some (due.Broken by rule)) =
     (by ≡ side) × decoder.Next old new (Err rule)
 StepsBy None side old new (Some due.Snapshot) = ⊥
 
--- the decoder of a side went past its next event, of which there is none behind a fault that it
+-- the decoder of a side skipped its next event, of which there is none after a fault that it
 -- gave
 abbrev pub StepsSide : Side → decoder.State → decoder.State → Option Due → Type 0
 StepsSide side old new next = StepsBy old.fault side old new next
@@ -87,13 +87,13 @@ StepsAt (Some (turn.Bytes Server)) old new next =
 StepsAt (Some turn.Snapshot) old new next =
     (next ≡ Some due.Snapshot) × (new ≡ record old { turn = None }) × IsSome new.snapshot
 
--- the next event was gone past, or there is none
+-- the next event was skipped, or there is none
 abbrev pub Steps : State → State → Option Due → Type 0
 Steps old new next = StepsAt old.turn old new next
 
 -- ---- records
 
--- **a side's decoder has still to give these events of these bytes**: contents, and behind them a
+-- **a side's decoder has still to give these events of these bytes**: contents, and after them a
 -- fault that it did not give
 pub record IsDue (side : Side) (d : decoder.State) (bytes : List ℕ) (due : List Raw) : Type 0 where
   pub given : List (List ℕ)
@@ -165,6 +165,6 @@ abbrev pub ends_at : Option ℕ → List ℕ → Bool
 ends_at None rest = is_rest rest
 ends_at (Some rule) rest = false
 
--- bytes are left that are no whole frame and have no fault
+-- bytes are left that are not a whole frame and have no fault
 abbrev pub ends_inside : decoder.State → Bool
 ends_inside d = ends_at d.fault d.rest

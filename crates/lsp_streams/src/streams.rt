@@ -46,13 +46,13 @@ pub(crate) enum Due {
 /// contents are read.
 ///
 /// It stands for the records pushed and the events given. The events of a record are contents that
-/// its bytes make whole and a fault of its side's frames, behind which that side has no more; or a
+/// its bytes complete and a fault of its side's frames, after which that side has no more; or a
 /// snapshot.
 #[derive(Drop)]
 pub struct Streams {
     editor: Decoder,
     server: Decoder,
-    /// The snapshot pushed last, until the event behind it is asked for.
+    /// The snapshot pushed last, until the event after it is asked for.
     snapshot: Option<Snapshot>,
     turn: Option<Turn>,
 }
@@ -131,7 +131,7 @@ impl Streams {
         }
     }
 
-    /// The bytes of a side behind its last whole frame. Behind a fault of its frames they go at
+    /// The bytes of a side after its last whole frame. After a fault of its frames they go at
     /// least as far as that is seen.
     pub fn rest(&self, side: Side) -> &[u8]
         ensures { result.now ≡ (decoder_of side self.now).rest }
@@ -152,7 +152,7 @@ impl Streams {
         }
     }
 
-    /// Goes past the next event.
+    /// Skips the next event.
     pub(crate) fn advance(&mut self) -> Option<Due>
         ensures { Steps self.old self.new result }
     {
@@ -170,7 +170,7 @@ impl Streams {
         }
     }
 
-    /// The event that was gone past last.
+    /// The event that was skipped last.
     pub(crate) fn lend(&self, due: Due) -> Raw<'_>
         requires { IsHeld self.now due }
         ensures { IsRaw self.now due (raw_view result) }
@@ -203,7 +203,7 @@ impl Streams {
     }
 }
 
-/// Goes past the next content of a side, or a fault of its frames.
+/// Skips the next content of a side, or a fault of its frames.
 fn advance_side(side: Side, decoder: &mut Decoder) -> Option<Due>
     ensures { StepsSide side decoder.old decoder.new result }
 {
@@ -220,7 +220,7 @@ fn advance_side(side: Side, decoder: &mut Decoder) -> Option<Due>
     }
 }
 
-/// Whether bytes are left that are no whole frame and have no fault.
+/// Whether bytes are left that are not a whole frame and have no fault.
 fn is_inside(decoder: &Decoder) -> bool
     ensures { result ≡ ends_inside decoder.now }
 {

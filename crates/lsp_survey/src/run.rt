@@ -33,7 +33,7 @@ use std::alloc::Global;
 /// offence that is listed, in order, those of a fault of the log, and how many offences were found.
 /// Of a log with nothing wrong it is the report of the verdict.
 ///
-/// An event that offends is passed over, as if it had not been sent, and the next is judged after
+/// An event that offends is skipped, as if it had not been sent, and the next is judged after
 /// those that keep the rules. After a fault of a side's frames the other side is read on. The lines
 /// of an offence are written when it is found.
 ///
@@ -48,7 +48,7 @@ pub fn run_survey<R: Source, W: Sink>(
     completeness: Completeness,
     listing: Listing,
 ) -> Result<Outcome, RunFault>
-    // The answer is the verdict on the log read, however that goes on where its end was not met:
+    // The answer is the verdict on the log read, however it continues where its end was not met:
     // the one that `run_check` gives, or `run_check_complete`.
     ensures judged { IfOk result (λ outcome. (v : Verdict) × (outcome ≡ Outcome.Judged v)) }
     ensures verdict { (v : Verdict) → result ≡ Ok (Outcome.Judged v)

@@ -106,7 +106,7 @@ impl SurveyReader {
             → SoFar limits self.old start (R.told reader.old) past before found
             → Pulls self.old.completeness limits self.new start
             (R.told reader.new) past before found result }
-        // The records of the log go on after those before.
+        // The records of the log continue after those before.
         ensures later { IfOk result
             (λ next. (limits : Bounds) (start : Told) (past : List Raw) (before : List Noted)
             (found : List SpecOffence)
@@ -188,7 +188,7 @@ impl SurveyReader {
         self.log.rest(side)
     }
 
-    /// After a fault of the log, how many of its bytes stand before that: the bad record begins
+    /// After a fault of the log, how many of its bytes come before that: the bad record begins
     /// there; 0 where the first line is missing.
     pub fn place(&self) -> u64
         ensures { result ≡ self.now.log.log.place }
@@ -196,7 +196,7 @@ impl SurveyReader {
         self.log.place()
     }
 
-    /// After a fault of the log, the line that stands at its place, its LF included, as far as the
+    /// After a fault of the log, the line that is at its place, its LF included, as far as the
     /// log's first 64 bytes from there on go, and 14 of a log whose first line is missing.
     pub fn found(&self) -> &[u8]
         ensures { result.now ≡ shown_by self.now.log.log }
@@ -204,7 +204,7 @@ impl SurveyReader {
         self.log.found()
     }
 
-    /// What the end of the log comes to.
+    /// The result of the end of the log.
     fn end(&self, end: streams::End) -> Result<End, Memory>
         ensures { IfOk result (λ told. EndIs self.now end told) }
     {

@@ -1,4 +1,4 @@
-//! The events of a session, of which those that offend are passed over.
+//! The events of a session, of which those that offend are skipped.
 ghost use Rattle.std.specs.Prelude.{◌≡◌, ◌&&◌, ◌||◌, [], Bool, List, None, Some, false, IfOk, OnOk};
 ghost use Rattle.std.specs.Prelude.{chars};
 ghost use Rattle.lsp_docs.specs.Calls.{shows};
@@ -41,7 +41,7 @@ use lsp_streams::Raw;
 use lsp_verdict::{Completeness, Counts, Offence, Who, who_of};
 use std::alloc::Global;
 
-/// What the events of a session have come to, where each that offends is passed over.
+/// The result of the events of a session, where each that offends is skipped.
 ///
 /// Session and documents hold the kept ones, the counts are of all.
 #[derive(Drop)]
@@ -84,7 +84,7 @@ impl Walk {
         }
     }
 
-    /// What the session lacks to be complete, by its rule, where it has to be.
+    /// What is missing from the session, by its rule, where it must be complete.
     pub(crate) fn lack(&self, completeness: Completeness) -> Option<u16>
         ensures { (kept : List Event) → Holds self.now.events.session self.now.events.docs kept
             → result ≡ lack_by completeness kept }
@@ -209,7 +209,7 @@ impl Walk {
         Ok(Heard::Kept)
     }
 
-    /// Passes over a message that offends by this rule.
+    /// Skips a message that offends by this rule.
     fn refuse_message(&mut self, side: Side, rule: u16, spoken: Spoken) -> Result<Heard, Memory>
         ensures terms { self.new.events.docs.terms ≡ self.old.events.docs.terms }
         ensures passes { IfOk result
@@ -228,7 +228,7 @@ impl Walk {
         }))
     }
 
-    /// Passes over a content that breaks this rule.
+    /// Skips a content that breaks this rule.
     fn refuse_content(
         &mut self,
         alloc: Global,
@@ -251,7 +251,7 @@ impl Walk {
         }))
     }
 
-    /// Passes over a snapshot that offends by this rule.
+    /// Skips a snapshot that offends by this rule.
     fn refuse_snapshot(
         &mut self,
         alloc: Global,

@@ -25,7 +25,7 @@ pub use columns::offset_in_line;
 pub use counts::{Counts, measure};
 pub use cut::FirstLine;
 pub use difference::{Difference, first_difference};
-pub use fault::{INSIDE_CHARACTER, OVER_LIMIT, REVERSED, TextFault};
+pub use fault::TextFault;
 pub use laws::{
     characters_denote, line_ends_are_whole, lines_are_the_cut, lines_of_joined, one_difference,
     places_are_denoted, places_have_positions, positions_denote_one_place, positions_lie_inside,

@@ -37,7 +37,7 @@ pub trait TextStore: Drop {
     fn resolve(&self, encoding: Encoding, position: Position) -> Result<Place, TextFault>
         ensures { IsPlaceOr605 (place_of encoding (content self.now) position) result };
 
-    /// Puts a text in the place of the characters of a span. Rule 605 refuses a position inside a
+    /// Replaces the characters of a span by a text. Rule 605 refuses a position inside a
     /// character, then 606 a first place after the second, then 607 a result of more bytes of UTF-8
     /// than the limit.
     fn replace(
@@ -53,7 +53,7 @@ pub trait TextStore: Drop {
             (IsFaultOf (replaced encoding (content self.old) span (chars text.now) limit)) }
         ensures err { OnErr result (content self.new ≡ content self.old) };
 
-    /// Puts a text in the place of the whole text. Rule 607 refuses one of more bytes of UTF-8 than
+    /// Replaces the whole text. Rule 607 refuses one of more bytes of UTF-8 than
     /// the limit.
     fn replace_all(&mut self, text: &str, limit: u64) -> Result<(), TextFault>
         ensures ok { OnOk result (limited limit (chars text.now) ≡ Ok (content self.new)) }

@@ -5,6 +5,7 @@
 mod change;
 mod memory;
 mod position;
+pub mod rules;
 mod side;
 
 pub use change::{Change, SyncKind};

@@ -11,7 +11,8 @@ pub record IsDrained (d : decoder.State) (bytes : List ℕ) : Type 0 where
   pub stands : decoder.StandsFor d bytes contents
   pub ends : decoder.EndsWith d bytes contents None
 
--- the side's decoder has still to give, of its bytes, the contents that are due and a fault behind them
+-- the side's decoder has still to give, of its bytes, the contents that are due and a fault after
+-- them
 pub record HasDue (side : Side) (d : decoder.State) (bytes : List ℕ) (due : List Raw) : Type 0 where
   pub given : List (List ℕ)
   pub left : List (List ℕ)

@@ -25,7 +25,7 @@ use Rattle.lsp_words.specs.declared.task.Task.TheVariants as tasks
 abbrev pub rows_in : ArgMatches → List Row
 rows_in arguments = rows_of (found_of arguments)
 
--- the file of a name: `-` is standard input, as is no name
+-- the file of a name: standard input for `-`, and where there is no name
 abbrev pub file_of : Option (List ℕ) → Option (List ℕ)
 file_of name = option_and_then (λ n. if bytes_eq n (codes "-") then None else Some n) name
 
@@ -65,7 +65,8 @@ abbrev pub lines_of : Bool → Lines
 lines_of true = Long
 lines_of false = Short
 
--- the session has to be complete where the option for that is set, and offences are listed where an option for these is set
+-- the session must be complete where the option for that is set, and offences are listed where an
+-- option for these is set
 pub record AsksCheck (rows : List Row) (completeness : Completeness) (listing : Option Listing) : Type 0 where
   pub complete : Bool
   pub all : Bool
@@ -76,7 +77,8 @@ pub record AsksCheck (rows : List Row) (completeness : Completeness) (listing : 
   pub completeness_is : completeness ≡ completeness_of complete
   pub listing_is : listing ≡ listing_of all every
 
--- the session has to be complete where the option for that is set, and all that is wrong is explained where the option for that is set
+-- the session must be complete where the option for that is set, and all that is wrong is explained
+-- where the option for that is set
 pub record AsksExplain (rows : List Row) (completeness : Completeness) (all : Bool) : Type 0 where
   pub complete : Bool
   pub complete_is : IsFlag (one_of (codes "complete") rows) complete

@@ -25,7 +25,7 @@ fn mode_of(name: Option<&str>) -> Mode
     }
 }
 
-/// Whether a session has to be complete, where the option for it is set or not.
+/// Whether a session must be complete, where the option for it is set or not.
 fn completeness_of(set: bool) -> Completeness
     ensures { result ≡ completeness_of set }
 {

@@ -6,7 +6,7 @@
 //! writes the log in its normal form, and `upgrade` writes it in format 2. `frames` reads one raw
 //! stream, one direction of such a session, and lists its frames, or writes them in canonical form.
 //!
-//! What the words ask for, how it is done and what its end means stand in `lsp_command`; here the
+//! `lsp_command` has what the words request, how it is done and what its end means; here the
 //! words, the input and the two outputs come from the system.
 #![tactic(auto)]
 
@@ -123,7 +123,7 @@ fn status_shown<R: Eprint>(rt: &R, answer: &Result<TaskOutcome, RunFault>) -> u8
     status_of_task(answer)
 }
 
-/// Runs, and says on standard error what is to be said of it.
+/// Runs, and writes to standard error what there is to report.
 fn status_of_run<R: Files + io::Input + Print + Eprint + AllocGlobal>(
     rt: &R,
     request: &Request<'_>,

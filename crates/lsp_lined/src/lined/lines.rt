@@ -196,13 +196,13 @@ impl Lines {
         Ok(())
     }
 
-    /// Puts a text in the place of some bytes.
+    /// Replaces some bytes by a text.
     pub(crate) fn replace(&mut self, from: usize, to: usize, text: &str) -> Result<(), AllocError>
         requires { CanReplace self.old from to }
         ensures ok { OnOk result (self.new ≡ replace_range self.old from to text.now) }
         ensures err { OnErr result (self.new ≡ self.old) }
     {
-        // No memory holds so many bytes.
+        // No memory holds that many bytes.
         if text.len() as u64 >= u64::MAX - self.sums.bytes {
             return Err(AllocError);
         }
@@ -212,7 +212,7 @@ impl Lines {
 }
 
 /// A line with its end that is lent: where it begins, where its end begins, and where that ends.
-/// Beside it the sums of the text, what comes after its start in the same block, and whether each
+/// Also the sums of the text, what comes after its start in the same block, and whether each
 /// of those characters has one byte.
 #[derive(Drop)]
 pub(crate) struct LentLine<'a> {
