@@ -139,12 +139,16 @@ abbrev pub TaskIn : Text → List Row → Option Task → Type 0
 TaskIn name rows result =
     MatchOption result ((task : Task) → HasTask name rows task → ⊥) (HasTask name rows)
 
--- a command of this name asks for the request: its task, and the file that it names
+-- a command of this name asks for the request: its task, the file that it names, and whether no
+-- progress is to be shown
+pub record AsksOf (name : Text) (rows : List Row) (request : Request) : Type 0 where
+  pub task : HasTask name rows request.task
+  pub file : option_map (λ path. path.now) request.file ≡ file_of (first_of (codes "file") rows)
+  pub quiet : IsFlag (one_of (codes "quiet") rows) request.quiet
+
 abbrev pub AsksFor : Option (Text × List Row) → Request → Type 0
 AsksFor None request = ⊥
-AsksFor (Some p) request =
-    HasTask p.0 p.1 request.task
-    × (option_map (λ path. path.now) request.file ≡ file_of (first_of (codes "file") p.1))
+AsksFor (Some p) request = AsksOf p.0 p.1 request
 
 -- the request that a command asks for, where it asks for one
 abbrev pub RequestIn : Option (Text × List Row) → Option Request → Type 0

@@ -34,4 +34,6 @@ pub struct Request<'a> {
     pub task: Task<'a>,
     /// The file to read, or standard input.
     pub file: Option<&'a str>,
+    /// Whether no progress is shown.
+    pub quiet: bool,
 }

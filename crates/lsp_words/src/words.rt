@@ -172,7 +172,8 @@ fn request_in<'a>(matches: &ArgMatches<'a>) -> Option<Request<'a>>
     let (name, arguments) = matches.subcommand()?;
     let task = task_of(name, arguments)?;
     let file = file_of(arguments.get_str("file"));
-    Some(Request { task, file })
+    let quiet = is_set(arguments, "quiet");
+    Some(Request { task, file, quiet })
 }
 
 /// Reads the words of a command line, the program's name first.
