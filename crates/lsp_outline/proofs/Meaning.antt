@@ -1,9 +1,8 @@
 -- What a message means, of what its params were read to mean.
-use Rattle.std.proofs.Common.{◌≡◌, ℕ, List, Option, Some, None, option_map, option_and_then, codes}
+use Rattle.std.proofs.Common.{◌≡◌, Option, Some, None, option_map, option_and_then, codes}
 use Rattle.std.proofs.Common.{refl, sym, ap, subst, ◌∙◌}
 use Rattle.serde_json.specs.Data.{Data, Members, object}
-use Rattle.serde_json.specs.Find.{get_member}
-use Rattle.lsp_rpc.specs.Act.{Text, Act, did_close, did_save, other}
+use Rattle.lsp_rpc.specs.Act.{Text, Act, did_close, did_save}
 use Rattle.lsp_rpc.specs.Message.{Message, request, notification, response, result, error}
 use Rattle.lsp_rpc.specs.Methods.{meaning, IsMethod}
 use Rattle.lsp_rpc.specs.Outline.{outline}

@@ -9,7 +9,7 @@ use Rattle.serde_json.specs.Find.{get_member}
 use Rattle.lsp_rpc.specs.Ident.{Ident}
 use Rattle.lsp_rpc.specs.Message.{Message, request, notification, response, result, error}
 use Rattle.lsp_rpc.specs.Outline.{outline, without_params, IsOrIsOutline}
-use Rattle.lsp_rpc.specs.Reading.{IsMessage, code_of}
+use Rattle.lsp_rpc.specs.Reading.{code_of}
 use Rattle.lsp_rpc.specs.Shape.{as_id, is_id_or_null, unless_null, is_structure_or_null}
 use Rattle.lsp_rpc.specs.Shape.{holds_unless_absent}
 use Rattle.lsp_rpc.specs.Words.{words_of}

@@ -1,5 +1,5 @@
 -- What the params of a call, read member by member, have told so far.
-use Rattle.std.specs.Prelude.{◌≡◌, ℕ, ℤ, List, Option, Some, None, codes, option_map}
+use Rattle.std.specs.Prelude.{ℤ, List, Option, Some, None, codes, option_map}
 use Rattle.std.specs.Prelude.{option_and_then, string_bytes}
 use Rattle.serde_json.specs.Data.{Data}
 use Rattle.serde_json.specs.Find.{as_str}

@@ -1,4 +1,4 @@
-use Rattle.std.proofs.Common.{◌≡◌, Some, ap, sym, ◌∙◌}
+use Rattle.std.proofs.Common.{◌≡◌, ap, ◌∙◌}
 use Rattle.serde_json.specs.Data.{object}
 use Rattle.lsp_rpc.specs.View.{act_view}
 use Rattle.lsp_outline.specs.Told.{notice_of, notice_view, act_in}
