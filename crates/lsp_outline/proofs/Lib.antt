@@ -1,8 +1,7 @@
 pub mod Skipping
 pub mod Outlining
 pub mod Editing
-pub mod Noticing
-pub mod Calls
+pub mod Meaning
 pub mod ShortNumerals
 pub mod Lexing
 pub mod Spaces

@@ -9,14 +9,15 @@ use Rattle.serde_json.specs.Find.{get_member}
 use Rattle.lsp_rpc.specs.Ident.{Ident}
 use Rattle.lsp_rpc.specs.Message.{Message, request, notification, response, result, error}
 use Rattle.lsp_rpc.specs.Outline.{outline, without_params, IsOrIsOutline}
-use Rattle.lsp_rpc.specs.Reading.{IsMessage, code_of}
+use Rattle.lsp_rpc.specs.Reading.{code_of}
 use Rattle.lsp_rpc.specs.Shape.{as_id, is_id_or_null, unless_null, is_structure_or_null}
 use Rattle.lsp_rpc.specs.Shape.{holds_unless_absent}
 use Rattle.lsp_rpc.specs.Words.{words_of}
 use Rattle.lsp_rpc.proofs.OutlineWords.{words_by_outline}
 use Rattle.lsp_outline.specs.declared.outline.Results.{Results}
 use Rattle.lsp_outline.specs.declared.outline.Results.TheVariants.{LeftOut}
-use Rattle.lsp_outline.specs.Outlined.{id_in, call_in, response_in, lacks_result}
+use Rattle.lsp_outline.specs.Outlined.{id_in, call_in, response_in, lacks_result, Tells, IsLeft}
+use Rattle.lsp_outline.specs.declared.params.Told.{Told}
 
 pub differ : (q k : List ℕ) → bytes_eq q k ≡ false → q ≡ k → ⊥
 differ q k h e = true≢false (sym ((bytes_eq-Decides q k).1 e) ∙ h)
@@ -84,8 +85,9 @@ some_id (object ms) i h = absurd (cc)
 
 -- ---- the message
 
+-- what was told of the params stays beside the message
 abbrev Outlines : Members → Message → Type 0
-Outlines ms m = (whole : Message) × IsMessage (object ms) whole × (m ≡ outline whole)
+Outlines ms m = (told : Option Told) → Tells ms told → IsLeft ms m told
 
 same : (a m : Message) → Some a ≡ Some m → m ≡ a
 same a m h = sym (ap (λ (o : Option Message). unwrap_or o m) h)
@@ -100,47 +102,58 @@ module _ (ms : Members) (version : get_member (codes "jsonrpc") ms ≡ Some (str
       → option_map id_in (get_member (codes "id") ms) ≡ option_map Some id
       → call_in name id ≡ Some m → Outlines ms m
   call_made name None m method id is =
-      let none = absent id_in _ id in (
-        notification name own_params,
-        record { keeps_rules = rw (version, method, none, good); made = rw (method, none) },
-        same (notification name None) m is,
-      )
+      let none = absent id_in _ id in λ told tells. record {
+        whole = notification name own_params;
+        is = record { keeps_rules = rw (version, method, none, good); made = rw (method, none) };
+        rest = same (notification name None) m is;
+        params = refl;
+        tells = tells;
+      }
   call_made name (Some None) m method id is = absurd (cc)
   call_made name (Some (Some i)) m method id is =
       let d = present id_in _ (Some (Some i)) id in
-      let own = own_id d.0 i d.2 in (
-        request i name own_params,
-        record { keeps_rules = rw (version, method, d.1, own, good); made = rw (method, d.1, own) },
-        same (request i name None) m is,
-      )
+      let own = own_id d.0 i d.2 in λ told tells. record {
+        whole = request i name own_params;
+        is = record {
+          keeps_rules = rw (version, method, d.1, own, good);
+          made = rw (method, d.1, own);
+        };
+        rest = same (request i name None) m is;
+        params = refl;
+        tells = tells;
+      }
 
   result_made : (id : Option Ident) (d value : Data) (m : Message)
       → get_member (codes "method") ms ≡ None → get_member (codes "id") ms ≡ Some d
       → (is_id_or_null d ≡ true) × (as_id d ≡ id)
       → get_member (codes "result") ms ≡ Some value → get_member (codes "error") ms ≡ None
       → Some (response id (result null)) ≡ Some m → Outlines ms m
-  result_made id d value m method own i there none is = (
-    response id (result value),
-    record {
+  result_made id d value m method own i there none is = λ told tells. record {
+    whole = response id (result value);
+    is = record {
       keeps_rules = rw (version, method, own, i.0, there, none);
       made = rw (method, own, i.1, there);
-    },
-    same (response id (result null)) m is,
-  )
+    };
+    rest = same (response id (result null)) m is;
+    params = tt;
+    tells = tells;
+  }
 
   error_made : (id : Option Ident) (d fault : Data) (code : ℤ) (m : Message)
       → get_member (codes "method") ms ≡ None → get_member (codes "id") ms ≡ Some d
       → (is_id_or_null d ≡ true) × (as_id d ≡ id)
       → get_member (codes "result") ms ≡ None → get_member (codes "error") ms ≡ Some fault
       → code_of fault ≡ Some code → Some (response id (error code)) ≡ Some m → Outlines ms m
-  error_made id d fault code m method own i none there is_code is = (
-    response id (error code),
-    record {
+  error_made id d fault code m method own i none there is_code is = λ told tells. record {
+    whole = response id (error code);
+    is = record {
       keeps_rules = rw (version, method, own, i.0, none, there, is_code);
       made = rw (method, own, i.1, none, there, is_code);
-    },
-    same (response id (error code)) m is,
-  )
+    };
+    rest = same (response id (error code)) m is;
+    params = tt;
+    tells = tells;
+  }
 
   pub response_made : (id : Option Ident) (r : Bool) (e : Option ℤ) (m : Message)
       → get_member (codes "method") ms ≡ None

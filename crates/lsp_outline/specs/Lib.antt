@@ -1,4 +1,4 @@
-pub mod Notice
 pub mod Outlined
 pub mod Spoken
+pub mod Told
 pub mod Walk

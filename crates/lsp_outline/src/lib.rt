@@ -8,9 +8,10 @@
 mod bytes;
 mod edits;
 mod members;
-mod notices;
+mod message;
 mod numbers;
 mod outline;
+mod params;
 mod texts;
 mod walk;
 

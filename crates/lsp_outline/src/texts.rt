@@ -216,9 +216,9 @@ pub(crate) fn plain_text(text: &str, from: usize) -> Option<(&str, usize)>
     Some((&text[from..stop], stop + 1))
 }
 
-/// The text of a string that begins there, copied, and where it ends, past its closing quote.
-#[inline(never)]
-pub(crate) fn text_copy(alloc: Global, text: &str, from: usize) -> Option<(String, usize)>
+/// The text of a string that begins there, its escapes read, and where it ends, past its closing
+/// quote.
+fn unescaped(alloc: Global, text: &str, from: usize) -> Option<(String, usize)>
     requires { IsCharBoundary text.now from }
     ensures { IfSome result (λ r. IsText text.now from r.1 (string_bytes r.0)) }
 {
@@ -238,5 +238,21 @@ pub(crate) fn text_copy(alloc: Global, text: &str, from: usize) -> Option<(Strin
         let (c, next) = escape(bytes, stop + 1)?;
         copy.push(c).ok()?;
         at = next;
+    }
+}
+
+/// The text of a string that begins there, copied, and where it ends, past its closing quote. Most
+/// have no escape, and are copied at once.
+#[inline(never)]
+pub(crate) fn text_copy(alloc: Global, text: &str, from: usize) -> Option<(String, usize)>
+    requires { IsCharBoundary text.now from }
+    ensures { IfSome result (λ r. IsText text.now from r.1 (string_bytes r.0)) }
+{
+    match plain_text(text, from) {
+        Some((plain, close)) => {
+            let copy = String::from_str(alloc, plain).ok()?;
+            Some((copy, close))
+        }
+        None => unescaped(alloc, text, from),
     }
 }

@@ -1,5 +1,6 @@
 pub mod Ident
 pub mod Message
+pub mod Methods
 pub mod Shape
 pub mod Reading
 pub mod Words

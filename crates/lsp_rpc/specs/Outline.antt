@@ -1,5 +1,5 @@
 -- A message apart from what its params and its result hold.
-use Rattle.std.specs.Prelude.{◌≡◌, ◌⊎◌, Bool, true, false, None}
+use Rattle.std.specs.Prelude.{◌≡◌, ◌⊎◌, None}
 use Rattle.serde_json.specs.Data.{null}
 use Rattle.lsp_rpc.specs.Message.{Message, request, notification, response, result, error}
 
@@ -23,16 +23,6 @@ without_params (request id method params) = request id method None
 without_params (notification method params) = notification method None
 without_params (response id reply) = response id reply
 
--- a request or a notification
-abbrev pub is_call : Message → Bool
-is_call (request id method params) = true
-is_call (notification method params) = true
-is_call (response id reply) = false
-
 -- the whole message, or its outline
 abbrev pub IsOrIsOutline : Message → Message → Type 0
 IsOrIsOutline message whole = (message ≡ whole) ⊎ (message ≡ outline whole)
-
--- the whole message, or what it is without the value that it answers
-abbrev pub IsOrLacksResult : Message → Message → Type 0
-IsOrLacksResult message whole = (message ≡ whole) ⊎ (message ≡ without_result whole)

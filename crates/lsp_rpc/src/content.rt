@@ -202,11 +202,9 @@ fn versioned_method(
     }
 }
 
-/// The message that the parts make (JSON-RPC 2.0, sections 4 and 5).
-///
-/// # Errors
-/// The lowest of the rules 202 to 208 that they break.
-pub fn assemble(parts: Parts) -> Result<Message, BrokenRule>
+/// The message that the parts make (JSON-RPC 2.0, sections 4 and 5). The refusal is the least of
+/// the rules 203 to 208 that they break.
+fn assemble(parts: Parts) -> Result<Message, BrokenRule>
     ensures ok { IfOk result (λ message.
         reading.message_in (parts_view parts) ≡ Some (message_view message)) }
     ensures rule { IsLeast (least_broken (reading.rules_on (parts_view parts))) result }

@@ -3,7 +3,7 @@
 //!
 //! `read` reads the message of a content. `act_of` and `take_act` give what a message means on its
 //! side, `picked_of` what the result of `initialize` picks, and `words_of` the words that name a
-//! message. `assemble` makes a message of its `Parts`, for callers that read these themselves.
+//! message. `Method` says what a call is by its side, its kind and its name.
 #![tactic(auto)]
 
 mod act;
@@ -23,7 +23,7 @@ mod shape;
 mod words;
 
 pub use act::{Act, Offer, Picked, Spoken};
-pub use content::{assemble, read};
+pub use content::read;
 pub use fault::{BrokenRule, RpcFault};
 pub use ids::{copy_id, same_id};
 pub use laws::{
@@ -31,7 +31,6 @@ pub use laws::{
 };
 pub use lsp_types::{Change, Encoding, Memory, Position, Side, Span, SyncKind};
 pub use message::{Answer, Id, Message};
-pub use methods::{act_of, take_act};
-pub use parts::Parts;
+pub use methods::{Method, act_of, method_of, notification_method, request_method, take_act};
 pub use results::picked_of;
 pub use words::{push_id, push_quoted, words_of};

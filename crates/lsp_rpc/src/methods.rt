@@ -1,9 +1,11 @@
 //! What a message means, by its side, its kind and its method.
-ghost use Rattle.std.specs.Prelude.{◌≡◌, None, codes, option_map};
+ghost use Rattle.std.specs.Prelude.{◌≡◌, Option, None, Some, IfSome, codes, option_map};
+ghost use Rattle.serde_json.specs.Data.{Data};
 ghost use Rattle.serde_json.specs.Find.{as_str};
 ghost use Rattle.serde_json.specs.View.{view};
 ghost use Rattle.lsp_rpc.specs.Fault.{Gives};
 ghost use Rattle.lsp_rpc.specs.Ident.{id_view};
+ghost use Rattle.lsp_rpc.specs.Methods.{IsMethod, meaning};
 ghost use Rattle.lsp_rpc.specs.Params as spec;
 ghost use Rattle.lsp_rpc.specs.Outline.{without_params};
 ghost use Rattle.lsp_rpc.specs.Shape.{as_id};
@@ -21,6 +23,130 @@ use lsp_types::Side;
 use serde_json::Value;
 use std::alloc::Global;
 use std::borrow::Cow;
+
+/// What calls are to a session, by their side, their kind and their name (LSP 3.17, Lifecycle
+/// Messages, Text Document Synchronization, Cancellation Support and Progress Support).
+#[derive(Clone, Copy, PartialEq, Eq)]
+pub enum Method {
+    Initialize,
+    Initialized,
+    Shutdown,
+    Exit,
+    DidOpen,
+    DidChange,
+    DidClose,
+    DidSave,
+    Cancel,
+    Progress,
+    Register,
+    /// The server may send it before it answers `initialize`.
+    Early,
+    Other,
+}
+
+impl Method {
+    /// What its calls mean, where their params are not read.
+    pub fn plain_act(self) -> Option<Act>
+        ensures { IfSome result
+            (λ act. (params : Option Data) → meaning self params ≡ Some (act_view act)) }
+    {
+        match self {
+            Method::Initialized => Some(Act::Initialized),
+            Method::Shutdown => Some(Act::Shutdown),
+            Method::Exit => Some(Act::Exit),
+            Method::Early => Some(Act::Early),
+            Method::Other => Some(Act::Other),
+            _ => None,
+        }
+    }
+}
+
+/// The method of the editor's requests of this name.
+fn editor_request(name: &str) -> Method
+    ensures { (params : Option Data)
+        → spec.act_by spec.editor_requests name.now params ≡ meaning result params }
+{
+    match name {
+        "initialize" => Method::Initialize,
+        "shutdown" => Method::Shutdown,
+        _ => Method::Other,
+    }
+}
+
+/// The method of the editor's notifications of this name.
+fn editor_notification(name: &str) -> Method
+    ensures { (params : Option Data)
+        → spec.act_by spec.editor_notifications name.now params ≡ meaning result params }
+{
+    match name {
+        "textDocument/didChange" => Method::DidChange,
+        "textDocument/didOpen" => Method::DidOpen,
+        "textDocument/didClose" => Method::DidClose,
+        "textDocument/didSave" => Method::DidSave,
+        "$/cancelRequest" => Method::Cancel,
+        "initialized" => Method::Initialized,
+        "exit" => Method::Exit,
+        _ => Method::Other,
+    }
+}
+
+/// The method of the server's requests of this name.
+fn server_request(name: &str) -> Method
+    ensures { (params : Option Data)
+        → spec.act_by spec.server_requests name.now params ≡ meaning result params }
+{
+    match name {
+        "window/showMessageRequest" => Method::Early,
+        "client/registerCapability" => Method::Register,
+        _ => Method::Other,
+    }
+}
+
+/// The method of the server's notifications of this name.
+fn server_notification(name: &str) -> Method
+    ensures { (params : Option Data)
+        → spec.act_by spec.server_notifications name.now params ≡ meaning result params }
+{
+    match name {
+        "$/progress" => Method::Progress,
+        "$/cancelRequest" => Method::Cancel,
+        "window/showMessage" | "window/logMessage" | "telemetry/event" => Method::Early,
+        _ => Method::Other,
+    }
+}
+
+/// The method of the side's requests of this name.
+pub fn request_method(side: Side, name: &str) -> Method
+    ensures { (params : Option Data)
+        → spec.act_by (spec.requests side) name.now params ≡ meaning result params }
+{
+    match side {
+        Side::Editor => editor_request(name),
+        Side::Server => server_request(name),
+    }
+}
+
+/// The method of the side's notifications of this name.
+pub fn notification_method(side: Side, name: &str) -> Method
+    ensures { (params : Option Data)
+        → spec.act_by (spec.notifications side) name.now params ≡ meaning result params }
+{
+    match side {
+        Side::Editor => editor_notification(name),
+        Side::Server => server_notification(name),
+    }
+}
+
+/// The method of a message of the side. A response is `Other`.
+pub fn method_of(side: Side, message: &Message) -> Method
+    ensures { IsMethod side (message_view message.now) result }
+{
+    match message {
+        Message::Request { method, .. } => request_method(side, method.as_str()),
+        Message::Notification { method, .. } => notification_method(side, method.as_str()),
+        Message::Response { .. } => Method::Other,
+    }
+}
 
 /// The id that the member of this name is, moved out of the value.
 fn id_at(value: Value, name: &str) -> Option<Id>
@@ -62,104 +188,52 @@ fn register_of(alloc: Global, params: Value) -> Result<Act, RpcFault>
     Ok(Act::Register { methods })
 }
 
-/// What a request of the editor means.
-fn editor_request(
-    alloc: Global,
-    method: &str,
-    params: Option<Cow<'_, Value>>,
-) -> Result<Act, RpcFault>
-    ensures { Gives act_view rules.BAD_METHOD_PARAMS result
-        (spec.act_by spec.editor_requests method.now (option_map lent_view params.entry)) }
+/// What a call of this method means by its params.
+fn act_by(alloc: Global, method: Method, params: Option<Cow<'_, Value>>) -> Result<Act, RpcFault>
+    ensures { Gives act_view
+        rules.BAD_METHOD_PARAMS result (meaning method (option_map lent_view params.entry)) }
 {
     match method {
-        "initialize" => initialize_of(alloc, required_params(params)?),
-        "shutdown" => Ok(Act::Shutdown),
-        _ => Ok(Act::Other),
+        Method::Initialize => initialize_of(alloc, required_params(params)?),
+        Method::Initialized => Ok(Act::Initialized),
+        Method::Shutdown => Ok(Act::Shutdown),
+        Method::Exit => Ok(Act::Exit),
+        Method::DidOpen => did_open_of(required_params(params)?),
+        Method::DidChange => did_change_of(alloc, required_params(params)?),
+        Method::DidClose => did_close_of(required_params(params)?),
+        Method::DidSave => did_save_of(required_params(params)?),
+        Method::Cancel => cancel_of(required_params(params)?),
+        Method::Progress => progress_of(required_params(params)?),
+        Method::Register => register_of(alloc, required_params(params)?),
+        Method::Early => Ok(Act::Early),
+        Method::Other => Ok(Act::Other),
     }
 }
 
-/// What a notification of the editor means.
-fn editor_notification(
-    alloc: Global,
-    method: &str,
-    params: Option<Cow<'_, Value>>,
-) -> Result<Act, RpcFault>
-    ensures { Gives act_view rules.BAD_METHOD_PARAMS result
-        (spec.act_by spec.editor_notifications method.now (option_map lent_view params.entry)) }
-{
-    match method {
-        "initialized" => Ok(Act::Initialized),
-        "exit" => Ok(Act::Exit),
-        "textDocument/didOpen" => did_open_of(required_params(params)?),
-        "textDocument/didChange" => did_change_of(alloc, required_params(params)?),
-        "textDocument/didClose" => did_close_of(required_params(params)?),
-        "textDocument/didSave" => did_save_of(required_params(params)?),
-        "$/cancelRequest" => cancel_of(required_params(params)?),
-        _ => Ok(Act::Other),
-    }
-}
-
-/// What a request of the server means.
-fn server_request(
-    alloc: Global,
-    method: &str,
-    params: Option<Cow<'_, Value>>,
-) -> Result<Act, RpcFault>
-    ensures { Gives act_view rules.BAD_METHOD_PARAMS result
-        (spec.act_by spec.server_requests method.now (option_map lent_view params.entry)) }
-{
-    match method {
-        "window/showMessageRequest" => Ok(Act::Early),
-        "client/registerCapability" => register_of(alloc, required_params(params)?),
-        _ => Ok(Act::Other),
-    }
-}
-
-/// What a notification of the server means.
-fn server_notification(
-    alloc: Global,
-    method: &str,
-    params: Option<Cow<'_, Value>>,
-) -> Result<Act, RpcFault>
-    ensures { Gives act_view rules.BAD_METHOD_PARAMS result
-        (spec.act_by spec.server_notifications method.now (option_map lent_view params.entry)) }
-{
-    match method {
-        "$/cancelRequest" => cancel_of(required_params(params)?),
-        "$/progress" => progress_of(required_params(params)?),
-        "window/showMessage" | "window/logMessage" | "telemetry/event" => Ok(Act::Early),
-        _ => Ok(Act::Other),
-    }
-}
-
+/// What a request of the side means by its params.
 fn request_act(
     alloc: Global,
     side: Side,
-    method: &str,
+    name: &str,
     params: Option<Cow<'_, Value>>,
 ) -> Result<Act, RpcFault>
     ensures { Gives act_view rules.BAD_METHOD_PARAMS result
-        (spec.act_by (spec.requests side) method.now (option_map lent_view params.entry)) }
+        (spec.act_by (spec.requests side) name.now (option_map lent_view params.entry)) }
 {
-    match side {
-        Side::Editor => editor_request(alloc, method, params),
-        Side::Server => server_request(alloc, method, params),
-    }
+    act_by(alloc, request_method(side, name), params)
 }
 
+/// What a notification of the side means by its params.
 fn notification_act(
     alloc: Global,
     side: Side,
-    method: &str,
+    name: &str,
     params: Option<Cow<'_, Value>>,
 ) -> Result<Act, RpcFault>
     ensures { Gives act_view rules.BAD_METHOD_PARAMS result
-        (spec.act_by (spec.notifications side) method.now (option_map lent_view params.entry)) }
+        (spec.act_by (spec.notifications side) name.now (option_map lent_view params.entry)) }
 {
-    match side {
-        Side::Editor => editor_notification(alloc, method, params),
-        Side::Server => server_notification(alloc, method, params),
-    }
+    act_by(alloc, notification_method(side, name), params)
 }
 
 /// Takes the params out of their message.

@@ -2,7 +2,6 @@
 ghost use Rattle.std.specs.Prelude.{◌≡◌, ℕ, List, Some, None, IfOk, OnOk, true, false};
 ghost use Rattle.std.specs.Prelude.{if◌then◌else◌, option_map};
 ghost use Rattle.std.specs.Str.{bytes_eq};
-ghost use Rattle.serde_json.specs.Data.{null};
 ghost use Rattle.serde_json.specs.Find.{get_member};
 ghost use Rattle.serde_json.specs.View.{view, members_view};
 ghost use Rattle.lsp_rpc.specs.Shape.{is_object};
@@ -18,30 +17,14 @@ use serde_json::{Map, Value};
 /// The members that make up a message (JSON-RPC 2.0, sections 4 and 5). `None` is a missing member;
 /// a member that is null is present.
 #[derive(Drop)]
-pub struct Parts {
+pub(crate) struct Parts {
     /// The member `jsonrpc`.
-    pub version: Option<Value>,
-    pub method: Option<Value>,
-    pub id: Option<Value>,
-    pub params: Option<Value>,
-    pub result: Option<Value>,
-    pub error: Option<Value>,
-}
-
-impl Parts {
-    /// The parts of an object that has none of these members.
-    pub fn none() -> Parts
-        ensures { parts_view result ≡ reading.parts_of null }
-    {
-        Parts {
-            version: None,
-            method: None,
-            id: None,
-            params: None,
-            result: None,
-            error: None,
-        }
-    }
+    pub(crate) version: Option<Value>,
+    pub(crate) method: Option<Value>,
+    pub(crate) id: Option<Value>,
+    pub(crate) params: Option<Value>,
+    pub(crate) result: Option<Value>,
+    pub(crate) error: Option<Value>,
 }
 
 /// Takes the member of this name out.

@@ -1,7 +1,19 @@
-use Rattle.std.proofs.Common.{inl}
+use Rattle.std.proofs.Common.{◌≡◌, IsUtf8, sym, ap, ◌∙◌, arith}
+use Rattle.std.proofs.lemmas.Option.{IfSome_then}
+use Rattle.serde_json.specs.Data.{object}
+use Rattle.serde_json.specs.Read.{read as read_text}
+use Rattle.lsp_rpc.specs.Reading.{IsJson}
 use Rattle.lsp_outline.proofs.outline.spoken_in.Goals as goal
 
-pub returns-in-Some : goal.returns-in-Some
-returns-in-Some c =
-    let h = c.in-Some.ensures in
-    record { whole = h.0; reads = h.1; means = h.3; rest = inl h.2 }
+pub returns : goal.returns
+returns c =
+    let utf8 : (c.in_ok-text.text.now ≡ c.args.content.now) × IsUtf8 c.args.content.now =
+    grind arith in
+    IfSome_then c.spoken_text.result c.spoken_text.ensures (λ spoken said.
+    let read : IsJson c.args.content.now (object said.0) =
+    (utf8.1, ap read_text (sym utf8.0) ∙ said.1) in record {
+      whole = said.2.whole;
+      reads = (object said.0, read, said.2.is);
+      means = said.2.means;
+      rest = said.2.rest;
+    })

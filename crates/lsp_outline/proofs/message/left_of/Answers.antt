@@ -1,0 +1,31 @@
+use Rattle.std.proofs.Common.{Option, Some, codes, option_map, string_bytes, ap, ◌∙◌}
+use Rattle.serde_json.specs.Data.{string}
+use Rattle.lsp_rpc.specs.Ident.{Ident, id_view}
+use Rattle.lsp_rpc.specs.declared.message.Id.{Id}
+use Rattle.lsp_rpc.specs.View.{message_view}
+use Rattle.lsp_outline.specs.Outlined.{once}
+use Rattle.lsp_outline.proofs.Outlining.{call_made, response_made}
+use Rattle.lsp_outline.proofs.message.left_of.Goals as goal
+
+pub returns-in_ok-message-in-Some : goal.returns-in_ok-message-in-Some
+returns-in_ok-message-in-Some c =
+    let name = string_bytes c.in-Some.method in
+    let id = option_map (λ id. option_map id_view id) c.args.parts.id in
+    let message = c.in_ok-message-in-Some in λ ms h.
+    let version = h.version ∙ ap (λ b. once b (codes "2.0")) c.if-not-has_version.false in
+    let method = h.method ∙ ap (option_map (λ s. string (string_bytes s))) c.in-Some.is in
+    call_made ms version h.params name id (message_view message.message) method h.id
+    message.ensures _ h.told
+
+pub returns-in_ok-message-in-None : goal.returns-in_ok-message-in-None
+returns-in_ok-message-in-None c =
+    let parts = c.args.parts in
+    let own = option_map id_view c.in_ok-id-in-None.field-0 in
+    let seen : Option (Option Id) → Option (Option Ident) =
+    option_map (λ id. option_map id_view id) in
+    let message = c.in_ok-message-in-None in λ ms h.
+    let version = h.version ∙ ap (λ b. once b (codes "2.0")) c.if-not-has_version.false in
+    let method = h.method ∙ ap (option_map (λ s. string (string_bytes s))) c.in-None.is in
+    let id = h.id ∙ ap (λ o. option_map Some (seen o)) c.in_ok-id-in-None.was in
+    response_made ms version h.params own parts.has_result parts.error
+    (message_view message.message) method id h.result h.error message.ensures _ h.told

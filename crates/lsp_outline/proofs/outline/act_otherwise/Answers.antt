@@ -1,0 +1,22 @@
+use Rattle.std.proofs.Common.{codes, option_and_then, subst}
+use Rattle.std.proofs.lemmas.Option.{IfSome_then}
+use Rattle.serde_json.specs.Data.{Members}
+use Rattle.serde_json.specs.Find.{get_member}
+use Rattle.serde_json.specs.Read.{read as read_text}
+use Rattle.lsp_rpc.specs.Shape.{unless_null}
+use Rattle.lsp_rpc.specs.View.{act_view}
+use Rattle.lsp_outline.specs.Outlined.{Means}
+use Rattle.lsp_outline.proofs.Meaning.{one_object}
+use Rattle.lsp_outline.proofs.outline.act_otherwise.Goals as goal
+
+pub returns-in-Some : goal.returns-in-Some
+returns-in-Some c = λ ms read.
+    c.in-Some.ensures (option_and_then unless_null (get_member (codes "params") ms))
+
+pub returns-in_ok-again-in-None : goal.returns-in_ok-again-in-None
+returns-in_ok-again-in-None c =
+    let again = c.in_ok-again-in-None.ensures in
+    IfSome_then c.act_by.result c.act_by.ensures (λ act by ms read.
+    subst (λ (x : Members). Means x c.args.method (act_view act))
+    (one_object again.0 ms (read_text c.args.text.now) again.1 read)
+    (by (get_member (codes "params") again.0) again.2.tells))

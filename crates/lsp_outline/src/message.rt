@@ -1,0 +1,290 @@
+//! Reading a message, member by member, without building what its params and its result hold
+//! (JSON-RPC 2.0, sections 4 and 5).
+ghost use Rattle.std.specs.Prelude.{◌≡◌, ◌≤◌, ℕ, length, true, Some, IfSome, codes, option_map};
+ghost use Rattle.std.specs.Prelude.{string_bytes};
+ghost use Rattle.serde_json.specs.Data.{Data, Members, object};
+ghost use Rattle.serde_json.specs.Read.{read as read_text};
+ghost use Rattle.lsp_outline.specs.Outlined.{AreOutlined, IsLeft, id_in, call_in, response_in};
+ghost use Rattle.lsp_outline.specs.Walk.{IsValue};
+ghost use Rattle.lsp_rpc.specs.Ident.{id_view};
+ghost use Rattle.lsp_rpc.specs.Params as params;
+ghost use Rattle.lsp_rpc.specs.Reading as reading;
+ghost use Rattle.lsp_rpc.specs.Shape.{as_integer, holds_of, is_string, member};
+ghost use Rattle.lsp_rpc.specs.View.{message_view};
+
+use crate::bytes::{byte_at, spaces_end};
+use crate::members::{Gathered, given_text, id_at, integer_at, object_at, object_into, skipped};
+use crate::params::{Told, params_at};
+use crate::walk::{MAX_DEPTH, literal_end, string_copy, string_end};
+use lsp_rpc::{Answer, Id, Message, Method, notification_method, request_method};
+use lsp_types::Side;
+use serde_json::Value;
+use std::alloc::Global;
+
+/// The version of JSON-RPC.
+const VERSION: &str = "2.0";
+
+/// By what method the params of a message are read.
+#[derive(Clone, Copy)]
+pub(crate) enum Reads {
+    /// They are skipped.
+    Nothing,
+    /// By the one that the side's message names before them.
+    OfSide(Side),
+    OfMethod(Method),
+}
+
+/// The id that begins there, `None` where it is null, and where it ends.
+fn id_or_null_at(alloc: Global, text: &str, from: usize) -> Option<(Option<Id>, usize)>
+    requires { from ≤ length text.now }
+    ensures { IfSome result (λ r. (d : Data) × ((depth : ℕ) → IsValue depth text.now from r.1 d)
+        × (id_in d ≡ Some (option_map id_view r.0))) }
+{
+    let bytes = text.as_bytes();
+    if byte_at(bytes, from) == b'n' {
+        let end = literal_end(bytes, from, b"null")?;
+        return Some((None, end));
+    }
+    let (id, end) = id_at(alloc, text, from)?;
+    Some((Some(id), end))
+}
+
+/// Where the string that begins there ends, of which nothing else is wanted.
+fn string_passed(text: &str, from: usize, depth: usize) -> Option<usize>
+    requires { from ≤ length text.now }
+    ensures { IfSome result (λ end. (d : Data) × IsValue depth text.now from end d
+        × (is_string d ≡ true)) }
+{
+    if byte_at(text.as_bytes(), from) != b'"' {
+        return None;
+    }
+    string_end(text.as_bytes(), from)
+}
+
+/// The members of an error object.
+#[derive(Drop)]
+struct ErrorParts {
+    code: Option<i32>,
+    has_message: bool,
+}
+
+impl Gathered for ErrorParts {
+    ghost gathers = { λ ms parts.
+        (params.required (codes "code") as_integer (object ms) ≡ parts.code)
+        × (holds_of is_string (member (codes "message") (object ms)) ≡ parts.has_message) };
+
+    fn none() -> ErrorParts {
+        ErrorParts {
+            code: None,
+            has_message: false,
+        }
+    }
+
+    #[inline(always)]
+    fn take(
+        &mut self,
+        _alloc: Global,
+        name: &str,
+        text: &str,
+        from: usize,
+        depth: usize,
+    ) -> Option<usize> {
+        match name {
+            "code" => {
+                let (code, end) = integer_at(text, from)?;
+                self.code = Some(code);
+                Some(end)
+            }
+            "message" => {
+                let end = string_passed(text, from, depth)?;
+                self.has_message = true;
+                Some(end)
+            }
+            _ => skipped(text, from, depth),
+        }
+    }
+}
+
+/// The code of the error object that begins there (JSON-RPC 2.0, section 5.1), and where it ends.
+fn error_at(alloc: Global, text: &str, from: usize, depth: usize) -> Option<(i32, usize)>
+    requires { from ≤ length text.now }
+    ensures { IfSome result (λ r. (ms : Members) × IsValue depth text.now from r.1 (object ms)
+        × (reading.code_of (object ms) ≡ Some r.0)) }
+{
+    let (parts, end): (ErrorParts, usize) = object_at(alloc, text, from, depth)?;
+    if !parts.has_message {
+        return None;
+    }
+    let code = parts.code?;
+    Some((code, end))
+}
+
+/// The method by which params are read that come next, after these members.
+fn reads_by(reads: Reads, method: Option<&String>, has_id: bool) -> Method {
+    match (reads, method) {
+        (Reads::OfMethod(method), _) => method,
+        (Reads::OfSide(side), Some(name)) if has_id => request_method(side, name.as_str()),
+        (Reads::OfSide(side), Some(name)) => notification_method(side, name.as_str()),
+        _ => Method::Other,
+    }
+}
+
+/// The members of a message, apart from what its result holds.
+#[derive(Drop)]
+struct MessageParts {
+    reads: Reads,
+    has_version: bool,
+    method: Option<String>,
+    /// `Some(None)` is null.
+    id: Option<Option<Id>>,
+    /// What the params mean, where they are read.
+    told: Option<Told>,
+    has_result: bool,
+    /// Its code.
+    error: Option<i32>,
+}
+
+impl Gathered for MessageParts {
+    ghost gathers = { λ ms parts. AreOutlined ms parts };
+
+    fn none() -> MessageParts {
+        MessageParts {
+            reads: Reads::Nothing,
+            has_version: false,
+            method: None,
+            id: None,
+            told: None,
+            has_result: false,
+            error: None,
+        }
+    }
+
+    #[inline(always)]
+    fn take(
+        &mut self,
+        alloc: Global,
+        name: &str,
+        text: &str,
+        from: usize,
+        depth: usize,
+    ) -> Option<usize> {
+        match name {
+            "jsonrpc" => {
+                let end = given_text(text, from, VERSION)?;
+                self.has_version = true;
+                Some(end)
+            }
+            "method" => {
+                let (method, end) = string_copy(alloc, text, from)?;
+                self.method = Some(method);
+                Some(end)
+            }
+            "id" => {
+                let (id, end) = id_or_null_at(alloc, text, from)?;
+                self.id = Some(id);
+                Some(end)
+            }
+            "params" => {
+                let method = reads_by(self.reads, self.method.as_ref(), self.id.is_some());
+                let (told, end) = params_at(alloc, method, text, from, depth)?;
+                self.told = told;
+                Some(end)
+            }
+            "result" => {
+                let end = skipped(text, from, depth)?;
+                self.has_result = true;
+                Some(end)
+            }
+            "error" => {
+                let (code, end) = error_at(alloc, text, from, depth)?;
+                self.error = Some(code);
+                Some(end)
+            }
+            _ => skipped(text, from, depth),
+        }
+    }
+}
+
+/// A call without its params.
+fn call_of(method: String, id: Option<Option<Id>>) -> Option<Message>
+    ensures { IfSome result (λ message. call_in (string_bytes method)
+        (option_map (λ id. option_map id_view id) id) ≡ Some (message_view message)) }
+{
+    match id {
+        None => Some(Message::Notification {
+            method,
+            params: None,
+        }),
+        Some(id) => Some(Message::Request {
+            id: id?,
+            method,
+            params: None,
+        }),
+    }
+}
+
+/// A response without the value of its result.
+fn response_of(id: Option<Id>, has_result: bool, error: Option<i32>) -> Option<Message>
+    ensures { IfSome result (λ message.
+        response_in (option_map id_view id) has_result error ≡ Some (message_view message)) }
+{
+    let answer = match error {
+        None if has_result => Answer::Result(Value::Null),
+        Some(code) if !has_result => Answer::Error { code },
+        _ => return None,
+    };
+    Some(Message::Response { id, answer })
+}
+
+/// A message without its params and the value of its result, with what was read of the params.
+#[derive(Drop)]
+pub(crate) struct Left {
+    pub(crate) message: Message,
+    pub(crate) told: Option<Told>,
+}
+
+/// What the parts leave of their message, where they keep the rules (JSON-RPC 2.0, sections 4 and
+/// 5).
+fn left_of(parts: MessageParts) -> Option<Left>
+    ensures { IfSome result (λ left. (ms : Members) → AreOutlined ms parts
+        → IsLeft ms (message_view left.message) left.told) }
+{
+    let MessageParts {
+        has_version,
+        method,
+        id,
+        told,
+        has_result,
+        error,
+        ..
+    } = parts;
+    if !has_version {
+        return None;
+    }
+    match method {
+        Some(method) => {
+            let message = call_of(method, id)?;
+            Some(Left { message, told })
+        }
+        None => {
+            let message = response_of(id?, has_result, error)?;
+            Some(Left { message, told })
+        }
+    }
+}
+
+/// What is left of the message that the text is, whose params are read so.
+pub(crate) fn left_of_text(alloc: Global, reads: Reads, text: &str) -> Option<Left>
+    ensures { IfSome result (λ left. (ms : Members) × (read_text text.now ≡ Some (object ms))
+        × IsLeft ms (message_view left.message) left.told) }
+{
+    let bytes = text.as_bytes();
+    let from = spaces_end(bytes, 0);
+    let mut parts = MessageParts::none();
+    parts.reads = reads;
+    let end = object_into(alloc, text, from, MAX_DEPTH, &mut parts)?;
+    if spaces_end(bytes, end) < bytes.len() {
+        return None;
+    }
+    left_of(parts)
+}
