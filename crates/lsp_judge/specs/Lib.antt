@@ -5,6 +5,7 @@ pub mod Checked
 pub mod Rulings
 pub mod Heard
 pub mod Standing
+pub mod Judging
 pub mod Ending
 pub mod TextAnswers
 pub mod LogEvents
