@@ -22,7 +22,7 @@ use Rattle.lsp_session.specs.Requests.{open_requests}
 use Rattle.lsp_session.specs.Sent.{is_exit}
 use Rattle.lsp_survey.specs.Asking.{Numbered, numbered}
 use Rattle.lsp_survey.specs.Reads.{Ended, EndedBehind, IsSurveyOf}
-use Rattle.lsp_survey.specs.Reported.{IsTally, IsYes}
+use Rattle.lsp_survey.specs.Reported.{IsTally}
 use Rattle.lsp_survey.specs.declared.survey_reader.End.{End}
 use Rattle.lsp_survey.specs.declared.survey_reader.SurveyReader.{SurveyReader}
 use Rattle.lsp_survey.specs.declared.tally.Tally.{Tally}
@@ -291,14 +291,13 @@ module _ (completeness : Completeness) (limits : Bounds) (e : SurveyReader) (t :
   -- the closing was written
   pub closed : (last : Told) (v : Verdict) (text : List ℕ)
       → text ≡ lines ends ++ all_closing all_found bad flaw s → v ≡ first_verdict all_found bad s
-      → (IsYes v → IsAtEnd now.bytes) → Wrote new last text
+      → Wrote new last text
       → AllTold completeness limits start now old last v
-  closed last v text is judges met wrote = record {
+  closed last v text is judges wrote = record {
     out = lines told.said ++ text;
     wrote = wrote_then old new last (lines told.said) text told.wrote wrote;
     due = explained_all v (lines told.said ++ text) judges (whole_text text is);
     failures = told.ended.failures;
-    met = met;
   }
 
   -- or not to its end

@@ -40,6 +40,7 @@ use Rattle.lsp_verdict.proofs.Completing.{some_complete_final, are_complete, com
 use Rattle.lsp_verdict.proofs.Completing.{complete_yes, one_complete_verdict}
 use Rattle.lsp_verdict.proofs.Logs.{some_final, one_verdict}
 use Rattle.lsp_verdict.proofs.Meanings.{are_kept, final_no, final_yes, is_yes_given, kept_means_yes}
+use Rattle.lsp_verdict.proofs.RunsJudged.{judged_as}
 use Rattle.lsp_judge.proofs.Records.{is_open, offence_in, clean_session}
 use Rattle.lsp_verdict.proofs.Sessions.{some_session}
 use Rattle.lsp_verdict.proofs.Verdicts.{names_first, nothing_offends}
@@ -50,14 +51,6 @@ pub front_of : (old new : Told) (written due : List ℕ) → Stopped old new wri
     → AppendsFront old new due
 front_of old new written due stopped is =
     (stopped.front, stopped.back, sym is ∙ stopped.whole, stopped.took)
-
--- the verdict of an outcome
-pub judged_as : (given v : code.Verdict) (P : code.Verdict → Type 0)
-    → (let outcome : Result Outcome RunFault = Ok (Judged given) in outcome) ≡ Ok (Judged v)
-    → P given → P v
-judged_as given v P e p =
-    let same : given ≡ v = cc e in
-    subst P same p
 
 pub read_verdict : (completeness : Completeness) (limits : Bounds) (before after : Told)
     (given v : code.Verdict)

@@ -1,5 +1,3 @@
-pub mod Ports
-pub mod Runs
 pub mod Answered
 pub mod Checked
 pub mod Rulings
