@@ -1,8 +1,7 @@
 -- How a run that explains all that is wrong with a log closes.
 use Rattle.std.specs.Prelude.{map, take, slice_get, not, option_map, option_to_list, codes, decimal}
-use Rattle.std.specs.Io.KnownBytes.{IsAtEnd}
 use Rattle.std.specs.List.{AllZip, list_any}
-use Rattle.std.proofs.Common.{◌≡◌, Result, ◌⊎◌, ℕ, ◌+◌, ◌<◌, ◌^◌, length, Bool, true, false, ◌&&◌}
+use Rattle.std.proofs.Common.{◌≡◌, ◌⊎◌, ℕ, ◌+◌, ◌<◌, ◌^◌, length, Bool, true, false, ◌&&◌}
 use Rattle.std.proofs.Common.{List, [], ◌∷◌, ◌++◌, Option, Some, None, inl, inr, refl, sym, ap, ◌∙◌}
 use Rattle.std.proofs.Common.{subst, append_assoc, append-nil}
 use Rattle.std.proofs.lemmas.List.{append_cancel_left, map-append}
@@ -43,7 +42,6 @@ use Rattle.lsp_verdict.specs.Verdict.{Verdict, Ending, Summary, summary, no_next
 use Rattle.lsp_verdict.specs.declared.completeness.Completeness.{Completeness}
 use Rattle.lsp_verdict.specs.declared.completeness.Completeness.TheVariants.{Ignored, Required}
 use Rattle.lsp_verdict.specs.declared.offence.Offence as code_offence
-use Rattle.lsp_verdict.specs.declared.outcome.RunFault.{RunFault}
 use Rattle.lsp_verdict.specs.declared.outcome.RunFault.TheVariants as faults
 use Rattle.lsp_verdict.specs.declared.verdict.Verdict as code_verdict
 use Rattle.lsp_verdict.specs.declared.verdict.Who.TheVariants as who
@@ -52,7 +50,7 @@ use Rattle.lsp_verdict.proofs.Offences.Surveying.{survey_agrees}
 use Rattle.lsp_verdict.proofs.RunReading.{read_map}
 use Rattle.lsp_explain.specs.AllExplained.{causes, cause_lines, all_closing, all_explanation}
 use Rattle.lsp_explain.specs.AllExplained.{AreAllSaid, IsAllExplained, BeginsAllExplained}
-use Rattle.lsp_explain.specs.AllSteps.{AreSaid, AllTold, PartTold, CausesTold, TellsAll, ends_said}
+use Rattle.lsp_explain.specs.AllSteps.{AllTold, PartTold, CausesTold, ends_said}
 use Rattle.lsp_explain.specs.Explained.{Heard, Explained, Explains, raws_of, notes_of}
 use Rattle.lsp_explain.specs.Explained.{end_explained, flaw_lines}
 use Rattle.lsp_facts.specs.Fact.{Fact}
