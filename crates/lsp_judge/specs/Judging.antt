@@ -1,4 +1,4 @@
--- What a judge answers, and that it keeps what it gave for good.
+-- What a judge answers, and which answers it keeps.
 use Rattle.std.specs.Prelude.{◌≡◌, ◌⊎◌, ℕ, List, Some, None, Result, Ok, IfOk, OnErr}
 use Rattle.std.specs.Result.{IsErr}
 use Rattle.lsp_frame.specs.Bounds.{Bounds}
@@ -22,8 +22,8 @@ use Rattle.lsp_verdict.specs.declared.verdict.Verdict.{Verdict}
 use Rattle.lsp_verdict.specs.declared.verdict.Verdict.TheVariants.{No, Yes}
 use Rattle.lsp_verdict.specs.declared.verdict.Who.{Who}
 
--- **what was given for good is given again**, and nothing changes then; the answer `Is` the verdict
--- given
+-- **an answer that is kept is given again**, and nothing changes then; what is answered `Is` the
+-- verdict that was given
 pub record KeepsAnswer {X : Type 0} (old new : State) (Is : X → spec.Verdict → Type 0)
     (result : Result X Memory) : Type 0 where
   pub limits : new.limits ≡ old.limits
