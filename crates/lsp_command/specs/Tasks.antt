@@ -72,9 +72,11 @@ EndsRun Ends result = (ended : Result Outcome RunFault) × (result ≡ of_run en
 -- **each task is the run of its name**, with its arguments, on this input and into this output
 abbrev pub Answers : Bounds → Task → Ports → Result TaskOutcome RunFault → Type 0
 Answers limits (Check completeness) p result = EndsRun (Checked completeness limits p) result
-Answers limits (Survey completeness listing) p result = EndsRun (SurveysLog completeness listing limits p) result
+Answers limits (Survey completeness listing) p result =
+    EndsRun (SurveysLog completeness listing limits p) result
 Answers limits (Explain completeness) p result = EndsRun (Explained completeness limits p) result
-Answers limits (ExplainAll completeness) p result = EndsRun (ExplainsAll completeness limits p) result
+Answers limits (ExplainAll completeness) p result =
+    EndsRun (ExplainsAll completeness limits p) result
 Answers limits (Show lines) p result = EndsRun (Showed lines limits p) result
 Answers limits (Text number uri) p result = EndsRun (WritesText limits p (non_zero_u64_get number) uri.now) result
 Answers limits (Event number) p result = (ended : Result EventOutcome RunFault) × (result ≡ of_event ended) × GaveEvent limits p (non_zero_u64_get number) ended

@@ -40,10 +40,14 @@ returns-in-Survey-clause-answers g c =
     )
 
 pub returns-in-Survey-clause-source_failures : goal.returns-in-Survey-clause-source_failures
-returns-in-Survey-clause-source_failures g c = run_source _ _ _ _ c.of_run-in-Survey.ensures c.run_survey.ensures.surveyed.counts.source_failures
+returns-in-Survey-clause-source_failures g c =
+    run_source _ _ _ _ c.of_run-in-Survey.ensures
+    c.run_survey.ensures.surveyed.counts.source_failures
 
 pub returns-in-Survey-clause-sink_failures : goal.returns-in-Survey-clause-sink_failures
-returns-in-Survey-clause-sink_failures g c = run_sink _ _ _ _ c.of_run-in-Survey.ensures c.run_survey.ensures.surveyed.counts.sink_failures
+returns-in-Survey-clause-sink_failures g c =
+    run_sink _ _ _ _ c.of_run-in-Survey.ensures
+    c.run_survey.ensures.surveyed.counts.sink_failures
 
 pub returns-in-Explain-clause-answers : goal.returns-in-Explain-clause-answers
 returns-in-Explain-clause-answers g c =
@@ -76,10 +80,14 @@ returns-in-ExplainAll-clause-answers g c =
     )
 
 pub returns-in-ExplainAll-clause-source_failures : goal.returns-in-ExplainAll-clause-source_failures
-returns-in-ExplainAll-clause-source_failures g c = run_source _ _ _ _ c.of_run-in-ExplainAll.ensures c.run_explain_all.ensures.explains.counts.source_failures
+returns-in-ExplainAll-clause-source_failures g c =
+    run_source _ _ _ _ c.of_run-in-ExplainAll.ensures
+    c.run_explain_all.ensures.explains.counts.source_failures
 
 pub returns-in-ExplainAll-clause-sink_failures : goal.returns-in-ExplainAll-clause-sink_failures
-returns-in-ExplainAll-clause-sink_failures g c = run_sink _ _ _ _ c.of_run-in-ExplainAll.ensures c.run_explain_all.ensures.explains.counts.sink_failures
+returns-in-ExplainAll-clause-sink_failures g c =
+    run_sink _ _ _ _ c.of_run-in-ExplainAll.ensures
+    c.run_explain_all.ensures.explains.counts.sink_failures
 
 pub returns-in-Show-Short-clause-answers : goal.returns-in-Show-Short-clause-answers
 returns-in-Show-Short-clause-answers g c =

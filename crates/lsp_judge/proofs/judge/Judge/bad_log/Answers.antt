@@ -10,8 +10,8 @@ pub returns-in-Some-clause-keeps : goal.returns-in-Some-clause-keeps
 returns-in-Some-clause-keeps g c =
     let given = ap (λ (s : State). s.given) (sym c.self.view_is) ∙ c.in-Some.is in
     let says = rw c.unwrap.ensures at c.answer.ensures.ok in
-    keeps_given c.args.self.now _ c.in-Some.ruling _ given (verdict_view c.unwrap.result, says, refl)
-    tt
+    keeps_given c.args.self.now _ c.in-Some.ruling _ given
+    (verdict_view c.unwrap.result, says, refl) tt
 
 pub returns-in-None-clause-keeps : goal.returns-in-None-clause-keeps
 returns-in-None-clause-keeps g c =
