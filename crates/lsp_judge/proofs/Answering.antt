@@ -311,7 +311,7 @@ keeps_given s Is ruling (Err memory) given said err = record {
   format = refl;
   repeats = λ v known. tt;
   stays = λ v known. refl;
-  refused = λ was. tt;
+  refused = λ was. refl;
   stays_refused = λ was. refl;
   memory = given ∙ ap Some err;
 }

@@ -16,7 +16,9 @@ returns-in-Some-clause-keeps g c =
 pub returns-in-None-clause-keeps : goal.returns-in-None-clause-keeps
 returns-in-None-clause-keeps g c =
     let given = ap (λ (s : State). s.given) (sym c.self.view_is) ∙ c.in-None.is in
-    keeps_ungiven c.args.self.now _ _ _ given refl refl tt
+    let seen = c.self.view_is in
+    keeps_ungiven c.args.self.now _ _ _ given (ap (λ (s : State). s.limits) seen)
+    (ap (λ (s : State). s.format) seen) tt
 
 pub returns-in-Some-clause-verdict : goal.returns-in-Some-clause-verdict
 returns-in-Some-clause-verdict g c = λ records v stands final.

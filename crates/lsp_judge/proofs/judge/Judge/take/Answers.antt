@@ -11,7 +11,7 @@ pub returns-in-Some-clause-keeps : goal.returns-in-Some-clause-keeps
 returns-in-Some-clause-keeps g c =
     let given = ap (λ (s : State). s.given) (sym c.self.view_is) ∙ c.in-Some.is in
     keeps_given c.args.self.now _ c.in-Some.ruling _ given
-    (verdict_view c.in_ok-answer.answer, c.in_ok-answer.ensures.ok, refl) tt
+    (verdict_view c.in_ok-answer.field-0, c.in_ok-answer.ensures.ok, refl) tt
 
 pub returns-in-Ok-clause-keeps : goal.returns-in-Ok-clause-keeps
 returns-in-Ok-clause-keeps g c =
