@@ -23,6 +23,7 @@ use Rattle.lsp_verdict.specs.Given.{offence_view, verdict_view}
 use Rattle.lsp_verdict.specs.Offences.{Noted, Offence}
 use Rattle.lsp_verdict.specs.Placed.{Raw}
 use Rattle.lsp_verdict.specs.RunIo.{OfRead, Tells, TellsSome}
+use Rattle.lsp_verdict.specs.RunIo.{sink_failures_after}
 use Rattle.lsp_verdict.specs.Survey.{IsSurvey, all_report, bad_lines, first_verdict, found_line}
 use Rattle.lsp_verdict.specs.Survey.{offence_lines, shown_of}
 use Rattle.lsp_verdict.specs.Complete.{IsCompleteVerdict, IsVerdictBy}
