@@ -17,11 +17,11 @@ _lspcheck() {
     [[ $previous == "=" && $given == *" --as "* ]] && previous=--as
     case $command in
         "") options="--help --version -h -V" ;;
-        check) options="--complete --all --every --help -h" ;;
-        explain) options="--complete --all --help -h" ;;
-        show) options="--long --help -h" ;;
-        text | event | normal | upgrade) options="--help -h" ;;
-        frames) options="--as --help -h" ;;
+        check) options="--complete --all --every --quiet --help -h" ;;
+        explain) options="--complete --all --quiet --help -h" ;;
+        show) options="--long --quiet --help -h" ;;
+        text | event | normal | upgrade) options="--quiet --help -h" ;;
+        frames) options="--as --quiet --help -h" ;;
     esac
     if [[ $previous == --as ]]; then
         offered="lengths canonical kinds"

@@ -21,7 +21,7 @@ is_compressed bytes = begins (31 ∷ 139 ∷ []) bytes || (begins (codes "BZh") 
     || (begins (253 ∷ codes "7zXZ") bytes || (begins (40 ∷ 181 ∷ 47 ∷ 253 ∷ []) bytes
     || begins (codes "PK" ++ 3 ∷ 4 ∷ []) bytes)))
 
--- a log behind a byte order mark of UTF-8
+-- a log after a byte order mark of UTF-8
 abbrev pub has_mark : List ℕ → Bool
 has_mark bytes = begins (239 ∷ 187 ∷ 191 ∷ []) bytes
 
@@ -29,7 +29,7 @@ has_mark bytes = begins (239 ∷ 187 ∷ 191 ∷ []) bytes
 abbrev pub is_stream : List ℕ → Bool
 is_stream bytes = begins (codes "Content-") bytes || begins (codes "content-") bytes
 
--- the first line of a log, and CR LF behind it
+-- the first line of a log, and CR LF after it
 abbrev pub has_line_ends : List ℕ → Bool
 has_line_ends bytes = begins (codes "lsp-session 1" ++ 13 ∷ []) bytes || begins (codes "lsp-session 2" ++ 13 ∷ []) bytes
 
@@ -48,7 +48,7 @@ log_hint (byte ∷ bytes) =
     else if has_mark (byte ∷ bytes) then hints.ByteOrderMark
     else session_hint (byte ∷ bytes)
 
--- what an input seems to be that is no stream of frames
+-- what an input that is not a stream of frames seems to be
 abbrev pub stream_hint : List ℕ → Option Hint
 stream_hint bytes = if begins (codes "lsp-session ") bytes then Some hints.Log else None
 

@@ -32,12 +32,13 @@ remark_of (Err Read) = Some (codes "lspcheck: read fault")
 remark_of (Err Write) = Some (codes "lspcheck: write fault")
 remark_of (Err Memory) = Some (codes "lspcheck: out of memory")
 
--- the report of a verdict that is no Yes
+-- the report of a verdict other than Yes
 abbrev pub report_refused : Verdict → Option (List ℕ)
 report_refused (Yes s) = None
 report_refused v = Some (report (verdict_view v))
 
--- the report that stands apart from what was asked for: that of a verdict in `text` and `normal`, of one that is no Yes in `upgrade`, and that of a stream in `frames --as canonical`
+-- the report that is separate from what was requested: that of a verdict in `text` and `normal`, of
+-- one other than Yes in `upgrade`, and that of a stream in `frames --as canonical`
 abbrev pub run_report_apart : Task → Outcome → Option (List ℕ)
 run_report_apart (Text number uri) (Judged v) = Some (report (verdict_view v))
 run_report_apart Normal (Judged v) = Some (report (verdict_view v))

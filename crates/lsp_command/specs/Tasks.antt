@@ -34,7 +34,8 @@ use Rattle.lsp_command.specs.declared.task_outcome.TaskOutcome.{TaskOutcome}
 use Rattle.lsp_words.specs.declared.task.Task.{Task}
 use Rattle.lsp_words.specs.declared.task.Task.TheVariants.{Check, Survey, Explain, ExplainAll, Show, Text, Event, Normal, Upgrade, Frames}
 
--- `explain`: the verdict on the log read, whose session has to be complete or not, and what explains it
+-- `explain`: the verdict on the log read, whose session must be complete or not, and what explains
+-- it
 pub record Explained (completeness : Completeness) (limits : Bounds) (p : Ports) (result : Result Outcome RunFault) : Type 0 where
   pub judged : IfOk result (λ outcome. (v : Verdict) × (outcome ≡ outcomes.Judged v))
   pub verdict : (v : Verdict) → result ≡ Ok (outcomes.Judged v) → OfInput limits p (λ log. IsVerdictBy completeness limits log (verdict_view v))
@@ -84,7 +85,8 @@ Answers limits Normal p result = EndsRun (Normalized limits p) result
 Answers limits Upgrade p result = EndsRun (UpgradesLog limits p) result
 Answers limits (Frames mode) p result = EndsRun (Framed limits p mode) result
 
--- what a task answered is the answer, or it ended well and what it wrote could not be handed on: a write fault
+-- what a task answered is the answer, or it ended well and what it wrote could not be passed on: a
+-- write fault
 abbrev pub IsHandedOn : Result TaskOutcome RunFault → Result TaskOutcome RunFault → Type 0
 IsHandedOn ended result = (result ≡ ended) ⊎ (IsOk ended × (result ≡ Err faults.Write))
 
@@ -92,7 +94,8 @@ IsHandedOn ended result = (result ≡ ended) ⊎ (IsOk ended × (result ≡ Err 
 abbrev pub IsEmptied : List ℕ → Told → Told → Type 0
 IsEmptied left before after = (left ≡ []) ⊎ (after.failures ≡ after_failure before.failures)
 
--- the task was done, and then what it had written was handed on, whether or not it ended well; this much of it is left
+-- the task was done, and then what it had written was passed on, whether or not it ended well; this
+-- much of it is left
 pub record RanThrough (limits : Bounds) (task : Task) (p : Ports) (left : List ℕ) (result : Result TaskOutcome RunFault) : Type 0 where
   pub gathered : Told
   pub ended : Result TaskOutcome RunFault

@@ -13,7 +13,7 @@ impl Beginning {
     ghost use Rattle.std.specs.Prelude.{◌≡◌, ◌++◌, [], take};
     ghost use Rattle.lsp_command.specs.Beginnings.{kept};
 
-    /// Of an input that gave nothing yet.
+    /// Of an input that has given nothing yet.
     pub fn new() -> Beginning
         ensures { kept result ≡ [] }
     {

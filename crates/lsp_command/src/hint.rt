@@ -18,7 +18,7 @@ pub enum Hint {
     Log,
     /// A log whose first line ends with CR LF.
     LineEnds,
-    /// A log behind a byte order mark.
+    /// A log after a byte order mark.
     ByteOrderMark,
     /// A log in a format of another number.
     OtherFormat,
@@ -73,7 +73,7 @@ fn is_stream(bytes: &[u8]) -> bool
     begins(b"Content-", bytes) || begins(b"content-", bytes)
 }
 
-/// Whether the bytes begin with the first line of a log, and CR LF behind it.
+/// Whether the bytes begin with the first line of a log, and CR LF after it.
 fn has_line_ends(bytes: &[u8]) -> bool
     ensures { result ≡ has_line_ends bytes.now }
 {

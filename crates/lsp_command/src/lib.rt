@@ -1,5 +1,5 @@
 //! From what the words of the command line ask for to a run, and from how the run ended to a status
-//! and to what is said of it on standard error.
+//! and to what is written about it to standard error.
 //!
 //! `request_of` of `lsp_words`, given on here, reads the words, `run_task` does what they ask for
 //! over any source and sink, and `run_through` does it over a file or standard input and into
@@ -11,6 +11,7 @@ mod beginning;
 mod hint;
 mod inlet;
 mod outlet;
+mod pace;
 mod remark;
 mod run;
 mod status;
@@ -22,6 +23,7 @@ pub use hint::{Hint, hint_of};
 pub use inlet::Inlet;
 pub use lsp_words::{Request, Slip, Task, only_word, request_of, uri_alone};
 pub use outlet::Outlet;
+pub use pace::{Pace, Supply};
 pub use remark::{remark_of, report_apart};
 pub use run::{run_task, run_through};
 pub use status::{status_of, status_of_task, status_of_words};

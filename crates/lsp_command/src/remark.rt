@@ -26,8 +26,8 @@ pub fn remark_of(ended: &Result<TaskOutcome, RunFault>) -> Option<&'static str>
 }
 
 /// The report of a fault, where it is not part of what the task writes: `text`, `event`, `normal`,
-/// `upgrade` and `frames --as canonical` write what was asked for and nothing else. Yes is no fault
-/// of a log that was upgraded.
+/// `upgrade` and `frames --as canonical` write what was asked for and nothing else. Yes is not a
+/// fault of a log that was upgraded.
 ///
 /// # Errors
 /// `Memory` where memory was refused, and nothing else.

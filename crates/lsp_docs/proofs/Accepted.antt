@@ -1,5 +1,6 @@
 -- Lists of accepted calls: their parts, and what one accepted call does to what is held.
-use Rattle.std.proofs.Common.{◌≡◌, true, false, ◌||◌, List, [], ◌∷◌, ◌++◌, refl, sym, ap, ◌∙◌, subst, Some, None, inl, inr, append_assoc, append-nil, true≢false}
+use Rattle.std.proofs.Common.{◌≡◌, true, false, ◌||◌, List, [], ◌∷◌, ◌++◌, refl, sym, ap, ◌∙◌}
+use Rattle.std.proofs.Common.{subst, Some, None, inl, inr, append_assoc, append-nil, true≢false}
 use Rattle.std.specs.Prelude.{int_lt, if◌then◌else◌}
 use Rattle.std.specs.List.{list_any}
 use Rattle.std.specs.Option.{option_or}
@@ -8,32 +9,43 @@ use Rattle.std.proofs.lemmas.Bool.{or_parts, cases_Bool}
 use Rattle.std.proofs.lemmas.Option.{same_Some}
 use Rattle.lsp_text.specs.Edits.{applied}
 use Rattle.lsp_docs.specs.Terms.{Terms}
-use Rattle.lsp_docs.specs.Calls.{Bytes, Call, opens, changes, closes, saves, shows, is_close, is_change}
+use Rattle.lsp_docs.specs.Calls.{Bytes, Call, opens, changes, closes, saves, shows, is_close}
+use Rattle.lsp_docs.specs.Calls.{is_change}
 use Rattle.lsp_docs.specs.Documents.{Version, versioned, text_or, held}
 use Rattle.lsp_docs.specs.Rules.{call_rule, AreAcceptedFrom}
 use Rattle.lsp_docs.proofs.Words.{uri_is, lt_trans}
 use Rattle.lsp_docs.proofs.HeldSteps.{next_held, held-snoc}
 use Rattle.lsp_docs.proofs.WaitingSteps.{change_parts}
 
-pub accepted-split : (terms : Terms) (before xs ys : List Call) → AreAcceptedFrom terms before (xs ++ ys) → AreAcceptedFrom terms before xs × AreAcceptedFrom terms (before ++ xs) ys
-accepted-split terms before [] ys h = (tt, subst (λ l. AreAcceptedFrom terms l ys) (sym (append-nil before)) h)
+pub accepted-split : (terms : Terms) (before xs ys : List Call)
+    → AreAcceptedFrom terms before (xs ++ ys)
+    → AreAcceptedFrom terms before xs × AreAcceptedFrom terms (before ++ xs) ys
+accepted-split terms before [] ys h =
+    (tt, subst (λ l. AreAcceptedFrom terms l ys) (sym (append-nil before)) h)
 accepted-split terms before (x ∷ xs) ys h =
-    let parts = accepted-split terms (before ++ x ∷ []) xs ys h.1 in
-    ((h.0, parts.0), subst (λ l. AreAcceptedFrom terms l ys) (append_assoc before (x ∷ []) xs) parts.1)
+    let parts = accepted-split terms (before ++ x ∷ []) xs ys h.1 in (
+      (h.0, parts.0),
+      subst (λ l. AreAcceptedFrom terms l ys) (append_assoc before (x ∷ []) xs)
+          parts.1,
+    )
 
 -- ---- what an accepted call that closes nothing makes of a held version
 
-pub record Next (terms : Terms) (uri : Bytes) (calls : List Call) (c : Call) (v : Version) : Type 0 where
-  pub version : Version
-  pub held : held terms uri (calls ++ c ∷ []) ≡ Some version
-  pub rises : is_change uri c ≡ true → int_lt v.number version.number ≡ true
-  pub stays : is_change uri c ≡ false → v ≡ version
+pub record Next (terms : Terms) (uri : Bytes) (calls : List Call) (c : Call) (v : Version) : Type 0
+  where
+    pub version : Version
+    pub held : held terms uri (calls ++ c ∷ []) ≡ Some version
+    pub rises : is_change uri c ≡ true → int_lt v.number version.number ≡ true
+    pub stays : is_change uri c ≡ false → v ≡ version
 
-module _ (terms : Terms) (uri : Bytes) (calls : List Call) (v : Version) (now : held terms uri calls ≡ Some v) where
-  next-is : (c : Call) → next_held terms uri (held terms uri calls) c ≡ next_held terms uri (Some v) c
+module _ (terms : Terms) (uri : Bytes) (calls : List Call) (v : Version)
+    (now : held terms uri calls ≡ Some v) where
+  next-is : (c : Call) → next_held terms uri (held terms uri calls) c
+      ≡ next_held terms uri (Some v) c
   next-is c = ap (λ h. next_held terms uri h c) now
 
-  pub next : (c : Call) → call_rule terms calls c ≡ None → is_close uri c ≡ false → Next terms uri calls c v
+  pub next : (c : Call) → call_rule terms calls c ≡ None → is_close uri c ≡ false
+      → Next terms uri calls c v
   next (opens u n t) e open_still = record {
     version = v;
     held = held-snoc terms uri calls (opens u n t) ∙ next-is (opens u n t);
@@ -44,23 +56,28 @@ module _ (terms : Terms) (uri : Bytes) (calls : List Call) (v : Version) (now : 
       elim (cases_Bool (bytes_eq uri u)) [
         | inl p ↦
             let parts = change_parts terms _ enc k n cs (held terms u calls) e in
-            let same : parts.old ≡ v = same_Some parts.old v (sym parts.is ∙ (ap (λ x. held terms x calls) (sym (uri_is uri u p)) ∙ now)) in
+            let same : parts.old ≡ v =
+            same_Some parts.old v (sym parts.is ∙ (ap (λ x. held terms x calls)
+            (sym (uri_is uri u p)) ∙ now)) in
             record {
               version = versioned n (text_or v.text (applied terms.limit enc v.text cs));
-              held = held-snoc terms uri calls (changes enc k u n cs) ∙ (next-is (changes enc k u n cs) ∙ rw p refl);
+              held = held-snoc terms uri calls (changes enc k u n cs)
+                  ∙ (next-is (changes enc k u n cs) ∙ rw p refl);
               rises = λ q. ap (λ w. int_lt w.number n) (sym same) ∙ parts.rises;
               stays = λ q. absurd (true≢false (sym p ∙ q));
             }
         | inr p ↦ record {
           version = v;
-          held = held-snoc terms uri calls (changes enc k u n cs) ∙ (next-is (changes enc k u n cs) ∙ rw p refl);
+          held = held-snoc terms uri calls (changes enc k u n cs)
+              ∙ (next-is (changes enc k u n cs) ∙ rw p refl);
           rises = λ q. absurd (true≢false (sym q ∙ p));
           stays = λ q. refl;
         }
       ]
   next (closes u) e open_still = record {
     version = v;
-    held = held-snoc terms uri calls (closes u) ∙ (next-is (closes u) ∙ ap (λ b. if b then None else option_or (Some v) None) open_still);
+    held = held-snoc terms uri calls (closes u)
+        ∙ (next-is (closes u) ∙ ap (λ b. if b then None else option_or (Some v) None) open_still);
     rises = λ p. absurd (true≢false (sym p));
     stays = λ p. refl;
   }
@@ -86,7 +103,9 @@ pub record Risen (terms : Terms) (uri : Bytes) (calls more : List Call) (v : Ver
   pub stays : list_any (is_change uri) more ≡ false → v ≡ version
 
 -- **Each change raises the version of an opening, and nothing else touches it.**
-pub risen : (terms : Terms) (uri : Bytes) (calls more : List Call) (v : Version) → AreAcceptedFrom terms calls more → list_any (is_close uri) more ≡ false → held terms uri calls ≡ Some v → Risen terms uri calls more v
+pub risen : (terms : Terms) (uri : Bytes) (calls more : List Call) (v : Version)
+    → AreAcceptedFrom terms calls more → list_any (is_close uri) more ≡ false
+    → held terms uri calls ≡ Some v → Risen terms uri calls more v
 risen terms uri calls [] v h open_still now = record {
   version = v;
   held = ap (held terms uri) (append-nil calls) ∙ now;
@@ -102,11 +121,13 @@ risen terms uri calls (c ∷ more) v h open_still now =
       held = ap (held terms uri) (sym (append_assoc calls (c ∷ []) more)) ∙ rest.held;
       rises = λ p. elim (cases_Bool (is_change uri c)) [
         | inl q ↦ elim (cases_Bool (list_any (is_change uri) more)) [
-          | inl r ↦ lt_trans v.number one.version.number rest.version.number (one.rises q) (rest.rises r)
+          | inl r ↦ lt_trans v.number one.version.number rest.version.number (one.rises q)
+              (rest.rises r)
           | inr r ↦ ap (λ w. int_lt v.number w.number) (sym (rest.stays r)) ∙ one.rises q
         ]
         | inr q ↦ ap (λ w. int_lt w.number rest.version.number) (one.stays q)
             ∙ rest.rises (ap (λ b. b || list_any (is_change uri) more) (sym q) ∙ p)
       ];
-      stays = λ p. let parts = or_parts (is_change uri c) (list_any (is_change uri) more) p in one.stays parts.0 ∙ rest.stays parts.1;
+      stays = λ p. let parts = or_parts (is_change uri c) (list_any (is_change uri) more) p in
+          one.stays parts.0 ∙ rest.stays parts.1;
     }

@@ -1,7 +1,8 @@
 -- The open documents under their URIs, and the lists that they stand for.
-use Rattle.std.proofs.Common.{◌≡◌, ℕ, ◌≤◌, List, [], ◌∷◌, ◌++◌, map, length, Option, Some, None, option_map, is_some, inl, inr, true, false, true≢false, refl, sym, ap, ◌∙◌, subst, string_bytes, String, Global, Bor}
-use Rattle.std.specs.Prelude.{if◌then◌else◌, option_to_list}
-use Rattle.std.specs.Map.Iter.{deref_pair}
+use Rattle.std.proofs.Common.{◌≡◌, ℕ, ◌≤◌, List, [], ◌∷◌, ◌++◌, map, length, Option, Some, None}
+use Rattle.std.proofs.Common.{option_map, is_some, inl, inr, false, true≢false, refl, sym, ap, ◌∙◌}
+use Rattle.std.proofs.Common.{subst, string_bytes, String, Global, Bor}
+use Rattle.std.specs.Prelude.{if◌then◌else◌}
 use Rattle.std.proofs.lemmas.Option.{none-some, same_Some}
 use Rattle.std.specs.List.{AllByRecursion, IsDistinct}
 use Rattle.std.specs.Option.{option_copied}
@@ -11,13 +12,14 @@ use Rattle.std.specs.Str.{bytes_eq}
 use Rattle.std.proofs.lemmas.Bool.{cases_Bool}
 use Rattle.lsp_order.specs.Texts.{is_text}
 use Rattle.lsp_docs.specs.Calls.{Bytes}
-use Rattle.lsp_docs.specs.Documents.{Version, Held}
+use Rattle.lsp_docs.specs.Documents.{Version}
 use Rattle.lsp_docs.specs.Kept.{last_of}
-use Rattle.lsp_docs.specs.State.{Kept, held_in, kept_in, set_in, without, KeepsSame, KeepsOn, KeepsNone}
+use Rattle.lsp_docs.specs.State.{held_in, kept_in, set_in, without, KeepsSame, KeepsOn, KeepsNone}
 use Rattle.lsp_docs.specs.Opened.{held_of, kept_of, or_nothing}
 use Rattle.lsp_docs.proofs.Words.{uri_is, uri_flip}
 
-pub copied-map : {D R : Type 0} (f : D → R) (r : Option (Bor D)) → option_map (λ x. f x.now) r ≡ option_map f (option_copied r)
+pub copied-map : {D R : Type 0} (f : D → R) (r : Option (Bor D))
+    → option_map (λ x. f x.now) r ≡ option_map f (option_copied r)
 copied-map f None = refl
 copied-map f (Some x) = refl
 
@@ -25,66 +27,96 @@ pub unmapped : {D R : Type 0} (f : D → R) (o : Option D) → option_map f o �
 unmapped f None e = refl
 unmapped f (Some d) e = absurd (none-some (f d) (sym e))
 
-pub is_some-mapped : {D R : Type 0} (f : D → R) (o : Option D) → is_some (option_map f o) ≡ is_some o
+pub is_some-mapped : {D R : Type 0} (f : D → R) (o : Option D)
+    → is_some (option_map f o) ≡ is_some o
 is_some-mapped f None = refl
 is_some-mapped f (Some d) = refl
 
 module _ {D : Type 0} where
-  pub absent-removed : (uri : Bytes) (es : List (String Global × D)) → is_some (lookup (is_text uri) es) ≡ false → remove_entry (is_text uri) es ≡ es
+  pub absent-removed : (uri : Bytes) (es : List (String Global × D))
+      → is_some (lookup (is_text uri) es) ≡ false → remove_entry (is_text uri) es ≡ es
   absent-removed uri [] h = refl
   absent-removed uri (e ∷ es) h = elim (cases_Bool (is_text uri e.0)) [
     | inl p ↦ absurd (true≢false (rw p at h))
     | inr p ↦ rw p (ap (λ l. e ∷ l) (absent-removed uri es (rw p at h)))
   ]
 
-  -- what a function makes of the entries, where one is written that it does not tell from the old one
-  pub written-same : {X : Type 0} (f : String Global × D → X) (uri : Bytes) (d v : D) → ((k : String Global) → f (k, d) ≡ f (k, v)) → (es : List (String Global × D)) → lookup (is_text uri) es ≡ Some v
+  -- what a function makes of the entries, where one is written that it does not tell from the old
+  -- one
+  pub written-same : {X : Type 0} (f : String Global × D → X) (uri : Bytes) (d v : D)
+      → ((k : String Global) → f (k, d) ≡ f (k, v)) → (es : List (String Global × D))
+      → lookup (is_text uri) es ≡ Some v
       → map f (set_value (is_text uri) es d) ≡ map f es
   written-same f uri d v same [] h = absurd (none-some v h)
   written-same f uri d v same (e ∷ es) h = elim (cases_Bool (is_text uri e.0)) [
-    | inl p ↦ rw p (ap (λ x. x ∷ map f es) (same e.0 ∙ ap (λ x. f (e.0, x)) (sym (same_Some e.1 v (rw p at h)))))
+    | inl p ↦ rw p (ap (λ x. x ∷ map f es) (same e.0
+        ∙ ap (λ x. f (e.0, x)) (sym (same_Some e.1 v (rw p at h)))))
     | inr p ↦ rw p (ap (λ l. f e ∷ l) (written-same f uri d v same es (rw p at h)))
   ]
 
   module _ (seen : D → Version) where
-    pub uris-held : (es : List (String Global × D)) → map (λ h. h.uri) (held_of seen es) ≡ map (λ e. string_bytes e.0) es
+    pub uris-held : (es : List (String Global × D))
+        → map (λ h. h.uri) (held_of seen es) ≡ map (λ e. string_bytes e.0) es
     uris-held [] = refl
     uris-held (e ∷ es) = ap (λ l. string_bytes e.0 ∷ l) (uris-held es)
 
-    pub held_in-of : (uri : Bytes) (es : List (String Global × D)) → held_in uri (held_of seen es) ≡ option_map seen (lookup (is_text uri) es)
+    pub held_in-of : (uri : Bytes) (es : List (String Global × D))
+        → held_in uri (held_of seen es) ≡ option_map seen (lookup (is_text uri) es)
     held_in-of uri [] = refl
-    held_in-of uri (e ∷ es) = elim (cases_Bool (is_text uri e.0)) [ inl p ↦ rw p refl | inr p ↦ rw p (held_in-of uri es) ]
+    held_in-of uri (e ∷ es) =
+        elim (cases_Bool (is_text uri e.0)) [ inl p ↦ rw p refl | inr p ↦ rw p (held_in-of uri es) ]
 
-    pub held-push : (es : List (String Global × D)) (k : String Global) (d : D) → held_of seen (es ++ (k, d) ∷ []) ≡ held_of seen es ++ record { uri = string_bytes k; version = seen d } ∷ []
+    pub held-push : (es : List (String Global × D)) (k : String Global) (d : D)
+        → held_of seen (es ++ (k, d) ∷ []) ≡ held_of seen es ++ record {
+          uri = string_bytes k;
+          version = seen d;
+        } ∷ []
     held-push [] k d = refl
-    held-push (e ∷ es) k d = ap (λ l. record { uri = string_bytes e.0; version = seen e.1 } ∷ l) (held-push es k d)
+    held-push (e ∷ es) k d =
+        ap (λ l. record { uri = string_bytes e.0; version = seen e.1 } ∷ l) (held-push es k d)
 
-    pub held-set : (uri : Bytes) (d : D) (es : List (String Global × D)) → held_of seen (set_value (is_text uri) es d) ≡ set_in uri (seen d) (held_of seen es)
+    pub held-set : (uri : Bytes) (d : D) (es : List (String Global × D))
+        → held_of seen (set_value (is_text uri) es d) ≡ set_in uri (seen d) (held_of seen es)
     held-set uri d [] = refl
     held-set uri d (e ∷ es) = elim (cases_Bool (is_text uri e.0)) [
       | inl p ↦ rw p refl
-      | inr p ↦ rw p (ap (λ l. record { uri = string_bytes e.0; version = seen e.1 } ∷ l) (held-set uri d es))
+      | inr p ↦ rw p (ap (λ l. record {
+        uri = string_bytes e.0;
+        version = seen e.1;
+      } ∷ l) (held-set uri d es))
     ]
 
-    pub held-without : (uri : Bytes) (es : List (String Global × D)) → held_of seen (remove_entry (is_text uri) es) ≡ without uri (held_of seen es)
+    pub held-without : (uri : Bytes) (es : List (String Global × D))
+        → held_of seen (remove_entry (is_text uri) es) ≡ without uri (held_of seen es)
     held-without uri [] = refl
     held-without uri (e ∷ es) = elim (cases_Bool (is_text uri e.0)) [
       | inl p ↦ rw p refl
-      | inr p ↦ rw p (ap (λ l. record { uri = string_bytes e.0; version = seen e.1 } ∷ l) (held-without uri es))
+      | inr p ↦ rw p (ap (λ l. record {
+        uri = string_bytes e.0;
+        version = seen e.1;
+      } ∷ l) (held-without uri es))
     ]
 
   module _ (keeps : D → List Version) where
-    pub kept_in-of : (uri : Bytes) (es : List (String Global × D)) → kept_in uri (kept_of keeps es) ≡ or_nothing (option_map keeps (lookup (is_text uri) es))
+    pub kept_in-of : (uri : Bytes) (es : List (String Global × D))
+        → kept_in uri (kept_of keeps es) ≡ or_nothing (option_map keeps (lookup (is_text uri) es))
     kept_in-of uri [] = refl
-    kept_in-of uri (e ∷ es) = elim (cases_Bool (is_text uri e.0)) [ inl p ↦ rw p refl | inr p ↦ rw p (kept_in-of uri es) ]
+    kept_in-of uri (e ∷ es) =
+        elim (cases_Bool (is_text uri e.0)) [ inl p ↦ rw p refl | inr p ↦ rw p (kept_in-of uri es) ]
 
     -- of a document that was opened nothing is kept
-    pub kept-push : (k : String Global) (d : D) → keeps d ≡ [] → (es : List (String Global × D)) → KeepsSame (kept_of keeps es) (kept_of keeps (es ++ (k, d) ∷ []))
-    kept-push k d nothing [] u = elim (cases_Bool (bytes_eq u (string_bytes k))) [ inl p ↦ rw p nothing | inr p ↦ rw p refl ]
-    kept-push k d nothing (e ∷ es) u = elim (cases_Bool (bytes_eq u (string_bytes e.0))) [ inl p ↦ rw p refl | inr p ↦ rw p (kept-push k d nothing es u) ]
+    pub kept-push : (k : String Global) (d : D) → keeps d ≡ [] → (es : List (String Global × D))
+        → KeepsSame (kept_of keeps es) (kept_of keeps (es ++ (k, d) ∷ []))
+    kept-push k d nothing [] u =
+        elim (cases_Bool (bytes_eq u (string_bytes k))) [ inl p ↦ rw p nothing | inr p ↦ rw p refl ]
+    kept-push k d nothing (e ∷ es) u =
+        elim (cases_Bool (bytes_eq u (string_bytes e.0)))
+        [ inl p ↦ rw p refl | inr p ↦ rw p (kept-push k d nothing es u) ]
 
-    kept-set : (uri : Bytes) (d v : D) (es : List (String Global × D)) → lookup (is_text uri) es ≡ Some v
-        → (u : Bytes) → kept_in u (kept_of keeps (set_value (is_text uri) es d)) ≡ (if bytes_eq uri u then keeps d else kept_in u (kept_of keeps es))
+    kept-set : (uri : Bytes) (d v : D) (es : List (String Global × D))
+        → lookup (is_text uri) es ≡ Some v
+        → (u : Bytes) → kept_in u (kept_of keeps (set_value (is_text uri) es d))
+        ≡ (if bytes_eq uri u then keeps d else kept_in u (kept_of keeps es))
     kept-set uri d v [] h u = absurd (none-some v h)
     kept-set uri d v (e ∷ es) h u = elim (cases_Bool (is_text uri e.0)) [
       | inl p ↦
@@ -94,7 +126,8 @@ module _ {D : Type 0} where
             | inr q ↦ rw (q, ap (bytes_eq u) (sym is) ∙ (uri_flip u uri ∙ q)) refl
           ])
       | inr p ↦ rw p (elim (cases_Bool (bytes_eq uri u)) [
-        | inl q ↦ rw (ap (λ x. bytes_eq x (string_bytes e.0)) (sym (uri_is uri u q)) ∙ p) (kept-set uri d v es (rw p at h) u ∙ rw q refl)
+        | inl q ↦ rw (ap (λ x. bytes_eq x (string_bytes e.0)) (sym (uri_is uri u q)) ∙ p)
+            (kept-set uri d v es (rw p at h) u ∙ rw q refl)
         | inr q ↦ elim (cases_Bool (bytes_eq u (string_bytes e.0))) [
           | inl r ↦ rw (r, q) refl
           | inr r ↦ rw r (kept-set uri d v es (rw p at h) u ∙ rw q refl)
@@ -103,23 +136,33 @@ module _ {D : Type 0} where
     ]
 
     -- the held version joins those that are kept of the URI
-    pub keeps-on : (most : ℕ) (h : Option Version) (was : Version) (uri : Bytes) (d v : D) (es : List (String Global × D)) → lookup (is_text uri) es ≡ Some v → h ≡ Some was
-        → (length (keeps v) ≤ most → keeps d ≡ last_of most (keeps v ++ was ∷ [])) → KeepsOn most uri h (kept_of keeps es) (kept_of keeps (set_value (is_text uri) es d))
+    pub keeps-on : (most : ℕ) (h : Option Version) (was : Version) (uri : Bytes) (d v : D)
+        (es : List (String Global × D)) → lookup (is_text uri) es ≡ Some v → h ≡ Some was
+        → (length (keeps v) ≤ most → keeps d ≡ last_of most (keeps v ++ was ∷ []))
+        → KeepsOn most uri h (kept_of keeps es) (kept_of keeps (set_value (is_text uri) es d))
     keeps-on most h was uri d v es there is joins few u =
-        let here : kept_in uri (kept_of keeps es) ≡ keeps v = kept_in-of uri es ∙ ap (λ o. or_nothing (option_map keeps o)) there in
+        let here : kept_in uri (kept_of keeps es) ≡ keeps v =
+        kept_in-of uri es ∙ ap (λ o. or_nothing (option_map keeps o)) there in
         kept-set uri d v es there u
         ∙ elim (cases_Bool (bytes_eq uri u)) [
-          | inl p ↦ rw (p, is, ap (λ x. kept_in x (kept_of keeps es)) (sym (uri_is uri u p)) ∙ here) (joins (subst (λ l. length l ≤ most) here few))
+          | inl p ↦ rw (p, is, ap (λ x. kept_in x (kept_of keeps es)) (sym (uri_is uri u p)) ∙ here)
+              (joins (subst (λ l. length l ≤ most) here few))
           | inr p ↦ rw p refl
         ]
 
-    none-kept : (uri : Bytes) (k : String Global) (es : List (String Global × D)) → uri ≡ string_bytes k → AllByRecursion (λ y. string_eq k y ≡ false) (keys_of es) → kept_in uri (kept_of keeps es) ≡ []
+    none-kept : (uri : Bytes) (k : String Global) (es : List (String Global × D))
+        → uri ≡ string_bytes k → AllByRecursion (λ y. string_eq k y ≡ false) (keys_of es)
+        → kept_in uri (kept_of keeps es) ≡ []
     none-kept uri k [] is d = refl
-    none-kept uri k (e ∷ es) is d = rw (ap (λ x. bytes_eq x (string_bytes e.0)) is ∙ d.0) (none-kept uri k es is d.1)
+    none-kept uri k (e ∷ es) is d =
+        rw (ap (λ x. bytes_eq x (string_bytes e.0)) is ∙ d.0) (none-kept uri k es is d.1)
 
-    pub keeps-none : (uri : Bytes) (es : List (String Global × D)) → IsDistinct string_eq (keys_of es) → KeepsNone uri (kept_of keeps es) (kept_of keeps (remove_entry (is_text uri) es))
+    pub keeps-none : (uri : Bytes) (es : List (String Global × D))
+        → IsDistinct string_eq (keys_of es)
+        → KeepsNone uri (kept_of keeps es) (kept_of keeps (remove_entry (is_text uri) es))
     unfolding IsDistinct
-    keeps-none uri [] d u = elim (cases_Bool (bytes_eq uri u)) [ inl q ↦ rw q refl | inr q ↦ rw q refl ]
+    keeps-none uri [] d u = elim (cases_Bool (bytes_eq uri u))
+        [ inl q ↦ rw q refl | inr q ↦ rw q refl ]
     keeps-none uri (e ∷ es) d u = elim (cases_Bool (is_text uri e.0)) [
       | inl p ↦
           let is = uri_is uri (string_bytes e.0) p in
@@ -128,7 +171,8 @@ module _ {D : Type 0} where
             | inr q ↦ rw (q, ap (bytes_eq u) (sym is) ∙ (uri_flip u uri ∙ q)) refl
           ])
       | inr p ↦ rw p (elim (cases_Bool (bytes_eq uri u)) [
-        | inl q ↦ rw (ap (λ x. bytes_eq x (string_bytes e.0)) (sym (uri_is uri u q)) ∙ p) (keeps-none uri es d.1 u ∙ rw q refl)
+        | inl q ↦ rw (ap (λ x. bytes_eq x (string_bytes e.0)) (sym (uri_is uri u q)) ∙ p)
+            (keeps-none uri es d.1 u ∙ rw q refl)
         | inr q ↦ elim (cases_Bool (bytes_eq u (string_bytes e.0))) [
           | inl r ↦ rw (r, q) refl
           | inr r ↦ rw r (keeps-none uri es d.1 u ∙ rw q refl)

@@ -58,7 +58,8 @@ mixed-push (first ∷ ts) text =
     let test : Text → Bool = λ t. not (bytes_eq t first) in
     list_any-append test ts (text ∷ [])
     ∙ elim (cases_Bool (bytes_eq text first)) [
-      | inl p ↦ rw p (or-false (list_any test ts) ∙ sym (others text first ts (uri_is text first p)))
+      | inl p ↦ rw p (or-false (list_any test ts)
+          ∙ sym (others text first ts (uri_is text first p)))
       | inr p ↦ rw p (or-true (list_any test ts))
     ]
 

@@ -1,5 +1,7 @@
 -- Versions that have another text than a given one, as they are looked for.
-use Rattle.std.proofs.Common.{◌≡◌, ◌<◌, ◌+◌, ℕ, Bool, true, false, List, [], ◌∷◌, ◌++◌, map, length, get_or, take, drop, Option, Some, None, refl, sym, ap, ◌∙◌, inl, inr, true≢false}
+use Rattle.std.proofs.Common.{◌≡◌, ◌<◌, ◌+◌, ℕ, Bool, true, false, List, [], ◌∷◌, ◌++◌, map, length}
+use Rattle.std.proofs.Common.{get_or, take, drop, Option, Some, None, refl, sym, ap, ◌∙◌, inl, inr}
+use Rattle.std.proofs.Common.{true≢false}
 use Rattle.std.proofs.lemmas.Bool.{cond-true, cond-false, cases_Bool}
 use Rattle.std.proofs.lemmas.List.{take_more, take-append-drop, at_drop_more}
 use Rattle.std.proofs.lemmas.List.Folds.{find-append}
@@ -12,9 +14,11 @@ use Rattle.lsp_docs.specs.Texts.{Text}
 use Rattle.lsp_docs.specs.Documents.{Version}
 use Rattle.lsp_docs.specs.Others.{differs_from, other_in, other_than}
 
-module _ {X : Type 0} (p : X → Bool) (xs : List X) (i : ℕ) (x : X) (lt : i < length xs) (is : x ≡ get_or xs i x) where
+module _ {X : Type 0} (p : X → Bool) (xs : List X) (i : ℕ) (x : X) (lt : i < length xs)
+    (is : x ≡ get_or xs i x) where
   parts : xs ≡ take i xs ++ x ∷ drop (i + 1) xs
-  parts = sym (take-append-drop i xs) ∙ (at_drop_more (λ (l : List X). take i xs ++ l) xs i x lt ∙ ap (λ y. take i xs ++ y ∷ drop (i + 1) xs) (sym is))
+  parts = sym (take-append-drop i xs) ∙ (at_drop_more (λ (l : List X). take i xs ++ l) xs i x lt
+      ∙ ap (λ y. take i xs ++ y ∷ drop (i + 1) xs) (sym is))
 
   -- one more that doesn't pass
   pub find-more : find p (take i xs) ≡ None → p x ≡ false → find p (take (i + 1) xs) ≡ None
@@ -32,11 +36,14 @@ module _ {X : Type 0} (p : X → Bool) (xs : List X) (i : ℕ) (x : X) (lt : i <
       ∙ (ap (λ o. option_or o (find p (x ∷ drop (i + 1) xs))) none ∙ cond-true _ _ _ passes))
 
 -- a test on the parts of a list
-pub find-map : {A B : Type 0} (p : B → Bool) (f : A → B) (xs : List A) → find p (map f xs) ≡ option_map f (find (λ x. p (f x)) xs)
+pub find-map : {A B : Type 0} (p : B → Bool) (f : A → B) (xs : List A)
+    → find p (map f xs) ≡ option_map f (find (λ x. p (f x)) xs)
 find-map p f [] = refl
-find-map p f (x ∷ xs) = elim (cases_Bool (p (f x))) [ inl h ↦ rw h refl | inr h ↦ rw h (find-map p f xs) ]
+find-map p f (x ∷ xs) = elim (cases_Bool (p (f x)))
+    [ inl h ↦ rw h refl | inr h ↦ rw h (find-map p f xs) ]
 
-pub map-twice : {A B C : Type 0} (g : B → C) (f : A → B) (o : Option A) → option_map g (option_map f o) ≡ option_map (λ x. g (f x)) o
+pub map-twice : {A B C : Type 0} (g : B → C) (f : A → B) (o : Option A)
+    → option_map g (option_map f o) ≡ option_map (λ x. g (f x)) o
 map-twice g f None = refl
 map-twice g f (Some x) = refl
 
@@ -44,29 +51,41 @@ map-twice g f (Some x) = refl
 pub same_text : (a b : List ℕ) → IsUtf8 a → IsUtf8 b → bytes_eq a b ≡ bytes_eq (chars b) (chars a)
 same_text a b u v =
     elim (cases_Bool (bytes_eq a b)) [
-      | inl h ↦ h ∙ sym ((bytes_eq-Decides (chars b) (chars a)).1 (ap chars (sym ((bytes_eq-Decides a b).0 h))))
+      | inl h ↦ h ∙ sym ((bytes_eq-Decides (chars b) (chars a)).1
+          (ap chars (sym ((bytes_eq-Decides a b).0 h))))
       | inr h ↦ elim (cases_Bool (bytes_eq (chars b) (chars a))) [
-        | inl k ↦ absurd (true≢false (sym ((bytes_eq-Decides a b).1 (sym (chars_same b a v u ((bytes_eq-Decides (chars b) (chars a)).0 k)))) ∙ h))
+        | inl k ↦ absurd (true≢false (sym ((bytes_eq-Decides a b).1
+            (sym (chars_same b a v u ((bytes_eq-Decides (chars b) (chars a)).0 k)))) ∙ h))
         | inr k ↦ h ∙ sym k
       ]
     ]
 
-pub map-seen : {A B C : Type 0} (g : B → C) (f : A → B) (xs : List A) → map g (map f xs) ≡ map (λ x. g (f x)) xs
+pub map-seen : {A B C : Type 0} (g : B → C) (f : A → B) (xs : List A)
+    → map g (map f xs) ≡ map (λ x. g (f x)) xs
 map-seen g f [] = refl
 map-seen g f (x ∷ xs) = ap (λ l. g (f x) ∷ l) (map-seen g f xs)
 
 -- ---- among what is kept, and then what is held
 
-pub found-first : (s : Version) (ks : List Version) (v : Version) (t : Text) → other_in s ks ≡ Some t → other_than s ks (Some v) ≡ Some t
-found-first s ks v t h = ap (option_map (λ (w : Version). w.text)) (find-append (differs_from s) ks (v ∷ [])) ∙ first_of (find (differs_from s) ks) (find (differs_from s) (v ∷ [])) t h
+pub found-first : (s : Version) (ks : List Version) (v : Version) (t : Text)
+    → other_in s ks ≡ Some t → other_than s ks (Some v) ≡ Some t
+found-first s ks v t h =
+    ap (option_map (λ (w : Version). w.text)) (find-append (differs_from s) ks (v ∷ []))
+    ∙ first_of (find (differs_from s) ks) (find (differs_from s) (v ∷ [])) t h
   where
-    first_of : (o p : Option Version) (t : Text) → option_map (λ (w : Version). w.text) o ≡ Some t → option_map (λ (w : Version). w.text) (option_or o p) ≡ Some t
+    first_of : (o p : Option Version) (t : Text) → option_map (λ (w : Version). w.text) o ≡ Some t
+        → option_map (λ (w : Version). w.text) (option_or o p) ≡ Some t
     first_of None p t h = absurd (cc)
     first_of (Some w) p t h = h
 
-pub found-behind : (s : Version) (ks : List Version) (v : Version) → other_in s ks ≡ None → other_than s ks (Some v) ≡ other_in s (v ∷ [])
-found-behind s ks v h = ap (option_map (λ (w : Version). w.text)) (find-append (differs_from s) ks (v ∷ [])) ∙ behind (find (differs_from s) ks) (find (differs_from s) (v ∷ [])) h
+pub found-behind : (s : Version) (ks : List Version) (v : Version) → other_in s ks ≡ None
+    → other_than s ks (Some v) ≡ other_in s (v ∷ [])
+found-behind s ks v h = ap (option_map (λ (w : Version). w.text))
+    (find-append (differs_from s) ks (v ∷ []))
+    ∙ behind (find (differs_from s) ks) (find (differs_from s) (v ∷ [])) h
   where
-    behind : (o p : Option Version) → option_map (λ (w : Version). w.text) o ≡ None → option_map (λ (w : Version). w.text) (option_or o p) ≡ option_map (λ (w : Version). w.text) p
+    behind : (o p : Option Version) → option_map (λ (w : Version). w.text) o ≡ None
+        → option_map (λ (w : Version). w.text) (option_or o p)
+        ≡ option_map (λ (w : Version). w.text) p
     behind None p h = refl
     behind (Some w) p h = absurd (cc)

@@ -1,5 +1,7 @@
 -- Lists of versions that have the same versions, in whatever order.
-use Rattle.std.proofs.Common.{◌≡◌, ℕ, zero, suc, ◌+◌, Bool, true, false, ◌&&◌, ◌||◌, List, [], ◌∷◌, ◌++◌, map, filter, length, length-append, refl, sym, ap, ◌∙◌, inl, inr, true≢false, Option, Some, None, Result, Ok, Err}
+use Rattle.std.proofs.Common.{◌≡◌, ℕ, zero, suc, ◌+◌, Bool, true, false, ◌&&◌, ◌||◌, List, [], ◌∷◌}
+use Rattle.std.proofs.Common.{◌++◌, map, filter, length, length-append, refl, sym, ap, ◌∙◌, inl}
+use Rattle.std.proofs.Common.{inr, true≢false, Option, Some, None, Result, Ok, Err}
 use Rattle.std.specs.Prelude.{ℤ, if◌then◌else◌, is_some, nat_lt, not, int_lt}
 use Rattle.std.specs.List.{list_any}
 use Rattle.std.specs.Ordering.{int_eq}
@@ -14,7 +16,8 @@ use Rattle.lsp_docs.specs.Terms.{Terms}
 use Rattle.lsp_docs.specs.Texts.{Text, byte_len}
 use Rattle.lsp_docs.specs.Calls.{Call, opens, changes, closes, saves, shows}
 use Rattle.lsp_docs.specs.Documents.{Version, versioned, is_at}
-use Rattle.lsp_docs.specs.Rules.{differs, version_rule, text_rule, change_rule, rule_of, first_row, fits_kind}
+use Rattle.lsp_docs.specs.Rules.{differs, version_rule, text_rule, change_rule, rule_of, first_row}
+use Rattle.lsp_docs.specs.Rules.{fits_kind}
 use Rattle.lsp_docs.specs.Snapshots.{texts_at}
 use Rattle.lsp_docs.specs.State.{SameOrder, SameVersions}
 use Rattle.lsp_docs.proofs.Words.{filter-all}
@@ -22,19 +25,25 @@ use Rattle.lsp_docs.proofs.Words.{filter-all}
 pub same-of : (vs ws : List Version) → vs ≡ ws → SameVersions vs ws
 same-of vs ws e = λ p. ap (λ l. length (filter p l)) e
 
-pub same-then : (vs ws us : List Version) → SameVersions vs ws → SameVersions ws us → SameVersions vs us
+pub same-then : (vs ws us : List Version) → SameVersions vs ws → SameVersions ws us
+    → SameVersions vs us
 same-then vs ws us h k = λ p. h p ∙ k p
 
-pub count-append : (p : Version → Bool) (vs ws : List Version) → length (filter p (vs ++ ws)) ≡ length (filter p vs) + length (filter p ws)
+pub count-append : (p : Version → Bool) (vs ws : List Version)
+    → length (filter p (vs ++ ws)) ≡ length (filter p vs) + length (filter p ws)
 count-append p vs ws = ap length (filter-append p vs ws) ∙ length-append (filter p vs) (filter p ws)
 
 pub same-length : (vs ws : List Version) → SameVersions vs ws → length vs ≡ length ws
 same-length vs ws h = sym (ap length (filter-all vs)) ∙ (h (λ _. true) ∙ ap length (filter-all ws))
 
-pub same-behind : (vs ws us : List Version) → SameVersions vs ws → SameVersions (vs ++ us) (ws ++ us)
-same-behind vs ws us h = λ p. count-append p vs us ∙ (ap (λ n. n + length (filter p us)) (h p) ∙ sym (count-append p ws us))
+pub same-behind : (vs ws us : List Version) → SameVersions vs ws
+    → SameVersions (vs ++ us) (ws ++ us)
+same-behind vs ws us h =
+    λ p. count-append p vs us
+    ∙ (ap (λ n. n + length (filter p us)) (h p) ∙ sym (count-append p ws us))
 
-filter-both : (p q : Version → Bool) (vs : List Version) → filter p (filter q vs) ≡ filter (λ v. q v && p v) vs
+filter-both : (p q : Version → Bool) (vs : List Version)
+    → filter p (filter q vs) ≡ filter (λ v. q v && p v) vs
 filter-both p q [] = refl
 filter-both p q (v ∷ vs) =
     elim (cases_Bool (q v)) [
@@ -45,18 +54,24 @@ filter-both p q (v ∷ vs) =
       | inr h ↦ rw h (filter-both p q vs)
     ]
 
-pub same-filtered : (q : Version → Bool) (vs ws : List Version) → SameVersions vs ws → SameVersions (filter q vs) (filter q ws)
-same-filtered q vs ws h = λ p. ap length (filter-both p q vs) ∙ (h (λ v. q v && p v) ∙ sym (ap length (filter-both p q ws)))
+pub same-filtered : (q : Version → Bool) (vs ws : List Version) → SameVersions vs ws
+    → SameVersions (filter q vs) (filter q ws)
+same-filtered q vs ws h =
+    λ p. ap length (filter-both p q vs)
+    ∙ (h (λ v. q v && p v) ∙ sym (ap length (filter-both p q ws)))
 
 abbrev is_more : ℕ → Bool
 is_more zero = false
 is_more (suc n) = true
 
-any-counted : (p : Version → Bool) (vs : List Version) → list_any p vs ≡ is_more (length (filter p vs))
+any-counted : (p : Version → Bool) (vs : List Version)
+    → list_any p vs ≡ is_more (length (filter p vs))
 any-counted p [] = refl
-any-counted p (v ∷ vs) = elim (cases_Bool (p v)) [ inl h ↦ rw h refl | inr h ↦ rw h (any-counted p vs) ]
+any-counted p (v ∷ vs) =
+    elim (cases_Bool (p v)) [ inl h ↦ rw h refl | inr h ↦ rw h (any-counted p vs) ]
 
-pub same-any : (p : Version → Bool) (vs ws : List Version) → SameVersions vs ws → list_any p vs ≡ list_any p ws
+pub same-any : (p : Version → Bool) (vs ws : List Version) → SameVersions vs ws
+    → list_any p vs ≡ list_any p ws
 same-any p vs ws h = any-counted p vs ∙ (ap is_more (h p) ∙ sym (any-counted p ws))
 
 -- ---- order
@@ -68,9 +83,12 @@ pub order-then : (vs ws us : List Version) → SameOrder vs ws → SameOrder ws 
 order-then vs ws us h k = λ n. h n ∙ k n
 
 pub order-behind : (vs ws us : List Version) → SameOrder vs ws → SameOrder (vs ++ us) (ws ++ us)
-order-behind vs ws us h = λ n. filter-append (is_at n) vs us ∙ (ap (λ l. l ++ filter (is_at n) us) (h n) ∙ sym (filter-append (is_at n) ws us))
+order-behind vs ws us h =
+    λ n. filter-append (is_at n) vs us
+    ∙ (ap (λ l. l ++ filter (is_at n) us) (h n) ∙ sym (filter-append (is_at n) ws us))
 
-filter-swap : (p q : Version → Bool) (vs : List Version) → filter p (filter q vs) ≡ filter q (filter p vs)
+filter-swap : (p q : Version → Bool) (vs : List Version)
+    → filter p (filter q vs) ≡ filter q (filter p vs)
 filter-swap p q [] = refl
 filter-swap p q (v ∷ vs) =
     elim (cases_Bool (q v)) [
@@ -84,28 +102,34 @@ filter-swap p q (v ∷ vs) =
       ]
     ]
 
-pub order-filtered : (q : Version → Bool) (vs ws : List Version) → SameOrder vs ws → SameOrder (filter q vs) (filter q ws)
-order-filtered q vs ws h = λ n. filter-swap (is_at n) q vs ∙ (ap (filter q) (h n) ∙ filter-swap q (is_at n) ws)
+pub order-filtered : (q : Version → Bool) (vs ws : List Version) → SameOrder vs ws
+    → SameOrder (filter q vs) (filter q ws)
+order-filtered q vs ws h =
+    λ n. filter-swap (is_at n) q vs ∙ (ap (filter q) (h n) ∙ filter-swap q (is_at n) ws)
 
 -- the texts of a version are the same
 pub order-texts : (n : ℤ) (vs ws : List Version) → SameOrder vs ws → texts_at n vs ≡ texts_at n ws
 order-texts n vs ws h = ap (map (λ (v : Version). v.text)) (h n)
 
 -- one of the version that has another text is one of its texts that is another
-pub differs-texts : (v : Version) (vs : List Version) → list_any (differs v) vs ≡ list_any (λ t. not (bytes_eq v.text t)) (texts_at v.number vs)
+pub differs-texts : (v : Version) (vs : List Version)
+    → list_any (differs v) vs ≡ list_any (λ t. not (bytes_eq v.text t)) (texts_at v.number vs)
 differs-texts v [] = refl
 differs-texts v (s ∷ vs) =
     let other = not (bytes_eq v.text s.text) in
     elim (cases_Bool (int_eq s.number v.number)) [
-      | inl k ↦ rw k (ap (λ b. (b && other) || list_any (differs v) vs) (flipped v.number s.number true k) ∙ ap (λ b. other || b) (differs-texts v vs))
-      | inr k ↦ rw k (ap (λ b. (b && other) || list_any (differs v) vs) (flipped v.number s.number false k) ∙ differs-texts v vs)
+      | inl k ↦ rw k (ap (λ b. (b && other) || list_any (differs v) vs)
+          (flipped v.number s.number true k) ∙ ap (λ b. other || b) (differs-texts v vs))
+      | inr k ↦ rw k (ap (λ b. (b && other) || list_any (differs v) vs)
+          (flipped v.number s.number false k) ∙ differs-texts v vs)
     ]
   where
     flipped : (a b : ℤ) (c : Bool) → int_eq b a ≡ c → int_eq a b ≡ c
     flipped a b true h = (Decides-int_eq a b).1 (sym ((Decides-int_eq b a).0 h))
     flipped a b false h =
         elim (cases_Bool (int_eq a b)) [
-          | inl k ↦ absurd (true≢false (sym ((Decides-int_eq b a).1 (sym ((Decides-int_eq a b).0 k))) ∙ h))
+          | inl k ↦ absurd (true≢false (sym ((Decides-int_eq b a).1
+              (sym ((Decides-int_eq a b).0 k))) ∙ h))
           | inr k ↦ k
         ]
 
@@ -119,14 +143,23 @@ module _ (vs ws : List Version) (h : SameVersions vs ws) where
   text-same n (Ok t) = version-same (versioned n t)
   text-same n (Err rule) = refl
 
-  change-same : (terms : Terms) (enc : Encoding) (k : SyncKind) (n : ℤ) (cs : List Edit) (o : Option Version) → change_rule terms vs enc k n cs o ≡ change_rule terms ws enc k n cs o
+  change-same : (terms : Terms) (enc : Encoding) (k : SyncKind) (n : ℤ) (cs : List Edit)
+      (o : Option Version) → change_rule terms vs enc k n cs o ≡ change_rule terms ws enc k n cs o
   change-same terms enc k n cs None = refl
   change-same terms enc k n cs (Some v) =
-      ap (λ r. first_row ((not (int_lt v.number n), Some 603) ∷ (not (fits_kind k cs), Some 604) ∷ (true, r) ∷ [])) (text-same n (applied terms.limit enc v.text cs))
+      ap (λ r. first_row ((not (int_lt v.number n), Some 603) ∷ (
+        not (fits_kind k cs),
+        Some 604,
+      ) ∷ (true, r) ∷ [])) (text-same n (applied terms.limit enc v.text cs))
 
   -- the order of the snapshots that wait doesn't matter to a rule
-  pub rule-same : (terms : Terms) (o : Option Version) (ks : List Version) (c : Call) → rule_of terms o ks vs c ≡ rule_of terms o ks ws c
-  rule-same terms o ks (opens u n t) = ap (λ r. first_row ((is_some o, Some 601) ∷ (nat_lt terms.limit (byte_len t), Some 607) ∷ (true, r) ∷ [])) (version-same (versioned n t))
+  pub rule-same : (terms : Terms) (o : Option Version) (ks : List Version) (c : Call)
+      → rule_of terms o ks vs c ≡ rule_of terms o ks ws c
+  rule-same terms o ks (opens u n t) =
+      ap (λ r. first_row ((is_some o, Some 601) ∷ (
+        nat_lt terms.limit (byte_len t),
+        Some 607,
+      ) ∷ (true, r) ∷ [])) (version-same (versioned n t))
   rule-same terms o ks (changes enc k u n cs) = change-same terms enc k n cs o
   rule-same terms o ks (closes u) = refl
   rule-same terms o ks (saves u t) = refl

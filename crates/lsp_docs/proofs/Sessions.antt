@@ -1,5 +1,7 @@
--- Small sessions on documents, computed from the definitions: the rule that the last call breaks, what is held, and the counts.
-use Rattle.std.proofs.Common.{◌≡◌, ℕ, ◌+◌, zero, suc, List, [], ◌∷◌, ◌++◌, length, refl, Option, Some, None}
+-- Small sessions on documents, computed from the definitions: the rule that the last call breaks,
+-- what is held, and the counts.
+use Rattle.std.proofs.Common.{◌≡◌, ℕ, ◌+◌, zero, suc, List, [], ◌∷◌, ◌++◌, length, refl, Option}
+use Rattle.std.proofs.Common.{Some, None}
 use Rattle.std.specs.Prelude.{pos, codes}
 use Rattle.lsp_types.specs.declared.position.Encoding.{Encoding}
 use Rattle.lsp_types.specs.declared.position.Encoding.TheVariants.{Utf8, Utf16, Utf32}
@@ -12,7 +14,8 @@ use Rattle.lsp_docs.specs.Documents.{Version, versioned, held, documents}
 use Rattle.lsp_docs.specs.Snapshots.{waiting, unmatched}
 use Rattle.lsp_docs.specs.Rules.{call_rule}
 
--- what the calls leave of the one document: what is held, how many snapshots wait, and how many were never compared
+-- what the calls leave of the one document: what is held, how many snapshots wait, and how many
+-- were never compared
 record Left : Type 0 where
   held : Option Version
   waiting : ℕ
@@ -34,7 +37,11 @@ abbrev a : List ℕ
 a = codes "file:///a"
 
 abbrev after : List Call → Left
-after calls = record { held = held terms a calls; waiting = length (waiting terms calls); unmatched = unmatched terms calls }
+after calls = record {
+  held = held terms a calls;
+  waiting = length (waiting terms calls);
+  unmatched = unmatched terms calls;
+}
 
 abbrev row : List Call → Call → Row
 row calls c = record { rule = call_rule terms calls c; left = after (calls ++ c ∷ []) }
@@ -61,7 +68,14 @@ abbrev whole : Text → Edit
 whole t = record { span = None; text = t }
 
 abbrev part : ℕ → ℕ → ℕ → ℕ → Text → Edit
-part l c m d t = record { span = Some (record { first = record { line = l; column = c }; second = record { line = m; column = d } }); text = t }
+part l c m d t = record {
+  span = Some (record {
+    first = record { line = l; column = c };
+    second =
+        record { line = m; column = d };
+  });
+  text = t;
+}
 
 abbrev replaced : ℕ → Text → Call
 replaced n t = changes Utf16 Full a (pos n) (whole t ∷ [])
@@ -74,7 +88,8 @@ early = shown 5 (codes "b") ∷ opened 3 (codes "a") ∷ []
 early_waits : row [] (shown 5 (codes "b")) ≡ accepted None 1 1
 early_waits = refl
 
-early_still_waits : row (shown 5 (codes "b") ∷ []) (opened 3 (codes "a")) ≡ accepted (holds 3 (codes "a")) 1 1
+early_still_waits : row (shown 5 (codes "b") ∷ []) (opened 3 (codes "a"))
+    ≡ accepted (holds 3 (codes "a")) 1 1
 early_still_waits = refl
 
 early_differs : call_rule terms early (replaced 5 (codes "c")) ≡ Some 702
@@ -104,15 +119,18 @@ close_ends_waiting = refl
 opened_again : row closed (opened 1 (codes "q")) ≡ accepted (holds 1 (codes "q")) 0 1
 opened_again = refl
 
-closed_snapshot_stays_unmatched : row (closed ++ opened 1 (codes "q") ∷ []) (replaced 9 (codes "y")) ≡ accepted (holds 9 (codes "y")) 0 1
+closed_snapshot_stays_unmatched : row (closed ++ opened 1 (codes "q") ∷ []) (replaced 9 (codes "y"))
+    ≡ accepted (holds 9 (codes "y")) 0 1
 closed_snapshot_stays_unmatched = refl
 
 -- ---- passed over, or with an opening that begins behind it
 
-passed_over : after (opened 3 (codes "a") ∷ shown 5 (codes "b") ∷ replaced 6 (codes "b") ∷ []) ≡ left (holds 6 (codes "b")) 0 1
+passed_over : after (opened 3 (codes "a") ∷ shown 5 (codes "b") ∷ replaced 6 (codes "b") ∷ [])
+    ≡ left (holds 6 (codes "b")) 0 1
 passed_over = refl
 
-below_the_opening : after (shown 1 (codes "z") ∷ opened 2 (codes "a") ∷ []) ≡ left (holds 2 (codes "a")) 0 1
+below_the_opening : after (shown 1 (codes "z") ∷ opened 2 (codes "a") ∷ [])
+    ≡ left (holds 2 (codes "a")) 0 1
 below_the_opening = refl
 
 late_at_once : call_rule terms (opened 4 (codes "a") ∷ []) (shown 3 (codes "a")) ≡ Some 701
@@ -126,17 +144,23 @@ differs_at_opening = refl
 
 -- ---- changes
 
-in_order : row (opened 1 (codes "ab") ∷ edited Utf16 2 (part 0 0 0 1 [] ∷ part 0 1 0 1 (codes "X") ∷ []) ∷ []) (shown 2 (codes "bX")) ≡ accepted (holds 2 (codes "bX")) 0 0
+in_order : row (opened 1 (codes "ab") ∷ edited Utf16 2
+    (part 0 0 0 1 [] ∷ part 0 1 0 1 (codes "X") ∷ []) ∷ []) (shown 2 (codes "bX"))
+    ≡ accepted (holds 2 (codes "bX")) 0 0
 in_order = refl
 
-reversed_at_last : call_rule terms (opened 1 (codes "ab") ∷ []) (edited Utf16 2 (part 0 0 0 1 [] ∷ part 0 1 0 1 (codes "X") ∷ part 0 1 0 0 [] ∷ [])) ≡ Some 606
+reversed_at_last : call_rule terms (opened 1 (codes "ab") ∷ [])
+    (edited Utf16 2 (part 0 0 0 1 [] ∷ part 0 1 0 1 (codes "X") ∷ part 0 1 0 0 [] ∷ [])) ≡ Some 606
 reversed_at_last = refl
 
-past_line_and_text : after (opened 1 (codes "ab" ++ 13 ∷ 10 ∷ codes "cd") ∷ edited Utf16 2 (part 0 99 0 99 (codes "X") ∷ []) ∷ edited Utf16 3 (part 7 0 7 0 (codes "Y") ∷ []) ∷ [])
+past_line_and_text : after
+    (opened 1 (codes "ab" ++ 13 ∷ 10 ∷ codes "cd") ∷ edited Utf16 2
+    (part 0 99 0 99 (codes "X") ∷ []) ∷ edited Utf16 3 (part 7 0 7 0 (codes "Y") ∷ []) ∷ [])
     ≡ left (holds 3 (codes "abX" ++ 13 ∷ 10 ∷ codes "cdY")) 0 0
 past_line_and_text = refl
 
-joined_line_end : after (opened 1 (97 ∷ 13 ∷ 98 ∷ 10 ∷ []) ∷ edited Utf16 2 (part 1 0 1 1 [] ∷ []) ∷ edited Utf16 3 (part 1 0 1 0 (codes "x") ∷ []) ∷ [])
+joined_line_end : after (opened 1 (97 ∷ 13 ∷ 98 ∷ 10 ∷ []) ∷ edited Utf16 2
+    (part 1 0 1 1 [] ∷ []) ∷ edited Utf16 3 (part 1 0 1 0 (codes "x") ∷ []) ∷ [])
     ≡ left (holds 3 (97 ∷ 13 ∷ 10 ∷ 120 ∷ [])) 0 0
 joined_line_end = refl
 
@@ -149,10 +173,12 @@ inserted enc column = edited enc 2 (part 0 column 0 column (codes "x") ∷ [])
 units_of_utf8 : after (face ++ inserted Utf8 4 ∷ []) ≡ left (holds 2 (0x1F600 ∷ 120 ∷ 97 ∷ [])) 0 0
 units_of_utf8 = refl
 
-units_of_utf16 : after (face ++ inserted Utf16 2 ∷ []) ≡ left (holds 2 (0x1F600 ∷ 120 ∷ 97 ∷ [])) 0 0
+units_of_utf16 : after (face ++ inserted Utf16 2 ∷ [])
+    ≡ left (holds 2 (0x1F600 ∷ 120 ∷ 97 ∷ [])) 0 0
 units_of_utf16 = refl
 
-units_of_utf32 : after (face ++ inserted Utf32 1 ∷ []) ≡ left (holds 2 (0x1F600 ∷ 120 ∷ 97 ∷ [])) 0 0
+units_of_utf32 : after (face ++ inserted Utf32 1 ∷ [])
+    ≡ left (holds 2 (0x1F600 ∷ 120 ∷ 97 ∷ [])) 0 0
 units_of_utf32 = refl
 
 inside_a_character : call_rule terms face (inserted Utf16 1) ≡ Some 605
@@ -163,7 +189,8 @@ inside_a_character = refl
 opened_twice : call_rule terms (opened 1 (codes "ab") ∷ []) (opened 2 (codes "ab")) ≡ Some 601
 opened_twice = refl
 
-reopened_lower : after (opened 9 (codes "a") ∷ closes a ∷ opened 1 (codes "b") ∷ shown 1 (codes "b") ∷ []) ≡ left (holds 1 (codes "b")) 0 0
+reopened_lower : after (opened 9 (codes "a") ∷ closes a ∷ opened 1 (codes "b") ∷ shown 1
+    (codes "b") ∷ []) ≡ left (holds 1 (codes "b")) 0 0
 reopened_lower = refl
 
 not_open : call_rule terms [] (closes a) ≡ Some 602
@@ -181,13 +208,16 @@ saved_differs = refl
 saved_not_open : call_rule terms [] (saves a (Some (codes "x"))) ≡ None
 saved_not_open = refl
 
-span_under_full : call_rule terms (opened 1 (codes "a") ∷ []) (changes Utf16 Full a (pos 2) (part 0 0 0 0 (codes "b") ∷ [])) ≡ Some 604
+span_under_full : call_rule terms (opened 1 (codes "a") ∷ [])
+    (changes Utf16 Full a (pos 2) (part 0 0 0 0 (codes "b") ∷ [])) ≡ Some 604
 span_under_full = refl
 
-none_allowed : call_rule terms (opened 1 (codes "a") ∷ []) (changes Utf16 Nothing a (pos 2) []) ≡ Some 604
+none_allowed : call_rule terms (opened 1 (codes "a") ∷ []) (changes Utf16 Nothing a (pos 2) [])
+    ≡ Some 604
 none_allowed = refl
 
-empty_changes : after (opened 1 (codes "a") ∷ changes Utf16 Full a (pos 2) [] ∷ []) ≡ left (holds 2 (codes "a")) 0 0
+empty_changes : after (opened 1 (codes "a") ∷ changes Utf16 Full a (pos 2) [] ∷ [])
+    ≡ left (holds 2 (codes "a")) 0 0
 empty_changes = refl
 
 -- ---- a terms of four bytes
@@ -195,16 +225,22 @@ empty_changes = refl
 opening_over_limit : call_rule (limited 4) [] (opened 1 (codes "abcde")) ≡ Some 607
 opening_over_limit = refl
 
-change_over_limit : call_rule (limited 4) (opened 1 (codes "abcd") ∷ []) (edited Utf16 2 (part 0 0 0 0 (codes "x") ∷ [])) ≡ Some 607
+change_over_limit : call_rule (limited 4) (opened 1 (codes "abcd") ∷ [])
+    (edited Utf16 2 (part 0 0 0 0 (codes "x") ∷ [])) ≡ Some 607
 change_over_limit = refl
 
-over_limit_between : call_rule (limited 4) (opened 1 (codes "abcd") ∷ []) (edited Utf16 2 (whole (codes "abcde") ∷ whole [] ∷ [])) ≡ Some 607
+over_limit_between : call_rule (limited 4) (opened 1 (codes "abcd") ∷ [])
+    (edited Utf16 2 (whole (codes "abcde") ∷ whole [] ∷ [])) ≡ Some 607
 over_limit_between = refl
 
 -- ---- two documents
 
-two_documents : documents terms (opened 1 (codes "p") ∷ opens (codes "b") (pos 4) (codes "q") ∷ replaced 2 (codes "r") ∷ [])
-    ≡ record { uri = a; version = versioned (pos 2) (codes "r") } ∷ record { uri = codes "b"; version = versioned (pos 4) (codes "q") } ∷ []
+two_documents : documents terms
+    (opened 1 (codes "p") ∷ opens (codes "b") (pos 4) (codes "q") ∷ replaced 2 (codes "r") ∷ [])
+    ≡ record {
+      uri = a;
+      version = versioned (pos 2) (codes "r");
+    } ∷ record { uri = codes "b"; version = versioned (pos 4) (codes "q") } ∷ []
 two_documents = refl
 
 -- ---- sixteen versions are kept
@@ -245,7 +281,8 @@ none_kept_late = refl
 passed_over_waiting : unmatched keeping (shown 1 (codes "z") ∷ leapt) ≡ 1
 passed_over_waiting = refl
 
-kept_until_closed : call_rule keeping (stepped ++ closes a ∷ opened 9 (codes "c") ∷ []) (shown 3 (codes "a")) ≡ Some 701
+kept_until_closed : call_rule keeping (stepped ++ closes a ∷ opened 9 (codes "c") ∷ [])
+    (shown 3 (codes "a")) ≡ Some 701
 kept_until_closed = refl
 
 -- the first version, and then this many changes, each by one version

@@ -1,5 +1,7 @@
 -- Small lemmas on Booleans, lists and counts.
-use Rattle.std.proofs.Common.{◌≡◌, Option, Some, None, is_some, true≢false, ℕ, List, [], ◌∷◌, map, inl, inr, Bool, true, false, ◌||◌, refl, sym, ap, ◌∙◌, filter, arith, ◌+◌, ◌&&◌}
+use Rattle.std.proofs.Common.{◌≡◌, Option, Some, None, is_some, true≢false, ℕ, List, [], ◌∷◌, map}
+use Rattle.std.proofs.Common.{inl, inr, Bool, true, false, ◌||◌, refl, sym, ap, ◌∙◌, filter, arith}
+use Rattle.std.proofs.Common.{◌+◌, ◌&&◌}
 use Rattle.std.proofs.lemmas.Int.{ints}
 use Rattle.std.specs.Prelude.{ℤ, int_lt, min, ◌-◌, ◌^◌, option_map}
 use Rattle.std.specs.List.{list_any}
@@ -59,7 +61,8 @@ less_behind m n h = grind (arith, ints)
 pub and_first : (b x : Bool) → b ≡ true → (b && x) ≡ x
 and_first b x p = rw p refl
 
-pub any-map : {A B : Type 0} (p : B → Bool) (f : A → B) (xs : List A) → list_any p (map f xs) ≡ list_any (λ x. p (f x)) xs
+pub any-map : {A B : Type 0} (p : B → Bool) (f : A → B) (xs : List A)
+    → list_any p (map f xs) ≡ list_any (λ x. p (f x)) xs
 any-map p f [] = refl
 any-map p f (x ∷ xs) = ap (λ b. p (f x) || b) (any-map p f xs)
 

@@ -1,4 +1,5 @@
--- What is said of documents, one call after another: a URI, and then what the message or the snapshot says of it.
+-- What is said about documents, one call after another: a URI, and then what the message or the
+-- snapshot says about it.
 use Rattle.std.specs.Prelude.{ℕ, ℤ, List, Bool, false, Option}
 use Rattle.std.specs.Str.{bytes_eq}
 use Rattle.lsp_types.specs.declared.position.Encoding.{Encoding}
@@ -10,7 +11,8 @@ use Rattle.lsp_text.specs.Edits.{Edit}
 abbrev pub Bytes : Type 0
 Bytes = List ℕ
 
--- `didOpen`, `didChange` under an encoding and a kind, `didClose`, `didSave`, and a snapshot that shows a text at a version
+-- `didOpen`, `didChange` under an encoding and a kind, `didClose`, `didSave`, and a snapshot that
+-- shows a text at a version
 pub data Call : Type 0 where
   opens : Bytes → ℤ → Text → Call
   changes : Encoding → SyncKind → Bytes → ℤ → List Edit → Call

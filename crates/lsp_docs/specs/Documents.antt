@@ -1,5 +1,6 @@
 -- What is held of each document, read off the calls that were made.
-use Rattle.std.specs.Prelude.{ℕ, ℤ, int_lt, Bool, List, [], ◌∷◌, ◌++◌, if◌then◌else◌, Option, Some, None, Result, Ok, Err}
+use Rattle.std.specs.Prelude.{ℕ, ℤ, int_lt, Bool, List, [], ◌∷◌, ◌++◌, if◌then◌else◌, Option, Some}
+use Rattle.std.specs.Prelude.{None, Result, Ok, Err}
 use Rattle.std.specs.List.{list_any}
 use Rattle.std.specs.Option.{option_or}
 use Rattle.std.specs.Ordering.{int_eq}
@@ -38,22 +39,27 @@ text_or old (Err rule) = old
 
 -- a document after a call: where the call changes it, at the new version, with the new text
 abbrev pub revised : Terms → Bytes → Version → Call → Version
-revised terms uri v (changes enc kind u number cs) = if bytes_eq uri u then versioned number (text_or v.text (applied terms.limit enc v.text cs)) else v
+revised terms uri v (changes enc kind u number cs) =
+    if bytes_eq uri u then versioned number (text_or v.text (applied terms.limit enc v.text cs))
+    else v
 revised terms uri v _ = v
 
 abbrev pub revised_by : Terms → Bytes → Version → List Call → Version
 revised_by terms uri v [] = v
 revised_by terms uri v (c ∷ cs) = revised_by terms uri (revised terms uri v c) cs
 
--- what an opening has come to after these calls, unless one of them closes it
+-- the version and text of an opening after these calls, unless one of them closes it
 abbrev pub held_since : Terms → Bytes → List Call → Option Version → Option Version
 held_since terms uri after None = None
-held_since terms uri after (Some v) = if list_any (is_close uri) after then None else Some (revised_by terms uri v after)
+held_since terms uri after (Some v) =
+    if list_any (is_close uri) after then None else Some (revised_by terms uri v after)
 
--- what is held of this URI after the calls: its opening that no close stands behind, with all later changes
+-- what is held of this URI after the calls: its opening that no close follows, with all later
+-- changes
 abbrev pub held : Terms → Bytes → List Call → Option Version
 held terms uri [] = None
-held terms uri (c ∷ after) = option_or (held_since terms uri after (opening uri c)) (held terms uri after)
+held terms uri (c ∷ after) =
+    option_or (held_since terms uri after (opening uri c)) (held terms uri after)
 
 -- an open document
 pub record Held : Type 0 where
@@ -65,10 +71,11 @@ as_held uri None = []
 as_held uri (Some v) = record { uri = uri; version = v } ∷ []
 
 abbrev pub held_entry : Terms → Call → List Call → List Held
-held_entry terms (opens uri number t) after = as_held uri (held_since terms uri after (Some (versioned number t)))
+held_entry terms (opens uri number t) after =
+    as_held uri (held_since terms uri after (Some (versioned number t)))
 held_entry terms _ after = []
 
--- the open documents, in order of opening
+-- the open documents, in the order in which they were opened
 abbrev pub documents : Terms → List Call → List Held
 documents terms [] = []
 documents terms (c ∷ after) = held_entry terms c after ++ documents terms after

@@ -16,7 +16,7 @@ abbrev pub Names : Option ℕ → DocFault → Type 0
 Names rule (Rule n) = rule ≡ Some n
 Names rule Memory = Unit {0}
 
--- the fault names a rule, and is no want of memory
+-- the fault names a rule, and is not a lack of memory
 abbrev pub IsRule : DocFault → Type 0
 IsRule (Rule n) = Unit {0}
 IsRule Memory = ⊥

@@ -1,12 +1,15 @@
--- The open documents as they are kept: what is held of each under its URI, in order of opening.
-use Rattle.std.specs.Prelude.{◌≡◌, ℕ, ℤ, List, [], map, Option, Some, None, string_bytes, String, Result, Ok}
+-- The open documents as they are kept: what is held of each under its URI, in the order in which
+-- they were opened.
+use Rattle.std.specs.Prelude.{◌≡◌, ℕ, ℤ, List, [], map, Option, Some, None, string_bytes, String}
+use Rattle.std.specs.Prelude.{Result, Ok}
 use Rattle.std.specs.Global.{Global}
 use Rattle.lsp_docs.specs.Texts.{Text}
 use Rattle.lsp_docs.specs.Calls.{Bytes}
 use Rattle.lsp_docs.specs.Documents.{Version, versioned, Held}
 use Rattle.lsp_docs.specs.State.{Kept, set_in}
 
--- the open documents in order of opening, and the versions that are kept of each URI
+-- the open documents in the order in which they were opened, and the versions that are kept of each
+-- URI
 pub record Opened : Type 0 where
   pub held : List Held
   pub kept : List Kept
@@ -23,8 +26,9 @@ held_of seen es = map (λ e. record { uri = string_bytes e.0; version = seen e.1
 abbrev pub kept_of : {D : Type 0} → (D → List Version) → List (String Global × D) → List Kept
 kept_of keeps es = map (λ e. record { uri = string_bytes e.0; versions = keeps e.1 }) es
 
--- the URI has come to this version, with the text that the changes made
-pub record IsSet (old new : List Held) (uri : Bytes) (number : ℤ) (made : Result Text ℕ) : Type 0 where
-  pub text : Text
-  pub is_made : made ≡ Ok text
-  pub is : new ≡ set_in uri (versioned number text) old
+-- the URI is now at this version, with the text that the changes made
+pub record IsSet (old new : List Held) (uri : Bytes) (number : ℤ) (made : Result Text ℕ) : Type 0
+  where
+    pub text : Text
+    pub is_made : made ≡ Ok text
+    pub is : new ≡ set_in uri (versioned number text) old

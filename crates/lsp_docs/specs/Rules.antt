@@ -1,5 +1,7 @@
 -- The rules of documents and snapshots: which one a call breaks, and which calls are accepted.
-use Rattle.std.specs.Prelude.{◌≡◌, ℕ, ℤ, int_lt, List, [], ◌∷◌, ◌++◌, Bool, true, false, ◌&&◌, ◌||◌, not, if◌then◌else◌, Option, Some, None, is_some, is_none, Result, Ok, Err, nat_lt}
+use Rattle.std.specs.Prelude.{◌≡◌, ℕ, ℤ, int_lt, List, [], ◌∷◌, ◌++◌, Bool, true, false, ◌&&◌, ◌||◌}
+use Rattle.std.specs.Prelude.{not, if◌then◌else◌, Option, Some, None, is_some, is_none, Result, Ok}
+use Rattle.std.specs.Prelude.{Err, nat_lt}
 use Rattle.std.specs.List.{list_any, list_all}
 use Rattle.std.specs.Ordering.{int_eq}
 use Rattle.std.specs.Str.{bytes_eq}
@@ -13,6 +15,7 @@ use Rattle.lsp_docs.specs.Calls.{Call, opens, changes, closes, saves, shows, uri
 use Rattle.lsp_docs.specs.Documents.{Version, versioned, is_after, held}
 use Rattle.lsp_docs.specs.Kept.{kept}
 use Rattle.lsp_docs.specs.Snapshots.{waiting, versions_of}
+use Rattle.lsp_types.specs.declared.rules.TheConstants as rules
 
 -- the rule of the first row whose test holds
 abbrev pub first_row : List (Bool × Option ℕ) → Option ℕ
@@ -25,7 +28,7 @@ differs v s = int_eq v.number s.number && not (bytes_eq v.text s.text)
 
 -- 702: a snapshot that waits for this version has another text
 abbrev pub version_rule : List Version → Version → Option ℕ
-version_rule waits v = if list_any (differs v) waits then Some 702 else None
+version_rule waits v = if list_any (differs v) waits then Some rules.SNAPSHOT_DIFFERS else None
 
 -- the changes are of the agreed kind: under Full none has a span, under None there is no change
 abbrev pub fits_kind : SyncKind → List Edit → Bool
@@ -38,55 +41,68 @@ abbrev pub text_rule : List Version → ℤ → Result Text ℕ → Option ℕ
 text_rule waits number (Err rule) = Some rule
 text_rule waits number (Ok t) = version_rule waits (versioned number t)
 
--- `didChange`: 602 not open; 603 the version does not rise; 604 not of the agreed kind; else what its changes break of the held text
-abbrev pub rule_of_change : SyncKind → ℤ → List Edit → (Version → Option ℕ) → Option Version → Option ℕ
-rule_of_change kind number cs broken None = Some 602
+-- `didChange`: 602 not open; 603 the version does not rise; 604 not of the agreed kind; else what
+-- its changes break of the held text
+abbrev pub rule_of_change : SyncKind → ℤ → List Edit → (Version → Option ℕ) → Option Version
+    → Option ℕ
+rule_of_change kind number cs broken None = Some rules.DOCUMENT_NOT_OPEN
 rule_of_change kind number cs broken (Some v) =
     first_row (
-    (not (int_lt v.number number), Some 603)
-    ∷ (not (fits_kind kind cs), Some 604)
+    (not (int_lt v.number number), Some rules.VERSION_DOES_NOT_RISE)
+    ∷ (not (fits_kind kind cs), Some rules.CHANGE_NOT_OF_KIND)
     ∷ (true, broken v)
     ∷ [])
 
 -- its changes break 605 to 607 where one is refused, or 702
-abbrev pub change_rule : Terms → List Version → Encoding → SyncKind → ℤ → List Edit → Option Version → Option ℕ
+abbrev pub change_rule : Terms → List Version → Encoding → SyncKind → ℤ → List Edit → Option Version
+    → Option ℕ
 change_rule terms waits enc kind number cs h =
-    rule_of_change kind number cs (λ v. text_rule waits number (applied terms.limit enc v.text cs)) h
+    rule_of_change kind number cs (λ v. text_rule waits number (applied terms.limit enc v.text cs))
+    h
 
 -- `didSave`: 608 the document is open, and the saved text is another than the held one
 abbrev pub save_rule : Option Text → Option Version → Option ℕ
-save_rule (Some t) (Some v) = if bytes_eq v.text t then None else Some 608
+save_rule (Some t) (Some v) = if bytes_eq v.text t then None else Some rules.SAVED_TEXT_DIFFERS
 save_rule _ _ = None
 
--- a snapshot: 701 its version is below each kept one and the held one; 702 a kept one or the held one is of its version, with another text
+-- a snapshot: 701 its version is below each kept one and the held one; 702 a kept one or the held
+-- one is of its version, with another text
 abbrev pub show_rule : ℤ → Text → List Version → Option Version → Option ℕ
 show_rule number t kept None = None
 show_rule number t kept (Some v) =
     first_row (
-    (list_all (is_after number) kept && int_lt number v.number, Some 701)
-    ∷ (list_any (λ w. differs w (versioned number t)) kept || differs v (versioned number t), Some 702)
+    (list_all (is_after number) kept && int_lt number v.number, Some rules.LATE_SNAPSHOT)
+    ∷ (
+      list_any (λ w. differs w (versioned number t)) kept || differs v (versioned number t),
+      Some rules.SNAPSHOT_DIFFERS,
+    )
     ∷ [])
 
--- the least rule that a call breaks, where this is held of its URI, these versions are kept and these snapshots wait
+-- the least rule that a call breaks, where this is held of its URI, these versions are kept and
+-- these snapshots wait
 abbrev pub rule_of : Terms → Option Version → List Version → List Version → Call → Option ℕ
 rule_of terms h kept waits (opens uri number t) =
     first_row (
-    (is_some h, Some 601)
-    ∷ (nat_lt terms.limit (byte_len t), Some 607)
+    (is_some h, Some rules.DOCUMENT_ALREADY_OPEN)
+    ∷ (nat_lt terms.limit (byte_len t), Some rules.DOCUMENT_OVER_LIMIT)
     ∷ (true, version_rule waits (versioned number t))
     ∷ [])
-rule_of terms h kept waits (changes enc kind uri number cs) = change_rule terms waits enc kind number cs h
-rule_of terms h kept waits (closes uri) = if is_some h then None else Some 602
+rule_of terms h kept waits (changes enc kind uri number cs) =
+    change_rule terms waits enc kind number cs h
+rule_of terms h kept waits (closes uri) = if is_some h then None else Some rules.DOCUMENT_NOT_OPEN
 rule_of terms h kept waits (saves uri t) = save_rule t h
 rule_of terms h kept waits (shows uri number t) = show_rule number t kept h
 
 -- the least rule that a call breaks after these calls, or none
 abbrev pub call_rule : Terms → List Call → Call → Option ℕ
-call_rule terms before c = rule_of terms (held terms (uri_of c) before) (kept terms (uri_of c) before) (versions_of (uri_of c) (waiting terms before)) c
+call_rule terms before c =
+    rule_of terms (held terms (uri_of c) before) (kept terms (uri_of c) before)
+    (versions_of (uri_of c) (waiting terms before)) c
 
 abbrev pub AreAcceptedFrom : Terms → List Call → List Call → Type 0
 AreAcceptedFrom terms before [] = Unit {0}
-AreAcceptedFrom terms before (c ∷ after) = (call_rule terms before c ≡ None) × AreAcceptedFrom terms (before ++ c ∷ []) after
+AreAcceptedFrom terms before (c ∷ after) =
+    (call_rule terms before c ≡ None) × AreAcceptedFrom terms (before ++ c ∷ []) after
 
 -- no call breaks a rule after those before it
 abbrev pub AreAccepted : Terms → List Call → Type 0

@@ -1,5 +1,6 @@
 -- Which snapshots wait for their version, and which were never compared.
-use Rattle.std.specs.Prelude.{ℕ, ℤ, int_lt, ◌+◌, List, [], ◌∷◌, ◌++◌, map, filter, Bool, true, false, ◌&&◌, ◌||◌, not, if◌then◌else◌, Option, Some, None}
+use Rattle.std.specs.Prelude.{ℕ, ℤ, int_lt, ◌+◌, List, [], ◌∷◌, ◌++◌, map, filter, Bool, true}
+use Rattle.std.specs.Prelude.{false, ◌&&◌, ◌||◌, not, if◌then◌else◌, Option, Some, None}
 use Rattle.std.specs.List.{list_any}
 use Rattle.std.specs.Ordering.{int_eq}
 use Rattle.std.specs.Str.{bytes_eq}
@@ -21,12 +22,18 @@ abbrev pub is_ahead : ℤ → Option Version → Bool
 is_ahead number None = true
 is_ahead number (Some v) = int_lt v.number number
 
--- a snapshot waits after `all`, where `after` came behind it: its opening was not closed, and is still to come or holds a lesser version
+-- a snapshot waits after `all`, where `after` followed it: its opening was not closed, and is still
+-- to come or holds a lesser version
 abbrev pub waits : Terms → List Call → Bytes → ℤ → List Call → Bool
-waits terms all uri number after = is_ahead number (held terms uri all) && not (list_any (is_close uri) after)
+waits terms all uri number after =
+    is_ahead number (held terms uri all) && not (list_any (is_close uri) after)
 
 abbrev pub shown_entry : Terms → List Call → Call → List Call → List Shown
-shown_entry terms all (shows uri number t) after = if waits terms all uri number after then record { uri = uri; version = versioned number t } ∷ [] else []
+shown_entry terms all (shows uri number t) after =
+    if waits terms all uri number after then record {
+      uri = uri;
+      version = versioned number t;
+    } ∷ [] else []
 shown_entry terms all _ after = []
 
 abbrev pub waiting_in : Terms → List Call → List Call → List Shown
@@ -68,20 +75,26 @@ sets uri number _ = false
 -- one of the calls brings the URI to this version, and none before it closes it
 abbrev pub comes_to : Bytes → ℤ → List Call → Bool
 comes_to uri number [] = false
-comes_to uri number (c ∷ after) = sets uri number c || (not (is_close uri c) && comes_to uri number after)
+comes_to uri number (c ∷ after) =
+    sets uri number c || (not (is_close uri c) && comes_to uri number after)
 
--- a snapshot between these calls is compared: its version is held or kept where it stands, or a later call comes to it before the URI is closed
+-- a snapshot between these calls is compared: its version is held or kept at its place, or a later
+-- call reaches it before the URI is closed
 abbrev pub is_compared : Terms → List Call → Bytes → ℤ → List Call → Bool
-is_compared terms before uri number after = has_number number (kept terms uri before) (held terms uri before) || comes_to uri number after
+is_compared terms before uri number after =
+    has_number number (kept terms uri before) (held terms uri before) || comes_to uri number after
 
 abbrev pub unmatched_entry : Terms → List Call → Call → List Call → ℕ
-unmatched_entry terms before (shows uri number t) after = if is_compared terms before uri number after then 0 else 1
+unmatched_entry terms before (shows uri number t) after =
+    if is_compared terms before uri number after then 0 else 1
 unmatched_entry terms before _ after = 0
 
 abbrev pub unmatched_in : Terms → List Call → List Call → ℕ
 unmatched_in terms before [] = 0
-unmatched_in terms before (c ∷ after) = unmatched_entry terms before c after + unmatched_in terms (before ++ c ∷ []) after
+unmatched_in terms before (c ∷ after) =
+    unmatched_entry terms before c after + unmatched_in terms (before ++ c ∷ []) after
 
--- how many snapshots were never compared: passed over, between kept versions, closed with their opening, or waiting still
+-- how many snapshots were never compared: skipped, between kept versions, closed with their
+-- opening, or waiting still
 abbrev pub unmatched : Terms → List Call → ℕ
 unmatched terms calls = unmatched_in terms [] calls

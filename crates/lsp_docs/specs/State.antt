@@ -1,5 +1,7 @@
 -- What documents hold, and the calls that this stands for.
-use Rattle.std.specs.Prelude.{◌≡◌, ℕ, ℤ, ◌+◌, ◌-◌, ◌^◌, ◌≤◌, min, List, [], ◌∷◌, ◌++◌, filter, length, Bool, false, if◌then◌else◌, Option, Some, None, option_to_list, Result, Ok}
+use Rattle.std.specs.Prelude.{◌≡◌, ℕ, ℤ, ◌+◌, ◌-◌, ◌^◌, ◌≤◌, min, List, [], ◌∷◌, ◌++◌, filter}
+use Rattle.std.specs.Prelude.{length, Bool, false, if◌then◌else◌, Option, Some, None}
+use Rattle.std.specs.Prelude.{option_to_list, Result, Ok}
 use Rattle.std.specs.Str.{bytes_eq}
 use Rattle.lsp_types.specs.declared.position.Encoding.{Encoding}
 use Rattle.lsp_types.specs.declared.change.SyncKind.{SyncKind}
@@ -7,7 +9,8 @@ use Rattle.lsp_docs.specs.Terms.{Terms}
 use Rattle.lsp_docs.specs.Texts.{Text}
 use Rattle.lsp_text.specs.Edits.{Edit, applied}
 use Rattle.lsp_docs.specs.Calls.{Bytes, Call, uri_of}
-use Rattle.lsp_docs.specs.Documents.{Version, versioned, is_after, is_at, is_before, Held, documents}
+use Rattle.lsp_docs.specs.Documents.{Version, versioned, is_after, is_at, is_before, Held}
+use Rattle.lsp_docs.specs.Documents.{documents}
 use Rattle.lsp_docs.specs.Kept.{kept, last_of}
 use Rattle.lsp_docs.specs.Snapshots.{waiting, versions_of}
 use Rattle.lsp_docs.specs.Rules.{rule_of, rule_of_change, AreAccepted}
@@ -47,7 +50,8 @@ held_in uri (h ∷ hs) = if bytes_eq uri h.uri then Some h.version else held_in 
 -- with `v` as the version of the first document of the URI
 abbrev pub set_in : Bytes → Version → List Held → List Held
 set_in uri v [] = []
-set_in uri v (h ∷ hs) = if bytes_eq uri h.uri then record { uri = h.uri; version = v } ∷ hs else h ∷ set_in uri v hs
+set_in uri v (h ∷ hs) = if bytes_eq uri h.uri then record { uri = h.uri; version = v } ∷ hs else
+    h ∷ set_in uri v hs
 
 -- without the first document of the URI
 abbrev pub without : Bytes → List Held → List Held
@@ -64,9 +68,13 @@ kept_in uri (k ∷ ks) = if bytes_eq uri k.uri then k.versions else kept_in uri 
 abbrev pub KeepsSame : List Kept → List Kept → Type 0
 KeepsSame old new = (u : Bytes) → kept_in u new ≡ kept_in u old
 
--- the held version of the URI joins the last so many that are kept of it, where no more than so many were
+-- where at most this many versions of the URI were kept, its held version joins them, and the last
+-- ones are kept, at most this many
 abbrev pub KeepsOn : ℕ → Bytes → Option Version → List Kept → List Kept → Type 0
-KeepsOn most uri h old new = length (kept_in uri old) ≤ most → (u : Bytes) → kept_in u new ≡ (if bytes_eq uri u then last_of most (kept_in u old ++ option_to_list h) else kept_in u old)
+KeepsOn most uri h old new =
+    length (kept_in uri old) ≤ most → (u : Bytes)
+    → kept_in u new ≡ (if bytes_eq uri u then last_of most (kept_in u old ++ option_to_list h) else
+    kept_in u old)
 
 -- nothing is kept of the URI
 abbrev pub KeepsNone : Bytes → List Kept → List Kept → Type 0
@@ -81,7 +89,11 @@ queue_of uri (n ∷ ns) = if bytes_eq uri n.uri then n.versions else queue_of ur
 -- those of the URI that pass the test stay
 abbrev pub keep_in : Bytes → (Version → Bool) → List Queue → List Queue
 keep_in uri p [] = []
-keep_in uri p (n ∷ ns) = if bytes_eq uri n.uri then record { uri = n.uri; versions = filter p n.versions } ∷ ns else n ∷ keep_in uri p ns
+keep_in uri p (n ∷ ns) =
+    if bytes_eq uri n.uri then record {
+      uri = n.uri;
+      versions = filter p n.versions;
+    } ∷ ns else n ∷ keep_in uri p ns
 
 -- the same versions, each as often, in whatever order
 abbrev pub SameVersions : List Version → List Version → Type 0
@@ -109,14 +121,15 @@ pub record IsReleased (uri : Bytes) (old new : List Queue) : Type 0 where
   pub others : (u : Bytes) → bytes_eq u uri ≡ false → queue_of u new ≡ queue_of u old
   pub count : total new + length (queue_of uri old) ≡ total old
 
--- the URI comes to this version: the snapshots of a greater one wait on, those of a lesser one are missed
+-- the URI reaches this version: the snapshots of a greater one wait on, those of a lesser one are
+-- missed
 abbrev pub reached : Bytes → ℤ → Waits → Waits
 reached uri number w = record {
   queues = keep_in uri (is_after number) w.queues;
   missed = capped (w.missed + length (filter (is_before number) (queue_of uri w.queues)));
 }
 
--- one more snapshot was passed over before it was shown
+-- one more snapshot was skipped before it was shown
 abbrev pub missed_one : Waits → Waits
 missed_one w = record { queues = w.queues; missed = capped (w.missed + 1) }
 
@@ -129,11 +142,11 @@ abbrev pub text_in : Option Version → Text
 text_in None = []
 text_in (Some v) = v.text
 
--- what the changes make of the held text
+-- the held text with the changes made
 abbrev pub changed_at : State → Encoding → Bytes → List Edit → Result Text ℕ
 changed_at s enc uri cs = applied s.terms.limit enc (text_in (held_in uri s.documents)) cs
 
--- the URI has come to this version, with the text that the changes made, and its held version is kept
+-- the URI is now at this version, with the text that the changes made, and its held version is kept
 pub record IsChanged (old new : State) (uri : Bytes) (number : ℤ) (r : Result Text ℕ) : Type 0 where
   pub text : Text
   pub made : r ≡ Ok text
@@ -149,8 +162,10 @@ early_rule kind number cs h = rule_of_change kind number cs (λ v. None) h
 
 -- the snapshots that wait are those that the definitions give for these calls
 pub record AreWaits (terms : Terms) (w : Waits) (calls : List Call) : Type 0 where
-  pub queues : (uri : Bytes) → SameVersions (queue_of uri w.queues) (versions_of uri (waiting terms calls))
-  pub order : (uri : Bytes) → SameOrder (queue_of uri w.queues) (versions_of uri (waiting terms calls))
+  pub queues : (uri : Bytes)
+      → SameVersions (queue_of uri w.queues) (versions_of uri (waiting terms calls))
+  pub order : (uri : Bytes)
+      → SameOrder (queue_of uri w.queues) (versions_of uri (waiting terms calls))
   pub count : total w.queues ≡ length (waiting terms calls)
   pub missed : w.missed ≡ capped (missed terms calls)
 
@@ -163,4 +178,5 @@ pub record Stands (s : State) (calls : List Call) : Type 0 where
 
 -- the rule that a call breaks, read off the state
 abbrev pub rule_at : State → Call → Option ℕ
-rule_at s c = rule_of s.terms (held_in (uri_of c) s.documents) (kept_in (uri_of c) s.kept) (queue_of (uri_of c) s.waits.queues) c
+rule_at s c = rule_of s.terms (held_in (uri_of c) s.documents) (kept_in (uri_of c) s.kept)
+    (queue_of (uri_of c) s.waits.queues) c

@@ -1,5 +1,6 @@
 -- Snapshots, apart from where their texts lie in memory.
-use Rattle.std.specs.Prelude.{ℕ, ℤ, ◌+◌, int_lt, not, Bool, false, if◌then◌else◌, List, [], ◌∷◌, ◌++◌, map, length, string_bytes, String}
+use Rattle.std.specs.Prelude.{ℕ, ℤ, ◌+◌, int_lt, not, Bool, false, if◌then◌else◌, List, [], ◌∷◌}
+use Rattle.std.specs.Prelude.{◌++◌, map, length, string_bytes, String}
 use Rattle.std.specs.Global.{Global}
 use Rattle.std.specs.List.{list_any}
 use Rattle.std.specs.Str.{bytes_eq, chars}

@@ -4,7 +4,8 @@ use Rattle.lsp_frame.specs.Bounds.{Bounds}
 use Rattle.lsp_frame.specs.declared.format.Format.{Format}
 use Rattle.lsp_frame.specs.declared.format.Format.TheVariants.{One, Two}
 
--- the greatest length of a text in bytes of UTF-8, and how many versions that an opening held before the present one are kept
+-- the greatest length of a text in bytes of UTF-8, and how many versions that an opening held
+-- before the present one are kept
 pub record Terms : Type 0 where
   pub limit : ℕ
   pub kept : ℕ

@@ -22,25 +22,24 @@ ghost use Rattle.lsp_text.specs.Changes.{edits_of, edit_of};
 ghost use Rattle.lsp_docs.specs.Answer.{answer_of};
 
 use crate::document::Document;
-use crate::fault::{
-    ALREADY_OPEN, DocFault, NOT_OPEN, OVER_LIMIT, SAVED_TEXT_DIFFERS, SNAPSHOT_DIFFERS,
-    VERSION_STAYS, WRONG_KIND,
-};
+use crate::fault::DocFault;
 use crate::kind::fits_kind;
+use crate::open_uris::OpenUris;
 use crate::opened::OpenDocuments;
 use crate::revision::has_text;
 use crate::snapshot::Match;
 use crate::waiting::Waiting;
 use lsp_frame::{Format, Limits};
 use lsp_text::{TextStore, change_all};
-use lsp_types::{Change, Encoding, Memory, SyncKind};
+use lsp_types::{Change, Encoding, Memory, SyncKind, rules};
 use std::alloc::Global;
 use std::marker::Model;
 
-/// The open documents in order of opening, and the snapshots that wait for their versions.
+/// The open documents in the order in which they were opened, and the snapshots that wait for their
+/// versions.
 ///
 /// It stands for the list of the calls that it accepted (LSP 3.17, "Text Document
-/// Synchronization"). URIs compare byte for byte. A refused call, also one refused for want of
+/// Synchronization"). URIs are compared byte for byte. A refused call, also one refused for lack of
 /// memory, changes nothing.
 #[derive(Drop)]
 pub struct Docs<S: TextStore> {
@@ -95,7 +94,8 @@ impl<S: TextStore> Docs<S> {
         self.documents.len()
     }
 
-    /// The URI of the document at this place in order of opening, from 0.
+    /// The URI of the document at this place in the order in which they were opened, from 0.
+    /// [`Docs::uris`] finds all of them faster.
     pub fn at(&self, index: usize) -> Option<&str>
         ensures { (calls : List Call) → Stands self.now calls
             → option_map (λ uri. uri.now) result
@@ -104,12 +104,12 @@ impl<S: TextStore> Docs<S> {
         self.documents.at(index)
     }
 
-    /// Makes ready for a walk over all open documents: after it, until one is closed, [`Docs::at`]
-    /// finds each at once.
-    pub fn pack(&mut self)
-        ensures { self.new ≡ self.old }
+    /// The URIs of the open documents, one after another, in order of opening.
+    pub fn uris(&self) -> OpenUris<'_, S>
+        ensures { (calls : List Call) → Stands self.now calls
+            → result ≡ map (λ h. h.uri) (documents self.now.terms calls) }
     {
-        self.documents.pack();
+        self.documents.uris()
     }
 
     /// The version that the server holds of a URI, if it is open.
@@ -281,7 +281,7 @@ impl<S: TextStore> Docs<S> {
         ensures err { OnErr result (self.new ≡ self.old) }
     {
         if !self.documents.remove(uri) {
-            return Err(DocFault::Rule(NOT_OPEN));
+            return Err(DocFault::Rule(rules::DOCUMENT_NOT_OPEN));
         }
         self.waiting.release(uri);
         Ok(())
@@ -312,7 +312,7 @@ impl<S: TextStore> Docs<S> {
         if has_text(&document.held.store, text) {
             Ok(())
         } else {
-            Err(DocFault::Rule(SAVED_TEXT_DIFFERS))
+            Err(DocFault::Rule(rules::SAVED_TEXT_DIFFERS))
         }
     }
 
@@ -390,11 +390,11 @@ impl<S: TextStore> Docs<S> {
         ensures { result ≡ rule_at self.now (opens uri.now version (chars text.now)) }
     {
         if self.get(uri).is_some() {
-            Some(ALREADY_OPEN)
+            Some(rules::DOCUMENT_ALREADY_OPEN)
         } else if is_over(self.limit, text) {
-            Some(OVER_LIMIT)
+            Some(rules::DOCUMENT_OVER_LIMIT)
         } else if self.contradicts(uri, version, text) {
-            Some(SNAPSHOT_DIFFERS)
+            Some(rules::SNAPSHOT_DIFFERS)
         } else {
             None
         }
@@ -434,12 +434,12 @@ impl<S: TextStore> Docs<S> {
             (held_in uri.now self.now.documents) }
     {
         let Some(document) = self.get(uri) else {
-            return Some(NOT_OPEN);
+            return Some(rules::DOCUMENT_NOT_OPEN);
         };
         if version <= document.held.version {
-            Some(VERSION_STAYS)
+            Some(rules::VERSION_DOES_NOT_RISE)
         } else if !fits_kind(kind, changes) {
-            Some(WRONG_KIND)
+            Some(rules::CHANGE_NOT_OF_KIND)
         } else {
             None
         }
@@ -493,7 +493,7 @@ impl<S: TextStore> Docs<S> {
             .change(self.limit, encoding, uri, version, change)
     }
 
-    /// Makes the changes in a copy, which takes the place of the held store if no waiting snapshot
+    /// Makes the changes in a copy, which replaces the held store if no waiting snapshot
     /// contradicts it.
     fn change_copy(
         &mut self,
@@ -515,7 +515,7 @@ impl<S: TextStore> Docs<S> {
     {
         let changed = self.changed_store(encoding, uri, changes)?;
         if self.refutes(uri, version, &changed) {
-            return Err(DocFault::Rule(SNAPSHOT_DIFFERS));
+            return Err(DocFault::Rule(rules::SNAPSHOT_DIFFERS));
         }
         self.documents.revise(self.kept, uri, version, changed)?;
         Ok(())

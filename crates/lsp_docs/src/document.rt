@@ -10,11 +10,12 @@ ghost use Rattle.lsp_docs.specs.Answer.{answer_of};
 ghost use Rattle.lsp_docs.specs.Fault.{IsRule, Names};
 ghost use Rattle.lsp_docs.specs.Others.{other_than};
 
-use crate::fault::{DocFault, LATE_SNAPSHOT, SNAPSHOT_DIFFERS};
+use crate::fault::DocFault;
 use crate::history::History;
 use crate::revision::Revision;
 use crate::snapshot::Match;
 use lsp_text::TextStore;
+use lsp_types::rules;
 use std::alloc::{AllocError, Global};
 
 /// The version that is held of a document, and those that are kept of what was held before.
@@ -37,7 +38,7 @@ impl<S: TextStore> Document<S> {
         }
     }
 
-    /// Puts a version in the place of the held one, which is kept as the last of at most so many.
+    /// Replaces the held version, which is kept as the last of at most this many.
     pub(crate) fn revise(&mut self, most: usize, version: i32, store: S) -> Result<(), AllocError>
         ensures version { OnOk result (self.new.held.version ≡ version) }
         ensures store { OnOk result (S.content self.new.held.store ≡ S.content store) }
@@ -91,15 +92,15 @@ impl<S: TextStore> Document<S> {
             (Some (versioned self.now.held.version (S.content self.now.held.store))) }
     {
         if self.kept.is_after(version) && version < self.held.version {
-            Some(LATE_SNAPSHOT)
+            Some(rules::LATE_SNAPSHOT)
         } else if self.kept.any_differs(version, text) || self.held.differs(version, text) {
-            Some(SNAPSHOT_DIFFERS)
+            Some(rules::SNAPSHOT_DIFFERS)
         } else {
             None
         }
     }
 
-    /// What a snapshot that breaks no rule comes to.
+    /// The outcome for a snapshot that breaks no rule.
     fn answer(&self, version: i32) -> Match
         ensures { result ≡ answer_of version self.now.kept
             (Some (versioned self.now.held.version (S.content self.now.held.store))) }

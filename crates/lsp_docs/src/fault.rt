@@ -8,30 +8,6 @@ use lsp_types::Memory as OutOfMemory;
 use std::alloc::{AllocError, AllocFailed};
 use thiserror::Error;
 
-/// `didOpen` of a URI that is open.
-pub(crate) const ALREADY_OPEN: u16 = 601;
-
-/// `didChange` or `didClose` of a URI that is not open.
-pub(crate) const NOT_OPEN: u16 = 602;
-
-/// `didChange` to a version that is not greater than the held one.
-pub(crate) const VERSION_STAYS: u16 = 603;
-
-/// `didChange` with changes that are not of the agreed kind.
-pub(crate) const WRONG_KIND: u16 = 604;
-
-/// A text of more bytes of UTF-8 than the limit.
-pub(crate) const OVER_LIMIT: u16 = 607;
-
-/// `didSave` with a text that is not the held one.
-pub(crate) const SAVED_TEXT_DIFFERS: u16 = 608;
-
-/// A snapshot of a lesser version than the held one and each kept one.
-pub(crate) const LATE_SNAPSHOT: u16 = 701;
-
-/// A snapshot of another text than the one held at its version.
-pub(crate) const SNAPSHOT_DIFFERS: u16 = 702;
-
 /// Why a call on documents is refused.
 #[derive(Clone, Copy, Debug, Drop, PartialEq, Eq, Error)]
 pub enum DocFault {

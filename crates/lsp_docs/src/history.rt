@@ -76,8 +76,7 @@ impl<S: TextStore> History<S> {
         numbers_of(self.revisions.as_slice(), alloc)
     }
 
-    /// Puts a version in the place of the held one, which is kept from now on as the last of at
-    /// most so many.
+    /// Replaces the held version, which is kept from now on as the last of at most this many.
     pub(crate) fn revise(
         &mut self,
         most: usize,

@@ -28,8 +28,8 @@ pub fn documents_are_held()
     ensures { DocumentsAreHeld }
 {}
 
-/// A snapshot is compared exactly where its opening comes to its version, before the snapshot or
-/// behind it.
+/// A snapshot is compared exactly where its opening reaches its version, before the snapshot or
+/// after it.
 pub fn setters_compare()
     ensures { SettersCompare }
 {}

@@ -14,6 +14,7 @@ mod fault;
 mod history;
 mod kind;
 mod laws;
+mod open_uris;
 mod opened;
 mod queue;
 mod revision;
@@ -26,4 +27,5 @@ pub use laws::{
     documents_are_held, held_is_shown, kept_versions_rise, nothing_kept, setters_compare,
     snapshots_agree, versions_rise,
 };
+pub use open_uris::OpenUris;
 pub use snapshot::Match;

@@ -1,4 +1,4 @@
-//! The documents that are open, in order of opening.
+//! The documents that are open, in the order in which they were opened.
 
 ghost use Rattle.std.specs.Prelude.{◌≡◌, [], ◌++◌, ◌∷◌, None, true, false, length, map, slice_get};
 ghost use Rattle.std.specs.Prelude.{is_some, IfErr, OnOk, OnErr, option_map};
@@ -12,13 +12,15 @@ ghost use Rattle.lsp_docs.specs.State.{text_in, without};
 
 use crate::document::Document;
 use crate::fault::DocFault;
+use crate::open_uris::OpenUris;
 use lsp_order::OrderedMap;
 use lsp_text::TextStore;
 use lsp_types::{Change, Encoding};
 use std::alloc::{AllocError, Global};
 use std::marker::Model;
 
-/// The open documents. Contracts see their list, in order of opening, and what is kept of each URI.
+/// The open documents. Contracts see their list, in the order in which they were opened, and what
+/// is kept of each URI.
 #[derive(Drop)]
 pub(crate) struct OpenDocuments<S: TextStore> {
     documents: OrderedMap<String, Document<S>>,
@@ -57,7 +59,7 @@ impl<S: TextStore> OpenDocuments<S> {
         self.documents.len()
     }
 
-    /// The URI at this place in order of opening, from 0.
+    /// The URI at this place in the order in which they were opened, from 0.
     pub(crate) fn at(&self, index: usize) -> Option<&str>
         ensures { option_map (λ uri. uri.now) result
             ≡ slice_get (map (λ h. h.uri) self.now.held) index }
@@ -66,12 +68,13 @@ impl<S: TextStore> OpenDocuments<S> {
         Some(uri.as_str())
     }
 
-    /// Gives up what closed documents left in the order, so that [`OpenDocuments::at`] finds each
-    /// URI at once.
-    pub(crate) fn pack(&mut self)
-        ensures { self.new ≡ self.old }
+    /// The URIs, one after another, in order of opening.
+    pub(crate) fn uris(&self) -> OpenUris<'_, S>
+        ensures { result ≡ map (λ h. h.uri) self.now.held }
     {
-        self.documents.pack();
+        OpenUris {
+            walk: self.documents.walk(),
+        }
     }
 
     pub(crate) fn get(&self, uri: &str) -> Option<&Document<S>>
@@ -108,7 +111,7 @@ impl<S: TextStore> OpenDocuments<S> {
         self.documents.remove_str(uri).is_some()
     }
 
-    /// Puts a version in the place of the held one, which is kept as the last of at most so many.
+    /// Replaces the held version, which is kept as the last of at most this many.
     pub(crate) fn revise(
         &mut self,
         most: usize,

@@ -20,7 +20,7 @@ use std::marker::Model;
 
 type TextMap = BTreeMap<i32, Texts>;
 
-/// Snapshots that wait, the least version first: a document that comes to a version looks at those
+/// Snapshots that wait, the least version first: a document that reaches a version looks at those
 /// alone that are of no greater one.
 #[derive(Drop)]
 pub(crate) struct SnapshotQueue {
@@ -152,7 +152,7 @@ fn add_version(
     Ok(())
 }
 
-/// Drops the texts of versions that are reached, and counts those of versions that are passed over.
+/// Drops the texts of versions that are reached, and counts those of versions that are skipped.
 fn drop_until(texts: &mut TextMap, version: i32) -> u64
     requires { IsOrdered int_cmp texts.old }
     ensures left { versions_in texts.new.entries
@@ -178,7 +178,7 @@ fn is_reached(texts: &TextMap, version: i32) -> bool
     }
 }
 
-/// Drops the texts of the least version, and counts them where it is passed over.
+/// Drops the texts of the least version, and counts them where it is skipped.
 fn drop_first(texts: &mut TextMap, version: i32) -> u64
     requires { is_first_within version texts.old.entries ≡ true }
     ensures rest { texts.new.entries ≡ rest_of texts.old.entries }
@@ -188,7 +188,7 @@ fn drop_first(texts: &mut TextMap, version: i32) -> u64
     passed_over(least, &first, version)
 }
 
-/// How many texts there are, if their version is passed over.
+/// How many texts there are, if their version is skipped.
 fn passed_over(least: i32, first: &Texts, version: i32) -> u64
     ensures { result ≡ (if int_lt least version then length first.now else 0) }
 {

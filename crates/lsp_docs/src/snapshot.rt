@@ -10,14 +10,14 @@ use lsp_text::TextStore;
 use std::alloc::{AllocError, Global};
 use std::marker::Model;
 
-/// What a snapshot comes to where it stands.
+/// The outcome for a snapshot at its place.
 #[derive(Clone, Copy, Debug, PartialEq, Eq)]
 pub enum Match {
     /// It was compared, and its text is the one held at its version.
     Equal,
     /// Its version is still to come.
     Waits,
-    /// Its version was passed over: it lies between kept ones, and is never compared.
+    /// Its version was skipped: it lies between kept ones, and is never compared.
     Missed,
 }
 

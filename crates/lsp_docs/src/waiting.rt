@@ -99,7 +99,7 @@ impl Waiting {
         self.missed = self.missed.saturating_add(missed);
     }
 
-    /// Counts a snapshot that was passed over before it was shown.
+    /// Counts a snapshot that was skipped before it was shown.
     pub(crate) fn miss(&mut self)
         ensures { self.new ≡ missed_one self.old }
     {

@@ -2,3 +2,4 @@ pub mod Edits
 pub mod Apart
 pub mod Hearing
 pub mod Following
+pub mod Listing

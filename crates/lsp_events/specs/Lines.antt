@@ -26,7 +26,7 @@ IsHeard (snapshot uri number text) (heard.Snapshot version name shown answer) =
 abbrev pub line_of : Lines → Place → Event → List ℕ
 line_of lines place event = unwrap_or (event_line lines place.event place.number event) []
 
--- each word behind a space
+-- each word after a space
 abbrev pub spaced : List (List ℕ) → List ℕ
 spaced words = flat_map (λ word. 32 ∷ word) words
 

@@ -36,7 +36,7 @@ pub record Holds (messages : session.State) (documents : docs.State)
   pub sent : session.Stands messages (sent_in events)
   pub called : docs.Stands documents (calls events)
 
--- none of these events offends, and what is held is what they come to
+-- none of these events offends, and what is held is their result
 pub record Follows (messages : session.State) (documents : docs.State) (counts : Counts)
     (events : List Event) : Type 0 where
   pub clean : first_no documents.terms events ≡ None
@@ -46,7 +46,7 @@ pub record Follows (messages : session.State) (documents : docs.State) (counts :
 -- ---- a content
 
 -- the content is this message, but for its params and the value of a result, and means this act; it
--- doesn't offend, and what is held is what the events come to with it
+-- doesn't offend, and what is held is the result of the events with it
 pub record Hears (side : Side) (bytes : List ℕ) (said : rpc.Message) (act : Act) (terms : Terms)
     (messages : session.State) (documents : docs.State) (events : List Event) : Type 0 where
   pub sent : Sent
@@ -90,8 +90,8 @@ AnswersAs terms events (heard.Snapshot version uri text answer) =
     answer ≡ answer_of version (kept terms uri.now (calls events))
     (held terms uri.now (calls events))
 
--- **the next event is kept**: it doesn't offend after these events, what is held is what they come
--- to with it, and it is counted
+-- **the next event is kept**: it doesn't offend after these events, what is held is their
+-- result with it, and it is counted
 pub record Keeps (raw : Raw) (terms : Terms) (before : Counts) (given : Heard)
     (messages : session.State) (documents : docs.State) (after : Counts)
     (events : List Event) : Type 0 where

@@ -56,16 +56,6 @@ impl<S: TextStore> Events<S> {
         }
     }
 
-    /// Makes ready for a walk over all open documents and requests.
-    pub(crate) fn pack(&mut self)
-        ensures session { self.new.session ≡ self.old.session }
-        ensures docs { self.new.docs ≡ self.old.docs }
-        ensures counts { self.new.counts ≡ self.old.counts }
-    {
-        self.session.pack();
-        self.docs.pack();
-    }
-
     /// Hears the next event and counts it, unless it breaks a rule after the events heard. A
     /// message is given without its params, and without the value of a result that nothing reads.
     ///
@@ -109,8 +99,8 @@ impl<S: TextStore> Events<S> {
         }
     }
 
-    /// Reads a content of a side, admits the message that it is, and takes over what that says of a
-    /// document.
+    /// Reads a content of a side, admits the message that it is, and takes over what that says
+    /// about a document.
     fn hear_content(&mut self, side: Side, content: &[u8]) -> Result<Spoken, Refused>
         ensures terms { self.new.docs.terms ≡ self.old.docs.terms }
         ensures counts { self.new.counts ≡ self.old.counts }
@@ -132,7 +122,7 @@ impl<S: TextStore> Events<S> {
         }
     }
 
-    /// Admits the message that a content is, and takes over what it says of a document.
+    /// Admits the message that a content is, and takes over what it says about a document.
     fn follow(&mut self, side: Side, spoken: &Spoken) -> Result<(), Fault>
         ensures terms { self.new.docs.terms ≡ self.old.docs.terms }
         ensures counts { self.new.counts ≡ self.old.counts }
@@ -216,7 +206,7 @@ fn change<S: TextStore>(
     docs.did_change(encoding, kind, uri, version, edits)
 }
 
-/// Takes over what an act says of a document.
+/// Takes over what an act says about a document.
 fn apply<S: TextStore>(
     docs: &mut Docs<S>,
     encoding: Encoding,

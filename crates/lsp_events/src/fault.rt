@@ -66,7 +66,7 @@ impl From<DocFault> for Refused {
     }
 }
 
-/// Why a message is refused: by its least rule, or for want of memory.
+/// Why a message is refused: by its least rule, or since memory was refused.
 #[derive(Clone, Copy, Debug, PartialEq, Eq)]
 pub(crate) enum Fault {
     Rule(u16),

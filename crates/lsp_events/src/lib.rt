@@ -1,8 +1,8 @@
 //! The events of a session, heard one after another: what a content of a side says, which rule it
-//! breaks behind the events before it, and what those that keep the rules come to.
+//! breaks after the events before it, and the result of those that keep the rules.
 //!
 //! `Events` stands for the events that it heard. A content that breaks a rule is refused with what
-//! is known of it, and leaves what is held as it was, so that the next event can be heard behind
+//! is known of it, and leaves what is held as it was, so that the next event can be heard after
 //! those before it.
 #![tactic(auto)]
 

@@ -1,4 +1,4 @@
-//! What a session that keeps the rules comes to.
+//! The result of a session that keeps the rules.
 ghost use Rattle.std.specs.Prelude.{◌≡◌, ◌++◌, List, Some, map, IfOk, OnOk};
 ghost use Rattle.lsp_session.specs.Entry.{request_view};
 ghost use Rattle.lsp_docs.specs.Calls.{Call};
@@ -20,23 +20,8 @@ use lsp_text::TextStore;
 use lsp_verdict::{OpenDocument, Summary};
 use std::alloc::Global;
 
-/// What the events have come to. The open documents and requests are made ready for a walk over all
-/// of them, which changes nothing that is seen.
-pub fn summary_of<S: TextStore>(alloc: Global, events: &mut Events<S>) -> Result<Summary, Memory>
-    ensures session { events.new.session ≡ events.old.session }
-    ensures docs { events.new.docs ≡ events.old.docs }
-    ensures counts { events.new.counts ≡ events.old.counts }
-    ensures summary { IfOk result
-        (λ summary. (so_far : List Event)
-        → Follows events.old.session events.old.docs events.old.counts so_far
-        → yes (summary_view summary) ≡ as_given (yes (spec.summary events.old.docs.terms so_far))) }
-{
-    events.pack();
-    summary_now(alloc, events)
-}
-
-/// What the events have come to, read off what is held.
-fn summary_now<S: TextStore>(alloc: Global, events: &Events<S>) -> Result<Summary, Memory>
+/// The result of the events, read off what is held.
+pub fn summary_of<S: TextStore>(alloc: Global, events: &Events<S>) -> Result<Summary, Memory>
     ensures { IfOk result (λ summary. (so_far : List Event)
         → Follows events.now.session events.now.docs events.now.counts so_far
         → yes (summary_view summary) ≡ as_given (yes (spec.summary events.now.docs.terms so_far))) }
@@ -53,16 +38,14 @@ fn summary_now<S: TextStore>(alloc: Global, events: &Events<S>) -> Result<Summar
     })
 }
 
-/// The documents that are open, in order of opening.
+/// The documents that are open, in the order in which they were opened.
 fn open_documents<S: TextStore>(alloc: Global, docs: &Docs<S>) -> Result<Vec<OpenDocument>, Memory>
     ensures { IfOk result (λ found. (calls : List Call) → docs_state.Stands docs.now calls
         → map document_view found.items ≡ map document_of (documents docs.now.terms calls)) }
 {
     let mut found = Vec::new(alloc);
-    for index in 0..docs.len() {
-        let Some(uri) = docs.at(index) else {
-            return Ok(found);
-        };
+    let mut uris = docs.uris();
+    while let Some(uri) = uris.next() {
         found.push(open_document(alloc, docs, uri)?)?;
     }
     Ok(found)
@@ -104,7 +87,8 @@ fn bytes_held<S: TextStore>(docs: &Docs<S>, uri: &str) -> u64
     }
 }
 
-/// The requests that are open: the editor's, then the server's, each in order of asking.
+/// The requests that are open: the editor's, then the server's, each in the order in which they
+/// were sent.
 fn open_requests(alloc: Global, session: &Session) -> Result<Vec<(Side, OpenRequest)>, Memory>
     ensures { IfOk result (λ found. (so_far : List Event)
         → session_state.Stands session.now (sent_in so_far)
@@ -125,8 +109,8 @@ fn push_requests(
     ensures { OnOk result (requests_view found.new.items ≡ requests_view found.old.items
         ++ map (λ r. (side, r)) pending.now) }
 {
-    for index in 0..pending.len() {
-        let request = pending.at(index).unwrap();
+    let mut requests = pending.walk();
+    while let Some(request) = requests.next() {
         found.push((side, copy_request(request)?))?;
     }
     Ok(())

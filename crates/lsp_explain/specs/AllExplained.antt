@@ -1,4 +1,5 @@
--- What is said of all that is wrong with a log: of each offence that follows from no earlier one.
+-- What is said about all that is wrong with a log: of each offence that follows from no earlier
+-- one.
 use Rattle.std.specs.Prelude.{◌≡◌, ◌⊎◌, ℕ, List, [], ◌∷◌, ◌++◌, map, filter, Bool, not, Option}
 use Rattle.std.specs.Prelude.{Result}
 use Rattle.std.specs.List.{AllZip, flat_map}
@@ -38,11 +39,11 @@ causes terms heard = filter (is_cause terms) (breaches terms heard)
 
 -- ---- the report
 
--- the two lines of a No, and what is said of it
+-- the two lines of a No, and what is said about it
 abbrev pub cause_lines : Explained → List ℕ
 cause_lines e = report e.no ++ said_of e
 
--- what stands behind the offences: the fault of the log and what is said of it, and how many
+-- what follows the offences: the fault of the log and what is said about it, and how many
 -- offences there are; where there is none, the report
 abbrev pub all_closing : List Offence → Option Verdict → List Fact → Summary → List ℕ
 all_closing [] bad flaw s = report (first_verdict [] bad s) ++ flaw_lines bad flaw
@@ -57,7 +58,7 @@ all_explanation found explained bad flaw s =
 -- ---- a log
 
 -- **all that is explained of a log**, the causes among its events and what is listed of its end:
--- `found` and `bad` and `s` are its survey, and `flaw` is said of its fault
+-- `found` and `bad` and `s` are its survey, and `flaw` is said about its fault
 pub record AreAllSaid (completeness : Completeness) (limits : Bounds) (log : List ℕ)
     (found : List Offence) (explained : List Explained) (bad : Option Verdict) (flaw : List Fact)
     (s : Summary) : Type 0 where
@@ -98,7 +99,7 @@ pub record IsAllExplained (completeness : Completeness) (limits : Bounds) (log :
 
 -- ---- what begins it
 
--- this is said of the causes among the first events of a log
+-- this is said about the causes among the first events of a log
 pub record AreFirstSaid (limits : Bounds) (log : List ℕ) (said : List Explained) : Type 0 where
   pub format : Option Format
   pub records : List Record

@@ -35,17 +35,17 @@ use Rattle.lsp_explain.specs.declared.run.Explanation.{Explanation}
 
 -- ---- an event
 
--- the cause that an event is behind these, if it is one
+-- the cause that an event is after these, if it is one
 abbrev pub cause_at : Terms → List Heard → Heard → List Breach
 cause_at terms hs h = filter (is_cause terms) (cons_option (breach_at terms hs h) [])
 
--- this is said of these, whatever records follow
+-- this is said about these, whatever records follow
 abbrev pub AreSaid : Bounds → List Record → Terms → List Breach → List Explained → Type 0
 AreSaid limits records terms found said =
     (rests : Rests) → RestsBehind limits records rests → AllZip (Explains rests terms) found said
 
--- this is said of it, and its lines written, or after a write fault a prefix of them; for want of
--- memory nothing is written
+-- this is said about it, and its lines written, or after a write fault a prefix of them; where
+-- memory was refused nothing is written
 abbrev pub TellsCause : Bounds → List Record → Terms → List Heard → Heard → Told → Told
     → Result (Unit {0}) RunFault → Type 0
 TellsCause limits records terms hs h old new (Ok u) =
@@ -117,12 +117,12 @@ TellsCauses completeness limits e t start now old new (Err fault) =
 
 -- ---- the end
 
--- what is said of the end of a session, behind these messages
+-- what is said about the end of a session, after these messages
 abbrev pub ends_said : Rests → List Numbered → List code_offence.Offence → List Explained
 ends_said rests sent listed =
     map (λ (o : Offence). end_explained rests sent o.no) (map offence_view listed)
 
--- what is written behind these offences: what is said of the end of the log, and the closing
+-- what is written after these offences: what is said about the end of the log, and the closing
 abbrev pub IsClosing : SurveyReader → Tally → End → Explanation → Type 0
 IsClosing e t end x =
     (found : List Offence) (notes : List Noted) → IsTally t found → (found ≡ [] → IsSound e notes)

@@ -1,4 +1,4 @@
--- What is said of a log that offends: with its offences, the events that offend and the facts on
+-- What is said about a log that offends: with its offences, the events that offend and the facts on
 -- them.
 use Rattle.std.specs.Prelude.{◌≡◌, ℕ, List, [], ◌∷◌, ◌++◌, map, take, ◌==◌}
 use Rattle.std.specs.Prelude.{if◌then◌else◌, Option, Some, option_map}
@@ -24,6 +24,7 @@ use Rattle.lsp_facts.specs.FlawFacts.{Rests, rest_of, side_by, unfinished_facts,
 use Rattle.lsp_facts.specs.Lines.{detail_lines, event_line, end_event}
 use Rattle.lsp_explain.specs.Traced.{AreTraced, lack_traced}
 use Rattle.lsp_survey.specs.Asking.{Numbered, numbered}
+use Rattle.lsp_types.specs.declared.rules.TheConstants as rules
 
 -- ---- an event that offends
 
@@ -38,7 +39,7 @@ raws_of heard = map (λ (h : Heard). h.raw) heard
 abbrev pub notes_of : List Heard → List Noted
 notes_of heard = map (λ (h : Heard). h.note) heard
 
--- behind these events this one offends by this rule
+-- after these events this one offends by this rule
 pub record Breach : Type 0 where
   pub before : List Heard
   pub here : Heard
@@ -55,7 +56,7 @@ breach_at terms before h =
 abbrev pub breaches : Terms → List Heard → List Breach
 breaches terms heard = each_of (breach_at terms) heard
 
--- ---- what is said of it
+-- ---- what is said about it
 
 -- the line of the event of a No
 abbrev pub event_of : Verdict → Raw → List ℕ
@@ -88,7 +89,8 @@ end_line (bad_log at code) = []
 -- 107 says how the frame begins that is not whole, 303 and 407 what waits after the kept messages
 abbrev pub end_facts : Rests → List Numbered → Verdict → List Fact
 end_facts rests said (no rule by count event) =
-    if rule == 107 then unfinished_facts (rest_of rests (side_by by)) else lack_traced said
+    if rule == rules.STREAM_ENDS_INSIDE_FRAME
+    then unfinished_facts (rest_of rests (side_by by)) else lack_traced said
 end_facts rests said (yes s) = []
 end_facts rests said (bad_log at code) = []
 
@@ -100,13 +102,13 @@ end_explained rests said v = record { no = v; event = end_line v; facts = end_fa
 abbrev pub said_of : Explained → List ℕ
 said_of e = e.event ++ detail_lines e.facts e.no
 
--- what is said of the fault of a log
+-- what is said about the fault of a log
 abbrev pub flaw_lines : Option Verdict → List Fact → List ℕ
 flaw_lines (Some (bad_log at code)) flaw = detail_lines flaw (bad_log at code)
 flaw_lines _ flaw = []
 
--- **the explanation**: where nothing offends the report, and of a bad log what is said of its
--- fault; else of the first offence the report of its No and what is said of it
+-- **the explanation**: where nothing offends the report, and of a bad log what is said about its
+-- fault; else of the first offence the report of its No and what is said about it
 abbrev pub explanation : List Offence → List Explained → Option Verdict → List Fact → Summary
     → List ℕ
 explanation [] explained bad flaw s = report (first_verdict [] bad s) ++ flaw_lines bad flaw
@@ -115,7 +117,7 @@ explanation (o ∷ found) explained bad flaw s = report o.no ++ flat_map said_of
 -- ---- a log
 
 -- **what is explained of a log**, the first offence: `found` and `bad` and `s` are its survey, and
--- `flaw` is said of its fault
+-- `flaw` is said about its fault
 pub record IsExplained (completeness : Completeness) (limits : Bounds) (log : List ℕ)
     (found : List Offence) (explained : List Explained) (bad : Option Verdict) (flaw : List Fact)
     (s : Summary) : Type 0 where

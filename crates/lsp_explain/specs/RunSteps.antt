@@ -37,7 +37,7 @@ use Rattle.lsp_explain.specs.declared.run.Explanation.{Explanation}
 
 -- ---- what a reader of events holds of faults
 
--- the bytes of both sides behind their last whole frames
+-- the bytes of both sides after their last whole frames
 abbrev pub rests_held : SurveyReader → Rests
 rests_held e = record { editor = e.log.streams.editor.rest; server = e.log.streams.server.rest }
 
@@ -68,7 +68,7 @@ ShowsFault rests (what.Snapshot version uri text) bytes = Unit {0}
 
 -- ---- what the steps tell
 
--- the event that was found offends behind these, and this is said of it, whatever records follow
+-- the event that was found offends after these, and this is said about it, whatever records follow
 pub record Tells (limits : Bounds) (records : List Record) (terms : Terms) (hs : List Heard)
     (h : Heard) (found : Found) (x : Explanation) : Type 0 where
   pub rule : ℕ
@@ -92,7 +92,7 @@ TellsOf e found x =
       note = given.n;
     }) found x
 
--- what the events heard come to
+-- the result of the events heard
 abbrev pub summary_behind : SurveyReader → List Noted → Summary
 summary_behind e notes = summary (terms_in e) (events_of notes)
 
@@ -102,7 +102,7 @@ pub record IsSound (e : SurveyReader) (notes : List Noted) : Type 0 where
       (events_of notes)
   pub exact : as_given (yes (summary_behind e notes)) ≡ yes (summary_behind e notes)
 
--- the log ended behind these events, none of which offends
+-- the log ended after these events, none of which offends
 pub record EndsWhole (completeness : Completeness) (limits : Bounds) (e : SurveyReader)
     (start now : Told) (end : End) : Type 0 where
   pub hs : List Heard

@@ -1,4 +1,4 @@
--- For which events a reader stands that has heard them, and passed over each that offends.
+-- For which events a reader stands that has heard them, and skipped each that offends.
 use Rattle.std.specs.Prelude.{List}
 use Rattle.lsp_docs.specs.Terms.{Terms}
 use Rattle.lsp_events.specs.Standing.{Holds}
@@ -12,7 +12,7 @@ use Rattle.lsp_survey.specs.declared.survey_reader.SurveyReader.{SurveyReader}
 abbrev pub terms_in : SurveyReader → Terms
 terms_in e = e.walk.events.docs.terms
 
--- **what it holds, and has marked and noted, is what these events came to**
+-- **what it holds, and has marked and noted, is the result of these events**
 pub record StandsAfter (e : SurveyReader) (before : List Event) : Type 0 where
   pub holds : Holds e.walk.events.session e.walk.events.docs (kept_of (terms_in e) before)
   pub marked : AreMarks (terms_in e) e.walk.marks.map.entries before

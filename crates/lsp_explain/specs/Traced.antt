@@ -26,6 +26,7 @@ use Rattle.lsp_facts.specs.Fact.{Fact, holds, waits, waits_since, holds_by, show
 use Rattle.lsp_facts.specs.Fact.{answered_by, asked_by, led_by, in_phase}
 use Rattle.lsp_facts.specs.MessageFacts.{id_in}
 use Rattle.lsp_facts.specs.Refuting.{refuting}
+use Rattle.lsp_types.specs.declared.rules.TheConstants as rules
 
 -- a fact on an event, where there is one
 abbrev pub number_facts : (ℕ → Fact) → Option ℕ → List Fact
@@ -47,7 +48,7 @@ abbrev pub equal_facts : Option Shown → List Fact
 equal_facts None = []
 equal_facts (Some shown) = equal_by shown.version shown.event ∷ []
 
--- the snapshots that differ from the text of a call behind these, by their events: of those that
+-- the snapshots that differ from the text of a call after these, by their events: of those that
 -- wait for its version the ones with another text, or it is one itself, by this event
 abbrev pub differing : Terms → List Call → List Step → ℕ → Call → List ℕ
 differing terms before done n (opens uri number text) =
@@ -61,20 +62,20 @@ differing terms before done n (shows uri number text) = n ∷ []
 -- 702: these snapshots; and with 608 the one that was found equal last
 abbrev pub texts_traced : Option Shown → List ℕ → ℕ → List Fact
 texts_traced equal snapshots rule =
-    if rule == 702 then map shown_by snapshots ++ equal_facts equal
-    else (if rule == 608 then equal_facts equal else [])
+    if rule == rules.SNAPSHOT_DIFFERS then map shown_by snapshots ++ equal_facts equal
+    else (if rule == rules.SAVED_TEXT_DIFFERS then equal_facts equal else [])
 
 abbrev pub document_traced : List Step → List ℕ → ℕ → List Fact → List Fact
 document_traced done snapshots rule plain =
     with_setter (brought done) plain ++ texts_traced (agreed done) snapshots rule
 
--- what an act says of a document behind these events, under what was agreed
+-- what an act says about a document after these events, under what was agreed
 abbrev pub act_call : Terms → List Event → Act → Option Call
 act_call terms before act =
     call_of (unwrap_or (encoding (sent_in (kept_of terms before))) Utf16)
     (unwrap_or (sync_kind (sent_in (kept_of terms before))) Nothing) act
 
--- the facts on a call that breaks this rule behind these events
+-- the facts on a call that breaks this rule after these events
 abbrev pub call_traced : Terms → List Event → ℕ → Option Call → List Fact → List Fact
 call_traced terms before rule None plain = plain
 call_traced terms before rule (Some call) plain =
@@ -97,21 +98,24 @@ asking_facts side said id = number_facts asked_by (option_and_then (λ own. aske
 -- and is open; 401 to 412: the one that led to the phase
 abbrev pub session_trace : ℕ → List Numbered → Side → Option Ident → List Fact
 session_trace rule said side id =
-    if rule == 301 then answer_facts (other_side side) said id
-    else (if rule == 302 then asking_facts side said id ++ answer_facts side said id
-    else (if is_within 401 412 rule then number_facts led_by (since said) else []))
+    if rule == rules.RESPONSE_TO_NO_OPEN_REQUEST then answer_facts (other_side side) said id
+    else (if rule == rules.ID_ALREADY_OPEN
+    then asking_facts side said id ++ answer_facts side said id
+    else (if is_within rules.EDITOR_BEFORE_INITIALIZE rules.SERVER_WHILE_INITIALIZE_OPEN rule
+    then number_facts led_by (since said) else []))
 
--- **the facts on an event that offends by this rule behind these**, with the events that brought it
+-- **the facts on an event that offends by this rule after these**, with the events that brought it
 abbrev pub traced : Terms → List Event → Event → ℕ → List Fact → List Fact
 traced terms before (fault side number) rule plain = plain
 traced terms before (message m) rule plain =
-    if nat_lt rule 601 then plain ++ session_trace rule (numbered terms before) m.side
+    if nat_lt rule rules.FIRST_ON_DOCUMENTS
+    then plain ++ session_trace rule (numbered terms before) m.side
     (id_in m.message)
     else call_traced terms before rule (said_at terms before (message m)) plain
 traced terms before (snapshot uri number text) rule plain =
     call_traced terms before rule (said_at terms before (snapshot uri number text)) plain
 
--- what is said of the event, with the events that brought it
+-- what is said about the event, with the events that brought it
 abbrev pub AreTraced : (List Fact → Type 0) → Terms → List Event → Event → ℕ → List Fact → Type 0
 AreTraced AreSaid terms before event rule facts =
     (plain : List Fact) × AreSaid plain × (facts ≡ traced terms before event rule plain)
@@ -126,7 +130,7 @@ request_by e (Some n) = waits_since e.id e.method n
 abbrev pub waiting_by : List Numbered → Entry → Fact
 waiting_by said e = request_by e (asked Editor e.id said)
 
--- **the facts on a session that ends behind these messages where it lacks something**
+-- **the facts on a session that ends after these messages and is not complete**
 abbrev pub lack_traced : List Numbered → List Fact
 lack_traced said = map (waiting_by said) (open_requests Editor (sents said)) ++ in_phase
     (phase (sents said)) ∷ number_facts led_by (since said)

@@ -1,9 +1,9 @@
-//! What a No lacks: the runs that say it, behind the report of the verdict, or of all that is
-//! wrong.
+//! Explains a No: the runs that write, after the report of the verdict, what is wrong, or all that
+//! is wrong.
 //!
 //! [`run_explain`] reads a log and explains the verdict on it, and [`run_explain_all`] all that is
-//! wrong with it. What is said of an offence are the facts of `lsp_facts`, whose public names for
-//! them are given on here, with the earlier events that brought it.
+//! wrong with it. What is said about an offence are the facts of `lsp_facts`, whose public names
+//! are exported again here, with the earlier events that brought it.
 #![tactic(auto)]
 
 mod laws;

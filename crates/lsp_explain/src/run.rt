@@ -32,9 +32,9 @@ use lsp_verdict::{
 };
 use std::alloc::Global;
 
-/// Reads a log and writes the report of the verdict on it, and behind a No what is wrong: the line
-/// that names the first event that offends, and the facts on it. Behind the report of a bad log
-/// stand the number of its record, how many bytes stand before that, and the line that stands
+/// Reads a log and writes the report of the verdict on it, and after a No what is wrong: the line
+/// that names the first event that offends, and the facts on it. After the report of a bad log
+/// come the number of its record, how many bytes come before that, and the line that is
 /// there.
 ///
 /// It reads up to the first event that offends, and nothing is written before the verdict is known.
@@ -49,7 +49,7 @@ pub fn run_explain<R: Source, W: Sink>(
     limits: Limits,
     completeness: Completeness,
 ) -> Result<Outcome, RunFault>
-    // The answer is the verdict on the log read, however that goes on where its end was not met.
+    // The answer is the verdict on the log read, however it continues where its end was not met.
     ensures judged { IfOk result (λ outcome. (v : Verdict) × (outcome ≡ Outcome.Judged v)) }
     ensures verdict { (v : Verdict) → result ≡ Ok (Outcome.Judged v)
         → OfRead limits (R.told reader.old) (R.told reader.new)
@@ -62,7 +62,7 @@ pub fn run_explain<R: Source, W: Sink>(
     ensures ended { (s : Summary) → result ≡ Ok (Outcome.Judged (Verdict.Yes s))
         → IsAtEnd (R.told reader.new).bytes }
 
-    // After a read fault or for want of memory nothing is written.
+    // After a read fault or where memory was refused nothing is written.
     ensures read_fault { result ≡ Err RunFault.Read → W.told writer.new ≡ W.told writer.old }
     ensures memory { result ≡ Err RunFault.Memory → W.told writer.new ≡ W.told writer.old }
     // What is written before a write fault begins the explanation.
@@ -175,9 +175,9 @@ fn side_of(offending: &Offending) -> Side
 }
 
 /// What explains the end of a log, where no event offends.
-fn explain_end(alloc: Global, events: &mut SurveyReader, end: End) -> Result<Explanation, Memory>
+fn explain_end(alloc: Global, events: &SurveyReader, end: End) -> Result<Explanation, Memory>
     ensures { IfOk result (λ x. (completeness : Completeness) (limits : Bounds) (start now : Told)
-        → EndsWhole completeness limits events.old start now end
+        → EndsWhole completeness limits events.now start now end
         → TellsEnd completeness limits start now x) }
 {
     let End { listed, bad } = end;
@@ -198,8 +198,7 @@ pub(crate) fn side_by(who: Who) -> Side
     }
 }
 
-/// What explains what is listed of the end of a session. The rest is of the side that it is said
-/// of.
+/// What explains what is listed about the end of a session. The rest is that of the side concerned.
 pub(crate) fn explain_listed(
     alloc: Global,
     events: &SurveyReader,
@@ -225,16 +224,16 @@ pub(crate) fn explain_listed(
 /// What explains the verdict where nothing is listed: Yes, or the fault of the log.
 pub(crate) fn explain_sound(
     alloc: Global,
-    events: &mut SurveyReader,
+    events: &SurveyReader,
     bad: Option<Verdict>,
 ) -> Result<Explanation, Memory>
-    ensures { IfOk result (λ x. (notes : List Noted) → IsSound events.old notes
+    ensures { IfOk result (λ x. (notes : List Noted) → IsSound events.now notes
         → (verdict_view x.verdict
-        ≡ first_verdict [] (option_map verdict_view bad) (summary_behind events.old notes))
+        ≡ first_verdict [] (option_map verdict_view bad) (summary_behind events.now notes))
         × (string_bytes x.text ≡ report
-        (first_verdict [] (option_map verdict_view bad) (summary_behind events.old notes))
+        (first_verdict [] (option_map verdict_view bad) (summary_behind events.now notes))
         ++ flaw_lines (option_map verdict_view bad)
-        (flaw_held events.old (option_map verdict_view bad)))) }
+        (flaw_held events.now (option_map verdict_view bad)))) }
 {
     let flaw = flaw_text(alloc, events, &bad)?;
     let verdict = events.sound(bad)?;

@@ -29,12 +29,12 @@ use lsp_verdict::{
 use std::alloc::Global;
 
 /// Reads a log to its end, and explains each offence in it that follows from no earlier one: the
-/// two lines of its No, the line that names its event, and the facts on it. Behind them stand the
+/// two lines of its No, the line that names its event, and the facts on it. After them come the
 /// lines of a fault of the log with the number of its record, and how many offences were found. Of
 /// a log with nothing wrong it is the report of the verdict.
 ///
-/// An event that offends is passed over, as if it had not been sent, and the next is judged after
-/// those that keep the rules. What is said of an offence is written when it is found.
+/// An event that offends is skipped, as if it had not been sent, and the next is judged after
+/// those that keep the rules. What is said about an offence is written when it is found.
 ///
 /// # Errors
 /// `Read` where the source failed, `Write` where the sink did, and `Memory` where memory was
@@ -155,16 +155,16 @@ fn explain_cause<W: Sink>(
     Ok(())
 }
 
-/// Explains the end of a log behind the offences of its events, and closes the explanation.
+/// Explains the end of a log after the offences of its events, and closes the explanation.
 fn close<W: Sink>(
     alloc: Global,
-    events: &mut SurveyReader,
+    events: &SurveyReader,
     writer: &mut W,
     tally: &mut Tally,
     end: End,
 ) -> Result<Verdict, RunFault>
     ensures { (completeness : Completeness) (limits : Bounds) (start now old : Told)
-        → CausesTold completeness limits events.old tally.old start now old (W.told writer.old) end
+        → CausesTold completeness limits events.now tally.old start now old (W.told writer.old) end
         → TellsAll completeness limits start now old (W.told writer.new) result }
 {
     let closing = closing_of(alloc, events, tally, end)?;
@@ -172,17 +172,17 @@ fn close<W: Sink>(
     Ok(closing.verdict)
 }
 
-/// What stands behind the offences of the events, and the verdict. What is listed of the end is
+/// What follows the offences of the events, and the verdict. What is listed of the end is
 /// counted with them.
 fn closing_of(
     alloc: Global,
-    events: &mut SurveyReader,
+    events: &SurveyReader,
     tally: &mut Tally,
     end: End,
 ) -> Result<Explanation, Memory>
     ensures tally { OnOk result ((found : List SpecOffence) → IsTally tally.old found
         → IsTally tally.new (found ++ map offence_view end.listed.items)) }
-    ensures closing { IfOk result (λ x. IsClosing events.old tally.old end x) }
+    ensures closing { IfOk result (λ x. IsClosing events.now tally.old end x) }
 {
     let End { listed, bad } = end;
     let mut text = ends_text(alloc, events, tally, listed.as_slice())?;
@@ -218,14 +218,14 @@ fn ends_text(
     Ok(text)
 }
 
-/// What stands behind all offences, and the verdict.
+/// What follows all offences, and the verdict.
 fn last_of(
     alloc: Global,
-    events: &mut SurveyReader,
+    events: &SurveyReader,
     tally: &Tally,
     bad: Option<Verdict>,
 ) -> Result<Explanation, Memory>
-    ensures { IfOk result (λ x. IsLast events.old tally.now bad x) }
+    ensures { IfOk result (λ x. IsLast events.now tally.now bad x) }
 {
     match tally.first {
         Some(first) => Ok(Explanation {

@@ -1,4 +1,4 @@
-//! What is said of an offence: the line that names its event, and the facts on it.
+//! What is said about an offence: the line that names its event, and the facts on it.
 ghost use Rattle.std.specs.Prelude.{◌≡◌, ◌++◌, ℕ, List, Some, IfOk, OnOk, string_bytes};
 ghost use Rattle.lsp_docs.specs.Terms.{Terms};
 ghost use Rattle.lsp_survey.specs.Asking.{numbered};
@@ -26,11 +26,9 @@ use lsp_facts::{
 };
 use lsp_rpc::Memory;
 use lsp_survey::{Found, Offending, SurveyReader};
+use lsp_types::rules;
 use lsp_verdict::Offence;
 use std::alloc::Global;
-
-/// A stream that ends inside a frame.
-const ENDS_INSIDE: u16 = 107;
 
 /// The facts on what offends by this rule, the event of this number. The reader stands for the
 /// events before it, and the rest is of its side.
@@ -101,8 +99,8 @@ fn push_event(
     }
 }
 
-/// Adds what is said of an offence. The reader stands for the events before it, and the rest is of
-/// its side.
+/// Adds what is said about an offence. The reader stands for the events before it, and the rest is
+/// of its side.
 pub(crate) fn push_said(
     alloc: Global,
     lines: &mut String,
@@ -133,7 +131,7 @@ pub(crate) fn push_said(
 }
 
 /// The facts on how a session ends that breaks this rule: 107 has those on the rest of a side, 303
-/// and 407 those on what the session lacks. The reader stands for all its events.
+/// and 407 those on what is missing from the session. The reader stands for all its events.
 fn end_facts(
     alloc: Global,
     events: &SurveyReader,
@@ -146,14 +144,14 @@ fn end_facts(
         → facts_view facts.items
         ≡ end_facts rests (numbered (terms_in events.now) before) (no rule who number event)) }
 {
-    if rule == ENDS_INSIDE {
+    if rule == rules::STREAM_ENDS_INSIDE_FRAME {
         return unfinished_facts(alloc, rest);
     }
     lack_traced(alloc, events)
 }
 
-/// Adds what is said of how a session ends. The reader stands for all its events, and the rest is
-/// of the side that it is said of.
+/// Adds what is said about how a session ends. The reader stands for all its events, and the rest
+/// is that of the side concerned.
 pub(crate) fn push_end(
     alloc: Global,
     lines: &mut String,

@@ -22,24 +22,17 @@ ghost use Rattle.lsp_facts.specs.MessageFacts.{id_in};
 ghost use Rattle.lsp_facts.specs.Refuting.{refuting};
 ghost use Rattle.lsp_explain.specs.Standing.{StandsAfter, terms_in};
 ghost use Rattle.lsp_explain.specs.Traced as spec;
+ghost use Rattle.lsp_types.specs.declared.rules.TheConstants as rules;
 
 use lsp_facts::{Fact, id_in, message_facts, refuting, shown_facts};
 use lsp_rpc::{Act, Encoding, Memory, Message, Side, Spoken, copy_id};
 use lsp_session::{OpenRequest, Pending};
 use lsp_survey::{Marks, SessionNotes, Shown, SurveyReader};
+use lsp_types::rules;
 use std::alloc::Global;
 
-/// A snapshot differs from the text of its version.
-const SNAPSHOT_DIFFERS: u16 = 702;
-
-/// A saved text differs from the held one.
-const SAVED_TEXT_DIFFERS: u16 = 608;
-
-/// The least rule on documents.
-const FIRST_ON_DOCUMENTS: u16 = 601;
-
-/// What is said of a message of a side that offends by this rule, 301 to 702, with the events that
-/// brought it. The reader stands for the events before it.
+/// What is said about a message of a side that offends by this rule, 301 to 702, with the events
+/// that brought it. The reader stands for the events before it.
 pub(crate) fn message_traced(
     alloc: Global,
     events: &SurveyReader,
@@ -62,8 +55,8 @@ pub(crate) fn message_traced(
     Ok(facts)
 }
 
-/// What is said of a snapshot, the event of this number, that offends by this rule, with the events
-/// that brought it. The reader stands for the events before it.
+/// What is said about a snapshot, the event of this number, that offends by this rule, with the
+/// events that brought it. The reader stands for the events before it.
 pub(crate) fn shown_traced(
     alloc: Global,
     events: &SurveyReader,
@@ -100,14 +93,14 @@ fn trace_spoken(
     rule: u16,
 ) -> Result<(), Memory>
     ensures { OnOk result ((before : List Event) → StandsAfter events.now before
-        → facts_view facts.new.items ≡ (if nat_lt rule 601
+        → facts_view facts.new.items ≡ (if nat_lt rule rules.rules.FIRST_ON_DOCUMENTS
         then facts_view facts.old.items ++ spec.session_trace rule
         (numbered (terms_in events.now) before) side (id_in (message_view spoken.now.message))
         else spec.call_traced (terms_in events.now) before rule
         (spec.act_call (terms_in events.now) before (act_view spoken.now.act))
         (facts_view facts.old.items))) }
 {
-    if rule < FIRST_ON_DOCUMENTS {
+    if rule < rules::FIRST_ON_DOCUMENTS {
         let said = events.session_notes();
         return trace_message(facts, said, side, &spoken.message, rule);
     }
@@ -162,7 +155,7 @@ fn trace_text(
         rule (facts_view facts.old.items)) }
 {
     let marks = events.marks();
-    if rule != SNAPSHOT_DIFFERS {
+    if rule != rules::SNAPSHOT_DIFFERS {
         return trace_document(facts, marks, uri, &[], rule);
     }
     let encoding = events.session().encoding().unwrap_or(Encoding::Utf16);
@@ -204,12 +197,18 @@ fn trace_message(
         (id_in (message_view message.now))) }
 {
     match rule {
-        301 => push_answered(facts, answered(said, other_side(side), message)),
-        302 => {
+        rules::RESPONSE_TO_NO_OPEN_REQUEST => push_answered(
+            facts,
+            answered(said, other_side(side), message),
+        ),
+        rules::ID_ALREADY_OPEN => {
             push_asked(facts, asked(said, side, message))?;
             push_answered(facts, answered(said, side, message))
         }
-        401..=412 => push_since(facts, said.since()),
+        rules::EDITOR_BEFORE_INITIALIZE..=rules::SERVER_WHILE_INITIALIZE_OPEN => push_since(
+            facts,
+            said.since(),
+        ),
         _ => Ok(()),
     }
 }
@@ -265,7 +264,7 @@ fn trace_document(
     push_texts(facts, marks.agreed(uri), snapshots, rule)
 }
 
-/// Puts the event that set the held version beside that version.
+/// Adds the event that set the held version to that fact.
 fn put_setter(facts: &mut Vec<Fact>, brought: Option<u64>) -> Result<(), Memory>
     ensures { OnOk result (facts_view facts.new.items
         ≡ spec.with_setter brought (facts_view facts.old.items)) }
@@ -279,7 +278,7 @@ fn put_setter(facts: &mut Vec<Fact>, brought: Option<u64>) -> Result<(), Memory>
     set_second(facts, event)
 }
 
-/// Puts the event that set the held version beside that version, if the second fact says that.
+/// Adds the event that set the held version, if the second fact is that version.
 fn set_second(facts: &mut Vec<Fact>, event: u64) -> Result<(), Memory>
     requires { 2 ≤ vec_len facts.old }
     ensures { OnOk result (facts_view facts.new.items
@@ -309,11 +308,11 @@ fn push_texts(
     ensures { OnOk result (facts_view facts.new.items ≡ facts_view facts.old.items
         ++ spec.texts_traced equal snapshots.now rule) }
 {
-    if rule == SNAPSHOT_DIFFERS {
+    if rule == rules::SNAPSHOT_DIFFERS {
         push_snapshots(facts, snapshots)?;
         return push_equal(facts, equal);
     }
-    if rule == SAVED_TEXT_DIFFERS {
+    if rule == rules::SAVED_TEXT_DIFFERS {
         return push_equal(facts, equal);
     }
     Ok(())
@@ -369,9 +368,9 @@ fn push_since(facts: &mut Vec<Fact>, event: Option<u64>) -> Result<(), Memory>
     Ok(facts.push(Fact::Since(event))?)
 }
 
-/// What is said of a session that ends where it lacks something: the requests of the editor's that
-/// wait, in order of asking, with the events that asked them; how far the session has come, and the
-/// event that led there. The reader stands for all its events.
+/// What is said about a session that ends and is not complete: the requests of the editor's that
+/// wait, in the order in which they were sent, with the events that sent them; how far the session
+/// has come, and the event that led there. The reader stands for all its events.
 ///
 /// # Errors
 /// `Memory` where memory was refused.
@@ -394,8 +393,8 @@ fn requests(alloc: Global, pending: &Pending, said: &SessionNotes) -> Result<Vec
         → facts_view facts.items ≡ map (spec.waiting_by (numbered terms before)) pending.now) }
 {
     let mut facts = Vec::new(alloc);
-    for index in 0..pending.len() {
-        let request = pending.at(index).unwrap();
+    let mut requests = pending.walk();
+    while let Some(request) = requests.next() {
         facts.push(request_by(alloc, request, said)?)?;
     }
     Ok(facts)

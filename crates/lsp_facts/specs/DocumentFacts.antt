@@ -26,6 +26,7 @@ use Rattle.lsp_facts.specs.Fact.{has_kind, counts_in, fails, line_has}
 use Rattle.lsp_facts.specs.Fact.{falls_inside, would_have, may_have, differs_at, by_messages}
 use Rattle.lsp_facts.specs.Fact.{in_editor, saved_line, keeps}
 use Rattle.lsp_facts.specs.Refuting.{first_other}
+use Rattle.lsp_types.specs.declared.rules.TheConstants as rules
 
 -- ---- what is said under each rule
 
@@ -65,7 +66,7 @@ fits Nothing edit = false
 fits Full edit = is_none edit.span
 fits Incremental edit = true
 
--- how many changes stand before the first that is not of the kind
+-- how many changes come before the first that is not of the kind
 abbrev pub fitting : SyncKind → List Edit → ℕ
 fitting kind cs = prefix_len (fits kind) cs
 
@@ -117,9 +118,9 @@ pub record IsLongWithLine (limit : ℕ) (enc : Encoding) (t : Text) (edit : Edit
 -- why this rule refuses a change of the text `t`
 abbrev pub IsReason : ℕ → Encoding → Text → Edit → ℕ → List Fact → Type 0
 IsReason limit enc t edit rule facts =
-    ((rule ≡ 605) × IsStray enc t edit.span facts)
-    ⊎ (((rule ≡ 606) × (facts ≡ first_length enc t edit.span))
-    ⊎ ((rule ≡ 607) × IsLongWithLine limit enc t edit facts))
+    ((rule ≡ rules.POSITION_INSIDE_CHARACTER) × IsStray enc t edit.span facts)
+    ⊎ (((rule ≡ rules.RANGE_REVERSED) × (facts ≡ first_length enc t edit.span))
+    ⊎ ((rule ≡ rules.DOCUMENT_OVER_LIMIT) × IsLongWithLine limit enc t edit facts))
 
 -- change n, from 0, and why this rule refuses it
 pub record IsRefused (limit : ℕ) (enc : Encoding) (t : Text) (n : ℕ) (edit : Edit) (rule : ℕ)
@@ -169,9 +170,10 @@ pub record IsRefuting (enc : Encoding) (kept : List Version) (h : Option Version
 
 abbrev pub AreOfOpening : ℕ → Encoding → List Version → Version → ℕ → List Fact → Type 0
 AreOfOpening limit enc waits v rule facts =
-    ((rule ≡ 601) × (facts ≡ []))
-    ⊎ (((rule ≡ 607) × (facts ≡ would_have (byte_len v.text) ∷ may_have limit ∷ []))
-    ⊎ ((rule ≡ 702) × IsRefuted enc waits v facts))
+    ((rule ≡ rules.DOCUMENT_ALREADY_OPEN) × (facts ≡ []))
+    ⊎ (((rule ≡ rules.DOCUMENT_OVER_LIMIT)
+    × (facts ≡ would_have (byte_len v.text) ∷ may_have limit ∷ []))
+    ⊎ ((rule ≡ rules.SNAPSHOT_DIFFERS) × IsRefuted enc waits v facts))
 
 -- 702: the changes make a text that a waiting snapshot refutes
 pub record IsRefutedText (limit : ℕ) (enc : Encoding) (waits : List Version) (number : ℤ) (t : Text)
@@ -182,12 +184,13 @@ pub record IsRefutedText (limit : ℕ) (enc : Encoding) (waits : List Version) (
 
 abbrev pub AreOfChange : ℕ → Encoding → SyncKind → List Version → ℤ → List Edit → Option Version → ℕ
     → List Fact → Type 0
-AreOfChange limit enc kind waits number cs None rule facts = (rule ≡ 602) × (facts ≡ [])
+AreOfChange limit enc kind waits number cs None rule facts =
+    (rule ≡ rules.DOCUMENT_NOT_OPEN) × (facts ≡ [])
 AreOfChange limit enc kind waits number cs (Some v) rule facts =
-    ((rule ≡ 603) × (facts ≡ []))
-    ⊎ (((rule ≡ 604) × (facts ≡ kind_facts limit enc kind v.text cs))
+    ((rule ≡ rules.VERSION_DOES_NOT_RISE) × (facts ≡ []))
+    ⊎ (((rule ≡ rules.CHANGE_NOT_OF_KIND) × (facts ≡ kind_facts limit enc kind v.text cs))
     ⊎ (IsFailing limit enc v.text cs rule facts
-    ⊎ ((rule ≡ 702) × IsRefutedText limit enc waits number v.text cs facts)))
+    ⊎ ((rule ≡ rules.SNAPSHOT_DIFFERS) × IsRefutedText limit enc waits number v.text cs facts)))
 
 abbrev pub AreOfSave : Encoding → Option Text → Option Version → List Fact → Type 0
 AreOfSave enc (Some t) (Some v) facts = AreApart enc v.text t saved_line facts
@@ -201,8 +204,8 @@ kept_fact (v ∷ vs) = keeps (v.number ∷ map (λ (w : Version). w.number) vs) 
 abbrev pub AreOfSnapshot : Encoding → List Version → Option Version → Version → ℕ → List Fact
     → Type 0
 AreOfSnapshot enc kept h s rule facts =
-    ((rule ≡ 701) × (facts ≡ kept_fact kept))
-    ⊎ ((rule ≡ 702) × IsRefuting enc kept h s facts)
+    ((rule ≡ rules.LATE_SNAPSHOT) × (facts ≡ kept_fact kept))
+    ⊎ ((rule ≡ rules.SNAPSHOT_DIFFERS) × IsRefuting enc kept h s facts)
 
 abbrev pub AreDetails : Terms → Encoding → Option Version → List Version → List Version → Call → ℕ
     → List Fact → Type 0
@@ -210,9 +213,10 @@ AreDetails terms enc h kept waits (opens uri number text) rule facts =
     AreOfOpening terms.limit enc waits (versioned number text) rule facts
 AreDetails terms enc h kept waits (changes agreed kind uri number edits) rule facts =
     AreOfChange terms.limit agreed kind waits number edits h rule facts
-AreDetails terms enc h kept waits (closes uri) rule facts = (rule ≡ 602) × (facts ≡ [])
+AreDetails terms enc h kept waits (closes uri) rule facts =
+    (rule ≡ rules.DOCUMENT_NOT_OPEN) × (facts ≡ [])
 AreDetails terms enc h kept waits (saves uri text) rule facts =
-    (rule ≡ 608) × AreOfSave enc text h facts
+    (rule ≡ rules.SAVED_TEXT_DIFFERS) × AreOfSave enc text h facts
 AreDetails terms enc h kept waits (shows uri number text) rule facts =
     AreOfSnapshot enc kept h (versioned number text) rule facts
 

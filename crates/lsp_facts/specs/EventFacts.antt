@@ -14,9 +14,10 @@ use Rattle.lsp_facts.specs.DocumentFacts.{AreDocumentFacts}
 use Rattle.lsp_facts.specs.Fact.{Fact}
 use Rattle.lsp_facts.specs.FlawFacts.{Rests, rest_of, frame_facts}
 use Rattle.lsp_facts.specs.MessageFacts.{content_facts, session_facts}
+use Rattle.lsp_types.specs.declared.rules.TheConstants as rules
 
--- of a content that is no message, or of the header part that has a fault of the frames; these are
--- the rests of both sides' whole streams
+-- of a content that is not a message, or of the header part that has a fault of the frames; these
+-- are the rests of both sides' whole streams
 abbrev pub fault_facts : Rests → Raw → List Fact
 fault_facts rests (placed.content side bytes) = content_facts bytes
 fault_facts rests (broken side rule) = frame_facts (rest_of rests side)
@@ -28,14 +29,15 @@ AreCallFacts terms kept rule None facts = facts ≡ []
 AreCallFacts terms kept rule (Some call) facts =
     AreDocumentFacts terms (unwrap_or (encoding (sent_in kept)) Utf16) (calls kept) call rule facts
 
--- 301 to 504 are broken by the message, 601 to 702 by what it says of a document
+-- 301 to 504 are broken by the message, 601 to 702 by what it says about a document
 abbrev pub AreFactsBy : Bool → Terms → List Event → Sent → ℕ → List Fact → Type 0
 AreFactsBy true terms kept m rule facts = facts ≡ session_facts rule (sent_in kept) m
 AreFactsBy false terms kept m rule facts =
     AreCallFacts terms kept rule (call_at kept (message m)) facts
 
 abbrev pub AreMessageFacts : Terms → List Event → Sent → ℕ → List Fact → Type 0
-AreMessageFacts terms kept m rule facts = AreFactsBy (nat_lt rule 601) terms kept m rule facts
+AreMessageFacts terms kept m rule facts =
+    AreFactsBy (nat_lt rule rules.FIRST_ON_DOCUMENTS) terms kept m rule facts
 
 -- **the facts on an event that offends by this rule after the kept ones before it**
 abbrev pub AreFacts : Rests → Terms → List Event → Raw → Event → ℕ → List Fact → Type 0

@@ -1,5 +1,5 @@
 -- What an explanation says, apart from where its texts lie in memory. A URI, a name and the text of
--- an id are the bytes of their UTF-8; what stands in a document are its characters.
+-- an id are the bytes of their UTF-8; what is in a document are its characters.
 use Rattle.std.specs.Prelude.{ℕ, ℤ, List, map, Option, option_map, string_bytes}
 use Rattle.std.specs.Str.{chars}
 use Rattle.lsp_types.specs.declared.change.SyncKind.{SyncKind}
@@ -12,7 +12,7 @@ use Rattle.lsp_session.specs.declared.phase.Phase.{Phase}
 use Rattle.lsp_facts.specs.declared.fact.Fact as fact
 use Rattle.lsp_facts.specs.declared.fact.Fact.TheVariants as facts
 
--- one thing that is said of an offence
+-- one thing that is said about an offence
 pub data Fact : Type 0 where
   -- the document of which it speaks, the version that is held of it, also with the event that set
   -- it, the one that was sent, and that of a snapshot
@@ -39,7 +39,7 @@ pub data Fact : Type 0 where
   by_messages : List ℕ → Fact
   in_editor : List ℕ → Fact
   saved_line : List ℕ → Fact
-  -- the versions that are kept besides the held one
+  -- the versions that are kept in addition to the held one
   keeps : List ℤ → Fact
   -- the id of a message, null where there is none
   has_id : Option Ident → Fact
@@ -62,7 +62,7 @@ pub data Fact : Type 0 where
   led_by : ℕ → Fact
   -- the front of a content
   begins : List ℕ → Fact
-  -- the number of a record, the byte at which it begins, and the line that stands there
+  -- the number of a record, the byte at which it begins, and the line that is there
   in_record : ℕ → Fact
   at_byte : ℕ → Fact
   finds : List ℕ → Fact

@@ -1,4 +1,4 @@
--- What is said of a stream that has a fault or ends inside a frame, and of a log that has one.
+-- What is said about a stream that has a fault or ends inside a frame, and of a log that has one.
 use Rattle.std.specs.Prelude.{ℕ, List, [], ◌∷◌, Option, Some, None}
 use Rattle.lsp_frame.specs.Bounds.{Bounds}
 use Rattle.lsp_frame.specs.Front.{header_front}
@@ -15,7 +15,7 @@ use Rattle.lsp_facts.specs.MessageFacts.{text_front, content_facts}
 
 -- ---- frames: 101 to 107
 
--- the bytes of each side behind its last whole frame
+-- the bytes of each side after its last whole frame
 pub record Rests : Type 0 where
   pub editor : List ℕ
   pub server : List ℕ
@@ -30,19 +30,18 @@ side_by who.Editor = Editor
 side_by who.Server = Server
 side_by who.Snapshot = Editor
 
--- 101 to 106 lie in a header part, which is said of these bytes; the bytes behind it are not looked
+-- 101 to 106 lie in a header part, found in these bytes; the bytes after it are not looked
 -- at, since more of them may follow
 abbrev pub frame_facts : List ℕ → List Fact
 frame_facts rest = content_facts (header_front rest)
 
--- 107 is said of all that there is of the last frame
+-- 107 describes all that there is of the last frame
 abbrev pub unfinished_facts : List ℕ → List Fact
 unfinished_facts rest = content_facts rest
 
 -- ---- logs
 
--- of a fault at the record of this number, which begins behind so many bytes, where this line
--- stands
+-- of a fault at the record of this number, which begins after this many bytes, where this line is
 abbrev pub flaw_facts : ℕ → ℕ → List ℕ → List Fact
 flaw_facts number place line = in_record number ∷ at_byte place ∷ finds (text_front line) ∷ []
 

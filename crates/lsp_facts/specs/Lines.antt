@@ -28,6 +28,7 @@ use Rattle.lsp_facts.specs.Fact.{falls_inside, would_have, may_have, differs_at,
 use Rattle.lsp_facts.specs.Fact.{in_editor, saved_line, keeps, has_id, in_phase, offers, picks}
 use Rattle.lsp_facts.specs.Fact.{registers, waits, waits_since, shown_by, equal_by}
 use Rattle.lsp_facts.specs.Fact.{answered_by, asked_by, led_by, begins, in_record, at_byte, finds}
+use Rattle.lsp_types.specs.declared.rules.TheConstants as rules
 
 -- ---- words
 
@@ -154,15 +155,17 @@ end_event event by = line (codes "end" ∷ decimal event ∷ who_name by ∷ [])
 
 -- 107 and 701: that of the recording
 abbrev pub is_recorders : ℕ → Bool
-is_recorders rule = rule == 107 || rule == 701
+is_recorders rule = rule == rules.STREAM_ENDS_INSIDE_FRAME || rule == rules.LATE_SNAPSHOT
 
 -- 503, 504 and 607: both sides may be right, and the checker does not follow them
 abbrev pub is_outside : ℕ → Bool
-is_outside rule = is_within 503 504 rule || rule == 607
+is_outside rule = is_within rules.ENCODING_OUTSIDE_PROFILE rules.DYNAMIC_REGISTRATION rule
+    || rule == rules.DOCUMENT_OVER_LIMIT
 
 -- 303, 411, 412, 501 and 502
 abbrev pub is_servers : ℕ → Bool
-is_servers rule = rule == 303 || is_within 411 502 rule
+is_servers rule = rule == rules.REQUEST_NOT_ANSWERED
+    || is_within rules.SERVER_BEFORE_INITIALIZE rules.ENCODING_NOT_OFFERED rule
 
 -- of the rules above 302; the rest is the editor's
 abbrev pub usual_role : ℕ → List ℕ
@@ -174,7 +177,8 @@ usual_role rule =
 abbrev pub usual : ℕ → Who → List ℕ
 usual rule by =
     if is_recorders rule then codes "recorder"
-    else (if is_within 101 302 rule then who_name by else usual_role rule)
+    else (if is_within rules.HEADER_PART_TOO_LONG rules.ID_ALREADY_OPEN rule
+    then who_name by else usual_role rule)
 
 abbrev pub usual_line : List ℕ → List ℕ
 usual_line who = line (codes "usually" ∷ who ∷ [])

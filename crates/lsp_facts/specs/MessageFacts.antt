@@ -1,4 +1,4 @@
--- What is said of a message that offends, read off the messages before.
+-- What is said about a message that offends, read off the messages before.
 use Rattle.std.specs.Prelude.{ℕ, suc, ◌-◌, nat_lt, List, [], ◌∷◌, length, take, if◌then◌else◌}
 use Rattle.std.specs.Prelude.{Option, Some, None, option_map, option_to_list, unwrap_or}
 use Rattle.std.specs.Str.Lossy.{utf8_valid_len}
@@ -12,8 +12,9 @@ use Rattle.lsp_session.specs.Sent.{Sent}
 use Rattle.lsp_verdict.specs.Offences.{is_within}
 use Rattle.lsp_facts.specs.Fact.{Fact, has_id, in_phase, offers, picks, registers, begins}
 use Rattle.lsp_frame.specs.Front.{shown_bytes}
+use Rattle.lsp_types.specs.declared.rules.TheConstants as rules
 
--- ---- contents that are no message: 201 to 209
+-- ---- contents that are not a message: 201 to 209
 
 -- the longest front of some bytes that is UTF-8
 abbrev pub text_front : List ℕ → List ℕ
@@ -40,7 +41,7 @@ pick_facts (Some picked) = picks picked.encoding ∷ []
 abbrev pub offered_bytes : ℕ
 offered_bytes = 256
 
--- how many of the first names fit into so many bytes
+-- how many of the first names fit into this many bytes
 abbrev pub names_fitting : ℕ → List Text → ℕ
 names_fitting room [] = 0
 names_fitting room (name ∷ names) =
@@ -75,7 +76,10 @@ register_facts act = option_to_list (option_map registers (registered act))
 
 abbrev pub session_facts : ℕ → List Sent → Sent → List Fact
 session_facts rule before m =
-    if is_within 301 302 rule then has_id (id_in m.message) ∷ []
-    else (if is_within 401 412 rule then in_phase (phase before) ∷ []
-    else (if is_within 501 503 rule then settled_facts (settled_by before m)
+    if is_within rules.RESPONSE_TO_NO_OPEN_REQUEST rules.ID_ALREADY_OPEN rule
+    then has_id (id_in m.message) ∷ []
+    else (if is_within rules.EDITOR_BEFORE_INITIALIZE rules.SERVER_WHILE_INITIALIZE_OPEN rule
+    then in_phase (phase before) ∷ []
+    else (if is_within rules.BAD_INITIALIZE_RESULT rules.ENCODING_OUTSIDE_PROFILE rule
+    then settled_facts (settled_by before m)
     else register_facts m.act))

@@ -26,25 +26,10 @@ use crate::waiting::first_other;
 use lsp_docs::Docs;
 use lsp_rpc::Act;
 use lsp_text::TextStore;
-use lsp_types::{Change, Encoding, Memory, SyncKind};
+use lsp_types::{Change, Encoding, Memory, SyncKind, rules};
 use std::alloc::Global;
 
-/// A version that is not greater than the held one.
-const VERSION_STAYS: u16 = 603;
-
-/// Changes that are not of the agreed kind.
-const WRONG_KIND: u16 = 604;
-
-/// A text of more bytes of UTF-8 than the limit.
-const OVER_LIMIT: u16 = 607;
-
-/// A snapshot of a lesser version than the held one and each kept one.
-const LATE_SNAPSHOT: u16 = 701;
-
-/// A snapshot of another text than the one of its version.
-const SNAPSHOT_DIFFERS: u16 = 702;
-
-/// What is said of an act of the editor's that breaks this rule on documents, under what was
+/// What is said about an act of the editor's that breaks this rule on documents, under what was
 /// agreed. The documents are those before the act, which was refused.
 pub fn act_facts<S: TextStore>(
     alloc: Global,
@@ -103,7 +88,7 @@ pub fn act_facts<S: TextStore>(
     }
 }
 
-/// What is said of a snapshot that breaks this rule, under the encoding that was agreed. The
+/// What is said about a snapshot that breaks this rule, under the encoding that was agreed. The
 /// documents are those before the snapshot, which was refused.
 pub fn snapshot_facts<S: TextStore>(
     alloc: Global,
@@ -138,7 +123,7 @@ fn head<S: TextStore>(alloc: Global, docs: &Docs<S>, uri: &str) -> Result<FactLi
     Ok(facts)
 }
 
-/// What is said of an opening.
+/// What is said about an opening.
 fn opening<S: TextStore>(
     alloc: Global,
     docs: &Docs<S>,
@@ -159,7 +144,7 @@ fn opening<S: TextStore>(
     Ok(facts.into_facts())
 }
 
-/// What is said of an opening under its rule.
+/// What is said about an opening under its rule.
 fn of_opening<S: TextStore>(
     alloc: Global,
     docs: &Docs<S>,
@@ -176,18 +161,18 @@ fn of_opening<S: TextStore>(
         (versioned version (chars text.now)) rule facts) }
 {
     let mut facts = FactList::new(alloc);
-    if rule == OVER_LIMIT {
+    if rule == rules::DOCUMENT_OVER_LIMIT {
         facts.push(Fact::Bytes(text.len() as u64))?;
         facts.push(Fact::Limit(docs.limit()))?;
         return Ok(facts);
     }
-    if rule == SNAPSHOT_DIFFERS {
+    if rule == rules::SNAPSHOT_DIFFERS {
         return refuted(alloc, docs, encoding, uri, version, text);
     }
     Ok(facts)
 }
 
-/// What is said of a text that a waiting snapshot of its version refutes.
+/// What is said about a text that a waiting snapshot of its version refutes.
 fn refuted<S: TextStore>(
     alloc: Global,
     docs: &Docs<S>,
@@ -209,7 +194,7 @@ fn refuted<S: TextStore>(
     Ok(facts)
 }
 
-/// What is said of a change.
+/// What is said about a change.
 fn changing<S: TextStore>(
     alloc: Global,
     docs: &Docs<S>,
@@ -234,7 +219,7 @@ fn changing<S: TextStore>(
     Ok(facts.into_facts())
 }
 
-/// What is said of a change under its rule.
+/// What is said about a change under its rule.
 fn of_change<S: TextStore>(
     alloc: Global,
     docs: &Docs<S>,
@@ -255,10 +240,10 @@ fn of_change<S: TextStore>(
     let Some(store) = docs.store_of(uri) else {
         return Ok(FactList::new(alloc));
     };
-    if rule == VERSION_STAYS {
+    if rule == rules::VERSION_DOES_NOT_RISE {
         return Ok(FactList::new(alloc));
     }
-    if rule == WRONG_KIND {
+    if rule == rules::CHANGE_NOT_OF_KIND {
         return misfit(alloc, store, encoding, kind, changes, docs.limit());
     }
     let made = make(alloc, store, encoding, changes, docs.limit())?;
@@ -280,7 +265,7 @@ fn of_change<S: TextStore>(
     Ok(facts)
 }
 
-/// What is said of a close.
+/// What is said about a close.
 fn closing<S: TextStore>(
     alloc: Global,
     docs: &Docs<S>,
@@ -296,7 +281,7 @@ fn closing<S: TextStore>(
     Ok(facts.into_facts())
 }
 
-/// What is said of a save with a text.
+/// What is said about a save with a text.
 fn saving<S: TextStore>(
     alloc: Global,
     docs: &Docs<S>,
@@ -314,7 +299,7 @@ fn saving<S: TextStore>(
     Ok(facts.into_facts())
 }
 
-/// What is said of a saved text that is not the held one.
+/// What is said about a saved text that is not the held one.
 fn of_save<S: TextStore>(
     alloc: Global,
     docs: &Docs<S>,
@@ -333,7 +318,7 @@ fn of_save<S: TextStore>(
     difference(alloc, encoding, held.as_str(), text, Against::Saved)
 }
 
-/// What is said of a snapshot under its rule.
+/// What is said about a snapshot under its rule.
 fn of_snapshot<S: TextStore>(
     alloc: Global,
     docs: &Docs<S>,
@@ -348,7 +333,7 @@ fn of_snapshot<S: TextStore>(
         → AreOfSnapshot encoding (kept docs.now.terms uri.now calls)
         (held docs.now.terms uri.now calls) (versioned version (chars text.now)) rule facts) }
 {
-    if rule == LATE_SNAPSHOT {
+    if rule == rules::LATE_SNAPSHOT {
         return kept_facts(alloc, docs, uri);
     }
     let Some(store) = docs.other_of(uri, version, text) else {

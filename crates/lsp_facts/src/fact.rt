@@ -3,8 +3,8 @@ use lsp_rpc::Id;
 use lsp_session::Phase;
 use lsp_types::{Encoding, Position, Span, SyncKind};
 
-/// One thing that an explanation says of an offence. Lines and columns count from 0, columns in
-/// units of the encoding that the session agreed on.
+/// One thing that an explanation says about an offence. Lines and columns are counted from 0,
+/// columns in units of the encoding that the session agreed on.
 #[derive(Debug, Drop, PartialEq, Eq)]
 pub enum Fact {
     /// The document of which the message or the snapshot speaks, as it writes its URI.
@@ -42,7 +42,7 @@ pub enum Fact {
     InEditor(String),
     /// The same of the text that was saved.
     SavedLine(String),
-    /// The versions that are kept besides the held one.
+    /// The versions that are kept in addition to the held one.
     Kept(Vec<i32>),
     /// The id in the message. `None` where it is null.
     Id(Option<Id>),
@@ -70,11 +70,11 @@ pub enum Fact {
     Asked(u64),
     /// The number of the event that led to the phase, from 1.
     Since(u64),
-    /// The front of a content that is no message.
+    /// The front of a content that is not a message.
     Begins(String),
     /// The number of a record of the log, from 1; 0 for the first line.
     Record(u64),
-    /// How many bytes of the log stand before it.
+    /// How many bytes of the log come before it.
     Byte(u64),
     /// The line that stands there, or its front, as far as it is UTF-8.
     Found(String),

@@ -70,7 +70,7 @@ impl FactList {
         self.push(Fact::Uri(uri))
     }
 
-    /// Adds the change after so many others, and the encoding in which its columns are counted.
+    /// Adds the change after this many others, and the encoding in which its columns are counted.
     pub(crate) fn push_change(
         &mut self,
         encoding: Encoding,

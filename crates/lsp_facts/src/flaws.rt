@@ -9,8 +9,8 @@ use lsp_frame::header_front;
 use lsp_rpc::Memory;
 use std::alloc::Global;
 
-/// What is said of a stream that has a fault of its frames, 101 to 106: how the header part begins
-/// that has it, of the bytes behind the last whole frame.
+/// What is said about a stream that has a fault of its frames, 101 to 106: how the header part
+/// begins that has it, of the bytes after the last whole frame.
 ///
 /// # Errors
 /// `Memory` where memory was refused.
@@ -20,8 +20,8 @@ pub fn frame_facts(alloc: Global, rest: &[u8]) -> Result<Vec<Fact>, Memory>
     content_facts(alloc, header_front(rest))
 }
 
-/// What is said of a stream that ends inside a frame, 107: how that begins, of the bytes behind the
-/// last whole one.
+/// What is said about a stream that ends inside a frame, 107: how that begins, of the bytes after
+/// the last whole one.
 ///
 /// # Errors
 /// `Memory` where memory was refused.
@@ -31,8 +31,8 @@ pub fn unfinished_facts(alloc: Global, rest: &[u8]) -> Result<Vec<Fact>, Memory>
     content_facts(alloc, rest)
 }
 
-/// What is said of a log that has a fault: the number of its record, from 1, and 0 for the first
-/// line, how many bytes stand before it, and the line that stands there, as far as it is UTF-8.
+/// What is said about a log that has a fault: the number of its record, from 1, and 0 for the first
+/// line, how many bytes come before it, and the line that is there, as far as it is UTF-8.
 ///
 /// # Errors
 /// `Memory` where memory was refused.

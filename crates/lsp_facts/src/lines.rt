@@ -16,7 +16,7 @@ ghost use Rattle.lsp_facts.specs.Lines as spec;
 use crate::fact::Fact;
 use lsp_rpc::{Id, Memory, Message, RpcFault, push_id, push_quoted, read, words_of};
 use lsp_session::Phase;
-use lsp_types::{Encoding, Position, Span, SyncKind};
+use lsp_types::{Encoding, Position, Span, SyncKind, rules};
 use lsp_verdict::{Who, kind_name, who_name};
 use std::alloc::Global;
 use std::fmt::Write;
@@ -348,7 +348,7 @@ pub fn usual(rule: u16, by: Who) -> &'static str
         return "recorder";
     }
     match rule {
-        101..=302 => who_name(by),
+        rules::HEADER_PART_TOO_LONG..=rules::ID_ALREADY_OPEN => who_name(by),
         _ => usual_role(rule),
     }
 }
@@ -369,19 +369,25 @@ fn usual_role(rule: u16) -> &'static str
 fn is_recorders(rule: u16) -> bool
     ensures { result ≡ spec.is_recorders rule }
 {
-    rule == 107 || rule == 701
+    rule == rules::STREAM_ENDS_INSIDE_FRAME || rule == rules::LATE_SNAPSHOT
 }
 
 fn is_outside(rule: u16) -> bool
     ensures { result ≡ spec.is_outside rule }
 {
-    matches!(rule, 503..=504 | 607)
+    matches!(
+        rule,
+        rules::ENCODING_OUTSIDE_PROFILE..=rules::DYNAMIC_REGISTRATION | rules::DOCUMENT_OVER_LIMIT
+    )
 }
 
 fn is_servers(rule: u16) -> bool
     ensures { result ≡ spec.is_servers rule }
 {
-    matches!(rule, 303 | 411..=502)
+    matches!(
+        rule,
+        rules::REQUEST_NOT_ANSWERED | rules::SERVER_BEFORE_INITIALIZE..=rules::ENCODING_NOT_OFFERED
+    )
 }
 
 /// Adds the line of an event that is a message: its number, from 1, whose it is, its number among
@@ -407,7 +413,7 @@ pub fn push_message_event(
 }
 
 /// Adds the line of an event that is a content: the same with the words of the message that it is,
-/// whatever its params; with no words where it is no message.
+/// whatever its params; with no words where it is not a message.
 ///
 /// # Errors
 /// `Memory` where memory was refused.

@@ -1,4 +1,4 @@
-//! Facts on messages, and on contents that are none.
+//! Facts on messages, and on contents that are not messages.
 ghost use Rattle.std.specs.Prelude.{◌≡◌, ◌≤◌, List, [], ◌∷◌, ◌++◌, IfOk, OnOk, length, take};
 ghost use Rattle.std.specs.Prelude.{option_map, unwrap_or};
 ghost use Rattle.std.specs.Str.{IsUtf8};
@@ -16,11 +16,12 @@ ghost use Rattle.lsp_facts.specs.MessageFacts as spec;
 use crate::fact::Fact;
 use lsp_rpc::{Act, Id, Memory, Message, Offer, RpcFault, Side, copy_id, picked_of};
 use lsp_session::{Session, is_synchronisation};
+use lsp_types::rules;
 use serde_json::Value;
 use std::alloc::Global;
 use std::str::from_utf8;
 
-/// How many bytes of a content that is no message are looked at.
+/// How many bytes of a content that is not a message are looked at.
 const SHOWN_BYTES: usize = 64;
 
 /// How many bytes are shown of the names that an `initialize` offers, a byte more counted for each.
@@ -54,7 +55,7 @@ pub(crate) fn text_front(bytes: &[u8]) -> &str
     }
 }
 
-/// What is said of a content that is no message: how it begins, as far as that is UTF-8.
+/// What is said about a content that is not a message: how it begins, as far as that is UTF-8.
 pub fn content_facts(alloc: Global, content: &[u8]) -> Result<Vec<Fact>, Memory>
     ensures { IfOk result (λ facts. facts_view facts.items ≡ spec.content_facts content.now) }
 {
@@ -197,10 +198,11 @@ fn register_facts(alloc: Global, act: &Act) -> Result<Vec<Fact>, Memory>
     }
 }
 
-/// What is said of a message that breaks this rule, 301 to 504, after the messages of the session:
-/// of 301 and 302 its id, of 401 to 412 how far the session has come, of 501 to 503 the encodings
-/// that the open `initialize` offers and the one that its result picks, of 504 the first method of
-/// text synchronisation that is to be registered. The act is what the message means on its side.
+/// What is said about a message that breaks this rule, 301 to 504, after the messages of the
+/// session: of 301 and 302 its id, of 401 to 412 how far the session has come, of 501 to 503 the
+/// encodings that the open `initialize` offers and the one that its result picks, of 504 the first
+/// method of text synchronisation that is to be registered. The act is what the message means on
+/// its side.
 ///
 /// # Errors
 /// `Memory` where memory was refused.
@@ -216,9 +218,14 @@ pub fn session_facts(
         → facts_view facts.items ≡ spec.session_facts rule before (sent side message.now act.now)) }
 {
     match rule {
-        301..=302 => id_facts(alloc, message),
-        401..=412 => only(alloc, Fact::Phase(session.phase())),
-        501..=503 => settled_facts(alloc, session, side, message),
+        rules::RESPONSE_TO_NO_OPEN_REQUEST..=rules::ID_ALREADY_OPEN => id_facts(alloc, message),
+        rules::EDITOR_BEFORE_INITIALIZE..=rules::SERVER_WHILE_INITIALIZE_OPEN => only(
+            alloc,
+            Fact::Phase(session.phase()),
+        ),
+        rules::BAD_INITIALIZE_RESULT..=rules::ENCODING_OUTSIDE_PROFILE => settled_facts(
+            alloc, session, side, message,
+        ),
         _ => register_facts(alloc, act),
     }
 }

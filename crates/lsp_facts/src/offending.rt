@@ -15,13 +15,11 @@ use lsp_docs::Docs;
 use lsp_rpc::{Encoding, Memory, Side, Spoken, SyncKind};
 use lsp_session::Session;
 use lsp_text::TextStore;
+use lsp_types::rules;
 use std::alloc::Global;
 
-/// The least rule on documents.
-const FIRST_ON_DOCUMENTS: u16 = 601;
-
-/// What is said of a message of a side that offends by this rule, 301 to 702. Session and documents
-/// hold the kept events before it.
+/// What is said about a message of a side that offends by this rule, 301 to 702. Session and
+/// documents hold the kept events before it.
 ///
 /// # Errors
 /// `Memory` where memory was refused.
@@ -39,7 +37,7 @@ pub fn message_facts<S: TextStore>(
         (act_view spoken.now.act) docs.now.terms kept rule)
         → AreMessageFacts docs.now.terms kept refused.sent rule (facts_view facts.items)) }
 {
-    if rule < FIRST_ON_DOCUMENTS {
+    if rule < rules::FIRST_ON_DOCUMENTS {
         return session_facts(alloc, session, side, &spoken.message, &spoken.act, rule);
     }
     let encoding = session.encoding().unwrap_or(Encoding::Utf16);
@@ -47,8 +45,8 @@ pub fn message_facts<S: TextStore>(
     act_facts(alloc, docs, encoding, kind, &spoken.act, rule)
 }
 
-/// What is said of a snapshot that offends by this rule. Session and documents hold the kept events
-/// before it.
+/// What is said about a snapshot that offends by this rule. Session and documents hold the kept
+/// events before it.
 ///
 /// # Errors
 /// `Memory` where memory was refused.

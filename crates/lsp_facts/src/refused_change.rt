@@ -9,19 +9,14 @@ ghost use Rattle.lsp_text.specs.Changes.{edit_of, edits_of};
 ghost use Rattle.lsp_facts.specs.DocumentFacts.{fits, misfit_facts, kind_facts, stray, IsStray};
 ghost use Rattle.lsp_facts.specs.DocumentFacts.{IsTooLong, IsReason, IsRefused};
 ghost use Rattle.lsp_facts.specs.Making.{HasStray};
+ghost use Rattle.lsp_types.specs.declared.rules.TheConstants as rules;
 
 use crate::fact::Fact;
 use crate::fact_list::FactList;
 use crate::making::make;
 use lsp_text::{TextStore, char_inside, size_with};
-use lsp_types::{Change, Encoding, Memory, Position, Span, SyncKind};
+use lsp_types::{Change, Encoding, Memory, Position, Span, SyncKind, rules};
 use std::alloc::Global;
-
-/// A position inside a character.
-const INSIDE_CHARACTER: u16 = 605;
-
-/// A text of more bytes of UTF-8 than the limit.
-const OVER_LIMIT: u16 = 607;
 
 /// The facts on changes of another kind than agreed: the kind, and the first change that is not of
 /// it.
@@ -46,7 +41,7 @@ pub(crate) fn misfit<S: TextStore>(
     Ok(facts)
 }
 
-/// The facts on the change behind so many others, which is not of the kind: its span, and the
+/// The facts on the change after this many others, which is not of the kind: its span, and the
 /// length of the line in which that begins, where the changes before it can be made.
 fn misfit_at<S: TextStore>(
     alloc: Global,
@@ -72,7 +67,7 @@ fn misfit_at<S: TextStore>(
     Ok(facts)
 }
 
-/// How many changes stand before the first that is not of the kind.
+/// How many changes come before the first that is not of the kind.
 fn count_fitting(kind: SyncKind, changes: &[Change]) -> usize
     ensures { result ≡ prefix_len (λ change. fits kind (edit_of change)) changes.now }
 {
@@ -93,7 +88,7 @@ fn fits_kind(kind: SyncKind, change: &Change) -> bool
     }
 }
 
-/// The facts on the change behind so many others that this rule refuses, on the text that those
+/// The facts on the change after this many others that this rule refuses, on the text that those
 /// made.
 pub(crate) fn refused(
     alloc: Global,
@@ -128,12 +123,12 @@ fn reason(
         (chars (string_bytes change.now.text)) limit ≡ Err rule
         → IsReason limit encoding (chars text.now) (edit_of change.now) rule facts) }
 {
-    if rule == INSIDE_CHARACTER {
+    if rule == rules::POSITION_INSIDE_CHARACTER {
         return stray_facts(alloc, encoding, text, change.span);
     }
     let mut facts = FactList::new(alloc);
     facts.push_first_length(text, encoding, change.span)?;
-    if rule == OVER_LIMIT {
+    if rule == rules::DOCUMENT_OVER_LIMIT {
         facts.append(size_facts(alloc, encoding, text, change, limit)?)?;
     }
     Ok(facts)
@@ -181,7 +176,7 @@ fn size_facts(
     limit: u64,
 ) -> Result<FactList, Memory>
     ensures { IfOk result (λ facts. changed encoding (chars text.now) change.now.span
-        (chars (string_bytes change.now.text)) limit ≡ Err OVER_LIMIT
+        (chars (string_bytes change.now.text)) limit ≡ Err rules.DOCUMENT_OVER_LIMIT
         → IsTooLong limit encoding (chars text.now) (edit_of change.now) facts) }
 {
     let mut facts = FactList::new(alloc);

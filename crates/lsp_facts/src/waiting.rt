@@ -59,7 +59,7 @@ pub fn refuting<S: TextStore>(
     }
 }
 
-/// The text that changes make of the held one, where the document is open and each of them can be
+/// The held text with the changes made, where the document is open and each of them can be
 /// made.
 fn made_text<S: TextStore>(
     alloc: Global,
@@ -84,7 +84,7 @@ fn made_text<S: TextStore>(
 }
 
 /// Those of the snapshots that have another text than this one. They are given by their events, and
-/// their texts stand in the same order.
+/// their texts are in the same order.
 fn others(
     alloc: Global,
     texts: &[String],

@@ -1,5 +1,7 @@
 -- Reading a header part field by field.
-use Rattle.std.proofs.Common.{◌≡◌, ℕ, List, [], ◌∷◌, ◌++◌, sym, ap, ◌∙◌, append_assoc}
+use Rattle.std.proofs.Common.{◌≡◌, ℕ, ◌<◌, List, [], ◌∷◌, ◌++◌, length, codes, refl, sym, ap, subst, ◌∙◌, append_assoc, append-nil, arith}
+use Rattle.std.proofs.lemmas.List.{length-append}
+use Rattle.std.proofs.lemmas.List.Sums.{AllPass-from_list_all}
 use Rattle.std.specs.List.{flat_map, list_all, AllByRecursion}
 use Rattle.lsp_frame.specs.declared.header.Lengths.{Lengths}
 use Rattle.std.specs.Prelude.{map, filter, Bool, true, false, not, ◌&&◌, nat_eq}
@@ -7,8 +9,8 @@ use lib.Pointwise.{pointwise}
 use Rattle.std.proofs.lemmas.List.{map-append, flat_map_more}
 use Rattle.std.proofs.lemmas.List.Elements.{filter-append}
 use Rattle.std.proofs.lemmas.List.Folds.{list_all-append}
-use Rattle.lsp_frame.specs.Header.{Field, IsField, Spells, line, line_end, lengths, trimmed, is_content_length, is_content_type, fits_charset, parts, fits_charsets}
-use Rattle.lsp_frame.specs.Reading.{Holds, NoFieldBegins}
+use Rattle.lsp_frame.specs.Header.{Field, IsField, Spells, line, line_end, lengths, trimmed, is_content_length, is_content_type, fits_charset, parts, fits_charsets, is_token, is_text}
+use Rattle.lsp_frame.specs.Reading.{Holds, NoFieldBegins, usual_type}
 use Rattle.lsp_frame.proofs.Fields.{cons_lines, rest_of_fields}
 
 -- the fields that were read, and what was counted of them
@@ -44,6 +46,35 @@ read_more header rest after f old new utf8 utf8_new so_far is begins count fits 
       holds = rw (lengths-append so_far.front (f ∷ [])) (count (lengths so_far.front) so_far.holds);
       charsets = fits ∙ ap (λ (b : Bool). b && fits_charsets (f ∷ [])) so_far.charsets ∙ sym (fits_charsets-append so_far.front (f ∷ []));
     }
+
+and_true : (b : Bool) → b ≡ b && true
+and_true true = refl
+and_true false = refl
+
+usual_is : IsField usual_type
+usual_is = record {
+  named = omega arith;
+  token = AllPass-from_list_all is_token (codes "Content-Type") refl;
+  text = AllPass-from_list_all is_text (codes " application/vscode-jsonrpc; charset=utf-8") refl;
+}
+
+usual_fits : fits_charsets (usual_type ∷ []) ≡ true
+usual_fits = refl
+
+-- the default content type is read, and what was counted stays
+pub usual_more : (header rest after : List ℕ) (counted : Lengths) (utf8 : Bool)
+    → HasRead header rest counted utf8 → rest ≡ line usual_type ++ after
+    → HasRead header after counted utf8
+usual_more header rest after counted utf8 so_far begins =
+    read_more header rest after usual_type counted counted utf8 utf8 so_far usual_is begins
+    (λ values held. subst (λ (w : List (List ℕ)). Holds counted w) (sym (append-nil values)) held)
+    (and_true utf8 ∙ ap (λ (b : Bool). utf8 && b) (sym usual_fits))
+
+-- and it takes bytes
+pub usual_shortens : (rest after : List ℕ) → rest ≡ line usual_type ++ after
+    → length after < length rest
+usual_shortens rest after begins =
+    omega (arith, ap length begins, length-append (line usual_type) after)
 
 nothing_left : (gs : List Field) (rest : List ℕ) → AllByRecursion IsField gs → rest ≡ flat_map line gs ++ line_end → (rest ≡ line_end → ⊥) → NoFieldBegins rest → ⊥
 nothing_left [] rest each e goes_on none = goes_on e

@@ -7,7 +7,7 @@ use Rattle.lsp_frame.specs.Decoder.{State, GivesNothing, GivesFault, Next}
 use Rattle.lsp_frame.specs.declared.start.FrameSize.{FrameSize}
 use Rattle.lsp_frame.specs.declared.decoder.FrameFault.{FrameFault}
 
--- a header part that was read stands in front of the rest
+-- a header part that was read comes before the rest
 abbrev pub AheadStands : Bounds → List ℕ → Option FrameSize → Type 0
 AheadStands limits rest ahead = IfSome ahead (λ size. StartsWithHeader limits rest size)
 

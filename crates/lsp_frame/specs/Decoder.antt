@@ -3,6 +3,7 @@ use Rattle.std.specs.Prelude.{◌≡◌, ℕ, ◌+◌, ◌≤◌, max, List, [],
 use Rattle.lsp_frame.specs.Bounds.{Bounds}
 use Rattle.lsp_frame.specs.Frame.{IsFrame, Begins, Frames, Breaks, HasFault, IsStream}
 use Rattle.lsp_frame.specs.declared.decoder.FrameFault.{FrameFault}
+use Rattle.lsp_types.specs.declared.rules.TheConstants as rules
 
 -- kept: the bytes of frames given that are still in the buffer; rest: the bytes pushed that belong to no frame given;
 -- fault: the fault given; room: how many bytes the buffer has, those that are not yet used included
@@ -17,7 +18,8 @@ pub record State : Type 0 where
 abbrev pub empty : Bounds → State
 empty limits = record { limits = limits; kept = []; rest = []; fault = None; room = 0 }
 
--- the room once so many bytes are to follow the rest: the buffer grows only where they don't fit, and only so far
+-- the room once this many bytes are to follow the rest: the buffer grows only where they don't fit,
+-- and only so far
 abbrev pub room_for : State → ℕ → ℕ
 room_for s more = max s.room (length s.rest + more)
 
@@ -86,7 +88,7 @@ pub record StandsFor (s : State) (bytes : List ℕ) (contents : List (List ℕ))
   pub frames : Frames s.limits bytes contents rest
   pub held : IsRestOf s rest
 
--- the stream has these contents and no more, and this fault behind them, or none
+-- the stream has these contents and no more, and this fault after them, or none
 abbrev pub EndsWith : State → List ℕ → List (List ℕ) → Option ℕ → Type 0
 EndsWith s bytes contents None = (s.fault ≡ None) × IsStream s.limits bytes contents s.rest None
 EndsWith s bytes contents (Some rule) = (rest : List ℕ) × IsStream s.limits bytes contents rest (Some rule)
@@ -108,7 +110,7 @@ pub record Next (old new : State) (answer : Result (Option (List ℕ)) ℕ) : Ty
 abbrev pub finish_at : Option ℕ → List ℕ → Result (Unit {0}) FrameFault
 finish_at (Some rule) rest = Err (record { rule = rule })
 finish_at None [] = Ok tt
-finish_at None (b ∷ rest) = Err (record { rule = 107 })
+finish_at None (b ∷ rest) = Err (record { rule = rules.STREAM_ENDS_INSIDE_FRAME })
 
 -- the fault given; else 107 where a byte is left
 abbrev pub finish_of : State → Result (Unit {0}) FrameFault

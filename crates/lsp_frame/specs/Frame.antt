@@ -2,6 +2,7 @@
 use Rattle.std.specs.Prelude.{◌≡◌, ◌⊎◌, ℕ, ◌≤◌, List, [], ◌∷◌, ◌++◌, length, take, Option, Some, None, Ok, Err}
 use Rattle.lsp_frame.specs.Bounds.{Bounds}
 use Rattle.lsp_frame.specs.Header.{blank_line, Says}
+use Rattle.lsp_types.specs.declared.rules.TheConstants as rules
 
 -- it holds CR LF CR LF nowhere
 abbrev pub HoldsNoBlank : List ℕ → Type 0
@@ -45,7 +46,8 @@ pub record IsBad (limits : Bounds) (bytes : List ℕ) (rule : ℕ) : Type 0 wher
 
 -- the bytes begin with this fault
 abbrev pub Breaks : Bounds → List ℕ → ℕ → Type 0
-Breaks limits bytes rule = ((rule ≡ 101) × IsTooLong limits bytes) ⊎ IsBad limits bytes rule
+Breaks limits bytes rule =
+    ((rule ≡ rules.HEADER_PART_TOO_LONG) × IsTooLong limits bytes) ⊎ IsBad limits bytes rule
 
 abbrev pub HasFault : Bounds → List ℕ → Option ℕ → Type 0
 HasFault limits bytes (Some rule) = Breaks limits bytes rule

@@ -21,7 +21,7 @@ shown_bytes = 64
 abbrev pub header_front : List ℕ → List ℕ
 header_front bytes = header_of (take shown_bytes bytes)
 
--- behind the frames given stand the bytes that are held, and where there was no fault nothing else
+-- the bytes that are held follow the frames given, and where there was no fault nothing else
 pub record HoldsRest (s : State) (bytes : List ℕ) (contents : List (List ℕ)) (held : List ℕ) : Type 0 where
   pub more : List ℕ
   pub frames : Frames s.limits bytes contents (held ++ more)

@@ -1,10 +1,11 @@
--- The header part of a frame: what its fields are, and what they say of the content.
+-- The header part of a frame: what its fields are, and what they say about the content.
 use Rattle.std.specs.Prelude.{◌≡◌, ◌⊎◌, ℕ, ◌-◌, ◌<◌, List, [], ◌∷◌, ◌++◌, length, take, drop, map, filter, Bool, true, false, not, ◌||◌, ◌&&◌, ◌==◌, nat_le, Result, Ok, Err, codes, if◌then◌else◌}
 use Rattle.std.specs.List.{flat_map, list_any, list_all, prefix_len, suffix_len, slice_split, AllPass, AllByRecursion}
 use Rattle.std.specs.Char.{is_ascii_digit, is_ascii_alphanumeric, to_ascii_lowercase}
 use Rattle.std.specs.Str.{bytes_eq}
 use Rattle.std.specs.Str.Parse.{digits_value}
 use Rattle.lsp_frame.specs.Bounds.{Bounds}
+use Rattle.lsp_types.specs.declared.rules.TheConstants as rules
 
 -- CR LF
 abbrev pub line_end : List ℕ
@@ -69,14 +70,15 @@ is_number v = nat_le 1 (length v) && nat_le (length v) 10 && list_all is_ascii_d
 -- the length of the content that one value gives, or its fault
 abbrev pub length_of : Bounds → List ℕ → Result ℕ ℕ
 length_of limits v =
-    if is_number v then (if nat_le (digits_value 10 v) limits.content then Ok (digits_value 10 v) else Err 105)
-    else Err 104
+    if is_number v then (if nat_le (digits_value 10 v) limits.content
+    then Ok (digits_value 10 v) else Err rules.CONTENT_TOO_LONG)
+    else Err rules.BAD_CONTENT_LENGTH
 
 -- the length of the content that the values give, or the least fault
 abbrev pub content_length : Bounds → List (List ℕ) → Result ℕ ℕ
-content_length limits [] = Err 103
+content_length limits [] = Err rules.NOT_ONE_CONTENT_LENGTH
 content_length limits (v ∷ []) = length_of limits v
-content_length limits (v ∷ w ∷ vs) = Err 103
+content_length limits (v ∷ w ∷ vs) = Err rules.NOT_ONE_CONTENT_LENGTH
 
 -- inside double quotes
 abbrev pub quoted : List ℕ → List ℕ
@@ -87,7 +89,7 @@ abbrev pub is_utf8_name : List ℕ → Bool
 is_utf8_name name = is_word name (codes "utf-8") || is_word name (codes "utf8")
     || is_word name (quoted (codes "utf-8")) || is_word name (quoted (codes "utf8"))
 
--- a part that begins with charset= goes on with a name of UTF-8
+-- a part that begins with charset= continues with a name of UTF-8
 abbrev pub fits_charset : List ℕ → Bool
 fits_charset part = not (is_word (take 8 part) (codes "charset=")) || is_utf8_name (drop 8 part)
 
@@ -101,7 +103,7 @@ fits_charsets fields = list_all (λ f. list_all fits_charset (parts f.value)) (f
 
 abbrev pub length_and_charset : Bool → Result ℕ ℕ → Result ℕ ℕ
 length_and_charset true said = said
-length_and_charset false (Ok n) = Err 106
+length_and_charset false (Ok n) = Err rules.CHARSET_NOT_UTF_8
 length_and_charset false (Err rule) = Err rule
 
 -- the length of the content that the fields give, or the least fault
@@ -111,4 +113,4 @@ said_by limits fields = length_and_charset (fits_charsets fields) (content_lengt
 -- the header part says that the content has this length, or has this fault and no lesser one
 abbrev pub Says : Bounds → List ℕ → Result ℕ ℕ → Type 0
 Says limits header said = ((fields : List Field) × Spells header fields × (said_by limits fields ≡ said))
-    ⊎ (((fields : List Field) → Spells header fields → ⊥) × (said ≡ Err 102))
+    ⊎ (((fields : List Field) → Spells header fields → ⊥) × (said ≡ Err rules.BAD_HEADER_LINE))

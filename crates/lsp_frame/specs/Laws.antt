@@ -27,7 +27,7 @@ abbrev pub OneReading : Type 0
 OneReading = (limits : Bounds) (bytes : List ℕ) (us bs : List (List ℕ)) (r s : List ℕ) (p q : Option ℕ)
     → IsStream limits bytes us r p → IsStream limits bytes bs s q → Same us bs r s p q
 
--- frames that bytes begin with are the first of their stream, and what stands behind them is the others
+-- frames that bytes begin with are the first of their stream, and what follows them is the others
 abbrev pub FramesComeFirst : Type 0
 FramesComeFirst = (limits : Bounds) (bytes : List ℕ) (contents : List (List ℕ)) (after : List ℕ)
     (all : List (List ℕ)) (rest : List ℕ) (breaks : Option ℕ)

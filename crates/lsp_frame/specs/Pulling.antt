@@ -10,7 +10,7 @@ use Rattle.lsp_frame.specs.declared.decoder.PullFault.{PullFault}
 use Rattle.lsp_frame.specs.declared.decoder.PullFault.TheVariants.{Read, Memory}
 use Rattle.lsp_frame.specs.declared.io.Failed.{Failed}
 
--- the source gave a piece of n bytes, at most so many, which was pushed
+-- the source gave a piece of n bytes, at most this many, which was pushed
 pub record Pulls (old new : State) (before after : Told) (most n : ℕ) : Type 0 where
   pub piece : List ℕ
   pub gave : Gave before after piece
@@ -45,14 +45,14 @@ MissesNone s = (missing : Missing) → Misses s missing → ⊥
 abbrev pub window_of : Missing → ℕ
 window_of missing = min missing.bytes 65536
 
--- the source gave so many bytes
+-- the source gave this many bytes
 pub record GavePast (before after : Told) (n : ℕ) : Type 0 where
   pub piece : List ℕ
   pub gave : Gave before after piece
   pub failures : after.failures ≡ before.failures
   pub count : length piece ≡ n
 
--- the source failed before it had given so many bytes
+-- the source failed before it had given this many bytes
 pub record FailsPast (before after : Told) (most : ℕ) : Type 0 where
   pub middle : Told
   pub n : ℕ
@@ -61,7 +61,7 @@ pub record FailsPast (before after : Told) (most : ℕ) : Type 0 where
   pub keeps : KeepsBytes middle after
   pub failures : after.failures ≡ after_failure middle.failures
 
--- so many bytes were given, fewer only at the end of the source
+-- this many bytes were given, fewer only at the end of the source
 abbrev pub GoesPast : Told → Told → ℕ → Result ℕ Failed → Type 0
 GoesPast before after most (Ok n) = GavePast before after n × (n ≤ most) × (n < most → IsAtEnd after.bytes)
 GoesPast before after most (Err failed) = FailsPast before after most

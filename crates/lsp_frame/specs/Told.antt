@@ -1,4 +1,4 @@
--- What a source or a sink tells of itself.
+-- What a source or a sink reports about itself.
 use Rattle.std.specs.Prelude.{◌≡◌, ℕ, ◌+◌, ◌-◌, ◌^◌, ◌≤◌, ◌++◌, min, List, length, Option, MatchResult, Result}
 use Rattle.std.specs.Io.KnownBytes.{Consumes, Appends, Keeps}
 
@@ -9,7 +9,7 @@ pub record Told : Type 0 where
   pub count : ℕ
   pub failures : ℕ
 
--- the number rises by so many, as far as a `u64` can tell
+-- the number rises by this many, as far as a `u64` can count
 abbrev pub Raises : ℕ → ℕ → ℕ → Type 0
 Raises old new more = min new (2 ^ 64 - 1) ≡ min (old + more) (2 ^ 64 - 1)
 
@@ -36,7 +36,7 @@ after_failure n = min (n + 1) (2 ^ 64 - 1)
 abbrev pub CountsFailure : {X E : Type 0} → ℕ → ℕ → Result X E → Type 0
 CountsFailure old new r = MatchResult r (λ _. new ≡ old) (λ _. new ≡ after_failure old)
 
--- the source gave a piece of n bytes, at most so many, and it was appended to the bytes
+-- the source gave a piece of n bytes, at most this many, and it was appended to the bytes
 pub record GaveOnto (before after : Told) (old new : List ℕ) (most n : ℕ) : Type 0 where
   pub piece : List ℕ
   pub gave : Gave before after piece

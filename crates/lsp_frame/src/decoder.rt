@@ -14,20 +14,19 @@ ghost use Rattle.lsp_frame.specs.Front.{HoldsRest};
 
 use crate::io::{Failed, Source};
 use crate::limits::Limits;
-use crate::rule;
 use crate::start::{FrameSize, Start, start_of};
-use lsp_types::Memory;
+use lsp_types::{Memory, rules};
 use std::alloc::{AllocError, Global};
 use std::marker::Model;
 use thiserror::Error;
 
-/// How many bytes of a content that is let go are asked of a source at once.
+/// How many bytes of a content that is let go are requested from a source at once.
 const WINDOW: usize = 65_536;
 
 /// A fault of a stream of frames, by its rule:
 ///
 /// - 101: the header part is too long;
-/// - 102: a line of it is no field;
+/// - 102: a line of it is not a field;
 /// - 103: it has not exactly one `Content-Length`;
 /// - 104: the value of that one is not 1 to 10 decimal digits;
 /// - 105: the content is too long;
@@ -82,13 +81,13 @@ pub struct Missing {
 /// Takes the bytes of a stream in pieces of any size, and lends the contents of its frames one by
 /// one.
 ///
-/// The bytes stand in one buffer, from which each content is lent. A header part is parsed once,
+/// The bytes are in one buffer, from which each content is lent. A header part is parsed once,
 /// and a content is neither read nor moved while it grows. The next push gives up the bytes of the
 /// frames given, and moves the rest to the front.
 #[derive(Drop)]
 pub struct Decoder {
     limits: Limits,
-    /// The bytes pushed, and behind them room for more.
+    /// The bytes pushed, and after them room for more.
     buffer: Vec<u8>,
     /// Where the bytes begin that belong to no frame given.
     start: usize,
@@ -139,7 +138,7 @@ fn to_front(buffer: &mut [u8], start: usize, end: usize)
     }
 }
 
-/// Moves the bytes between two places to the front, and makes room for so many behind them. An
+/// Moves the bytes between two places to the front, and makes room for this many after them. An
 /// `Err` changes nothing.
 fn make_room(buffer: &mut Vec<u8>, start: usize, end: usize, more: usize) -> Result<(), AllocError>
     requires places { (start ≤ end) × (end ≤ vec_len buffer.old) }
@@ -158,7 +157,7 @@ fn make_room(buffer: &mut Vec<u8>, start: usize, end: usize, more: usize) -> Res
     Ok(())
 }
 
-/// Moves the bytes between two places to the front, and puts the piece behind them. An `Err`
+/// Moves the bytes between two places to the front, and puts the piece after them. An `Err`
 /// changes nothing.
 fn push_after(
     buffer: &mut Vec<u8>,
@@ -179,7 +178,7 @@ fn push_after(
     Ok(())
 }
 
-/// Takes so many bytes of a source, one window over another. It gives fewer only at its end.
+/// Takes this many bytes of a source, one window over another. It gives fewer only at its end.
 fn go_past<R: Source>(source: &mut R, window: &mut [u8], most: usize) -> Result<usize, Failed>
     requires { 0 < length window.old }
     ensures { GoesPast (R.told source.old) (R.told source.new) most result }
@@ -233,7 +232,7 @@ impl Decoder {
     }
 
     /// Takes the next bytes of the stream as [`Decoder::push`] does. Where no byte is held that
-    /// belongs to no frame given, it takes their buffer in the place of its own, and copies
+    /// belongs to no frame given, it takes their buffer in place of its own, and copies
     /// nothing.
     pub fn push_owned(&mut self, piece: Vec<u8>) -> Result<(), Memory>
         ensures ok { OnOk result (FitsIn self.new (pushed self.old piece.items)) }
@@ -261,8 +260,8 @@ impl Decoder {
     }
 
     /// Takes the next bytes of the stream straight from a source: those that one call of it gives,
-    /// at most so many, and none only at its end; once a fault was given, nothing. Where the source
-    /// fails or memory is refused, no byte is taken.
+    /// at most this many, and none only at its end; once a fault was given, nothing. Where the
+    /// source fails or memory is refused, no byte is taken.
     pub fn pull<R: Source>(&mut self, source: &mut R, most: u32) -> Result<usize, PullFault>
         ensures ok { IfOk result (λ n.
             Pulls self.old self.new (R.told source.old) (R.told source.new) most n) }
@@ -377,7 +376,7 @@ impl Decoder {
         }
     }
 
-    /// Goes past the next frame as [`Decoder::next`] does, and gives the length of its content,
+    /// Skips the next frame as [`Decoder::next`] does, and gives the length of its content,
     /// which [`Decoder::last`] lends.
     pub fn advance(&mut self) -> Result<Option<usize>, FrameFault>
         ensures { Advances self.old self.new result }
@@ -422,8 +421,8 @@ impl Decoder {
         self.fault
     }
 
-    /// How many bytes stand in the buffer: those of the frames given since the last push, and those
-    /// behind them.
+    /// How many bytes are in the buffer: those of the frames given since the last push, and those
+    /// after them.
     pub fn held(&self) -> u64
         ensures { result ≡ held_of self.now }
     {
@@ -431,9 +430,9 @@ impl Decoder {
     }
 
     /// The bytes pushed that belong to no frame given. Where the stream ends inside a frame they
-    /// are what there is of it. Behind a fault they begin the frame that has it, and go at least as
-    /// far as the fault is seen: to the end of its header part, or of one that is too long as many
-    /// bytes as one may have. What was pushed later is not held.
+    /// are what there is of it. After a fault they begin the frame that has it, and reach at least
+    /// as far as the fault is seen: to the end of its header part, or of one that is too long as
+    /// many bytes as one may have. What was pushed later is not held.
     pub fn rest(&self) -> &[u8]
         ensures value { result.now ≡ self.now.rest }
         ensures stands { (bytes : List ℕ) (contents : List (List ℕ)) →
@@ -453,7 +452,7 @@ impl Decoder {
             Some(rule) => Err(FrameFault { rule }),
             None if self.start == self.end => Ok(()),
             None => Err(FrameFault {
-                rule: rule::UNFINISHED_FRAME,
+                rule: rules::STREAM_ENDS_INSIDE_FRAME,
             }),
         }
     }

@@ -8,7 +8,7 @@ use memchr::memmem;
 const SHOWN_BYTES: usize = 64;
 
 /// The header part that the bytes begin with, up to the first CR LF CR LF, which is included, as
-/// far as the first 64 bytes go. Behind a fault this tells how the frame begins that has it, and
+/// far as the first 64 bytes go. After a fault this tells how the frame begins that has it, and
 /// stays, whatever follows.
 pub fn header_front(bytes: &[u8]) -> &[u8]
     ensures { result.now ≡ header_front bytes.now }

@@ -1,15 +1,17 @@
-//! What a header part says of its content (LSP 3.17, "Header Part").
+//! What a header part says about its content (LSP 3.17, "Header Part").
 ghost use Rattle.std.specs.Prelude.{◌≡◌, ◌<◌, ◌≤◌, ◌-◌, ℕ, List, [], ◌∷◌, ◌++◌, length, true, ◌&&◌};
+ghost use Rattle.std.specs.Prelude.{IfSome};
 ghost use Rattle.std.specs.List.{list_all};
 ghost use Rattle.std.specs.Str.Parse.{digits_value};
 ghost use Rattle.lsp_frame.specs.Header.{lengths, is_number, length_of, content_length};
-ghost use Rattle.lsp_frame.specs.Header.{is_utf8_name, fits_charset, parts, fits_charsets, Says};
-ghost use Rattle.lsp_frame.specs.Reading.{field_view, Holds};
+ghost use Rattle.lsp_frame.specs.Header.{is_utf8_name, fits_charset, parts, fits_charsets};
+ghost use Rattle.lsp_frame.specs.Header.{line, Says};
+ghost use Rattle.lsp_frame.specs.Reading.{field_view, Holds, usual_type};
 
 use crate::bytes::{all_digits, number_up_to};
 use crate::field::{Field, split_field, trim};
 use crate::limits::Limits;
-use crate::rule;
+use lsp_types::rules;
 
 /// The values that stand as the length of the content.
 #[derive(Clone, Copy)]
@@ -31,11 +33,11 @@ fn length_of(limits: &Limits, value: &[u8]) -> Result<u64, u16>
     ensures { result ≡ length_of limits.now value.now }
 {
     if !is_number(value) {
-        return Err(rule::BAD_NUMBER);
+        return Err(rules::BAD_CONTENT_LENGTH);
     }
     match number_up_to(value, limits.content()) {
         Some(length) => Ok(length),
-        None => Err(rule::CONTENT_TOO_LONG),
+        None => Err(rules::CONTENT_TOO_LONG),
     }
 }
 
@@ -61,7 +63,7 @@ impl<'a> Lengths<'a> {
     {
         match self {
             Lengths::One(value) => length_of(limits, value),
-            Lengths::Missing | Lengths::Several => Err(rule::NOT_ONE_LENGTH),
+            Lengths::Missing | Lengths::Several => Err(rules::NOT_ONE_CONTENT_LENGTH),
         }
     }
 }
@@ -102,6 +104,15 @@ fn fits_charsets(field: &Field<'_>) -> bool
     !field.name.eq_ignore_ascii_case(b"Content-Type") || parts_fit(field.value)
 }
 
+/// The bytes after the line of the default content type, if they begin with it (LSP 3.17, "Header
+/// Part"). The line says what is so without it, so nothing of it is counted.
+fn after_usual_type(bytes: &[u8]) -> Option<&[u8]>
+    ensures { IfSome result (λ rest. bytes.now ≡ line usual_type ++ rest.now) }
+{
+    let rest = bytes.strip_prefix(b"Content-Type: application/vscode-jsonrpc; charset=utf-8\r\n")?;
+    Some(rest)
+}
+
 /// The length in bytes of the content that a header part gives, or the least fault that fits it.
 #[inline(never)]
 pub(crate) fn read_header(limits: &Limits, header: &[u8]) -> Result<u64, u16>
@@ -111,8 +122,12 @@ pub(crate) fn read_header(limits: &Limits, header: &[u8]) -> Result<u64, u16>
     let mut fits = true;
     let mut rest = header;
     while rest != b"\r\n".as_slice() {
+        if let Some(after) = after_usual_type(rest) {
+            rest = after;
+            continue;
+        }
         let Some((field, after)) = split_field(rest) else {
-            return Err(rule::BAD_LINE);
+            return Err(rules::BAD_HEADER_LINE);
         };
         lengths = lengths.with(&field);
         fits = fits && fits_charsets(&field);
@@ -122,6 +137,6 @@ pub(crate) fn read_header(limits: &Limits, header: &[u8]) -> Result<u64, u16>
     if fits {
         Ok(length)
     } else {
-        Err(rule::OTHER_CHARSET)
+        Err(rules::CHARSET_NOT_UTF_8)
     }
 }

@@ -120,7 +120,7 @@ pub struct Input<R> {
 }
 
 impl<R: Read> Input<R> {
-    /// A source that gave nothing and has not failed.
+    /// A source that has given nothing and has not failed.
     pub fn new(reader: R) -> Input<R>
         ensures { ⟦<Input<R> as Source>⟧.told result
             ≡ record { bytes = R.remaining reader; count = 0; failures = 0 } }

@@ -20,7 +20,7 @@ pub fn one_reading()
     ensures { OneReading }
 {}
 
-/// Frames that bytes begin with are the first of their stream, and what stands behind them is its
+/// Frames that bytes begin with are the first of their stream, and what follows them is its
 /// others.
 pub fn frames_come_first()
     ensures { FramesComeFirst }

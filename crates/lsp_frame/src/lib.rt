@@ -6,8 +6,8 @@
 //! accepted. [`Source`] and [`Sink`] are where bytes come from and where they go, with [`Input`]
 //! and [`Output`] over a reader and a writer of std.
 //!
-//! What holds of all frames and streams stands in the contracts of functions that do nothing, such
-//! as [`one_reading`].
+//! What is true of all frames and streams is stated in the contracts of functions that do nothing,
+//! such as [`one_reading`].
 #![tactic(auto)]
 
 mod bytes;
@@ -19,7 +19,6 @@ mod header;
 mod io;
 mod laws;
 mod limits;
-mod rule;
 mod start;
 mod write;
 

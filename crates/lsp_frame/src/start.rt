@@ -1,4 +1,4 @@
-//! What stands at the front of bytes.
+//! What bytes begin with.
 ghost use Rattle.std.specs.Prelude.{◌≡◌, ◌≤◌, length, IfSome};
 ghost use Rattle.std.specs.List.{prefix_len};
 ghost use Rattle.std.specs.Char.{is_ascii_digit};
@@ -8,7 +8,7 @@ ghost use Rattle.lsp_frame.specs.Start.{StartsAs, StartsWithHeader};
 use crate::bytes::number_up_to;
 use crate::header::read_header;
 use crate::limits::Limits;
-use crate::rule;
+use lsp_types::rules;
 use memchr::memmem;
 
 /// The lengths in bytes of a frame's two parts.
@@ -38,7 +38,7 @@ fn digits_in_front(bytes: &[u8]) -> usize
         .count()
 }
 
-/// The size of the frame whose header part stands in front, where that is the one line
+/// The size of the frame whose header part the bytes begin with, where that is the one line
 /// `Content-Length: ` and digits, which is the common case. Whatever else stands there is left to
 /// [`read_header`].
 fn plain_size(limits: &Limits, bytes: &[u8]) -> Option<FrameSize>
@@ -73,7 +73,7 @@ pub(crate) fn start_of(limits: &Limits, bytes: &[u8]) -> Start
         if bytes.len() < most {
             return Start::Unfinished;
         }
-        return Start::Fault(rule::HEADER_TOO_LONG);
+        return Start::Fault(rules::HEADER_PART_TOO_LONG);
     };
     let header = at + 4;
     match read_header(limits, &bytes[..header]) {

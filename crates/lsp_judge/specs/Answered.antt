@@ -32,7 +32,7 @@ pub record NamesFirst (limits : Bounds) (format : Format) (records : List Record
   pub is : given ≡ as_given verdict
 
 -- no event of the records offends, and a stream ends inside a frame: 107 is given, the editor's
--- named first
+-- first
 pub record NamesRest (limits : Bounds) (format : Format) (records : List Record)
     (given : Verdict) : Type 0 where
   pub events : List Event
@@ -41,7 +41,7 @@ pub record NamesRest (limits : Bounds) (format : Format) (records : List Record)
   pub names : HasRest107 limits format records None events verdict
   pub is : given ≡ as_given verdict
 
--- the records are kept, and what is given is the No by what their session lacks to be complete
+-- the records are kept, and what is given is the No by what is missing from their session
 pub record NamesShort (limits : Bounds) (format : Format) (records : List Record)
     (given : Verdict) : Type 0 where
   pub verdict : Verdict

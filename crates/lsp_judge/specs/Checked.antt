@@ -1,4 +1,4 @@
--- What `check` answers and writes, whether or not a session has to be complete.
+-- What `check` answers and writes, whether or not a session must be complete.
 use Rattle.std.specs.Prelude.{◌≡◌, ◌⊎◌, ℕ, List, Option, Result, Ok, Err, IfOk}
 use Rattle.std.specs.Io.KnownBytes.{IsAtEnd}
 use Rattle.lsp_frame.specs.Bounds.{Bounds}
@@ -26,25 +26,25 @@ use Rattle.lsp_verdict.specs.declared.verdict.Verdict.{Verdict}
 use Rattle.lsp_verdict.specs.declared.verdict.Verdict.TheVariants.{BadLog, No, Yes}
 use Rattle.lsp_verdict.specs.declared.verdict.Who.{Who}
 
--- what Yes means: the log is kept, and where it has to be, its session was brought to its end
+-- what Yes means: the log is kept, and where it must be, its session was brought to its end
 abbrev pub YesMeans : Completeness → Bounds → List ℕ → Type 0
 YesMeans Ignored limits log = IsKept limits log
 YesMeans Required limits log = IsComplete limits log
 
 -- what a No names: the first event that offends, and its least rule; or the stream that ends inside
--- a frame; or, where it has to be complete, what the session of a log that is kept lacks
+-- a frame; or, where it must be complete, what is missing from the session of a log that is kept
 abbrev pub NoMeans : Completeness → Bounds → List ℕ → spec.Verdict → Type 0
 NoMeans Ignored limits log v = Refuses limits log v
 NoMeans Required limits log v = Refuses limits log v ⊎ IsCutShort limits log v
 
--- the session was brought to its end, where it has to be
+-- the session was brought to its end, where it must be
 abbrev pub EndsAsDue : Completeness → List Event → Type 0
 EndsAsDue Ignored events = Unit {0}
 EndsAsDue Required events = IsBroughtToEnd events
 
 pub record Checked (completeness : Completeness) (limits : Bounds) (io : Ports)
     (result : Result Outcome RunFault) : Type 0 where
-  -- The answer is the verdict on the log read, however that goes on where its end was not met; its
+  -- The answer is the verdict on the log read, however it continues where its end was not met; its
   -- report and nothing else is written.
   pub judged : IfOk result (λ outcome. (v : Verdict) × (outcome ≡ Judged v))
   pub verdict : (v : Verdict) → result ≡ Ok (Judged v)
@@ -67,7 +67,8 @@ pub record Checked (completeness : Completeness) (limits : Bounds) (io : Ports)
       → OfInput limits io (λ log. (format : Option Format) (events : List Event)
       → IsClean limits log format events → EndsAsDue completeness events
       → verdict_view v ≡ spec.yes (spec.summary (log_terms limits format) events))
-  -- After a read fault or for want of memory nothing is written, after a write fault a prefix.
+  -- After a read fault or where memory was refused nothing is written, after a write fault a
+  -- prefix.
   pub read_fault : result ≡ Err Read → IsSilent io
   pub memory : result ≡ Err Memory → IsSilent io
   pub write_fault : result ≡ Err Write → IsReportCut completeness limits io.source_before

@@ -12,12 +12,12 @@ use Rattle.lsp_verdict.specs.declared.completeness.Completeness.{Completeness}
 use Rattle.lsp_verdict.specs.declared.completeness.Completeness.TheVariants.{Ignored, Required}
 use Rattle.lsp_verdict.specs.declared.verdict.Summary as code
 
--- the No by what the session lacks, where it has to be complete
+-- the No by what is missing from the session, where it must be complete
 abbrev pub lack_by : Completeness → List Event → Option Verdict
 lack_by Ignored events = None
 lack_by Required events = lack_of events
 
--- the verdict: the No by a rest of the editor's or the server's, else by what lacks, else Yes
+-- the verdict: the No by a rest of the editor's or the server's, else by what is missing, else Yes
 abbrev pub end_by : Completeness → Terms → List Event → Bool → Bool → Verdict
 end_by completeness terms events editor server =
     unwrap_or (option_or (rest_of events editor server) (lack_by completeness events))

@@ -31,7 +31,7 @@ use Rattle.lsp_judge.specs.declared.event_reader.EventReader.{EventReader}
 abbrev pub EndsAt : Bounds → List ℕ → List Event → Verdict → Type 0
 EndsAt limits log heard v = (whole : IsVerdict limits log v) × (kept v whole.final.events ≡ heard)
 
--- **where the session has to be complete, this is the verdict on the log**, and these are the
+-- **where the session must be complete, this is the verdict on the log**, and these are the
 -- events before the place of the verdict that it has else
 abbrev pub EndsBy : Completeness → Bounds → List ℕ → List Event → Verdict → Type 0
 EndsBy Ignored limits log heard v = EndsAt limits log heard v
@@ -65,13 +65,13 @@ pub record HasEnded (limits : Bounds) (e : EventReader) (start now : Told) (hear
   pub has : HasHeard (log_terms limits e.log.log.format) e.events.session e.events.docs
       e.events.counts given heard
 
--- the verdict was found behind these events
+-- the verdict was found after these events
 pub record Found (completeness : Completeness) (limits : Bounds) (start now : Told)
     (heard : List Event) (v : Verdict) : Type 0 where
   pub of_read : OfRead limits start now (λ log. EndsBy completeness limits log heard v)
   pub failures : now.failures ≡ start.failures
 
--- reading broke off behind these events
+-- reading broke off after these events
 pub record BrokeOff (limits : Bounds) (start now : Told) (heard : List Event)
     (fault : RunFault) : Type 0 where
   pub of_read : OfRead limits start now (BeginsWith limits heard)

@@ -1,4 +1,4 @@
--- What a judge gives for good, in the words of verdicts.
+-- The final answer of a judge, in the words of verdicts.
 use Rattle.std.specs.Prelude.{◌≡◌, List, Option, Some, None}
 use Rattle.lsp_docs.specs.Terms.{Terms}
 use Rattle.lsp_judge.specs.declared.ruling.Ruling.{Ruling}
@@ -27,7 +27,7 @@ RestIs None refusal = refusal ≡ None
 RestIs (Some ruling) refusal =
     (v : Verdict) × (refusal ≡ Some v) × (verdict_in ruling ≡ Some (as_given v))
 
--- what holds of a verdict that is no Yes
+-- what is true of a verdict other than Yes
 abbrev pub IfRefused : Verdict → Type 0 → Type 0
 IfRefused (yes s) P = Unit {0}
 IfRefused (no rule who number event) P = P

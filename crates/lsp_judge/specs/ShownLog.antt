@@ -46,7 +46,7 @@ OneShown = (lines : Lines) (limits : Bounds) → IsInRange limits
 
 -- ---- all lines
 
--- the lines are written, behind which the report is due
+-- the lines are written, after which the report is due
 pub record ShowedAll (lines : Lines) (limits : Bounds) (start now old new : Told)
     (v : Verdict) : Type 0 where
   pub out : List ℕ
@@ -63,7 +63,7 @@ pub record ShowedPart (lines : Lines) (limits : Bounds) (start now old new : Tol
   pub source : now.failures ≡ failures_after fault start.failures
   pub sink : new.failures ≡ sink_failures_after fault old.failures
 
--- the place of the event that comes behind these, as it is counted
+-- the place of the event that comes after these, as it is counted
 pub record IsPlace (before : List Event) (event : Event) (place : Place) : Type 0 where
   pub among_all : place.event ≡ capped (length (before ++ event ∷ []))
   pub among_own : place.number ≡ capped (count_of (belongs_to (whose event)) (before ++ event ∷ []))

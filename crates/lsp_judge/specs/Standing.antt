@@ -60,7 +60,7 @@ Rules limits format records (No rule by number event) =
 Rules limits format records (BadLog number code) = ⊥
 Rules limits format records Memory = Unit {0}
 
--- memory was refused, for good
+-- memory was refused, once and for all calls
 abbrev pub WasRefused : Option Ruling → Type 0
 WasRefused given = given ≡ Some Memory
 

@@ -20,12 +20,12 @@ answer_view (answers.Refused v) = refused (verdict_view v)
 -- **what `text` answers and writes** for the URI after the editor's message of the number
 pub record WritesText (limits : Bounds) (io : Ports) (number : ℕ) (uri : List ℕ)
     (result : Result Outcome RunFault) : Type 0 where
-  -- What is due for that text of the log read, however that goes on where its end was not met, is
+  -- What is due for that text of the log read, however it continues where its end was not met, is
   -- written, and nothing else; the outcome is the one that is due.
   pub written : IfOk result (λ outcome.
       OutputFor limits io (λ log out. IsText limits log number uri out outcome))
-  -- After a read fault or for want of memory nothing is written, after a write fault a prefix of
-  -- what is due.
+  -- After a read fault or where memory was refused nothing is written, after a write fault a prefix
+  -- of what is due.
   pub read_fault : result ≡ Err Read → IsSilent io
   pub memory : result ≡ Err Memory → IsSilent io
   pub write_fault : result ≡ Err Write → OutputFor limits io (λ log. BeginsText limits log number uri)

@@ -59,13 +59,13 @@ pub record HasTaken (limits : Bounds) (r : reader.State) (s : State) (start now 
   pub accepted : Accepting limits s r.format records
   pub at : IsAt r start now records
 
--- the verdict was found behind these records
+-- the verdict was found after these records
 pub record FoundBehind (limits : Bounds) (start now : Told) (records : List Record)
     (v : Verdict) : Type 0 where
   pub of_read : OfRead limits start now (λ log. IsUpgraded limits log v (upgraded records))
   pub failures : now.failures ≡ start.failures
 
--- reading broke off behind these records
+-- reading broke off after these records
 pub record BrokeBehind (limits : Bounds) (start now : Told) (records : List Record)
     (fault : RunFault) : Type 0 where
   pub of_read : OfRead limits start now (λ log. BeginsUpgraded limits log (upgraded records))

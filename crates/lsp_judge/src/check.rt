@@ -1,4 +1,4 @@
-//! Judges a log and writes the report, whether or not its session has to be complete.
+//! Judges a log and writes the report, whether or not its session must be complete.
 ghost use Rattle.lsp_frame.specs.Bounds.{IsInRange};
 ghost use Rattle.lsp_judge.specs.Checked.{Checked};
 ghost use Rattle.lsp_judge.specs.LogEvents.{GivesVerdict};
@@ -35,7 +35,7 @@ pub fn run_check<R: Source, W: Sink>(
 }
 
 /// Reads a log as [`run_check`] does, and writes the report of the verdict on it where its session
-/// has to be complete: instead of Yes No by 303 where a request of the editor's has no answer, else
+/// must be complete: instead of Yes a No by 303 where a request of the editor's has no answer, else
 /// by 407 where the editor did not send `exit`.
 ///
 /// # Errors

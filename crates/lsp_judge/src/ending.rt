@@ -10,24 +10,22 @@ ghost use Rattle.lsp_verdict.specs.Verdict.{rest_of};
 use crate::ruling::Ruling;
 use lsp_events::{Events, summary_of};
 use lsp_text::TextStore;
+use lsp_types::rules;
 use lsp_verdict::{Completeness, Counts, Summary, Who};
 use std::alloc::Global;
 
-/// What the events have come to where the session ends behind them; or the No by bytes of the
-/// editor's or the server's that are no whole frame, or by what the session lacks to be complete.
+/// The result of the events where the session ends after them; or the No by bytes of the
+/// editor's or the server's that are not a whole frame, or by what is missing from the session.
 pub(crate) fn end_of<S: TextStore>(
     alloc: Global,
-    events: &mut Events<S>,
+    events: &Events<S>,
     editor: bool,
     server: bool,
     completeness: Completeness,
 ) -> Result<Summary, Ruling>
-    ensures session { events.new.session ≡ events.old.session }
-    ensures docs { events.new.docs ≡ events.old.docs }
-    ensures counts { events.new.counts ≡ events.old.counts }
-    ensures answer { (so_far : List Event) → Follows events.old.session events.old.docs
-        events.old.counts so_far
-        → EndIs result (end_by completeness events.old.docs.terms so_far editor server) }
+    ensures { (so_far : List Event) → Follows events.now.session events.now.docs events.now.counts
+        so_far
+        → EndIs result (end_by completeness events.now.docs.terms so_far editor server) }
 {
     if let Some(ruling) = rest_in(&events.counts, editor, server) {
         return Err(ruling);
@@ -38,22 +36,22 @@ pub(crate) fn end_of<S: TextStore>(
     Ok(summary_of(alloc, events)?)
 }
 
-/// The No by bytes that are no whole frame, the editor's first.
+/// The No by bytes that are not a whole frame, the editor's first.
 fn rest_in(counts: &Counts, editor: bool, server: bool) -> Option<Ruling>
     ensures { (so_far : List Event) → AreCounts counts.now so_far
         → RestIs result (rest_of so_far editor server) }
 {
     if editor {
-        return Some(Ruling::no_next(counts, 107, Who::Editor));
+        return Some(Ruling::no_next(counts, rules::STREAM_ENDS_INSIDE_FRAME, Who::Editor));
     }
     if server {
-        return Some(Ruling::no_next(counts, 107, Who::Server));
+        return Some(Ruling::no_next(counts, rules::STREAM_ENDS_INSIDE_FRAME, Who::Server));
     }
     None
 }
 
-/// The No by what a session lacks that has to be complete: a request of the editor's has no answer,
-/// else an `exit` was not sent.
+/// The No by what is missing from a session that must be complete: a request of the editor's has no
+/// answer, else an `exit` was not sent.
 fn lack_in<S: TextStore>(events: &Events<S>, completeness: Completeness) -> Option<Ruling>
     ensures { (so_far : List Event) → Follows events.now.session events.now.docs events.now.counts
         so_far

@@ -55,17 +55,17 @@ impl EventReader {
     }
 
     /// The verdict on the log, which ends so; all of its events were heard.
-    pub(crate) fn finish(&mut self, alloc: Global, end: End) -> Result<Verdict, Memory>
+    pub(crate) fn finish(&self, alloc: Global, end: End) -> Result<Verdict, Memory>
         ensures { (limits : Bounds) (start now : Told) (heard : List Event)
-            → HasEnded limits self.old start now heard end
-            → Finishes self.old.completeness limits start now heard result }
+            → HasEnded limits self.now start now heard end
+            → Finishes self.now.completeness limits start now heard result }
     {
         if let End::Bad { number, fault } = end {
             return Ok(Verdict::BadLog { number, fault });
         }
         let editor = self.log.ends_inside(Side::Editor);
         let server = self.log.ends_inside(Side::Server);
-        match end_of(alloc, &mut self.events, editor, server, self.completeness) {
+        match end_of(alloc, &self.events, editor, server, self.completeness) {
             Ok(summary) => Ok(Verdict::Yes(summary)),
             Err(ruling) => ruling.answer(),
         }

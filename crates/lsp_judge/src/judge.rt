@@ -32,7 +32,7 @@ use std::marker::Model;
 /// Judges a recorded session of an editor and a language server, record by record.
 ///
 /// It stands for the records taken. From the first record on that brings an event which offends,
-/// it answers the No at that event; a No, a fault of the log and a want of memory stay.
+/// it answers the No at that event; a No, a fault of the log and a refusal of memory stay.
 #[derive(Drop)]
 pub struct Judge<S: TextStore> {
     alloc: Global,
@@ -124,8 +124,8 @@ impl<S: TextStore> Judge<S> {
         }
     }
 
-    /// What a fault of the log behind the records makes of the session: the No that was answered
-    /// before, and else the fault.
+    /// The outcome of the session where the log has a fault after the records: the No that was
+    /// answered before, and else the fault.
     pub fn bad_log(&mut self, number: u64, fault: LogCode) -> Verdict
         requires memory { WasRefused self.old.given → ⊥ }
         ensures keeps { KeepsAnswer self.old self.new (λ answer given. verdict_view answer ≡ given)
@@ -143,7 +143,7 @@ impl<S: TextStore> Judge<S> {
             → Stands self.old records
             → result ≡ Verdict.BadLog at code
             → (at ≡ number) × (code ≡ fault) × NoneOffends self.old.limits self.old.format records }
-        // Of a judge that gave nothing yet the fault is given.
+        // Of a judge that has given nothing yet the fault is given.
         ensures ungiven { self.old.given ≡ None → result ≡ Verdict.BadLog number fault }
         ensures given { Some (verdict_view result) ≡ is_given self.new.given }
     {
@@ -165,8 +165,8 @@ impl<S: TextStore> Judge<S> {
         self.finish_by(Completeness::Ignored)
     }
 
-    /// The verdict on the records taken, of a log without a fault whose session has to be complete:
-    /// that of [`Judge::finish`], but in the place of Yes No by 303 where a request of the editor's
+    /// The verdict on the records taken, of a log without a fault whose session must be complete:
+    /// that of [`Judge::finish`], but in place of Yes a No by 303 where a request of the editor's
     /// has no answer (JSON-RPC 2.0, section 4), else by 407 where the editor did not send `exit`
     /// (LSP 3.17, "Exit Notification").
     pub fn finish_complete(&mut self) -> Result<Verdict, Memory>
@@ -196,16 +196,15 @@ impl<S: TextStore> Judge<S> {
     }
 
     /// What is given where the session ends here.
-    fn end(&mut self, completeness: Completeness) -> Result<Summary, Ruling>
-        ensures same { self.new ≡ self.old }
-        ensures answer { (events : List Event) → Follows self.old.messages self.old.documents
-            self.old.counts events
-            → EndIs result (end_by completeness self.old.documents.terms events
-            (ends_inside self.old.streams.editor) (ends_inside self.old.streams.server)) }
+    fn end(&self, completeness: Completeness) -> Result<Summary, Ruling>
+        ensures { (events : List Event) → Follows self.now.messages self.now.documents
+            self.now.counts events
+            → EndIs result (end_by completeness self.now.documents.terms events
+            (ends_inside self.now.streams.editor) (ends_inside self.now.streams.server)) }
     {
         let editor = self.streams.ends_inside(Side::Editor);
         let server = self.streams.ends_inside(Side::Server);
-        end_of(self.alloc, &mut self.events, editor, server, completeness)
+        end_of(self.alloc, &self.events, editor, server, completeness)
     }
 
     /// Hears what a record brings, up to the first event that offends.

@@ -1,12 +1,12 @@
 //! The judge of a recorded session: its events, which of them offends, and the verdict.
 //!
 //! `run_check` reads a log and writes the report of the verdict on it, `run_check_complete` that
-//! where its session has to be complete, and `run_show` writes a line for each event before that.
+//! where its session must be complete, and `run_show` writes a line for each event before that.
 //! `run_upgrade` writes a log again in format 2, up to its verdict. `Judge` takes the records of a
 //! log one by one, `report_of` prints a verdict. `run_frames` reads one raw stream, one direction
-//! of a session, and says what its frames are. What a session is and means stands in `lsp_verdict`,
-//! how its events are heard in `lsp_events`, and the runs that judge nothing in `lsp_streams`; the
-//! public names of the first and the last are given on here.
+//! of a session, and says what its frames are. What a session is and means is defined in
+//! `lsp_verdict`, how its events are heard in `lsp_events`, and the runs that judge nothing in
+//! `lsp_streams`; the public names of the first and the last are exported again here.
 #![tactic(auto)]
 
 mod check;

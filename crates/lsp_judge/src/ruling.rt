@@ -1,4 +1,4 @@
-//! What a judge gives for good.
+//! The final answer of a judge.
 ghost use Rattle.std.specs.Prelude.{◌≡◌, List, IfOk, OnErr, Some};
 ghost use Rattle.lsp_verdict.specs.Counting.{AreCounts};
 ghost use Rattle.lsp_verdict.specs.Event.{Event};

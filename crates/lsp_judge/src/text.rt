@@ -30,7 +30,7 @@ pub fn text_after<R: Source>(
     uri: &str,
 ) -> Result<TextAnswer, RunFault>
     requires { 0 < number }
-    // The answer is that of the log read, however it goes on where its end was not met.
+    // The answer is that of the log read, however it continues where its end was not met.
     ensures answer { IfOk result (λ answer. OfRead limits (R.told reader.old) (R.told reader.new)
         (λ log. AnswersText limits log number uri.now (answer_view answer))) }
     ensures no_write_fault { result ≡ Err RunFault.Write → ⊥ }

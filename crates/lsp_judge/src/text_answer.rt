@@ -10,6 +10,7 @@ ghost use Rattle.lsp_judge.specs.TextAnswers.{answer_view};
 use lsp_docs::Docs;
 use lsp_rpc::Memory;
 use lsp_text::TextStore;
+use lsp_types::rules;
 use lsp_verdict::Verdict;
 use std::alloc::Global;
 
@@ -22,7 +23,7 @@ pub enum TextAnswer {
     /// No document of the URI is open there.
     NoDocument,
     /// The editor sent fewer messages, and the session keeps the rules, apart from bytes at its end
-    /// that are no whole frame.
+    /// that are not a whole frame.
     TooFew,
     /// An event offends, at that message or before it, or the log has a fault before it.
     Refused(Verdict),
@@ -50,7 +51,10 @@ impl TextAnswer {
     {
         match verdict {
             Verdict::Yes(_) => TextAnswer::TooFew,
-            Verdict::No { rule: 107, .. } => TextAnswer::TooFew,
+            Verdict::No {
+                rule: rules::STREAM_ENDS_INSIDE_FRAME,
+                ..
+            } => TextAnswer::TooFew,
             refusal => TextAnswer::Refused(refusal),
         }
     }

@@ -36,7 +36,7 @@ use Rattle.lsp_lined.proofs.Exchanges.{cut_out, replaced_len}
 
 pub record IsText (a : Inside) (bs : List ℕ) : Type 0 where
   pub utf8 : IsUtf8 bs
-  pub sums : a.sums ≡ sums_of bs
+  pub sums : a.text.value.sums ≡ sums_of bs
   pub short : length bs ≤ 4096
 
 pub block_text : (a : Inside) (bs : List ℕ) → IsBlock a → string_bytes a.text.value.text ≡ bs → IsText a bs
@@ -46,7 +46,7 @@ block_text a bs h is =
 pub record HasPlaces (a : Inside) (bs : List ℕ) (held : BlockText) (text : List ℕ) : Type 0 where
   pub text_is : text ≡ bs
   pub utf8 : IsUtf8 text
-  pub sums : a.sums ≡ sums_of text
+  pub sums : held.sums ≡ sums_of text
   pub places : held.places.items ≡ places_behind 0 text
 
 pub block_places : (a : Inside) (bs : List ℕ) (held : BlockText) (text : List ℕ) → IsBlock a → string_bytes a.text.value.text ≡ bs → held ≡ a.text.value → text ≡ string_bytes held.text → HasPlaces a bs held text
@@ -55,8 +55,24 @@ block_places a bs held text h is same t =
     record {
       text_is = own ∙ is;
       utf8 = subst IsUtf8 (sym own) h.utf8;
-      sums = h.sums ∙ ap sums_of (sym own);
+      sums = ap (λ (x : BlockText). x.sums) same ∙ h.sums ∙ ap sums_of (sym own);
       places = ap (λ (x : BlockText). x.places.items) same ∙ h.places ∙ ap (places_behind 0) (sym own);
+    }
+
+-- the same of what is held of the block
+pub record IsHeldText (held : BlockText) (bs : List ℕ) : Type 0 where
+  pub utf8 : IsUtf8 bs
+  pub sums : held.sums ≡ sums_of bs
+  pub short : length bs ≤ 4096
+
+pub held_text : (a : Inside) (bs : List ℕ) (held : BlockText) → IsBlock a
+    → string_bytes a.text.value.text ≡ bs → held ≡ a.text.value → IsHeldText held bs
+held_text a bs held h is same =
+    let own = block_text a bs h is in
+    record {
+      utf8 = own.utf8;
+      sums = ap (λ (x : BlockText). x.sums) same ∙ own.sums;
+      short = own.short;
     }
 
 -- ---- the line ends
@@ -185,16 +201,26 @@ keeps_ends bs text from to s u ut le first second no_return none none' room sums
     }
 
 -- the block that it makes
-pub block_kept : (a b : Inside) (bs : List ℕ) (from to : ℕ) (text : List ℕ) → IsBlock a → string_bytes a.text.value.text ≡ bs → IsUtf8 text → CanReplace bs from to → length bs + length text ≤ 4096 →
-    KeepsEnds bs from to text b.sums → string_bytes b.text.value.text ≡ replace_range (string_bytes a.text.value.text) from to text →
-    b.text.value.places.items ≡ map (moved_place from (to - from) (length text)) a.text.value.places.items → IsBlock b
-block_kept a b bs from to text h is ut can room keeps made moved =
+pub block_kept : (a b : Inside) (bs : List ℕ) (from to : ℕ) (text : List ℕ) (sums : Sums)
+    → IsBlock a → string_bytes a.text.value.text ≡ bs → IsUtf8 text → CanReplace bs from to
+    → length bs + length text ≤ 4096 → KeepsEnds bs from to text sums
+    → string_bytes b.text.value.text ≡ replace_range (string_bytes a.text.value.text) from to text
+    → b.text.value.places.items
+    ≡ map (moved_place from (to - from) (length text)) a.text.value.places.items
+    → b.text.value.sums ≡ sums → IsBlock b
+block_kept a b bs from to text sums h is ut can room keeps made moved counted =
     let k = block_text a bs h is in
-    let new : string_bytes b.text.value.text ≡ replace_range bs from to text = made ∙ ap (λ (x : List ℕ). replace_range x from to text) is in
-    let old : a.text.value.places.items ≡ places_behind 0 bs = h.places ∙ ap (places_behind 0) is in
+    let new : string_bytes b.text.value.text ≡ replace_range bs from to text =
+    made ∙ ap (λ (x : List ℕ). replace_range x from to text) is in
+    let old : a.text.value.places.items ≡ places_behind 0 bs =
+    h.places ∙ ap (places_behind 0) is in
     record {
-      sums = keeps.sums_are ∙ ap sums_of (sym new);
-      utf8 = subst IsUtf8 (sym new) (IsUtf8-replace_range bs text from to k.utf8 ut can.first can.second);
-      places = moved ∙ ap (map (moved_place from (to - from) (length text))) old ∙ sym keeps.places ∙ ap (places_behind 0) (sym new);
+      sums = counted ∙ keeps.sums_are ∙ ap sums_of (sym new);
+      utf8 =
+          subst IsUtf8 (sym new)
+          (IsUtf8-replace_range bs text from to k.utf8 ut can.first can.second);
+      places =
+          moved ∙ ap (map (moved_place from (to - from) (length text))) old ∙ sym keeps.places
+          ∙ ap (places_behind 0) (sym new);
       short = omega (arith, ap length new, replaced_len bs text from to can.order can.second.0);
     }

@@ -17,13 +17,16 @@ pub record HaveText (blocks : List (List ℕ)) (text : List ℕ) (sums : Sums) :
   pub utf8 : IsUtf8 text
 
 -- those that a chunk lends
-pub lent_blocks : (a : Inside) (blocks : List (List ℕ)) (text : List ℕ) → IsChunk a → joined a.blocks.value.items.items ≡ text → blocks ≡ a.blocks.value.items.items → HaveText blocks text a.sums
+pub lent_blocks : (a : Inside) (blocks : List (List ℕ)) (text : List ℕ) → IsChunk a
+    → joined a.blocks.value.items.items ≡ text → blocks ≡ a.blocks.value.items.items
+    → HaveText blocks text a.blocks.value.sums
 lent_blocks a blocks text h view is =
-    let same : map (λ (b : List ℕ). b) blocks ≡ a.blocks.value.items.items = map-id blocks ∙ is in
-    let kept : AreKept a.blocks.value.items.items = record { some = h.some; parts = h.parts; fits = h.fits } in
+    let held = a.blocks.value.items.items in
+    let same : map (λ (b : List ℕ). b) blocks ≡ held = map-id blocks ∙ is in
+    let kept : AreKept held = record { some = h.some; parts = h.parts; fits = h.fits } in
     record {
       kept = subst AreKept (sym same) kept;
       text_is = ap joined same ∙ view;
       sums_are = h.sums ∙ ap sums_of view;
-      utf8 = subst IsUtf8 view (IsUtf8-joined a.blocks.value.items.items h.parts);
+      utf8 = subst IsUtf8 view (IsUtf8-joined held h.parts);
     }

@@ -19,3 +19,4 @@ pub mod Recuts
 pub mod Spots
 pub mod StepCounts
 pub mod PartEdits
+pub mod PartLines

@@ -15,7 +15,7 @@ abbrev pub ends_in : List ℕ → ℕ
 ends_in [] = 0
 ends_in (b ∷ bs) = cond (is_end b bs) 1 0 + ends_in bs
 
--- the places after those, where so many bytes come before
+-- the places after those, where this many bytes come before
 abbrev pub places_behind : ℕ → List ℕ → List ℕ
 places_behind n [] = []
 places_behind n (b ∷ bs) = cond (is_end b bs) ((n + 1) ∷ places_behind (n + 1) bs) (places_behind (n + 1) bs)
@@ -61,7 +61,7 @@ pub record IsAfterEnd (bs : List ℕ) (n after : ℕ) : Type 0 where
   pub ended : is_end_at bs (after - 1) ≡ true
   pub number : ends_in (take after bs) ≡ n + 1
 
--- the first `len` bytes from a place on are a line end, of which no part stands before the place
+-- the first `len` bytes from a place on are a line end, of which no part comes before the place
 pub record IsEndAt (bs : List ℕ) (at len : ℕ) : Type 0 where
   pub boundary : IsCharBoundary bs at
   pub some : 0 < len

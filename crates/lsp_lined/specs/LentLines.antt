@@ -24,7 +24,7 @@ abbrev pub NoOffsetFrom : Encoding → List ℕ → ℕ → ℕ → ℕ → Type
 NoOffsetFrom enc bs start end column =
     place_in_line enc (chars (bytes_between bs start end)) column ≡ None
 
--- a line stands in the text of its chunks, whose sums are known, and some of it near by
+-- a line is in the text of its chunks, whose sums are known, and some of it is near by
 pub record IsHeldLine (l : LentLine) : Type 0 where
   pub parts : AreParts l.chunks.now
   pub some : 0 < length l.chunks.now

@@ -32,10 +32,6 @@ pub record AreKept (ps : List (List ℕ)) : Type 0 where
   pub parts : AreParts ps
   pub fits : length (joined ps) < 2 ^ 64
 
--- the bytes don't begin with these
-abbrev pub BeginsOtherwise : List ℕ → List ℕ → Type 0
-BeginsOtherwise front bytes = (rest : List ℕ) → bytes ≡ front ++ rest → ⊥
-
 abbrev pub part_at : List (List ℕ) → ℕ → List ℕ
 part_at ps i = slice_index_or ps i []
 
@@ -63,7 +59,7 @@ pub record IsSpot (ps : List (List ℕ)) (from to : ℕ) (s : Spot) : Type 0 whe
   pub front : (0 < s.from) ⊎ (joined (take s.index ps) ≡ [])
   pub back : (s.to < length (part_at ps s.index)) ⊎ (s.index + 1 ≡ length ps)
 
--- a text may take the place of these bytes
+-- a text may replace these bytes
 pub record CanReplace (bs : List ℕ) (from to : ℕ) : Type 0 where
   pub order : from ≤ to
   pub first : IsCharBoundary bs from
@@ -88,13 +84,13 @@ pub record IsCutPlace (bs : List ℕ) (at : ℕ) : Type 0 where
   pub boundary : IsCharBoundary bs at
   pub apart : joins (take at bs) (drop at bs) ≡ false
 
--- these are the sums where a text takes the place of some bytes, and the places after line ends only move
+-- these are the sums where a text replaces some bytes, and the places after line ends only move
 pub record KeepsEnds (bs : List ℕ) (from to : ℕ) (text : List ℕ) (sums : Sums) : Type 0 where
   pub sums_are : sums ≡ sums_of (replace_range bs from to text)
   pub places : places_behind 0 (replace_range bs from to text) ≡ map (moved_place from (to - from) (length text)) (places_behind 0 bs)
   pub moves : EachIndex (places_behind 0 bs) (λ k. CanMove from (to - from) (length text) (slice_index (places_behind 0 bs) k))
 
--- a text may take the place of some bytes of a text in parts, whose sums are known
+-- a text may replace some bytes of a text in parts, whose sums are known
 pub record CanReplaceIn (ps : List (List ℕ)) (sums : Sums) (from to : ℕ) (text : List ℕ) : Type 0 where
   pub some : 0 < length ps
   pub parts : AreParts ps

@@ -10,13 +10,14 @@ ghost use Rattle.lsp_text.specs.Places.{units, place_in_line};
 ghost use Rattle.lsp_text.specs.Offsets.{IsOffset};
 ghost use Rattle.lsp_lined.specs.Ends.{ends_in, ends_with_return, moved_place, CanMove, IsLineEnd};
 ghost use Rattle.lsp_lined.specs.Sums.{sums_of};
-ghost use Rattle.lsp_lined.specs.Parts.{BeginsOtherwise, CanReplace, IsReplacedOr, KeepsEnds};
+ghost use Rattle.lsp_text.specs.SameText.{BeginsOtherwise, due, with_feeds};
+ghost use Rattle.lsp_lined.specs.Parts.{CanReplace, IsReplacedOr, KeepsEnds};
 ghost use Rattle.lsp_lined.specs.Parts.{IsCutInto, IsCutPlace};
 
 use crate::ends::{end_len_before, is_whole, move_places, places_of};
 use crate::part::{LineEnd, Part};
 use crate::sums::{Measure, Sums};
-use lsp_text::{offset_in_line, width_of};
+use lsp_text::{LinesLeft, offset_in_line, take_lines, width_of};
 use lsp_types::Encoding;
 use std::alloc::{AllocError, Global};
 use std::marker::Model;
@@ -31,18 +32,19 @@ const MOST: usize = 4096;
 /// The bytes by which a copy that is edited may grow in place.
 const ROOM: usize = 64;
 
-/// A text and the places after its line ends, copied in order to be edited, so that the copy has
-/// room for more.
+/// A text, the places after its line ends, and its sums. It is copied in order to be edited, so
+/// that the copy has room for more.
 #[derive(Drop)]
 struct BlockText {
     text: String,
     places: Vec<u16>,
+    sums: Sums,
     alloc: Global,
 }
 
 impl Clone for BlockText {
     ghost is_clone = { λ old copy. (string_bytes copy.text ≡ string_bytes old.text)
-        × (copy.places.items ≡ old.places.items) };
+        × (copy.places.items ≡ old.places.items) × (copy.sums ≡ old.sums) };
 
     ghost use Rattle.std.specs.String.{string_bytes};
 
@@ -53,16 +55,16 @@ impl Clone for BlockText {
         Ok(BlockText {
             text,
             places: Vec::from_slice(self.alloc, &self.places)?,
+            sums: self.sums,
             alloc: self.alloc,
         })
     }
 }
 
-/// A piece of a text, and its sums.
+/// A piece of a text, which texts share. It is one pointer, so that tables of blocks are short.
 #[derive(Drop)]
 pub(crate) struct Block {
     text: Rc<BlockText>,
-    sums: Sums,
 }
 
 impl Model for Block {
@@ -82,13 +84,13 @@ impl Part for Block {
     ghost text = { λ bytes. bytes };
 
     fn sums(&self) -> Sums {
-        self.sums
+        let held: &BlockText = &self.text;
+        held.sums
     }
 
     fn share(&self) -> Result<Block, AllocError> {
         Ok(Block {
             text: self.text.clone()?,
-            sums: self.sums,
         })
     }
 
@@ -101,25 +103,27 @@ impl Part for Block {
             at: after - end_len_before(text, after),
             after,
             rest,
-            is_plain: self.sums.chars == self.sums.bytes,
+            is_plain: held.sums.chars == held.sums.bytes,
         }
     }
 
     fn offset_of(&self, encoding: Encoding, column: u64) -> Option<usize> {
-        if self.sums.by(Measure::Units(encoding)) <= column {
-            return Some(self.sums.bytes as usize);
+        let held: &BlockText = &self.text;
+        if held.sums.by(Measure::Units(encoding)) <= column {
+            return Some(held.sums.bytes as usize);
         }
-        if self.sums.chars == self.sums.bytes {
+        if held.sums.chars == held.sums.bytes {
             return Some(column as usize);
         }
         offset_in_line(self.as_str(), encoding, column as u32)
     }
 
     fn units_before(&self, encoding: Encoding, offset: usize) -> u64 {
-        if offset as u64 == self.sums.bytes {
-            return self.sums.by(Measure::Units(encoding));
+        let sums = self.sums();
+        if offset as u64 == sums.bytes {
+            return sums.by(Measure::Units(encoding));
         }
-        if self.sums.chars == self.sums.bytes {
+        if sums.chars == sums.bytes {
             return offset as u64;
         }
         let (front, _) = self.as_str().split_at(offset);
@@ -127,16 +131,14 @@ impl Part for Block {
     }
 
     fn replace(&mut self, from: usize, to: usize, inserted: &str) -> Result<bool, AllocError> {
-        if inserted.len() > MOST - self.sums.bytes as usize {
+        if inserted.len() > MOST - self.as_str().len() {
             return Ok(false);
         }
-        match kept_sums(self, from, to, inserted) {
-            Some(sums) => {
-                replace_shared(&mut self.text, from, to, inserted)?;
-                self.sums = sums;
-            }
-            None => *self = self.rebuilt(from, to, inserted)?,
-        }
+        let Some(sums) = kept_sums(self, from, to, inserted) else {
+            *self = self.rebuilt(from, to, inserted)?;
+            return Ok(true);
+        };
+        replace_shared(&mut self.text, from, to, inserted, sums)?;
         Ok(true)
     }
 
@@ -146,6 +148,10 @@ impl Part for Block {
 
     fn strip<'a>(&self, whole: &'a str) -> Option<&'a str> {
         whole.strip_prefix(self.as_str())
+    }
+
+    fn take_lines<'a>(&self, left: LinesLeft<'a>) -> Option<LinesLeft<'a>> {
+        take_lines(left, self.as_str())
     }
 }
 
@@ -160,11 +166,11 @@ impl Block {
         let held = BlockText {
             text: String::from_str(alloc, text)?,
             places,
+            sums,
             alloc,
         };
         Ok(Block {
             text: Rc::new(alloc, held)?,
-            sums,
         })
     }
 
@@ -176,7 +182,7 @@ impl Block {
         held.text.as_str()
     }
 
-    /// The same block with a text in the place of some bytes.
+    /// The same block with some bytes replaced by a text.
     fn rebuilt(&self, from: usize, to: usize, text: &str) -> Result<Block, AllocError>
         requires can { CanReplace self.now from to }
         requires room { length self.now + length text.now ≤ MOST }
@@ -190,7 +196,7 @@ impl Block {
     }
 }
 
-/// The sums of a block where a text takes the place of some bytes, if no line end comes, goes, or
+/// The sums of a block where a text replaces some bytes, if no line end comes, goes, or
 /// is joined.
 fn kept_sums(block: &Block, from: usize, to: usize, text: &str) -> Option<Sums>
     requires can { CanReplace block.now from to }
@@ -202,11 +208,8 @@ fn kept_sums(block: &Block, from: usize, to: usize, text: &str) -> Option<Sums>
     if is_return_last(front) || !is_whole(removed) || !is_whole(text) {
         return None;
     }
-    Some(
-        block
-            .sums
-            .exchanged(Sums::of(removed, 0), Sums::of(text, 0)),
-    )
+    let sums = block.sums();
+    Some(sums.exchanged(Sums::of(removed, 0), Sums::of(text, 0)))
 }
 
 /// Whether the last byte of a text is a CR.
@@ -217,12 +220,14 @@ fn is_return_last(text: &str) -> bool
     bytes.len() > 0 && bytes[bytes.len() - 1] == b'\r'
 }
 
-/// Puts a text in the place of some bytes of a text that others may hold too, in one of its own.
+/// Replaces some bytes of a text that others may hold too, in a text of its own,
+/// which has these sums then.
 fn replace_shared(
     shared: &mut Rc<BlockText>,
     from: usize,
     to: usize,
     text: &str,
+    sums: Sums,
 ) -> Result<(), AllocError>
     requires can { CanReplace (string_bytes shared.old.value.text) from to }
     requires room { length (string_bytes shared.old.value.text) + length text.now ≤ MOST }
@@ -233,10 +238,12 @@ fn replace_shared(
         ≡ replace_range (string_bytes shared.old.value.text) from to text.now) }
     ensures places { OnOk result (shared.new.value.places.items
         ≡ map (moved_place from (to - from) (length text.now)) shared.old.value.places.items) }
+    ensures sums { OnOk result (shared.new.value.sums ≡ sums) }
     ensures err_text { OnErr result (string_bytes shared.new.value.text
         ≡ string_bytes shared.old.value.text) }
     ensures err_places { OnErr result (shared.new.value.places.items
         ≡ shared.old.value.places.items) }
+    ensures err_sums { OnErr result (shared.new.value.sums ≡ shared.old.value.sums) }
 {
     let own = Rc::make_mut(shared)?;
     own.text.replace_range(from..to, text)?;
@@ -246,6 +253,7 @@ fn replace_shared(
         (to - from) as u16,
         text.len() as u16,
     );
+    own.sums = sums;
     Ok(())
 }
 

@@ -7,14 +7,15 @@ ghost use Rattle.std.specs.Str.{IsCharBoundary};
 ghost use Rattle.std.specs.String.{string_bytes};
 ghost use Rattle.lsp_lined.specs.Sums.{sums_of};
 ghost use Rattle.lsp_lined.specs.Parts.{joined, MakeUp, AreKept, CanReplaceIn, IsReplacedIn};
-ghost use Rattle.lsp_lined.specs.Parts.{IsReplacedInOr};
+ghost use Rattle.lsp_lined.specs.Chunks.{HoldReplacedOr, HoldTheSame};
 
 use crate::block::{Block, cut_into};
 use crate::part::{
     LineEnd, Part, find, find_before, line_end_in, offset_in, push_all, replace_in, share_into,
-    strip_all, sums_in, units_before_in,
+    strip_all, sums_in, take_all, units_before_in,
 };
 use crate::sums::{Measure, Sums};
+use lsp_text::LinesLeft;
 use lsp_types::Encoding;
 use std::alloc::{AllocError, Global};
 use std::marker::Model;
@@ -26,31 +27,33 @@ const FULL: usize = 16;
 /// The blocks of a chunk, at most.
 const MOST: usize = 32;
 
-/// Some blocks, one after another.
+/// Some blocks, one after another, and the sums of their text.
 #[derive(Drop)]
 struct Blocks {
     items: Vec<Block>,
+    sums: Sums,
     alloc: Global,
 }
 
 impl Clone for Blocks {
-    ghost is_clone = { λ old copy. copy.items.items ≡ old.items.items };
+    ghost is_clone = { λ old copy. (copy.items.items ≡ old.items.items)
+        × (copy.sums ≡ old.sums) };
 
     fn clone(&self) -> Result<Blocks, AllocError> {
         let mut items = Vec::new(self.alloc);
         share_into(&mut items, &self.items)?;
         Ok(Blocks {
             items,
+            sums: self.sums,
             alloc: self.alloc,
         })
     }
 }
 
-/// Some blocks of a text, and their sums.
+/// Some blocks of a text, which texts share. It is one pointer, as a block is.
 #[derive(Drop)]
 pub(crate) struct Chunk {
     blocks: Rc<Blocks>,
-    sums: Sums,
 }
 
 impl Model for Chunk {
@@ -70,13 +73,13 @@ impl Part for Chunk {
     ghost text = { λ bytes. bytes };
 
     fn sums(&self) -> Sums {
-        self.sums
+        let blocks: &Blocks = &self.blocks;
+        blocks.sums
     }
 
     fn share(&self) -> Result<Chunk, AllocError> {
         Ok(Chunk {
             blocks: self.blocks.clone()?,
-            sums: self.sums,
         })
     }
 
@@ -93,12 +96,7 @@ impl Part for Chunk {
     }
 
     fn replace(&mut self, from: usize, to: usize, inserted: &str) -> Result<bool, AllocError> {
-        let sums = replace_shared(&mut self.blocks, self.sums, from, to, inserted)?;
-        let Some(sums) = sums else {
-            return Ok(false);
-        };
-        self.sums = sums;
-        Ok(true)
+        replace_shared(&mut self.blocks, from, to, inserted)
     }
 
     fn push_to(&self, out: &mut String) -> Result<(), AllocError> {
@@ -107,6 +105,10 @@ impl Part for Chunk {
 
     fn strip<'a>(&self, whole: &'a str) -> Option<&'a str> {
         strip_all(held(&self.blocks), whole)
+    }
+
+    fn take_lines<'a>(&self, left: LinesLeft<'a>) -> Option<LinesLeft<'a>> {
+        take_all(held(&self.blocks), left)
     }
 }
 
@@ -117,13 +119,13 @@ impl Chunk {
         ensures { IfOk result (λ chunk. chunk ≡ joined blocks.items) }
     {
         let sums = sums_in(&blocks);
-        let items = Blocks {
+        let held = Blocks {
             items: blocks,
+            sums,
             alloc,
         };
         Ok(Chunk {
-            blocks: Rc::new(alloc, items)?,
-            sums,
+            blocks: Rc::new(alloc, held)?,
         })
     }
 }
@@ -136,22 +138,27 @@ fn held(shared: &Rc<Blocks>) -> &[Block]
     &blocks.items
 }
 
-/// Puts a text in the place of some bytes of one block, if that has room, in blocks of its own.
+/// Replaces some bytes of one block by a text, if that has room, in blocks of its own.
+/// Answers whether it did.
 fn replace_shared(
     shared: &mut Rc<Blocks>,
-    sums: Sums,
     from: usize,
     to: usize,
     inserted: &str,
-) -> Result<Option<Sums>, AllocError>
-    requires { CanReplaceIn shared.old.value.items.items sums from to inserted.now }
+) -> Result<bool, AllocError>
+    requires { CanReplaceIn shared.old.value.items.items shared.old.value.sums
+        from to inserted.now }
     ensures ok { IfOk result
-        (IsReplacedInOr shared.old.value.items.items from to inserted.now
-        shared.new.value.items.items) }
-    ensures err { OnErr result (shared.new.value.items.items ≡ shared.old.value.items.items) }
+        (HoldReplacedOr shared.old.value from to inserted.now shared.new.value) }
+    ensures err { OnErr result (HoldTheSame shared.old.value shared.new.value) }
 {
     let own = Rc::make_mut(shared)?;
-    replace_in(&mut own.items, sums, from, to, inserted)
+    let sums = replace_in(&mut own.items, own.sums, from, to, inserted)?;
+    let Some(sums) = sums else {
+        return Ok(false);
+    };
+    own.sums = sums;
+    Ok(true)
 }
 
 /// Puts blocks in chunks.
@@ -205,7 +212,7 @@ pub(crate) fn between(
     chunks_of(alloc, blocks)
 }
 
-/// The same of blocks. The block before the first cut and the one after the second are cut anew
+/// The same of blocks. The block before the first cut and the one after the second are cut again
 /// with the text, so that no CR and LF are kept apart.
 fn recut(
     alloc: Global,
@@ -246,7 +253,7 @@ fn in_one(alloc: Global, front: &str, text: &str, back: &str) -> Result<String, 
     Ok(whole)
 }
 
-/// Puts a text in the place of some bytes of chunks, in one block where it can. Answers the sums of
+/// Replaces some bytes of chunks by a text, in one block where it can. Answers the sums of
 /// all.
 pub(crate) fn replace_in_chunks(
     alloc: Global,
@@ -266,7 +273,7 @@ pub(crate) fn replace_in_chunks(
     }
 }
 
-/// The same with blocks that are cut anew.
+/// The same with blocks that are cut again.
 fn rebuild(
     alloc: Global,
     chunks: &mut Vec<Chunk>,
@@ -292,7 +299,7 @@ fn rebuild(
     Ok(sums_in(chunks))
 }
 
-/// Puts chunks in the place of those from `first` up to `end`.
+/// Replaces by chunks those from `first` up to `end`.
 fn put(
     chunks: &mut Vec<Chunk>,
     first: usize,

@@ -9,8 +9,8 @@ ghost use Rattle.lsp_text.specs.Edits.{replaced, IsFaultOf};
 ghost use Rattle.lsp_lined.specs.Steps.{raised, RisesWithin, line_bytes, line_number, touched};
 
 use crate::lined::lines::{Lines, Steps};
-use lsp_text::{INSIDE_CHARACTER, OVER_LIMIT, REVERSED, TextFault};
-use lsp_types::{Encoding, Position, Span};
+use lsp_text::TextFault;
+use lsp_types::{Encoding, Position, Span, rules};
 
 /// Replaces what the span holds: 605, then 606, then 607 where the result is over the limit.
 pub(crate) fn edit(
@@ -36,17 +36,17 @@ pub(crate) fn edit(
         (4 * touched (chars lines.old) span (chars text.now))) }
 {
     let Some(first) = find(lines, encoding, span.first, steps) else {
-        return Err(TextFault::Rule(INSIDE_CHARACTER));
+        return Err(TextFault::Rule(rules::POSITION_INSIDE_CHARACTER));
     };
     let Some(second) = find_second(lines, encoding, span, first, steps) else {
-        return Err(TextFault::Rule(INSIDE_CHARACTER));
+        return Err(TextFault::Rule(rules::POSITION_INSIDE_CHARACTER));
     };
     let bytes = lines.byte_len();
     if second < first {
-        return Err(TextFault::Rule(REVERSED));
+        return Err(TextFault::Rule(rules::RANGE_REVERSED));
     }
     if is_over(bytes - (second - first) as u64, text.len(), limit) {
-        return Err(TextFault::Rule(OVER_LIMIT));
+        return Err(TextFault::Rule(rules::DOCUMENT_OVER_LIMIT));
     }
     lines.replace(first, second, text)?;
     steps.add(text.len());

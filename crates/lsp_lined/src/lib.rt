@@ -2,12 +2,12 @@
 //! rest.
 //!
 //! A text is cut into *blocks* of at most 4 KB, anywhere but inside a character or between CR and
-//! LF, and blocks stand in *chunks*. Each block and each chunk knows its *sums*: its line ends,
+//! LF, and blocks are in *chunks*. Each block and each chunk knows its *sums*: its line ends,
 //! bytes, characters and units of UTF-16. A place is found by any of these: chunk by chunk, block
 //! by block, and then in one block, which also keeps the places after its line ends. Line `i`
 //! begins after line end `i - 1`; a long line is one that goes over several blocks, and nothing is
-//! kept of it. An edit puts bytes in the place of others: in one block where it can, else in blocks
-//! cut anew from the one before the edit to the one after it, so that a CR and a LF that it joins
+//! kept of it. An edit replaces bytes by others: in one block where it can, else in blocks
+//! cut again from the one before the edit to the one after it, so that a CR and a LF that it joins
 //! are in one block.
 //!
 //! The text `a`, 4,990 times `x`, LF, `b`, once a LF was put after the CR that followed the `a`:

@@ -13,8 +13,8 @@ ghost use Rattle.lsp_text.specs.Offsets.{IsTextOffset};
 
 use crate::edit::edit;
 use lines::{Lines, Steps};
-use lsp_text::{INSIDE_CHARACTER, OVER_LIMIT, Place, TextFault, TextStore};
-use lsp_types::{Encoding, Memory, Position, Span};
+use lsp_text::{Place, TextFault, TextStore};
+use lsp_types::{Encoding, Memory, Position, Span, rules};
 use std::alloc::Global;
 use std::marker::Model;
 
@@ -60,7 +60,7 @@ impl TextStore for Lined {
 
     fn resolve(&self, encoding: Encoding, position: Position) -> Result<Place, TextFault> {
         match offset_of(&self.lines, encoding, position) {
-            None => Err(TextFault::Rule(INSIDE_CHARACTER)),
+            None => Err(TextFault::Rule(rules::POSITION_INSIDE_CHARACTER)),
             Some(offset) => Ok(Place {
                 chars: self.lines.chars_before(offset),
             }),
@@ -105,7 +105,7 @@ impl TextStore for Lined {
         ensures steps { self.new.steps ≡ self.old.steps }
     {
         if limit < text.len() as u64 {
-            return Err(TextFault::Rule(OVER_LIMIT));
+            return Err(TextFault::Rule(rules::DOCUMENT_OVER_LIMIT));
         }
         self.lines.renew(text)?;
         Ok(())
@@ -113,6 +113,10 @@ impl TextStore for Lined {
 
     fn equals(&self, text: &str) -> bool {
         self.lines.spell(text)
+    }
+
+    fn same_lines(&self, text: &str) -> bool {
+        self.lines.have(text)
     }
 
     fn to_text(&self, alloc: Global) -> Result<String, Memory> {

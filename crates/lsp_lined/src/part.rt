@@ -9,11 +9,13 @@ ghost use Rattle.lsp_text.specs.Places.{units, place_in_line};
 ghost use Rattle.lsp_text.specs.Offsets.{IsOffset};
 ghost use Rattle.lsp_lined.specs.Ends.{ends_in, IsLineEnd};
 ghost use Rattle.lsp_lined.specs.Sums.{sums_of};
-ghost use Rattle.lsp_lined.specs.Parts.{joined, AreParts, BeginsOtherwise, CanReplace};
+ghost use Rattle.lsp_text.specs.SameText.{BeginsOtherwise, due, with_feeds};
+ghost use Rattle.lsp_lined.specs.Parts.{joined, AreParts, CanReplace};
 ghost use Rattle.lsp_lined.specs.Parts.{IsReplacedOr, CanReplaceIn, IsReplacedInOr, IsFound};
 ghost use Rattle.lsp_lined.specs.Parts.{IsFoundBefore, IsSpot};
 
 use crate::sums::{Measure, Sums};
+use lsp_text::LinesLeft;
 use lsp_types::Encoding;
 use std::alloc::AllocError;
 
@@ -57,7 +59,7 @@ pub(crate) trait Part: Drop {
         requires { IsCharBoundary (text self.now) offset }
         ensures { result ≡ units encoding (chars (take offset (text self.now))) };
 
-    /// Puts a text in the place of some bytes, in a part of its own, if it has room. Answers
+    /// Replaces some bytes by a text, in a part of its own, if it has room. Answers
     /// whether it did.
     fn replace(&mut self, from: usize, to: usize, inserted: &str) -> Result<bool, AllocError>
         requires can { CanReplace (text self.old) from to }
@@ -74,6 +76,12 @@ pub(crate) trait Part: Drop {
     fn strip<'a>(&self, whole: &'a str) -> Option<&'a str>
         ensures { MatchOption result (BeginsOtherwise (text self.now) whole.now)
             (λ rest. whole.now ≡ text self.now ++ rest.now) };
+
+    /// What is left of a text after the lines of this one, if it begins with them.
+    fn take_lines<'a>(&self, left: LinesLeft<'a>) -> Option<LinesLeft<'a>>
+        ensures { MatchOption result
+            (BeginsOtherwise (with_feeds (text self.now)) (due left.entry))
+            (λ next. due left.entry ≡ with_feeds (text self.now) ++ due next) };
 }
 
 /// A part in which a number of some measure falls: its index, the bytes before it, and what is left
@@ -153,7 +161,7 @@ pub(crate) fn spot_in<T: Part>(parts: &[T], from: usize, to: usize) -> Option<Sp
     })
 }
 
-/// Puts a text in the place of some bytes of one part, if the edit stays in one that has room.
+/// Replaces some bytes of one part by a text, if the edit stays in one that has room.
 /// Answers the new sums if it did.
 pub(crate) fn replace_in<T: Part>(
     parts: &mut Vec<T>,
@@ -264,6 +272,20 @@ pub(crate) fn strip_all<'a, T: Part>(parts: &[T], whole: &'a str) -> Option<&'a 
         rest = part.strip(rest)?;
     }
     Some(rest)
+}
+
+/// What is left of a text after the lines of parts, if it begins with them.
+pub(crate) fn take_all<'a, T: Part>(parts: &[T], left: LinesLeft<'a>) -> Option<LinesLeft<'a>>
+    requires { AreParts (map T.text parts.now) }
+    ensures { MatchOption result
+        (BeginsOtherwise (with_feeds (joined (map T.text parts.now))) (due left.entry))
+        (λ next. due left.entry ≡ with_feeds (joined (map T.text parts.now)) ++ due next) }
+{
+    let mut ahead = left;
+    for part in parts {
+        ahead = part.take_lines(ahead)?;
+    }
+    Some(ahead)
 }
 
 /// Puts the same parts after others, each held by one more.

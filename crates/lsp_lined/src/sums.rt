@@ -24,7 +24,7 @@ pub(crate) enum Measure {
 }
 
 impl Sums {
-    /// The sums of a text, which has so many line ends.
+    /// The sums of a text, which has this many line ends.
     pub(crate) fn of(text: &str, ends: usize) -> Sums
         requires { ends ≡ ends_in text.now }
         ensures { result ≡ sums_of text.now }

@@ -15,7 +15,7 @@ use Rattle.lsp_log.specs.declared.stop.Stop.{Stop}
 use Rattle.lsp_log.specs.declared.stop.Stop.TheVariants.{FirstLine, Nothing, Form, Number, Short, End, Text, Read, Memory}
 use Rattle.lsp_log.specs.declared.reader.Progress.TheVariants as progress
 
--- the reader is behind its first line: it was, or it reads the line now
+-- the reader is after its first line: it was, or it reads the line now
 pub data Starts (old mid : State) (before now : Told) : Type 0 where
   started : mid ≡ old → now ≡ before → Starts old mid before now
   starts : (format : Format) → old.progress ≡ progress.FirstLine → mid ≡ record old { tape = mid.tape; progress = progress.Records; format = Some format; place = mid.place } → mid.place ≡ passed mid → Taken old.tape mid.tape before now (first_line format) → Starts old mid before now
@@ -43,7 +43,7 @@ abbrev pub StartAnswer : {X : Type 0} → State → State → Told → Told → 
 StartAnswer old new before after (Ok x) = Starts old new before after × (new.progress ≡ progress.Records) × IsSome new.format
 StartAnswer old new before after (Err stop) = FindAnswer old new before after (Err stop)
 
--- the number of the record behind so many
+-- the number of the record after this many
 abbrev pub next_number : ℕ → ℕ
 next_number given = min (given + 1) (2 ^ 64 - 1)
 
@@ -51,7 +51,7 @@ abbrev pub end_of : ℕ → Option LogCode → Result (Unit {0}) LogFault
 end_of given None = Ok tt
 end_of given (Some code) = Err (log_fault.Bad (next_number given) code)
 
--- what is answered for good
+-- the final answer
 abbrev pub fault_of : ℕ → Bool → Stop → Result (Unit {0}) LogFault
 fault_of given cut FirstLine = Err (log_fault.Bad 0 L1)
 fault_of given cut Nothing = end_of given (code_of None cut)
@@ -63,12 +63,12 @@ fault_of given cut Text = end_of given (code_of (Some not_utf8) cut)
 fault_of given cut Read = Err log_fault.Read
 fault_of given cut Memory = Err log_fault.Memory
 
--- one byte more is asked for, to see whether the log goes on past its limit
+-- one byte more is asked for, to see whether the log continues past its limit
 abbrev pub CutEnd : State → Told → Told → Stop → Result (Unit {0}) LogFault → Type 0
 CutEnd s before after stop (Err log_fault.Read) = (s.tape.left ≡ 0) × ReadFailed 0 before after
 CutEnd s before after stop result = (cut : Bool) × IsCutAt s.tape.left before after cut × (result ≡ fault_of s.given cut stop)
 
--- what is answered for good; a byte more is asked for only where bytes are wanted
+-- the final answer; a byte more is asked for only where bytes are wanted
 abbrev pub EndAnswer : State → Told → Told → Stop → Result (Unit {0}) LogFault → Type 0
 EndAnswer s before after Nothing result = CutEnd s before after Nothing result
 EndAnswer s before after Short result = CutEnd s before after Short result

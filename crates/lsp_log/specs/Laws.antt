@@ -21,7 +21,8 @@ RecordsComeFirst =
     (limits : Bounds) → IsInRange limits → (bytes rest : List ℕ) (format : Format) (whole : Option Format) (rs us : List Record) (f : Option (ℕ × LogCode)) → BeginsLog limits format bytes rs rest → IsLog limits bytes whole us f
     → (whole ≡ Some format) × (others : List Record) × (us ≡ rs ++ others)
 
--- **What is written of records within the limits, behind the first line of a format, is the log of this format and these records.**
+-- **What is written of records within the limits, after the first line of a format, is the log of
+-- this format and these records.**
 abbrev pub WrittenIsRead : Type 0
 WrittenIsRead = (limits : Bounds) (format : Format) (rs : List Record) → AllByRecursion (Fits limits) rs → length (first_line format ++ flat_map spelling rs) ≤ limits.log → IsLog limits (first_line format ++ flat_map spelling rs) (Some format) rs None
 

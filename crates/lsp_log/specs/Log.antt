@@ -15,7 +15,7 @@ pub data Record : Type 0 where
   chunk : Side → List ℕ → Record
   shown : ℤ → List ℕ → List ℕ → Record
 
--- what stands in a record's first line
+-- the parts of a record's first line
 pub data Head : Type 0 where
   chunk_head : Side → ℕ → Head
   shown_head : ℤ → ℕ → ℕ → Head
@@ -45,7 +45,7 @@ abbrev pub head_of : Record → Head
 head_of (chunk side b) = chunk_head side (length b)
 head_of (shown v uri text) = shown_head v (length uri) (length text)
 
--- the parts behind the first line
+-- the parts after the first line
 abbrev pub parts_of : Record → List (List ℕ)
 parts_of (chunk side b) = b ∷ []
 parts_of (shown v uri text) = uri ∷ text ∷ []
@@ -78,7 +78,8 @@ pub record Fits (limits : Bounds) (r : Record) : Type 0 where
   pub range : IsTrue (in_range limits (head_of r))
   pub text : IsText r
 
--- why no record stands at some place: its first line has none of the forms, a number is out of range, bytes are missing, another byte stands in a LF's place, a text is not UTF-8
+-- why there is no record at some place: its first line has none of the forms, a number is out of
+-- range, bytes are missing, another byte is where a LF belongs, a text is not UTF-8
 pub data Flaw : Type 0 where
   bad_line : Flaw
   bad_number : Flaw
@@ -89,7 +90,7 @@ pub data Flaw : Type 0 where
 abbrev pub holds_feed : List ℕ → Bool
 holds_feed line = list_any (λ b. b == 10) line
 
--- the lengths of the parts behind the first line
+-- the lengths of the parts after the first line
 abbrev pub lengths_of : Head → List ℕ
 lengths_of (chunk_head side n) = n ∷ []
 lengths_of (shown_head v a b) = a ∷ b ∷ []
@@ -112,7 +113,7 @@ pub record HasHead (limits : Bounds) (bytes : List ℕ) (head : Head) (after : L
   pub line : HasLine bytes (head_line head) after
   pub range : in_range limits head ≡ true
 
--- no record stands at the front of the bytes, for this reason
+-- the bytes begin with no record, for this reason
 abbrev pub Breaks : Bounds → List ℕ → Flaw → Type 0
 Breaks limits bytes bad_line =
     ((64 ≤ length bytes) × (holds_feed (take 64 bytes) ≡ false))
@@ -130,7 +131,7 @@ abbrev pub EndsWith : Bounds → List ℕ → Option Flaw → Type 0
 EndsWith limits rest None = rest ≡ []
 EndsWith limits rest (Some flaw) = Breaks limits rest flaw
 
--- the records end for want of bytes
+-- the records end since bytes are missing
 abbrev pub wants_bytes : Option Flaw → Bool
 wants_bytes None = true
 wants_bytes (Some cut_short) = true
@@ -156,7 +157,7 @@ first_line Two = codes "lsp-session 2" ++ 10 ∷ []
 abbrev pub NoFirstLine : List ℕ → Type 0
 NoFirstLine bytes = (format : Format) (rest : List ℕ) → bytes ≡ first_line format ++ rest → ⊥
 
--- these records stand at the front of a log of this format, and then the rest
+-- a log of this format has these records, and then the rest
 pub record BeginsLog (limits : Bounds) (format : Format) (log : List ℕ) (rs : List Record) (rest : List ℕ) : Type 0 where
   pub whole : take limits.log log ≡ first_line format ++ flat_map spelling rs ++ rest
   pub fits : AllByRecursion (Fits limits) rs

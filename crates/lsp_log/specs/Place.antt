@@ -25,11 +25,11 @@ shown_bytes (Some format) = 64
 abbrev pub shown_line : Option Format → List ℕ → List ℕ
 shown_line format bytes = line_of (take (shown_bytes format) bytes)
 
--- what stands behind these records
+-- what follows these records
 abbrev pub found_behind : Bounds → Option Format → List Record → List ℕ → List ℕ
 found_behind limits format records log = shown_line format (drop (place_of format records) (take limits.log log))
 
--- the log has a fault, which lies behind so many bytes, and this line stands there
+-- the log has a fault, which lies after this many bytes, and this line is there
 pub record IsFaultAt (limits : Bounds) (log : List ℕ) (place : ℕ) (line : List ℕ) : Type 0 where
   pub format : Option Format
   pub records : List Record

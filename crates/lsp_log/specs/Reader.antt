@@ -1,4 +1,4 @@
--- What a reader of a log gives, and what it stands for.
+-- What a reader of a log gives, and the records that it stands for.
 use Rattle.std.specs.Prelude.{◌≡◌, ℕ, ◌+◌, ◌-◌, ◌<◌, ◌≤◌, false, List, [], ◌∷◌, ◌++◌, length, Option, Some, None, IsSome, Result, Ok, Err}
 use Rattle.std.specs.Io.KnownBytes.{IsAtEnd}
 use Rattle.std.specs.List.{flat_map, AllByRecursion}
@@ -18,7 +18,9 @@ use Rattle.lsp_log.specs.declared.fault.LogFault.TheVariants.{Bad, Read, Memory}
 use Rattle.lsp_log.specs.declared.reader.Progress.{Progress}
 use Rattle.lsp_log.specs.declared.reader.Progress.TheVariants.{FirstLine, Records, Over}
 
--- what a reader holds: its limits, the bytes that were read and not given, how far it is, the format once the first line was read, how many records it gave, and how many bytes stand before what it gives next
+-- what a reader holds: its limits, the bytes that were read and not given, how far it is, the
+-- format once the first line was read, how many records it gave, and how many bytes come before
+-- what it gives next
 pub record State : Type 0 where
   pub limits : Bounds
   pub tape : Held
@@ -73,7 +75,8 @@ RepeatsKept old new before after result = (answer : Result (Option Record) LogFa
 
 -- ---- the format
 
--- what an answer says of the format: L1 that there is none, a read fault nothing, and every other that there is one
+-- what an answer says about the format: L1 that there is none, a read fault nothing, and every
+-- other that there is one
 abbrev pub TellsFormat : Result (Option Record) LogFault → Option Format → Type 0
 TellsFormat (Err (Bad number L1)) format = format ≡ None
 TellsFormat (Err Read) format = Unit {0}
@@ -126,7 +129,7 @@ StandsAt (Over (Err (Bad number code))) s bytes records = IsLog s.limits bytes s
 StandsAt (Over (Err Read)) s bytes records = Begins s.limits bytes s.format records × LacksLine s.format bytes
 StandsAt (Over (Err Memory)) s bytes records = Begins s.limits bytes s.format records
 
--- behind a fault of the log the reader holds the line that stands there
+-- after a fault of the log the reader holds the line that is there
 abbrev pub ShowsAt : Progress → State → List ℕ → List log.Record → Type 0
 ShowsAt (Over (Err (Bad number code))) s bytes records = shown_by s ≡ found_behind s.limits s.format records bytes
 ShowsAt progress s bytes records = Unit {0}
@@ -146,7 +149,7 @@ records_with records answer = records
 abbrev pub MayFollow : Told → List ℕ → Type 0
 MayFollow after more = IsAtEnd after.bytes → more ≡ []
 
--- what an answer says of all the bytes that were read, of the records given, and of the reader
+-- what an answer says about all the bytes that were read, of the records given, and of the reader
 abbrev pub Tells : State → Told → Told → List ℕ → List log.Record → Result (Option Record) LogFault → Type 0
 Tells new before after bytes records (Ok (Some r)) = after.failures ≡ before.failures
 Tells new before after bytes records (Ok None) = IsAtEnd after.bytes × IsLog new.limits bytes new.format records None × (after.failures ≡ before.failures)
@@ -154,7 +157,7 @@ Tells new before after bytes records (Err (Bad number code)) = ((more : List ℕ
 Tells new before after bytes records (Err Read) = after.failures ≡ after_failure before.failures
 Tells new before after bytes records (Err Memory) = after.failures ≡ before.failures
 
--- where the log has a fault, the reader holds the line that stands there, whatever follows
+-- where the log has a fault, the reader holds the line that is there, whatever follows
 abbrev pub Shows : State → Told → List ℕ → List log.Record → Result (Option Record) LogFault → Type 0
 Shows new after bytes records (Err (Bad number code)) = (more : List ℕ) → MayFollow after more → shown_by new ≡ found_behind new.limits new.format records (bytes ++ more)
 Shows new after bytes records answer = Unit {0}
@@ -176,7 +179,8 @@ abbrev pub StopsNear : State → List ℕ → List log.Record → Result (Option
 StopsNear new bytes records (Err (Bad number code)) = ShowsNear new.limits new.format bytes records
 StopsNear new bytes records answer = Unit {0}
 
--- memory is refused only where a record's first line stands behind the records given, whose numbers are in their ranges, and for a part of it that isn't empty; at most 64 bytes of that part were read
+-- memory is refused only where a record's first line follows the records given, whose numbers are
+-- in their ranges, and for a part of it that isn't empty; at most 64 bytes of that part were read
 abbrev pub LacksRoom : State → List ℕ → List log.Record → Result (Option Record) LogFault → Type 0
 LacksRoom new bytes records (Err Memory) =
     (format : Format) × (front : List ℕ) × (new.format ≡ Some format) × AwaitsRecord new.limits front × (bytes ≡ (first_line format ++ flat_map spelling records) ++ (front ++ new.tape.rest)) × (length new.tape.rest ≤ 64)

@@ -1,4 +1,4 @@
--- Why no record stands at the front of a tape, as the code says it.
+-- Why a tape begins with no record, as the code says it.
 use Rattle.std.specs.Prelude.{◌≡◌, ℕ, ◌<◌, ◌≤◌, List, [], ◌∷◌, ◌++◌, length, take, Option, Some, None, Bool, true, false, Result, Ok, Err, IsUtf8, string_bytes, String, Vec}
 use Rattle.std.specs.List.{flat_map}
 use Rattle.std.specs.Global.{Global}
@@ -55,13 +55,13 @@ pub record Ends (P : List ℕ → Option Flaw → Type 0) (old new : Held) (befo
   pub holds : P (old.rest ++ piece) flaw
   pub over : wants_bytes flaw ≡ true → IsOver new.left after
 
--- memory was refused behind bytes of which this holds, and no others were given
+-- memory was refused after bytes of which this holds, and no others were given
 pub record Refused (M : List ℕ → Type 0) (old new : Held) (before after : Told) : Type 0 where
   pub front : List ℕ
   pub awaits : M front
   pub taken : Taken old new before after front
 
--- what the bytes read say of each stop: P where no record stands, M where memory was refused
+-- what the bytes read say about each stop: P where there is no record, M where memory was refused
 abbrev pub StopAnswer : (List ℕ → Option Flaw → Type 0) → (List ℕ → Type 0) → Held → Held → Told → Told → Stop → Type 0
 StopAnswer P M old new before after FirstLine = ⊥
 StopAnswer P M old new before after Nothing = Ends P old new before after None
@@ -91,7 +91,8 @@ put_back_at stop line tape = tape
 abbrev pub HoldsLine : List ℕ → List ℕ → Option Flaw → Type 0
 HoldsLine held bytes flaw = (more : List ℕ) → (wants_bytes flaw ≡ true → more ≡ []) → line_of (take 64 held) ≡ line_of (take 64 (bytes ++ more))
 
--- of these bytes at most 64 come after those that show a wrong line end behind a part of one of these lengths
+-- of these bytes at most 64 come after those that show a wrong line end after a part of one of
+-- these lengths
 abbrev pub LittlePast : List ℕ → List ℕ → Type 0
 LittlePast lengths bytes = (front after : List ℕ) → bytes ≡ front ++ after → parts_flaw lengths front ≡ Some bad_end → length after ≤ 64
 
@@ -122,7 +123,7 @@ TwoPartsAnswer old new before after first second (Err faults.End) = Ends (PartsL
 TwoPartsAnswer old new before after first second (Err faults.Read) = ReadFailed old.left before after
 TwoPartsAnswer old new before after first second (Err faults.Memory) = Refused (AwaitsPart (first ∷ second ∷ [])) old new before after
 
--- the parts behind a head are flawed
+-- the parts after a head are flawed
 abbrev pub PartsBreak : log.Head → List ℕ → Option Flaw → Type 0
 PartsBreak head bytes (Some not_utf8) = (r : log.Record) × (after : List ℕ) × (head_of r ≡ head) × (bytes ≡ flat_map with_feed (parts_of r) ++ after) × (IsText r → ⊥) × (length after ≤ 64)
 PartsBreak head bytes flaw = PartsLack (lengths_of head) bytes flaw

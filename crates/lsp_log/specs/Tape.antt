@@ -34,12 +34,12 @@ abbrev pub PullAnswer : {E : Type 0} → ℕ → ℕ → Told → Told → List 
 PullAnswer left_old left_new before after buffer (Ok n) = Pulled left_old left_new before after (take n buffer) × (n ≡ 0 → 0 < length buffer → IsOver left_new after)
 PullAnswer left_old left_new before after buffer (Err e) = KeepsBytes before after × (after.failures ≡ after_failure before.failures)
 
--- the reader failed, and with the bytes that it gave before there are fewer than so many
+-- the reader failed, and with the bytes that it gave before there are fewer than this many
 pub record FailsShort (old : Held) (before after : Told) (count : ℕ) : Type 0 where
   pub failed : ReadFailed old.left before after
   pub fewer : length (old.rest ++ failed.piece) < count
 
--- the tape reads some bytes behind those that it holds
+-- the tape reads some bytes after those that it holds
 pub record Filled (old new : Held) (before after : Told) (piece : List ℕ) : Type 0 where
   pub pulled : Pulled old.left new.left before after piece
   pub rest : new.rest ≡ old.rest ++ piece
@@ -74,14 +74,14 @@ pub record Taken (old new : Held) (before after : Told) (given : List ℕ) : Typ
   pub pulled : Pulled old.left new.left before after piece
   pub whole : old.rest ++ piece ≡ given ++ new.rest
 
--- so many bytes are wanted, and there are less
+-- this many bytes are wanted, and there are less
 pub record Wants (old new : Held) (before after : Told) (len : ℕ) : Type 0 where
   pub piece : List ℕ
   pub pulled : Pulled old.left new.left before after piece
   pub less : length (old.rest ++ piece) ≤ len
   pub over : IsOver new.left after
 
--- no LF stands at that place, and at most 64 bytes from there on were read
+-- there is no LF at that place, and at most 64 bytes from there on were read
 pub record Misses (old new : Held) (before after : Told) (len : ℕ) : Type 0 where
   pub piece : List ℕ
   pub pulled : Pulled old.left new.left before after piece

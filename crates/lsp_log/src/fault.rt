@@ -10,7 +10,7 @@ pub enum LogCode {
     L2,
     /// A number is outside its range.
     L3,
-    /// Bytes or a line end are missing, or another byte stands in a line end's place.
+    /// Bytes or a line end are missing, or another byte is where a line end belongs.
     L4,
     /// A URI or a text is not UTF-8.
     L5,

@@ -23,7 +23,7 @@ fn text_of(bytes: Vec<u8>) -> Result<String, Stop>
     Ok(unsafe { String::from_utf8_unchecked(bytes) })
 }
 
-/// Goes past the first line, and gives the format that it names.
+/// Skips the first line, and gives the format that it names.
 pub(crate) fn first_line<R: Source>(tape: &mut Tape, reader: &mut R) -> Result<Format, Stop>
     ensures short { length tape.new.rest ≤ 64 }
     ensures answer { FirstAnswer tape.old tape.new (R.told reader.old) (R.told reader.new) result }
@@ -72,7 +72,7 @@ fn snapshot<R: Source>(
     Ok(Record::Snapshot { version, uri, text })
 }
 
-/// The record behind its first line.
+/// The record after its first line.
 fn parts<R: Source>(
     alloc: Global,
     tape: &mut Tape,
@@ -105,7 +105,7 @@ fn put_back(tape: &mut Tape, stop: Stop, line: &[u8])
     }
 }
 
-/// The record behind its first line, which has so many bytes. Where the log has its fault in the
+/// The record after its first line, which has this many bytes. Where the log has its fault in the
 /// record's parts, the tape holds this line again.
 fn record_behind<R: Source>(
     alloc: Global,

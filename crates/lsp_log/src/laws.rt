@@ -12,7 +12,7 @@ pub fn one_log()
 {}
 
 /// Records that a log begins with are the first of its records, and their format is its format,
-/// whatever stands behind them.
+/// whatever follows them.
 pub fn records_come_first()
     ensures { RecordsComeFirst }
 {}
@@ -23,8 +23,8 @@ pub fn written_is_read()
     ensures { WrittenIsRead }
 {}
 
-/// The fault of a log lies at one place, behind its first line and its records, and one line stands
-/// there.
+/// The fault of a log lies at one place, after its first line and its records, and there is one
+/// line at that place.
 pub fn one_place()
     ensures { OnePlace }
 {}

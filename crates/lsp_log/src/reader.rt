@@ -39,7 +39,7 @@ pub struct LogReader {
     progress: Progress,
     format: Option<Format>,
     given: u64,
-    /// How many bytes of the log stand before what is given next.
+    /// How many bytes of the log come before what is given next.
     place: u64,
 }
 
@@ -86,8 +86,8 @@ impl LogReader {
         self.format
     }
 
-    /// How many bytes of the log stand before what is given next: its first line and the records
-    /// given. Behind a fault the bad record begins there; 0 where the first line is missing.
+    /// How many bytes of the log come before what is given next: its first line and the records
+    /// given. After a fault the bad record begins there; 0 where the first line is missing.
     pub fn place(&self) -> u64
         ensures value { result ≡ self.now.place }
         ensures stands { (bytes : List ℕ) (records : List log.Record) →
@@ -96,7 +96,7 @@ impl LogReader {
         self.place
     }
 
-    /// Behind a fault of the log, what was found at its place: the line that stands there, up to
+    /// After a fault of the log, what was found at its place: the line that is there, up to
     /// its LF, which is included, as far as the log's first 64 bytes from there on go, and 14 of a
     /// log whose first line is missing. Nothing is read for it.
     pub fn found(&self) -> &[u8]
@@ -123,9 +123,9 @@ impl LogReader {
     /// The next record, or None where the log ends without a fault.
     ///
     /// Of a log over its limit the bytes up to the limit are read, and one more that shows it.
-    /// Where these bytes end behind a record or inside one, the fault is L6.
+    /// Where these bytes end after a record or inside one, the fault is L6.
     ///
-    /// An answer that is no record is kept: it is given from then on, and nothing more is read.
+    /// An answer that is not a record is kept: it is given from then on, and nothing more is read.
     ///
     /// # Errors
     /// `Bad` names what is wrong with the log and at which record. `Read` is answered where the
@@ -136,7 +136,7 @@ impl LogReader {
         // A record leaves less to give, so that a caller's loop ends.
         ensures less { IfOk result (λ answer.
             IfSome answer (λ _. ahead self.new < ahead self.old)) }
-        // At most 64 bytes behind the record were read.
+        // At most 64 bytes after the record were read.
         ensures near { IfOk result (λ answer. IfSome answer (λ _. length self.new.tape.rest ≤ 64)) }
         // Every answer but a record is kept.
         ensures keeps { kept_by self.new ≡ keeps_of result }
@@ -182,7 +182,7 @@ impl LogReader {
         record(self.alloc, &self.limits, &mut self.tape, reader)
     }
 
-    /// Goes past the first line, where it was not yet read.
+    /// Skips the first line, where it was not yet read.
     fn start<R: Source>(&mut self, reader: &mut R) -> Result<(), Stop>
         requires { kept_by self.old ≡ None }
         ensures limits { self.new.limits ≡ self.old.limits }
@@ -211,7 +211,7 @@ impl LogReader {
             .saturating_sub(near)
     }
 
-    /// What is answered for good, where no record was found.
+    /// The final answer, where no record was found.
     fn end<R: Source>(&self, reader: &mut R, stop: Stop) -> Result<(), LogFault>
         ensures { EndAnswer self.now (R.told reader.old) (R.told reader.new) stop result }
     {
@@ -235,7 +235,7 @@ fn line_of(bytes: &[u8]) -> &[u8]
     }
 }
 
-/// The answer that ends a log behind so many records. Where the log goes on past its limit, that
+/// The answer that ends a log after this many records. Where the log continues past its limit, that
 /// stands for bytes that are missing.
 fn fault_of(given: u64, is_cut: bool, stop: Stop) -> Result<(), LogFault>
     ensures { result ≡ fault_of given is_cut stop }

@@ -16,7 +16,7 @@ pub(crate) enum Stop {
     Number,
     /// Bytes are missing.
     Short,
-    /// Another byte stands in a line end's place.
+    /// Another byte is where a line end belongs.
     End,
     /// A URI or a text is not UTF-8.
     Text,

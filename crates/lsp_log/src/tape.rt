@@ -160,7 +160,7 @@ impl Tape {
         self.left
     }
 
-    /// Puts these bytes in the place of those that were read and not given.
+    /// Replaces by these bytes those that were read and not given.
     pub(crate) fn put_back(&mut self, bytes: &[u8])
         requires { length bytes.now ≤ 64 }
         ensures { self.new ≡ record self.old { rest = bytes.now } }
@@ -241,7 +241,7 @@ impl Tape {
         Ok(bytes)
     }
 
-    /// Takes this many bytes and the line end behind them.
+    /// Takes this many bytes and the line end after them.
     pub(crate) fn part<R: Source>(
         &mut self,
         alloc: Global,
@@ -265,7 +265,7 @@ impl Tape {
         Ok(bytes)
     }
 
-    /// Whether a byte stands behind all that may be read. It reads that byte, where no other may be
+    /// Whether a byte follows all that may be read. It reads that byte, where no other may be
     /// read.
     pub(crate) fn is_cut<R: Source>(&self, reader: &mut R) -> Result<bool, Failed>
         ensures { CutAnswer self.now.left (R.told reader.old) (R.told reader.new) result }

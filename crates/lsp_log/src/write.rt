@@ -49,7 +49,7 @@ fn letter(side: Side) -> &'static [u8]
     }
 }
 
-/// Writes the record of bytes that stand in two parts, in the one spelling that a log has for it.
+/// Writes the record of bytes that are in two parts, in the one spelling that a log has for it.
 /// After a fault a prefix of that is written.
 pub fn write_chunk<W: Sink>(
     writer: &mut W,
@@ -65,7 +65,7 @@ pub fn write_chunk<W: Sink>(
     put_line(writer, back)
 }
 
-/// Writes the first line of a record of so many bytes.
+/// Writes the first line of a record of this many bytes.
 fn put_chunk_head<W: Sink>(writer: &mut W, side: Side, len: u64) -> Result<(), WriteFault>
     ensures { Writes (W.told writer.old) (W.told writer.new) result
         (with_feed (head_line (chunk_head side len))) }

@@ -12,7 +12,10 @@ use Rattle.lsp_order.specs.contracts.map.OrderedMap.{the_row}
 abbrev pub text_row : RattleType
 text_row = text.the_row global.the_row ghosts
 
-module _ (K V : RattleType) (key : HashMembers K.Denot) (m : MutBor (List (K.Denot × V.Denot))) where
-  -- the key that passes the test has the last value written through r, and at `None` the map stays as it is
-  abbrev pub lends_value : (K.Denot → Bool) → Option (MutBor V.Denot) → Fml
-  lends_value test r = LendsIf (the_row K V (record { eq = key.eq }) (record { hash_input = key.hash_input })) V m r (set_value test m.now) m.now
+module _ (K V : RattleType) (key : HashMembers K.Denot) (m : MutBor (List (K.Denot × V.Denot)))
+  where
+    -- the key that passes the test has the last value written through r, and at `None` the map
+    -- stays as it is
+    abbrev pub lends_value : (K.Denot → Bool) → Option (MutBor V.Denot) → Fml
+    lends_value test r = LendsIf (the_row K V (record { eq = key.eq })
+        (record { hash_input = key.hash_input })) V m r (set_value test m.now) m.now

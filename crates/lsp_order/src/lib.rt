@@ -4,5 +4,7 @@
 
 mod map;
 mod order;
+mod walk;
 
 pub use map::OrderedMap;
+pub use walk::Walk;

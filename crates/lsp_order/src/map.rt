@@ -12,6 +12,7 @@ ghost use Rattle.lsp_order.specs.Lends.{lends_value, text_row};
 ghost use Rattle.lsp_order.specs.Texts.{is_text};
 
 use crate::order::Order;
+use crate::walk::Walk;
 use indexmap::IndexMap;
 use std::alloc::{AllocError, Global};
 use std::hash::Hash;
@@ -22,9 +23,9 @@ use std::marker::Model;
 /// of the keys with their values.
 #[derive(Drop)]
 pub struct OrderedMap<K: Eq + Hash, V> {
-    /// The entries. Where one leaves, the last takes its place.
+    /// The entries. Where one leaves, the last moves to its place.
     entries: IndexMap<K, V>,
-    /// Their places in the order of entering.
+    /// Their places in the order in which they entered.
     order: Order,
 }
 
@@ -63,13 +64,20 @@ impl<K: Eq + Hash + Drop, V: Drop> OrderedMap<K, V> {
         self.entries.len()
     }
 
-    /// The key at this place in the order, from 0, and its value. Where keys have left since the
-    /// map was last packed, this goes past those before it, one by one.
+    /// The key at this place in the order, from 0, and its value. Where keys have left, this walks
+    /// past those before it, one by one.
     pub fn at(&self, index: usize) -> Option<(&K, &V)>
         ensures { option_map deref_pair result ≡ slice_get self.now index }
     {
         let place = self.order.at(index)?;
         self.entries.get_index(place)
+    }
+
+    /// A walk over all entries, in order.
+    pub fn walk(&self) -> Walk<'_, K, V>
+        ensures { result ≡ self.now }
+    {
+        Walk::new(&self.entries, self.order.slots())
     }
 
     /// Whether it has this key.
@@ -117,14 +125,6 @@ impl<K: Eq + Hash + Drop, V: Drop> OrderedMap<K, V> {
         let (place, _, value) = self.entries.swap_remove_full(key)?;
         self.order.remove(place);
         Some(value)
-    }
-
-    /// Makes ready for a walk over all keys: after it, until one leaves, [`OrderedMap::at`] finds
-    /// each at once.
-    pub fn pack(&mut self)
-        ensures { self.new ≡ self.old }
-    {
-        self.order.pack();
     }
 }
 

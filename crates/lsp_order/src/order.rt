@@ -41,8 +41,8 @@ impl Order {
         }
     }
 
-    /// The place that stands here in the order, from 0. Where keys have left since the slots were
-    /// last packed, this looks through the slots in front of it.
+    /// The place that stands here in the order, from 0. Where slots are empty, this looks through
+    /// those in front of it.
     pub(crate) fn at(&self, index: usize) -> Option<usize>
         ensures { result ≡ slice_get self.now index }
     {
@@ -51,6 +51,13 @@ impl Order {
         } else {
             nth_place(self.slots.as_slice(), index)
         }
+    }
+
+    /// The slots, each with its place or empty.
+    pub(crate) fn slots(&self) -> &[Option<usize>]
+        ensures { places_in result.now ≡ self.now }
+    {
+        self.slots.as_slice()
     }
 
     /// Lets the next place enter at the end.
@@ -67,7 +74,7 @@ impl Order {
         Ok(())
     }
 
-    /// Lets a place leave. The last place takes its number, and each keeps where it stands in the
+    /// Removes a place. The last place takes its number, and each keeps its place in the
     /// order. Takes no memory.
     pub(crate) fn remove(&mut self, place: usize)
         requires { place < length self.old }
@@ -78,13 +85,6 @@ impl Order {
         self.slots[slot] = None;
         refill(&mut self.slots, slot_at(&self.slot_of, place), place);
         pack_sparse(&mut self.slots, &mut self.slot_of);
-    }
-
-    /// Gives up the empty slots, so that [`Order::at`] finds each place at once.
-    pub(crate) fn pack(&mut self)
-        ensures { self.new ≡ self.old }
-    {
-        pack(&mut self.slots, &mut self.slot_of);
     }
 }
 

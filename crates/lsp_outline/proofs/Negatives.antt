@@ -1,5 +1,5 @@
 -- Integers below zero, and the range of integers of 32 bits.
-use Rattle.std.proofs.Common.{◌≡◌, ◌==◌, ◌-◌, ◌<◌, ◌≤◌, ◌^◌, ◌&&◌, ℕ, ℤ, zero, suc, pos, negsuc}
+use Rattle.std.proofs.Common.{◌≡◌, ◌==◌, ◌-◌, ◌<◌, ◌^◌, ℕ, ℤ, zero, suc, pos, negsuc}
 use Rattle.std.proofs.Common.{List, drop}
 use Rattle.std.proofs.Common.{get_or, length, Bool, true, false, nat_lt, if◌then◌else◌, Option}
 use Rattle.std.proofs.Common.{Some}

@@ -1,4 +1,4 @@
--- What the members of a message leave whose params and result are gone past.
+-- What the members of a message leave whose params and result are skipped.
 use Rattle.std.specs.Prelude.{◌≡◌, ℕ, ℤ, List, true, false, Bool, if◌then◌else◌, Option, Some}
 use Rattle.std.specs.Prelude.{None, is_some, option_map, string_bytes, codes}
 use Rattle.serde_json.specs.Data.{Data, Members, null, string}

@@ -10,6 +10,7 @@ use Rattle.lsp_rpc.specs.declared.fault.RpcFault.TheVariants.{Rule, Memory}
 use Rattle.lsp_outline.specs.declared.outline.Results.{Results}
 use Rattle.lsp_outline.specs.declared.outline.Results.TheVariants.{LeftOut}
 use Rattle.lsp_types.specs.declared.side.Side.{Side}
+use Rattle.lsp_types.specs.declared.rules.TheConstants as rules
 
 -- the content is a message that means this on its side, and this is left of it: the message without
 -- its params, and without the value of its result where that may be left out
@@ -28,5 +29,5 @@ HasBadParams side content =
 -- why the content says nothing on its side, unless memory ran out
 abbrev pub IsUnspoken : Side → List ℕ → RpcFault → Type 0
 IsUnspoken side content (Rule rule) =
-    BreaksRule content rule ⊎ ((rule ≡ 209) × HasBadParams side content)
+    BreaksRule content rule ⊎ ((rule ≡ rules.BAD_METHOD_PARAMS) × HasBadParams side content)
 IsUnspoken side content Memory = Unit {0}

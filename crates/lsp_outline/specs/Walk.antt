@@ -38,14 +38,14 @@ tokens_from p d at = punctuate p (lex between (drop at d))
 abbrev pub part : List ℕ → ℕ → ℕ → List ℕ
 part d from end = take (end - from) (drop from d)
 
--- inside a string, this text stands between the places
+-- inside a string, this text is between the places
 pub record IsRun (d : List ℕ) (from end : ℕ) (s : List ℕ) : Type 0 where
   pub text : content plain (drop from d) ≡ prepend s (content plain (drop end d))
   pub passed : lex in_string (drop from d) ≡ lex in_string (drop end d)
   pub forward : from ≤ end
   pub within : end ≤ length d
 
--- this is the text of a string, from behind its quote up to the place after its closing quote
+-- this is the text of a string, from after its quote up to the place after its closing quote
 pub record IsText (d : List ℕ) (from end : ℕ) (s : List ℕ) : Type 0 where
   pub text : content plain (drop from d) ≡ Some s
   pub passed : lex in_string (drop from d) ≡ lex between (drop end d)
@@ -138,7 +138,7 @@ pub record SomeMembers (depth : ℕ) (d : List ℕ) (from at : ℕ) (found : Mem
   pub forward : from ≤ at
   pub within : at ≤ length d
 
--- a key, its colon and the space behind it
+-- a key, its colon and the space after it
 pub record IsKey (d : List ℕ) (from end : ℕ) (k : List ℕ) : Type 0 where
   pub read : (p : Place) → may_begin p ≡ true
       → read_key (tokens_from p d from) ≡ Some (Some k, tokens_from fresh d end)

@@ -1,4 +1,4 @@
-//! The bytes of a JSON text, and what stands between its lexemes (RFC 8259, section 2).
+//! The bytes of a JSON text, and what comes between its lexemes (RFC 8259, section 2).
 ghost use Rattle.std.specs.Prelude.{◌≡◌, ◌+◌, ◌≤◌, ◌||◌, length, drop, get_or, false, true, IsTrue};
 ghost use Rattle.std.specs.List.{prefix_len};
 ghost use Rattle.json.specs.Word.{is_operator, is_space};

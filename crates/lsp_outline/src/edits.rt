@@ -189,7 +189,7 @@ fn change_at(alloc: Global, text: &str, from: usize, depth: usize) -> Option<(Ch
     Some((change, end))
 }
 
-/// The changes of the array whose bracket stands before there, and where it ends.
+/// The changes of the array whose bracket is just before that place, and where it ends.
 fn rest_of_changes(
     alloc: Global,
     text: &str,

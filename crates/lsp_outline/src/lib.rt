@@ -2,7 +2,7 @@
 //!
 //! An `OutlineReader` goes over the bytes of a content once: it reads a message without its params
 //! and the value that it answers, or a notification whose params are read with what it means. What
-//! it answers is what `lsp_rpc` says of the content, and `lsp_rpc` reads those that it declines.
+//! it answers is what `lsp_rpc` says about the content, and `lsp_rpc` reads those that it declines.
 #![tactic(auto)]
 
 mod bytes;

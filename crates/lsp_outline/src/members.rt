@@ -1,5 +1,5 @@
 //! Objects read without a tree of values: the members that are wanted are gathered as they come,
-//! and the others are gone past.
+//! and the others are skipped.
 ghost use Rattle.std.specs.Prelude.{◌≡◌, ◌^◌, ℕ, ◌<◌, ◌≤◌, length, pos, Some, IfSome, option_map};
 ghost use Rattle.std.specs.Prelude.{string_bytes};
 ghost use Rattle.serde_json.specs.Data.{Data, Members, object, string, no_members, put};
@@ -38,23 +38,24 @@ pub(crate) trait Gathered: Drop {
             × ((ms : Members) → gathers ms self.old → gathers (put name.now d ms) self.new)) };
 }
 
-/// The object whose brace stands before there, and where it ends.
+/// Gathers the members of the object whose brace is just before that place, and gives its end.
 #[inline(always)]
 fn rest_of_object<T: Gathered>(
     alloc: Global,
     text: &str,
     from: usize,
     depth: usize,
-) -> Option<(T, usize)>
-    requires { from ≤ length text.now }
-    ensures { IfSome result (λ r. (ms : Members) × AreMembers depth text.now from r.1 ms
-        × T.gathers ms r.0) }
+    gathered: &mut T,
+) -> Option<usize>
+    requires from { from ≤ length text.now }
+    requires none { T.gathers no_members gathered.old }
+    ensures { IfSome result (λ end. (ms : Members) × AreMembers depth text.now from end ms
+        × T.gathers ms gathered.new) }
 {
     let bytes = text.as_bytes();
-    let mut gathered = T::none();
     let mut at = spaces_end(bytes, from);
     if byte_at(bytes, at) == b'}' {
-        return Some((gathered, at + 1));
+        return Some(at + 1);
     }
     'members: loop {
         let (name, begin) = key(text, at)?;
@@ -62,7 +63,7 @@ fn rest_of_object<T: Gathered>(
         let next = spaces_end(bytes, end);
         let mark = byte_at(bytes, next);
         if mark == b'}' {
-            return Some((gathered, next + 1));
+            return Some(next + 1);
         }
         if mark != b',' {
             return None;
@@ -71,7 +72,28 @@ fn rest_of_object<T: Gathered>(
     }
 }
 
-/// The object that begins there, where its members are as wanted, and where it ends.
+/// Gathers the members of the object that begins there, and gives where it ends. `None` where a
+/// member is not as wanted.
+#[inline(always)]
+pub(crate) fn object_into<T: Gathered>(
+    alloc: Global,
+    text: &str,
+    from: usize,
+    depth: usize,
+    gathered: &mut T,
+) -> Option<usize>
+    requires from { from ≤ length text.now }
+    requires none { T.gathers no_members gathered.old }
+    ensures { IfSome result (λ end. (ms : Members) × IsValue depth text.now from end (object ms)
+        × T.gathers ms gathered.new) }
+{
+    if depth == 0 || byte_at(text.as_bytes(), from) != b'{' {
+        return None;
+    }
+    rest_of_object(alloc, text, from + 1, depth - 1, gathered)
+}
+
+/// What is gathered of the object that begins there, and where it ends.
 #[inline(always)]
 pub(crate) fn object_at<T: Gathered>(
     alloc: Global,
@@ -83,10 +105,9 @@ pub(crate) fn object_at<T: Gathered>(
     ensures { IfSome result (λ r. (ms : Members) × IsValue depth text.now from r.1 (object ms)
         × T.gathers ms r.0) }
 {
-    if depth == 0 || byte_at(text.as_bytes(), from) != b'{' {
-        return None;
-    }
-    rest_of_object(alloc, text, from + 1, depth - 1)
+    let mut gathered = T::none();
+    let end = object_into(alloc, text, from, depth, &mut gathered)?;
+    Some((gathered, end))
 }
 
 /// Where the value that begins there ends, of which nothing is wanted.

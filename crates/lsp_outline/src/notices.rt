@@ -19,7 +19,7 @@ ghost use Rattle.lsp_rpc.specs.View.{act_view, changes_view, message_view};
 use crate::bytes::spaces_end;
 use crate::edits::changes_at;
 use crate::members::{
-    Gathered, given_text, id_at, object_at, skipped, text_unless_null_at, uinteger_at,
+    Gathered, given_text, id_at, object_into, skipped, text_unless_null_at, uinteger_at,
 };
 use crate::walk::{MAX_DEPTH, plain_string, string_copy};
 use lsp_rpc::{Act, Id, Message, Spoken};
@@ -177,7 +177,8 @@ impl Gathered for ParamsParts {
     ) -> Option<usize> {
         match name {
             "textDocument" => {
-                let (document, end) = object_at(alloc, text, from, depth)?;
+                let mut document = DocumentParts::none();
+                let end = object_into(alloc, text, from, depth, &mut document)?;
                 self.document = Some(document);
                 Some(end)
             }
@@ -311,7 +312,8 @@ impl Gathered for MessageParts {
                 Some(end)
             }
             "params" => {
-                let (params, end) = object_at(alloc, text, from, depth)?;
+                let mut params = ParamsParts::none();
+                let end = object_into(alloc, text, from, depth, &mut params)?;
                 self.params = Some(params);
                 Some(end)
             }
@@ -350,7 +352,8 @@ fn spoken_in_text(alloc: Global, side: Side, text: &str) -> Option<Spoken>
 {
     let bytes = text.as_bytes();
     let from = spaces_end(bytes, 0);
-    let (parts, end): (MessageParts, usize) = object_at(alloc, text, from, MAX_DEPTH)?;
+    let mut parts = MessageParts::none();
+    let end = object_into(alloc, text, from, MAX_DEPTH, &mut parts)?;
     if spaces_end(bytes, end) < bytes.len() {
         return None;
     }

@@ -14,10 +14,10 @@ ghost use Rattle.lsp_outline.specs.Walk.{IsNumeral, IsNatural, IsInteger, AreFew
 use crate::bytes::{byte_at, is_delimiter};
 use fast_float::Numeral;
 
-/// Integers of so many digits fit 64 bits.
+/// Integers of this many digits fit 64 bits.
 const SHORT: usize = 18;
 
-/// Integers of so many digits fit 32 bits.
+/// Integers of this many digits fit 32 bits.
 const FEW: usize = 9;
 
 #[inline(always)]

@@ -20,6 +20,7 @@ ghost use Rattle.lsp_rpc.specs.Shape.{member};
 ghost use Rattle.lsp_rpc.specs.View.{act_view, message_view};
 ghost use Rattle.lsp_rpc.specs.Words.{words_of as spec_words_of};
 ghost use Rattle.lsp_rpc.specs.declared.fault.RpcFault.TheVariants.{Memory};
+ghost use Rattle.lsp_types.specs.declared.rules.TheConstants as rules;
 
 use crate::bytes::{byte_at, spaces_end};
 use crate::members::{Gathered, given_text, id_at, integer_at, object_at, skipped};
@@ -279,7 +280,7 @@ fn outline_of(alloc: Global, content: &[u8]) -> Option<Message>
     message_of(parts)
 }
 
-/// Whether nothing is wanted of the message that its outline lacks.
+/// Whether the outline of the message has all that is wanted.
 fn suffices(results: Results, message: &Message) -> bool
     ensures { IsTrue result
         → (results ≡ LeftOut) ⊎ (lacks_result (message_view message.now) ≡ false) }
@@ -331,7 +332,7 @@ fn meant(alloc: Global, side: Side, message: Message) -> Result<Spoken, RpcFault
         (params.act_at side (message_view message) ≡ Some (act_view spoken.act))
         × (message_view spoken.message ≡ without_params (message_view message))) }
     ensures rule { IfErr result (Names
-        (rule_unless_read 209 (params.act_at side (message_view message)))) }
+        (rule_unless_read rules.BAD_METHOD_PARAMS (params.act_at side (message_view message)))) }
 {
     let mut message = message;
     let act = take_act(alloc, &mut message, side)?;

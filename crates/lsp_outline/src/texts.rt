@@ -145,7 +145,7 @@ fn low_half(bytes: &[u8], at: usize, high: u32) -> Option<(char, usize)>
     Some((c, at + 6))
 }
 
-/// What follows `\u`: its character, and where the text goes on.
+/// What follows `\u`: its character, and where the text continues.
 fn unicode(bytes: &[u8], at: usize) -> Option<(char, usize)>
     requires { at ≤ length bytes.now }
     ensures value { Escape bytes.now after_u at result }
@@ -163,7 +163,7 @@ fn unicode(bytes: &[u8], at: usize) -> Option<(char, usize)>
     Some((c, at + 4))
 }
 
-/// What follows a backslash: its character, and where the text goes on.
+/// What follows a backslash: its character, and where the text continues.
 fn escape(bytes: &[u8], at: usize) -> Option<(char, usize)>
     requires { at ≤ length bytes.now }
     ensures value { Escape bytes.now after_backslash at result }

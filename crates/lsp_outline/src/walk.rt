@@ -94,7 +94,7 @@ fn end_before_no_colon(bytes: &[u8], from: usize) -> Option<usize>
     Some(end)
 }
 
-/// Where the string ends that begins there and is no key.
+/// Where the string ends that begins there and is not a key.
 #[inline(always)]
 pub(crate) fn string_end(bytes: &[u8], from: usize) -> Option<usize>
     requires { get_or bytes.now from 0 ≡ 34 }
@@ -106,7 +106,7 @@ pub(crate) fn string_end(bytes: &[u8], from: usize) -> Option<usize>
     Some(end)
 }
 
-/// The string that begins there and is no key, where it has no escape, and where it ends.
+/// The string that begins there and is not a key, where it has no escape, and where it ends.
 #[inline(always)]
 pub(crate) fn plain_string(text: &str, from: usize) -> Option<(&str, usize)>
     requires { from ≤ length text.now }
@@ -122,7 +122,7 @@ pub(crate) fn plain_string(text: &str, from: usize) -> Option<(&str, usize)>
     Some((string, end))
 }
 
-/// The string that begins there and is no key, copied, and where it ends.
+/// The string that begins there and is not a key, copied, and where it ends.
 #[inline(always)]
 pub(crate) fn string_copy(alloc: Global, text: &str, from: usize) -> Option<(String, usize)>
     requires { from ≤ length text.now }
@@ -213,7 +213,7 @@ fn tiny_items_end(bytes: &[u8], from: usize) -> usize
     at
 }
 
-/// Where the array ends whose bracket stands before there.
+/// Where the array ends whose bracket is just before that place.
 #[cycle(walk)]
 #[inline(never)]
 fn items_end(bytes: &[u8], from: usize, depth: usize) -> Option<usize>
@@ -239,7 +239,7 @@ fn items_end(bytes: &[u8], from: usize, depth: usize) -> Option<usize>
     }
 }
 
-/// Where the object ends whose brace stands before there.
+/// Where the object ends whose brace is just before that place.
 #[cycle(walk)]
 #[inline(never)]
 fn members_end(bytes: &[u8], from: usize, depth: usize) -> Option<usize>

@@ -13,7 +13,7 @@ use Rattle.lsp_types.specs.declared.position.Span.{Span}
 
 -- ---- words for shapes
 
--- the member has to be there
+-- the member must be there
 abbrev pub required : {X : Type 0} → List ℕ → (Data → Option X) → Data → Option X
 required name shape d = option_and_then shape (member name d)
 

@@ -8,6 +8,7 @@ use Rattle.lsp_rpc.specs.declared.fault.RpcFault.TheVariants.{Rule, Memory}
 use Rattle.lsp_rpc.specs.Ident.{Ident}
 use Rattle.lsp_rpc.specs.Message.{Message, request, notification, response, Reply, result, error}
 use Rattle.lsp_rpc.specs.Shape.{member, is_object, is_string, unless_null, is_structure_or_null, is_text, is_id, is_id_or_null, as_id, as_integer, holds_of, holds_unless_absent}
+use Rattle.lsp_types.specs.declared.rules.TheConstants as rules
 
 -- the members that a message is made of; `None` is a member that is missing
 pub record Parts : Type 0 where
@@ -62,12 +63,12 @@ error_is_good p = is_some p.method || holds_unless_absent is_error p.error
 -- the rules, each with whether it is broken
 abbrev pub rules_on : Parts → List (ℕ × Bool)
 rules_on p =
-    (203, not (version_is_2 p))
-    ∷ (204, not (method_is_string p))
-    ∷ (205, not (id_is_good p))
-    ∷ (206, not (params_are_good p))
-    ∷ (207, not (is_some p.method || is_response p))
-    ∷ (208, not (error_is_good p))
+    (rules.BAD_JSONRPC_VERSION, not (version_is_2 p))
+    ∷ (rules.METHOD_NOT_STRING, not (method_is_string p))
+    ∷ (rules.BAD_ID, not (id_is_good p))
+    ∷ (rules.BAD_PARAMS, not (params_are_good p))
+    ∷ (rules.NOT_A_MESSAGE, not (is_some p.method || is_response p))
+    ∷ (rules.BAD_ERROR_OBJECT, not (error_is_good p))
     ∷ []
 
 abbrev pub least_broken : List (ℕ × Bool) → Option ℕ
@@ -76,7 +77,7 @@ least_broken (rule ∷ rules) = if rule.1 then Some rule.0 else least_broken rul
 
 -- the least rule that the value breaks
 abbrev pub broken_rule : Data → Option ℕ
-broken_rule d = least_broken ((202, not (is_object d)) ∷ rules_on (parts_of d))
+broken_rule d = least_broken ((rules.MESSAGE_NOT_OBJECT, not (is_object d)) ∷ rules_on (parts_of d))
 
 -- ---- the message
 
@@ -114,7 +115,8 @@ Reads content message = (d : Data) × IsJson content d × IsMessage d message
 -- the least rule that the content breaks
 abbrev pub BreaksRule : List ℕ → ℕ → Type 0
 BreaksRule content rule =
-    ((d : Data) × IsJson content d × (broken_rule d ≡ Some rule)) ⊎ ((rule ≡ 201) × ((d : Data) → IsJson content d → ⊥))
+    ((d : Data) × IsJson content d × (broken_rule d ≡ Some rule))
+    ⊎ ((rule ≡ rules.CONTENT_NOT_JSON) × ((d : Data) → IsJson content d → ⊥))
 
 -- why there is no message, unless memory ran out
 abbrev pub IsRefusal : List ℕ → RpcFault → Type 0

@@ -5,9 +5,10 @@ ghost use Rattle.serde_json.specs.View.{view};
 ghost use Rattle.lsp_rpc.specs.Fault.{Gives};
 ghost use Rattle.lsp_rpc.specs.Params as spec;
 ghost use Rattle.lsp_rpc.specs.View.{change_view, changes_view};
+ghost use Rattle.lsp_types.specs.declared.rules.TheConstants as rules;
 
 use crate::fault::RpcFault;
-use crate::params::{BAD_PARAMS, into_text, items_of, uinteger_of};
+use crate::params::{PARAMS_FAULT, into_text, items_of, uinteger_of};
 use crate::shape::given;
 use lsp_types::{Change, Position, Span};
 use serde_json::Value;
@@ -48,12 +49,12 @@ fn change_of(value: Value) -> Option<Change>
 }
 
 pub(crate) fn changes_of(alloc: Global, value: Value) -> Result<Vec<Change>, RpcFault>
-    ensures { Gives (λ v. changes_view v.items) 209 result
+    ensures { Gives (λ v. changes_view v.items) rules.BAD_METHOD_PARAMS result
         (spec.array_of spec.change_at (view value)) }
 {
     let mut found = Vec::new(alloc);
-    for item in items_of(value).ok_or(BAD_PARAMS)? {
-        found.push(change_of(item).ok_or(BAD_PARAMS)?)?;
+    for item in items_of(value).ok_or(PARAMS_FAULT)? {
+        found.push(change_of(item).ok_or(PARAMS_FAULT)?)?;
     }
     Ok(found)
 }

@@ -13,32 +13,37 @@ ghost use Rattle.lsp_rpc.specs.Reading as reading;
 ghost use Rattle.lsp_rpc.specs.Reading.{least_broken};
 ghost use Rattle.lsp_rpc.specs.Fault.{IsLeast, rule_unless_read};
 ghost use Rattle.lsp_rpc.specs.declared.fault.RpcFault.TheVariants.{Rule, Memory};
+ghost use Rattle.lsp_types.specs.declared.rules.TheConstants as rules;
 
 use crate::fault::{BrokenRule, RpcFault};
 use crate::message::{Answer, Id, Message};
 use crate::parts::{Parts, parts_of};
 use crate::shape::{id_in, integer_of, is_structure, is_text};
+use lsp_types::rules;
 use serde_json::{Error, Value};
 use std::alloc::Global;
 
 /// Rule 205: the value is neither an integer nor a string.
 fn id_of(value: Value) -> Result<Id, BrokenRule>
     ensures ok { IfOk result (λ id. as_id (view value) ≡ Some (id_view id)) }
-    ensures rule { IsLeast (rule_unless_read 205 (as_id (view value))) result }
+    ensures rule { IsLeast (rule_unless_read rules.BAD_ID (as_id (view value))) result }
 {
-    id_in(value).ok_or(BrokenRule(205))
+    id_in(value).ok_or(BrokenRule(rules::BAD_ID))
 }
 
-/// The method, where there is one. Rule 204: it is no string.
+/// The method, where there is one. Rule 204: it is not a string.
 fn method_of(method: Option<Value>) -> Result<Option<String>, BrokenRule>
     ensures ok { IfOk result (λ name.
         option_map view method ≡ option_map (λ s. string (string_bytes s)) name) }
     ensures rule { IsLeast (least_broken
-        ((204, not (holds_unless_absent shape.is_string (option_map view method))) ∷ [])) result }
+        ((
+          rules.METHOD_NOT_STRING,
+          not (holds_unless_absent shape.is_string (option_map view method)),
+        ) ∷ [])) result }
 {
     match method {
         Some(Value::String(name)) => Ok(Some(name)),
-        Some(_) => Err(BrokenRule(204)),
+        Some(_) => Err(BrokenRule(rules::METHOD_NOT_STRING)),
         None => Ok(None),
     }
 }
@@ -48,7 +53,7 @@ fn call_id(id: Option<Value>) -> Result<Option<Id>, BrokenRule>
     ensures ok { IfOk result (λ own.
         option_map id_view own ≡ option_and_then as_id (option_map view id)) }
     ensures rule { IsLeast (least_broken
-        ((205, not (holds_unless_absent is_id (option_map view id))) ∷ [])) result }
+        ((rules.BAD_ID, not (holds_unless_absent is_id (option_map view id))) ∷ [])) result }
 {
     id.map(id_of).transpose()
 }
@@ -59,13 +64,13 @@ fn response_id(id: Option<Value>) -> Result<Option<Id>, BrokenRule>
     ensures ok { IfOk result (λ own.
         option_map id_view own ≡ option_and_then as_id (option_map view id)) }
     ensures rule { IsLeast (least_broken
-        ((205, not (holds_unless_absent shape.is_id_or_null (option_map view id)))
-        ∷ (207, not (is_some id)) ∷ [])) result }
+        ((rules.BAD_ID, not (holds_unless_absent shape.is_id_or_null (option_map view id)))
+        ∷ (rules.NOT_A_MESSAGE, not (is_some id)) ∷ [])) result }
 {
     match id {
         Some(Value::Null) => Ok(None),
         Some(id) => Ok(Some(id_of(id)?)),
-        None => Err(BrokenRule(207)),
+        None => Err(BrokenRule(rules::NOT_A_MESSAGE)),
     }
 }
 
@@ -75,13 +80,16 @@ fn params_of(params: Option<Value>) -> Result<Option<Value>, BrokenRule>
     ensures ok { IfOk result (λ own.
         option_map view own ≡ option_and_then unless_null (option_map view params)) }
     ensures rule { IsLeast (least_broken
-        ((206, not (holds_unless_absent shape.is_structure_or_null (option_map view params)))
+        ((
+          rules.BAD_PARAMS,
+          not (holds_unless_absent shape.is_structure_or_null (option_map view params)),
+        )
         ∷ [])) result }
 {
     match params {
         Some(Value::Null) | None => Ok(None),
         Some(params) if is_structure(&params) => Ok(Some(params)),
-        Some(_) => Err(BrokenRule(206)),
+        Some(_) => Err(BrokenRule(rules::BAD_PARAMS)),
     }
 }
 
@@ -96,22 +104,25 @@ fn code_of(error: &Value) -> Option<i32>
 }
 
 /// What a response answers. Rule 207: there is not exactly one of a result and an error. Rule 208:
-/// the error is no error object.
+/// the error is not an error object.
 fn answer_of(value: Option<Value>, error: Option<Value>) -> Result<Answer, BrokenRule>
     ensures ok { IfOk result (λ answer.
         reading.reply_in (option_map view value) (option_map view error)
         ≡ Some (answer_view answer)) }
     ensures rule { IsLeast (least_broken
-        ((207, not (reading.either (option_map view value) (option_map view error)))
-        ∷ (208, not (holds_unless_absent reading.is_error (option_map view error))) ∷ [])) result }
+        ((rules.NOT_A_MESSAGE, not (reading.either (option_map view value) (option_map view error)))
+        ∷ (
+          rules.BAD_ERROR_OBJECT,
+          not (holds_unless_absent reading.is_error (option_map view error)),
+        ) ∷ [])) result }
 {
     match (value, error) {
         (Some(value), None) => Ok(Answer::Result(value)),
         (None, Some(error)) => {
-            let code = code_of(&error).ok_or(BrokenRule(208))?;
+            let code = code_of(&error).ok_or(BrokenRule(rules::BAD_ERROR_OBJECT))?;
             Ok(Answer::Error { code })
         }
-        _ => Err(BrokenRule(207)),
+        _ => Err(BrokenRule(rules::NOT_A_MESSAGE)),
     }
 }
 
@@ -121,8 +132,11 @@ fn call_of(method: String, id: Option<Value>, params: Option<Value>) -> Result<M
         (option_and_then as_id (option_map view id))
         (option_and_then unless_null (option_map view params))) }
     ensures rule { IsLeast (least_broken
-        ((205, not (holds_unless_absent is_id (option_map view id)))
-        ∷ (206, not (holds_unless_absent shape.is_structure_or_null (option_map view params)))
+        ((rules.BAD_ID, not (holds_unless_absent is_id (option_map view id)))
+        ∷ (
+          rules.BAD_PARAMS,
+          not (holds_unless_absent shape.is_structure_or_null (option_map view params)),
+        )
         ∷ [])) result }
 {
     let id = call_id(id)?;
@@ -142,9 +156,15 @@ fn response_of(
         (response (option_and_then as_id (option_map view id)))
         (reading.reply_in (option_map view value) (option_map view error))) }
     ensures rule { IsLeast (least_broken
-        ((205, not (holds_unless_absent shape.is_id_or_null (option_map view id)))
-        ∷ (207, not (is_some id && reading.either (option_map view value) (option_map view error)))
-        ∷ (208, not (holds_unless_absent reading.is_error (option_map view error))) ∷ [])) result }
+        ((rules.BAD_ID, not (holds_unless_absent shape.is_id_or_null (option_map view id)))
+        ∷ (
+          rules.NOT_A_MESSAGE,
+          not (is_some id && reading.either (option_map view value) (option_map view error)),
+        )
+        ∷ (
+          rules.BAD_ERROR_OBJECT,
+          not (holds_unless_absent reading.is_error (option_map view error)),
+        ) ∷ [])) result }
 {
     let id = response_id(id)?;
     let answer = answer_of(value, error)?;
@@ -157,7 +177,7 @@ fn has_version(version: Option<Value>) -> bool
     version.is_some_and(|version| is_text(&version, "2.0"))
 }
 
-/// The method, where there is one. Rule 203: the version is not 2.0. Rule 204: the method is no
+/// The method, where there is one. Rule 203: the version is not 2.0. Rule 204: the method is not a
 /// string.
 fn versioned_method(
     version: Option<Value>,
@@ -166,13 +186,19 @@ fn versioned_method(
     ensures ok { IfOk result (λ name.
         option_map view method ≡ option_map (λ s. string (string_bytes s)) name) }
     ensures rule { IsLeast (least_broken
-        ((203, not (shape.holds_of (shape.is_text (codes "2.0")) (option_map view version)))
-        ∷ (204, not (holds_unless_absent shape.is_string (option_map view method))) ∷ [])) result }
+        ((
+          rules.BAD_JSONRPC_VERSION,
+          not (shape.holds_of (shape.is_text (codes "2.0")) (option_map view version)),
+        )
+        ∷ (
+          rules.METHOD_NOT_STRING,
+          not (holds_unless_absent shape.is_string (option_map view method)),
+        ) ∷ [])) result }
 {
     if has_version(version) {
         method_of(method)
     } else {
-        Err(BrokenRule(203))
+        Err(BrokenRule(rules::BAD_JSONRPC_VERSION))
     }
 }
 
@@ -199,15 +225,15 @@ fn message_of(value: Value) -> Result<Message, BrokenRule>
     assemble(parts_of(value)?)
 }
 
-/// Why no value was read: memory was refused, or the content is no JSON text (rule 201).
+/// Why no value was read: memory was refused, or the content is not a JSON text (rule 201).
 fn unread(error: &Error) -> RpcFault
     ensures memory { IsMemory error.now → result ≡ Memory }
-    ensures rule { ¬ IsMemory error.now → result ≡ Rule 201 }
+    ensures rule { ¬ IsMemory error.now → result ≡ Rule rules.CONTENT_NOT_JSON }
 {
     if error.is_memory() {
         RpcFault::Memory
     } else {
-        RpcFault::Rule(201)
+        RpcFault::Rule(rules::CONTENT_NOT_JSON)
     }
 }
 

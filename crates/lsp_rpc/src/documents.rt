@@ -4,19 +4,21 @@ ghost use Rattle.serde_json.specs.View.{view};
 ghost use Rattle.lsp_rpc.specs.Fault.{Gives};
 ghost use Rattle.lsp_rpc.specs.Params as spec;
 ghost use Rattle.lsp_rpc.specs.View.{act_view};
+ghost use Rattle.lsp_types.specs.declared.rules.TheConstants as rules;
 
 use crate::act::Act;
 use crate::changes::changes_of;
 use crate::fault::RpcFault;
-use crate::params::{BAD_PARAMS, copied_text, into_given, into_member, into_text, text_of};
+use crate::params::{PARAMS_FAULT, copied_text, into_given, into_member, into_text, text_of};
 use crate::shape::integer_of;
 use serde_json::Value;
 use std::alloc::Global;
 
 fn uri_of(document: &Value) -> Result<String, RpcFault>
-    ensures { Gives (λ s. string_bytes s) 209 result (spec.uri_at (view document.now)) }
+    ensures { Gives (λ s. string_bytes s)
+        rules.BAD_METHOD_PARAMS result (spec.uri_at (view document.now)) }
 {
-    copied_text(document.get("uri").ok_or(BAD_PARAMS)?)
+    copied_text(document.get("uri").ok_or(PARAMS_FAULT)?)
 }
 
 fn version_of(document: &Value) -> Option<i32>
@@ -26,22 +28,22 @@ fn version_of(document: &Value) -> Option<i32>
 }
 
 pub(crate) fn did_open_of(params: Value) -> Result<Act, RpcFault>
-    ensures { Gives act_view 209 result (spec.did_open_at (view params)) }
+    ensures { Gives act_view rules.BAD_METHOD_PARAMS result (spec.did_open_at (view params)) }
 {
-    let document = into_member(params, "textDocument").ok_or(BAD_PARAMS)?;
-    let version = version_of(&document).ok_or(BAD_PARAMS)?;
+    let document = into_member(params, "textDocument").ok_or(PARAMS_FAULT)?;
+    let version = version_of(&document).ok_or(PARAMS_FAULT)?;
     let uri = uri_of(&document)?;
-    let text = into_text(document, "text").ok_or(BAD_PARAMS)?;
+    let text = into_text(document, "text").ok_or(PARAMS_FAULT)?;
     Ok(Act::DidOpen { uri, version, text })
 }
 
 pub(crate) fn did_change_of(alloc: Global, params: Value) -> Result<Act, RpcFault>
-    ensures { Gives act_view 209 result (spec.did_change_at (view params)) }
+    ensures { Gives act_view rules.BAD_METHOD_PARAMS result (spec.did_change_at (view params)) }
 {
-    let document = params.get("textDocument").ok_or(BAD_PARAMS)?;
-    let version = version_of(document).ok_or(BAD_PARAMS)?;
+    let document = params.get("textDocument").ok_or(PARAMS_FAULT)?;
+    let version = version_of(document).ok_or(PARAMS_FAULT)?;
     let uri = uri_of(document)?;
-    let changes = into_member(params, "contentChanges").ok_or(BAD_PARAMS)?;
+    let changes = into_member(params, "contentChanges").ok_or(PARAMS_FAULT)?;
     Ok(Act::DidChange {
         uri,
         version,
@@ -50,18 +52,18 @@ pub(crate) fn did_change_of(alloc: Global, params: Value) -> Result<Act, RpcFaul
 }
 
 pub(crate) fn did_close_of(params: Value) -> Result<Act, RpcFault>
-    ensures { Gives act_view 209 result (spec.did_close_at (view params)) }
+    ensures { Gives act_view rules.BAD_METHOD_PARAMS result (spec.did_close_at (view params)) }
 {
-    let uri = uri_of(params.get("textDocument").ok_or(BAD_PARAMS)?)?;
+    let uri = uri_of(params.get("textDocument").ok_or(PARAMS_FAULT)?)?;
     Ok(Act::DidClose { uri })
 }
 
 pub(crate) fn did_save_of(params: Value) -> Result<Act, RpcFault>
-    ensures { Gives act_view 209 result (spec.did_save_at (view params)) }
+    ensures { Gives act_view rules.BAD_METHOD_PARAMS result (spec.did_save_at (view params)) }
 {
-    let uri = uri_of(params.get("textDocument").ok_or(BAD_PARAMS)?)?;
+    let uri = uri_of(params.get("textDocument").ok_or(PARAMS_FAULT)?)?;
     let text = match into_given(params, "text") {
-        Some(text) => Some(text_of(text).ok_or(BAD_PARAMS)?),
+        Some(text) => Some(text_of(text).ok_or(PARAMS_FAULT)?),
         None => None,
     };
     Ok(Act::DidSave { uri, text })

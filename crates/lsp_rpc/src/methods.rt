@@ -8,13 +8,14 @@ ghost use Rattle.lsp_rpc.specs.Params as spec;
 ghost use Rattle.lsp_rpc.specs.Outline.{without_params};
 ghost use Rattle.lsp_rpc.specs.Shape.{as_id};
 ghost use Rattle.lsp_rpc.specs.View.{act_view, lent_view, message_view, texts_view};
+ghost use Rattle.lsp_types.specs.declared.rules.TheConstants as rules;
 
 use crate::act::Act;
 use crate::documents::{did_change_of, did_close_of, did_open_of, did_save_of};
 use crate::fault::RpcFault;
 use crate::initialize::initialize_of;
 use crate::message::{Id, Message};
-use crate::params::{BAD_PARAMS, into_member, into_text, items_of, required_params};
+use crate::params::{PARAMS_FAULT, into_member, into_text, items_of, required_params};
 use crate::shape::id_in;
 use lsp_types::Side;
 use serde_json::Value;
@@ -29,34 +30,34 @@ fn id_at(value: Value, name: &str) -> Option<Id>
 }
 
 fn cancel_of(params: Value) -> Result<Act, RpcFault>
-    ensures { Gives act_view 209 result (spec.cancel_at (view params)) }
+    ensures { Gives act_view rules.BAD_METHOD_PARAMS result (spec.cancel_at (view params)) }
 {
-    let id = id_at(params, "id").ok_or(BAD_PARAMS)?;
+    let id = id_at(params, "id").ok_or(PARAMS_FAULT)?;
     Ok(Act::Cancel { id })
 }
 
 fn progress_of(params: Value) -> Result<Act, RpcFault>
-    ensures { Gives act_view 209 result (spec.progress_at (view params)) }
+    ensures { Gives act_view rules.BAD_METHOD_PARAMS result (spec.progress_at (view params)) }
 {
-    let token = id_at(params, "token").ok_or(BAD_PARAMS)?;
+    let token = id_at(params, "token").ok_or(PARAMS_FAULT)?;
     Ok(Act::Progress { token })
 }
 
 fn methods_of(alloc: Global, value: Value) -> Result<Vec<String>, RpcFault>
-    ensures { Gives (λ v. texts_view v.items) 209 result
+    ensures { Gives (λ v. texts_view v.items) rules.BAD_METHOD_PARAMS result
         (spec.array_of (spec.required (codes "method") as_str) (view value)) }
 {
     let mut found = Vec::new(alloc);
-    for item in items_of(value).ok_or(BAD_PARAMS)? {
-        found.push(into_text(item, "method").ok_or(BAD_PARAMS)?)?;
+    for item in items_of(value).ok_or(PARAMS_FAULT)? {
+        found.push(into_text(item, "method").ok_or(PARAMS_FAULT)?)?;
     }
     Ok(found)
 }
 
 fn register_of(alloc: Global, params: Value) -> Result<Act, RpcFault>
-    ensures { Gives act_view 209 result (spec.register_at (view params)) }
+    ensures { Gives act_view rules.BAD_METHOD_PARAMS result (spec.register_at (view params)) }
 {
-    let registrations = into_member(params, "registrations").ok_or(BAD_PARAMS)?;
+    let registrations = into_member(params, "registrations").ok_or(PARAMS_FAULT)?;
     let methods = methods_of(alloc, registrations)?;
     Ok(Act::Register { methods })
 }
@@ -67,7 +68,7 @@ fn editor_request(
     method: &str,
     params: Option<Cow<'_, Value>>,
 ) -> Result<Act, RpcFault>
-    ensures { Gives act_view 209 result
+    ensures { Gives act_view rules.BAD_METHOD_PARAMS result
         (spec.act_by spec.editor_requests method.now (option_map lent_view params.entry)) }
 {
     match method {
@@ -83,7 +84,7 @@ fn editor_notification(
     method: &str,
     params: Option<Cow<'_, Value>>,
 ) -> Result<Act, RpcFault>
-    ensures { Gives act_view 209 result
+    ensures { Gives act_view rules.BAD_METHOD_PARAMS result
         (spec.act_by spec.editor_notifications method.now (option_map lent_view params.entry)) }
 {
     match method {
@@ -104,7 +105,7 @@ fn server_request(
     method: &str,
     params: Option<Cow<'_, Value>>,
 ) -> Result<Act, RpcFault>
-    ensures { Gives act_view 209 result
+    ensures { Gives act_view rules.BAD_METHOD_PARAMS result
         (spec.act_by spec.server_requests method.now (option_map lent_view params.entry)) }
 {
     match method {
@@ -120,7 +121,7 @@ fn server_notification(
     method: &str,
     params: Option<Cow<'_, Value>>,
 ) -> Result<Act, RpcFault>
-    ensures { Gives act_view 209 result
+    ensures { Gives act_view rules.BAD_METHOD_PARAMS result
         (spec.act_by spec.server_notifications method.now (option_map lent_view params.entry)) }
 {
     match method {
@@ -137,7 +138,7 @@ fn request_act(
     method: &str,
     params: Option<Cow<'_, Value>>,
 ) -> Result<Act, RpcFault>
-    ensures { Gives act_view 209 result
+    ensures { Gives act_view rules.BAD_METHOD_PARAMS result
         (spec.act_by (spec.requests side) method.now (option_map lent_view params.entry)) }
 {
     match side {
@@ -152,7 +153,7 @@ fn notification_act(
     method: &str,
     params: Option<Cow<'_, Value>>,
 ) -> Result<Act, RpcFault>
-    ensures { Gives act_view 209 result
+    ensures { Gives act_view rules.BAD_METHOD_PARAMS result
         (spec.act_by (spec.notifications side) method.now (option_map lent_view params.entry)) }
 {
     match side {
@@ -180,7 +181,8 @@ fn take_params(params: &mut Option<Value>) -> Option<Cow<'static, Value>>
 /// Rule 209 if the method is read on that side and in that kind, and the params do not have its
 /// shape; or `Memory`.
 pub fn act_of(alloc: Global, message: &Message, side: Side) -> Result<Act, RpcFault>
-    ensures { Gives act_view 209 result (spec.act_at side (message_view message.now)) }
+    ensures { Gives act_view
+        rules.BAD_METHOD_PARAMS result (spec.act_at side (message_view message.now)) }
 {
     match message {
         Message::Request { method, params, .. } => {
@@ -198,7 +200,8 @@ pub fn act_of(alloc: Global, message: &Message, side: Side) -> Result<Act, RpcFa
 /// What [`act_of`] gives, with the texts moved out of the message. The message loses its params,
 /// even if there is an error.
 pub fn take_act(alloc: Global, message: &mut Message, side: Side) -> Result<Act, RpcFault>
-    ensures gives { Gives act_view 209 result (spec.act_at side (message_view message.old)) }
+    ensures gives { Gives act_view
+        rules.BAD_METHOD_PARAMS result (spec.act_at side (message_view message.old)) }
     ensures rest { message_view message.new ≡ without_params (message_view message.old) }
 {
     match message {

@@ -7,24 +7,26 @@ ghost use Rattle.lsp_rpc.specs.Fault.{Gives};
 ghost use Rattle.lsp_rpc.specs.Params as spec;
 ghost use Rattle.lsp_rpc.specs.Shape as shape;
 ghost use Rattle.lsp_rpc.specs.View.{lent_view, texts_view};
+ghost use Rattle.lsp_types.specs.declared.rules.TheConstants as rules;
 
 use crate::fault::RpcFault;
 use crate::shape::integer_of;
+use lsp_types::rules;
 use serde_json::Value;
 use std::alloc::Global;
 use std::borrow::Cow;
 use std::mem;
 
 /// The params do not have the shape of their method.
-pub(crate) const BAD_PARAMS: RpcFault = RpcFault::Rule(209);
+pub(crate) const PARAMS_FAULT: RpcFault = RpcFault::Rule(rules::BAD_METHOD_PARAMS);
 
-/// The params, which have to be there. They are copied where they are only lent.
+/// The params, which must be there. They are copied where they are only lent.
 pub(crate) fn required_params(params: Option<Cow<'_, Value>>) -> Result<Value, RpcFault>
-    ensures { Gives view 209 result (option_map lent_view params.entry) }
+    ensures { Gives view rules.BAD_METHOD_PARAMS result (option_map lent_view params.entry) }
 {
     match params {
         Some(params) => Ok(params.into_owned()?),
-        None => Err(BAD_PARAMS),
+        None => Err(PARAMS_FAULT),
     }
 }
 
@@ -58,15 +60,15 @@ pub(crate) fn text_of(value: Value) -> Option<String>
 
 /// The string that the value is, copied.
 pub(crate) fn copied_text(value: &Value) -> Result<String, RpcFault>
-    ensures { Gives (λ s. string_bytes s) 209 result (as_str (view value.now)) }
+    ensures { Gives (λ s. string_bytes s) rules.BAD_METHOD_PARAMS result (as_str (view value.now)) }
 {
     match value {
         Value::String(text) => Ok(text.clone()?),
-        _ => Err(BAD_PARAMS),
+        _ => Err(PARAMS_FAULT),
     }
 }
 
-/// The member, which has to be a string, moved out of the value.
+/// The member, which must be a string, moved out of the value.
 pub(crate) fn into_text(value: Value, name: &str) -> Option<String>
     ensures { option_map (λ s. string_bytes s) result ≡ spec.required name.now as_str (view value) }
 {
@@ -93,11 +95,12 @@ pub(crate) fn items_of(value: Value) -> Option<Vec<Value>>
 }
 
 pub(crate) fn strings_of(alloc: Global, value: Value) -> Result<Vec<String>, RpcFault>
-    ensures { Gives (λ v. texts_view v.items) 209 result (spec.array_of as_str (view value)) }
+    ensures { Gives (λ v. texts_view v.items)
+        rules.BAD_METHOD_PARAMS result (spec.array_of as_str (view value)) }
 {
     let mut found = Vec::new(alloc);
-    for item in items_of(value).ok_or(BAD_PARAMS)? {
-        found.push(text_of(item).ok_or(BAD_PARAMS)?)?;
+    for item in items_of(value).ok_or(PARAMS_FAULT)? {
+        found.push(text_of(item).ok_or(PARAMS_FAULT)?)?;
     }
     Ok(found)
 }

@@ -9,8 +9,10 @@ ghost use Rattle.lsp_rpc.specs.Shape.{is_object};
 ghost use Rattle.lsp_rpc.specs.Reading as reading;
 ghost use Rattle.lsp_rpc.specs.View.{parts_view};
 ghost use Rattle.lsp_rpc.specs.Fault.{IsLeast};
+ghost use Rattle.lsp_types.specs.declared.rules.TheConstants as rules;
 
 use crate::fault::BrokenRule;
+use lsp_types::rules;
 use serde_json::{Map, Value};
 
 /// The members that make up a message (JSON-RPC 2.0, sections 4 and 5). `None` is a missing member;
@@ -53,14 +55,15 @@ pub(crate) fn take_member(members: &mut Map<String, Value>, name: &str) -> Optio
     members.remove(name)
 }
 
-/// The parts of a value. Rule 202: it is no object.
+/// The parts of a value. Rule 202: it is not an object.
 pub(crate) fn parts_of(value: Value) -> Result<Parts, BrokenRule>
     ensures ok { IfOk result (λ parts. parts_view parts ≡ reading.parts_of (view value)) }
     ensures object { OnOk result (is_object (view value) ≡ true) }
-    ensures rule { IsLeast (if is_object (view value) then None else Some 202) result }
+    ensures rule { IsLeast (if is_object (view value)
+        then None else Some rules.MESSAGE_NOT_OBJECT) result }
 {
     let Value::Object(mut members) = value else {
-        return Err(BrokenRule(202));
+        return Err(BrokenRule(rules::MESSAGE_NOT_OBJECT));
     };
     Ok(Parts {
         version: take_member(&mut members, "jsonrpc"),

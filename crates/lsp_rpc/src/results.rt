@@ -5,11 +5,12 @@ ghost use Rattle.lsp_rpc.specs.View.{picked_view};
 ghost use Rattle.lsp_rpc.specs.Results as spec;
 ghost use Rattle.lsp_rpc.specs.Fault.{Gives};
 ghost use Rattle.lsp_rpc.specs.declared.fault.RpcFault.TheVariants.{Memory};
+ghost use Rattle.lsp_types.specs.declared.rules.TheConstants as rules;
 
 use crate::act::Picked;
 use crate::fault::RpcFault;
 use crate::shape::{given, integer_of};
-use lsp_types::SyncKind;
+use lsp_types::{SyncKind, rules};
 use serde_json::Value;
 use std::alloc::Global;
 
@@ -60,10 +61,11 @@ fn encoding_in(capabilities: &Value) -> Option<&str>
 /// # Errors
 /// Rule 501 if the result does not have the required shape. `Memory` only if it has.
 pub fn picked_of(alloc: Global, answer: &Value) -> Result<Picked, RpcFault>
-    ensures gives { Gives picked_view 501 result (spec.picked_at (view answer.now)) }
+    ensures gives { Gives picked_view
+        rules.BAD_INITIALIZE_RESULT result (spec.picked_at (view answer.now)) }
     ensures memory { result ≡ Err Memory → is_some (spec.picked_at (view answer.now)) ≡ true }
 {
-    let bad_shape = RpcFault::Rule(501);
+    let bad_shape = RpcFault::Rule(rules::BAD_INITIALIZE_RESULT);
     let capabilities = answer.get("capabilities").ok_or(bad_shape)?;
     if !capabilities.is_object() {
         return Err(bad_shape);

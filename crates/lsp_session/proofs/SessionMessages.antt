@@ -4,7 +4,8 @@ use Rattle.serde_json.specs.Data as json
 use Rattle.serde_json.specs.Data.{Data, Members}
 use Rattle.lsp_rpc.specs.Ident.{Ident, number, text}
 use Rattle.lsp_rpc.specs.Message.{Reply, request, notification, response, result, error}
-use Rattle.lsp_rpc.specs.Act.{Act, Text, initialize, initialized, shutdown, exit, cancel, progress, early, register, other}
+use Rattle.lsp_rpc.specs.Act.{Act, Text, initialize, initialized, shutdown, exit, cancel, progress}
+use Rattle.lsp_rpc.specs.Act.{early, register, other}
 use Rattle.lsp_types.specs.declared.side.Side.{Side}
 use Rattle.lsp_types.specs.declared.side.Side.TheVariants.{Editor, Server}
 use Rattle.lsp_session.specs.Sent.{Sent}
@@ -21,7 +22,11 @@ replies side id reply = record { side = side; message = response id reply; act =
 -- ---- the editor
 
 abbrev pub initialize_as : ℕ → Option (List Text) → Option Ident → Sent
-initialize_as id encodings token = asks Editor (number (pos id)) (codes "initialize") (initialize (record { encodings = encodings; token = token }))
+initialize_as id encodings token =
+    asks Editor (number (pos id)) (codes "initialize") (initialize (record {
+      encodings = encodings;
+      token = token;
+    }))
 
 -- `initialize` with the id 1, which offers nothing
 abbrev pub plain_initialize : Sent
@@ -58,7 +63,8 @@ members_of (m ∷ ms) = json.member m.0 m.1 (members_of ms)
 abbrev pub result_with : ℕ → List (Text × Data) → Sent
 result_with id capabilities =
     replies Server (Some (number (pos id)))
-    (result (json.object (json.member (codes "capabilities") (json.object (members_of capabilities)) json.no_members)))
+    (result (json.object (json.member (codes "capabilities") (json.object (members_of capabilities))
+    json.no_members)))
 
 abbrev pub kind : ℕ → Text × Data
 kind n = (codes "textDocumentSync", json.number (json.unsigned n))
@@ -86,7 +92,8 @@ abbrev pub progress_on : Text → Sent
 progress_on token = tells Server (codes "$/progress") (progress (text token))
 
 abbrev pub registers : Text → Sent
-registers method = asks Server (number (pos 1)) (codes "client/registerCapability") (register (method ∷ []))
+registers method = asks Server (number (pos 1)) (codes "client/registerCapability")
+    (register (method ∷ []))
 
 -- ---- several
 
@@ -95,4 +102,5 @@ start = plain_initialize ∷ plain_result ∷ the_initialized ∷ []
 
 -- an orderly session up to its `exit`
 abbrev pub orderly : List Sent
-orderly = plain_initialize ∷ plain_result ∷ the_initialized ∷ did_open ∷ the_shutdown ∷ null_result Server (Some (number (pos 2))) ∷ []
+orderly = plain_initialize ∷ plain_result ∷ the_initialized ∷ did_open ∷ the_shutdown ∷ null_result
+    Server (Some (number (pos 2))) ∷ []

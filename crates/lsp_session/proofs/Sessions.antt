@@ -1,18 +1,25 @@
 -- Worked sessions, computed from the definitions.
 use Rattle.std.proofs.Common.{refl}
-use Rattle.std.specs.Prelude.{◌≡◌, ℕ, pos, List, [], ◌∷◌, ◌++◌, Bool, true, false, length, map, codes, Option, Some, None}
+use Rattle.std.specs.Prelude.{◌≡◌, ℕ, pos, List, [], ◌∷◌, ◌++◌, Bool, true, false, length, map}
+use Rattle.std.specs.Prelude.{codes, Option, Some, None}
 use Rattle.lsp_rpc.specs.Ident.{number, text}
 use Rattle.lsp_rpc.specs.Act.{other}
 use Rattle.lsp_types.specs.declared.position.Encoding.TheVariants.{Utf16}
 use Rattle.lsp_types.specs.declared.side.Side.TheVariants.{Editor, Server}
 use Rattle.lsp_types.specs.declared.change.SyncKind.TheVariants.{Nothing, Full, Incremental}
-use Rattle.lsp_session.specs.declared.phase.Phase.TheVariants.{Fresh, Waiting, Answered, Ready, Stopping, Exited}
+use Rattle.lsp_session.specs.declared.phase.Phase.TheVariants.{Fresh, Waiting, Answered, Ready}
+use Rattle.lsp_session.specs.declared.phase.Phase.TheVariants.{Stopping, Exited}
 use Rattle.lsp_session.specs.Handshake.{phase}
 use Rattle.lsp_session.specs.Negotiation.{encoding, sync_kind}
 use Rattle.lsp_session.specs.Requests.{open_requests}
 use Rattle.lsp_session.specs.Rules.{rule_after}
 use Rattle.lsp_session.specs.Sent.{Sent}
-use Rattle.lsp_session.proofs.SessionMessages.{asks, tells, plain_initialize, initialize_as, initialize_offering, the_initialized, the_exit, hover, cancel_of, result_with, kind, picks, plain_result, null_result, error_to, log_message, message_request, progress_on, registers, start, orderly}
+use Rattle.lsp_session.proofs.SessionMessages.{asks, tells, plain_initialize, initialize_as}
+use Rattle.lsp_session.proofs.SessionMessages.{initialize_offering, the_initialized, the_exit}
+use Rattle.lsp_session.proofs.SessionMessages.{hover, cancel_of, result_with, kind, picks}
+use Rattle.lsp_session.proofs.SessionMessages.{plain_result, null_result, error_to, log_message}
+use Rattle.lsp_session.proofs.SessionMessages.{message_request, progress_on, registers, start}
+use Rattle.lsp_session.proofs.SessionMessages.{orderly}
 
 -- ---- how a session is read
 
@@ -36,7 +43,8 @@ rule_or_0 (Some rule) = rule
 
 abbrev rules_after : List Sent → List Sent → List ℕ
 rules_after before [] = []
-rules_after before (m ∷ later) = rule_or_0 (rule_after before m) ∷ rules_after (admitted before m (rule_after before m)) later
+rules_after before (m ∷ later) =
+    rule_or_0 (rule_after before m) ∷ rules_after (admitted before m (rule_after before m)) later
 
 -- what each message answers
 abbrev rules_of : List Sent → List ℕ
@@ -54,13 +62,16 @@ hovered = start ++ hover Editor ∷ []
 a_request_is_open : cancelled_in hovered ≡ false ∷ []
 a_request_is_open = refl
 
-a_cancelled_request_stays_open : cancelled_in (hovered ++ cancel_of 7 ∷ cancel_of 9 ∷ []) ≡ true ∷ []
+a_cancelled_request_stays_open : cancelled_in (hovered ++ cancel_of 7 ∷ cancel_of 9 ∷ [])
+    ≡ true ∷ []
 a_cancelled_request_stays_open = refl
 
 abbrev cancelled : List Sent
-cancelled = hovered ++ cancel_of 7 ∷ cancel_of 9 ∷ null_result Server (Some (text (codes "7"))) ∷ null_result Server None ∷ hover Editor ∷ []
+cancelled = hovered ++ cancel_of 7 ∷ cancel_of 9 ∷ null_result Server
+    (Some (text (codes "7"))) ∷ null_result Server None ∷ hover Editor ∷ []
 
-other_ids_and_null_answer_nothing : rules_of cancelled ≡ 0 ∷ 0 ∷ 0 ∷ 0 ∷ 0 ∷ 0 ∷ 301 ∷ 301 ∷ 302 ∷ []
+other_ids_and_null_answer_nothing : rules_of cancelled
+    ≡ 0 ∷ 0 ∷ 0 ∷ 0 ∷ 0 ∷ 0 ∷ 301 ∷ 301 ∷ 302 ∷ []
 other_ids_and_null_answer_nothing = refl
 
 a_refusal_leaves_the_request : cancelled_in cancelled ≡ true ∷ []
@@ -72,7 +83,8 @@ answered = left_by cancelled ++ error_to 7 ∷ []
 an_error_answers : cancelled_in answered ≡ []
 an_error_answers = refl
 
-an_id_is_used_again : rules_of (answered ++ error_to 7 ∷ hover Editor ∷ []) ≡ 0 ∷ 0 ∷ 0 ∷ 0 ∷ 0 ∷ 0 ∷ 0 ∷ 301 ∷ 0 ∷ []
+an_id_is_used_again : rules_of (answered ++ error_to 7 ∷ hover Editor ∷ [])
+    ≡ 0 ∷ 0 ∷ 0 ∷ 0 ∷ 0 ∷ 0 ∷ 0 ∷ 301 ∷ 0 ∷ []
 an_id_is_used_again = refl
 
 abbrev asked_again : List Sent
@@ -146,55 +158,73 @@ it_agrees_on_utf16 = refl
 an_omitted_kind_is_none : sync_kind (left_by then_utf16) ≡ Some Nothing
 an_omitted_kind_is_none = refl
 
-a_registration_while_waiting : rules_of (plain_initialize ∷ registers (codes "textDocument/didOpen") ∷ []) ≡ 0 ∷ 412 ∷ []
+a_registration_while_waiting : rules_of
+    (plain_initialize ∷ registers (codes "textDocument/didOpen") ∷ []) ≡ 0 ∷ 412 ∷ []
 a_registration_while_waiting = refl
 
 an_error_leads_back_to_fresh : phase (plain_initialize ∷ error_to 1 ∷ []) ≡ Fresh
 an_error_leads_back_to_fresh = refl
 
-early_messages : rules_of (initialize_as 1 None (Some (text (codes "w"))) ∷ log_message ∷ progress_on (codes "w") ∷ progress_on (codes "v") ∷ plain_result ∷ the_initialized ∷ []) ≡ 0 ∷ 0 ∷ 0 ∷ 412 ∷ 0 ∷ 0 ∷ []
+early_messages : rules_of
+    (initialize_as 1 None (Some (text (codes "w"))) ∷ log_message ∷ progress_on
+    (codes "w") ∷ progress_on (codes "v") ∷ plain_result ∷ the_initialized ∷ [])
+    ≡ 0 ∷ 0 ∷ 0 ∷ 412 ∷ 0 ∷ 0 ∷ []
 early_messages = refl
 
-no_token_allows_no_progress : rules_of (plain_initialize ∷ progress_on (codes "w") ∷ hover Editor ∷ []) ≡ 0 ∷ 412 ∷ 402 ∷ []
+no_token_allows_no_progress : rules_of
+    (plain_initialize ∷ progress_on (codes "w") ∷ hover Editor ∷ []) ≡ 0 ∷ 412 ∷ 402 ∷ []
 no_token_allows_no_progress = refl
 
-a_second_initialize_after_an_error : rules_of (plain_initialize ∷ error_to 1 ∷ initialize_as 2 None None ∷ result_with 2 [] ∷ []) ≡ 0 ∷ 0 ∷ 0 ∷ 0 ∷ []
+a_second_initialize_after_an_error : rules_of
+    (plain_initialize ∷ error_to 1 ∷ initialize_as 2 None None ∷ result_with 2 [] ∷ [])
+    ≡ 0 ∷ 0 ∷ 0 ∷ 0 ∷ []
 a_second_initialize_after_an_error = refl
 
 -- ---- what is agreed
 
-an_unknown_encoding : rules_of (initialize_offering (codes "x") ∷ result_with 1 (picks (codes "x") ∷ []) ∷ []) ≡ 0 ∷ 503 ∷ []
+an_unknown_encoding : rules_of
+    (initialize_offering (codes "x") ∷ result_with 1 (picks (codes "x") ∷ []) ∷ []) ≡ 0 ∷ 503 ∷ []
 an_unknown_encoding = refl
 
-bad_results : rules_of (plain_initialize ∷ result_with 1 (kind 3 ∷ []) ∷ null_result Server (Some (number (pos 1))) ∷ []) ≡ 0 ∷ 501 ∷ 501 ∷ []
+bad_results : rules_of (plain_initialize ∷ result_with 1 (kind 3 ∷ []) ∷ null_result Server
+    (Some (number (pos 1))) ∷ []) ≡ 0 ∷ 501 ∷ 501 ∷ []
 bad_results = refl
 
 full_changes : sync_kind (plain_initialize ∷ result_with 1 (kind 1 ∷ []) ∷ []) ≡ Some Full
 full_changes = refl
 
-dynamic_registration : rules_of (start ++ registers (codes "textDocument/didChange") ∷ registers (codes "textDocument/hover") ∷ []) ≡ 0 ∷ 0 ∷ 0 ∷ 504 ∷ 0 ∷ []
+dynamic_registration : rules_of
+    (start ++ registers (codes "textDocument/didChange") ∷ registers
+    (codes "textDocument/hover") ∷ []) ≡ 0 ∷ 0 ∷ 0 ∷ 504 ∷ 0 ∷ []
 dynamic_registration = refl
 
 -- ---- who may send what
 
-before_initialize : rules_of (hover Editor ∷ log_message ∷ tells Editor (codes "initialize") other ∷ asks Editor (number (pos 1)) (codes "exit") other ∷ the_exit ∷ []) ≡ 401 ∷ 411 ∷ 401 ∷ 401 ∷ 0 ∷ []
+before_initialize : rules_of
+    (hover Editor ∷ log_message ∷ tells Editor (codes "initialize") other ∷ asks Editor
+    (number (pos 1)) (codes "exit") other ∷ the_exit ∷ []) ≡ 401 ∷ 411 ∷ 401 ∷ 401 ∷ 0 ∷ []
 before_initialize = refl
 
-before_initialized : rules_of (plain_initialize ∷ plain_result ∷ hover Editor ∷ []) ≡ 0 ∷ 0 ∷ 403 ∷ []
+before_initialized : rules_of (plain_initialize ∷ plain_result ∷ hover Editor ∷ [])
+    ≡ 0 ∷ 0 ∷ 403 ∷ []
 before_initialized = refl
 
-a_second_handshake : rules_of (start ++ the_initialized ∷ plain_initialize ∷ []) ≡ 0 ∷ 0 ∷ 0 ∷ 404 ∷ 404 ∷ []
+a_second_handshake : rules_of (start ++ the_initialized ∷ plain_initialize ∷ [])
+    ≡ 0 ∷ 0 ∷ 0 ∷ 404 ∷ 404 ∷ []
 a_second_handshake = refl
 
 after_initialized : phase start ≡ Ready
 after_initialized = refl
 
-after_shutdown : rules_of (orderly ++ hover Editor ∷ the_exit ∷ []) ≡ 0 ∷ 0 ∷ 0 ∷ 0 ∷ 0 ∷ 0 ∷ 405 ∷ 0 ∷ []
+after_shutdown : rules_of (orderly ++ hover Editor ∷ the_exit ∷ [])
+    ≡ 0 ∷ 0 ∷ 0 ∷ 0 ∷ 0 ∷ 0 ∷ 405 ∷ 0 ∷ []
 after_shutdown = refl
 
 after_shutdown_it_stops : phase orderly ≡ Stopping
 after_shutdown_it_stops = refl
 
 -- after `exit` the server is free, and a response of the editor is refused like all else
-after_exit : rules_after (orderly ++ the_exit ∷ []) (the_exit ∷ message_request ∷ null_result Editor (Some (number (pos 1))) ∷ null_result Editor (Some (number (pos 5))) ∷ log_message ∷ []) ≡ 406 ∷ 0 ∷ 301 ∷ 406 ∷ 0 ∷ []
+after_exit : rules_after (orderly ++ the_exit ∷ [])
+    (the_exit ∷ message_request ∷ null_result Editor (Some (number (pos 1))) ∷ null_result Editor
+    (Some (number (pos 5))) ∷ log_message ∷ []) ≡ 406 ∷ 0 ∷ 301 ∷ 406 ∷ 0 ∷ []
 after_exit = refl

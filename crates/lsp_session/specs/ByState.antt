@@ -1,5 +1,6 @@
 -- The rules and readings as a session finds them by what it keeps.
-use Rattle.std.specs.Prelude.{ℕ, List, [], ◌∷◌, Bool, true, not, ◌&&◌, ◌||◌, Option, Some, None, is_some}
+use Rattle.std.specs.Prelude.{ℕ, List, [], ◌∷◌, Bool, true, not, ◌&&◌, ◌||◌, Option, Some, None}
+use Rattle.std.specs.Prelude.{is_some}
 use Rattle.std.specs.Option.{option_or}
 use Rattle.lsp_rpc.specs.Act.{Act}
 use Rattle.lsp_rpc.specs.Message.{Message}
@@ -11,9 +12,11 @@ use Rattle.lsp_session.specs.Lifecycle.{is_early, reports_on}
 use Rattle.lsp_session.specs.Negotiation.{first_row, register_rule, settled_rule}
 use Rattle.lsp_session.specs.OpenInitialize.{Initialize}
 use Rattle.lsp_session.specs.Requests.{id_rule}
-use Rattle.lsp_session.specs.Sent.{Sent, is_exit, is_initialize, is_initialized, is_response, other_side}
+use Rattle.lsp_session.specs.Sent.{Sent, is_exit, is_initialize, is_initialized, is_response}
+use Rattle.lsp_session.specs.Sent.{other_side}
 use Rattle.lsp_session.specs.State.{State, agreed_in}
 use Rattle.lsp_session.specs.declared.negotiation.Agreed.{Agreed}
+use Rattle.lsp_types.specs.declared.rules.TheConstants as rules
 
 abbrev pub open_of : Side → State → List Entry
 open_of Editor s = s.editor
@@ -42,19 +45,19 @@ abbrev pub handshake_rule : State → Act → Option ℕ
 handshake_rule s act =
     first_row (
     (is_fresh s && is_initialize act, None)
-    ∷ (is_fresh s, Some 401)
-    ∷ (is_waiting s, Some 402)
-    ∷ (s.shutdown, Some 405)
-    ∷ (is_initialize act, Some 404)
+    ∷ (is_fresh s, Some rules.EDITOR_BEFORE_INITIALIZE)
+    ∷ (is_waiting s, Some rules.EDITOR_WHILE_INITIALIZE_OPEN)
+    ∷ (s.shutdown, Some rules.EDITOR_AFTER_SHUTDOWN)
+    ∷ (is_initialize act, Some rules.INITIALIZE_AGAIN)
     ∷ (not s.initialized && is_initialized act, None)
-    ∷ (not s.initialized, Some 403)
-    ∷ (is_initialized act, Some 404)
+    ∷ (not s.initialized, Some rules.INITIALIZED_NOT_FIRST)
+    ∷ (is_initialized act, Some rules.INITIALIZE_AGAIN)
     ∷ [])
 
 abbrev pub editor_rule : State → Message → Act → Option ℕ
 editor_rule s message act =
     first_row (
-    (s.exit, Some 406)
+    (s.exit, Some rules.EDITOR_AFTER_EXIT)
     ∷ (is_response message, None)
     ∷ (is_exit act, None)
     ∷ (true, handshake_rule s act)
@@ -68,9 +71,9 @@ abbrev pub server_rule : State → Message → Act → Option ℕ
 server_rule s message act =
     first_row (
     (is_response message, None)
-    ∷ (is_fresh s, Some 411)
+    ∷ (is_fresh s, Some rules.SERVER_BEFORE_INITIALIZE)
     ∷ (is_waiting s && comes_early s.initializes act, None)
-    ∷ (is_waiting s, Some 412)
+    ∷ (is_waiting s, Some rules.SERVER_WHILE_INITIALIZE_OPEN)
     ∷ [])
 
 abbrev pub lifecycle_rule : State → Side → Message → Act → Option ℕ

@@ -1,8 +1,10 @@
 -- The open requests of one side, in the order in which they were asked.
-use Rattle.std.specs.Prelude.{◌≡◌, ℕ, List, [], ◌∷◌, map, Bool, true, false, ◌||◌, if◌then◌else◌, Option, Some, None, string_bytes}
+use Rattle.std.specs.Prelude.{◌≡◌, ℕ, List, [], ◌∷◌, map, Bool, true, false, ◌||◌, if◌then◌else◌}
+use Rattle.std.specs.Prelude.{Option, Some, None, string_bytes}
 use Rattle.lsp_rpc.specs.Ident.{Ident, same_id, id_view}
 use Rattle.lsp_rpc.specs.declared.message.Id.{Id}
 use Rattle.lsp_session.specs.declared.pending.OpenRequest.{OpenRequest}
+use Rattle.lsp_types.specs.declared.rules.TheConstants as rules
 
 -- an open request, apart from where its texts lie in memory
 pub record Entry : Type 0 where
@@ -11,7 +13,11 @@ pub record Entry : Type 0 where
   pub cancelled : Bool
 
 abbrev pub request_view : OpenRequest → Entry
-request_view r = record { id = id_view r.id; method = string_bytes r.method; cancelled = r.cancelled }
+request_view r = record {
+  id = id_view r.id;
+  method = string_bytes r.method;
+  cancelled = r.cancelled;
+}
 
 -- the entries of the requests that are kept by their ids
 abbrev pub entries_in : List (Id × OpenRequest) → List Entry
@@ -54,4 +60,4 @@ cancel id es = map (marked id) es
 
 -- a request has an id that is not open
 abbrev pub ask_rule : Ident → List Entry → Option ℕ
-ask_rule id es = if has_id id es then Some 302 else None
+ask_rule id es = if has_id id es then Some rules.ID_ALREADY_OPEN else None

@@ -1,6 +1,7 @@
 -- How far the handshake has come: which `initialize` is open, and which result answered one.
 -- (LSP 3.17, "Server lifecycle".)
-use Rattle.std.specs.Prelude.{ℕ, List, [], ◌∷◌, ◌++◌, Bool, true, false, not, ◌&&◌, if◌then◌else◌, Option, Some, None, is_some}
+use Rattle.std.specs.Prelude.{ℕ, List, [], ◌∷◌, ◌++◌, Bool, true, false, not, ◌&&◌, if◌then◌else◌}
+use Rattle.std.specs.Prelude.{Option, Some, None, is_some}
 use Rattle.std.specs.List.{list_any}
 use Rattle.std.specs.Option.{option_or}
 use Rattle.serde_json.specs.Data.{Data}
@@ -10,10 +11,12 @@ use Rattle.lsp_rpc.specs.Act.{Act, Offer}
 use Rattle.lsp_types.specs.declared.side.Side.{Side}
 use Rattle.lsp_types.specs.declared.side.Side.TheVariants.{Editor}
 use Rattle.lsp_session.specs.declared.phase.Phase.{Phase}
-use Rattle.lsp_session.specs.declared.phase.Phase.TheVariants.{Fresh, Waiting, Answered, Ready, Stopping, Exited}
+use Rattle.lsp_session.specs.declared.phase.Phase.TheVariants.{Fresh, Waiting, Answered, Ready}
+use Rattle.lsp_session.specs.declared.phase.Phase.TheVariants.{Stopping, Exited}
 use Rattle.lsp_session.specs.OpenInitialize.{Initialize}
 use Rattle.lsp_session.specs.Requests.{names, is_answered}
-use Rattle.lsp_session.specs.Sent.{Sent, answered_from, is_exit, is_initialized, is_shutdown, offer_of, request_by, sends}
+use Rattle.lsp_session.specs.Sent.{Sent, answered_from, is_exit, is_initialized, is_shutdown}
+use Rattle.lsp_session.specs.Sent.{offer_of, request_by, sends}
 
 -- ---- the open `initialize`
 
@@ -60,7 +63,8 @@ settled_at (Some offer) (Some value) = Some (record { offer = offer; value = val
 
 -- the message, where it answers one of these by a result
 abbrev pub settled_among : List Initialize → Side → Message → Option Settled
-settled_among unanswered side message = settled_at (offer_to (answered_from Editor side message) unanswered) (result_of message)
+settled_among unanswered side message =
+    settled_at (offer_to (answered_from Editor side message) unanswered) (result_of message)
 
 -- the message, where it is a result that answers an `initialize` before it
 abbrev pub settled_by : List Sent → Sent → Option Settled
@@ -68,7 +72,8 @@ settled_by before m = settled_among (open_initializes before) m.side m.message
 
 abbrev pub first_settled_from : List Sent → List Sent → Option Settled
 first_settled_from before [] = None
-first_settled_from before (m ∷ later) = option_or (settled_by before m) (first_settled_from (before ++ m ∷ []) later)
+first_settled_from before (m ∷ later) =
+    option_or (settled_by before m) (first_settled_from (before ++ m ∷ []) later)
 
 -- the first result that answers an `initialize`
 abbrev pub first_settled : List Sent → Option Settled

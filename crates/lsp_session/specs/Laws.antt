@@ -14,7 +14,9 @@ use Rattle.lsp_session.specs.State.{state_of}
 
 -- one of the three kinds of rules that the message breaks is this one
 abbrev pub IsBroken : List Sent → Sent → ℕ → Type 0
-IsBroken before m rule = (request_rule before m ≡ Some rule) ⊎ ((lifecycle_rule before m ≡ Some rule) ⊎ (negotiation_rule before m ≡ Some rule))
+IsBroken before m rule =
+    (request_rule before m ≡ Some rule)
+    ⊎ ((lifecycle_rule before m ≡ Some rule) ⊎ (negotiation_rule before m ≡ Some rule))
 
 -- the rule that a message breaks is the least of those that it breaks
 abbrev pub LeastRule : Type 0
@@ -31,11 +33,13 @@ pub record AnsweredRequest (before : List Sent) (m : Sent) : Type 0 where
 
 -- a response that breaks no rule answers a request
 abbrev pub AnswersARequest : Type 0
-AnswersARequest = (before : List Sent) (m : Sent) → rule_after before m ≡ None → is_response m.message ≡ true → AnsweredRequest before m
+AnswersARequest = (before : List Sent) (m : Sent) → rule_after before m ≡ None
+    → is_response m.message ≡ true → AnsweredRequest before m
 
 -- among admitted messages, no response answers requests at two places
 abbrev pub AnswersNoOther : Type 0
-AnswersNoOther = (earlier : List Sent) (first : Sent) (between : List Sent) (second : Sent) (after : List Sent) (m : Sent)
+AnswersNoOther = (earlier : List Sent) (first : Sent) (between : List Sent) (second : Sent)
+    (after : List Sent) (m : Sent)
     → IsAdmitted (earlier ++ first ∷ (between ++ second ∷ after))
     → answers first (between ++ second ∷ after) m ≡ true
     → answers second after m ≡ false
@@ -60,15 +64,21 @@ OneHandshake = (before : List Sent) → OneOf (is_fresh before) (is_waiting befo
 abbrev pub sent_by : Side → Act → Message → Sent
 sent_by side act message = record { side = side; message = message; act = act }
 
--- where no `initialize` is open, messages that differ in the value of a result alone break the same rule, and leave a session with the same
+-- where no `initialize` is open, messages that differ in the value of a result alone break the same
+-- rule, and leave a session with the same
 abbrev pub ResultUnread : Type 0
-ResultUnread = (before : List Sent) (side : Side) (act : Act) (first second : Message) → open_initializes before ≡ []
+ResultUnread = (before : List Sent) (side : Side) (act : Act) (first second : Message)
+    → open_initializes before ≡ []
     → without_result first ≡ without_result second
     → (rule_after before (sent_by side act first) ≡ rule_after before (sent_by side act second))
-    × (state_of (before ++ sent_by side act first ∷ []) ≡ state_of (before ++ sent_by side act second ∷ []))
+    × (state_of (before ++ sent_by side act first ∷ [])
+    ≡ state_of (before ++ sent_by side act second ∷ []))
 
--- messages that mean the same and differ in their params alone break the same rule, and leave a session with the same
+-- messages that mean the same and differ in their params alone break the same rule, and leave a
+-- session with the same
 abbrev pub ParamsUnread : Type 0
-ParamsUnread = (before : List Sent) (side : Side) (act : Act) (first second : Message) → without_params first ≡ without_params second
+ParamsUnread = (before : List Sent) (side : Side) (act : Act) (first second : Message)
+    → without_params first ≡ without_params second
     → (rule_after before (sent_by side act first) ≡ rule_after before (sent_by side act second))
-    × (state_of (before ++ sent_by side act first ∷ []) ≡ state_of (before ++ sent_by side act second ∷ []))
+    × (state_of (before ++ sent_by side act first ∷ [])
+    ≡ state_of (before ++ sent_by side act second ∷ []))

@@ -1,5 +1,6 @@
 -- Who may send what, and when. (LSP 3.17, "Server lifecycle".)
-use Rattle.std.specs.Prelude.{ℕ, List, [], ◌∷◌, Bool, true, false, not, ◌&&◌, if◌then◌else◌, Option, Some, None}
+use Rattle.std.specs.Prelude.{ℕ, List, [], ◌∷◌, Bool, true, false, not, ◌&&◌, if◌then◌else◌, Option}
+use Rattle.std.specs.Prelude.{Some, None}
 use Rattle.std.specs.List.{list_any}
 use Rattle.lsp_rpc.specs.Ident.{Ident, same_id}
 use Rattle.lsp_rpc.specs.Act.{Act, early, progress}
@@ -7,11 +8,13 @@ use Rattle.lsp_types.specs.declared.side.Side.{Side}
 use Rattle.lsp_types.specs.declared.side.Side.TheVariants.{Editor, Server}
 use Rattle.lsp_session.specs.Handshake.{is_done, is_fresh, is_waiting, open_initializes, was_sent}
 use Rattle.lsp_session.specs.OpenInitialize.{Initialize}
-use Rattle.lsp_session.specs.Sent.{Sent, is_exit, is_initialize, is_initialized, is_response, is_shutdown, same_side}
+use Rattle.lsp_session.specs.Sent.{Sent, is_exit, is_initialize, is_initialized, is_response}
+use Rattle.lsp_session.specs.Sent.{is_shutdown, same_side}
+use Rattle.lsp_types.specs.declared.rules.TheConstants as rules
 
 -- ---- the table
 
--- what stands before the message
+-- what comes before the message
 pub data Before : Type 0 where
   always : Before
   fresh : Before
@@ -43,7 +46,12 @@ pub record Row : Type 0 where
   pub answer : Option ℕ
 
 abbrev pub row : Side → Before → Kind → Option ℕ → Row
-row sender before kind answer = record { sender = sender; before = before; kind = kind; answer = answer }
+row sender before kind answer = record {
+  sender = sender;
+  before = before;
+  kind = kind;
+  answer = answer;
+}
 
 abbrev pub allowed : Option ℕ
 allowed = None
@@ -51,21 +59,21 @@ allowed = None
 -- the first row that fits decides; a message that fits none is allowed
 abbrev pub table : List Row
 table =
-    row Editor exited any_message (Some 406)
+    row Editor exited any_message (Some rules.EDITOR_AFTER_EXIT)
     ∷ row Editor always an_exit allowed
     ∷ row Editor fresh an_initialize allowed
-    ∷ row Editor fresh any_call (Some 401)
-    ∷ row Editor waiting any_call (Some 402)
-    ∷ row Editor shutting_down any_call (Some 405)
-    ∷ row Editor done an_initialize (Some 404)
+    ∷ row Editor fresh any_call (Some rules.EDITOR_BEFORE_INITIALIZE)
+    ∷ row Editor waiting any_call (Some rules.EDITOR_WHILE_INITIALIZE_OPEN)
+    ∷ row Editor shutting_down any_call (Some rules.EDITOR_AFTER_SHUTDOWN)
+    ∷ row Editor done an_initialize (Some rules.INITIALIZE_AGAIN)
     ∷ row Editor not_initialized an_initialized allowed
-    ∷ row Editor not_initialized any_call (Some 403)
-    ∷ row Editor done an_initialized (Some 404)
+    ∷ row Editor not_initialized any_call (Some rules.INITIALIZED_NOT_FIRST)
+    ∷ row Editor done an_initialized (Some rules.INITIALIZE_AGAIN)
     ∷ row Editor done any_call allowed
-    ∷ row Server fresh any_call (Some 411)
+    ∷ row Server fresh any_call (Some rules.SERVER_BEFORE_INITIALIZE)
     ∷ row Server waiting an_early_call allowed
     ∷ row Server waiting its_progress allowed
-    ∷ row Server waiting any_call (Some 412)
+    ∷ row Server waiting any_call (Some rules.SERVER_WHILE_INITIALIZE_OPEN)
     ∷ row Server done any_call allowed
     ∷ []
 
@@ -106,7 +114,8 @@ is_kind unanswered m an_early_call = is_call m && is_early m.act
 is_kind unanswered m its_progress = is_call m && reports_on unanswered m.act
 
 abbrev pub fits : List Sent → Sent → Row → Bool
-fits before m row = same_side row.sender m.side && (is_kind (open_initializes before) m row.kind && holds before row.before)
+fits before m row = same_side row.sender m.side &&
+    (is_kind (open_initializes before) m row.kind && holds before row.before)
 
 abbrev pub first_answer : (Row → Bool) → List Row → Option ℕ
 first_answer test [] = allowed

@@ -1,6 +1,7 @@
 -- What the two sides agree on: the encoding of columns, and how changes are sent.
 -- (LSP 3.17, "Initialize Request", "PositionEncodingKind" and "Text Document Synchronization".)
-use Rattle.std.specs.Prelude.{ℕ, List, [], ◌∷◌, Bool, false, not, ◌||◌, if◌then◌else◌, Option, Some, None, is_some, option_map, option_and_then, codes}
+use Rattle.std.specs.Prelude.{ℕ, List, [], ◌∷◌, Bool, false, not, ◌||◌, if◌then◌else◌, Option, Some}
+use Rattle.std.specs.Prelude.{None, is_some, option_map, option_and_then, codes}
 use Rattle.std.specs.List.{list_any}
 use Rattle.std.specs.Option.{option_or}
 use Rattle.std.specs.Str.{bytes_eq}
@@ -15,6 +16,7 @@ use Rattle.lsp_types.specs.declared.change.SyncKind.{SyncKind}
 use Rattle.lsp_session.specs.Handshake.{Settled, first_settled, settled_by}
 use Rattle.lsp_session.specs.Sent.{Sent}
 use Rattle.lsp_session.specs.declared.negotiation.Agreed.{Agreed}
+use Rattle.lsp_types.specs.declared.rules.TheConstants as rules
 
 -- the first row that fits
 abbrev pub first_row : {X : Type 0} → List (Bool × Option X) → Option X
@@ -32,7 +34,8 @@ encoding_named name =
 -- ---- what was agreed
 
 abbrev pub agreed_by : Picked → Option Agreed
-agreed_by picked = option_map (λ encoding. record { encoding = encoding; kind = picked.kind }) (encoding_named picked.encoding)
+agreed_by picked = option_map (λ encoding. record { encoding = encoding; kind = picked.kind })
+    (encoding_named picked.encoding)
 
 -- what a result agrees on
 abbrev pub agreed_at : Data → Option Agreed
@@ -58,13 +61,14 @@ lists (Some names) name = list_any (bytes_eq name) names
 abbrev pub offers : Offer → Text → Bool
 offers offer name = bytes_eq name (codes "utf-16") || lists offer.encodings name
 
--- the rule that a result breaks which answers this offer; it picks nothing where it does not have the shape
+-- the rule that a result breaks which answers this offer; it picks nothing where it does not have
+-- the shape
 abbrev pub pick_rule : Offer → Option Picked → Option ℕ
-pick_rule offer None = Some 501
+pick_rule offer None = Some rules.BAD_INITIALIZE_RESULT
 pick_rule offer (Some picked) =
     first_row (
-    (not (offers offer picked.encoding), Some 502)
-    ∷ (not (is_some (encoding_named picked.encoding)), Some 503)
+    (not (offers offer picked.encoding), Some rules.ENCODING_NOT_OFFERED)
+    ∷ (not (is_some (encoding_named picked.encoding)), Some rules.ENCODING_OUTSIDE_PROFILE)
     ∷ [])
 
 abbrev pub settled_rule : Option Settled → Option ℕ
@@ -72,7 +76,8 @@ settled_rule None = None
 settled_rule (Some settled) = pick_rule settled.offer (picked_at settled.value)
 
 abbrev pub synchronisation : List Text
-synchronisation = codes "textDocument/didOpen" ∷ codes "textDocument/didChange" ∷ codes "textDocument/didClose" ∷ []
+synchronisation = codes "textDocument/didOpen" ∷ codes "textDocument/didChange" ∷ codes
+    "textDocument/didClose" ∷ []
 
 abbrev pub is_synchronisation : Text → Bool
 is_synchronisation method = list_any (bytes_eq method) synchronisation
@@ -84,16 +89,19 @@ registers_synchronisation _ = false
 -- the server registers for opens, changes or closes of documents
 abbrev pub register_rule : Side → Act → Option ℕ
 register_rule Editor act = None
-register_rule Server act = if registers_synchronisation act then Some 504 else None
+register_rule Server act = if registers_synchronisation act
+    then Some rules.DYNAMIC_REGISTRATION else None
 
 -- the rule of the negotiation that the message breaks
 abbrev pub negotiation_rule : List Sent → Sent → Option ℕ
-negotiation_rule before m = option_or (settled_rule (settled_by before m)) (register_rule m.side m.act)
+negotiation_rule before m =
+    option_or (settled_rule (settled_by before m)) (register_rule m.side m.act)
 
 -- 501 of a result that answers an `initialize`, and the rule given of any other message
 abbrev pub shape_rule : Option Settled → Option ℕ → Option ℕ
 shape_rule None other = other
-shape_rule (Some settled) other = if is_some (picked_at settled.value) then None else Some 501
+shape_rule (Some settled) other = if is_some (picked_at settled.value)
+    then None else Some rules.BAD_INITIALIZE_RESULT
 
 -- the same, without 502 and 503, for which the name of the encoding is copied
 abbrev pub early_negotiation_rule : List Sent → Sent → Option ℕ

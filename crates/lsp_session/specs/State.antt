@@ -1,16 +1,19 @@
 -- What a session keeps, and when it stands for a list of messages.
-use Rattle.std.specs.Prelude.{◌≡◌, ℕ, List, [], ◌∷◌, ◌++◌, Bool, ◌||◌, if◌then◌else◌, Option, Some, None, option_map}
+use Rattle.std.specs.Prelude.{◌≡◌, ℕ, List, [], ◌∷◌, ◌++◌, Bool, ◌||◌, if◌then◌else◌, Option, Some}
+use Rattle.std.specs.Prelude.{None, option_map}
 use Rattle.std.specs.Option.{option_or}
 use Rattle.lsp_rpc.specs.Ident.{Ident, same_id}
 use Rattle.lsp_types.specs.declared.side.Side.{Side}
 use Rattle.lsp_types.specs.declared.side.Side.TheVariants.{Editor, Server}
 use Rattle.lsp_session.specs.Entry as entry
 use Rattle.lsp_session.specs.Entry.{Entry, new_entry, without}
-use Rattle.lsp_session.specs.Handshake.{Settled, first_settled, initialize_by, open_initializes, settled_among, was_sent}
+use Rattle.lsp_session.specs.Handshake.{Settled, first_settled, initialize_by, open_initializes}
+use Rattle.lsp_session.specs.Handshake.{settled_among, was_sent}
 use Rattle.lsp_session.specs.Negotiation.{agreed_at}
 use Rattle.lsp_session.specs.OpenInitialize.{Initialize}
 use Rattle.lsp_session.specs.Requests.{open_requests}
-use Rattle.lsp_session.specs.Sent.{Sent, answered_id, cancelled_id, is_exit, is_initialized, is_shutdown, request_by, sends}
+use Rattle.lsp_session.specs.Sent.{Sent, answered_id, cancelled_id, is_exit, is_initialized}
+use Rattle.lsp_session.specs.Sent.{is_shutdown, request_by, sends}
 use Rattle.lsp_session.specs.declared.negotiation.Agreed.{Agreed}
 
 -- `agreed` is what the first result that answers an `initialize` agrees on, if that is anything
@@ -57,11 +60,13 @@ pushed None es = es
 pushed (Some asked) es = es ++ new_entry asked.0 asked.1 ∷ []
 
 abbrev pub open_next : Side → Sent → List Entry → List Entry
-open_next side m es = pushed (request_by side m) (marked (cancelled_id side m) (closed (answered_id side m) es))
+open_next side m es = pushed (request_by side m)
+    (marked (cancelled_id side m) (closed (answered_id side m) es))
 
 abbrev pub without_initialize : Ident → List Initialize → List Initialize
 without_initialize id [] = []
-without_initialize id (i ∷ rest) = if same_id id i.id then without_initialize id rest else i ∷ without_initialize id rest
+without_initialize id (i ∷ rest) =
+    if same_id id i.id then without_initialize id rest else i ∷ without_initialize id rest
 
 abbrev pub closed_initializes : Option Ident → List Initialize → List Initialize
 closed_initializes None unanswered = unanswered
@@ -72,7 +77,8 @@ pushed_initialize None unanswered = unanswered
 pushed_initialize (Some i) unanswered = unanswered ++ i ∷ []
 
 abbrev pub initializes_next : Sent → List Initialize → List Initialize
-initializes_next m unanswered = pushed_initialize (initialize_by m) (closed_initializes (answered_id Editor m) unanswered)
+initializes_next m unanswered =
+    pushed_initialize (initialize_by m) (closed_initializes (answered_id Editor m) unanswered)
 
 -- the state after a request, a cancel or an answer, apart from what else it means
 abbrev pub next_open : State → Sent → State
@@ -95,4 +101,8 @@ next s m = record {
 
 -- the state after the server answers the editor's request of this id
 abbrev pub after_answer : State → Ident → State
-after_answer s id = record s { editor = without id s.editor; initializes = without_initialize id s.initializes }
+after_answer s id = record s {
+  editor = without id s.editor;
+  initializes =
+      without_initialize id s.initializes;
+}

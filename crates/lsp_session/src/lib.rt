@@ -8,6 +8,7 @@
 mod handshake;
 mod laws;
 mod negotiation;
+mod open_requests;
 mod pending;
 mod phase;
 mod refusal;
@@ -18,6 +19,7 @@ pub use laws::{
     result_unread,
 };
 pub use negotiation::is_synchronisation;
+pub use open_requests::OpenRequests;
 pub use pending::{OpenRequest, Pending};
 pub use phase::Phase;
 pub use refusal::Refusal;

@@ -11,6 +11,7 @@ ghost use Rattle.lsp_session.specs.Refusal.{Names};
 
 use crate::refusal::Refusal;
 use lsp_rpc::{Act, Encoding, Offer, Picked, RpcFault, SyncKind, picked_of};
+use lsp_types::rules;
 use serde_json::Value;
 use std::alloc::Global;
 
@@ -63,14 +64,14 @@ fn check_picked(offer: &Offer, picked: &Picked) -> Result<Agreed, Refusal>
         (Names (spec.pick_rule (offer_view offer.now) (Some (picked_view picked.now)))) }
 {
     if !offers(offer, picked.encoding.as_str()) {
-        return Err(Refusal::Rule(502));
+        return Err(Refusal::Rule(rules::ENCODING_NOT_OFFERED));
     }
     match encoding_named(picked.encoding.as_str()) {
         Some(encoding) => Ok(Agreed {
             encoding,
             kind: picked.kind,
         }),
-        None => Err(Refusal::Rule(503)),
+        None => Err(Refusal::Rule(rules::ENCODING_OUTSIDE_PROFILE)),
     }
 }
 

@@ -6,9 +6,11 @@ ghost use Rattle.lsp_session.specs.Entry.{request_view, has_id, IdsDiffer, entry
 ghost use Rattle.lsp_session.specs.Entry.{cancel, ask_rule, new_entry};
 ghost use Rattle.lsp_session.specs.Refusal.{Names};
 
+use crate::open_requests::OpenRequests;
 use crate::refusal::Refusal;
 use lsp_order::OrderedMap;
 use lsp_rpc::{Id, Memory, copy_id};
+use lsp_types::rules;
 use std::alloc::Global;
 use std::marker::Model;
 
@@ -69,13 +71,23 @@ impl Pending {
         self.requests.len()
     }
 
-    /// The open request at this index, the one asked first at 0.
+    /// The open request at this index, the one asked first at 0. [`Pending::walk`] finds all of
+    /// them faster.
     pub fn at(&self, index: usize) -> Option<&OpenRequest>
         ensures { option_map (λ request. request_view request.now) result
             ≡ slice_get self.now index }
     {
         let (_, request) = self.requests.at(index)?;
         Some(request)
+    }
+
+    /// The open requests, one after another, in the order in which they were asked.
+    pub fn walk(&self) -> OpenRequests<'_>
+        ensures { result ≡ self.now }
+    {
+        OpenRequests {
+            walk: self.requests.walk(),
+        }
     }
 
     pub(crate) fn contains(&self, id: &Id) -> bool
@@ -95,7 +107,7 @@ impl Pending {
         ensures unchanged { OnErr result (self.new ≡ self.old) }
     {
         if self.contains(id) {
-            return Err(Refusal::Rule(302));
+            return Err(Refusal::Rule(rules::ID_ALREADY_OPEN));
         }
         let key = copy_id(id)?;
         let request = new_request(self.requests.allocator(), id, method)?;
@@ -125,13 +137,5 @@ impl Pending {
         ensures left { self.new ≡ without (id_view id.now) self.old }
     {
         self.requests.remove(id)
-    }
-
-    /// Makes ready for a walk over all open requests: after it, until one is answered,
-    /// [`Pending::at`] finds each at once.
-    pub fn pack(&mut self)
-        ensures { self.new ≡ self.old }
-    {
-        self.requests.pack();
     }
 }

@@ -23,6 +23,7 @@ use crate::pending::Pending;
 use crate::phase::Phase;
 use crate::refusal::Refusal;
 use lsp_rpc::{Act, Answer, Encoding, Id, Memory, Message, Offer, Side, SyncKind, same_id};
+use lsp_types::rules;
 use serde_json::Value;
 use std::alloc::Global;
 use std::marker::Model;
@@ -101,7 +102,7 @@ impl Session {
         }
         let agreed = self.settle(side, message)?;
         if side == Side::Server && registers_synchronisation(act) {
-            return Err(Refusal::Rule(504));
+            return Err(Refusal::Rule(rules::DYNAMIC_REGISTRATION));
         }
         self.take(side, message, act, agreed)?;
         Ok(())
@@ -151,19 +152,19 @@ impl Session {
         self.asked_by(side)
     }
 
-    /// What the session lacks if it ends here: 303 where a request of the editor, cancelled or not,
-    /// has no response yet (JSON-RPC 2.0, section 4), else 407 where the editor did not send `exit`
-    /// (LSP 3.17, "Exit Notification").
+    /// What is missing if the session ends here: 303 where a request of the editor, cancelled or
+    /// not, has no response yet (JSON-RPC 2.0, section 4), else 407 where the editor did not send
+    /// `exit` (LSP 3.17, "Exit Notification").
     pub fn incomplete(&self) -> Option<u16>
         ensures { (before : List Sent) → Stands self.now before
             → result ≡ complete.incomplete before }
     {
         if self.editor.len() > 0 {
-            Some(303)
+            Some(rules::REQUEST_NOT_ANSWERED)
         } else if self.exited {
             None
         } else {
-            Some(407)
+            Some(rules::EXIT_MISSING)
         }
     }
 
@@ -195,14 +196,6 @@ impl Session {
         self.settled_by(side, message)
     }
 
-    /// Makes ready for a walk over all open requests of both sides ([`Pending::pack`]).
-    pub fn pack(&mut self)
-        ensures { self.new ≡ self.old }
-    {
-        self.editor.pack();
-        self.server.pack();
-    }
-
     fn asked_by(&self, side: Side) -> &Pending
         ensures { result.now ≡ by_state.open_of side self.now }
     {
@@ -230,7 +223,7 @@ impl Session {
         match message {
             Message::Request { id, .. } => {
                 if self.asked_by(side).contains(id) {
-                    Some(302)
+                    Some(rules::ID_ALREADY_OPEN)
                 } else {
                     None
                 }
@@ -240,10 +233,10 @@ impl Session {
                 if self.asked_of(side).contains(id) {
                     None
                 } else {
-                    Some(301)
+                    Some(rules::RESPONSE_TO_NO_OPEN_REQUEST)
                 }
             }
-            Message::Response { id: None, .. } => Some(301),
+            Message::Response { id: None, .. } => Some(rules::RESPONSE_TO_NO_OPEN_REQUEST),
         }
     }
 
@@ -262,7 +255,7 @@ impl Session {
             ≡ by_state.editor_rule self.now (message_view message.now) (act_view act.now) }
     {
         if self.exited {
-            Some(406)
+            Some(rules::EDITOR_AFTER_EXIT)
         } else if is_response(message) || matches!(act, Act::Exit) {
             None
         } else if self.agreed.is_none() {
@@ -279,11 +272,11 @@ impl Session {
         ensures { result ≡ by_state.handshake_rule self.now (act_view act.now) }
     {
         if self.initialize.is_some() {
-            Some(402)
+            Some(rules::EDITOR_WHILE_INITIALIZE_OPEN)
         } else if matches!(act, Act::Initialize(_)) {
             None
         } else {
-            Some(401)
+            Some(rules::EDITOR_BEFORE_INITIALIZE)
         }
     }
 
@@ -293,12 +286,24 @@ impl Session {
         ensures { result ≡ by_state.handshake_rule self.now (act_view act.now) }
     {
         if self.shutdown {
-            return Some(405);
+            return Some(rules::EDITOR_AFTER_SHUTDOWN);
         }
         match act {
-            Act::Initialize(_) => Some(404),
-            Act::Initialized => { if self.initialized { Some(404) } else { None } }
-            _ => { if self.initialized { None } else { Some(403) } }
+            Act::Initialize(_) => Some(rules::INITIALIZE_AGAIN),
+            Act::Initialized => {
+                if self.initialized {
+                    Some(rules::INITIALIZE_AGAIN)
+                } else {
+                    None
+                }
+            }
+            _ => {
+                if self.initialized {
+                    None
+                } else {
+                    Some(rules::INITIALIZED_NOT_FIRST)
+                }
+            }
         }
     }
 
@@ -310,9 +315,9 @@ impl Session {
             return None;
         }
         match &self.initialize {
-            None => Some(411),
+            None => Some(rules::SERVER_BEFORE_INITIALIZE),
             Some(initialize) if comes_early(initialize, act) => None,
-            Some(_) => Some(412),
+            Some(_) => Some(rules::SERVER_WHILE_INITIALIZE_OPEN),
         }
     }
 

@@ -19,8 +19,8 @@ OneEvent = (limits : Bounds) → IsInRange limits
     → (log : List ℕ) (n : ℕ) (out other : List ℕ) (a b : EventOutcome)
     → IsEvent limits log n out a → IsEvent limits log n other b → (out ≡ other) × (a ≡ b)
 
--- **Events are numbered as a verdict numbers them**: the n-th event of the verdict on a log is what
--- the content reads as that is due for n.
+-- **Events are numbered as a verdict numbers them**: the n-th event of the verdict on a log is the
+-- reading of the content that is due for n.
 abbrev pub EventIsNumbered : Type 0
 EventIsNumbered = (limits : Bounds) → IsInRange limits
     → (log : List ℕ) (v : Verdict) (n : ℕ) (event : verdict.Event) (out : List ℕ)

@@ -23,7 +23,7 @@ Answers answer raw = (answer.content.items ≡ content_of raw) × (answer.outcom
 abbrev pub IsOfEnd : Answer → End → Type 0
 IsOfEnd answer end = (answer.content.items ≡ []) × (answer.outcome ≡ without (flaw_of end))
 
--- so many events are still to come before the n-th of the log is past
+-- this many events are still to come before the n-th of the log is past
 pub record HasPassed (limits : Bounds) (e : LogEvents) (start now : Told) (n left : ℕ) : Type 0
   where
     pub format : Option Format

@@ -27,7 +27,7 @@ use Rattle.lsp_verdict.specs.declared.outcome.RunFault.TheVariants as faults
 
 -- ---- logs
 
--- these records go on after those
+-- these records continue after those
 abbrev pub GoesBehind : List Record → List Record → Type 0
 GoesBehind front records = (more : List Record) × (records ≡ front ++ more)
 
@@ -42,7 +42,7 @@ pub record HasGiven (limits : Bounds) (format : Option Format) (front : List Rec
   pub placed : Placed limits records (given ++ later)
 
 -- the log has these records and this fault, or none; of a fault its reader knows how many bytes of
--- the log stand before it, and the line that stands there
+-- the log come before it, and the line that is there
 abbrev pub IsLogOf : reader.State → Bounds → List Record → Option (ℕ × LogCode) → List ℕ → Type 0
 IsLogOf r limits records None log = IsLog limits log r.format records None
 IsLogOf r limits records (Some flaw) log = ShowsFault r limits records flaw log
@@ -120,7 +120,7 @@ abbrev pub HoldsStep : streams.State → Step → Type 0
 HoldsStep s (step.Event due) = IsHeld s due
 HoldsStep s (step.End end) = Unit {0}
 
--- the event was gone past, and is such a one
+-- the event was skipped, and is such a one
 abbrev pub Finds : Bounds → Option Format → LogEvents → Told → Told → List Record → List Raw
     → Result Step RunFault → Type 0
 Finds limits format e start now records given (Ok (step.Event due)) =
@@ -132,7 +132,7 @@ Finds limits format e start now records given (Ok (step.End end)) =
 Finds limits format e start now records given (Err fault) =
     (more : List Record) × BrokeOff limits start now format (records ++ more) given fault
 
--- these records were taken, all of their events were given, and the log goes on
+-- these records were taken, all of their events were given, and the log continues
 pub record IsIdle (limits : Bounds) (e : LogEvents) (start now : Told) (records : List Record)
     (given : List Raw) : Type 0 where
   pub same : e.log.limits ≡ limits

@@ -22,6 +22,7 @@ use Rattle.lsp_verdict.specs.LookBack.{first_of}
 use Rattle.lsp_verdict.specs.Outcome.{HasRest, ending, format_or_one}
 use Rattle.lsp_verdict.specs.Placed.{Raw, content, broken, show, Placed, joined}
 use Rattle.lsp_verdict.specs.Verdict.{Verdict, no, Ending, who_of, bad_log_of}
+use Rattle.lsp_types.specs.declared.rules.TheConstants as rules
 
 -- ---- what is written
 
@@ -66,10 +67,10 @@ no_at before (show number uri text) = None
 abbrev pub first_broken : List Raw → Option Verdict
 first_broken raws = first_of no_at raws
 
--- 107 where bytes are left that are no whole frame, the editor's first
+-- 107 where bytes are left that are not a whole frame, the editor's first
 abbrev pub rest_of : List Raw → Bool → Bool → Option Verdict
-rest_of raws true server = Some (no_next 107 Editor raws)
-rest_of raws false true = Some (no_next 107 Server raws)
+rest_of raws true server = Some (no_next rules.STREAM_ENDS_INSIDE_FRAME Editor raws)
+rest_of raws false true = Some (no_next rules.STREAM_ENDS_INSIDE_FRAME Server raws)
 rest_of raws false false = None
 
 -- the first by place: a fault of the frames, a fault of the log, a rest

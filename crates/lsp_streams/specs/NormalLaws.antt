@@ -9,6 +9,7 @@ use Rattle.lsp_streams.specs.Normal.{IsNormal}
 use Rattle.lsp_verdict.specs.Placed.{Raw, content, broken, show, Placed}
 use Rattle.lsp_verdict.specs.Outcome.{IsVerdict, format_or_one}
 use Rattle.lsp_verdict.specs.Verdict.{Verdict, yes, no, bad_log}
+use Rattle.lsp_types.specs.declared.rules.TheConstants as rules
 
 -- **Every log has a normal form**, whatever its bytes.
 abbrev pub SomeNormalForm : Type 0
@@ -44,9 +45,10 @@ abbrev pub NormalFormStays : Type 0
 NormalFormStays = (limits : Bounds) → IsInRange limits → (log out : List ℕ) (fault : Option Verdict)
     → IsNormal limits log out fault → length out ≤ limits.log → IsNormal limits out out None
 
--- 101 to 107: a fault of the frames, or bytes that are no whole frame
+-- 101 to 107: a fault of the frames, or bytes that are not a whole frame
 abbrev pub is_frame_rule : ℕ → Bool
-is_frame_rule rule = nat_le 101 rule && nat_le rule 107
+is_frame_rule rule =
+    nat_le rules.HEADER_PART_TOO_LONG rule && nat_le rule rules.STREAM_ENDS_INSIDE_FRAME
 
 -- a verdict on messages and snapshots, and not on the frames or the log that hold them
 abbrev pub IsOnEvents : Verdict → Type 0

@@ -31,7 +31,7 @@ use Rattle.lsp_verdict.specs.declared.outcome.RunFault.{RunFault}
 use Rattle.lsp_verdict.specs.declared.outcome.RunFault.TheVariants as faults
 use Rattle.lsp_verdict.specs.declared.verdict.Verdict.TheVariants as verdicts
 
--- an event in the place of one that is not read, by which it is counted
+-- an event that replaces one that is not read, by which it is counted
 abbrev pub mark : Raw → Event
 mark (content side bytes) = event.fault side 0
 mark (broken side rule) = event.fault side rule

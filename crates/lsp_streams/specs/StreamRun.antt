@@ -12,15 +12,16 @@ use Rattle.lsp_verdict.specs.declared.outcome.Outcome.TheVariants.{Done, Judged,
 use Rattle.lsp_verdict.specs.declared.outcome.Outcome.TheVariants.{TooFew}
 use Rattle.lsp_verdict.specs.declared.outcome.StreamFault.{StreamFault}
 use Rattle.lsp_verdict.specs.declared.outcome.StreamFault.TheVariants.{Rule, TooLong}
+use Rattle.lsp_types.specs.declared.rules.TheConstants as rules
 
 -- ---- a stream
 
--- the fault of a stream: that of its frames; else that it goes on after the limit; else that bytes
--- are left
+-- the fault of a stream: that of its frames; else that it continues after the limit; else that
+-- bytes are left
 abbrev pub fault_of : Option ℕ → Bool → List ℕ → Option StreamFault
 fault_of (Some rule) longer rest = Some (Rule rule)
 fault_of None true rest = Some TooLong
-fault_of None false (byte ∷ rest) = Some (Rule 107)
+fault_of None false (byte ∷ rest) = Some (Rule rules.STREAM_ENDS_INSIDE_FRAME)
 fault_of None false [] = None
 
 -- the parts of a stream, and how it ends; no more than its first bytes, as many as the limit, are

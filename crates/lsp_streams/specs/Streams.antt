@@ -67,7 +67,7 @@ StepsBy None side old new (Some (due.Broken by rule)) =
     (by ≡ side) × decoder.Next old new (Err rule)
 StepsBy None side old new (Some due.Snapshot) = ⊥
 
--- the decoder of a side went past its next event, of which there is none after a fault that it gave
+-- the decoder of a side skipped its next event, of which there is none after a fault that it gave
 abbrev pub StepsSide : Side → decoder.State → decoder.State → Option Due → Type 0
 StepsSide side old new next = StepsBy old.fault side old new next
 
@@ -80,7 +80,7 @@ StepsAt (Some (turn.Bytes Server)) old new next =
 StepsAt (Some turn.Snapshot) old new next =
     (next ≡ Some due.Snapshot) × (new ≡ record old { turn = None }) × IsSome new.snapshot
 
--- the next event was gone past, or there is none
+-- the next event was skipped, or there is none
 abbrev pub Steps : State → State → Option Due → Type 0
 Steps old new next = StepsAt old.turn old new next
 
@@ -158,6 +158,6 @@ abbrev pub ends_at : Option ℕ → List ℕ → Bool
 ends_at None rest = is_rest rest
 ends_at (Some rule) rest = false
 
--- bytes are left that are no whole frame and have no fault
+-- bytes are left that are not a whole frame and have no fault
 abbrev pub ends_inside : decoder.State → Bool
 ends_inside d = ends_at d.fault d.rest

@@ -99,7 +99,7 @@ fn find_event<R: Source>(
     find_next(alloc, &mut events, reader, number)
 }
 
-/// Goes past the events that come next, up to the one of this number, from 1.
+/// Skips the events that come next, up to the one of this number, from 1.
 fn find_next<R: Source>(
     alloc: Global,
     events: &mut LogEvents,
@@ -144,7 +144,7 @@ pub fn run_event<R: Source, W: Sink>(
     number: u64,
 ) -> Result<EventOutcome, RunFault>
     requires { 0 < number }
-    // What is due for that event of the log read, however that goes on where its end was not met,
+    // What is due for that event of the log read, however it continues where its end was not met,
     // is written, and nothing else; the outcome is the one that is due.
     ensures written { IfOk result
         (λ outcome. (out : List ℕ) × Took (W.told writer.old) (W.told writer.new) out
@@ -153,8 +153,8 @@ pub fn run_event<R: Source, W: Sink>(
     // That there are fewer events is known only at the source's end.
     ensures ended { result ≡ Ok EventOutcome.FewerEvents → IsAtEnd (R.told reader.new).bytes }
 
-    // What is written before a fault begins what is due; after a read fault or for want of memory
-    // that is nothing.
+    // What is written before a fault begins what is due; after a read fault or where memory was
+    // refused that is nothing.
     ensures fault { OnErr result ((out : List ℕ) × Took (W.told writer.old) (W.told writer.new) out
         × OfRead limits (R.told reader.old) (R.told reader.new)
         (λ log. BeginsEvent limits log number out)) }

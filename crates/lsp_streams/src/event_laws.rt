@@ -11,8 +11,8 @@ pub fn one_event()
     ensures { OneEvent }
 {}
 
-/// Events are numbered as a verdict numbers them: the n-th event of the verdict on a log is what
-/// the content reads as that is due for n.
+/// Events are numbered as a verdict numbers them: the n-th event of the verdict on a log is the
+/// reading of the content that is due for n.
 pub fn event_is_numbered()
     ensures { EventIsNumbered }
 {}

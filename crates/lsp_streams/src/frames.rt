@@ -23,7 +23,7 @@ use lsp_rpc::RpcFault;
 use lsp_verdict::{Mode, Outcome, RunFault, StreamFault, stream_report};
 use std::alloc::Global;
 
-/// How many bytes are asked of the source at once.
+/// How many bytes are requested from the source at once.
 const PIECE: u64 = 65_536;
 
 /// How many bytes a line of numbers has at most: two numbers of 20 digits, a space, and an end.
@@ -141,7 +141,7 @@ fn write_found<W: Sink>(
     }
 }
 
-/// The next content, where only its length is due, many bytes of it are missing, and at most so
+/// The next content, where only its length is due, many bytes of it are missing, and at most this
 /// many may be read.
 fn long_content(decoder: &Decoder, mode: Mode, left: u64) -> Option<Missing>
     ensures { IfSome result (λ missing. IsLong decoder.now mode left missing) }
@@ -229,7 +229,7 @@ fn write_parts<R: Source, W: Sink>(
             read += missing.bytes as u64;
             continue;
         }
-        // At the limit one byte more shows whether the stream goes on.
+        // At the limit one byte more shows whether the stream continues.
         let most = (log - read).min(PIECE).max(1) as u32;
         let count = decoder.pull(reader, most)?;
         if count == 0 {
@@ -269,7 +269,7 @@ fn write_closing<W: Sink>(
 /// follows on the same sink.
 ///
 /// A stream of more bytes than the log limit is judged by its first that many; one byte more is
-/// read to see that it goes on.
+/// read to see that it continues.
 ///
 /// The answer is `Read` where the source failed, `Write` where the sink did, and `Memory` where
 /// memory was refused; what was written before stays written.
@@ -280,7 +280,7 @@ pub fn run_frames<R: Source, W: Sink>(
     limits: Limits,
     mode: Mode,
 ) -> Result<Outcome, RunFault>
-    // What is due for the stream read, however that goes on where its end was not met, is written,
+    // What is due for the stream read, however it continues where its end was not met, is written,
     // and nothing else.
     ensures written { IfOk result
         (λ outcome. (out : List ℕ) × Took (W.told writer.old) (W.told writer.new) out

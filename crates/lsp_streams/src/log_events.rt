@@ -134,7 +134,7 @@ impl LogEvents {
         self.log.found()
     }
 
-    /// Goes past the next event of the log.
+    /// Skips the next event of the log.
     fn find<R: Source>(&mut self, reader: &mut R) -> Result<Step, RunFault>
         ensures held { IfOk result (HoldsStep self.new.streams) }
         ensures answer { (limits : Bounds) (format : Option Format) (start : Told)

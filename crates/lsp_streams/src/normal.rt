@@ -19,6 +19,7 @@ use crate::pieces::Pieces;
 use lsp_frame::{Format, Limits, Sink, Source};
 use lsp_log::{write_head_of, write_snapshot};
 use lsp_rpc::Side;
+use lsp_types::rules;
 use lsp_verdict::{Counts, Outcome, Raw, RunFault, Verdict, Who, who_of};
 use std::alloc::Global;
 
@@ -71,10 +72,10 @@ fn sound_outcome(events: &LogEvents, counts: &Counts) -> Outcome
         → first_broken given ≡ None → EndsWhole limits records given result }
 {
     if events.ends_inside(Side::Editor) {
-        return no_next(counts, 107, Side::Editor);
+        return no_next(counts, rules::STREAM_ENDS_INSIDE_FRAME, Side::Editor);
     }
     if events.ends_inside(Side::Server) {
-        return no_next(counts, 107, Side::Server);
+        return no_next(counts, rules::STREAM_ENDS_INSIDE_FRAME, Side::Server);
     }
     Outcome::Done
 }
@@ -142,7 +143,7 @@ fn write_events<R: Source, W: Sink>(
 /// that are full but for the last; a snapshot is written as it is. Contents are kept byte for byte
 /// and are not read as JSON, and nothing is judged. A fault of a side's frames or of the log ends
 /// the normal form after the records of the events before it, and so do bytes at the end that are
-/// no whole frame; the outcome is then the verdict at that fault, and else `Done`.
+/// not a whole frame; the outcome is then the verdict at that fault, and else `Done`.
 ///
 /// The answer is `Read` where the source failed, `Write` where the sink did, and `Memory` where
 /// memory was refused; what was written before stays written.
@@ -152,7 +153,7 @@ pub fn run_normal<R: Source, W: Sink>(
     writer: &mut W,
     limits: Limits,
 ) -> Result<Outcome, RunFault>
-    // The normal form of the log read, however that goes on where its end was not met, is written,
+    // The normal form of the log read, however it continues where its end was not met, is written,
     // and nothing else; the outcome carries the fault that ends it.
     ensures written { IfOk result
         (λ outcome. (out : List ℕ) × Took (W.told writer.old) (W.told writer.new) out

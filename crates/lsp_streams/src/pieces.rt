@@ -78,7 +78,7 @@ fn fill_head(head: &mut String, len: usize) -> Result<(), Memory>
     Ok(())
 }
 
-/// Writes bytes that stand in two parts as records of a side.
+/// Writes bytes that are in two parts as records of a side.
 fn write_cut<W: Sink>(
     writer: &mut W,
     side: Side,

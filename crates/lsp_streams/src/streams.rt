@@ -47,7 +47,7 @@ pub(crate) enum Due {
 /// contents are read.
 ///
 /// It stands for the records pushed and the events given. The events of a record are contents that
-/// its bytes make whole and a fault of its side's frames, after which that side has no more; or a
+/// its bytes complete and a fault of its side's frames, after which that side has no more; or a
 /// snapshot.
 #[derive(Drop)]
 pub struct Streams {
@@ -153,7 +153,7 @@ impl Streams {
         }
     }
 
-    /// Goes past the next event.
+    /// Skips the next event.
     pub(crate) fn advance(&mut self) -> Option<Due>
         ensures { Steps self.old self.new result }
     {
@@ -171,7 +171,7 @@ impl Streams {
         }
     }
 
-    /// The event that was gone past last.
+    /// The event that was skipped last.
     pub(crate) fn lend(&self, due: Due) -> Raw<'_>
         requires { IsHeld self.now due }
         ensures { IsRaw self.now due (raw_view result) }
@@ -204,7 +204,7 @@ impl Streams {
     }
 }
 
-/// Goes past the next content of a side, or a fault of its frames.
+/// Skips the next content of a side, or a fault of its frames.
 fn advance_side(side: Side, decoder: &mut Decoder) -> Option<Due>
     ensures { StepsSide side decoder.old decoder.new result }
 {
@@ -221,7 +221,7 @@ fn advance_side(side: Side, decoder: &mut Decoder) -> Option<Due>
     }
 }
 
-/// Whether bytes are left that are no whole frame and have no fault.
+/// Whether bytes are left that are not a whole frame and have no fault.
 fn is_inside(decoder: &Decoder) -> bool
     ensures { result ≡ ends_inside decoder.now }
 {

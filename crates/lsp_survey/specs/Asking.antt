@@ -50,7 +50,7 @@ abbrev pub asked_id : Side → Side → Message → Option Ident
 asked_id side sender message =
     if same_side side sender then option_map (λ asked. asked.0) (request_of message) else None
 
--- what a message, the event of this number, says of this side's request with this id: it asks it,
+-- what a message, the event of this number, is for this side's request with this id: it sends it,
 -- or answers it
 abbrev pub asks : Side → Ident → ℕ → Side → Message → Option (Option ℕ)
 asks side id n sender message =

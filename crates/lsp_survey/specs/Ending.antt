@@ -13,7 +13,7 @@ use Rattle.lsp_verdict.specs.declared.completeness.Completeness.TheVariants.{Ign
 abbrev pub given_by : Verdict → Offence
 given_by v = given_offence (by_itself v)
 
--- 303 or 407, where the session has to be complete and these events leave a request without an
+-- 303 or 407, where the session must be complete and these events leave a request without an
 -- answer, or have no `exit`
 abbrev pub lack_by : Completeness → List Event → Option ℕ
 lack_by Ignored kept = None

@@ -78,7 +78,7 @@ brought done = last_or None (filter_map brings done)
 
 -- ---- the snapshots that wait
 
--- the document comes to a version that is not below this one, or is closed
+-- the document reaches a version that is not below this one, or is closed
 abbrev pub ends_waiting : ℤ → Step → Bool
 ends_waiting number (touches Reached n own) = not (int_lt own number)
 ends_waiting number (touches Compared n own) = false

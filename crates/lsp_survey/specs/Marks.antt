@@ -1,4 +1,4 @@
--- What the marks of documents say of each URI.
+-- What the marks of documents say about each URI.
 use Rattle.std.specs.Prelude.{◌≡◌, ℕ, ℤ, int_lt, Bool, false, not, List, [], ◌∷◌, if◌then◌else◌}
 use Rattle.std.specs.Prelude.{Option, Some, None, unwrap_or, String}
 use Rattle.std.specs.Global.{Global}

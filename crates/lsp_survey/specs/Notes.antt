@@ -12,6 +12,7 @@ use Rattle.lsp_survey.specs.ByUri.{held_by}
 use Rattle.lsp_survey.specs.declared.notes.note.Note.{Note}
 use Rattle.lsp_verdict.specs.Event.{Event}
 use Rattle.lsp_verdict.specs.Offences.{asks_handshake, is_within, left_lost, is_lost}
+use Rattle.lsp_types.specs.declared.rules.TheConstants as rules
 
 -- ---- notes
 
@@ -54,10 +55,13 @@ abbrev pub is_noted_lost : List (String Global × Note) → Option Call → Bool
 is_noted_lost notes None = false
 is_noted_lost notes (Some call) = (note_in notes (uri_of call)).lost
 
--- what is said of a document, with changes or without, leaves it lost where it breaks the rule
+-- what is said about a document, with changes or without, leaves it lost where it breaks the rule
 abbrev pub loses_by : ℕ → Bool → Bool
 loses_by rule has_changes =
-    rule == 602 || (rule == 603 && has_changes || (is_within 604 608 rule || rule == 702))
+    rule == rules.DOCUMENT_NOT_OPEN ||
+    (rule == rules.VERSION_DOES_NOT_RISE && has_changes ||
+    (is_within rules.CHANGE_NOT_OF_KIND rules.SAVED_TEXT_DIFFERS rule ||
+    rule == rules.SNAPSHOT_DIFFERS))
 
 -- ---- the handshake
 

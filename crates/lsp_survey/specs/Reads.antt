@@ -119,8 +119,8 @@ abbrev pub HoldsRest : streams.State → List Noted → Side → List ℕ → Ty
 HoldsRest s notes side rest =
     list_any (is_frame_fault side) (events_of notes) ≡ false → rest ≡ (decoder_of side s).rest
 
--- where a log has a fault after these records, its reader knows how many bytes stand before that,
--- and the line that stands there
+-- where a log has a fault after these records, its reader knows how many bytes come before that,
+-- and the line that is there
 abbrev pub KnowsFlaw : reader.State → Bounds → List ℕ → Option Format → List Record
     → Option (ℕ × LogCode) → Type 0
 KnowsFlaw r limits log format records None = Unit {0}
@@ -195,14 +195,14 @@ EndsAre e listed =
     (streams.ends_inside (decoder_of Editor e.log.streams))
     (streams.ends_inside (decoder_of Server e.log.streams)))
 
--- the end of the log, and what it comes to
+-- the end of the log, and its result
 abbrev pub EndIs : SurveyReader → log_end.End → End → Type 0
 EndIs e Sound end = EndsAre e end.listed.items × (end.bad ≡ None)
 EndIs e (Bad number fault) end = (end.listed.items ≡ []) × (end.bad ≡ Some (BadLog number fault))
 
--- ---- records that go on
+-- ---- records that continue
 
--- one more event was heard, of records that go on after these
+-- one more event was heard, of records that continue after these
 abbrev pub GaveBehind : List Record → Bounds → SurveyReader → Told → Told → List Raw → List Noted
     → List Offence → Heard → Type 0
 GaveBehind front limits e start now past before found given =

@@ -50,7 +50,7 @@ pub record WalksBy (terms : Terms) (w : Walk) (notes : List Noted) : Type 0 wher
   pub marked : AreMarks terms w.marks.map.entries (events_of notes)
   pub said : AreNotes terms w.said (events_of notes)
 
--- **a walk has heard these events**, and passed over each that offends after the kept ones before
+-- **a walk has heard these events**, and skipped each that offends after the kept ones before
 -- it
 abbrev pub Walks : Walk → List Noted → Type 0
 Walks w notes = WalksBy w.events.docs.terms w notes
@@ -85,8 +85,8 @@ NotesKept number (kept.Message side spoken) old new =
 NotesKept number (kept.Snapshot version uri text answer) old new =
     NotesSnapshot number uri.now version answer old new
 
--- one more event of theirs was counted, which offends by this rule; what the kept events come to is
--- as it was
+-- one more event of theirs was counted, which offends by this rule; the result of the kept events
+-- is as it was
 pub record Counted (old new : Walk) (by : Who) (rule : ℕ) (asks : Bool) : Type 0 where
   pub session : new.events.session ≡ old.events.session
   pub documents : new.events.docs ≡ old.events.docs
@@ -113,7 +113,7 @@ IsShown number uri text (what.Snapshot version name shown) =
     (version ≡ number) × (string_bytes name ≡ uri) × (string_bytes shown ≡ text)
 IsShown number uri text other = ⊥
 
--- an event of theirs that offends by this rule was passed over: it says this of a document, under
+-- an event of theirs that offends by this rule was skipped: it says this about a document, under
 -- what was agreed, and is such as was found
 pub record PassesOver (old new : Walk) (by : Who) (rule : ℕ) (asks : Bool)
     (says : Encoding → SyncKind → Option Call) (IsSuch : Offending → Type 0) (given : Heard) : Type

@@ -1,4 +1,4 @@
-//! All that is wrong with a session, and not only the first: an event that offends is passed over,
+//! All that is wrong with a session, and not only the first: an event that offends is skipped,
 //! as if it had not been sent, and the next is judged after those that keep the rules.
 //!
 //! `run_survey` reads a log and writes a report of all its offences. An offence may follow from an

@@ -7,7 +7,7 @@ use lsp_verdict::Offence;
 pub enum Offending {
     /// A fault of the frames of this side.
     Frames(Side),
-    /// A content of this side that is no message, or whose params don't have their shape.
+    /// A content of this side that is not a message, or whose params don't have their shape.
     Content {
         side: Side,
         content: Vec<u8>,
@@ -37,6 +37,6 @@ pub struct Found {
 pub enum Heard {
     /// It is kept.
     Kept,
-    /// It offends after the kept events before it, and is passed over.
+    /// It offends after the kept events before it, and is skipped.
     Offence(Found),
 }

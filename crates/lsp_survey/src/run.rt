@@ -30,7 +30,7 @@ use std::alloc::Global;
 /// offence that is listed, in order, those of a fault of the log, and how many offences were found.
 /// Of a log with nothing wrong it is the report of the verdict.
 ///
-/// An event that offends is passed over, as if it had not been sent, and the next is judged after
+/// An event that offends is skipped, as if it had not been sent, and the next is judged after
 /// those that keep the rules. After a fault of a side's frames the other side is read on. The lines
 /// of an offence are written when it is found.
 ///
@@ -203,14 +203,14 @@ fn list_each<W: Sink>(
 /// Lists the end of a log after the offences of its events, and closes the report.
 fn close<W: Sink>(
     alloc: Global,
-    events: &mut SurveyReader,
+    events: &SurveyReader,
     writer: &mut W,
     listing: Listing,
     tally: &mut Tally,
     end: End,
 ) -> Result<Verdict, RunFault>
     ensures { (completeness : Completeness) (limits : Bounds) (start now old : Told)
-        → Listed completeness limits listing events.old tally.old start now old
+        → Listed completeness limits listing events.now tally.old start now old
         (W.told writer.old) end
         → Reports completeness limits listing start now old (W.told writer.new) result }
 {
@@ -223,23 +223,23 @@ fn close<W: Sink>(
 /// What comes after the lines of the offences, and the verdict.
 fn closing_of(
     alloc: Global,
-    events: &mut SurveyReader,
+    events: &SurveyReader,
     tally: &Tally,
     bad: Option<Verdict>,
 ) -> Result<Closing, Memory>
     ensures { IfOk result (λ closed. (found : List SpecOffence) (notes : List Noted)
         → IsTally tally.now found
-        → (found ≡ [] → Follows events.old.walk.events.session events.old.walk.events.docs
-        events.old.walk.events.counts (events_of notes))
+        → (found ≡ [] → Follows events.now.walk.events.session events.now.walk.events.docs
+        events.now.walk.events.counts (events_of notes))
         → length found < 2 ^ 64 → as_given
-        (yes (summary events.old.walk.events.docs.terms (events_of notes)))
-        ≡ yes (summary events.old.walk.events.docs.terms (events_of notes))
+        (yes (summary events.now.walk.events.docs.terms (events_of notes)))
+        ≡ yes (summary events.now.walk.events.docs.terms (events_of notes))
         → (string_bytes closed.text
         ≡ closing found (option_map verdict_view bad)
-        (summary events.old.walk.events.docs.terms (events_of notes)))
+        (summary events.now.walk.events.docs.terms (events_of notes)))
         × (verdict_view closed.verdict
         ≡ first_verdict found (option_map verdict_view bad)
-        (summary events.old.walk.events.docs.terms (events_of notes)))) }
+        (summary events.now.walk.events.docs.terms (events_of notes)))) }
 {
     match tally.first {
         Some(first) => Ok(Closing {

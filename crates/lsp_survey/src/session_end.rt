@@ -7,15 +7,17 @@ ghost use Rattle.lsp_verdict.specs.Event.{Event};
 ghost use Rattle.lsp_verdict.specs.Given.{offence_view};
 ghost use Rattle.lsp_verdict.specs.Offences.{Noted, events_of, kept_of};
 ghost use Rattle.lsp_verdict.specs.Verdict.{no_next};
+ghost use Rattle.lsp_types.specs.declared.rules.TheConstants as rules;
 
 use crate::walk::Walk;
 use lsp_rpc::Memory;
+use lsp_types::rules;
 use lsp_verdict::{Completeness, Counts, Offence, Who};
 use std::alloc::Global;
 
 /// What is listed of the end of a log without a fault, after the events heard: 107 for each side
-/// whose stream ends inside a frame, the editor's first; where there is none, what the session
-/// lacks to be complete.
+/// whose stream ends inside a frame, the editor's first; where there is none, what is missing
+/// from the session.
 pub(crate) fn ends(
     alloc: Global,
     walk: &Walk,
@@ -50,10 +52,11 @@ fn list_rest(
 ) -> Result<(), Memory>
     ensures { OnOk result ((events : List Event) → AreCounts counts.now events
         → map offence_view listed.new.items ≡ map offence_view listed.old.items
-        ++ (if inside then given_by (no_next 107 by events) ∷ [] else [])) }
+        ++ (if inside
+        then given_by (no_next rules.STREAM_ENDS_INSIDE_FRAME by events) ∷ [] else [])) }
 {
     if inside {
-        listed.push(Offence::next(counts, 107, by, false))?;
+        listed.push(Offence::next(counts, rules::STREAM_ENDS_INSIDE_FRAME, by, false))?;
     }
     Ok(())
 }

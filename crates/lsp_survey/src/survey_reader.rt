@@ -106,7 +106,7 @@ impl SurveyReader {
             → SoFar limits self.old start (R.told reader.old) past before found
             → Pulls self.old.completeness limits self.new start
             (R.told reader.new) past before found result }
-        // The records of the log go on after those before.
+        // The records of the log continue after those before.
         ensures later { IfOk result
             (λ next. (limits : Bounds) (start : Told) (past : List Raw) (before : List Noted)
             (found : List SpecOffence)
@@ -130,18 +130,18 @@ impl SurveyReader {
     }
 
     /// The verdict where nothing is listed: the fault of the log, else Yes.
-    pub fn sound(&mut self, bad: Option<Verdict>) -> Result<Verdict, Memory>
+    pub fn sound(&self, bad: Option<Verdict>) -> Result<Verdict, Memory>
         ensures { IfOk result (λ verdict. (notes : List Noted)
-            → Follows self.old.walk.events.session self.old.walk.events.docs
-            self.old.walk.events.counts (events_of notes)
-            → as_given (yes (summary self.old.walk.events.docs.terms (events_of notes)))
-            ≡ yes (summary self.old.walk.events.docs.terms (events_of notes))
+            → Follows self.now.walk.events.session self.now.walk.events.docs
+            self.now.walk.events.counts (events_of notes)
+            → as_given (yes (summary self.now.walk.events.docs.terms (events_of notes)))
+            ≡ yes (summary self.now.walk.events.docs.terms (events_of notes))
             → verdict_view verdict ≡ first_verdict [] (option_map verdict_view bad)
-            (summary self.old.walk.events.docs.terms (events_of notes))) }
+            (summary self.now.walk.events.docs.terms (events_of notes))) }
     {
         match bad {
             Some(verdict) => Ok(verdict),
-            None => Ok(Verdict::Yes(summary_of(self.alloc, &mut self.walk.events)?)),
+            None => Ok(Verdict::Yes(summary_of(self.alloc, &self.walk.events)?)),
         }
     }
 
@@ -188,7 +188,7 @@ impl SurveyReader {
         self.log.rest(side)
     }
 
-    /// After a fault of the log, how many of its bytes stand before that: the bad record begins
+    /// After a fault of the log, how many of its bytes come before that: the bad record begins
     /// there; 0 where the first line is missing.
     pub fn place(&self) -> u64
         ensures { result ≡ self.now.log.log.place }
@@ -196,7 +196,7 @@ impl SurveyReader {
         self.log.place()
     }
 
-    /// After a fault of the log, the line that stands at its place, its LF included, as far as the
+    /// After a fault of the log, the line that is at its place, its LF included, as far as the
     /// log's first 64 bytes from there on go, and 14 of a log whose first line is missing.
     pub fn found(&self) -> &[u8]
         ensures { result.now ≡ shown_by self.now.log.log }
@@ -204,7 +204,7 @@ impl SurveyReader {
         self.log.found()
     }
 
-    /// What the end of the log comes to.
+    /// The result of the end of the log.
     fn end(&self, end: streams::End) -> Result<End, Memory>
         ensures { IfOk result (λ told. EndIs self.now end told) }
     {

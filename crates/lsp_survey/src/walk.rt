@@ -1,4 +1,4 @@
-//! The events of a session, of which those that offend are passed over.
+//! The events of a session, of which those that offend are skipped.
 ghost use Rattle.std.specs.Prelude.{◌≡◌, ◌&&◌, ◌||◌, [], Bool, List, None, Some, false, IfOk, OnOk};
 ghost use Rattle.std.specs.Prelude.{chars};
 ghost use Rattle.lsp_docs.specs.Calls.{shows};
@@ -33,7 +33,7 @@ use lsp_rpc::{Memory, Side, Spoken};
 use lsp_verdict::{Completeness, Counts, Offence, Raw, Who, who_of};
 use std::alloc::Global;
 
-/// What the events of a session have come to, where each that offends is passed over.
+/// The result of the events of a session, where each that offends is skipped.
 ///
 /// Session and documents hold the kept ones, the counts are of all.
 #[derive(Drop)]
@@ -76,7 +76,7 @@ impl Walk {
         }
     }
 
-    /// What the session lacks to be complete, by its rule, where it has to be.
+    /// What is missing from the session, by its rule, where it must be complete.
     pub(crate) fn lack(&self, completeness: Completeness) -> Option<u16>
         ensures { (kept : List Event) → Holds self.now.events.session self.now.events.docs kept
             → result ≡ lack_by completeness kept }
@@ -130,7 +130,7 @@ impl Walk {
         self.said.keep(number, side, &spoken.message, phase)
     }
 
-    /// Passes over the event that was refused so.
+    /// Skips the event that was refused so.
     fn pass_over(&mut self, alloc: Global, raw: Raw<'_>, refused: Refused) -> Result<Heard, Memory>
         ensures terms { self.new.events.docs.terms ≡ self.old.events.docs.terms }
         ensures heard { IfOk result (λ heard. (before : List Noted) → Walks self.old before
@@ -144,7 +144,7 @@ impl Walk {
         }
     }
 
-    /// Passes over the event that breaks this rule, and of which no message is known.
+    /// Skips the event that breaks this rule, and of which no message is known.
     fn refuse_raw(&mut self, alloc: Global, rule: u16, raw: Raw<'_>) -> Result<Heard, Memory>
         ensures terms { self.new.events.docs.terms ≡ self.old.events.docs.terms }
         ensures heard { IfOk result (λ heard. (before : List Noted) → Walks self.old before
@@ -160,7 +160,7 @@ impl Walk {
         }
     }
 
-    /// Passes over a fault of the frames of a side.
+    /// Skips a fault of the frames of a side.
     fn refuse_frames(&mut self, side: Side, rule: u16) -> Heard
         ensures terms { self.new.events.docs.terms ≡ self.old.events.docs.terms }
         ensures passes { PassesOver self.old self.new (spec.who_of side) rule false
@@ -173,7 +173,7 @@ impl Walk {
         })
     }
 
-    /// Passes over a message that offends by this rule.
+    /// Skips a message that offends by this rule.
     fn refuse_message(&mut self, side: Side, rule: u16, spoken: Spoken) -> Result<Heard, Memory>
         ensures terms { self.new.events.docs.terms ≡ self.old.events.docs.terms }
         ensures passes { IfOk result
@@ -192,7 +192,7 @@ impl Walk {
         }))
     }
 
-    /// Passes over a content that breaks this rule.
+    /// Skips a content that breaks this rule.
     fn refuse_content(
         &mut self,
         alloc: Global,
@@ -215,7 +215,7 @@ impl Walk {
         }))
     }
 
-    /// Passes over a snapshot that offends by this rule.
+    /// Skips a snapshot that offends by this rule.
     fn refuse_snapshot(
         &mut self,
         alloc: Global,

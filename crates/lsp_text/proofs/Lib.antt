@@ -11,4 +11,8 @@ pub mod Edits
 pub mod Widths
 pub mod Blocks
 pub mod LineEnds
+pub mod SameTexts
+pub mod SameBytes
+pub mod SameByLines
+pub mod WorkedSameTexts
 pub mod Differing

@@ -5,7 +5,8 @@ use Rattle.lsp_types.specs.declared.position.Position.{Position}
 use Rattle.lsp_text.specs.Lines.{lines_of, text_of, spelled, line_at}
 use Rattle.lsp_text.specs.Places.{units, Denotes}
 
--- the first n characters are the same, and at n they differ, or one text ends there and the other goes on
+-- the first n characters are the same, and at n they differ, or one text ends there and the other
+-- continues
 pub record IsFirstDifference (a b : List ℕ) (n : ℕ) : Type 0 where
   pub before : take n a ≡ take n b
   pub here : slice_get a n ≢ slice_get b n

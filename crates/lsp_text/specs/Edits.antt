@@ -11,22 +11,24 @@ use Rattle.lsp_text.specs.declared.fault.TextFault.{TextFault}
 use Rattle.lsp_text.specs.declared.fault.TextFault.TheVariants.{Rule, Memory}
 use Rattle.lsp_text.specs.declared.store.Place.{Place}
 use Rattle.lsp_text.specs.Places.{units, place_of}
+use Rattle.lsp_types.specs.declared.rules.TheConstants as rules
 
--- `s` in the place of the characters from `a` up to `b`
+-- `s` in place of the characters from `a` up to `b`
 abbrev pub splice : List ℕ → ℕ → ℕ → List ℕ → List ℕ
 splice t a b s = take a t ++ s ++ drop b t
 
 -- a text of at most `limit` bytes, or 607
 abbrev pub limited : ℕ → List ℕ → Result (List ℕ) ℕ
-limited limit t = cond (nat_lt limit (units Utf8 t)) (Err 607) (Ok t)
+limited limit t = cond (nat_lt limit (units Utf8 t)) (Err rules.DOCUMENT_OVER_LIMIT) (Ok t)
 
 -- a splice between two places: 605 where one is none, 606 where they are reversed
 abbrev pub spliced : List ℕ → Option ℕ → Option ℕ → List ℕ → ℕ → Result (List ℕ) ℕ
-spliced t None b s limit = Err 605
-spliced t (Some a) None s limit = Err 605
-spliced t (Some a) (Some b) s limit = cond (nat_lt b a) (Err 606) (limited limit (splice t a b s))
+spliced t None b s limit = Err rules.POSITION_INSIDE_CHARACTER
+spliced t (Some a) None s limit = Err rules.POSITION_INSIDE_CHARACTER
+spliced t (Some a) (Some b) s limit =
+    cond (nat_lt b a) (Err rules.RANGE_REVERSED) (limited limit (splice t a b s))
 
--- `s` in the place of what a span holds: the text, or the rule that refuses it
+-- `s` in place of what a span holds: the text, or the rule that refuses it
 abbrev pub replaced : Encoding → List ℕ → Span → List ℕ → ℕ → Result (List ℕ) ℕ
 replaced enc t span s limit = spliced t (place_of enc t span.first) (place_of enc t span.second) s limit
 
@@ -35,7 +37,7 @@ abbrev pub changed : Encoding → List ℕ → Option Span → List ℕ → ℕ 
 changed enc t None s limit = limited limit s
 changed enc t (Some span) s limit = replaced enc t span s limit
 
--- a change: `text` in the place of the span, or of all where there is none
+-- a change: `text` in place of the span, or of all where there is none
 pub record Edit : Type 0 where
   pub span : Option Span
   pub text : List ℕ
@@ -66,5 +68,5 @@ pub record FailsAfter (limit : ℕ) (enc : Encoding) (t : List ℕ) (cs : List E
 
 -- the place, or 605 where there is none
 abbrev pub IsPlaceOr605 : Option ℕ → Result Place TextFault → Type 0
-IsPlaceOr605 None r = r ≡ Err (Rule 605)
+IsPlaceOr605 None r = r ≡ Err (Rule rules.POSITION_INSIDE_CHARACTER)
 IsPlaceOr605 (Some k) r = r ≡ Ok (record { chars = k })

@@ -5,7 +5,7 @@ use Rattle.lsp_types.specs.declared.position.Position.{Position}
 use Rattle.lsp_text.specs.Lines.{Line, lines_of}
 use Rattle.lsp_text.specs.Places.{units, units_of_char, place_of}
 
--- a column of a line lies behind the first unit of this character, and before its end
+-- a column of a line lies after the first unit of this character, and before its end
 pub record FallsInside (enc : Encoding) (line : List ℕ) (column c : ℕ) : Type 0 where
   pub before : List ℕ
   pub after : List ℕ

@@ -1,4 +1,5 @@
 pub mod Lines
+pub mod SameText
 pub mod Places
 pub mod Edits
 pub mod Changes

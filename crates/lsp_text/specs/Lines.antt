@@ -11,7 +11,7 @@ pub record Line : Type 0 where
 abbrev pub open_line : List ℕ → Line
 open_line text = record { text = text; end = [] }
 
--- a line as it stands in the text
+-- a line as it is in the text
 abbrev pub spelled : Line → List ℕ
 spelled l = l.text ++ l.end
 
@@ -53,7 +53,7 @@ pub record IsCut (t : List ℕ) (ls : List Line) : Type 0 where
   pub whole : has_no_line_end last ≡ true
   pub text : text_of front ++ last ≡ t
 
--- the lines of a text, from its end: a character stands before the lines of what follows it
+-- the lines of a text, from its end: a character comes before the lines of what follows it
 abbrev pub before_line : List ℕ → List Line → List Line
 before_line cs [] = open_line cs ∷ []
 before_line cs (l ∷ ls) = record { text = cs ++ l.text; end = l.end } ∷ ls

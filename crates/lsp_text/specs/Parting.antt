@@ -10,14 +10,14 @@ pub record AreSameTo (a b : List ℕ) (n : ℕ) : Type 0 where
   pub right : n ≤ length b
   pub same : take n a ≡ take n b
 
--- the texts first differ behind so many bytes
+-- the texts first differ after this many bytes
 pub record IsParting (a b : List ℕ) (offset : ℕ) : Type 0 where
   pub left : IsCharBoundary a offset
   pub right : IsCharBoundary b offset
   pub same : take offset a ≡ take offset b
   pub first : IsFirstDifference (chars a) (chars b) (length (chars (take offset a)))
 
--- a CR stands before the place, and a LF behind it
+-- a CR comes before the place, and a LF after it
 pub record IsInsideEnd (bs : List ℕ) (offset : ℕ) : Type 0 where
   pub some : 0 < offset
   pub more : offset < length bs
@@ -28,7 +28,8 @@ pub record IsInsideEnd (bs : List ℕ) (offset : ℕ) : Type 0 where
 abbrev pub IsSearchEnd : List ℕ → ℕ → ℕ → Type 0
 IsSearchEnd bs offset end = (IsInsideEnd bs offset × (end + 1 ≡ offset)) ⊎ ((IsInsideEnd bs offset → ⊥) × (end ≡ offset))
 
--- the line in which the place lies begins behind `start` bytes: as many lines follow from there as from the place
+-- the line in which the place lies begins after `start` bytes: as many lines follow from there as
+-- from the place
 pub record IsLineStart (bs : List ℕ) (offset start : ℕ) : Type 0 where
   pub within : start ≤ offset
   pub boundary : IsCharBoundary bs start

@@ -7,6 +7,7 @@ use Rattle.lsp_types.specs.declared.position.Encoding.TheVariants.{Utf8}
 use Rattle.lsp_types.specs.declared.position.Span.{Span}
 use Rattle.lsp_text.specs.Places.{units}
 use Rattle.lsp_text.specs.Edits.{changed, limited}
+use Rattle.lsp_types.specs.declared.rules.TheConstants as rules
 
 -- the change makes a text of n bytes of UTF-8, under every limit that is no less
 pub record IsSizeWith (enc : Encoding) (t : List ℕ) (span : Option Span) (s : List ℕ) (n : ℕ) : Type 0 where
@@ -16,4 +17,6 @@ pub record IsSizeWith (enc : Encoding) (t : List ℕ) (span : Option Span) (s : 
 
 -- no limit lets the change be made: 605 or 606 refuses it
 abbrev pub IsNeverMade : Encoding → List ℕ → Option Span → List ℕ → Type 0
-IsNeverMade enc t span s = (limit : ℕ) → (changed enc t span s limit ≡ Err 605) ⊎ (changed enc t span s limit ≡ Err 606)
+IsNeverMade enc t span s =
+    (limit : ℕ) → (changed enc t span s limit ≡ Err rules.POSITION_INSIDE_CHARACTER)
+    ⊎ (changed enc t span s limit ≡ Err rules.RANGE_REVERSED)

@@ -9,7 +9,7 @@ use crate::lanes::{is_continuation, units_in};
 use lsp_types::Encoding;
 use std::simd::u8x32;
 
-/// The bytes of a line that a column leaves behind it, and the column in what is left.
+/// The bytes of a line that a column leaves after it, and the column in what is left.
 #[derive(Clone, Copy)]
 struct Skipped {
     bytes: usize,

@@ -15,7 +15,7 @@ pub struct Counts {
 }
 
 /// Counts a text's characters and its units of UTF-16 (LSP 3.17, "PositionEncodingKind"), in one
-/// pass over its bytes.
+/// walk over its bytes.
 pub fn measure(text: &str) -> Counts
     ensures chars { result.chars ≡ length (chars text.now) }
     ensures utf16 { result.utf16 ≡ units Encoding.Utf16 (chars text.now) }

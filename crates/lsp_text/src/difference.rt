@@ -19,8 +19,8 @@ use memchr::memrchr2;
 const BLOCK: usize = 256;
 
 /// Where a held text and another one first differ: at the first character that is not the same in
-/// both, or where one of them ends and the other goes on. The characters before that place are the
-/// same.
+/// both, or where one of them ends and the other continues. The characters before that place are
+/// the same.
 #[derive(Clone, Copy, Debug, PartialEq, Eq)]
 pub struct Difference<'a, 'b> {
     /// The place in the held text. The column counts units of the encoding. Where the place lies
@@ -28,10 +28,10 @@ pub struct Difference<'a, 'b> {
     /// one unit. A number past 2^32 - 1 is told as that one.
     pub at: Position,
     /// The line of the held text in which the place lies, its line end included. The end of a text
-    /// lies in the last line, which is empty behind a line end.
+    /// lies in the last line, which is empty after a line end.
     pub held: &'a str,
     /// The same of the other text. Its number differs where the place lies between a CR and a LF in
-    /// one of the texts, and so behind a CR that ends a line by itself in the other.
+    /// one of the texts, and so after a CR that ends a line by itself in the other.
     pub other: &'b str,
 }
 
@@ -107,7 +107,7 @@ fn is_same_block(a: &[u8], b: &[u8], at: usize) -> bool
     &a[at..at + BLOCK] == &b[at..at + BLOCK]
 }
 
-/// Where the place behind so many bytes lies, in lines and in units of the encoding.
+/// Where the place after this many bytes lies, in lines and in units of the encoding.
 fn position_of(text: &str, offset: usize, encoding: Encoding) -> Position
     requires { IsCharBoundary text.now offset }
     ensures { result ≡ position_at encoding (chars text.now)
@@ -129,7 +129,7 @@ fn capped(n: u64) -> u32
     n.min(u32::MAX as u64) as u32
 }
 
-/// The line in which the place behind so many bytes lies, with its line end.
+/// The line in which the place after this many bytes lies, with its line end.
 fn line_of(text: &str, offset: usize) -> &str
     requires { IsCharBoundary text.now offset }
     ensures { chars result.now
@@ -150,7 +150,7 @@ fn first_line(text: &str) -> &str
     whole
 }
 
-/// The bytes before the line in which the place behind so many bytes lies.
+/// The bytes before the line in which the place after this many bytes lies.
 fn line_start(text: &str, offset: usize) -> usize
     requires { IsCharBoundary text.now offset }
     ensures { IsLineStart text.now offset result }

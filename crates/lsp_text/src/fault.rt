@@ -5,16 +5,7 @@ ghost use Rattle.std.specs.Prelude.{◌≡◌};
 use std::alloc::AllocError;
 use thiserror::Error;
 
-/// The rule that a position inside a character breaks.
-pub const INSIDE_CHARACTER: u16 = 605;
-
-/// The rule that a span breaks whose first place is after its second.
-pub const REVERSED: u16 = 606;
-
-/// The rule that a text of more bytes of UTF-8 than the limit breaks.
-pub const OVER_LIMIT: u16 = 607;
-
-/// Why a text call is refused: a rule, by its number, or want of memory.
+/// Why a text call is refused: a rule, by its number, or lack of memory.
 #[derive(Clone, Copy, Debug, Drop, PartialEq, Eq, Error)]
 pub enum TextFault {
     /// 605 a position inside a character, 606 a reversed span, 607 a text over the limit.

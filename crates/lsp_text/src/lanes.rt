@@ -9,7 +9,7 @@ use crate::counts::Counts;
 use lsp_types::Encoding;
 use std::simd::u8x32;
 
-/// The least byte that goes on with a character.
+/// The least byte that continues a character.
 const CONTINUATION: u8 = 0x80;
 
 /// The least byte that begins a character of several bytes.
@@ -81,7 +81,7 @@ fn units_of_byte(byte: u8, encoding: Encoding) -> u32
     }
 }
 
-/// Whether a byte goes on with a character.
+/// Whether a byte continues a character.
 pub(crate) fn is_continuation(byte: u8) -> bool
     ensures { IsTrue result ↔ ((128 ≤ byte) × (byte < 192)) }
 {

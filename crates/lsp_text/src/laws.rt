@@ -5,6 +5,8 @@ ghost use Rattle.lsp_text.specs.InsideCharacter.{PositionsLieInside};
 ghost use Rattle.lsp_text.specs.Lines.{LinesAreTheCut, LinesOfJoined};
 ghost use Rattle.lsp_text.specs.Places.{PlacesAreDenoted, OnePlaceAtMost, NoneInsideLineEnd};
 ghost use Rattle.lsp_text.specs.Places.{CharactersDenote};
+ghost use Rattle.lsp_text.specs.SameText.{ExactTexts, FeedsEndLines, SameByLines};
+ghost use Rattle.lsp_text.specs.SameText.{SameTexts};
 
 /// Every text has exactly one cut into lines, as LSP 3.17, "Text Documents", has them: each line
 /// but the last ends with CR LF, LF or CR, none has a line end inside, and no CR before a LF ends a
@@ -54,4 +56,27 @@ pub fn places_have_positions()
 /// one.
 pub fn positions_lie_inside()
     ensures { PositionsLieInside }
+{}
+
+/// Being the same, up to line ends or with them, is an equivalence of texts, and equal texts are
+/// the same.
+pub fn same_texts()
+    ensures { SameTexts }
+{}
+
+/// Where line ends are ignored, two texts are the same exactly if their lines are, without their
+/// ends and without an empty last one.
+pub fn same_by_lines()
+    ensures { SameByLines }
+{}
+
+/// Where line ends count, the same texts are equal.
+pub fn exact_texts_are_equal()
+    ensures { ExactTexts }
+{}
+
+/// Where line ends are ignored, a LF stands for the end of each line that has one, and no other
+/// character changes.
+pub fn feeds_end_lines()
+    ensures { FeedsEndLines }
 {}

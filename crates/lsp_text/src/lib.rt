@@ -18,6 +18,7 @@ mod lanes;
 mod laws;
 mod plain;
 mod reading;
+mod same;
 mod store;
 
 pub use changes::{change, change_all};
@@ -25,11 +26,13 @@ pub use columns::offset_in_line;
 pub use counts::{Counts, measure};
 pub use cut::FirstLine;
 pub use difference::{Difference, first_difference};
-pub use fault::{INSIDE_CHARACTER, OVER_LIMIT, REVERSED, TextFault};
+pub use fault::TextFault;
 pub use laws::{
-    characters_denote, line_ends_are_whole, lines_are_the_cut, lines_of_joined, one_difference,
-    places_are_denoted, places_have_positions, positions_denote_one_place, positions_lie_inside,
+    characters_denote, exact_texts_are_equal, feeds_end_lines, line_ends_are_whole,
+    lines_are_the_cut, lines_of_joined, one_difference, places_are_denoted, places_have_positions,
+    positions_denote_one_place, positions_lie_inside, same_by_lines, same_texts,
 };
 pub use plain::Plain;
 pub use reading::{char_inside, line_at, size_with, width_of};
+pub use same::{LinesLeft, is_taken, same_lines, take_lines, without_last_end};
 pub use store::{Place, TextStore};

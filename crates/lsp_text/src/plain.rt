@@ -1,4 +1,4 @@
-//! A text in one `String`, cut into lines anew at each position.
+//! A text in one `String`, cut into lines again at each position.
 
 ghost use Rattle.std.specs.Prelude.{◌≡◌, ◌≤◌, None, length, MatchOption};
 ghost use Rattle.std.specs.Str.{chars};
@@ -9,14 +9,15 @@ ghost use Rattle.lsp_text.specs.Offsets.{IsTextOffset};
 use crate::columns::offset_in_line;
 use crate::counts::measure;
 use crate::cut::FirstLine;
-use crate::fault::{INSIDE_CHARACTER, OVER_LIMIT, REVERSED, TextFault};
+use crate::fault::TextFault;
+use crate::same::same_lines;
 use crate::store::{Place, TextStore};
-use lsp_types::{Encoding, Memory, Position, Span};
+use lsp_types::{Encoding, Memory, Position, Span, rules};
 use std::alloc::Global;
 use std::marker::Model;
 
 /// A text in one `String`. A position costs a look at the lines up to its own, and an edit moves
-/// the bytes behind it.
+/// the bytes after it.
 #[derive(Drop)]
 pub struct Plain {
     text: String,
@@ -43,7 +44,7 @@ impl TextStore for Plain {
     fn resolve(&self, encoding: Encoding, position: Position) -> Result<Place, TextFault> {
         let text = self.text.as_str();
         match offset_of(text, encoding, position) {
-            None => Err(TextFault::Rule(INSIDE_CHARACTER)),
+            None => Err(TextFault::Rule(rules::POSITION_INSIDE_CHARACTER)),
             Some(offset) => {
                 let (front, _) = text.split_at(offset);
                 Ok(Place {
@@ -62,16 +63,16 @@ impl TextStore for Plain {
     ) -> Result<(), TextFault> {
         let held = self.text.as_str();
         let Some(first) = offset_of(held, encoding, span.first) else {
-            return Err(TextFault::Rule(INSIDE_CHARACTER));
+            return Err(TextFault::Rule(rules::POSITION_INSIDE_CHARACTER));
         };
         let Some(second) = offset_of(held, encoding, span.second) else {
-            return Err(TextFault::Rule(INSIDE_CHARACTER));
+            return Err(TextFault::Rule(rules::POSITION_INSIDE_CHARACTER));
         };
         if second < first {
-            return Err(TextFault::Rule(REVERSED));
+            return Err(TextFault::Rule(rules::RANGE_REVERSED));
         }
         if limit < (first + text.len() + (held.len() - second)) as u64 {
-            return Err(TextFault::Rule(OVER_LIMIT));
+            return Err(TextFault::Rule(rules::DOCUMENT_OVER_LIMIT));
         }
         self.text.replace_range(first..second, text)?;
         Ok(())
@@ -79,7 +80,7 @@ impl TextStore for Plain {
 
     fn replace_all(&mut self, text: &str, limit: u64) -> Result<(), TextFault> {
         if limit < text.len() as u64 {
-            return Err(TextFault::Rule(OVER_LIMIT));
+            return Err(TextFault::Rule(rules::DOCUMENT_OVER_LIMIT));
         }
         let len = self.text.as_str().len();
         self.text.replace_range(0..len, text)?;
@@ -88,6 +89,10 @@ impl TextStore for Plain {
 
     fn equals(&self, text: &str) -> bool {
         self.text.as_str() == text
+    }
+
+    fn same_lines(&self, text: &str) -> bool {
+        same_lines(self.text.as_str(), text)
     }
 
     fn to_text(&self, alloc: Global) -> Result<String, Memory> {

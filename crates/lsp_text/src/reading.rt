@@ -75,7 +75,7 @@ fn char_in_line(line: &str, encoding: Encoding, column: u32) -> Option<char>
     None
 }
 
-/// The bytes of UTF-8 that a text would have with a change: with an insertion in the place of a
+/// The bytes of UTF-8 that a text would have with a change: with an insertion in place of a
 /// span, or of the whole text where there is none. `None` where no limit lets the change be made: a
 /// position lies inside a character, or the span is reversed.
 pub fn size_with(text: &str, encoding: Encoding, span: Option<Span>, insertion: &str) -> Option<u64>
@@ -88,7 +88,7 @@ pub fn size_with(text: &str, encoding: Encoding, span: Option<Span>, insertion: 
     }
 }
 
-/// The same with an insertion in the place of a span.
+/// The same with an insertion in place of a span.
 fn size_between(text: &str, encoding: Encoding, span: Span, insertion: &str) -> Option<u64>
     ensures { MatchOption result
         (IsNeverMade encoding (chars text.now) (Some span) (chars insertion.now))

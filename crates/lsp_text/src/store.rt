@@ -6,9 +6,10 @@ ghost use Rattle.std.specs.String.{string_bytes};
 ghost use Rattle.lsp_text.specs.Lines.{lines_of};
 ghost use Rattle.lsp_text.specs.Places.{units, place_of};
 ghost use Rattle.lsp_text.specs.Edits.{replaced, limited, IsFaultOf, IsPlaceOr605};
+ghost use Rattle.lsp_text.specs.SameText.{SameText};
 
 use crate::fault::TextFault;
-use lsp_types::{Encoding, Memory, Position, Span};
+use lsp_types::{Encoding, LineEnds, Memory, Position, Span};
 use std::alloc::Global;
 
 /// A place in a text, between two characters or at its ends: the characters (Unicode scalar values)
@@ -37,7 +38,7 @@ pub trait TextStore: Drop {
     fn resolve(&self, encoding: Encoding, position: Position) -> Result<Place, TextFault>
         ensures { IsPlaceOr605 (place_of encoding (content self.now) position) result };
 
-    /// Puts a text in the place of the characters of a span. Rule 605 refuses a position inside a
+    /// Replaces the characters of a span by a text. Rule 605 refuses a position inside a
     /// character, then 606 a first place after the second, then 607 a result of more bytes of UTF-8
     /// than the limit.
     fn replace(
@@ -53,7 +54,7 @@ pub trait TextStore: Drop {
             (IsFaultOf (replaced encoding (content self.old) span (chars text.now) limit)) }
         ensures err { OnErr result (content self.new ≡ content self.old) };
 
-    /// Puts a text in the place of the whole text. Rule 607 refuses one of more bytes of UTF-8 than
+    /// Replaces the whole text. Rule 607 refuses one of more bytes of UTF-8 than
     /// the limit.
     fn replace_all(&mut self, text: &str, limit: u64) -> Result<(), TextFault>
         ensures ok { OnOk result (limited limit (chars text.now) ≡ Ok (content self.new)) }
@@ -63,6 +64,10 @@ pub trait TextStore: Drop {
     /// Whether it holds this text.
     fn equals(&self, text: &str) -> bool
         ensures { IsTrue result ↔ (content self.now ≡ chars text.now) };
+
+    /// Whether it holds the same text up to line ends ([`crate::same_lines`]).
+    fn same_lines(&self, text: &str) -> bool
+        ensures { IsTrue result ↔ SameText LineEnds.Ignored (content self.now) (chars text.now) };
 
     /// Its text.
     fn to_text(&self, alloc: Global) -> Result<String, Memory>

@@ -3,11 +3,14 @@
 #![tactic(auto)]
 
 mod change;
+mod line_ends;
 mod memory;
 mod position;
+pub mod rules;
 mod side;
 
 pub use change::{Change, SyncKind};
+pub use line_ends::LineEnds;
 pub use memory::Memory;
 pub use position::{Encoding, Position, Span};
 pub use side::Side;

@@ -10,6 +10,7 @@ use Rattle.lsp_verdict.specs.declared.verdict.Who.TheVariants as who
 use Rattle.lsp_verdict.specs.Event.{Event, sent_in}
 use Rattle.lsp_verdict.specs.Kept.{Answers, AreKept, IsKept}
 use Rattle.lsp_verdict.specs.Verdict.{Verdict, no_next}
+use Rattle.lsp_types.specs.declared.rules.TheConstants as rules
 
 -- ---- requests and their answers
 
@@ -50,12 +51,14 @@ pub record IsBroughtToEnd (events : List Event) : Type 0 where
 -- 303 names that a request of the editor's has no answer; where each has one, 407 that `exit` was not sent
 abbrev pub NamesLack : List Event → Verdict → Type 0
 NamesLack events v =
-    (HasUnanswered (sent_in events) × (v ≡ no_next 303 who.Editor events))
-    ⊎ (AllAnswered (sent_in events) × (HasExit (sent_in events) → ⊥) × (v ≡ no_next 407 who.Editor events))
+    (HasUnanswered (sent_in events) × (v ≡ no_next rules.REQUEST_NOT_ANSWERED who.Editor events))
+    ⊎ (AllAnswered (sent_in events) × (HasExit (sent_in events) → ⊥)
+    × (v ≡ no_next rules.EXIT_MISSING who.Editor events))
 
 -- ---- records and logs
 
--- **What Yes says of records whose session has to be complete**: they are kept, and the session was brought to its end.
+-- **What Yes means for records whose session must be complete**: they are kept, and the session was
+-- brought to its end.
 pub record AreComplete (limits : Bounds) (format : Format) (records : List Record) : Type 0 where
   pub kept : AreKept limits format records
   pub ended : IsBroughtToEnd kept.events
@@ -65,12 +68,12 @@ pub record IsComplete (limits : Bounds) (log : List ℕ) : Type 0 where
   pub kept : IsKept limits log
   pub ended : IsBroughtToEnd kept.kept.events
 
--- the records are kept, and what their session lacks is named
+-- the records are kept, and what is missing from their session is reported
 pub record AreCutShort (limits : Bounds) (format : Format) (records : List Record) (v : Verdict) : Type 0 where
   pub kept : AreKept limits format records
   pub names : NamesLack kept.events v
 
--- the log is kept, and what its session lacks is named
+-- the log is kept, and what is missing from its session is reported
 pub record IsCutShort (limits : Bounds) (log : List ℕ) (v : Verdict) : Type 0 where
   pub kept : IsKept limits log
   pub names : NamesLack kept.kept.events v

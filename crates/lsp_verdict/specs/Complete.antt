@@ -1,5 +1,5 @@
--- The verdict where a session has to be complete: no request of the editor's is left without an answer, and the editor sent `exit`.
--- (JSON-RPC 2.0, section 4; LSP 3.17, "Exit Notification".)
+-- The verdict where a session must be complete: no request of the editor's is left without an
+-- answer, and the editor sent `exit`. (JSON-RPC 2.0, section 4; LSP 3.17, "Exit Notification".)
 use Rattle.std.specs.Prelude.{◌≡◌, ℕ, List, Option, option_map, unwrap_or}
 use Rattle.lsp_frame.specs.Bounds.{Bounds}
 use Rattle.lsp_frame.specs.declared.format.Format.{Format}
@@ -13,23 +13,24 @@ use Rattle.lsp_verdict.specs.Event.{Event, sent_in}
 use Rattle.lsp_verdict.specs.Outcome.{IsFinal, IsVerdict}
 use Rattle.lsp_verdict.specs.Verdict.{Verdict, yes, no, bad_log, no_next}
 
--- the No by what a session lacks that ends here: 303 or 407, the editor's, at the event after the last
+-- the No by what is missing from a session that ends here: 303 or 407, the editor's, at the event
+-- after the last
 abbrev pub lack_of : List Event → Option Verdict
 lack_of events = option_map (λ rule. no_next rule who.Editor events) (incomplete (sent_in events))
 
--- what the session lacks stands in the place of Yes
+-- what is missing from the session replaces Yes
 abbrev pub completed : List Event → Verdict → Verdict
 completed events (yes s) = unwrap_or (lack_of events) (yes s)
 completed events (no rule by number event) = no rule by number event
 completed events (bad_log number code) = bad_log number code
 
--- the verdict on these records, whose session has to be complete
+-- the verdict on these records, whose session must be complete
 pub record IsCompleteFinal (limits : Bounds) (format : Format) (records : List Record) (fault : Option (ℕ × LogCode)) (v : Verdict) : Type 0 where
   pub plain : Verdict
   pub final : IsFinal limits format records fault plain
   pub says : completed final.events plain ≡ v
 
--- **the verdict on a log whose session has to be complete**
+-- **the verdict on a log whose session must be complete**
 pub record IsCompleteVerdict (limits : Bounds) (log : List ℕ) (v : Verdict) : Type 0 where
   pub plain : Verdict
   pub whole : IsVerdict limits log plain

@@ -1,4 +1,4 @@
--- Laws over the verdict where a session has to be complete.
+-- Laws over the verdict where a session must be complete.
 use Rattle.std.specs.Prelude.{◌≡◌, ◌⊎◌, ℕ, List}
 use Rattle.lsp_frame.specs.Bounds.{Bounds, IsInRange}
 use Rattle.lsp_log.specs.declared.fault.LogCode.{LogCode}
@@ -25,7 +25,8 @@ CompleteMeansEnded = (limits : Bounds) → IsInRange limits → (log : List ℕ)
 abbrev pub EndedMeansComplete : Type 0
 EndedMeansComplete = (limits : Bounds) (log : List ℕ) (s : Summary) → (whole : IsVerdict limits log (yes s)) → IsBroughtToEnd whole.final.events → IsCompleteVerdict limits log (yes s)
 
--- **No names the first event that offends, or the stream that ends inside a frame; or what the session lacks of a log that is kept.**
+-- **No names the first event that offends, or the stream that ends inside a frame; or what is
+-- missing from the session of a log that is kept.**
 abbrev pub LackIsNamed : Type 0
 LackIsNamed =
     (limits : Bounds) → IsInRange limits → (log : List ℕ) (rule : ℕ) (who : Who) (number event : ℕ) → IsCompleteVerdict limits log (no rule who number event)

@@ -7,6 +7,7 @@ use Rattle.lsp_rpc.specs.Params.{act_at}
 use Rattle.lsp_types.specs.declared.side.Side.{Side}
 use Rattle.lsp_session.specs.Sent.{Sent}
 use Rattle.lsp_verdict.specs.Event.{Event, message, fault, snapshot}
+use Rattle.lsp_types.specs.declared.rules.TheConstants as rules
 
 -- the content is this message, sent by the side, with what it means there
 pub record IsSent (side : Side) (bytes : List ℕ) (m : Sent) : Type 0 where
@@ -22,7 +23,8 @@ pub record HasBadParams (side : Side) (bytes : List ℕ) : Type 0 where
 
 -- the least rule that the content breaks as a message of the side: 201 to 208, then 209
 abbrev pub IsRefused : Side → List ℕ → ℕ → Type 0
-IsRefused side bytes rule = BreaksRule bytes rule ⊎ ((rule ≡ 209) × HasBadParams side bytes)
+IsRefused side bytes rule =
+    BreaksRule bytes rule ⊎ ((rule ≡ rules.BAD_METHOD_PARAMS) × HasBadParams side bytes)
 
 -- the event that the content is
 abbrev pub ReadsAs : Side → List ℕ → Event → Type 0

@@ -43,20 +43,23 @@ pub record HasFirst (limits : Bounds) (known : Option Format) (records : List Re
   pub is_log : IsLog limits log format (records ++ more) fault
   pub is_known : IsKnown known format
 
--- reading broke off behind these records, where so much of the format was known, and nothing was written
+-- reading broke off after these records, where so much of the format was known, and nothing was
+-- written
 pub record BrokeOff (limits : Bounds) (start now : Told) (known : Option Format) (records : List Record) (fault : RunFault) : Type 0 where
   pub of_read : OfRead limits start now (HasFirst limits known records)
   pub failures : now.failures ≡ failures_after fault start.failures
   pub unwritten : fault ≡ faults.Write → ⊥
 
--- what the log has next behind these records, of which a reader that knew so much of the format read it
+-- what the log has next after these records, of which a reader that knew so much of the format read
+-- it
 abbrev pub EntryIs : reader.State → Bounds → Told → Told → Option Format → List Record → Result Entry RunFault → Type 0
 EntryIs r limits start now known records (Ok (entry.Record next)) = IsAt r start now (records ++ record_view next ∷ [])
 EntryIs r limits start now known records (Ok entry.End) = HasRecords limits start now r.format records None × IsAtEnd now.bytes
 EntryIs r limits start now known records (Ok (entry.Bad number fault)) = HasRecords limits start now r.format records (Some (number, fault))
 EntryIs r limits start now known records (Err fault) = BrokeOff limits start now known records fault
 
--- the log has its fault behind these records, and the reader of it knows how many bytes stand before that, and the line that stands there
+-- the log has its fault after these records, and the reader of it knows how many bytes come before
+-- that, and the line that is there
 pub record ShowsFault (r : reader.State) (limits : Bounds) (records : List Record) (fault : ℕ × LogCode) (log : List ℕ) : Type 0 where
   pub is_log : IsLog limits log r.format records (Some fault)
   pub place_is : r.place ≡ place_of r.format records

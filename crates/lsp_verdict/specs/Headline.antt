@@ -13,6 +13,7 @@ use Rattle.lsp_verdict.specs.Kept.{NothingOffends, AreFrames, IsKept}
 use Rattle.lsp_verdict.specs.Outcome.{HasRest, IsVerdict, format_or_one, log_terms}
 use Rattle.lsp_verdict.specs.Placed.{IsSession, joined}
 use Rattle.lsp_verdict.specs.Verdict.{Verdict, Summary, yes, no, bad_log, summary, no_by, no_next, offence}
+use Rattle.lsp_types.specs.declared.rules.TheConstants as rules
 
 -- **Yes means kept.**
 abbrev pub YesMeansKept : Type 0
@@ -37,7 +38,8 @@ pub record Names (terms : Terms) (events : List Event) (v : Verdict) : Type 0 wh
   pub first : NothingOffends terms before
   pub is : v ≡ no_by before event rule
 
--- no event offends, the log has no fault, and a stream has bytes left that are no whole frame, the editor's named first
+-- no event offends, the log has no fault, and a stream has bytes left that are not a whole frame,
+-- the editor's first
 pub record HasRest107 (limits : Bounds) (format : Format) (records : List Record) (fault : Option (ℕ × LogCode)) (events : List Event) (v : Verdict) : Type 0 where
   pub clean : NothingOffends (terms_of limits format) events
   pub no_fault : fault ≡ None
@@ -45,9 +47,11 @@ pub record HasRest107 (limits : Bounds) (format : Format) (records : List Record
   pub server : List ℕ
   pub editor_rest : HasRest limits (joined Editor records) editor
   pub server_rest : HasRest limits (joined Server records) server
-  pub named : ((0 < length editor) × (v ≡ no_next 107 who.Editor events)) ⊎ ((editor ≡ []) × (0 < length server) × (v ≡ no_next 107 who.Server events))
+  pub named : ((0 < length editor) × (v ≡ no_next rules.STREAM_ENDS_INSIDE_FRAME who.Editor events))
+      ⊎ ((editor ≡ []) × (0 < length server)
+      × (v ≡ no_next rules.STREAM_ENDS_INSIDE_FRAME who.Server events))
 
--- what No says of a log
+-- what No means for a log
 pub record Refuses (limits : Bounds) (log : List ℕ) (v : Verdict) : Type 0 where
   pub format : Option Format
   pub records : List Record

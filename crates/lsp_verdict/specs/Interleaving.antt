@@ -18,16 +18,17 @@ use Rattle.lsp_verdict.specs.Event.{Event, message, fault, snapshot, sent_in}
 use Rattle.lsp_verdict.specs.Placed.{IsSession}
 use Rattle.lsp_verdict.specs.Verdict.{Ending, Summary, first_no, verdict, yes, no}
 use Rattle.lsp_verdict.specs.declared.verdict.Who.{Who}
+use Rattle.lsp_types.specs.declared.rules.TheConstants as rules
 
 -- ---- each side's own order
 
--- in whose order an event stands; a snapshot stands in the editor's
+-- in whose order an event is; a snapshot is in the editor's
 abbrev pub order_of : Event → Side
 order_of (message m) = m.side
 order_of (fault side rule) = side
 order_of (snapshot uri number text) = Editor
 
--- the event stands in this side's order
+-- the event is in this side's order
 abbrev pub is_own : Side → Event → Bool
 is_own side event = same_side side (order_of event)
 
@@ -106,7 +107,9 @@ complete = record { log_fault = None; editor_rest = false; server_rest = false }
 
 -- 301 and 302, and 401 to 412: whether a message may come where it does
 abbrev pub is_order_rule : ℕ → Bool
-is_order_rule rule = (nat_le 301 rule && nat_le rule 302) || (nat_le 401 rule && nat_le rule 412)
+is_order_rule rule =
+    (nat_le rules.RESPONSE_TO_NO_OPEN_REQUEST rule && nat_le rule rules.ID_ALREADY_OPEN)
+    || (nat_le rules.EDITOR_BEFORE_INITIALIZE rule && nat_le rule rules.SERVER_WHILE_INITIALIZE_OPEN)
 
 -- the open documents with their versions and texts, the unmatched snapshots and what was agreed are the same
 pub record Agree (terms : Terms) (events others : List Event) (s t : Summary) : Type 0 where

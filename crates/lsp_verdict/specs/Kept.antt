@@ -1,4 +1,4 @@
--- What Yes says of a session, in plain words.
+-- What Yes means for a session, in plain words.
 use Rattle.std.specs.Prelude.{◌≡◌, ℕ, ℤ, ◌+◌, int_lt, List, [], ◌∷◌, ◌++◌, length, true, Option, Some, None}
 use Rattle.lsp_frame.specs.Bounds.{Bounds}
 use Rattle.lsp_frame.specs.Frame.{IsStream}
@@ -91,7 +91,8 @@ pub record KeepsRules (terms : Terms) (events : List Event) : Type 0 where
 abbrev pub AreFrames : Bounds → List ℕ → Type 0
 AreFrames limits bytes = (contents : List (List ℕ)) × IsStream limits bytes contents [] None
 
--- **What Yes says of records** of a log of this format: both streams are complete frames, and the events keep the rules.
+-- **What Yes means for records** of a log of this format: both streams are complete frames, and the
+-- events keep the rules.
 pub record AreKept (limits : Bounds) (format : Format) (records : List Record) : Type 0 where
   pub events : List Event
   pub session : IsSession limits records events
@@ -99,7 +100,7 @@ pub record AreKept (limits : Bounds) (format : Format) (records : List Record) :
   pub server : AreFrames limits (joined Server records)
   pub keeps : KeepsRules (terms_of limits format) events
 
--- **What Yes says of a log**: it has no fault, and its records are kept.
+-- **What Yes means for a log**: it has no fault, and its records are kept.
 pub record IsKept (limits : Bounds) (log : List ℕ) : Type 0 where
   pub format : Option Format
   pub records : List Record

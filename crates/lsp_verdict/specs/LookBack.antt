@@ -1,4 +1,4 @@
--- Words on lists whose elements are judged by what stands before them.
+-- Words on lists whose elements are judged by what comes before them.
 use Rattle.std.specs.Prelude.{List, [], ◌∷◌, ◌++◌, Option, None}
 use Rattle.std.specs.Option.{option_or}
 use Rattle.std.specs.List.{cons_option}

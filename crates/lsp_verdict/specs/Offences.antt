@@ -17,10 +17,12 @@ use Rattle.lsp_verdict.specs.LookBack.{first_of, each_of}
 use Rattle.lsp_verdict.specs.Placed as placed
 use Rattle.lsp_verdict.specs.Placed.{Raw, broken, show, Placed, Reads}
 use Rattle.lsp_verdict.specs.Verdict.{Verdict, offence, no_by}
+use Rattle.lsp_types.specs.declared.rules.TheConstants as rules
 
 -- ---- the events that are kept
 
--- behind events that were kept, those of these that are: an event that offends is passed over, as if it had not been sent
+-- after events that were kept, those of these that are: an event that offends is skipped, as if it
+-- had not been sent
 abbrev pub kept_after : Terms → List Event → List Event → List Event
 kept_after terms before [] = before
 kept_after terms before (event ∷ after) = kept_after terms (if is_some (offence terms before event) then before else before ++ event ∷ []) after
@@ -33,7 +35,7 @@ kept_of terms events = kept_after terms [] events
 abbrev pub rule_at : Terms → List Event → Event → Option ℕ
 rule_at terms before event = offence terms (kept_of terms before) event
 
--- what the event says of a document, under what the kept events before it agreed
+-- what the event says about a document, under what the kept events before it agreed
 abbrev pub said_at : Terms → List Event → Event → Option Call
 said_at terms before event = call_at (kept_of terms before) event
 
@@ -48,9 +50,12 @@ is_within least most rule = nat_le least rule && nat_le rule most
 
 -- a call that offends by this rule leaves the held text another than the sender's: 602, 603 with changes, 604 to 608, 702
 abbrev pub loses : ℕ → Call → Bool
-loses rule call = rule == 602 || (rule == 603 && has_changes call || (is_within 604 608 rule || rule == 702))
+loses rule call = rule == rules.DOCUMENT_NOT_OPEN ||
+    (rule == rules.VERSION_DOES_NOT_RISE && has_changes call ||
+    (is_within rules.CHANGE_NOT_OF_KIND rules.SAVED_TEXT_DIFFERS rule ||
+    rule == rules.SNAPSHOT_DIFFERS))
 
--- the call gives the whole text anew
+-- the call gives the whole text again
 abbrev pub renews : Call → Bool
 renews (opens uri number text) = true
 renews (changes enc kind uri number edits) = list_any (λ (edit : Edit). is_none edit.span) edits
@@ -73,7 +78,8 @@ abbrev pub last_or : {A : Type 0} → A → List A → A
 last_or none [] = none
 last_or none (x ∷ xs) = last_or x xs
 
--- **the document of this URI is lost behind these events**: the last one that says anything of that left it so
+-- **the document of this URI is lost after these events**: the last one that says anything about
+-- that left it so
 abbrev pub is_lost : Terms → List ℕ → List Event → Bool
 is_lost terms uri before = last_or false (each_of (lost_by terms uri) before)
 
@@ -89,12 +95,14 @@ events_of notes = map (λ (n : Noted). n.event) notes
 
 -- an `initialize` that does not have its shape, or an answer to one that is refused
 abbrev pub breaks_handshake : Bool → ℕ → Bool
-breaks_handshake asks rule = rule == 209 && asks || is_within 501 503 rule
+breaks_handshake asks rule = rule == rules.BAD_METHOD_PARAMS && asks
+    || is_within rules.BAD_INITIALIZE_RESULT rules.ENCODING_OUTSIDE_PROFILE rule
 
 abbrev pub broken_by : Terms → List Noted → Noted → Option ℕ
 broken_by terms before n = option_and_then (λ rule. if breaks_handshake n.asks rule then Some rule else None) (rule_at terms (events_of before) n.event)
 
--- **the handshake is lost behind these events**: an event of it was refused, and no answer has settled it
+-- **the handshake is lost after these events**: an event of it was refused, and no answer has
+-- settled it
 abbrev pub is_handshake_lost : Terms → List Noted → Bool
 is_handshake_lost terms before = is_some (first_of (broken_by terms) before) && not (is_done (sent_in (kept_of terms (events_of before))))
 
@@ -102,11 +110,14 @@ is_handshake_lost terms before = is_some (first_of (broken_by terms) before) && 
 
 -- the rules that are broken where there was no handshake: 301, 401, 402, 411, 412
 abbrev pub wants_handshake : ℕ → Bool
-wants_handshake rule = rule == 301 || (is_within 401 402 rule || is_within 411 412 rule)
+wants_handshake rule = rule == rules.RESPONSE_TO_NO_OPEN_REQUEST ||
+    (is_within rules.EDITOR_BEFORE_INITIALIZE rules.EDITOR_WHILE_INITIALIZE_OPEN rule || is_within
+    rules.SERVER_BEFORE_INITIALIZE rules.SERVER_WHILE_INITIALIZE_OPEN rule)
 
 -- the rules that are broken where the held text is another: 602 to 608, 702
 abbrev pub wants_text : ℕ → Bool
-wants_text rule = is_within 602 608 rule || rule == 702
+wants_text rule = is_within rules.DOCUMENT_NOT_OPEN rules.SAVED_TEXT_DIFFERS rule
+    || rule == rules.SNAPSHOT_DIFFERS
 
 abbrev pub is_on_lost : Terms → List Event → Option Call → Bool
 is_on_lost terms before None = false

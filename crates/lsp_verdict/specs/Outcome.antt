@@ -21,7 +21,7 @@ format_or_one (Some format) = format
 abbrev pub log_terms : Bounds → Option Format → Terms
 log_terms limits format = terms_of limits (format_or_one format)
 
--- what is left of the bytes behind their frames
+-- what is left of the bytes after their frames
 abbrev pub HasRest : Bounds → List ℕ → List ℕ → Type 0
 HasRest limits bytes rest = (contents : List (List ℕ)) × (fault : Option ℕ) × IsStream limits bytes contents rest fault
 
@@ -32,7 +32,8 @@ is_rest (byte ∷ bytes) = true
 abbrev pub ending : Option (ℕ × LogCode) → List ℕ → List ℕ → Ending
 ending fault editor server = record { log_fault = fault; editor_rest = is_rest editor; server_rest = is_rest server }
 
--- the verdict on these records of a log of this format, where it ends behind them with this fault or none
+-- the verdict on these records of a log of this format, where it ends after them with this fault or
+-- none
 pub record IsFinal (limits : Bounds) (format : Format) (records : List Record) (fault : Option (ℕ × LogCode)) (v : Verdict) : Type 0 where
   pub events : List Event
   pub editor : List ℕ

@@ -13,7 +13,7 @@ pub record Ports : Type 0 where
   pub sink_before : Told
   pub sink_after : Told
 
--- this holds of the bytes read, however they go on where their end was not met
+-- this holds of the bytes read, however they continue where their end was not met
 abbrev pub OfInput : Bounds → Ports → (List ℕ → Type 0) → Type 0
 OfInput limits io Holds = OfRead limits io.source_before io.source_after Holds
 

@@ -19,14 +19,14 @@ pub record HasRead (limits : Bounds) (before after : Told) (bytes : List ℕ) (e
 abbrev pub GoesOn : List ℕ → Bool → List ℕ → Type 0
 GoesOn bytes ended stream = (more : List ℕ) × (stream ≡ bytes ++ more) × (ended ≡ true → more ≡ [])
 
--- this holds of the stream read, however it goes on where its end was not met
+-- this holds of the stream read, however it continues where its end was not met
 pub record OfRead (limits : Bounds) (before after : Told) (Holds : List ℕ → Type 0) : Type 0 where
   pub bytes : List ℕ
   pub ended : Bool
   pub read : HasRead limits before after bytes ended
   pub holds : (stream : List ℕ) → GoesOn bytes ended stream → Holds stream
 
--- a source gave at most so many bytes
+-- a source gave at most this many bytes
 abbrev pub GaveAtMost : ℕ → Told → Told → Type 0
 GaveAtMost most before after = (bytes : List ℕ) × Gave before after bytes × (length bytes ≤ most)
 
@@ -34,7 +34,8 @@ GaveAtMost most before after = (bytes : List ℕ) × Gave before after bytes × 
 abbrev pub AppendsFront : Told → Told → List ℕ → Type 0
 AppendsFront old new due = (front : List ℕ) × (back : List ℕ) × (due ≡ front ++ back) × Took old new front
 
--- these bytes are written, or after a write fault a prefix of them, or for want of memory none
+-- these bytes are written, or after a write fault a prefix of them, or none where memory was
+-- refused
 abbrev pub Tells : Told → Told → List ℕ → Result (Unit {0}) RunFault → Type 0
 Tells old new bytes (Ok u) = Wrote old new bytes
 Tells old new bytes (Err faults.Write) = Stopped old new bytes
@@ -48,7 +49,7 @@ pub record WroteSome (old new : Told) (due : List ℕ) : Type 0 where
   pub whole : due ≡ front ++ back
   pub wrote : Wrote old new front
 
--- these bytes are written, or after a write fault or for want of memory a prefix of them
+-- these bytes are written, or a prefix of them after a write fault or where memory was refused
 abbrev pub TellsSome : Told → Told → List ℕ → Result (Unit {0}) RunFault → Type 0
 TellsSome old new bytes (Ok u) = Wrote old new bytes
 TellsSome old new bytes (Err faults.Write) = Stopped old new bytes

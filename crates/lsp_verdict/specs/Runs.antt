@@ -17,7 +17,7 @@ use Rattle.lsp_verdict.specs.declared.verdict.Verdict.TheVariants.{Yes}
 pub record Judges (limits : Bounds) (io : Ports) (IsRight : List ℕ → spec.Verdict → Type 0)
     (IsDue : List ℕ → spec.Verdict → List ℕ → Type 0) (Begins : List ℕ → List ℕ → Type 0)
     (result : Result Outcome RunFault) : Type 0 where
-  -- The answer holds for the log read, however that goes on where its end was not met.
+  -- The answer holds for the log read, however it continues where its end was not met.
   pub judged : IfOk result (λ outcome. (v : Verdict) × (outcome ≡ Judged v))
   pub verdict : (v : Verdict) → result ≡ Ok (Judged v)
       → OfInput limits io (λ log. IsRight log (verdict_view v))

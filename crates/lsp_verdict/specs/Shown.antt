@@ -17,6 +17,7 @@ use Rattle.lsp_verdict.specs.Event.{Event, message, fault, snapshot}
 use Rattle.lsp_verdict.specs.Calls.{calls}
 use Rattle.lsp_verdict.specs.Verdict.{Verdict, yes, no, first_no, is_of, belongs_to, count_of, whose}
 use Rattle.lsp_verdict.specs.Report.{line, side_name, report}
+use Rattle.lsp_types.specs.declared.rules.TheConstants as rules
 
 -- ---- events
 
@@ -34,7 +35,8 @@ document_words (did_close uri) = quoted uri ∷ []
 document_words (did_save uri text) = quoted uri ∷ []
 document_words _ = []
 
--- what a long line has behind a short one: the number among those of the side, or among the snapshots, and these words
+-- what a long line has after a short one: the number among those of the side, or among the
+-- snapshots, and these words
 abbrev pub words_behind : Lines → ℕ → List (List ℕ) → List (List ℕ)
 words_behind Short number words = []
 words_behind Long number words = decimal number ∷ words
@@ -45,14 +47,14 @@ event_line lines event number (message m) = Some (line (message_words event m ++
 event_line lines event number (fault side rule) = None
 event_line lines event number (snapshot uri version text) = Some (line (snapshot_words event uri version text ++ words_behind lines number []))
 
--- the line of an event behind these
+-- the line of an event after these
 abbrev pub line_at : Lines → List Event → Event → Option (List ℕ)
 line_at lines before event = event_line lines (length before + 1) (count_of (belongs_to (whose event)) before + 1) event
 
 abbrev pub lines_of : Lines → List Event → List ℕ
 lines_of lines events = flat_map (λ shown. shown) (each_of (line_at lines) events)
 
--- how many events stand before the verdict's place
+-- how many events come before the verdict's place
 abbrev pub kept_count : Verdict → List Event → ℕ
 kept_count (no rule who count event) events = event - 1
 kept_count _ events = length events
@@ -94,7 +96,8 @@ held_answer (Some v) = text_is v.text
 -- where there is no such message: too few, if nothing but a rest of bytes is wrong
 abbrev pub missing_answer : Verdict → TextAnswer
 missing_answer (yes s) = too_few
-missing_answer (no rule who count event) = if rule == 107 then too_few else refused (no rule who count event)
+missing_answer (no rule who count event) = if rule == rules.STREAM_ENDS_INSIDE_FRAME
+    then too_few else refused (no rule who count event)
 missing_answer v = refused v
 
 -- the text that is held for a URI just after the editor's n-th message, where these are the events up to it

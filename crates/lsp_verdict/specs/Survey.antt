@@ -1,4 +1,4 @@
--- All that is wrong with a session: its offences and how it ends, and what is said of them.
+-- All that is wrong with a session: its offences and how it ends, and what is said about them.
 use Rattle.std.specs.Prelude.{◌≡◌, ℕ, List, [], ◌∷◌, ◌++◌, map, filter, length, Bool, true, false, ◌&&◌, not, nat_le, if◌then◌else◌, Option, Some, None, option_map, option_to_list, codes, decimal}
 use Rattle.std.specs.List.{flat_map, list_any}
 use Rattle.lsp_frame.specs.Bounds.{Bounds}
@@ -20,31 +20,34 @@ use Rattle.lsp_verdict.specs.Placed.{joined}
 use Rattle.lsp_verdict.specs.Report.{line, who_name, report}
 use Rattle.lsp_verdict.specs.Texts.{text_of}
 use Rattle.lsp_verdict.specs.Verdict.{Verdict, yes, no, bad_log, Summary, summary, Ending, bad_log_of, no_next}
+use Rattle.lsp_types.specs.declared.rules.TheConstants as rules
 
 -- ---- how a session ends
 
--- 101 to 106: the frames of this side have a fault, behind which its stream is at its end
+-- 101 to 106: the frames of this side have a fault, after which its stream is at its end
 abbrev pub is_frame_fault : Side → Event → Bool
-is_frame_fault side (fault by rule) = same_side side by && nat_le rule 106
+is_frame_fault side (fault by rule) = same_side side by && nat_le rule rules.CHARSET_NOT_UTF_8
 is_frame_fault side (message m) = false
 is_frame_fault side (snapshot uri number text) = false
 
--- the stream of this side ends inside a frame, where bytes are left behind its last one
+-- the stream of this side ends inside a frame, where bytes are left after its last one
 abbrev pub ends_inside : Side → List Event → Bool → Bool
 ends_inside side events rest = rest && not (list_any (is_frame_fault side) events)
 
 -- 107 for each side that does, the editor's first
 abbrev pub rests_listed : List Event → Bool → Bool → List Verdict
 rests_listed events editor server =
-    (if editor then no_next 107 who.Editor events ∷ [] else [])
-    ++ (if server then no_next 107 who.Server events ∷ [] else [])
+    (if editor then no_next rules.STREAM_ENDS_INSIDE_FRAME who.Editor events ∷ [] else [])
+    ++ (if server then no_next rules.STREAM_ENDS_INSIDE_FRAME who.Server events ∷ [] else [])
 
--- 303 or 407, where the session has to be complete and the kept events leave a request without an answer, or have no `exit`
+-- 303 or 407, where the session must be complete and the kept events leave a request without an
+-- answer, or have no `exit`
 abbrev pub lacks_listed : Completeness → List Event → List Event → List Verdict
 lacks_listed Ignored events kept = []
 lacks_listed Required events kept = option_to_list (option_map (λ rule. no_next rule who.Editor events) (incomplete (sent_in kept)))
 
--- where the log has a fault, nothing is known of how the session ends; what a session lacks stands only where no stream ends inside a frame
+-- where the log has a fault, nothing is known of how the session ends; what is missing from the
+-- session is listed only where no stream ends inside a frame
 abbrev pub first_ends : Option (ℕ × LogCode) → List Verdict → List Verdict → List Verdict
 first_ends (Some flaw) rests lacks = []
 first_ends None (v ∷ rests) lacks = v ∷ rests
@@ -77,7 +80,7 @@ abbrev pub follow_words : Bool → List (List ℕ)
 follow_words true = codes "follows" ∷ []
 follow_words false = []
 
--- the two lines of a No, with these words behind the event's number
+-- the two lines of a No, with these words after the event's number
 abbrev pub no_lines : List (List ℕ) → Verdict → List ℕ
 no_lines words (no rule by count event) = line (codes "no" ∷ decimal rule ∷ who_name by ∷ decimal count ∷ codes "event" ∷ decimal event ∷ words) ++ line (text_of rule ∷ [])
 no_lines words (yes s) = report (yes s)
@@ -106,7 +109,8 @@ all_report every (o ∷ found) bad s = flat_map offence_lines (shown_of every (o
 
 -- ---- a log
 
--- **all that is wrong with a log**: what is listed, its fault or none, and what it comes to where nothing is
+-- **all that is wrong with a log**: what is listed, its fault or none, and its summary where
+-- nothing is
 pub record IsSurvey (completeness : Completeness) (limits : Bounds) (log : List ℕ) (found : List Offence) (bad : Option Verdict) (s : Summary) : Type 0 where
   pub format : Option Format
   pub records : List Record

@@ -10,7 +10,8 @@ use Rattle.lsp_verdict.specs.declared.outcome.Outcome.{Outcome}
 use Rattle.lsp_verdict.specs.declared.outcome.Outcome.TheVariants.{Done, Judged, NoDocument, TooFew}
 use Rattle.lsp_verdict.specs.declared.verdict.Verdict as code
 
--- **the answer on a log**: what its verdict and its events up to the editor's n-th message say of the text held just after that message
+-- **the answer on a log**: what its verdict and its events up to the editor's n-th message say
+-- about the text held just after that message
 abbrev pub AnswersText : Bounds → List ℕ → ℕ → List ℕ → TextAnswer → Type 0
 AnswersText limits log n uri answer = (v : Verdict) × (whole : IsVerdict limits log v) × (answer ≡ text_answer (log_terms limits whole.format) uri v (up_to_editor n [] whole.final.events))
 

@@ -4,6 +4,7 @@ use Rattle.lsp_log.specs.declared.fault.LogCode.{LogCode}
 use Rattle.lsp_log.specs.declared.fault.LogCode.TheVariants.{L1, L2, L3, L4, L5, L6}
 use Rattle.lsp_verdict.specs.declared.outcome.RunFault.{RunFault}
 use Rattle.lsp_verdict.specs.declared.outcome.RunFault.TheVariants.{Read, Write, Memory}
+use Rattle.lsp_types.specs.declared.rules.TheConstants as rules
 
 -- ---- rules
 
@@ -14,55 +15,55 @@ pub record Text : Type 0 where
 abbrev pub rule : ℕ → List ℕ → Text
 rule number text = record { number = number; text = text }
 
--- the rules on what a message says behind those before it
+-- the rules on what a message says after those before it
 abbrev pub session_texts : List Text
 session_texts =
-    rule 301 (codes "response to no open request")
-    ∷ rule 302 (codes "id is already open")
-    ∷ rule 303 (codes "request is not answered")
-    ∷ rule 401 (codes "editor message before initialize")
-    ∷ rule 402 (codes "editor message while initialize is open")
-    ∷ rule 403 (codes "initialized does not come first")
-    ∷ rule 404 (codes "initialize or initialized again")
-    ∷ rule 405 (codes "editor message after shutdown")
-    ∷ rule 406 (codes "editor message after exit")
-    ∷ rule 407 (codes "exit is missing")
-    ∷ rule 411 (codes "server message before initialize")
-    ∷ rule 412 (codes "server message while initialize is open")
-    ∷ rule 501 (codes "bad initialize result")
-    ∷ rule 502 (codes "encoding was not offered")
-    ∷ rule 503 (codes "encoding outside the profile")
-    ∷ rule 504 (codes "dynamic registration of synchronisation")
-    ∷ rule 601 (codes "document is already open")
-    ∷ rule 602 (codes "document is not open")
-    ∷ rule 603 (codes "version does not rise")
-    ∷ rule 604 (codes "change does not fit the sync kind")
-    ∷ rule 605 (codes "position inside a character")
-    ∷ rule 606 (codes "range is reversed")
-    ∷ rule 607 (codes "document over the limit")
-    ∷ rule 608 (codes "saved text differs")
-    ∷ rule 701 (codes "late snapshot")
-    ∷ rule 702 (codes "snapshot differs")
+    rule rules.RESPONSE_TO_NO_OPEN_REQUEST (codes "response to no open request")
+    ∷ rule rules.ID_ALREADY_OPEN (codes "id is already open")
+    ∷ rule rules.REQUEST_NOT_ANSWERED (codes "request is not answered")
+    ∷ rule rules.EDITOR_BEFORE_INITIALIZE (codes "editor message before initialize")
+    ∷ rule rules.EDITOR_WHILE_INITIALIZE_OPEN (codes "editor message while initialize is open")
+    ∷ rule rules.INITIALIZED_NOT_FIRST (codes "initialized does not come first")
+    ∷ rule rules.INITIALIZE_AGAIN (codes "initialize or initialized again")
+    ∷ rule rules.EDITOR_AFTER_SHUTDOWN (codes "editor message after shutdown")
+    ∷ rule rules.EDITOR_AFTER_EXIT (codes "editor message after exit")
+    ∷ rule rules.EXIT_MISSING (codes "exit is missing")
+    ∷ rule rules.SERVER_BEFORE_INITIALIZE (codes "server message before initialize")
+    ∷ rule rules.SERVER_WHILE_INITIALIZE_OPEN (codes "server message while initialize is open")
+    ∷ rule rules.BAD_INITIALIZE_RESULT (codes "bad initialize result")
+    ∷ rule rules.ENCODING_NOT_OFFERED (codes "encoding was not offered")
+    ∷ rule rules.ENCODING_OUTSIDE_PROFILE (codes "encoding outside the profile")
+    ∷ rule rules.DYNAMIC_REGISTRATION (codes "dynamic registration of synchronisation")
+    ∷ rule rules.DOCUMENT_ALREADY_OPEN (codes "document is already open")
+    ∷ rule rules.DOCUMENT_NOT_OPEN (codes "document is not open")
+    ∷ rule rules.VERSION_DOES_NOT_RISE (codes "version does not rise")
+    ∷ rule rules.CHANGE_NOT_OF_KIND (codes "change does not fit the sync kind")
+    ∷ rule rules.POSITION_INSIDE_CHARACTER (codes "position inside a character")
+    ∷ rule rules.RANGE_REVERSED (codes "range is reversed")
+    ∷ rule rules.DOCUMENT_OVER_LIMIT (codes "document over the limit")
+    ∷ rule rules.SAVED_TEXT_DIFFERS (codes "saved text differs")
+    ∷ rule rules.LATE_SNAPSHOT (codes "late snapshot")
+    ∷ rule rules.SNAPSHOT_DIFFERS (codes "snapshot differs")
     ∷ []
 
 abbrev pub texts : List Text
 texts =
-    rule 101 (codes "header part too long")
-    ∷ rule 102 (codes "bad header line")
-    ∷ rule 103 (codes "not exactly one Content-Length")
-    ∷ rule 104 (codes "bad Content-Length number")
-    ∷ rule 105 (codes "content too long")
-    ∷ rule 106 (codes "charset is not utf-8")
-    ∷ rule 107 (codes "stream ends inside a frame")
-    ∷ rule 201 (codes "content is not JSON")
-    ∷ rule 202 (codes "message is not an object")
-    ∷ rule 203 (codes "jsonrpc is not \"2.0\"")
-    ∷ rule 204 (codes "method is not a string")
-    ∷ rule 205 (codes "bad id")
-    ∷ rule 206 (codes "bad params")
-    ∷ rule 207 (codes "not a request, notification or response")
-    ∷ rule 208 (codes "bad error object")
-    ∷ rule 209 (codes "bad params of an interpreted method")
+    rule rules.HEADER_PART_TOO_LONG (codes "header part too long")
+    ∷ rule rules.BAD_HEADER_LINE (codes "bad header line")
+    ∷ rule rules.NOT_ONE_CONTENT_LENGTH (codes "not exactly one Content-Length")
+    ∷ rule rules.BAD_CONTENT_LENGTH (codes "bad Content-Length number")
+    ∷ rule rules.CONTENT_TOO_LONG (codes "content too long")
+    ∷ rule rules.CHARSET_NOT_UTF_8 (codes "charset is not utf-8")
+    ∷ rule rules.STREAM_ENDS_INSIDE_FRAME (codes "stream ends inside a frame")
+    ∷ rule rules.CONTENT_NOT_JSON (codes "content is not JSON")
+    ∷ rule rules.MESSAGE_NOT_OBJECT (codes "message is not an object")
+    ∷ rule rules.BAD_JSONRPC_VERSION (codes "jsonrpc is not \"2.0\"")
+    ∷ rule rules.METHOD_NOT_STRING (codes "method is not a string")
+    ∷ rule rules.BAD_ID (codes "bad id")
+    ∷ rule rules.BAD_PARAMS (codes "bad params")
+    ∷ rule rules.NOT_A_MESSAGE (codes "not a request, notification or response")
+    ∷ rule rules.BAD_ERROR_OBJECT (codes "bad error object")
+    ∷ rule rules.BAD_METHOD_PARAMS (codes "bad params of an interpreted method")
     ∷ session_texts
 
 -- the text of the rule of this number among these, empty where it has none

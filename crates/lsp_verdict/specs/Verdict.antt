@@ -21,6 +21,7 @@ use Rattle.lsp_verdict.specs.declared.verdict.Who.TheVariants as who
 use Rattle.lsp_verdict.specs.LookBack.{first_of}
 use Rattle.lsp_verdict.specs.Event.{Event, message, fault, snapshot, sent_in}
 use Rattle.lsp_verdict.specs.Calls.{call_at, calls}
+use Rattle.lsp_types.specs.declared.rules.TheConstants as rules
 
 -- ---- offences
 
@@ -56,7 +57,7 @@ pub record Document : Type 0 where
   pub number : ℤ
   pub bytes : ℕ
 
--- what a session that keeps the rules comes to
+-- the result of a session that keeps the rules
 pub record Summary : Type 0 where
   pub editor : ℕ
   pub server : ℕ
@@ -102,7 +103,8 @@ no_at terms before event = option_map (no_by before event) (offence terms before
 abbrev pub first_no : Terms → List Event → Option Verdict
 first_no terms events = first_of (no_at terms) events
 
--- how a log ends: with a fault, with bytes of the editor's that are no whole frame, or of the server's
+-- how a log ends: with a fault, with bytes of the editor's that are not a whole frame, or of the
+-- server's
 pub record Ending : Type 0 where
   pub log_fault : Option (ℕ × LogCode)
   pub editor_rest : Bool
@@ -130,10 +132,10 @@ abbrev pub bad_log_of : Option (ℕ × LogCode) → Option Verdict
 bad_log_of None = None
 bad_log_of (Some flaw) = Some (bad_log flaw.0 flaw.1)
 
--- 107 where bytes are left that are no whole frame, the editor's first
+-- 107 where bytes are left that are not a whole frame, the editor's first
 abbrev pub rest_of : List Event → Bool → Bool → Option Verdict
-rest_of events true server = Some (no_next 107 who.Editor events)
-rest_of events false true = Some (no_next 107 who.Server events)
+rest_of events true server = Some (no_next rules.STREAM_ENDS_INSIDE_FRAME who.Editor events)
+rest_of events false true = Some (no_next rules.STREAM_ENDS_INSIDE_FRAME who.Server events)
 rest_of events false false = None
 
 -- the first that applies: an offence, a fault of the log, a rest

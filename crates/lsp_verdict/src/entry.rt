@@ -38,8 +38,8 @@ pub fn next_entry<R: Source>(log: &mut LogReader, reader: &mut R) -> Result<Entr
     ensures answer { (start : Told) (records : List logs.Record)
         → IsAt log.old start (R.told reader.old) records
         → EntryIs log.new log.old.limits start (R.told reader.new) log.old.format records result }
-    // Of a fault the reader knows how many bytes of the log stand before it, and the line that
-    // stands there.
+    // Of a fault the reader knows how many bytes of the log come before it, and the line that is
+    // there.
     ensures found { (start : Told) (records : List logs.Record)
         → IsAt log.old start (R.told reader.old) records
         → FaultIs log.new log.old.limits start (R.told reader.new) records result }

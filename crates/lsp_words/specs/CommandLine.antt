@@ -1,5 +1,5 @@
 -- The command line: the commands of the program, with their arguments and options, as `clap` reads words by them.
-use Rattle.std.specs.Prelude.{◌≡◌, List, [], ◌∷◌, Some, true, false, codes}
+use Rattle.std.specs.Prelude.{◌≡◌, List, [], ◌∷◌, ◌++◌, Some, true, false, codes}
 use Rattle.std.specs.Borrow.{Bor}
 use Rattle.clap.specs.Words.{App, Rule, Shape, Text, new_rule, rule_of}
 use Rattle.clap.specs.Simple.{new_shape}
@@ -17,6 +17,10 @@ IsArg rule arg = (rule_of arg ≡ rule) × (arg.global ≡ false)
 -- an option that is set or not, as `--all`
 abbrev pub flag : Text → Rule
 flag name = record (new_rule name) { long = Some name; action = Some SetTrue }
+
+-- whether no progress is shown
+abbrev pub quiet : Rule
+quiet = flag (codes "quiet")
 
 -- an argument that may be left out
 abbrev pub argument : Text → Rule
@@ -55,30 +59,35 @@ mode modes = record (argument (codes "as")) {
 abbrev pub command : Text → List Rule → Shape
 command name rules = record (new_shape name) { rules = rules }
 
+-- `check` with its own options alone
+abbrev pub check_options : Shape
+check_options = command (codes "check")
+    (flag (codes "complete") ∷ flag (codes "all") ∷ flag (codes "every") ∷ [])
+
 abbrev pub check : Shape
-check = command (codes "check")
-    (flag (codes "complete") ∷ flag (codes "all") ∷ flag (codes "every") ∷ file ∷ [])
+check = command (codes "check") (check_options.rules ++ quiet ∷ file ∷ [])
 
 abbrev pub explain : Shape
-explain = command (codes "explain") (flag (codes "complete") ∷ flag (codes "all") ∷ file ∷ [])
+explain = command (codes "explain")
+    (flag (codes "complete") ∷ flag (codes "all") ∷ quiet ∷ file ∷ [])
 
 abbrev pub show : Shape
-show = command (codes "show") (flag (codes "long") ∷ file ∷ [])
+show = command (codes "show") (flag (codes "long") ∷ quiet ∷ file ∷ [])
 
 abbrev pub text : Shape
-text = command (codes "text") (number ∷ uri ∷ file ∷ [])
+text = command (codes "text") (number ∷ uri ∷ quiet ∷ file ∷ [])
 
 abbrev pub event : Shape
-event = command (codes "event") (number ∷ file ∷ [])
+event = command (codes "event") (number ∷ quiet ∷ file ∷ [])
 
 abbrev pub normal : Shape
-normal = command (codes "normal") (file ∷ [])
+normal = command (codes "normal") (quiet ∷ file ∷ [])
 
 abbrev pub upgrade : Shape
-upgrade = command (codes "upgrade") (file ∷ [])
+upgrade = command (codes "upgrade") (quiet ∷ file ∷ [])
 
 abbrev pub frames : Modes → Shape
-frames modes = command (codes "frames") (mode modes ∷ file ∷ [])
+frames modes = command (codes "frames") (mode modes ∷ quiet ∷ file ∷ [])
 
 -- the program asks for one of its commands
 abbrev pub program : Shape

@@ -25,7 +25,7 @@ use Rattle.lsp_words.specs.declared.task.Task.TheVariants as tasks
 abbrev pub rows_in : ArgMatches → List Row
 rows_in arguments = rows_of (found_of arguments)
 
--- the file of a name: `-` is standard input, as is no name
+-- the file of a name: standard input for `-`, and where there is no name
 abbrev pub file_of : Option (List ℕ) → Option (List ℕ)
 file_of name = option_and_then (λ n. if bytes_eq n (codes "-") then None else Some n) name
 
@@ -65,7 +65,8 @@ abbrev pub lines_of : Bool → Lines
 lines_of true = Long
 lines_of false = Short
 
--- the session has to be complete where the option for that is set, and offences are listed where an option for these is set
+-- the session must be complete where the option for that is set, and offences are listed where an
+-- option for these is set
 pub record AsksCheck (rows : List Row) (completeness : Completeness) (listing : Option Listing) : Type 0 where
   pub complete : Bool
   pub all : Bool
@@ -76,7 +77,8 @@ pub record AsksCheck (rows : List Row) (completeness : Completeness) (listing : 
   pub completeness_is : completeness ≡ completeness_of complete
   pub listing_is : listing ≡ listing_of all every
 
--- the session has to be complete where the option for that is set, and all that is wrong is explained where the option for that is set
+-- the session must be complete where the option for that is set, and all that is wrong is explained
+-- where the option for that is set
 pub record AsksExplain (rows : List Row) (completeness : Completeness) (all : Bool) : Type 0 where
   pub complete : Bool
   pub complete_is : IsFlag (one_of (codes "complete") rows) complete
@@ -137,12 +139,16 @@ abbrev pub TaskIn : Text → List Row → Option Task → Type 0
 TaskIn name rows result =
     MatchOption result ((task : Task) → HasTask name rows task → ⊥) (HasTask name rows)
 
--- a command of this name asks for the request: its task, and the file that it names
+-- a command of this name asks for the request: its task, the file that it names, and whether no
+-- progress is to be shown
+pub record AsksOf (name : Text) (rows : List Row) (request : Request) : Type 0 where
+  pub task : HasTask name rows request.task
+  pub file : option_map (λ path. path.now) request.file ≡ file_of (first_of (codes "file") rows)
+  pub quiet : IsFlag (one_of (codes "quiet") rows) request.quiet
+
 abbrev pub AsksFor : Option (Text × List Row) → Request → Type 0
 AsksFor None request = ⊥
-AsksFor (Some p) request =
-    HasTask p.0 p.1 request.task
-    × (option_map (λ path. path.now) request.file ≡ file_of (first_of (codes "file") p.1))
+AsksFor (Some p) request = AsksOf p.0 p.1 request
 
 -- the request that a command asks for, where it asks for one
 abbrev pub RequestIn : Option (Text × List Row) → Option Request → Type 0

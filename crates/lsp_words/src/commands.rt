@@ -2,8 +2,9 @@
 ghost use Rattle.std.specs.Prelude.{◌≡◌, [], IfOk, IsOkAnd, true};
 ghost use Rattle.clap.specs.Words.{AddsSubcommand, app_of, shape_of};
 ghost use Rattle.lsp_words.specs.CommandLine.{AreModes, IsArg, IsCommandLine, Modes, check, event};
+ghost use Rattle.lsp_words.specs.CommandLine.{check_options};
 ghost use Rattle.lsp_words.specs.CommandLine.{explain, file, flag, frames, mode, normal, number};
-ghost use Rattle.lsp_words.specs.CommandLine.{program, show, text, upgrade, uri};
+ghost use Rattle.lsp_words.specs.CommandLine.{program, quiet, show, text, upgrade, uri};
 
 use clap::{Arg, ArgAction, Command, value_parser};
 use std::alloc::{AllocError, Global};
@@ -62,6 +63,13 @@ fn flag<'a>(alloc: Global, name: &'static str, help: &'static str) -> Arg<'a>
         .help(help)
 }
 
+/// The option that turns off the progress line.
+fn quiet<'a>(alloc: Global) -> Arg<'a>
+    ensures { IsArg quiet result }
+{
+    flag(alloc, "quiet", "Shows no progress on a terminal")
+}
+
 /// The argument that numbers a message or an event, from 1.
 fn number<'a>(alloc: Global, help: &'static str) -> Arg<'a>
     ensures { IsArg number result }
@@ -95,8 +103,9 @@ fn mode<'a>(alloc: Global) -> Arg<'a>
         .help("What to write for each frame")
 }
 
-fn check<'a>(alloc: Global) -> Result<Command<'a>, AllocError>
-    ensures { IfOk result (λ command. shape_of command ≡ check) }
+/// The command with its own options, and without those that every command has.
+fn check_options<'a>(alloc: Global) -> Result<Command<'a>, AllocError>
+    ensures { IfOk result (λ command. shape_of command ≡ check_options) }
 {
     Command::new(alloc, "check")
         .about("Judges a recorded session and reports the verdict")
@@ -114,7 +123,14 @@ fn check<'a>(alloc: Global) -> Result<Command<'a>, AllocError>
             alloc,
             "every",
             "Lists every violation, consequences included",
-        ))?
+        ))
+}
+
+fn check<'a>(alloc: Global) -> Result<Command<'a>, AllocError>
+    ensures { IfOk result (λ command. shape_of command ≡ check) }
+{
+    check_options(alloc)?
+        .arg(quiet(alloc))?
         .arg(log_file(alloc))
 }
 
@@ -133,6 +149,7 @@ fn explain<'a>(alloc: Global) -> Result<Command<'a>, AllocError>
             "all",
             "Explains every violation that check --all lists",
         ))?
+        .arg(quiet(alloc))?
         .arg(log_file(alloc))
 }
 
@@ -146,6 +163,7 @@ fn show<'a>(alloc: Global) -> Result<Command<'a>, AllocError>
             "long",
             "Adds each side's own numbers, and the URI and version of documents",
         ))?
+        .arg(quiet(alloc))?
         .arg(log_file(alloc))
 }
 
@@ -156,6 +174,7 @@ fn text<'a>(alloc: Global) -> Result<Command<'a>, AllocError>
         .about("Writes the text that the server should hold after a message of the editor")
         .arg(number(alloc, "The number of the editor's message, from 1"))?
         .arg(uri(alloc))?
+        .arg(quiet(alloc))?
         .arg(log_file(alloc))
 }
 
@@ -165,6 +184,7 @@ fn event<'a>(alloc: Global) -> Result<Command<'a>, AllocError>
     Command::new(alloc, "event")
         .about("Writes the content of one event of a recorded session")
         .arg(number(alloc, "The number of the event, from 1"))?
+        .arg(quiet(alloc))?
         .arg(log_file(alloc))
 }
 
@@ -173,6 +193,7 @@ fn normal<'a>(alloc: Global) -> Result<Command<'a>, AllocError>
 {
     Command::new(alloc, "normal")
         .about("Writes the normal form of a log")
+        .arg(quiet(alloc))?
         .arg(log_file(alloc))
 }
 
@@ -181,6 +202,7 @@ fn upgrade<'a>(alloc: Global) -> Result<Command<'a>, AllocError>
 {
     Command::new(alloc, "upgrade")
         .about("Writes a log in format 2")
+        .arg(quiet(alloc))?
         .arg(log_file(alloc))
 }
 
@@ -191,6 +213,7 @@ fn frames<'a>(alloc: Global) -> Result<Command<'a>, AllocError>
     Command::new(alloc, "frames")
         .about("Reads one raw stream of frames")
         .arg(mode(alloc))?
+        .arg(quiet(alloc))?
         .arg(file(alloc, "The stream; standard input if absent or '-'"))
 }
 

@@ -5,13 +5,13 @@ use std::num::NonZeroU64;
 /// What to do with what is read.
 #[derive(Clone, Copy, Debug)]
 pub enum Task<'a> {
-    /// To judge a recorded session, which has to be complete or not.
+    /// To judge a recorded session, which must be complete or not.
     Check(Completeness),
-    /// To list the offences of a recorded session, which has to be complete or not.
+    /// To list the offences of a recorded session, which must be complete or not.
     Survey(Completeness, Listing),
-    /// To explain what is wrong with a recorded session, which has to be complete or not.
+    /// To explain what is wrong with a recorded session, which must be complete or not.
     Explain(Completeness),
-    /// To explain all that is wrong with a recorded session, which has to be complete or not.
+    /// To explain all that is wrong with a recorded session, which must be complete or not.
     ExplainAll(Completeness),
     /// To list the events of a recorded session by short or long lines, and to judge it.
     Show(Lines),
@@ -34,4 +34,6 @@ pub struct Request<'a> {
     pub task: Task<'a>,
     /// The file to read, or standard input.
     pub file: Option<&'a str>,
+    /// Whether no progress is shown.
+    pub quiet: bool,
 }

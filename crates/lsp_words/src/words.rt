@@ -25,7 +25,7 @@ fn mode_of(name: Option<&str>) -> Mode
     }
 }
 
-/// Whether a session has to be complete, where the option for it is set or not.
+/// Whether a session must be complete, where the option for it is set or not.
 fn completeness_of(set: bool) -> Completeness
     ensures { result ≡ completeness_of set }
 {
@@ -172,7 +172,8 @@ fn request_in<'a>(matches: &ArgMatches<'a>) -> Option<Request<'a>>
     let (name, arguments) = matches.subcommand()?;
     let task = task_of(name, arguments)?;
     let file = file_of(arguments.get_str("file"));
-    Some(Request { task, file })
+    let quiet = is_set(arguments, "quiet");
+    Some(Request { task, file, quiet })
 }
 
 /// Reads the words of a command line, the program's name first.

@@ -6,23 +6,34 @@
 //! writes the log in its normal form, and `upgrade` writes it in format 2. `frames` reads one raw
 //! stream, one direction of such a session, and lists its frames, or writes them in canonical form.
 //!
-//! What the words ask for, how it is done and what its end means stand in `lsp_command`; here the
+//! `lsp_command` has what the words request, how it is done and what its end means; here the
 //! words, the input and the two outputs come from the system.
 #![tactic(auto)]
+
+mod progress;
 
 use clap::Error;
 use clap::error::ErrorKind;
 pub use lsp_command::status_of;
 use lsp_command::{
-    Hint, Inlet, Outlet, Request, Slip, TaskOutcome, hint_of, only_word, remark_of, report_apart,
-    request_of, run_through, status_of_task, status_of_words, uri_alone,
+    Hint, Inlet, Outlet, Pace, Request, Slip, Supply, TaskOutcome, hint_of, only_word, remark_of,
+    report_apart, request_of, run_through, status_of_task, status_of_words, uri_alone,
 };
 use lsp_judge::{Limits, RunFault};
+use progress::{MakingWay, Progress, Watched};
 use std::alloc::Global;
-use std::io::Read;
+use std::fs::OpenFile;
+use std::io::{IsTerminal, Read};
 use std::process::ExitCode;
 use std::rt::{Env, Files};
 use std::{env, fs, io};
+
+/// Which of the two outputs are terminals.
+#[derive(Clone, Copy)]
+struct Terminals {
+    output: bool,
+    error: bool,
+}
 
 /// What may help a user beyond the fixed words.
 #[derive(Clone, Copy)]
@@ -51,17 +62,20 @@ impl Ended {
     }
 }
 
-/// Runs over one open input.
-fn run_on<R: Print + AllocGlobal, I: Read + Drop>(
+/// Runs over one open input, and tells meanwhile how far it was read.
+fn run_on<R: Print + Eprint + AllocGlobal, I: Read + Drop>(
     rt: &R,
     input: I,
     request: &Request<'_>,
+    progress: &Progress<'_, R>,
 ) -> Ended {
     let alloc = rt.alloc();
-    let Ok(mut inlet) = Inlet::new(alloc, input) else {
+    let supply = Supply::new();
+    let Ok(mut inlet) = Inlet::new(alloc, Watched::new(progress, input), &supply) else {
         return Ended::by(RunFault::Memory);
     };
-    let Ok(mut outlet) = Outlet::new(alloc, io::writer(rt)) else {
+    let output = MakingWay::new(progress, io::writer(rt));
+    let Ok(mut outlet) = Outlet::new(alloc, output, Pace::of(&request.task, &supply)) else {
         return Ended::by(RunFault::Memory);
     };
     let limits = Limits::profile();
@@ -74,13 +88,43 @@ fn run_on<R: Print + AllocGlobal, I: Read + Drop>(
     Ended { answer, advice }
 }
 
+/// Runs over an input of this many bytes, where they are known.
+fn run_watched<R: Print + Eprint + AllocGlobal, I: Read + Drop>(
+    rt: &R,
+    input: I,
+    size: Option<u64>,
+    request: &Request<'_>,
+    terminals: Terminals,
+) -> Ended {
+    let is_on = terminals.error && !request.quiet;
+    let progress = Progress::new(rt, size, is_on, terminals.output);
+    let ended = run_on(rt, input, request, &progress);
+    progress.clear();
+    ended
+}
+
+/// The bytes of a file, where the system knows them: it tells none of a pipe or a device.
+fn size_of<F: OpenFile>(file: &F) -> Option<u64> {
+    match file.metadata() {
+        Ok(metadata) if metadata.len() > 0 => Some(metadata.len()),
+        _ => None,
+    }
+}
+
 /// Runs over the file, or over standard input.
-fn run<R: Files + io::Input + Print + AllocGlobal>(rt: &R, request: &Request<'_>) -> Ended {
+fn run<R: Files + io::Input + Print + Eprint + AllocGlobal>(
+    rt: &R,
+    request: &Request<'_>,
+    terminals: Terminals,
+) -> Ended {
     let Some(path) = request.file else {
-        return run_on(rt, rt.reader(), request);
+        return run_watched(rt, rt.reader(), None, request, terminals);
     };
     match fs::open(rt, path) {
-        Ok(file) => run_on(rt, file, request),
+        Ok(file) => {
+            let size = size_of(&file);
+            run_watched(rt, file, size, request, terminals)
+        }
         Err(cause) => Ended {
             answer: Err(RunFault::Read),
             advice: Some(Advice::Input(cause)),
@@ -123,12 +167,13 @@ fn status_shown<R: Eprint>(rt: &R, answer: &Result<TaskOutcome, RunFault>) -> u8
     status_of_task(answer)
 }
 
-/// Runs, and says on standard error what is to be said of it.
+/// Runs, and writes to standard error what there is to report.
 fn status_of_run<R: Files + io::Input + Print + Eprint + AllocGlobal>(
     rt: &R,
     request: &Request<'_>,
+    terminals: Terminals,
 ) -> u8 {
-    let ended = run(rt, request);
+    let ended = run(rt, request, terminals);
     let status = status_shown(rt, &show_report(rt, request, ended.answer));
     show_advice(rt, request.file, ended.advice);
     status
@@ -168,7 +213,10 @@ fn words_of<R: Env + AllocGlobal>(rt: &R) -> io::Result<Vec<String>> {
     Ok(env::args(rt)?.collect(rt.alloc())?)
 }
 
-fn answer<R: Env + Files + io::Input + Print + Eprint + AllocGlobal>(rt: &R) -> u8 {
+fn answer<R: Env + Files + io::Input + Print + Eprint + AllocGlobal>(
+    rt: &R,
+    terminals: Terminals,
+) -> u8 {
     let words = match words_of(rt) {
         Ok(words) => words,
         Err(error) if error.kind() == io::ErrorKind::OutOfMemory => {
@@ -183,11 +231,15 @@ fn answer<R: Env + Files + io::Input + Print + Eprint + AllocGlobal>(rt: &R) -> 
         Err(error) => status_of_wrong_words(rt, words.as_slice(), &error),
         Ok(request) => {
             show_slip(rt, Slip::Uri, uri_alone(&request));
-            status_of_run(rt, &request)
+            status_of_run(rt, &request, terminals)
         }
     }
 }
 
 fn main(rt: HostRuntime) -> ExitCode {
-    ExitCode::from(answer(&rt))
+    let terminals = Terminals {
+        output: rt.stdout().is_terminal(),
+        error: rt.stderr().is_terminal(),
+    };
+    ExitCode::from(answer(&rt, terminals))
 }

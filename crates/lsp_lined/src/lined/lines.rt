@@ -5,7 +5,9 @@ ghost use Rattle.std.specs.Prelude.{MatchOption, IfOk, OnOk, OnErr, IsTrue};
 ghost use Rattle.std.specs.List.{replace_range};
 ghost use Rattle.std.specs.Str.{chars, IsUtf8, IsCharBoundary};
 ghost use Rattle.std.specs.String.{string_bytes};
+ghost use Rattle.lsp_types.specs.declared.line_ends.LineEnds.TheVariants.{Ignored};
 ghost use Rattle.lsp_text.specs.Lines.{lines_of};
+ghost use Rattle.lsp_text.specs.SameText.{SameText};
 ghost use Rattle.lsp_text.specs.Places.{units};
 ghost use Rattle.lsp_text.specs.Offsets.{IsAtLine};
 ghost use Rattle.lsp_lined.specs.Steps.{raised, line_bytes, line_number};
@@ -16,10 +18,11 @@ ghost use Rattle.lsp_lined.specs.LentLines.{NoOffsetIn};
 
 use crate::chunk::{Chunk, chunks_in, replace_in_chunks};
 use crate::part::{
-    Part, line_end_in, offset_in, push_all, share_into, strip_all, sums_in, units_before_in,
+    Part, line_end_in, offset_in, push_all, share_into, strip_all, sums_in, take_all,
+    units_before_in,
 };
 use crate::sums::{Measure, Sums};
-use lsp_text::offset_in_line;
+use lsp_text::{LinesLeft, is_taken, offset_in_line, without_last_end};
 use lsp_types::{Encoding, Position};
 use std::alloc::{AllocError, Global};
 use std::marker::Model;
@@ -178,6 +181,15 @@ impl Lines {
         }
     }
 
+    /// Whether the lines are those of a text, whatever their ends.
+    pub(super) fn have(&self, text: &str) -> bool
+        ensures value { IsTrue result ↔ SameText Ignored self.now text.now }
+        ensures utf8 { IsUtf8 self.now }
+    {
+        let whole = without_last_end(text);
+        is_taken(take_all(&self.chunks, LinesLeft::Rest(whole)), whole)
+    }
+
     /// The text of the lines, in a `String` of its own.
     pub(super) fn to_text(&self, alloc: Global) -> Result<String, AllocError>
         ensures { IfOk result (λ text. string_bytes text ≡ self.now) }
@@ -196,13 +208,13 @@ impl Lines {
         Ok(())
     }
 
-    /// Puts a text in the place of some bytes.
+    /// Replaces some bytes by a text.
     pub(crate) fn replace(&mut self, from: usize, to: usize, text: &str) -> Result<(), AllocError>
         requires { CanReplace self.old from to }
         ensures ok { OnOk result (self.new ≡ replace_range self.old from to text.now) }
         ensures err { OnErr result (self.new ≡ self.old) }
     {
-        // No memory holds so many bytes.
+        // No memory holds that many bytes.
         if text.len() as u64 >= u64::MAX - self.sums.bytes {
             return Err(AllocError);
         }
@@ -212,7 +224,7 @@ impl Lines {
 }
 
 /// A line with its end that is lent: where it begins, where its end begins, and where that ends.
-/// Beside it the sums of the text, what comes after its start in the same block, and whether each
+/// Also the sums of the text, what comes after its start in the same block, and whether each
 /// of those characters has one byte.
 #[derive(Drop)]
 pub(crate) struct LentLine<'a> {

@@ -21,7 +21,7 @@ type MarkMap = IndexMap<String, Mark>;
 /// Which events left the documents as they are, by URI: which one brought the held version, which
 /// equal snapshot has the greatest version, and which snapshots wait for a version.
 ///
-/// It stands for the events of a session of which those that offend are passed over. A document of
+/// It stands for the events of a session of which those that offend are skipped. A document of
 /// which nothing is marked has no entry.
 #[derive(Drop)]
 pub struct Marks {

@@ -1,4 +1,4 @@
-//! What is noted of documents besides what is held of them.
+//! What is noted about documents in addition to what is held of them.
 ghost use Rattle.std.specs.Prelude.{◌≡◌, List, ℕ, OnOk};
 ghost use Rattle.lsp_survey.specs.Notes.{SetsNote, note_in, nothing};
 
@@ -54,7 +54,7 @@ impl Notes {
     }
 }
 
-/// Puts a note in the place of the one that there was of a document, if any.
+/// Replaces the note on a document, if there was one.
 fn put(map: &mut NoteMap, uri: &str, note: Note) -> Result<(), Memory>
     ensures { OnOk result (SetsNote uri.now note map.old.entries map.new.entries) }
 {

@@ -1,9 +1,11 @@
-//! What rules say of an offence: whether it may follow from an earlier one, and what it leaves
+//! What rules say about an offence: whether it may follow from an earlier one, and what it leaves
 //! after.
 ghost use Rattle.std.specs.Prelude.{◌≡◌};
 ghost use Rattle.lsp_verdict.specs.Offences.{breaks_handshake, is_within, wants_handshake};
 ghost use Rattle.lsp_verdict.specs.Offences.{wants_text};
 ghost use Rattle.lsp_survey.specs.Notes.{loses_by};
+
+use lsp_types::rules;
 
 fn is_within(least: u16, most: u16, rule: u16) -> bool
     ensures { result ≡ is_within least most rule }
@@ -15,23 +17,31 @@ fn is_within(least: u16, most: u16, rule: u16) -> bool
 pub(crate) fn wants_handshake(rule: u16) -> bool
     ensures { result ≡ wants_handshake rule }
 {
-    if rule == 301 {
+    if rule == rules::RESPONSE_TO_NO_OPEN_REQUEST {
         return true;
     }
-    if is_within(401, 402, rule) {
+    if is_within(
+        rules::EDITOR_BEFORE_INITIALIZE,
+        rules::EDITOR_WHILE_INITIALIZE_OPEN,
+        rule,
+    ) {
         return true;
     }
-    is_within(411, 412, rule)
+    is_within(
+        rules::SERVER_BEFORE_INITIALIZE,
+        rules::SERVER_WHILE_INITIALIZE_OPEN,
+        rule,
+    )
 }
 
 /// Whether the rule is broken where the held text is another than the sender's.
 pub(crate) fn wants_text(rule: u16) -> bool
     ensures { result ≡ wants_text rule }
 {
-    if is_within(602, 608, rule) {
+    if is_within(rules::DOCUMENT_NOT_OPEN, rules::SAVED_TEXT_DIFFERS, rule) {
         return true;
     }
-    rule == 702
+    rule == rules::SNAPSHOT_DIFFERS
 }
 
 /// Whether an event that breaks the rule leaves the handshake lost: an `initialize` that doesn't
@@ -39,25 +49,29 @@ pub(crate) fn wants_text(rule: u16) -> bool
 pub(crate) fn breaks_handshake(asks: bool, rule: u16) -> bool
     ensures { result ≡ breaks_handshake asks rule }
 {
-    if rule == 209 && asks {
+    if rule == rules::BAD_METHOD_PARAMS && asks {
         return true;
     }
-    is_within(501, 503, rule)
+    is_within(
+        rules::BAD_INITIALIZE_RESULT,
+        rules::ENCODING_OUTSIDE_PROFILE,
+        rule,
+    )
 }
 
-/// Whether what is said of a document, with changes or without, leaves the held text another than
-/// the sender's where it breaks the rule.
+/// Whether what is said about a document, with changes or without, leaves the held text another
+/// than the sender's where it breaks the rule.
 pub(crate) fn loses(rule: u16, has_changes: bool) -> bool
     ensures { result ≡ loses_by rule has_changes }
 {
-    if rule == 602 {
+    if rule == rules::DOCUMENT_NOT_OPEN {
         return true;
     }
-    if rule == 603 && has_changes {
+    if rule == rules::VERSION_DOES_NOT_RISE && has_changes {
         return true;
     }
-    if is_within(604, 608, rule) {
+    if is_within(rules::CHANGE_NOT_OF_KIND, rules::SAVED_TEXT_DIFFERS, rule) {
         return true;
     }
-    rule == 702
+    rule == rules::SNAPSHOT_DIFFERS
 }

@@ -1,4 +1,4 @@
-//! What messages and snapshots say of documents, and what they leave of the notes.
+//! What messages and snapshots say about documents, and what they leave of the notes.
 ghost use Rattle.std.specs.Prelude.{◌≡◌, Some, None, OnOk, is_none, option_map, true};
 ghost use Rattle.std.specs.List.{list_any};
 ghost use Rattle.lsp_docs.specs.Calls.{Call, uri_of};
@@ -46,7 +46,7 @@ fn any_whole(changes: &[Change]) -> bool
     changes.iter().any(|change| change.span.is_none())
 }
 
-/// Notes that what was said of a document, with changes or without, breaks this rule.
+/// Notes that what was said about a document, with changes or without, breaks this rule.
 ///
 /// # Errors
 /// `Memory` where memory was refused; nothing is then known of the notes.
@@ -65,7 +65,7 @@ pub(crate) fn note_refused(
     notes.set(uri, Note { lost: true })
 }
 
-/// Notes that the text of a document was given anew, whole.
+/// Notes that the text of a document was given again, whole.
 fn note_renewed(notes: &mut Notes, uri: &str) -> Result<(), Memory>
     ensures { OnOk result ((call : Call) → uri_of call ≡ uri.now → renews call ≡ true
         → AreAfter None (Some call) notes.old.map.entries notes.new.map.entries) }

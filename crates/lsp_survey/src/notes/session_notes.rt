@@ -15,7 +15,7 @@ use std::alloc::Global;
 /// By which events the requests of both sides were asked and answered, and which one led to the
 /// phase of the session. Of the answers to a side's requests the last 1,024 are held.
 ///
-/// It stands for the events of a session of which those that offend are passed over.
+/// It stands for the events of a session of which those that offend are skipped.
 #[derive(Drop)]
 pub struct SessionNotes {
     editor: Exchange,

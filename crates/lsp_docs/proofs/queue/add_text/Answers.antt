@@ -16,7 +16,9 @@ returns-clause-ok c =
     let w = c.push.new.self in
     let at = simp to_z-of_z at c.in-Some.ensures.value in
     let put = simp to_z-of_z at (c.get_mut.follows.holds w).0 in
-    on_ok_weaker c.push.result (λ more. subst (λ l. SameVersions (versions_in es ++ versioned n (text_of c.args.text) ∷ []) (versions_in l)) (sym put)
+    on_ok_weaker c.push.result
+    (λ more. subst (λ l. SameVersions (versions_in es ++ versioned n (text_of c.args.text) ∷ [])
+    (versions_in l)) (sym put)
     (added-there n (text_of c.args.text) es c.in-Some.held.now w (sym at) more)) c.push.ensures.ok
 
 pub returns-clause-order : goal.returns-clause-order
@@ -27,8 +29,11 @@ returns-clause-order c =
     let w = c.push.new.self in
     let at = simp to_z-of_z at c.in-Some.ensures.value in
     let put = simp to_z-of_z at (c.get_mut.follows.holds w).0 in
-    on_ok_weaker c.push.result (λ more. subst (λ l. SameOrder (versions_in es ++ versioned n (text_of c.args.text) ∷ []) (versions_in l)) (sym put)
-    (ordered-there n (text_of c.args.text) es c.in-Some.held.now w c.requires (sym at) more)) c.push.ensures.ok
+    on_ok_weaker c.push.result
+    (λ more. subst (λ l. SameOrder (versions_in es ++ versioned n (text_of c.args.text) ∷ [])
+    (versions_in l)) (sym put)
+    (ordered-there n (text_of c.args.text) es c.in-Some.held.now w c.requires (sym at) more))
+    c.push.ensures.ok
 
 pub returns-clause-err : goal.returns-clause-err
 returns-clause-err c =
@@ -37,4 +42,6 @@ returns-clause-err c =
     let w = c.push.new.self in
     let at = simp to_z-of_z at c.in-Some.ensures.value in
     let put = simp to_z-of_z at (c.get_mut.follows.holds w).0 in
-    on_err_weaker c.push.result (λ same. ap versions_in put ∙ same-written c.args.version es c.in-Some.held.now w (sym at) same) c.push.ensures.err
+    on_err_weaker c.push.result
+    (λ same. ap versions_in put
+    ∙ same-written c.args.version es c.in-Some.held.now w (sym at) same) c.push.ensures.err

@@ -10,12 +10,14 @@ pub returns-clause-ok : goal.returns-clause-ok
 returns-clause-ok c =
     let fits : SFits w32 c.args.version = c.ranges.version in
     let put = simp to_z-of_z at c.in_ok-insert.ensures.entries in
-    λ p. added-new c.args.version (text_of c.args.text) c.args.texts.now.entries c.in_ok-first.first c.requires.new c.in_ok-first.ensures p
+    λ p. added-new c.args.version (text_of c.args.text) c.args.texts.now.entries c.in_ok-first.first
+    c.requires.new c.in_ok-first.ensures p
     ∙ ap (λ es. length (filter p (versions_in es))) (sym put)
 
 pub returns-clause-order : goal.returns-clause-order
 returns-clause-order c =
     let fits : SFits w32 c.args.version = c.ranges.version in
     let put = simp to_z-of_z at c.in_ok-insert.ensures.entries in
-    λ m. ordered-new c.args.version (text_of c.args.text) c.args.texts.now.entries c.in_ok-first.first c.requires.ordered c.requires.new c.in_ok-first.ensures m
+    λ m. ordered-new c.args.version (text_of c.args.text) c.args.texts.now.entries
+    c.in_ok-first.first c.requires.ordered c.requires.new c.in_ok-first.ensures m
     ∙ ap (λ es. filter (is_at m) (versions_in es)) (sym put)

@@ -10,9 +10,11 @@ use Rattle.lsp_docs.proofs.waiting.add_to.Goals as goal
 pub returns-in_err-push-clause-err : goal.returns-in_err-push-clause-err
 returns-in_err-push-clause-err c =
     let w = c.push.new.self in
-    let left : queues_in (c.get_mut.follows.lender w).entries ≡ queues_in c.args.snapshots.now.entries =
+    let left : queues_in (c.get_mut.follows.lender w).entries
+    ≡ queues_in c.args.snapshots.now.entries =
     ap queues_in (c.get_mut.follows.holds w).0
-    ∙ queued-same (λ d. d) c.args.uri.now c.in-Some.waiting.now w c.in_err-push.ensures.err _ (sym c.in-Some.ensures.value) in
+    ∙ queued-same (λ d. d) c.args.uri.now c.in-Some.waiting.now w c.in_err-push.ensures.err _
+    (sym c.in-Some.ensures.value) in
     search rules
 
 pub returns-clause-ok : goal.returns-clause-ok
@@ -22,5 +24,7 @@ returns-clause-ok c =
     let v = versioned c.args.version (text_of c.args.text) in
     let more = simp to_z-of_z at c.in_ok-push.ensures.ok in
     let order = simp to_z-of_z at c.in_ok-push.ensures.order in
-    subst (λ es. IsAdded c.args.uri.now v (queues_in c.args.snapshots.now.entries) (queues_in es)) (sym (c.get_mut.follows.holds w).0)
-    (added-there (λ x. x) c.args.uri.now v c.in-Some.waiting.now w more order _ (sym c.in-Some.ensures.value))
+    subst (λ es. IsAdded c.args.uri.now v (queues_in c.args.snapshots.now.entries) (queues_in es))
+    (sym (c.get_mut.follows.holds w).0)
+    (added-there (λ x. x) c.args.uri.now v c.in-Some.waiting.now w more order _
+    (sym c.in-Some.ensures.value))

@@ -12,20 +12,24 @@ returns-in-Some-clause-left c =
     let fits : SFits w32 c.args.version = c.ranges.version in
     let left = simp to_z-of_z at c.reach.ensures.left in
     ap queues_in (c.get_mut.follows.holds c.reach.new.self).0
-    ∙ keep_in-there (λ x. x) c.args.uri.now (is_after c.args.version) c.in-Some.waiting.now c.reach.new.self left _ (sym c.in-Some.ensures.value)
+    ∙ keep_in-there (λ x. x) c.args.uri.now (is_after c.args.version) c.in-Some.waiting.now
+    c.reach.new.self left _ (sym c.in-Some.ensures.value)
 
 pub returns-in-Some-clause-missed : goal.returns-in-Some-clause-missed
 returns-in-Some-clause-missed c =
     let fits : SFits w32 c.args.version = c.ranges.version in
     let count = simp to_z-of_z at c.reach.ensures.missed in
-    let there = queue_of-there (λ x. x) c.args.uri.now _ c.in-Some.waiting.now (sym c.in-Some.ensures.value) in
+    let there = queue_of-there (λ x. x) c.args.uri.now _ c.in-Some.waiting.now
+    (sym c.in-Some.ensures.value) in
     count ∙ sym (ap (λ l. capped (length (filter (is_before c.args.version) l))) there)
 
 pub returns-in-None-clause-left : goal.returns-in-None-clause-left
 returns-in-None-clause-left c =
     ap (λ m. queues_in m.entries) c.get_mut.follows.holds-at-none
-    ∙ keep_in-absent (λ x. x) c.args.uri.now (is_after c.args.version) _ (sym c.in-None.ensures.value)
+    ∙ keep_in-absent (λ x. x) c.args.uri.now (is_after c.args.version) _
+    (sym c.in-None.ensures.value)
 
 pub returns-in-None-clause-missed : goal.returns-in-None-clause-missed
 returns-in-None-clause-missed c =
-    sym (ap (λ l. capped (length (filter (is_before c.args.version) l))) (queue_of-absent (λ x. x) c.args.uri.now _ (sym c.in-None.ensures.value)))
+    sym (ap (λ l. capped (length (filter (is_before c.args.version) l)))
+    (queue_of-absent (λ x. x) c.args.uri.now _ (sym c.in-None.ensures.value)))

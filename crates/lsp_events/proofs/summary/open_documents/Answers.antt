@@ -1,9 +1,16 @@
-use Rattle.std.proofs.Common.{◌<◌, subst}
-use Rattle.lsp_verdict.proofs.ByIndex.{listed_one}
+use Rattle.lsp_events.proofs.Listing.{listed_all, listed_next}
 use Rattle.lsp_events.proofs.summary.open_documents.Goals as goal
 
-pub loop-index-preserved : goal.loop-index-preserved
-loop-index-preserved g c = λ calls stands.
-    let less = subst (λ n. c.loop-index.index < n) (c.len-index-end.ensures calls stands) c.loop-index-test.true in
-    listed_one c.args.docs.now calls c.loop-index.index c.loop-index.found.items c.push.new.self.items c.in_ok-open_document.field-0 c.in-Some.uri.now stands less (c.in-Some.ensures calls stands)
-    (λ version is. c.in_ok-open_document.ensures calls version stands is) c.in_ok-push.ensures.items (c.loop-index.invariant calls stands)
+pub loop-uri-preserved : goal.loop-uri-preserved
+loop-uri-preserved g c = λ calls stands.
+    let found = c.loop-uri.found.items in
+    let new = c.push.new.self.items in
+    listed_next c.args.docs.now calls found new c.loop-uri.uris c.next.new.self
+    c.in_ok-open_document.field-0 c.in-Some.uri.now stands (c.loop-uri.invariant calls stands)
+    c.in-Some.ensures.next c.in-Some.ensures.rest c.in_ok-push.ensures.items
+    (λ version is. c.in_ok-open_document.ensures calls version stands is)
+
+pub returns : goal.returns
+returns g c = λ calls stands.
+    listed_all c.args.docs.now calls c.loop-uri.found.items c.loop-uri.uris
+    (c.loop-uri.invariant calls stands) c.in_default.ensures.next

@@ -1,11 +1,12 @@
-use Rattle.std.proofs.Common.{◌≡◌, List, map, take}
+use Rattle.std.proofs.Common.{List, length}
 use Rattle.lsp_docs.specs.Calls.{Call}
-use Rattle.lsp_docs.specs.Documents.{documents}
 use Rattle.lsp_docs.specs.State as docs_state
-use Rattle.lsp_verdict.specs.Given.{document_view}
-use Rattle.lsp_verdict.specs.Verdict.{document_of}
+use Rattle.lsp_events.proofs.Listing.{AreListed}
 use Rattle.lsp_events.proofs.summary.open_documents.Given as goal
 
-abbrev pub invariant-loop-index : goal.invariant-loop-index
-invariant-loop-index g l =
-    (calls : List Call) → docs_state.Stands l.docs calls → map document_view l.found.items ≡ map document_of (take l.index (documents l.docs.terms calls))
+abbrev pub decreases-loop-uri : goal.decreases-loop-uri
+decreases-loop-uri g l = length l.uris
+
+abbrev pub invariant-loop-uri : goal.invariant-loop-uri
+invariant-loop-uri g l = (calls : List Call) → docs_state.Stands l.docs calls
+    → AreListed l.docs calls l.found.items l.uris

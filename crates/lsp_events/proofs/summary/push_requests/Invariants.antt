@@ -1,6 +1,10 @@
-use Rattle.std.proofs.Common.{◌≡◌, ◌++◌, map, take}
+use Rattle.std.proofs.Common.{◌≡◌, ◌++◌, map, length}
 use Rattle.lsp_verdict.specs.Given.{requests_view}
 use Rattle.lsp_events.proofs.summary.push_requests.Given as goal
 
-abbrev pub invariant-loop-index : goal.invariant-loop-index
-invariant-loop-index l = requests_view l.found.items ≡ requests_view l.fn.found.items ++ map (λ r. (l.side, r)) (take l.index l.pending)
+abbrev pub decreases-loop-request : goal.decreases-loop-request
+decreases-loop-request l = length l.requests
+
+abbrev pub invariant-loop-request : goal.invariant-loop-request
+invariant-loop-request l = requests_view l.found.items ++ map (λ r. (l.side, r)) l.requests
+    ≡ requests_view l.fn.found.items ++ map (λ r. (l.side, r)) l.pending

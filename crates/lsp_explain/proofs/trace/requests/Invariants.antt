@@ -1,4 +1,4 @@
-use Rattle.std.proofs.Common.{◌≡◌, List, map, take}
+use Rattle.std.proofs.Common.{◌≡◌, ◌++◌, List, length, map}
 use Rattle.lsp_docs.specs.Terms.{Terms}
 use Rattle.lsp_verdict.specs.Event.{Event}
 use Rattle.lsp_survey.specs.Asking.{numbered}
@@ -7,7 +7,11 @@ use Rattle.lsp_facts.specs.Fact.{facts_view}
 use Rattle.lsp_explain.specs.Traced.{waiting_by}
 use Rattle.lsp_explain.proofs.trace.requests.Given as goal
 
-abbrev pub invariant-loop-index : goal.invariant-loop-index
-invariant-loop-index l =
+abbrev pub decreases-loop-request : goal.decreases-loop-request
+decreases-loop-request l = length l.requests
+
+abbrev pub invariant-loop-request : goal.invariant-loop-request
+invariant-loop-request l =
     (terms : Terms) (before : List Event) → AreNotes terms l.said before
-    → facts_view l.facts.items ≡ map (waiting_by (numbered terms before)) (take l.index l.pending)
+    → facts_view l.facts.items ++ map (waiting_by (numbered terms before)) l.requests
+    ≡ map (waiting_by (numbered terms before)) l.pending

@@ -31,7 +31,7 @@ returns-then-count-changes g c =
     let told' = subst (λ (limit : ℕ). changed c.args.encoding text (edit_of edit).span (edit_of edit).text limit ≡ Err c.args.rule → IsRefused limit c.args.encoding text n (edit_of edit) c.args.rule facts)
     c.limit-then-count-changes.ensures c.in_ok-facts.ensures in
     change_fails terms (versions_of c.args.uri.now (waiting terms calls)) c.args.encoding c.args.kind c.args.version (edits_of cs) c.args.rule n text facts
-    c.if-rule-eq-VERSION_STAYS.false c.if-rule-eq-WRONG_KIND.false (held terms c.args.uri.now calls) content (edit_of edit) (c.in-Some.ensures calls h) made (here_at cs n edit c.if-count-changes.true c.index-changes-count.is) told' e
+    c.if-rule-eq-VERSION_DOES_NOT_RISE.false c.if-rule-eq-CHANGE_NOT_OF_KIND.false (held terms c.args.uri.now calls) content (edit_of edit) (c.in-Some.ensures calls h) made (here_at cs n edit c.if-count-changes.true c.index-changes-count.is) told' e
 
 pub returns : goal.returns
 returns g c =
@@ -49,4 +49,4 @@ returns g c =
     λ calls h e.
     let facts = c.in_ok-facts-2.facts in
     change_refuted terms (versions_of c.args.uri.now (waiting terms calls)) c.args.encoding c.args.kind c.args.version (edits_of cs) c.args.rule n text facts
-    c.if-rule-eq-VERSION_STAYS.false c.if-rule-eq-WRONG_KIND.false (held terms c.args.uri.now calls) content (c.in-Some.ensures calls h) made (all_seen cs n c.if-count-changes.false) (told calls h) e
+    c.if-rule-eq-VERSION_DOES_NOT_RISE.false c.if-rule-eq-CHANGE_NOT_OF_KIND.false (held terms c.args.uri.now calls) content (c.in-Some.ensures calls h) made (all_seen cs n c.if-count-changes.false) (told calls h) e

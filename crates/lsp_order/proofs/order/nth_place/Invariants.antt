@@ -4,4 +4,5 @@ use Rattle.lsp_order.specs.Places.{places_in}
 use Rattle.lsp_order.proofs.order.nth_place.Given as goal
 
 abbrev pub invariant-loop-slot : goal.invariant-loop-slot
-invariant-loop-slot l = slice_get (places_in l.slots) l.index ≡ slice_get (places_in (drop l.slot-index l.slots)) l.before
+invariant-loop-slot l = slice_get (places_in l.slots) l.index
+    ≡ slice_get (places_in (drop l.slot-index l.slots)) l.before

@@ -10,7 +10,7 @@ returns-then-byte_at-eq125 g c =
       no_members,
       without_members c.args.depth c.args.text.now c.args.from begin.result
           (rw (← bytes) begin.ensures.same) (rw (← bytes) (grind arith)) begin.ensures.forward,
-      c.none-gathered.ensures,
+      c.requires.none,
     )
 
 pub members-init : goal.members-init
@@ -21,7 +21,7 @@ members-init g c =
       no_members_yet c.args.depth c.args.text.now c.args.from begin.result
           (rw (← bytes) begin.ensures.same) begin.ensures.forward
           (rw (← bytes) begin.ensures.within),
-      c.none-gathered.ensures,
+      c.requires.none,
     )
 
 pub members-preserved : goal.members-preserved

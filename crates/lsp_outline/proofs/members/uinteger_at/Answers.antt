@@ -1,4 +1,4 @@
-use Rattle.std.proofs.Common.{◌≡◌, get_or, arith}
+use Rattle.std.proofs.Common.{arith}
 use Rattle.serde_json.specs.Data.{number, unsigned}
 use Rattle.lsp_outline.proofs.Editing.{small_natural}
 use Rattle.lsp_outline.proofs.Walking.{numeral_value}

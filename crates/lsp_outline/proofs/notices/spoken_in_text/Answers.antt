@@ -1,4 +1,4 @@
-use Rattle.std.proofs.Common.{◌≡◌, length, ◌≤◌, arith}
+use Rattle.std.proofs.Common.{arith}
 use Rattle.std.proofs.lemmas.Option.{IfSome_then}
 use Rattle.lsp_outline.proofs.Walking.{whole_value}
 use Rattle.serde_json.specs.Data.{object}
@@ -8,10 +8,10 @@ pub returns : goal.returns
 returns c =
     let d = c.args.text.now in
     let bytes = c.as_bytes-bytes.ensures.value in
-    let found = c.in_ok-parts.ensures in
+    let found = c.in_ok-end.ensures in
     let begin = c.spaces_end-from in
     let last = c.spaces_end in
-    let read = whole_value d begin.result c.in_ok-parts.end last.result (object found.0)
+    let read = whole_value d begin.result c.in_ok-end.end last.result (object found.0)
     (rw (← bytes) begin.ensures.same) found.1 (rw (← bytes) last.ensures.same)
     (rw (← bytes) (omega arith)) in
     IfSome_then c.spoken_in.result c.spoken_in.ensures

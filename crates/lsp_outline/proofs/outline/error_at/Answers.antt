@@ -1,4 +1,4 @@
-use Rattle.std.proofs.Common.{◌≡◌, Some, true, codes, sym, ap, ◌∙◌, arith}
+use Rattle.std.proofs.Common.{◌≡◌, true, codes, ◌∙◌, arith}
 use Rattle.serde_json.specs.Data.{object}
 use Rattle.lsp_rpc.specs.Reading.{code_of}
 use Rattle.lsp_rpc.specs.Shape.{holds_of, is_string, member}

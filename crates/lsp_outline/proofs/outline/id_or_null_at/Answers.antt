@@ -1,4 +1,4 @@
-use Rattle.std.proofs.Common.{◌≡◌, Some, get_or, refl, arith}
+use Rattle.std.proofs.Common.{◌≡◌, get_or, refl, arith}
 use Rattle.serde_json.specs.Data.{null}
 use Rattle.lsp_outline.proofs.Outlining.{some_id}
 use Rattle.lsp_outline.proofs.Walking.{null_value}

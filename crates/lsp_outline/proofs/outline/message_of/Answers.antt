@@ -1,4 +1,4 @@
-use Rattle.std.proofs.Common.{◌≡◌, Option, Some, codes, option_map, string_bytes, ap, ◌∙◌}
+use Rattle.std.proofs.Common.{Option, Some, codes, option_map, string_bytes, ap, ◌∙◌}
 use Rattle.std.proofs.lemmas.Option.{IfSome_then}
 use Rattle.serde_json.specs.Data.{string}
 use Rattle.lsp_rpc.specs.Ident.{Ident, id_view}

@@ -1,4 +1,4 @@
-use Rattle.std.proofs.Common.{sym, ap, ◌∙◌, arith}
+use Rattle.std.proofs.Common.{ap, ◌∙◌, arith}
 use Rattle.std.specs.Int.Count.{count_trailing_zeros}
 use Rattle.lsp_outline.proofs.Blocks.{none_marked, some_marked}
 use Rattle.lsp_outline.proofs.texts.plain_front.Goals as goal

@@ -3,4 +3,5 @@ use Rattle.lsp_rpc.specs.View.{texts_view}
 use Rattle.lsp_session.proofs.handshake.copy_texts.Given as goal
 
 abbrev pub invariant-loop-text : goal.invariant-loop-text
-invariant-loop-text l = texts_view l.texts ≡ texts_view l.copy.items ++ texts_view (drop l.text-index l.texts)
+invariant-loop-text l = texts_view l.texts
+    ≡ texts_view l.copy.items ++ texts_view (drop l.text-index l.texts)

@@ -7,4 +7,5 @@ pub returns : goal.returns
 returns g c = λ calls h.
     let uri_of = λ (x : Held). x.uri in
     let index = c.args.index in
-    c.at.ensures ∙ (ap (λ s. slice_get (map uri_of s.documents) index) c.self.view_is ∙ ap (λ l. slice_get (map uri_of l) index) h.documents)
+    c.at.ensures ∙ (ap (λ s. slice_get (map uri_of s.documents) index) c.self.view_is
+    ∙ ap (λ l. slice_get (map uri_of l) index) h.documents)

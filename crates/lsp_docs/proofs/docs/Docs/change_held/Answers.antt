@@ -24,12 +24,16 @@ returns-clause-ok g c =
         documents = c.self.inside.documents.held;
         kept = c.self.inside.documents.kept;
         waits = c.self.inside.waiting;
-      })) ∙ ap (λ s. with_held (set_in uri (versioned c.args.version a.text) s.documents) s.kept s) c.self.view_is;
-      keeps = keeps-none c.args.self.now.terms.kept uri (held_in uri c.args.self.now.documents) c.args.self.now.kept c.requires.none;
+      })) ∙ ap (λ s. with_held (set_in uri (versioned c.args.version a.text) s.documents) s.kept s)
+          c.self.view_is;
+      keeps = keeps-none c.args.self.now.terms.kept uri (held_in uri c.args.self.now.documents)
+          c.args.self.now.kept c.requires.none;
     }) ok
 
 pub returns-clause-fault : goal.returns-clause-fault
 returns-clause-fault g c =
     let uri = c.args.uri.now in
     let cs = edit_of c.args.change.now ∷ [] in
-    IfErr-weaker c.change.result _ _ (λ e h. subst (λ s. Breaks (changed_at s c.args.encoding uri cs) e) c.self.view_is h) c.change.ensures.fault
+    IfErr-weaker c.change.result _ _
+    (λ e h. subst (λ s. Breaks (changed_at s c.args.encoding uri cs) e) c.self.view_is h)
+    c.change.ensures.fault

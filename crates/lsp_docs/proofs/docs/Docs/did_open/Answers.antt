@@ -12,25 +12,33 @@ pub returns-in-Some-clause-rule : goal.returns-in-Some-clause-rule
 returns-in-Some-clause-rule g c = λ calls h.
     let fits : SFits w32 c.args.version = c.ranges.version in
     let asked = simp to_z-of_z at c.open_rule.ensures in
-    sym (rule-stands c.args.self.now calls (opens c.args.uri.now c.args.version (chars c.args.text.now)) h) ∙ (sym asked ∙ c.in-Some.is)
+    sym (rule-stands c.args.self.now calls
+    (opens c.args.uri.now c.args.version (chars c.args.text.now)) h)
+    ∙ (sym asked ∙ c.in-Some.is)
 
 pub returns-in_err-store-clause-memory : goal.returns-in_err-store-clause-memory
 returns-in_err-store-clause-memory g c = λ refused calls h.
     let fits : SFits w32 c.args.version = c.ranges.version in
     let asked = simp to_z-of_z at c.open_rule.ensures in
-    sym (rule-stands c.args.self.now calls (opens c.args.uri.now c.args.version (chars c.args.text.now)) h) ∙ (sym asked ∙ c.in_default.is)
+    sym (rule-stands c.args.self.now calls
+    (opens c.args.uri.now c.args.version (chars c.args.text.now)) h)
+    ∙ (sym asked ∙ c.in_default.is)
 
 pub returns-in_err-insert-clause-memory : goal.returns-in_err-insert-clause-memory
 returns-in_err-insert-clause-memory g c = λ refused calls h.
     let fits : SFits w32 c.args.version = c.ranges.version in
     let asked = simp to_z-of_z at c.open_rule.ensures in
-    sym (rule-stands c.args.self.now calls (opens c.args.uri.now c.args.version (chars c.args.text.now)) h) ∙ (sym asked ∙ c.in_default.is)
+    sym (rule-stands c.args.self.now calls
+    (opens c.args.uri.now c.args.version (chars c.args.text.now)) h)
+    ∙ (sym asked ∙ c.in_default.is)
 
 pub returns-clause-accepted : goal.returns-clause-accepted
 returns-clause-accepted g c = λ calls h.
     let fits : SFits w32 c.args.version = c.ranges.version in
     let asked = simp to_z-of_z at c.open_rule.ensures in
-    sym (rule-stands c.args.self.now calls (opens c.args.uri.now c.args.version (chars c.args.text.now)) h) ∙ (sym asked ∙ c.in_default.is)
+    sym (rule-stands c.args.self.now calls
+    (opens c.args.uri.now c.args.version (chars c.args.text.now)) h)
+    ∙ (sym asked ∙ c.in_default.is)
 
 pub returns-clause-stands : goal.returns-clause-stands
 returns-clause-stands g c = λ calls h.
@@ -44,9 +52,22 @@ returns-clause-stands g c = λ calls h.
     let call = opens uri n t in
     let accepted = rule-stands s calls call h ∙ returns-clause-accepted g c calls h in
     let content = g.S.TextStore.content c.in_ok-store.store in
-    let same : KeepsSame s.kept c.insert.new.self.kept = subst (λ x. KeepsSame x.kept c.insert.new.self.kept) c.self.view_is c.in_ok-insert.ensures.kept in
-    subst (λ w. Stands (stated (terms_in c.self.inside.limit c.self.inside.kept) c.insert.new.self.held c.insert.new.self.kept w) (calls ++ call ∷ [])) (sym re)
-    (subst (λ l. Stands (stated (terms_in c.self.inside.limit c.self.inside.kept) l c.insert.new.self.kept (reached uri n c.self.inside.waiting)) (calls ++ call ∷ [])) (sym ins)
-    (subst (λ x. Stands (stated x.terms (x.documents ++ record { uri = uri; version = versioned n content } ∷ []) c.insert.new.self.kept (reached uri n x.waits)) (calls ++ call ∷ [])) (sym c.self.view_is)
-    (subst (λ x. Stands (stated s.terms (s.documents ++ record { uri = uri; version = versioned n x } ∷ []) c.insert.new.self.kept (reached uri n s.waits)) (calls ++ call ∷ [])) (sym c.in_ok-store.ensures)
+    let same : KeepsSame s.kept c.insert.new.self.kept =
+    subst (λ x. KeepsSame x.kept c.insert.new.self.kept) c.self.view_is
+    c.in_ok-insert.ensures.kept in
+    subst (λ w. Stands (stated (terms_in c.self.inside.limit c.self.inside.kept)
+    c.insert.new.self.held c.insert.new.self.kept w) (calls ++ call ∷ [])) (sym re)
+    (subst (λ l. Stands (stated (terms_in c.self.inside.limit c.self.inside.kept) l
+    c.insert.new.self.kept (reached uri n c.self.inside.waiting)) (calls ++ call ∷ []))
+    (sym ins)
+    (subst (λ x. Stands (stated x.terms (x.documents ++ record {
+      uri = uri;
+      version = versioned n content;
+    } ∷ []) c.insert.new.self.kept (reached uri n x.waits)) (calls ++ call ∷ []))
+    (sym c.self.view_is)
+    (subst (λ x. Stands (stated s.terms (s.documents ++ record {
+      uri = uri;
+      version = versioned n x;
+    } ∷ []) c.insert.new.self.kept (reached uri n s.waits)) (calls ++ call ∷ []))
+    (sym c.in_ok-store.ensures)
     (Stands-opened s calls uri n t c.insert.new.self.kept accepted same h))))

@@ -14,15 +14,23 @@ returns-in-Some g c = λ calls h.
     let fits : SFits w32 c.args.version = c.ranges.version in
     let s = versioned c.args.version (chars c.args.text.now) in
     let told = simp to_z-of_z at c.other.ensures in
-    let holds = sym (ap (option_map (λ d. versioned d.now.held.version (g.S.TextStore.content d.now.held.store))) c.in-Some.is) ∙ (c.get.ensures.held ∙ held-stands c.args.self.now calls c.args.uri.now h) in
-    let keeps = sym (ap (λ o. or_nothing (option_map (λ d. d.now.kept) o)) c.in-Some.is) ∙ (c.get.ensures.kept ∙ h.kept c.args.uri.now) in
+    let holds = sym (ap (option_map (λ d. versioned d.now.held.version
+    (g.S.TextStore.content d.now.held.store))) c.in-Some.is)
+    ∙ (c.get.ensures.held ∙ held-stands c.args.self.now calls c.args.uri.now h) in
+    let keeps = sym (ap (λ o. or_nothing (option_map (λ d. d.now.kept) o)) c.in-Some.is)
+    ∙ (c.get.ensures.kept ∙ h.kept c.args.uri.now) in
     told
-    ∙ (ap (λ ks. other_than s ks (Some (versioned c.in-Some.document.now.held.version (g.S.TextStore.content c.in-Some.document.now.held.store)))) keeps
+    ∙ (ap (λ ks. other_than s ks (Some (versioned c.in-Some.document.now.held.version
+    (g.S.TextStore.content c.in-Some.document.now.held.store)))) keeps
     ∙ ap (λ o. other_than s (kept c.args.self.now.terms c.args.uri.now calls) o) holds)
 
 pub returns-in-None : goal.returns-in-None
 returns-in-None g c = λ calls h.
     let s = versioned c.args.version (chars c.args.text.now) in
-    let holds = sym (ap (option_map (λ d. versioned d.now.held.version (g.S.TextStore.content d.now.held.store))) c.in-None.is) ∙ (c.get.ensures.held ∙ held-stands c.args.self.now calls c.args.uri.now h) in
-    let keeps = sym (ap (λ o. or_nothing (option_map (λ d. d.now.kept) o)) c.in-None.is) ∙ (c.get.ensures.kept ∙ h.kept c.args.uri.now) in
-    ap (λ ks. other_than s ks None) keeps ∙ ap (λ o. other_than s (kept c.args.self.now.terms c.args.uri.now calls) o) holds
+    let holds = sym (ap (option_map (λ d. versioned d.now.held.version
+    (g.S.TextStore.content d.now.held.store))) c.in-None.is)
+    ∙ (c.get.ensures.held ∙ held-stands c.args.self.now calls c.args.uri.now h) in
+    let keeps = sym (ap (λ o. or_nothing (option_map (λ d. d.now.kept) o)) c.in-None.is)
+    ∙ (c.get.ensures.kept ∙ h.kept c.args.uri.now) in
+    ap (λ ks. other_than s ks None) keeps
+    ∙ ap (λ o. other_than s (kept c.args.self.now.terms c.args.uri.now calls) o) holds

@@ -18,7 +18,12 @@ returns-then-not-is_due-clause-allowed g c =
     let n = c.args.version in
     let due = simp to_z-of_z at c.is_due.ensures in
     let none : c.is_due.result ≡ false = search rules in
-    let quiet : list_any (is_at n) (queue_of uri s.waits.queues) ≡ false = ap (λ y. list_any (is_at n) (queue_of uri y.waits.queues)) (sym c.self.view_is) ∙ (sym due ∙ none) in
+    let quiet : list_any (is_at n) (queue_of uri s.waits.queues) ≡ false =
+    ap (λ y. list_any (is_at n) (queue_of uri y.waits.queues)) (sym c.self.view_is)
+    ∙ (sym due ∙ none) in
     let one : c.args.changes.now ≡ c.index-changes-0.result ∷ [] = grind (arith, common_steps) in
-    on_ok_weaker c.change_held.result (λ a. text-quiet (queue_of uri s.waits.queues) n (changed_at s c.args.encoding uri (edits_of c.args.changes.now)) a.text
-    (ap (λ l. changed_at s c.args.encoding uri (edits_of l)) one ∙ a.made) quiet) c.change_held.ensures.ok
+    on_ok_weaker c.change_held.result
+    (λ a. text-quiet (queue_of uri s.waits.queues) n
+    (changed_at s c.args.encoding uri (edits_of c.args.changes.now)) a.text
+    (ap (λ l. changed_at s c.args.encoding uri (edits_of l)) one ∙ a.made) quiet)
+    c.change_held.ensures.ok

@@ -14,4 +14,5 @@ returns g c = λ calls h.
     ∙ (ap (λ s. capped (capped (total s.waits.queues) + s.waits.missed)) c.self.view_is
     ∙ (ap (λ n. capped (capped n + c.args.self.now.waits.missed)) h.waits.count
     ∙ (ap (λ n. capped (capped (length (waiting terms calls)) + n)) h.waits.missed
-    ∙ (capped-add_capped (length (waiting terms calls)) (missed terms calls) ∙ ap capped (sym (unmatched-parts terms calls h.accepted))))))
+    ∙ (capped-add_capped (length (waiting terms calls)) (missed terms calls)
+    ∙ ap capped (sym (unmatched-parts terms calls h.accepted))))))

@@ -8,5 +8,7 @@ pub returns : goal.returns
 returns g c =
     subst (λ (l : List ℤ). IfOk c.numbers_of.result (λ numbers. numbers.items ≡ l))
     (ap (map (λ r. r.version)) c.as_slice.ensures.value
-    ∙ (sym (map-seen (λ (v : Version). v.number) (λ r. versioned r.version (g.S.TextStore.content r.store)) c.self.inside.revisions.items) ∙ ap (map (λ (v : Version). v.number)) c.self.view_is))
+    ∙ (sym (map-seen (λ (v : Version). v.number)
+    (λ r. versioned r.version (g.S.TextStore.content r.store)) c.self.inside.revisions.items)
+    ∙ ap (map (λ (v : Version). v.number)) c.self.view_is))
     c.numbers_of.ensures

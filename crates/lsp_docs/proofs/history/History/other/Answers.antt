@@ -16,7 +16,11 @@ returns g c =
     let told = simp to_z-of_z at c.first_other.ensures in
     let items = c.self.inside.revisions.items in
     told
-    ∙ (ap (λ l. option_map (λ r. g.S.TextStore.content r.store) (find (λ r. differs_from s (versioned r.version (g.S.TextStore.content r.store))) l)) c.as_slice.ensures.value
-    ∙ (sym (ap (option_map (λ (v : Version). v.text)) (find-map (differs_from s) (λ r. versioned r.version (g.S.TextStore.content r.store)) items)
-    ∙ map-twice (λ (v : Version). v.text) (λ r. versioned r.version (g.S.TextStore.content r.store)) (find (λ r. differs_from s (versioned r.version (g.S.TextStore.content r.store))) items))
+    ∙ (ap (λ l. option_map (λ r. g.S.TextStore.content r.store)
+    (find (λ r. differs_from s (versioned r.version (g.S.TextStore.content r.store))) l))
+    c.as_slice.ensures.value
+    ∙ (sym (ap (option_map (λ (v : Version). v.text))
+    (find-map (differs_from s) (λ r. versioned r.version (g.S.TextStore.content r.store)) items)
+    ∙ map-twice (λ (v : Version). v.text) (λ r. versioned r.version (g.S.TextStore.content r.store))
+    (find (λ r. differs_from s (versioned r.version (g.S.TextStore.content r.store))) items))
     ∙ ap (other_in s) c.self.view_is))

@@ -8,10 +8,15 @@ use Rattle.lsp_docs.proofs.opened.OpenDocuments.get.Goals as goal
 pub returns-clause-held : goal.returns-clause-held
 returns-clause-held g c =
     copied-map (λ d. versioned d.held.version (g.S.TextStore.content d.held.store)) c.get_str.result
-    ∙ (ap (option_map (λ d. versioned d.held.version (g.S.TextStore.content d.held.store))) c.get_str.ensures
-    ∙ (sym (held_in-of (λ d. versioned d.held.version (g.S.TextStore.content d.held.store)) c.args.uri.now c.self.inside.documents) ∙ ap (λ s. held_in c.args.uri.now s.held) c.self.view_is))
+    ∙ (ap (option_map (λ d. versioned d.held.version (g.S.TextStore.content d.held.store)))
+    c.get_str.ensures
+    ∙ (sym (held_in-of (λ d. versioned d.held.version (g.S.TextStore.content d.held.store))
+    c.args.uri.now c.self.inside.documents)
+    ∙ ap (λ s. held_in c.args.uri.now s.held) c.self.view_is))
 
 pub returns-clause-kept : goal.returns-clause-kept
 returns-clause-kept g c =
-    ap or_nothing (copied-map (λ d. d.kept) c.get_str.result ∙ ap (option_map (λ d. d.kept)) c.get_str.ensures)
-    ∙ (sym (kept_in-of (λ d. d.kept) c.args.uri.now c.self.inside.documents) ∙ ap (λ s. kept_in c.args.uri.now s.kept) c.self.view_is)
+    ap or_nothing (copied-map (λ d. d.kept) c.get_str.result
+    ∙ ap (option_map (λ d. d.kept)) c.get_str.ensures)
+    ∙ (sym (kept_in-of (λ d. d.kept) c.args.uri.now c.self.inside.documents)
+    ∙ ap (λ s. kept_in c.args.uri.now s.kept) c.self.view_is)

@@ -3,4 +3,5 @@ use Rattle.std.proofs.lemmas.List.{length-map}
 use Rattle.lsp_docs.proofs.opened.OpenDocuments.len.Goals as goal
 
 pub returns : goal.returns
-returns g c = rw (← c.self.view_is) (c.len.ensures.count ∙ sym (length-map c.self.inside.documents _))
+returns g c = rw (← c.self.view_is) (c.len.ensures.count
+    ∙ sym (length-map c.self.inside.documents _))

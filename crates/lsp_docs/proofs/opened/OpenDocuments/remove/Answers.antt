@@ -6,7 +6,8 @@ use Rattle.lsp_order.specs.Texts.{is_text}
 use Rattle.lsp_docs.specs.Documents.{versioned}
 use Rattle.lsp_docs.specs.Opened.{held_of, kept_of}
 use Rattle.lsp_docs.specs.State.{held_in, kept_in, without}
-use Rattle.lsp_docs.proofs.Entries.{absent-removed, held_in-of, held-without, is_some-mapped, keeps-none}
+use Rattle.lsp_docs.proofs.Entries.{absent-removed, held_in-of, held-without, is_some-mapped}
+use Rattle.lsp_docs.proofs.Entries.{keeps-none}
 use Rattle.lsp_docs.proofs.opened.OpenDocuments.remove.Goals as goal
 
 pub returns-clause-found : goal.returns-clause-found
@@ -14,19 +15,28 @@ returns-clause-found g c =
     let documents = c.self.inside.documents in
     c.is_some.ensures
     ∙ (ap is_some c.remove_str.ensures.value
-    ∙ (sym (is_some-mapped (λ d. versioned d.held.version (g.S.TextStore.content d.held.store)) (lookup (is_text c.args.uri.now) documents))
-    ∙ (ap is_some (sym (held_in-of (λ d. versioned d.held.version (g.S.TextStore.content d.held.store)) c.args.uri.now documents)) ∙ ap (λ s. is_some (held_in c.args.uri.now s.held)) c.self.view_is)))
+    ∙ (sym (is_some-mapped (λ d. versioned d.held.version (g.S.TextStore.content d.held.store))
+    (lookup (is_text c.args.uri.now) documents))
+    ∙ (ap is_some (sym (held_in-of (λ d. versioned d.held.version
+    (g.S.TextStore.content d.held.store)) c.args.uri.now documents))
+    ∙ ap (λ s. is_some (held_in c.args.uri.now s.held)) c.self.view_is)))
 
 pub returns-clause-absent : goal.returns-clause-absent
 returns-clause-absent g c = λ none.
     let gone = sym (c.is_some.ensures ∙ ap is_some c.remove_str.ensures.value) ∙ none in
-    let same = c.remove_str.ensures.left ∙ absent-removed c.args.uri.now c.self.inside.documents gone in
-    (λ i. record { held = held_of (λ d. versioned d.held.version (g.S.TextStore.content d.held.store)) (same i); kept = kept_of (λ d. d.kept) (same i) }) ∙ c.self.view_is
+    let same = c.remove_str.ensures.left ∙ absent-removed c.args.uri.now c.self.inside.documents
+    gone in
+    (λ i. record {
+      held = held_of (λ d. versioned d.held.version (g.S.TextStore.content d.held.store)) (same i);
+      kept = kept_of (λ d. d.kept) (same i);
+    }) ∙ c.self.view_is
 
 pub returns-clause-held : goal.returns-clause-held
 returns-clause-held g c =
-    ap (held_of (λ d. versioned d.held.version (g.S.TextStore.content d.held.store))) c.remove_str.ensures.left
-    ∙ (held-without (λ d. versioned d.held.version (g.S.TextStore.content d.held.store)) c.args.uri.now c.self.inside.documents ∙ ap (λ s. without c.args.uri.now s.held) c.self.view_is)
+    ap (held_of (λ d. versioned d.held.version (g.S.TextStore.content d.held.store)))
+    c.remove_str.ensures.left
+    ∙ (held-without (λ d. versioned d.held.version (g.S.TextStore.content d.held.store))
+    c.args.uri.now c.self.inside.documents ∙ ap (λ s. without c.args.uri.now s.held) c.self.view_is)
 
 pub returns-clause-kept : goal.returns-clause-kept
 returns-clause-kept g c = λ u.

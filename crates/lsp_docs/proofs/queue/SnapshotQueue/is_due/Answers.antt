@@ -11,10 +11,13 @@ pub returns-in-Some : goal.returns-in-Some
 returns-in-Some c =
     let fits : SFits w32 c.args.version = c.ranges.version in
     let at = simp to_z-of_z at c.in-Some.ensures.value in
-    ap (nat_lt 0) c.len.ensures ∙ (due-there c.args.version c.self.inside.texts.entries c.in-Some.texts.now c.self.invariant (sym at) ∙ ap (list_any (is_at c.args.version)) c.self.view_is)
+    ap (nat_lt 0) c.len.ensures
+    ∙ (due-there c.args.version c.self.inside.texts.entries c.in-Some.texts.now c.self.invariant
+    (sym at) ∙ ap (list_any (is_at c.args.version)) c.self.view_is)
 
 pub returns-in-None : goal.returns-in-None
 returns-in-None c =
     let fits : SFits w32 c.args.version = c.ranges.version in
     let at = simp to_z-of_z at c.in-None.ensures.value in
-    due-absent c.args.version c.self.inside.texts.entries c.self.invariant (sym at) ∙ ap (list_any (is_at c.args.version)) c.self.view_is
+    due-absent c.args.version c.self.inside.texts.entries c.self.invariant (sym at)
+    ∙ ap (list_any (is_at c.args.version)) c.self.view_is

@@ -10,8 +10,11 @@ pub returns-in-Some : goal.returns-in-Some
 returns-in-Some c =
     let fits : SFits w32 c.args.version = c.ranges.version in
     let due = simp to_z-of_z at c.is_due.ensures in
-    rw (← c.self.view_is) (due ∙ sym (ap (list_any (is_at c.args.version)) (queue_of-there (λ d. d) c.args.uri.now _ c.in-Some.queue.now (sym c.in-Some.ensures.value))))
+    rw (← c.self.view_is) (due ∙ sym (ap (list_any (is_at c.args.version))
+    (queue_of-there (λ d. d) c.args.uri.now _ c.in-Some.queue.now
+    (sym c.in-Some.ensures.value))))
 
 pub returns-in-None : goal.returns-in-None
 returns-in-None c =
-    rw (← c.self.view_is) (sym (ap (list_any (is_at c.args.version)) (queue_of-absent (λ d. d) c.args.uri.now _ (sym c.in-None.ensures.value))))
+    rw (← c.self.view_is) (sym (ap (list_any (is_at c.args.version))
+    (queue_of-absent (λ d. d) c.args.uri.now _ (sym c.in-None.ensures.value))))

@@ -4,4 +4,6 @@ use Rattle.lsp_docs.specs.Stored.{lengths}
 use Rattle.lsp_docs.proofs.waiting.Waiting.len.Given as goal
 
 abbrev pub invariant-loop-snapshots : goal.invariant-loop-snapshots
-invariant-loop-snapshots l = (capped (l.count + lengths l.snapshots-iterator) ≡ capped (total l.self.queues)) × (capped l.count ≡ l.count)
+invariant-loop-snapshots l =
+    (capped (l.count + lengths l.snapshots-iterator) ≡ capped (total l.self.queues))
+    × (capped l.count ≡ l.count)

@@ -12,13 +12,13 @@ returns-in-Bad c = λ limits start now heard h.
 pub returns-in-Ok : goal.returns-in-Ok
 returns-in-Ok c = λ limits start now heard h.
     let told = rw (c.in-Ok.is, c.ends_inside-editor.ensures, c.ends_inside-server.ensures) at
-    c.end_of.ensures.answer in
+    c.end_of.ensures in
     found_sound c.args.self.now.completeness limits c.args.self.now start now heard c.args.end h _
     (ap flaw_of c.in_default.is) (told heard h.has.follows)
 
 pub returns-in-Err : goal.returns-in-Err
 returns-in-Err c = λ limits start now heard h.
     let told = rw (c.in-Err.is, c.ends_inside-editor.ensures, c.ends_inside-server.ensures) at
-    c.end_of.ensures.answer in
+    c.end_of.ensures in
     answered_end c.args.self.now.completeness limits c.args.self.now start now heard c.args.end h
     c.in-Err.ruling c.answer.result (ap flaw_of c.in_default.is) c.answer.ensures.ok told

@@ -33,34 +33,30 @@ returns-in-Some-clause-finishes g c =
 pub returns-in-Ok-clause-keeps : goal.returns-in-Ok-clause-keeps
 returns-in-Ok-clause-keeps g c =
     let given = ap (λ (s : State). s.given) (sym c.self.view_is) ∙ c.in_default.is in
-    let same = c.end.ensures.same in
-    keeps_ungiven c.args.self.now c.end.new.self _ _ given (ap (λ (s : State). s.limits) same)
-    (ap (λ (s : State). s.format) same) tt
+    keeps_ungiven c.args.self.now c.args.self.now _ _ given refl refl tt
 
 pub returns-in-Ok-clause-finishes : goal.returns-in-Ok-clause-finishes
 returns-in-Ok-clause-finishes g c =
     let given = ap (λ (s : State). s.given) (sym c.self.view_is) ∙ c.in_default.is in
-    let told = rw c.in-Ok.is at c.end.ensures.answer in
-    answers_end c.args.completeness c.args.self.now c.end.new.self _
+    let told = rw c.in-Ok.is at c.end.ensures in
+    answers_end c.args.completeness c.args.self.now c.args.self.now _
     (λ records v stands final.
     open_final c.args.completeness c.args.self.now records _ v given told stands final)
-    (λ s e. c.end.ensures.same) tt
+    (λ s e. refl) tt
 
 -- a No, or a want of memory
 pub returns-in-Err-clause-keeps : goal.returns-in-Err-clause-keeps
 returns-in-Err-clause-keeps g c =
     let given = ap (λ (s : State). s.given) (sym c.self.view_is) ∙ c.in_default.is in
-    let seen = c.self-2.view_is in
-    let same = c.end.ensures.same in
+    let seen = c.self.view_is in
     keeps_ungiven c.args.self.now _ _ c.answer-in-Err.result given
-    (ap (λ (s : State). s.limits) seen ∙ ap (λ (s : State). s.limits) same)
-    (ap (λ (s : State). s.format) seen ∙ ap (λ (s : State). s.format) same)
+    (ap (λ (s : State). s.limits) seen) (ap (λ (s : State). s.format) seen)
     (refused_on c.in-Err.ruling c.answer-in-Err.result c.answer-in-Err.ensures.err)
 
 pub returns-in-Err-clause-finishes : goal.returns-in-Err-clause-finishes
 returns-in-Err-clause-finishes g c =
     let given = ap (λ (s : State). s.given) (sym c.self.view_is) ∙ c.in_default.is in
-    let told = rw c.in-Err.is at c.end.ensures.answer in
+    let told = rw c.in-Err.is at c.end.ensures in
     answers_end c.args.completeness c.args.self.now _ c.answer-in-Err.result
     (IfOk-weaker c.answer-in-Err.result _ _
     (λ answer is records v stands final.

@@ -49,8 +49,11 @@ returns c =
       at = c.index.result.now - c.end_len_before.result;
       after = c.index.result.now;
       rest = c.split_at.result.1;
-      is_plain = eqb c.self.inside.sums.chars c.self.inside.sums.bytes;
+      is_plain = eqb c.deref-held.result.now.sums.chars c.deref-held.result.now.sums.bytes;
     } in
+    let counted = c.deref-held.result.now.sums in
+    let found = read at.After-row_known-1 h (some at.After-as_str-text) in
     subst (λ (x : List ℕ). IsLineEnd x c.args.n end) h.text_is
-    (block_end text c.args.n c.index.result.now c.end_len_before.result end c.self.inside.sums h.utf8 h.sums (read at.After-row_known-1 h (some at.After-as_str-text))
-    c.end_len_before.ensures.within c.end_len_before.ensures.end refl refl c.split_at.ensures.back refl)
+    (block_end text c.args.n c.index.result.now c.end_len_before.result end counted h.utf8 h.sums
+    found c.end_len_before.ensures.within c.end_len_before.ensures.end refl refl
+    c.split_at.ensures.back refl)

@@ -10,5 +10,6 @@ returns g c =
     let eq = string_eq in
     let key = c.args.key.now in
     c.get.ensures.value
-    ∙ (lookup-in_order eq (is_text key) (text_test key) c.self.inside.order c.self.inside.entries.entries c.self.invariant.order c.self.invariant.unique
+    ∙ (lookup-in_order eq (is_text key) (text_test key) c.self.inside.order
+    c.self.inside.entries.entries c.self.invariant.order c.self.invariant.unique
     ∙ ap (lookup (is_text key)) c.self.view_is)

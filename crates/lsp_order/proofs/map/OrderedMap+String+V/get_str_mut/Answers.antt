@@ -18,10 +18,12 @@ returns g c =
     let unique = c.self.invariant.unique in
     rw (← c.self.view_is) (
       λ t. read_of (ghost_name_of c.get_mut.result)
-          (λ (w : g.row.V.Denot). (ap (in_order places) (c.get_mut.follows.holds w).0 ∙ set-in_order eq laws (is_text key) (text_test key) places es order unique w) t)
+          (λ (w : g.row.V.Denot). (ap (in_order places) (c.get_mut.follows.holds w).0
+          ∙ set-in_order eq laws (is_text key) (text_test key) places es order unique w) t)
           ((ap (λ m. in_order places m.entries) c.get_mut.follows.holds-at-none) t),
       (
-        c.get_mut.ensures.value ∙ lookup-in_order eq (is_text key) (text_test key) places es order unique,
+        c.get_mut.ensures.value ∙ lookup-in_order eq (is_text key) (text_test key) places es order
+            unique,
         distinct-in_order eq laws places es order.differ order.below unique,
       ),
     )

@@ -40,13 +40,12 @@ returns-in_ok-notice-in-method c =
       )),
     )
 
-pub returns-in_ok-params-in-params : goal.returns-in_ok-params-in-params
-returns-in_ok-params-in-params c =
+pub returns-in_ok-end-in-params : goal.returns-in_ok-end-in-params
+returns-in_ok-end-in-params c =
     let k = c.args.name.now in
-    let found = c.in_ok-params-in-params in
-    let read = found.ensures in
+    let read = c.in_ok-end-in-params.ensures in
     let d = object read.0 in
-    let told : told_of d ≡ told_view found.params =
+    let told : told_of d ≡ told_view c.object_into.new.gathered =
     rw (read.2.0, read.2.1, read.2.2, read.2.3, read.2.4) in
     let is = c.in-params.is in (
       d,

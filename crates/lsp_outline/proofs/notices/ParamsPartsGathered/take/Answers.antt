@@ -12,12 +12,11 @@ use Rattle.lsp_outline.proofs.notices.ParamsPartsGathered.take.Goals as goal
 abbrev text_of : Option Data → Option (Option Text)
 text_of o = if_given as_str (option_and_then unless_null o)
 
-pub returns-in_ok-document-in-textDocument : goal.returns-in_ok-document-in-textDocument
-returns-in_ok-document-in-textDocument c =
+pub returns-in_ok-end-in-textDocument : goal.returns-in_ok-end-in-textDocument
+returns-in_ok-end-in-textDocument c =
     let k = c.args.name.now in
-    let found = c.in_ok-document-in-textDocument in
-    let read = found.ensures in
-    let told : document_of (object read.0) ≡ document_view found.document =
+    let read = c.in_ok-end-in-textDocument.ensures in
+    let told : document_of (object read.0) ≡ document_view c.object_into.new.gathered =
     rw (read.2.0, read.2.1, read.2.2) in
     let d = object read.0 in
     let is = c.in-textDocument.is in (

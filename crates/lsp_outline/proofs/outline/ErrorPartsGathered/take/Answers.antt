@@ -1,4 +1,4 @@
-use Rattle.std.proofs.Common.{Some, codes, option_and_then, refl}
+use Rattle.std.proofs.Common.{codes, option_and_then, refl}
 use Rattle.std.proofs.lemmas.Option.{IfSome_then}
 use Rattle.lsp_rpc.specs.Shape.{as_integer, holds_of, is_string}
 use Rattle.lsp_outline.proofs.Editing.{first_came, second_came, neither_came}

@@ -1,4 +1,4 @@
-use Rattle.std.proofs.Common.{◌≡◌, Some, codes, option_map, string_bytes, refl, sym, ap}
+use Rattle.std.proofs.Common.{Some, codes, option_map, string_bytes, refl, sym, ap}
 use Rattle.std.specs.Prelude.{is_some}
 use Rattle.std.proofs.lemmas.Option.{IfSome_then}
 use Rattle.serde_json.specs.Data.{object, string}
