@@ -8,17 +8,16 @@ use Rattle.lsp_verdict.specs.Given.{verdict_view}
 use Rattle.lsp_streams.specs.Event.{IsEvent, BeginsEvent}
 use Rattle.lsp_streams.specs.Normal.{EndsNormal, BeginsNormal}
 use Rattle.lsp_verdict.specs.Complete.{IsVerdictBy}
-use Rattle.lsp_judge.specs.Ports.{IsOutput, IsSilent, OfInput, Ports}
+use Rattle.lsp_verdict.specs.Ports.{IsOutput, IsSilent, OfInput, Ports}
 use Rattle.lsp_verdict.specs.RunIo.{source_failures, sink_failures}
 use Rattle.lsp_judge.specs.Checked.{Checked}
 use Rattle.lsp_judge.specs.ShownLog.{Showed}
 use Rattle.lsp_judge.specs.TextAnswers.{WritesText}
 use Rattle.lsp_judge.specs.UpgradedLog.{UpgradesLog}
 use Rattle.lsp_streams.specs.StreamRun.{IsRun, BeginsRun}
-use Rattle.lsp_explain.specs.AllExplained.{IsAllExplained, BeginsAllExplained}
+use Rattle.lsp_explain.specs.AllExplained.{ExplainsAll}
 use Rattle.lsp_explain.specs.Explained.{IsExplanation, BeginsExplanation}
-use Rattle.lsp_survey.specs.Reported.{IsReported, BeginsReported}
-use Rattle.lsp_verdict.specs.declared.listing.Listing.{Listing}
+use Rattle.lsp_survey.specs.Reported.{SurveysLog}
 use Rattle.lsp_verdict.specs.declared.completeness.Completeness.{Completeness}
 use Rattle.lsp_verdict.specs.declared.outcome.Mode.{Mode}
 use Rattle.lsp_verdict.specs.declared.outcome.Outcome.{Outcome}
@@ -35,16 +34,6 @@ use Rattle.lsp_command.specs.declared.task_outcome.TaskOutcome.{TaskOutcome}
 use Rattle.lsp_words.specs.declared.task.Task.{Task}
 use Rattle.lsp_words.specs.declared.task.Task.TheVariants.{Check, Survey, Explain, ExplainAll, Show, Text, Event, Normal, Upgrade, Frames}
 
--- `check --all`: the verdict on the log read, whose session must be complete or not, and the report
--- of all that is wrong with it, or after a fault what begins that
-pub record Surveyed (completeness : Completeness) (listing : Listing) (limits : Bounds) (p : Ports) (result : Result Outcome RunFault) : Type 0 where
-  pub judged : IfOk result (λ outcome. (v : Verdict) × (outcome ≡ outcomes.Judged v))
-  pub verdict : (v : Verdict) → result ≡ Ok (outcomes.Judged v) → OfInput limits p (λ log. IsVerdictBy completeness limits log (verdict_view v))
-  pub written : (v : Verdict) → result ≡ Ok (outcomes.Judged v)
-      → (out : List ℕ) × IsOutput p out × OfInput limits p (λ log. IsReported completeness limits listing log (verdict_view v) out)
-  pub ended : (s : Summary) → result ≡ Ok (outcomes.Judged (verdicts.Yes s)) → IsAtEnd p.source_after.bytes
-  pub fault : OnErr result ((out : List ℕ) × IsOutput p out × OfInput limits p (λ log. BeginsReported completeness limits listing log out))
-
 -- `explain`: the verdict on the log read, whose session must be complete or not, and what explains
 -- it
 pub record Explained (completeness : Completeness) (limits : Bounds) (p : Ports) (result : Result Outcome RunFault) : Type 0 where
@@ -56,16 +45,6 @@ pub record Explained (completeness : Completeness) (limits : Bounds) (p : Ports)
   pub read_fault : result ≡ Err faults.Read → IsSilent p
   pub memory : result ≡ Err faults.Memory → IsSilent p
   pub write_fault : result ≡ Err faults.Write → (out : List ℕ) × IsOutput p out × OfInput limits p (λ log. BeginsExplanation completeness limits log out)
-
--- `explain --all`: the verdict on the log read, whose session must be complete or not, and what
--- explains all that is wrong with it, or after a fault what begins that
-pub record AllExplained (completeness : Completeness) (limits : Bounds) (p : Ports) (result : Result Outcome RunFault) : Type 0 where
-  pub judged : IfOk result (λ outcome. (v : Verdict) × (outcome ≡ outcomes.Judged v))
-  pub verdict : (v : Verdict) → result ≡ Ok (outcomes.Judged v) → OfInput limits p (λ log. IsVerdictBy completeness limits log (verdict_view v))
-  pub written : (v : Verdict) → result ≡ Ok (outcomes.Judged v)
-      → (out : List ℕ) × IsOutput p out × OfInput limits p (λ log. IsAllExplained completeness limits log (verdict_view v) out)
-  pub ended : (s : Summary) → result ≡ Ok (outcomes.Judged (verdicts.Yes s)) → IsAtEnd p.source_after.bytes
-  pub fault : OnErr result ((out : List ℕ) × IsOutput p out × OfInput limits p (λ log. BeginsAllExplained completeness limits log out))
 
 -- `event`: what is due for the event of the number, or after a fault what begins it
 pub record GaveEvent (limits : Bounds) (p : Ports) (number : ℕ) (result : Result EventOutcome RunFault) : Type 0 where
@@ -94,9 +73,11 @@ EndsRun Ends result = (ended : Result Outcome RunFault) × (result ≡ of_run en
 -- **each task is the run of its name**, with its arguments, on this input and into this output
 abbrev pub Answers : Bounds → Task → Ports → Result TaskOutcome RunFault → Type 0
 Answers limits (Check completeness) p result = EndsRun (Checked completeness limits p) result
-Answers limits (Survey completeness listing) p result = EndsRun (Surveyed completeness listing limits p) result
+Answers limits (Survey completeness listing) p result =
+    EndsRun (SurveysLog completeness listing limits p) result
 Answers limits (Explain completeness) p result = EndsRun (Explained completeness limits p) result
-Answers limits (ExplainAll completeness) p result = EndsRun (AllExplained completeness limits p) result
+Answers limits (ExplainAll completeness) p result =
+    EndsRun (ExplainsAll completeness limits p) result
 Answers limits (Show lines) p result = EndsRun (Showed lines limits p) result
 Answers limits (Text number uri) p result = EndsRun (WritesText limits p (non_zero_u64_get number) uri.now) result
 Answers limits (Event number) p result = (ended : Result EventOutcome RunFault) × (result ≡ of_event ended) × GaveEvent limits p (non_zero_u64_get number) ended

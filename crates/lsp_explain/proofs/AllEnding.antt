@@ -1,8 +1,7 @@
 -- How a run that explains all that is wrong with a log closes.
 use Rattle.std.specs.Prelude.{map, take, slice_get, not, option_map, option_to_list, codes, decimal}
-use Rattle.std.specs.Io.KnownBytes.{IsAtEnd}
 use Rattle.std.specs.List.{AllZip, list_any}
-use Rattle.std.proofs.Common.{◌≡◌, Result, ◌⊎◌, ℕ, ◌+◌, ◌<◌, ◌^◌, length, Bool, true, false, ◌&&◌}
+use Rattle.std.proofs.Common.{◌≡◌, ◌⊎◌, ℕ, ◌+◌, ◌<◌, ◌^◌, length, Bool, true, false, ◌&&◌}
 use Rattle.std.proofs.Common.{List, [], ◌∷◌, ◌++◌, Option, Some, None, inl, inr, refl, sym, ap, ◌∙◌}
 use Rattle.std.proofs.Common.{subst, append_assoc, append-nil}
 use Rattle.std.proofs.lemmas.List.{append_cancel_left, map-append}
@@ -22,7 +21,7 @@ use Rattle.lsp_session.specs.Requests.{open_requests}
 use Rattle.lsp_session.specs.Sent.{is_exit}
 use Rattle.lsp_survey.specs.Asking.{Numbered, numbered}
 use Rattle.lsp_survey.specs.Reads.{Ended, EndedBehind, IsSurveyOf}
-use Rattle.lsp_survey.specs.Reported.{IsTally, IsYes}
+use Rattle.lsp_survey.specs.Reported.{IsTally}
 use Rattle.lsp_survey.specs.declared.survey_reader.End.{End}
 use Rattle.lsp_survey.specs.declared.survey_reader.SurveyReader.{SurveyReader}
 use Rattle.lsp_survey.specs.declared.tally.Tally.{Tally}
@@ -43,7 +42,6 @@ use Rattle.lsp_verdict.specs.Verdict.{Verdict, Ending, Summary, summary, no_next
 use Rattle.lsp_verdict.specs.declared.completeness.Completeness.{Completeness}
 use Rattle.lsp_verdict.specs.declared.completeness.Completeness.TheVariants.{Ignored, Required}
 use Rattle.lsp_verdict.specs.declared.offence.Offence as code_offence
-use Rattle.lsp_verdict.specs.declared.outcome.RunFault.{RunFault}
 use Rattle.lsp_verdict.specs.declared.outcome.RunFault.TheVariants as faults
 use Rattle.lsp_verdict.specs.declared.verdict.Verdict as code_verdict
 use Rattle.lsp_verdict.specs.declared.verdict.Who.TheVariants as who
@@ -52,7 +50,7 @@ use Rattle.lsp_verdict.proofs.Offences.Surveying.{survey_agrees}
 use Rattle.lsp_verdict.proofs.RunReading.{read_map}
 use Rattle.lsp_explain.specs.AllExplained.{causes, cause_lines, all_closing, all_explanation}
 use Rattle.lsp_explain.specs.AllExplained.{AreAllSaid, IsAllExplained, BeginsAllExplained}
-use Rattle.lsp_explain.specs.AllSteps.{AreSaid, AllTold, PartTold, CausesTold, TellsAll, ends_said}
+use Rattle.lsp_explain.specs.AllSteps.{AllTold, PartTold, CausesTold, ends_said}
 use Rattle.lsp_explain.specs.Explained.{Heard, Explained, Explains, raws_of, notes_of}
 use Rattle.lsp_explain.specs.Explained.{end_explained, flaw_lines}
 use Rattle.lsp_facts.specs.Fact.{Fact}
@@ -291,14 +289,13 @@ module _ (completeness : Completeness) (limits : Bounds) (e : SurveyReader) (t :
   -- the closing was written
   pub closed : (last : Told) (v : Verdict) (text : List ℕ)
       → text ≡ lines ends ++ all_closing all_found bad flaw s → v ≡ first_verdict all_found bad s
-      → (IsYes v → IsAtEnd now.bytes) → Wrote new last text
+      → Wrote new last text
       → AllTold completeness limits start now old last v
-  closed last v text is judges met wrote = record {
+  closed last v text is judges wrote = record {
     out = lines told.said ++ text;
     wrote = wrote_then old new last (lines told.said) text told.wrote wrote;
     due = explained_all v (lines told.said ++ text) judges (whole_text text is);
     failures = told.ended.failures;
-    met = met;
   }
 
   -- or not to its end

@@ -1,6 +1,7 @@
 -- What is said about all that is wrong with a log: of each offence that follows from no earlier
 -- one.
 use Rattle.std.specs.Prelude.{◌≡◌, ◌⊎◌, ℕ, List, [], ◌∷◌, ◌++◌, map, filter, Bool, not, Option}
+use Rattle.std.specs.Prelude.{Result}
 use Rattle.std.specs.List.{AllZip, flat_map}
 use Rattle.lsp_docs.specs.Terms.{Terms}
 use Rattle.lsp_frame.specs.Bounds.{Bounds}
@@ -9,13 +10,18 @@ use Rattle.lsp_log.specs.Log.{Record, IsLog}
 use Rattle.lsp_log.specs.declared.fault.LogCode.{LogCode}
 use Rattle.lsp_survey.specs.Asking.{numbered}
 use Rattle.lsp_types.specs.declared.side.Side.TheVariants.{Editor, Server}
+use Rattle.lsp_verdict.specs.Complete.{IsVerdictBy}
 use Rattle.lsp_verdict.specs.Offences.{Offence, IsNoted, events_of, follows}
 use Rattle.lsp_verdict.specs.Outcome.{HasRest, ending, log_terms}
 use Rattle.lsp_verdict.specs.Placed.{Raw, Placed, joined}
+use Rattle.lsp_verdict.specs.Ports.{Ports}
 use Rattle.lsp_verdict.specs.Report.{report}
+use Rattle.lsp_verdict.specs.Runs.{Judges}
 use Rattle.lsp_verdict.specs.Survey.{bad_lines, ends_listed, first_verdict, found_in, found_line}
 use Rattle.lsp_verdict.specs.Verdict.{Verdict, Summary, bad_log_of, summary}
 use Rattle.lsp_verdict.specs.declared.completeness.Completeness.{Completeness}
+use Rattle.lsp_verdict.specs.declared.outcome.Outcome.{Outcome}
+use Rattle.lsp_verdict.specs.declared.outcome.RunFault.{RunFault}
 use Rattle.lsp_facts.specs.Fact.{Fact}
 use Rattle.lsp_facts.specs.FlawFacts.{Rests, log_facts}
 use Rattle.lsp_explain.specs.Explained.{Heard, Breach, Explained, Explains, raws_of, notes_of}
@@ -122,3 +128,11 @@ BeginsAllExplained completeness limits log front =
     BeginsFirst limits log front
     ⊎ ((v : Verdict) × (left : List ℕ)
     × IsAllExplained completeness limits log v (front ++ left))
+
+-- ---- a run
+
+-- **what `explain --all` answers and writes**
+abbrev pub ExplainsAll : Completeness → Bounds → Ports → Result Outcome RunFault → Type 0
+ExplainsAll completeness limits io result =
+    Judges limits io (IsVerdictBy completeness limits) (IsAllExplained completeness limits)
+    (BeginsAllExplained completeness limits) result

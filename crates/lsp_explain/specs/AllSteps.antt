@@ -1,7 +1,6 @@
 -- What the steps of a run that explains all that is wrong with a log answer.
 use Rattle.std.specs.Prelude.{◌≡◌, ℕ, ◌<◌, ◌^◌, List, [], ◌++◌, map, filter, length, Option}
 use Rattle.std.specs.Prelude.{option_map, Result, Ok, Err, string_bytes}
-use Rattle.std.specs.Io.KnownBytes.{IsAtEnd}
 use Rattle.std.specs.List.{AllZip, cons_option, flat_map}
 use Rattle.lsp_docs.specs.Terms.{Terms}
 use Rattle.lsp_frame.specs.Bounds.{Bounds}
@@ -10,14 +9,14 @@ use Rattle.lsp_frame.specs.Told.{Told, Took}
 use Rattle.lsp_log.specs.Log.{Record}
 use Rattle.lsp_survey.specs.Asking.{Numbered, numbered}
 use Rattle.lsp_survey.specs.Reads.{GaveEvent, Ended, EndedBehind}
-use Rattle.lsp_survey.specs.Reported.{IsTally, IsYes, sink_after}
+use Rattle.lsp_survey.specs.Reported.{IsTally}
 use Rattle.lsp_survey.specs.declared.offending.Heard as code_heard
 use Rattle.lsp_survey.specs.declared.survey_reader.End.{End}
 use Rattle.lsp_survey.specs.declared.survey_reader.SurveyReader.{SurveyReader}
 use Rattle.lsp_survey.specs.declared.tally.Tally.{Tally}
 use Rattle.lsp_verdict.specs.Given.{offence_view, verdict_view}
 use Rattle.lsp_verdict.specs.Offences.{Noted, Offence, events_of}
-use Rattle.lsp_verdict.specs.RunIo.{OfRead, failures_after}
+use Rattle.lsp_verdict.specs.RunIo.{OfRead, failures_after, sink_failures_after}
 use Rattle.lsp_verdict.specs.Survey.{first_verdict}
 use Rattle.lsp_verdict.specs.Verdict.{Verdict}
 use Rattle.lsp_verdict.specs.declared.completeness.Completeness.{Completeness}
@@ -78,7 +77,6 @@ pub record AllTold (completeness : Completeness) (limits : Bounds) (start now ol
   pub wrote : Wrote old new out
   pub due : OfRead limits start now (λ log. IsAllExplained completeness limits log v out)
   pub failures : now.failures ≡ start.failures
-  pub met : IsYes v → IsAtEnd now.bytes
 
 -- this was written of it, and then a fault met
 pub record PartTold (completeness : Completeness) (limits : Bounds) (start now old new : Told)
@@ -87,7 +85,7 @@ pub record PartTold (completeness : Completeness) (limits : Bounds) (start now o
   pub took : Took old new out
   pub due : OfRead limits start now (λ log. BeginsAllExplained completeness limits log out)
   pub source : now.failures ≡ failures_after fault start.failures
-  pub sink : new.failures ≡ sink_after fault old.failures
+  pub sink : new.failures ≡ sink_failures_after fault old.failures
 
 abbrev pub TellsAll : Completeness → Bounds → Told → Told → Told → Told
     → Result code.Verdict RunFault → Type 0

@@ -1,21 +1,18 @@
 //! Explains all that is wrong with a log.
-ghost use Rattle.std.specs.Prelude.{◌≡◌, ◌+◌, ◌++◌, ◌∷◌, [], List, ℕ, string_bytes, map, codes};
-ghost use Rattle.std.specs.Prelude.{decimal, option_map, Ok, IfOk, OnOk, OnErr};
-ghost use Rattle.std.specs.Io.KnownBytes.{IsAtEnd};
+ghost use Rattle.std.specs.Prelude.{◌≡◌, ◌+◌, ◌++◌, ◌∷◌, [], List, string_bytes, map, codes};
+ghost use Rattle.std.specs.Prelude.{decimal, option_map, Ok, IfOk, OnOk};
 ghost use Rattle.std.specs.List.{flat_map};
 ghost use Rattle.lsp_frame.specs.Bounds.{Bounds, IsInRange};
-ghost use Rattle.lsp_frame.specs.Told.{Told, Took};
+ghost use Rattle.lsp_frame.specs.Told.{Told};
 ghost use Rattle.lsp_survey.specs.Asking.{numbered};
 ghost use Rattle.lsp_survey.specs.Reads.{IsFresh, SoFar, found_in};
 ghost use Rattle.lsp_survey.specs.Reported.{IsTally};
-ghost use Rattle.lsp_verdict.specs.Complete.{IsVerdictBy};
 ghost use Rattle.lsp_verdict.specs.Event.{Event};
 ghost use Rattle.lsp_verdict.specs.Given.{offence_view, verdict_view};
 ghost use Rattle.lsp_verdict.specs.Offences.{Offence as SpecOffence};
 ghost use Rattle.lsp_verdict.specs.Report.{line};
-ghost use Rattle.lsp_verdict.specs.RunIo.{OfRead, GaveAtMost, source_failures, sink_failures};
 ghost use Rattle.lsp_verdict.specs.Survey.{bad_lines};
-ghost use Rattle.lsp_explain.specs.AllExplained.{BeginsAllExplained, IsAllExplained, cause_lines};
+ghost use Rattle.lsp_explain.specs.AllExplained.{ExplainsAll, cause_lines};
 ghost use Rattle.lsp_explain.specs.AllSteps.{CausesTold, IsClosing, IsLast, TellsAll, TellsCauses};
 ghost use Rattle.lsp_explain.specs.AllSteps.{TellsHeard, ends_said};
 ghost use Rattle.lsp_explain.specs.Explained.{flaw_lines};
@@ -50,31 +47,13 @@ pub fn run_explain_all<R: Source, W: Sink>(
     limits: Limits,
     completeness: Completeness,
 ) -> Result<Outcome, RunFault>
-    // The answer is the verdict on the log read, however it continues where its end was not met:
-    // the one that `run_check` gives, or `run_check_complete`.
-    ensures judged { IfOk result (λ outcome. (v : Verdict) × (outcome ≡ Outcome.Judged v)) }
-    ensures verdict { (v : Verdict) → result ≡ Ok (Outcome.Judged v)
-        → OfRead limits (R.told reader.old) (R.told reader.new)
-        (λ log. IsVerdictBy completeness limits log (verdict_view v)) }
-    // What explains all that is wrong with that log is written, and nothing else.
-    ensures written { (v : Verdict) → result ≡ Ok (Outcome.Judged v) → (out : List ℕ)
-        × Took (W.told writer.old) (W.told writer.new) out
-        × OfRead limits (R.told reader.old) (R.told reader.new)
-        (λ log. IsAllExplained completeness limits log (verdict_view v) out) }
-    // Yes is answered only where the end was met.
-    ensures ended { (s : Summary) → result ≡ Ok (Outcome.Judged (Verdict.Yes s))
-        → IsAtEnd (R.told reader.new).bytes }
-
-    // What is written before a fault begins what is due for the log.
-    ensures fault { OnErr result ((out : List ℕ) × Took (W.told writer.old) (W.told writer.new) out
-        × OfRead limits (R.told reader.old) (R.told reader.new)
-        (λ log. BeginsAllExplained completeness limits log out)) }
-    ensures source_failures { (R.told reader.new).failures
-        ≡ source_failures result (R.told reader.old).failures }
-    ensures sink_failures { (W.told writer.new).failures
-        ≡ sink_failures result (W.told writer.old).failures }
-    // At most one byte past the limit is read.
-    ensures limit { GaveAtMost (limits.log + 1) (R.told reader.old) (R.told reader.new) }
+    // The verdict is the one that `run_check` gives, or `run_check_complete`.
+    ensures explains { ExplainsAll completeness limits (record {
+      source_before = R.told reader.old;
+      source_after = R.told reader.new;
+      sink_before = W.told writer.old;
+      sink_after = W.told writer.new;
+    }) result }
 {
     let verdict = explain_all(alloc, reader, writer, limits, completeness)?;
     Ok(Outcome::Judged(verdict))

@@ -1,40 +1,46 @@
 -- What is answered on a log and on records means what the verdict on it means.
-use Rattle.std.proofs.Common.{◌≡◌, ◌⊎◌, ℕ, List, Option, Some, None, Result, Ok, inl, inr, refl}
-use Rattle.std.proofs.Common.{sym, ap, subst, ◌∙◌}
-use Rattle.std.specs.Prelude.{IfOk, option_map}
+use Rattle.std.proofs.Common.{◌≡◌, ◌⊎◌, ℕ, List, Option, Some, None, Result, Ok, Err, inl, inr}
+use Rattle.std.proofs.Common.{refl, sym, ap, subst, ◌∙◌}
+use Rattle.std.specs.Prelude.{IfOk, OnErr, option_map}
 use Rattle.std.proofs.lemmas.Option.{same_Some}
+use Rattle.std.proofs.lemmas.Result.{IfOk-weaker}
 use Rattle.lsp_frame.specs.Bounds.{Bounds, IsInRange}
 use Rattle.lsp_frame.specs.Sink.{Stopped}
 use Rattle.lsp_frame.specs.Told.{Told}
 use Rattle.lsp_frame.specs.declared.format.Format.{Format}
 use Rattle.lsp_docs.specs.Terms.{terms_of}
 use Rattle.lsp_log.specs.Log.{Record}
+use Rattle.lsp_types.specs.declared.memory.Memory.{Memory}
 use Rattle.lsp_verdict.specs.declared.outcome.Outcome.{Outcome}
 use Rattle.lsp_verdict.specs.declared.outcome.Outcome.TheVariants.{Judged}
 use Rattle.lsp_verdict.specs.declared.outcome.RunFault.{RunFault}
 use Rattle.lsp_judge.specs.declared.ruling.Ruling.{Ruling}
 use Rattle.lsp_judge.specs.declared.ruling.Ruling.TheVariants as rulings
+use Rattle.lsp_verdict.specs.declared.verdict.Summary as summaries
 use Rattle.lsp_verdict.specs.declared.verdict.Verdict as code
 use Rattle.lsp_verdict.specs.declared.verdict.Verdict.TheVariants as verdicts
 use Rattle.lsp_verdict.specs.declared.verdict.Who.{Who}
 use Rattle.lsp_verdict.specs.declared.completeness.Completeness.{Completeness}
+use Rattle.lsp_verdict.specs.declared.completeness.Completeness.TheVariants.{Ignored, Required}
 use Rattle.lsp_judge.specs.Answered.{NamesFirst, NamesRest, NamesShort, NoneOffends, AreClean}
 use Rattle.lsp_judge.specs.Answered.{IsClean, SaysYes}
 use Rattle.lsp_verdict.specs.BroughtToEnd.{AreComplete, IsBroughtToEnd}
-use Rattle.lsp_verdict.specs.Complete.{IsCompleteFinal, IsCompleteVerdict, IsVerdictBy}
+use Rattle.lsp_verdict.specs.Complete.{IsCompleteFinal, IsCompleteVerdict, IsFinalBy, IsVerdictBy}
 use Rattle.lsp_verdict.specs.Event.{Event}
 use Rattle.lsp_verdict.specs.Given.{verdict_view, as_given}
 use Rattle.lsp_verdict.specs.Kept.{AreKept}
 use Rattle.lsp_verdict.specs.Outcome.{IsFinal, IsVerdict, format_or_one, log_terms}
 use Rattle.lsp_verdict.specs.Placed.{IsSession}
 use Rattle.lsp_verdict.specs.RunIo.{OfRead, AppendsFront}
-use Rattle.lsp_judge.specs.Rulings.{verdict_in}
-use Rattle.lsp_judge.specs.Standing.{HasOffence, State, Stands}
+use Rattle.lsp_judge.specs.Judging.{AnswersEnd, KeepsAnswer}
+use Rattle.lsp_judge.specs.Rulings.{IfRefused, verdict_in}
+use Rattle.lsp_judge.specs.Standing.{HasOffence, State, Stands, WasRefused, is_given}
 use Rattle.lsp_verdict.specs.Verdict.{Verdict, Summary, yes, no, bad_log, summary, first_no}
 use Rattle.lsp_verdict.proofs.Completing.{some_complete_final, are_complete, complete_no}
 use Rattle.lsp_verdict.proofs.Completing.{complete_yes, one_complete_verdict}
 use Rattle.lsp_verdict.proofs.Logs.{some_final, one_verdict}
 use Rattle.lsp_verdict.proofs.Meanings.{are_kept, final_no, final_yes, is_yes_given, kept_means_yes}
+use Rattle.lsp_verdict.proofs.RunsJudged.{judged_as}
 use Rattle.lsp_judge.proofs.Records.{is_open, offence_in, clean_session}
 use Rattle.lsp_verdict.proofs.Sessions.{some_session}
 use Rattle.lsp_verdict.proofs.Verdicts.{names_first, nothing_offends}
@@ -45,14 +51,6 @@ pub front_of : (old new : Told) (written due : List ℕ) → Stopped old new wri
     → AppendsFront old new due
 front_of old new written due stopped is =
     (stopped.front, stopped.back, sym is ∙ stopped.whole, stopped.took)
-
--- the verdict of an outcome
-pub judged_as : (given v : code.Verdict) (P : code.Verdict → Type 0)
-    → (let outcome : Result Outcome RunFault = Ok (Judged given) in outcome) ≡ Ok (Judged v)
-    → P given → P v
-judged_as given v P e p =
-    let same : given ≡ v = cc e in
-    subst P same p
 
 pub read_verdict : (completeness : Completeness) (limits : Bounds) (before after : Told)
     (given v : code.Verdict)
@@ -288,3 +286,108 @@ pub no_yes : (ruling : Ruling) (s : Summary) → verdict_in ruling ≡ Some (yes
 no_yes (rulings.No rule by number event) s e = absurd cc
 no_yes (rulings.BadLog number fault) s e = absurd cc
 no_yes rulings.Memory s e = absurd cc
+
+-- ---- what is kept of an answer
+
+-- a judge that gave this ruling gives it again
+pub keeps_given : {X : Type 0} (s : State) (Is : X → Verdict → Type 0) (ruling : Ruling)
+    (result : Result X Memory) → s.given ≡ Some ruling
+    → IfOk result (λ answer. (w : Verdict) × (verdict_in ruling ≡ Some w) × Is answer w)
+    → OnErr result (ruling ≡ rulings.Memory) → KeepsAnswer s s Is result
+keeps_given s Is ruling (Ok answer) given (w, is, such) err = record {
+  limits = refl;
+  format = refl;
+  repeats = λ v known.
+      subst (Is answer) (same_Some w v (sym is ∙ sym (ap is_given given) ∙ known)) such;
+  stays = λ v known. refl;
+  refused = λ was.
+      let none : None ≡ Some w = sym (ap is_given (sym given ∙ was)) ∙ is in
+      absurd cc;
+  stays_refused = λ was. refl;
+  memory = tt;
+}
+keeps_given s Is ruling (Err memory) given said err = record {
+  limits = refl;
+  format = refl;
+  repeats = λ v known. tt;
+  stays = λ v known. refl;
+  refused = λ was. refl;
+  stays_refused = λ was. refl;
+  memory = given ∙ ap Some err;
+}
+
+-- a judge that gave nothing has nothing to give again
+pub keeps_ungiven : {X : Type 0} (old new : State) (Is : X → Verdict → Type 0)
+    (result : Result X Memory) → old.given ≡ None → new.limits ≡ old.limits
+    → new.format ≡ old.format → OnErr result (WasRefused new.given)
+    → KeepsAnswer old new Is result
+keeps_ungiven old new Is result ungiven limits format refused = record {
+  limits = limits;
+  format = format;
+  repeats = λ v known. absurd (not_given v known);
+  stays = λ v known. absurd (not_given v known);
+  refused = λ was. absurd (not_refused was);
+  stays_refused = λ was. absurd (not_refused was);
+  memory = refused;
+}
+  where
+    not_given : (v : Verdict) → is_given old.given ≡ Some v → ⊥
+    not_given v known =
+        let none : None ≡ Some v = sym (ap is_given ungiven) ∙ known in
+        cc
+
+    not_refused : WasRefused old.given → ⊥
+    not_refused was =
+        let none : None ≡ Some rulings.Memory = sym ungiven ∙ was in
+        cc
+
+-- memory that was refused for an answer is refused for good
+pub refused_on : {X : Type 0} (ruling : Ruling) (result : Result X Memory)
+    → OnErr result (ruling ≡ rulings.Memory) → OnErr result (WasRefused (Some ruling))
+refused_on ruling (Ok answer) err = tt
+refused_on ruling (Err memory) err = ap Some err
+
+-- ---- the end of the records
+
+pub if_refused : (v : Verdict) (P : Type 0) → P → IfRefused v P
+if_refused (yes s) P p = tt
+if_refused (no rule who number event) P p = p
+if_refused (bad_log number code) P p = p
+
+-- an answer that is the verdict on the records
+pub answers_end : (completeness : Completeness) (old new : State)
+    (result : Result code.Verdict Memory)
+    → IfOk result (λ answer. (records : List Record) (v : Verdict) → Stands old records
+    → IsFinalBy completeness old.limits old.format records None v
+    → verdict_view answer ≡ as_given v)
+    → ((s : summaries.Summary) → result ≡ Ok (verdicts.Yes s) → new ≡ old)
+    → IfOk result (λ answer. IfRefused (verdict_view answer)
+    (is_given new.given ≡ Some (verdict_view answer)))
+    → AnswersEnd completeness old new result
+answers_end Ignored old new result verdict unchanged given = record {
+  verdict = verdict;
+  yes = λ records s stands e. records_kept _ stands.range _ records _
+      (λ v. ok_at result _ _ e verdict records v stands);
+  no = λ records rule number event who stands e.
+      records_refused _ _ records rule who number event
+      (λ v. ok_at result _ _ e verdict records v stands);
+  kept = λ records events stands clean due. IfOk-weaker result _ _
+      (λ answer says. records_clean _ _ records events _ clean (λ v. says records v stands))
+      verdict;
+  unchanged = unchanged;
+  given = given;
+}
+answers_end Required old new result verdict unchanged given = record {
+  verdict = verdict;
+  yes = λ records s stands e. records_complete _ stands.range _ records _
+      (λ v. ok_at result _ _ e verdict records v stands);
+  no = λ records rule number event who stands e.
+      records_short _ stands.range _ records rule who number event
+      (λ v. ok_at result _ _ e verdict records v stands);
+  kept = λ records events stands clean ended. IfOk-weaker result _ _
+      (λ answer says. records_ended _ _ records events _ clean ended
+      (λ v. says records v stands))
+      verdict;
+  unchanged = unchanged;
+  given = given;
+}

@@ -3,7 +3,6 @@ pub mod Hearing
 pub mod Rests
 pub mod Records
 pub mod KeptEvents
-pub mod RunsJudged
 pub mod Answering
 pub mod Checking
 pub mod LogEvents

@@ -38,7 +38,7 @@ use Rattle.lsp_judge.specs.ShownLog.{IsShown, BeginsShown, OneShown, ShowedAll, 
 use Rattle.lsp_events.specs.Lines.{line_of}
 use Rattle.lsp_events.specs.declared.heard.Place.{Place}
 use Rattle.lsp_judge.specs.declared.event_reader.EventReader.{EventReader}
-use Rattle.lsp_judge.proofs.Answering.{judged_as}
+use Rattle.lsp_verdict.proofs.RunsJudged.{judged_as}
 use Rattle.lsp_judge.proofs.LogEvents.{so_far_begins, so_far_few, so_far_failures, so_far_range}
 
 -- the place of the event that comes behind these

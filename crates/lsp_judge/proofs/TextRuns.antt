@@ -14,7 +14,7 @@ use Rattle.lsp_docs.specs.Terms.{Terms}
 use Rattle.lsp_verdict.specs.Calls.{calls}
 use Rattle.lsp_verdict.specs.Event.{Event}
 use Rattle.lsp_verdict.specs.Outcome.{Offends, format_or_one, log_terms}
-use Rattle.lsp_judge.specs.Ports.{OutputFor, Ports}
+use Rattle.lsp_verdict.specs.Ports.{OutputFor, Ports}
 use Rattle.lsp_verdict.specs.RunIo.{OfRead, GaveAtMost, failures_after, sink_failures_after}
 use Rattle.lsp_verdict.specs.RunIo.{source_failures}
 use Rattle.lsp_verdict.specs.declared.completeness.Completeness.{Completeness}

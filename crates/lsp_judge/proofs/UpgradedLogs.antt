@@ -48,7 +48,8 @@ use Rattle.lsp_judge.specs.UpgradedLog.{Accepting, HasTaken, Upgrading, FoundBeh
 use Rattle.lsp_judge.specs.UpgradedLog.{UpgradedAll, UpgradedPart, ahead_of}
 use Rattle.lsp_judge.specs.declared.ruling.Ruling.{Ruling}
 use Rattle.lsp_judge.specs.declared.ruling.Ruling.TheVariants.{No, BadLog, Memory}
-use Rattle.lsp_judge.proofs.Answering.{as_some, judged_as}
+use Rattle.lsp_verdict.proofs.RunsJudged.{judged_as}
+use Rattle.lsp_judge.proofs.Answering.{as_some}
 use Rattle.lsp_judge.proofs.Records.{is_open, open_clean, open_session}
 
 -- ---- what a judge that gave nothing knows of its records

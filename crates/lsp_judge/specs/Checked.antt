@@ -12,7 +12,7 @@ use Rattle.lsp_verdict.specs.Given.{verdict_view}
 use Rattle.lsp_verdict.specs.Headline.{HasFault, Refuses}
 use Rattle.lsp_verdict.specs.Kept.{IsKept}
 use Rattle.lsp_verdict.specs.Outcome.{log_terms}
-use Rattle.lsp_judge.specs.Ports.{CountsFaults, IsOutput, IsSilent, OfInput, Ports}
+use Rattle.lsp_verdict.specs.Ports.{CountsFaults, IsOutput, IsSilent, OfInput, Ports}
 use Rattle.lsp_verdict.specs.Report as text
 use Rattle.lsp_verdict.specs.Verdict as spec
 use Rattle.lsp_verdict.specs.declared.completeness.Completeness.{Completeness}

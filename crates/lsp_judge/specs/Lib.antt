@@ -1,10 +1,9 @@
-pub mod Ports
-pub mod Runs
 pub mod Answered
 pub mod Checked
 pub mod Rulings
 pub mod Heard
 pub mod Standing
+pub mod Judging
 pub mod Ending
 pub mod TextAnswers
 pub mod LogEvents

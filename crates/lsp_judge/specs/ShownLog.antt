@@ -12,10 +12,10 @@ use Rattle.lsp_verdict.specs.declared.verdict.Verdict as code
 use Rattle.lsp_verdict.specs.Event.{Event}
 use Rattle.lsp_verdict.specs.Given.{verdict_view}
 use Rattle.lsp_verdict.specs.Outcome.{IsVerdict}
-use Rattle.lsp_judge.specs.Ports.{Ports}
+use Rattle.lsp_verdict.specs.Ports.{Ports}
 use Rattle.lsp_verdict.specs.Report.{report}
 use Rattle.lsp_verdict.specs.RunIo.{OfRead, failures_after, sink_failures_after}
-use Rattle.lsp_judge.specs.Runs.{Judges}
+use Rattle.lsp_verdict.specs.Runs.{Judges}
 use Rattle.lsp_verdict.specs.Shown.{show_of}
 use Rattle.lsp_verdict.specs.Verdict.{Verdict, belongs_to, count_of, whose}
 use Rattle.lsp_events.specs.declared.heard.Place.{Place}

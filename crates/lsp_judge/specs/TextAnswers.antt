@@ -4,7 +4,7 @@ use Rattle.lsp_frame.specs.Bounds.{Bounds}
 use Rattle.lsp_judge.specs.declared.text_answer.TextAnswer as code
 use Rattle.lsp_judge.specs.declared.text_answer.TextAnswer.TheVariants as answers
 use Rattle.lsp_verdict.specs.Given.{verdict_view}
-use Rattle.lsp_judge.specs.Ports.{CountsFaults, IsSilent, OutputFor, Ports}
+use Rattle.lsp_verdict.specs.Ports.{CountsFaults, IsSilent, OutputFor, Ports}
 use Rattle.lsp_verdict.specs.Shown.{TextAnswer, text_is, no_document, too_few, refused}
 use Rattle.lsp_verdict.specs.TextAfter.{BeginsText, IsText}
 use Rattle.lsp_verdict.specs.declared.outcome.Outcome.{Outcome}

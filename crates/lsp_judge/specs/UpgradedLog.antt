@@ -12,9 +12,9 @@ use Rattle.lsp_log.specs.Records.{record_view}
 use Rattle.lsp_verdict.specs.Entries.{IsAt, EntryIs}
 use Rattle.lsp_verdict.specs.Given.{verdict_view}
 use Rattle.lsp_verdict.specs.Outcome.{IsVerdict, format_or_one}
-use Rattle.lsp_judge.specs.Ports.{Ports}
+use Rattle.lsp_verdict.specs.Ports.{Ports}
 use Rattle.lsp_verdict.specs.RunIo.{OfRead, failures_after, sink_failures_after}
-use Rattle.lsp_judge.specs.Runs.{Judges}
+use Rattle.lsp_verdict.specs.Runs.{Judges}
 use Rattle.lsp_verdict.specs.Upgraded.{upgraded, IsUpgraded, BeginsUpgraded}
 use Rattle.lsp_verdict.specs.Verdict.{Verdict}
 use Rattle.lsp_verdict.specs.declared.entry.Entry.{Entry}

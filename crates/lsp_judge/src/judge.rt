@@ -1,21 +1,16 @@
 //! Judges a recorded session record by record.
-ghost use Rattle.std.specs.Prelude.{◌≡◌, ◌⊎◌, ◌<◌, ◌++◌, ◌∷◌, [], ℕ, List, Option, Some, None, Ok};
-ghost use Rattle.std.specs.Prelude.{IfOk, IfErr, OnOk, OnErr, option_map};
-ghost use Rattle.std.specs.Result.{IsErr};
+ghost use Rattle.std.specs.Prelude.{◌≡◌, ◌++◌, ◌∷◌, [], ℕ, List, Option, Some, None, Ok, IfOk};
+ghost use Rattle.std.specs.Prelude.{IfErr, OnOk, option_map};
 ghost use Rattle.lsp_docs.specs.Terms.{terms_of};
 ghost use Rattle.lsp_log.specs.Log as log;
 ghost use Rattle.lsp_log.specs.Records.{record_view};
-ghost use Rattle.lsp_judge.specs.Answered.{NamesFirst, NamesRest, NamesShort, NoneOffends};
-ghost use Rattle.lsp_judge.specs.Answered.{AreClean, SaysYes};
-ghost use Rattle.lsp_verdict.specs.BroughtToEnd.{AreComplete, IsBroughtToEnd};
-ghost use Rattle.lsp_verdict.specs.Complete.{IsCompleteFinal, IsFinalBy};
+ghost use Rattle.lsp_judge.specs.Answered.{NamesFirst, NoneOffends};
+ghost use Rattle.lsp_judge.specs.Judging.{AnswersEnd, KeepsAnswer};
 ghost use Rattle.lsp_verdict.specs.Event.{Event};
 ghost use Rattle.lsp_verdict.specs.Given.{verdict_view, as_given};
-ghost use Rattle.lsp_verdict.specs.Kept.{AreKept};
 ghost use Rattle.lsp_verdict.specs.Outcome.{IsFinal};
 ghost use Rattle.lsp_verdict.specs.Placed.{IsSession};
 ghost use Rattle.lsp_judge.specs.Ending.{EndIs, end_by};
-ghost use Rattle.lsp_judge.specs.Rulings.{IfRefused};
 ghost use Rattle.lsp_events.specs.Standing.{Follows};
 ghost use Rattle.lsp_judge.specs.Standing.{IsOpen, Keeps, Rules, Stands, WasRefused, is_given};
 ghost use Rattle.lsp_streams.specs.Streams.{ends_inside};
@@ -96,8 +91,8 @@ impl<S: TextStore> Judge<S> {
     /// Takes the next record, and answers the No at the first event that offends, from the record
     /// on that brings it.
     pub fn take(&mut self, next: Record) -> Result<Option<Verdict>, Memory>
-        ensures limits { self.new.limits ≡ self.old.limits }
-        ensures format { self.new.format ≡ self.old.format }
+        ensures keeps { KeepsAnswer self.old self.new
+            (λ answer given. option_map verdict_view answer ≡ Some given) result }
         ensures stands { OnOk result ((records : List log.Record) → Stands self.old records
             → Stands self.new (records ++ record_view next ∷ [])) }
         ensures verdict { IfOk result (λ answer. (records : List log.Record) (events : List Event)
@@ -116,15 +111,6 @@ impl<S: TextStore> Judge<S> {
             → NoneOffends self.old.limits self.old.format (records ++ record_view next ∷ []) }
         ensures given { IfOk result (λ answer. option_map verdict_view answer
             ≡ is_given self.new.given) }
-        // The final answer is given again, and nothing changes.
-        ensures repeats { (given : spec.Verdict) → is_given self.old.given ≡ Some given
-            → IfOk result (λ answer. option_map verdict_view answer ≡ Some given) }
-        ensures stays { (given : spec.Verdict) → is_given self.old.given ≡ Some given
-            → self.new ≡ self.old }
-        // So is a refusal of memory.
-        ensures refused { WasRefused self.old.given → IsErr result }
-        ensures stays_refused { WasRefused self.old.given → self.new ≡ self.old }
-        ensures memory { OnErr result (WasRefused self.new.given) }
     {
         if let Some(ruling) = self.given {
             return Ok(Some(ruling.answer()?));
@@ -142,8 +128,8 @@ impl<S: TextStore> Judge<S> {
     /// answered before, and else the fault.
     pub fn bad_log(&mut self, number: u64, fault: LogCode) -> Verdict
         requires memory { WasRefused self.old.given → ⊥ }
-        ensures limits { self.new.limits ≡ self.old.limits }
-        ensures format { self.new.format ≡ self.old.format }
+        ensures keeps { KeepsAnswer self.old self.new (λ answer given. verdict_view answer ≡ given)
+            (Ok result) }
         ensures verdict { (records : List log.Record) (v : spec.Verdict) → Stands self.old records
             → IsFinal self.old.limits self.old.format records (Some (number, fault)) v
             → verdict_view result ≡ as_given v }
@@ -160,11 +146,6 @@ impl<S: TextStore> Judge<S> {
         // Of a judge that has given nothing yet the fault is given.
         ensures ungiven { self.old.given ≡ None → result ≡ Verdict.BadLog number fault }
         ensures given { Some (verdict_view result) ≡ is_given self.new.given }
-        // The final answer is given again, and nothing changes.
-        ensures repeats { (given : spec.Verdict) → is_given self.old.given ≡ Some given
-            → verdict_view result ≡ given }
-        ensures stays { (given : spec.Verdict) → is_given self.old.given ≡ Some given
-            → self.new ≡ self.old }
     {
         match self.given {
             Some(ruling) => ruling.answer().unwrap(),
@@ -177,38 +158,9 @@ impl<S: TextStore> Judge<S> {
 
     /// The verdict on the records taken, of a log without a fault.
     pub fn finish(&mut self) -> Result<Verdict, Memory>
-        ensures limits { self.new.limits ≡ self.old.limits }
-        ensures format { self.new.format ≡ self.old.format }
-        ensures verdict { IfOk result (λ answer. (records : List log.Record) (v : spec.Verdict)
-            → Stands self.old records
-            → IsFinal self.old.limits self.old.format records None v
-            → verdict_view answer ≡ as_given v) }
-        // Yes means that the records are kept, and a No names the first event that offends, or the
-        // stream that ends inside a frame.
-        ensures yes { (records : List log.Record) (s : Summary) → Stands self.old records
-            → result ≡ Ok (Verdict.Yes s) → AreKept self.old.limits self.old.format records }
-        ensures no { (records : List log.Record) (rule number event : ℕ) (who : Who)
-            → Stands self.old records
-            → result ≡ Ok (Verdict.No rule who number event)
-            → NamesFirst self.old.limits self.old.format records (spec.no rule who number event)
-            ⊎ NamesRest self.old.limits self.old.format records (spec.no rule who number event) }
-        ensures kept { (records : List log.Record) (events : List Event) → Stands self.old records
-            → AreClean self.old.limits self.old.format records events
-            → IfOk result (λ answer. SaysYes self.old.limits self.old.format events
-            (verdict_view answer)) }
-        // After Yes the judge is as before.
-        ensures unchanged { (s : Summary) → result ≡ Ok (Verdict.Yes s) → self.new ≡ self.old }
-        ensures given { IfOk result (λ answer. IfRefused (verdict_view answer)
-            (is_given self.new.given ≡ Some (verdict_view answer))) }
-        // The final answer is given again, and nothing changes.
-        ensures repeats { (given : spec.Verdict) → is_given self.old.given ≡ Some given
-            → IfOk result (λ answer. verdict_view answer ≡ given) }
-        ensures stays { (given : spec.Verdict) → is_given self.old.given ≡ Some given
-            → self.new ≡ self.old }
-        // So is a refusal of memory.
-        ensures refused { WasRefused self.old.given → IsErr result }
-        ensures stays_refused { WasRefused self.old.given → self.new ≡ self.old }
-        ensures memory { OnErr result (WasRefused self.new.given) }
+        ensures keeps { KeepsAnswer self.old self.new (λ answer given. verdict_view answer ≡ given)
+            result }
+        ensures finishes { AnswersEnd Completeness.Ignored self.old self.new result }
     {
         self.finish_by(Completeness::Ignored)
     }
@@ -218,62 +170,18 @@ impl<S: TextStore> Judge<S> {
     /// has no answer (JSON-RPC 2.0, section 4), else by 407 where the editor did not send `exit`
     /// (LSP 3.17, "Exit Notification").
     pub fn finish_complete(&mut self) -> Result<Verdict, Memory>
-        ensures limits { self.new.limits ≡ self.old.limits }
-        ensures format { self.new.format ≡ self.old.format }
-        ensures verdict { IfOk result (λ answer. (records : List log.Record) (v : spec.Verdict)
-            → Stands self.old records
-            → IsCompleteFinal self.old.limits self.old.format records None v
-            → verdict_view answer ≡ as_given v) }
-        // Yes means that the records are kept and the session was brought to its end, and a No
-        // names the first event that offends, or the stream that ends inside a frame, or what is
-        // missing from the session of records that are kept.
-        ensures yes { (records : List log.Record) (s : Summary) → Stands self.old records
-            → result ≡ Ok (Verdict.Yes s) → AreComplete self.old.limits self.old.format records }
-        ensures no { (records : List log.Record) (rule number event : ℕ) (who : Who)
-            → Stands self.old records
-            → result ≡ Ok (Verdict.No rule who number event)
-            → (NamesFirst self.old.limits self.old.format records (spec.no rule who number event)
-            ⊎ NamesRest self.old.limits self.old.format records (spec.no rule who number event))
-            ⊎ NamesShort self.old.limits self.old.format records (spec.no rule who number event) }
-        ensures kept { (records : List log.Record) (events : List Event) → Stands self.old records
-            → AreClean self.old.limits self.old.format records events → IsBroughtToEnd events
-            → IfOk result (λ answer. SaysYes self.old.limits self.old.format events
-            (verdict_view answer)) }
-        // After Yes the judge is as before.
-        ensures unchanged { (s : Summary) → result ≡ Ok (Verdict.Yes s) → self.new ≡ self.old }
-        ensures given { IfOk result (λ answer. IfRefused (verdict_view answer)
-            (is_given self.new.given ≡ Some (verdict_view answer))) }
-        // The final answer is given again, and nothing changes.
-        ensures repeats { (given : spec.Verdict) → is_given self.old.given ≡ Some given
-            → IfOk result (λ answer. verdict_view answer ≡ given) }
-        ensures stays { (given : spec.Verdict) → is_given self.old.given ≡ Some given
-            → self.new ≡ self.old }
-        // So is a refusal of memory.
-        ensures refused { WasRefused self.old.given → IsErr result }
-        ensures stays_refused { WasRefused self.old.given → self.new ≡ self.old }
-        ensures memory { OnErr result (WasRefused self.new.given) }
+        ensures keeps { KeepsAnswer self.old self.new (λ answer given. verdict_view answer ≡ given)
+            result }
+        ensures finishes { AnswersEnd Completeness.Required self.old self.new result }
     {
         self.finish_by(Completeness::Required)
     }
 
     /// The verdict on the records taken, of a log without a fault.
     fn finish_by(&mut self, completeness: Completeness) -> Result<Verdict, Memory>
-        ensures limits { self.new.limits ≡ self.old.limits }
-        ensures format { self.new.format ≡ self.old.format }
-        ensures verdict { IfOk result (λ answer. (records : List log.Record) (v : spec.Verdict)
-            → Stands self.old records
-            → IsFinalBy completeness self.old.limits self.old.format records None v
-            → verdict_view answer ≡ as_given v) }
-        ensures unchanged { (s : Summary) → result ≡ Ok (Verdict.Yes s) → self.new ≡ self.old }
-        ensures given { IfOk result (λ answer. IfRefused (verdict_view answer)
-            (is_given self.new.given ≡ Some (verdict_view answer))) }
-        ensures repeats { (given : spec.Verdict) → is_given self.old.given ≡ Some given
-            → IfOk result (λ answer. verdict_view answer ≡ given) }
-        ensures stays { (given : spec.Verdict) → is_given self.old.given ≡ Some given
-            → self.new ≡ self.old }
-        ensures refused { WasRefused self.old.given → IsErr result }
-        ensures stays_refused { WasRefused self.old.given → self.new ≡ self.old }
-        ensures memory { OnErr result (WasRefused self.new.given) }
+        ensures keeps { KeepsAnswer self.old self.new (λ answer given. verdict_view answer ≡ given)
+            result }
+        ensures finishes { AnswersEnd completeness self.old self.new result }
     {
         if let Some(ruling) = self.given {
             return ruling.answer();

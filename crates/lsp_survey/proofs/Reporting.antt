@@ -1,7 +1,6 @@
 -- The report of all that is wrong with a log, written as it is found.
 use Rattle.std.specs.Prelude.{map, filter, not, if◌then◌else◌, option_map, codes, decimal, take}
 use Rattle.std.specs.Prelude.{drop, slice_get}
-use Rattle.std.specs.Io.KnownBytes.{IsAtEnd}
 use Rattle.std.specs.List.{flat_map}
 use Rattle.std.proofs.Common.{◌≡◌, ℕ, ◌+◌, ◌<◌, ◌≤◌, ◌^◌, length, arith, Bool, true, false, List}
 use Rattle.std.proofs.Common.{[], ◌∷◌, ◌++◌, Option, Some, None, Result, Ok, Err, refl, sym, ap}
@@ -15,7 +14,7 @@ use Rattle.lsp_frame.proofs.Telling.{took_then}
 use Rattle.lsp_frame.proofs.Writing.{stopped_before, stopped_then, wrote_nothing, wrote_then}
 use Rattle.lsp_survey.specs.Reads.{BeginsSurvey, SoFar, BrokeOff}
 use Rattle.lsp_survey.specs.Reported.{is_every, IsReported, BeginsReported, lines_of, closing}
-use Rattle.lsp_survey.specs.Reported.{IsYes, sink_after, IsTally, AllReported, PartReported}
+use Rattle.lsp_survey.specs.Reported.{IsTally, AllReported, PartReported}
 use Rattle.lsp_verdict.specs.declared.listing.Listing.{Listing}
 use Rattle.lsp_verdict.specs.declared.listing.Listing.TheVariants.{Causes, Every}
 use Rattle.lsp_survey.specs.declared.survey_reader.SurveyReader.{SurveyReader}
@@ -24,13 +23,13 @@ use Rattle.lsp_verdict.specs.Given.{offence_view, verdict_view}
 use Rattle.lsp_verdict.specs.Offences.{Noted, Offence}
 use Rattle.lsp_verdict.specs.Placed.{Raw}
 use Rattle.lsp_verdict.specs.RunIo.{OfRead, Tells, TellsSome}
+use Rattle.lsp_verdict.specs.RunIo.{sink_failures_after}
 use Rattle.lsp_verdict.specs.Survey.{IsSurvey, all_report, bad_lines, first_verdict, found_line}
 use Rattle.lsp_verdict.specs.Survey.{offence_lines, shown_of}
-use Rattle.lsp_log.specs.declared.fault.LogCode.{LogCode}
 use Rattle.lsp_verdict.specs.Complete.{IsCompleteVerdict, IsVerdictBy}
 use Rattle.lsp_verdict.specs.Outcome.{IsVerdict}
 use Rattle.lsp_verdict.specs.Report.{line}
-use Rattle.lsp_verdict.specs.Verdict.{Summary, Verdict, bad_log, bad_log_of}
+use Rattle.lsp_verdict.specs.Verdict.{Summary, Verdict}
 use Rattle.lsp_verdict.specs.declared.completeness.Completeness.TheVariants.{Ignored, Required}
 use Rattle.lsp_verdict.specs.declared.offence.Offence as code
 use Rattle.lsp_verdict.specs.declared.outcome.Outcome.{Outcome}
@@ -110,7 +109,7 @@ begins_at completeness limits listing found out left whole log (later, bad, s, i
     )
 
 pub by_sink : (old mid : Told) (f : RunFault) → mid.failures ≡ old.failures → (f ≡ faults.Write → ⊥)
-    → mid.failures ≡ sink_after f old.failures
+    → mid.failures ≡ sink_failures_after f old.failures
 by_sink old mid faults.Read e unwritten = e
 by_sink old mid faults.Write e unwritten = absurd (unwritten refl)
 by_sink old mid faults.Memory e unwritten = e
@@ -243,9 +242,9 @@ module _ (completeness : Completeness) (limits : Bounds) (listing : Listing)
     (wrote : Wrote old mid (lines_of listing found)) where
   -- all was written
   pub closed : (v : Verdict) (text : List ℕ) → text ≡ closing found bad s
-      → v ≡ first_verdict found bad s → (IsYes v → IsAtEnd now.bytes) → Wrote mid new text
+      → v ≡ first_verdict found bad s → Wrote mid new text
       → AllReported completeness limits listing start now old new v
-  closed v text text_is v_is met last = record {
+  closed v text text_is v_is last = record {
     out = lines_of listing found ++ text;
     wrote = wrote_then old mid new (lines_of listing found) text wrote last;
     due = read_map limits start now (λ log. IsSurvey completeness limits log found bad s)
@@ -260,7 +259,6 @@ module _ (completeness : Completeness) (limits : Bounds) (listing : Listing)
           comes_to = v_is;
         }) is;
     failures = failures;
-    met = met;
   }
 
   -- the closing lines were not
@@ -350,43 +348,6 @@ closed_some t (o ∷ found) first bad s text v is tally few text_is v_is =
           "following" ∷ decimal n ∷ [])) following,
       v_is ∙ ap (λ (x : Offence). x.no) here,
     )
-
--- Yes is answered only where the log has no fault
-no_given : (flaw : Option (ℕ × LogCode)) (bad : Option Verdict) → bad ≡ bad_log_of flaw
-    → (w : Verdict) → bad ≡ Some w → IsYes w → ⊥
-no_given None bad is w e yes_w = absurd (cc (sym is ∙ e))
-no_given (Some f) bad is w e yes_w =
-    let same : bad_log f.0 f.1 ≡ w = cc (sym is ∙ e) in subst IsYes (sym same) yes_w
-
-first_yes : (t : Tally) (found : List Offence) (flaw : Option (ℕ × LogCode)) (bad : Option Verdict)
-    (s : Summary) (v : Verdict) → IsTally t found → bad ≡ bad_log_of flaw
-    → v ≡ first_verdict found bad s → IsYes v → bad ≡ None
-first_yes t [] flaw None s v tally is v_is yes_v = refl
-first_yes t [] flaw (Some w) s v tally is v_is yes_v =
-    absurd (no_given flaw (Some w) is w refl (subst IsYes v_is yes_v))
-first_yes t (o ∷ found) flaw bad s v tally is v_is yes_v = by_first t.first tally.first
-  where
-    by_first : (first : Option code.Offence) → option_map offence_view first ≡ Some o → bad ≡ None
-    by_first None e = absurd cc
-    by_first (Some x) e =
-        let here : offence_view x ≡ o = cc e in
-        absurd (subst IsYes (v_is ∙ ap (λ (y : Offence). y.no) (sym here)) yes_v)
-
-no_end : (bad : Option verdicts.Verdict) → option_map verdict_view bad ≡ None → bad ≡ None
-no_end None e = refl
-no_end (Some v) e = absurd cc
-
-pub yes_met : (completeness : Completeness) (limits : Bounds) (start now : Told) (t : Tally)
-    (found : List Offence) (bad : Option verdicts.Verdict) (s : Summary) (v : Verdict)
-    → OfRead limits start now
-    (λ log. IsSurvey completeness limits log found (option_map verdict_view bad) s)
-    → IsTally t found
-    → v ≡ first_verdict found (option_map verdict_view bad) s → (bad ≡ None → IsAtEnd now.bytes)
-    → IsYes v → IsAtEnd now.bytes
-yes_met completeness limits start now t found bad s v is tally v_is met yes_v =
-    let here = is.holds is.bytes ([], sym (append-nil is.bytes), λ end. refl) in
-    met (no_end bad (first_yes t found here.log_fault (option_map verdict_view bad) s v tally
-    here.bad_is v_is yes_v))
 
 -- ---- offences one after another
 

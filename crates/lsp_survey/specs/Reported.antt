@@ -1,28 +1,30 @@
 -- What is due where all that is wrong with a log is reported, and what the steps of the run write.
 use Rattle.std.specs.Prelude.{◌≡◌, ℕ, List, [], ◌∷◌, ◌++◌, filter, length, Bool, true, false}
 use Rattle.std.specs.Prelude.{Option, Some, None, option_map, Result, Ok, Err}
-use Rattle.std.specs.Io.KnownBytes.{IsAtEnd}
 use Rattle.std.specs.List.{flat_map}
 use Rattle.lsp_docs.specs.State.{capped}
 use Rattle.lsp_frame.specs.Bounds.{Bounds}
 use Rattle.lsp_frame.specs.Sink.{Wrote}
-use Rattle.lsp_frame.specs.Told.{Told, Took, after_failure}
+use Rattle.lsp_frame.specs.Told.{Told, Took}
 use Rattle.lsp_survey.specs.Reads.{Ended}
 use Rattle.lsp_verdict.specs.declared.listing.Listing.{Listing}
 use Rattle.lsp_verdict.specs.declared.listing.Listing.TheVariants.{Causes, Every}
 use Rattle.lsp_survey.specs.declared.survey_reader.End.{End}
 use Rattle.lsp_survey.specs.declared.survey_reader.SurveyReader.{SurveyReader}
 use Rattle.lsp_survey.specs.declared.tally.Tally.{Tally}
+use Rattle.lsp_verdict.specs.Complete.{IsVerdictBy}
 use Rattle.lsp_verdict.specs.Given.{offence_view, verdict_view}
 use Rattle.lsp_verdict.specs.Offences.{Noted, Offence}
 use Rattle.lsp_verdict.specs.Placed.{Raw}
-use Rattle.lsp_verdict.specs.RunIo.{OfRead, failures_after}
+use Rattle.lsp_verdict.specs.Ports.{Ports}
+use Rattle.lsp_verdict.specs.Runs.{Judges}
+use Rattle.lsp_verdict.specs.RunIo.{OfRead, failures_after, sink_failures_after}
 use Rattle.lsp_verdict.specs.Survey.{IsSurvey, all_report, bad_lines, first_verdict, found_line}
 use Rattle.lsp_verdict.specs.Survey.{offence_lines, shown_of}
 use Rattle.lsp_verdict.specs.Report.{report}
-use Rattle.lsp_verdict.specs.Verdict.{Summary, Verdict, yes, no, bad_log}
+use Rattle.lsp_verdict.specs.Verdict.{Summary, Verdict}
+use Rattle.lsp_verdict.specs.declared.outcome.Outcome.{Outcome}
 use Rattle.lsp_verdict.specs.declared.outcome.RunFault.{RunFault}
-use Rattle.lsp_verdict.specs.declared.outcome.RunFault.TheVariants as faults
 use Rattle.lsp_verdict.specs.declared.verdict.Verdict as code
 use Rattle.lsp_verdict.specs.declared.completeness.Completeness.{Completeness}
 
@@ -48,18 +50,13 @@ abbrev pub BeginsReported : Completeness → Bounds → Listing → List ℕ →
 BeginsReported completeness limits listing log front =
     (v : Verdict) × (left : List ℕ) × IsReported completeness limits listing log v (front ++ left)
 
+-- **what `check --all` answers and writes**
+abbrev pub SurveysLog : Completeness → Listing → Bounds → Ports → Result Outcome RunFault → Type 0
+SurveysLog completeness listing limits io result =
+    Judges limits io (IsVerdictBy completeness limits) (IsReported completeness limits listing)
+    (BeginsReported completeness limits listing) result
+
 -- ---- steps
-
-abbrev pub IsYes : Verdict → Type 0
-IsYes (yes s) = Unit {0}
-IsYes (no rule who number event) = ⊥
-IsYes (bad_log number code) = ⊥
-
--- a sink has failed once more after a write fault, and no more after anything else
-abbrev pub sink_after : RunFault → ℕ → ℕ
-sink_after faults.Read before = before
-sink_after faults.Write before = after_failure before
-sink_after faults.Memory before = before
 
 -- the lines of these offences, as far as they are listed
 abbrev pub lines_of : Listing → List Offence → List ℕ
@@ -87,7 +84,6 @@ pub record AllReported (completeness : Completeness) (limits : Bounds) (listing 
   pub wrote : Wrote old new out
   pub due : OfRead limits start now (λ log. IsReported completeness limits listing log v out)
   pub failures : now.failures ≡ start.failures
-  pub met : IsYes v → IsAtEnd now.bytes
 
 -- this was written of it, and then a fault met
 pub record PartReported (completeness : Completeness) (limits : Bounds) (listing : Listing)
@@ -96,7 +92,7 @@ pub record PartReported (completeness : Completeness) (limits : Bounds) (listing
   pub took : Took old new out
   pub due : OfRead limits start now (λ log. BeginsReported completeness limits listing log out)
   pub source : now.failures ≡ failures_after fault start.failures
-  pub sink : new.failures ≡ sink_after fault old.failures
+  pub sink : new.failures ≡ sink_failures_after fault old.failures
 
 abbrev pub Reports : Completeness → Bounds → Listing → Told → Told → Told → Told
     → Result code.Verdict RunFault → Type 0

@@ -1,20 +1,17 @@
 //! Reports all that is wrong with a log.
-ghost use Rattle.std.specs.Prelude.{◌≡◌, ◌++◌, ◌∷◌, ◌+◌, ◌<◌, ◌^◌, ◌||◌, not, [], ℕ, List};
+ghost use Rattle.std.specs.Prelude.{◌≡◌, ◌++◌, ◌∷◌, ◌+◌, ◌<◌, ◌^◌, ◌||◌, not, [], List};
 ghost use Rattle.std.specs.Prelude.{string_bytes, map, length, codes, decimal, option_map, Ok};
-ghost use Rattle.std.specs.Prelude.{IfOk, OnOk, OnErr};
-ghost use Rattle.std.specs.Io.KnownBytes.{IsAtEnd};
+ghost use Rattle.std.specs.Prelude.{IfOk, OnOk};
 ghost use Rattle.lsp_events.specs.Standing.{Follows};
 ghost use Rattle.lsp_frame.specs.Bounds.{Bounds, IsInRange};
-ghost use Rattle.lsp_frame.specs.Told.{Told, Took};
+ghost use Rattle.lsp_frame.specs.Told.{Told};
 ghost use Rattle.lsp_survey.specs.Reads.{IsFresh, SoFar, found_in};
-ghost use Rattle.lsp_survey.specs.Reported.{BeginsReported, IsReported, IsTally, Listed, Lists};
+ghost use Rattle.lsp_survey.specs.Reported.{IsTally, Listed, Lists, SurveysLog};
 ghost use Rattle.lsp_survey.specs.Reported.{Reports, closing, is_every, lines_of};
-ghost use Rattle.lsp_verdict.specs.Complete.{IsVerdictBy};
 ghost use Rattle.lsp_verdict.specs.Given.{as_given, offence_view, verdict_view};
 ghost use Rattle.lsp_verdict.specs.Offences.{Noted, Offence as SpecOffence, events_of};
 ghost use Rattle.lsp_verdict.specs.Report.{line};
-ghost use Rattle.lsp_verdict.specs.RunIo.{OfRead, GaveAtMost, Tells, TellsSome, source_failures};
-ghost use Rattle.lsp_verdict.specs.RunIo.{sink_failures};
+ghost use Rattle.lsp_verdict.specs.RunIo.{Tells, TellsSome};
 ghost use Rattle.lsp_verdict.specs.Survey.{bad_lines, first_verdict};
 ghost use Rattle.lsp_verdict.specs.Verdict.{summary, yes};
 
@@ -48,32 +45,14 @@ pub fn run_survey<R: Source, W: Sink>(
     completeness: Completeness,
     listing: Listing,
 ) -> Result<Outcome, RunFault>
-    // The answer is the verdict on the log read, however it continues where its end was not met:
-    // the one that `run_check` gives, or `run_check_complete`.
-    ensures judged { IfOk result (λ outcome. (v : Verdict) × (outcome ≡ Outcome.Judged v)) }
-    ensures verdict { (v : Verdict) → result ≡ Ok (Outcome.Judged v)
-        → OfRead limits (R.told reader.old) (R.told reader.new)
-        (λ log. IsVerdictBy completeness limits log (verdict_view v)) }
-    // The report of all that is wrong with that log is written, and nothing else; the verdict is
-    // the first No that is listed, else the fault of the log, else Yes.
-    ensures written { (v : Verdict) → result ≡ Ok (Outcome.Judged v)
-        → (out : List ℕ) × Took (W.told writer.old) (W.told writer.new) out
-        × OfRead limits (R.told reader.old) (R.told reader.new)
-        (λ log. IsReported completeness limits listing log (verdict_view v) out) }
-    // Yes is answered only where the end was met.
-    ensures ended { (s : Summary) → result ≡ Ok (Outcome.Judged (Verdict.Yes s))
-        → IsAtEnd (R.told reader.new).bytes }
-
-    // What is written before a fault begins what is due for the log.
-    ensures fault { OnErr result ((out : List ℕ) × Took (W.told writer.old) (W.told writer.new) out
-        × OfRead limits (R.told reader.old) (R.told reader.new)
-        (λ log. BeginsReported completeness limits listing log out)) }
-    ensures source_failures { (R.told reader.new).failures
-        ≡ source_failures result (R.told reader.old).failures }
-    ensures sink_failures { (W.told writer.new).failures
-        ≡ sink_failures result (W.told writer.old).failures }
-    // At most one byte past the limit is read.
-    ensures limit { GaveAtMost (limits.log + 1) (R.told reader.old) (R.told reader.new) }
+    // The verdict is the one that `run_check` gives, or `run_check_complete`: the first No that is
+    // listed, else the fault of the log, else Yes.
+    ensures surveyed { SurveysLog completeness listing limits (record {
+      source_before = R.told reader.old;
+      source_after = R.told reader.new;
+      sink_before = W.told writer.old;
+      sink_after = W.told writer.new;
+    }) result }
 {
     let verdict = report_all(alloc, reader, writer, limits, completeness, listing)?;
     Ok(Outcome::Judged(verdict))

@@ -24,4 +24,5 @@ pub mod Entries
 pub mod Upgrading
 pub mod OpenAtEnd
 pub mod Completing
+pub mod RunsJudged
 pub mod Offences

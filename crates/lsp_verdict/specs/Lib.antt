@@ -12,6 +12,8 @@ pub mod Texts
 pub mod Report
 pub mod FormatOne
 pub mod RunIo
+pub mod Ports
+pub mod Runs
 pub mod StreamReport
 pub mod Shown
 pub mod Given

@@ -25,7 +25,9 @@ is_own side (broken by rule) = same_side side by
 is_own side (show number uri text) = false
 
 -- all that a side's bytes bring is its own
-pub all_own : (side by : Side) → same_side side by ≡ true → (contents : List (List ℕ)) (f g : Option ℕ) → filter (is_own side) (map (content by) contents ++ new_fault by f g) ≡ map (content by) contents ++ new_fault by f g
+pub all_own : (side by : Side) → same_side side by ≡ true → (contents : List (List ℕ))
+    (f g : Option ℕ) → filter (is_own side) (map (content by) contents ++ new_fault by f g)
+    ≡ map (content by) contents ++ new_fault by f g
 all_own side by same [] None (Some rule) = ap (λ b. let rs : List Raw = if b then broken by rule ∷ [] else [] in rs) same
 all_own side by same [] None None = refl
 all_own side by same [] (Some rule) g = refl
@@ -34,7 +36,8 @@ all_own side by same (bytes ∷ contents) f g =
     ap (λ b. let rs : List Raw = if b then content by bytes ∷ filter (is_own side) rest else filter (is_own side) rest in rs) same ∙ ap (λ w. content by bytes ∷ w) (all_own side by same contents f g)
 
 -- and nothing that the other side brings is
-pub none_own : (side by : Side) → same_side side by ≡ false → (contents : List (List ℕ)) (f g : Option ℕ) → filter (is_own side) (map (content by) contents ++ new_fault by f g) ≡ []
+pub none_own : (side by : Side) → same_side side by ≡ false → (contents : List (List ℕ))
+    (f g : Option ℕ) → filter (is_own side) (map (content by) contents ++ new_fault by f g) ≡ []
 none_own side by other [] None (Some rule) = ap (λ b. let rs : List Raw = if b then broken by rule ∷ [] else [] in rs) other
 none_own side by other [] None None = refl
 none_own side by other [] (Some rule) g = refl

@@ -36,20 +36,18 @@ returns-in-Survey-clause-answers g c =
     rw c.in-Survey.is (
       c.run_survey.result,
       c.of_run-in-Survey.ensures,
-      record {
-        judged = c.run_survey.ensures.judged;
-        verdict = c.run_survey.ensures.verdict;
-        written = c.run_survey.ensures.written;
-        ended = c.run_survey.ensures.ended;
-        fault = c.run_survey.ensures.fault;
-      },
+      c.run_survey.ensures.surveyed,
     )
 
 pub returns-in-Survey-clause-source_failures : goal.returns-in-Survey-clause-source_failures
-returns-in-Survey-clause-source_failures g c = run_source _ _ _ _ c.of_run-in-Survey.ensures c.run_survey.ensures.source_failures
+returns-in-Survey-clause-source_failures g c =
+    run_source _ _ _ _ c.of_run-in-Survey.ensures
+    c.run_survey.ensures.surveyed.counts.source_failures
 
 pub returns-in-Survey-clause-sink_failures : goal.returns-in-Survey-clause-sink_failures
-returns-in-Survey-clause-sink_failures g c = run_sink _ _ _ _ c.of_run-in-Survey.ensures c.run_survey.ensures.sink_failures
+returns-in-Survey-clause-sink_failures g c =
+    run_sink _ _ _ _ c.of_run-in-Survey.ensures
+    c.run_survey.ensures.surveyed.counts.sink_failures
 
 pub returns-in-Explain-clause-answers : goal.returns-in-Explain-clause-answers
 returns-in-Explain-clause-answers g c =
@@ -78,20 +76,18 @@ returns-in-ExplainAll-clause-answers g c =
     rw c.in-ExplainAll.is (
       c.run_explain_all.result,
       c.of_run-in-ExplainAll.ensures,
-      record {
-        judged = c.run_explain_all.ensures.judged;
-        verdict = c.run_explain_all.ensures.verdict;
-        written = c.run_explain_all.ensures.written;
-        ended = c.run_explain_all.ensures.ended;
-        fault = c.run_explain_all.ensures.fault;
-      },
+      c.run_explain_all.ensures.explains,
     )
 
 pub returns-in-ExplainAll-clause-source_failures : goal.returns-in-ExplainAll-clause-source_failures
-returns-in-ExplainAll-clause-source_failures g c = run_source _ _ _ _ c.of_run-in-ExplainAll.ensures c.run_explain_all.ensures.source_failures
+returns-in-ExplainAll-clause-source_failures g c =
+    run_source _ _ _ _ c.of_run-in-ExplainAll.ensures
+    c.run_explain_all.ensures.explains.counts.source_failures
 
 pub returns-in-ExplainAll-clause-sink_failures : goal.returns-in-ExplainAll-clause-sink_failures
-returns-in-ExplainAll-clause-sink_failures g c = run_sink _ _ _ _ c.of_run-in-ExplainAll.ensures c.run_explain_all.ensures.sink_failures
+returns-in-ExplainAll-clause-sink_failures g c =
+    run_sink _ _ _ _ c.of_run-in-ExplainAll.ensures
+    c.run_explain_all.ensures.explains.counts.sink_failures
 
 pub returns-in-Show-Short-clause-answers : goal.returns-in-Show-Short-clause-answers
 returns-in-Show-Short-clause-answers g c =

@@ -1,9 +1,8 @@
 use Rattle.std.specs.Prelude.{string_bytes}
 use Rattle.std.proofs.lemmas.Result.{err_from_is_err_and}
-use Rattle.lsp_survey.proofs.Reporting.{yes_met}
 use Rattle.lsp_verdict.specs.Given.{verdict_view}
 use Rattle.lsp_explain.specs.Explained.{notes_of}
-use Rattle.lsp_explain.proofs.AllEnding.{all_found, close_failed, close_refused, closed, s}
+use Rattle.lsp_explain.proofs.AllEnding.{close_failed, close_refused, closed}
 use Rattle.lsp_explain.proofs.Standing.{stands_after}
 use Rattle.lsp_explain.proofs.run_all.close.Goals as goal
 
@@ -42,10 +41,4 @@ returns g c =
     }) (stands_after c.args.events.now (notes_of told.hs) told.ended.walks) told.ended.few in
     closed completeness limits e c.args.tally.now start now old old_writer c.args.end told
     (g.W.Sink.told c.put_all.new.writer) (verdict_view c.in_ok-closing.closing.verdict)
-    (string_bytes c.in_ok-closing.closing.text) last.0 last.1
-    (yes_met completeness limits start now c.closing_of.new.tally
-    (all_found completeness limits e c.args.tally.now start now old old_writer c.args.end told)
-    c.args.end.bad (s completeness limits e c.args.tally.now start now old old_writer c.args.end
-    told) (verdict_view c.in_ok-closing.closing.verdict)
-    told.ended.of_read (c.in_ok-closing.ensures.tally told.found told.tally) last.1 told.ended.met)
-    wrote
+    (string_bytes c.in_ok-closing.closing.text) last.0 last.1 wrote

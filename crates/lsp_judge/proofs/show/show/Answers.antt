@@ -1,7 +1,7 @@
 use Rattle.std.proofs.Common.{ap, ◌∙◌, refl}
 use Rattle.std.proofs.lemmas.Result.{err_from_is_err_and}
 use Rattle.lsp_frame.specs.Told.{after_failure}
-use Rattle.lsp_judge.proofs.RunsJudged.{judges, judged_not}
+use Rattle.lsp_verdict.proofs.RunsJudged.{judges, judged_not}
 use Rattle.lsp_judge.proofs.ShownLogs.{verdict_read, shown_read, lines_begun, report_begun}
 use Rattle.lsp_judge.proofs.show.show.Goals as goal
 

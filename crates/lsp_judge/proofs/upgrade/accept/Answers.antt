@@ -22,8 +22,8 @@ pub returns-in-None-clause-answer : goal.returns-in-None-clause-answer
 returns-in-None-clause-answer c = λ limits r start now records n.
     let took = c.in_ok-take-in-Record.ensures in
     accepts_one limits _ _ records n.accepted start now r _ (record_view c.in-Record.record) _
-    c.in_ok-copy-in-Record.ensures n.same refl (rw c.in-Record.is at n.is) took.limits
-    took.format (rw c.in-None.is at took.given) took.stands
+    c.in_ok-copy-in-Record.ensures n.same refl (rw c.in-Record.is at n.is) took.keeps.limits
+    took.keeps.format (rw c.in-None.is at took.given) took.stands
 
 pub returns-in-Some-clause-answer : goal.returns-in-Some-clause-answer
 returns-in-Some-clause-answer c = λ limits r start now records n.
@@ -43,7 +43,7 @@ pub returns-in_ok-finish-in-End-clause-answer : goal.returns-in_ok-finish-in-End
 returns-in_ok-finish-in-End-clause-answer c = λ limits r start now records n.
     let is = rw c.in-End.is at n.is in
     found_last limits _ _ records n.accepted start now None _ is.0
-    c.in_ok-finish-in-End.ensures.verdict
+    c.in_ok-finish-in-End.ensures.finishes.verdict
 
 pub returns-in-Bad-clause-answer : goal.returns-in-Bad-clause-answer
 returns-in-Bad-clause-answer c = λ limits r start now records n.

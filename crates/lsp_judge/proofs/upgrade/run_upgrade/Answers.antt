@@ -1,6 +1,6 @@
 use Rattle.std.proofs.Common.{refl}
 use Rattle.std.proofs.lemmas.Result.{err_from_is_err_and}
-use Rattle.lsp_judge.proofs.RunsJudged.{judges, judged_not}
+use Rattle.lsp_verdict.proofs.RunsJudged.{judges, judged_not}
 use Rattle.lsp_judge.proofs.UpgradedLogs.{upgrade_read, upgrade_written}
 use Rattle.lsp_judge.proofs.upgrade.run_upgrade.Goals as goal
 

@@ -2,7 +2,7 @@ use Rattle.std.proofs.Common.{◌++◌, map, string_bytes}
 use Rattle.std.proofs.lemmas.Result.{err_from_is_err_and}
 use Rattle.lsp_verdict.specs.Given.{offence_view, verdict_view}
 use Rattle.lsp_survey.proofs.Reporting.{close_failed, close_refused, closed, ended_begins}
-use Rattle.lsp_survey.proofs.Reporting.{first_none, more_wrote, some_failed, told_by, yes_met}
+use Rattle.lsp_survey.proofs.Reporting.{first_none, more_wrote, some_failed, told_by}
 use Rattle.lsp_survey.proofs.run.close.Goals as goal
 
 pub returns-in_err-list_each : goal.returns-in_err-list_each
@@ -64,7 +64,4 @@ returns g c =
     (l.found ++ more) _ _ l.ended.of_read l.ended.failures
     (more_wrote completeness limits c.args.listing start now old mid new l.found l.wrote more told)
     (verdict_view c.in_ok-closing.closing.verdict) (string_bytes c.in_ok-closing.closing.text)
-    last.0 last.1
-    (yes_met completeness limits start now c.list_each.new.tally (l.found ++ more) c.args.end.bad _
-    (verdict_view c.in_ok-closing.closing.verdict) l.ended.of_read (tally l.found l.tally)
-    last.1 l.ended.met) wrote
+    last.0 last.1 wrote

@@ -53,7 +53,8 @@ returns-in_ok-answer-in-Snapshot-clause-ok g c =
       clean = accepted (calls events) holds.called;
       holds = shown_holds c.args.self.now.session c.snapshot.new.self events uri at.version text
           holds.sent (stands (calls events) holds.called);
-      counted = λ all counts. c.add-in-Snapshot.ensures all (snapshot uri at.version text) counts refl;
+      counted = λ all counts.
+          c.add-in-Snapshot.ensures all (snapshot uri at.version text) counts refl;
     })
 
 pub returns-in_err-answer-in-Snapshot-clause-rule :

@@ -1,10 +1,24 @@
-use Rattle.std.proofs.Common.{ap, sym, ◌∙◌, Some}
+use Rattle.std.proofs.Common.{ap, refl, sym, ◌∙◌, Some}
 use Rattle.lsp_verdict.specs.Given.{verdict_view}
 use Rattle.lsp_judge.specs.Standing.{State}
 use Rattle.lsp_verdict.specs.Verdict.{no}
-use Rattle.lsp_judge.proofs.Answering.{given_names, open_none}
+use Rattle.lsp_judge.proofs.Answering.{given_names, keeps_given, keeps_ungiven, open_none}
 use Rattle.lsp_judge.proofs.Finals.{given_final, log_final}
 use Rattle.lsp_judge.proofs.judge.Judge.bad_log.Goals as goal
+
+pub returns-in-Some-clause-keeps : goal.returns-in-Some-clause-keeps
+returns-in-Some-clause-keeps g c =
+    let given = ap (λ (s : State). s.given) (sym c.self.view_is) ∙ c.in-Some.is in
+    let says = rw c.unwrap.ensures at c.answer.ensures.ok in
+    keeps_given c.args.self.now _ c.in-Some.ruling _ given
+    (verdict_view c.unwrap.result, says, refl) tt
+
+pub returns-in-None-clause-keeps : goal.returns-in-None-clause-keeps
+returns-in-None-clause-keeps g c =
+    let given = ap (λ (s : State). s.given) (sym c.self.view_is) ∙ c.in-None.is in
+    let seen = c.self.view_is in
+    keeps_ungiven c.args.self.now _ _ _ given (ap (λ (s : State). s.limits) seen)
+    (ap (λ (s : State). s.format) seen) tt
 
 pub returns-in-Some-clause-verdict : goal.returns-in-Some-clause-verdict
 returns-in-Some-clause-verdict g c = λ records v stands final.

@@ -1,10 +1,23 @@
 use Rattle.std.proofs.Common.{ap, refl, sym, ◌∙◌, ◌∷◌, ◌++◌, []}
 use Rattle.lsp_log.specs.Records.{record_view}
+use Rattle.lsp_verdict.specs.Given.{verdict_view}
 use Rattle.lsp_judge.specs.Standing.{State}
-use Rattle.lsp_judge.proofs.Answering.{taken_no, taken_clean}
+use Rattle.lsp_judge.proofs.Answering.{keeps_given, keeps_ungiven, taken_no, taken_clean}
 use Rattle.lsp_judge.proofs.Records.{given_stays, given_verdict, none_verdict, rule_verdict}
 use Rattle.lsp_judge.proofs.Records.{ruled_stands}
 use Rattle.lsp_judge.proofs.judge.Judge.take.Goals as goal
+
+pub returns-in-Some-clause-keeps : goal.returns-in-Some-clause-keeps
+returns-in-Some-clause-keeps g c =
+    let given = ap (λ (s : State). s.given) (sym c.self.view_is) ∙ c.in-Some.is in
+    keeps_given c.args.self.now _ c.in-Some.ruling _ given
+    (verdict_view c.in_ok-answer.field-0, c.in_ok-answer.ensures.ok, refl) tt
+
+pub returns-in-Ok-clause-keeps : goal.returns-in-Ok-clause-keeps
+returns-in-Ok-clause-keeps g c =
+    let given = ap (λ (s : State). s.given) (sym c.self.view_is) ∙ c.in_default.is in
+    let keeps = c.in-Ok.ensures.keeps in
+    keeps_ungiven c.args.self.now c.hear.new.self _ _ given keeps.limits keeps.format tt
 
 pub returns-in-Some-clause-stands : goal.returns-in-Some-clause-stands
 returns-in-Some-clause-stands g c = λ records stands.

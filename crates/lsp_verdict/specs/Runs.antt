@@ -3,7 +3,7 @@ use Rattle.std.specs.Prelude.{◌≡◌, ℕ, List, Result, Ok, IfOk, OnErr}
 use Rattle.std.specs.Io.KnownBytes.{IsAtEnd}
 use Rattle.lsp_frame.specs.Bounds.{Bounds}
 use Rattle.lsp_verdict.specs.Given.{verdict_view}
-use Rattle.lsp_judge.specs.Ports.{CountsFaults, OfInput, OutputFor, Ports}
+use Rattle.lsp_verdict.specs.Ports.{CountsFaults, OfInput, OutputFor, Ports}
 use Rattle.lsp_verdict.specs.Verdict as spec
 use Rattle.lsp_verdict.specs.declared.outcome.Outcome.{Outcome}
 use Rattle.lsp_verdict.specs.declared.outcome.Outcome.TheVariants.{Judged}

@@ -1,22 +1,26 @@
 -- How a run that judges a log ends: with a verdict and all that is due, or with a fault.
 use Rattle.std.proofs.Common.{◌≡◌, ℕ, List, Result, Ok, Err, refl, subst}
 use Rattle.lsp_frame.specs.Bounds.{Bounds, IsInRange}
+use Rattle.lsp_verdict.specs.Complete.{IsVerdictBy}
 use Rattle.lsp_verdict.specs.Given.{verdict_view}
 use Rattle.lsp_verdict.specs.Outcome.{IsVerdict}
-use Rattle.lsp_judge.specs.Ports.{OfInput, OutputFor, Ports}
+use Rattle.lsp_verdict.specs.Ports.{OfInput, OutputFor, Ports}
 use Rattle.lsp_verdict.specs.RunIo.{failures_after, sink_failures_after}
-use Rattle.lsp_judge.specs.Runs.{Judges}
+use Rattle.lsp_verdict.specs.Runs.{Judges}
 use Rattle.lsp_verdict.specs.Verdict as spec
+use Rattle.lsp_verdict.specs.declared.completeness.Completeness.{Completeness}
+use Rattle.lsp_verdict.specs.declared.completeness.Completeness.TheVariants.{Ignored, Required}
 use Rattle.lsp_verdict.specs.declared.outcome.Outcome.{Outcome}
 use Rattle.lsp_verdict.specs.declared.outcome.Outcome.TheVariants.{Judged}
 use Rattle.lsp_verdict.specs.declared.outcome.RunFault.{RunFault}
 use Rattle.lsp_verdict.specs.declared.verdict.Verdict.{Verdict}
 use Rattle.lsp_verdict.specs.declared.verdict.Verdict.TheVariants.{Yes}
+use Rattle.lsp_verdict.proofs.Completing.{plain_yes}
 use Rattle.lsp_verdict.proofs.Logs.Ends.{yes_at_end}
 use Rattle.lsp_verdict.proofs.RunReading.{read_map, read_within}
 
 -- this holds of the verdict that is judged
-judged_as : (given v : Verdict) (P : Verdict → Type 0)
+pub judged_as : (given v : Verdict) (P : Verdict → Type 0)
     → (let outcome : Result Outcome RunFault = Ok (Judged given) in outcome) ≡ Ok (Judged v)
     → P given → P v
 judged_as given v P e p = let same : given ≡ v = cc e in subst P same p
@@ -68,3 +72,9 @@ judged_not limits io IsRight IsDue Begins fault begun source sink = record {
     limit = read_within _ _ _ _ begun.2;
   };
 }
+
+-- a Yes that is right whether or not the session has to be complete is a plain one
+pub plain_by : (completeness : Completeness) (limits : Bounds) (log : List ℕ) (s : spec.Summary)
+    → IsVerdictBy completeness limits log (spec.yes s) → IsVerdict limits log (spec.yes s)
+plain_by Ignored limits log s says = says
+plain_by Required limits log s says = plain_yes limits log s says
