@@ -93,7 +93,7 @@ fn trace_spoken(
     rule: u16,
 ) -> Result<(), Memory>
     ensures { OnOk result ((before : List Event) → StandsAfter events.now before
-        → facts_view facts.new.items ≡ (if nat_lt rule rules.rules.FIRST_ON_DOCUMENTS
+        → facts_view facts.new.items ≡ (if nat_lt rule rules.FIRST_ON_DOCUMENTS
         then facts_view facts.old.items ++ spec.session_trace rule
         (numbered (terms_in events.now) before) side (id_in (message_view spoken.now.message))
         else spec.call_traced (terms_in events.now) before rule
