@@ -185,9 +185,11 @@ REVERSED_FACTS += b"held 1 event 4\nsent 2\nchanges 1\nencoding utf-16\nchange 1
 REVERSED_FACTS += b"usually editor\n"
 APART = b'version 3\nencoding utf-16\nat 0 0\nby-messages "new"\nin-editor "old"\n'
 DIFFERS_FACTS = b"event 6 snapshot 1\n" + URI_LINE + b"held 3 event 5\n" + APART
-DIFFERS_FACTS += b"snapshot event 6\nusually editor\n"
+DIFFERS_FACTS += b"snapshot event 6\nsuspects 2\nsuspect 1 event 4\nsuspect 3 event 5\n"
+DIFFERS_FACTS += b"usually editor\n"
 PARTS_FACTS = b"event 7 snapshot 2\n" + URI_LINE + b"held 3 event 6\n" + APART
-PARTS_FACTS += b"snapshot event 7\nequal 1 event 5\nusually editor\n"
+PARTS_FACTS += b"snapshot event 7\nequal 1 event 5\nsuspects 1\nsuspect 3 event 6\n"
+PARTS_FACTS += b"usually editor\n"
 EXITS_FACTS = b'event 9 editor 6 notification "exit"\nphase exited\nsince event 8\nusually editor\n'
 TAKEN_FACTS = b'event 5 editor 4 request 1 "textDocument/hover"\nid 1\nasked event 4\n'
 TAKEN_FACTS += b"answered event 2\nusually editor\n"
@@ -247,6 +249,8 @@ by-messages "new"
 in-editor "old"
 snapshot event 10
 equal 1 event 6
+suspects 1
+suspect 3 event 9
 usually editor
 no 406 editor 9 event 14
 editor message after exit

@@ -56,6 +56,9 @@ pub data Fact : Type 0 where
   -- event of its snapshot
   shown_by : ℕ → Fact
   equal_by : ℤ → ℕ → Fact
+  -- how many messages can have made texts differ, and one of them, by its version and its event
+  has_suspects : ℕ → Fact
+  suspects : ℤ → ℕ → Fact
   -- the event that answered a request, that asked one, and that led to the phase
   answered_by : ℕ → Fact
   asked_by : ℕ → Fact
@@ -95,6 +98,8 @@ fact_view (facts.Request id method) = waits (id_view id) (string_bytes method)
 fact_view (facts.RequestBy id method event) = waits_since (id_view id) (string_bytes method) event
 fact_view (facts.Snapshot event) = shown_by event
 fact_view (facts.Equal number event) = equal_by number event
+fact_view (facts.Suspects count) = has_suspects count
+fact_view (facts.Suspect number event) = suspects number event
 fact_view (facts.Answered event) = answered_by event
 fact_view (facts.Asked event) = asked_by event
 fact_view (facts.Since event) = led_by event

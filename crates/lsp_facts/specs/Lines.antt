@@ -26,7 +26,8 @@ use Rattle.lsp_facts.specs.Fact.{Fact, of_uri, holds, holds_by, sends, shows_ver
 use Rattle.lsp_facts.specs.Fact.{has_kind, counts_in, fails, line_has}
 use Rattle.lsp_facts.specs.Fact.{falls_inside, would_have, may_have, differs_at, by_messages}
 use Rattle.lsp_facts.specs.Fact.{in_editor, saved_line, keeps, has_id, in_phase, offers, picks}
-use Rattle.lsp_facts.specs.Fact.{registers, waits, waits_since, shown_by, equal_by}
+use Rattle.lsp_facts.specs.Fact.{registers, waits, waits_since, shown_by, equal_by, has_suspects}
+use Rattle.lsp_facts.specs.Fact.{suspects}
 use Rattle.lsp_facts.specs.Fact.{answered_by, asked_by, led_by, begins, in_record, at_byte, finds}
 
 -- ---- words
@@ -102,6 +103,8 @@ fact_line (waits_since id method event) =
     line (codes "request" ∷ id_text id ∷ quoted method ∷ codes "event" ∷ decimal event ∷ [])
 fact_line (shown_by event) = cited (codes "snapshot") event
 fact_line (equal_by number event) = version_by (codes "equal") number event
+fact_line (has_suspects count) = line (codes "suspects" ∷ decimal count ∷ [])
+fact_line (suspects number event) = version_by (codes "suspect") number event
 fact_line (answered_by event) = cited (codes "answered") event
 fact_line (asked_by event) = cited (codes "asked") event
 fact_line (led_by event) = cited (codes "since") event

@@ -64,6 +64,10 @@ pub enum Fact {
     /// The greatest version since the document was opened of which a snapshot was found equal, and
     /// the number of the event of the last such snapshot, from 1.
     Equal { version: i32, event: u64 },
+    /// How many messages can have made the texts differ.
+    Suspects(u64),
+    /// The version that one of them set, and the number of its event, from 1.
+    Suspect { version: i32, event: u64 },
     /// The number of the event that answered a request of this id, from 1.
     Answered(u64),
     /// The number of the event that asked the open request of this id, from 1.

@@ -293,6 +293,8 @@ fn push_fact(alloc: Global, lines: &mut String, fact: &Fact) -> Result<(), Memor
         }
         Fact::Snapshot(event) => push_cited(lines, "snapshot", *event),
         Fact::Equal { version, event } => push_version_by(lines, "equal", *version, *event),
+        Fact::Suspects(count) => push_number(lines, "suspects", *count),
+        Fact::Suspect { version, event } => push_version_by(lines, "suspect", *version, *event),
         Fact::Answered(event) => push_cited(lines, "answered", *event),
         Fact::Asked(event) => push_cited(lines, "asked", *event),
         Fact::Since(event) => push_cited(lines, "since", *event),

@@ -24,7 +24,7 @@ use Rattle.lsp_facts.specs.Fact.{of_uri, holds, holds_by, sends, shows_version, 
 use Rattle.lsp_facts.specs.Fact.{has_kind, counts_in, fails, line_has, falls_inside, would_have}
 use Rattle.lsp_facts.specs.Fact.{may_have, differs_at, by_messages, in_editor, saved_line, keeps}
 use Rattle.lsp_facts.specs.Fact.{offers, in_record, shown_by, equal_by, answered_by, asked_by}
-use Rattle.lsp_facts.specs.Fact.{led_by, waits_since}
+use Rattle.lsp_facts.specs.Fact.{led_by, waits_since, has_suspects, suspects}
 use Rattle.lsp_facts.specs.Lines.{fact_lines, end_event, event_line, usual}
 
 abbrev at : ℕ → ℕ → Position
@@ -59,10 +59,11 @@ of_lists = refl
 
 of_earlier_events : fact_lines (holds_by (pos 3) 12 ∷ shows_version (negsuc 0) ∷ counts_in Utf8
     ∷ counts_in Utf16 ∷ counts_in Utf32 ∷ shown_by 7 ∷ equal_by (pos 1) 5 ∷ answered_by 9
-    ∷ asked_by 4 ∷ led_by 8 ∷ waits_since (number (pos 7)) (codes "shutdown") 6 ∷ [])
+    ∷ asked_by 4 ∷ led_by 8 ∷ waits_since (number (pos 7)) (codes "shutdown") 6
+    ∷ has_suspects 12 ∷ suspects (pos 2) 6 ∷ [])
     ≡ codes "held 3 event 12\nversion -1\nencoding utf-8\nencoding utf-16\nencoding utf-32\n"
     ++ codes "snapshot event 7\nequal 1 event 5\nanswered event 9\nasked event 4\nsince event 8\n"
-    ++ codes "request 7 \"shutdown\" event 6\n"
+    ++ codes "request 7 \"shutdown\" event 6\nsuspects 12\nsuspect 2 event 6\n"
 unfolding digits escape_byte
 of_earlier_events = refl
 
