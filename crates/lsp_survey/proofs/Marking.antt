@@ -120,8 +120,12 @@ rank-same done touch n own none =
 -- one more sets a version
 recent-more : (done : List Step) (n : ℕ) (own : ℤ)
     → recent (done ++ touches Reached n own ∷ [])
-    ≡ with_room (recent done) ++ record { event = n; version = own; rank = next_rank
-    (rank_after (standing done)) } ∷ []
+    ≡ with_room (recent done) ++ record {
+      event = n;
+      version = own;
+      rank = next_rank
+          (rank_after (standing done));
+    } ∷ []
 recent-more done n own =
     ap (last_ones most_setters) (setters_with done Reached n own)
     ∙ last_behind_all most_setters (setters done) _ (omega arith)

@@ -93,8 +93,12 @@ rank_after opening = capped (length (filter sets opening))
 -- the message that a step is which sets a version, after these of its opening
 abbrev pub setter_at : List Step → Step → Option Setter
 setter_at opening (touches Reached n number) =
-    Some (record { event = n; version = number; rank = rank_after
-    (opening ++ touches Reached n number ∷ []) })
+    Some (record {
+      event = n;
+      version = number;
+      rank = rank_after
+          (opening ++ touches Reached n number ∷ []);
+    })
 setter_at opening (touches Compared n number) = None
 setter_at opening (touches Awaited n number) = None
 setter_at opening closed = None

@@ -1,7 +1,8 @@
 //! What left a document as it is: which messages set its versions, which equal snapshot has the
 //! greatest version, and which snapshots wait.
 ghost use Rattle.std.specs.Prelude.{◌≡◌, ◌++◌, ◌∷◌, [], None, OnOk, if◌then◌else◌, ℤ, false};
-ghost use Rattle.std.specs.Prelude.{int_lt, not};
+ghost use Rattle.std.specs.Prelude.{int_lt, not, option_map};
+ghost use Rattle.std.specs.List.{find};
 ghost use Rattle.std.specs.Map.{lookup};
 ghost use Rattle.std.specs.Ordering.{int_eq};
 ghost use Rattle.lsp_survey.specs.Marking.{above, is_set_to, last_shown, newer, newer_of, next_rank};
@@ -175,10 +176,17 @@ fn make_room(setters: &mut Vec<Setter>)
 fn rank_of(setters: &[Setter], version: i32) -> u64
     ensures { result ≡ rank_of version setters.now }
 {
-    match setters.iter().find(|setter| is_set_to(setter, version)) {
+    match setter_of(setters, version) {
         Some(setter) => setter.rank,
         None => 0,
     }
+}
+
+/// The first of the messages that set this version.
+fn setter_of(setters: &[Setter], version: i32) -> Option<&Setter>
+    ensures { option_map (λ s. s.now) result ≡ find (is_set_to version) setters.now }
+{
+    setters.iter().find(|setter| is_set_to(setter, version))
 }
 
 fn is_set_to(setter: &Setter, version: i32) -> bool
