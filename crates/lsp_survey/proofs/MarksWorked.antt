@@ -18,9 +18,9 @@ both_wait = refl
 none_waits : waiting_for (pos 3) opening ≡ []
 none_waits = refl
 
--- the message of this event set this version, the one of this rank
+-- the message of this event set this version, which has this rank
 abbrev set_by : ℕ → ℤ → ℕ → Setter
-set_by n number rank = record { event = n; version = number; rank = rank }
+set_by n own rank = record { event = n; version = own; rank = rank }
 
 set_by_two : recent opening ≡ set_by 3 (pos 1) 1 ∷ set_by 5 (pos 3) 2 ∷ []
 set_by_two = refl
