@@ -7,4 +7,4 @@ pub returns : goal.returns
 returns c =
     subst (λ t. OnOk c.push_quoted.result (string_bytes c.push_quoted.new.words
     ≡ string_bytes c.args.lines.now ++ quoted t))
-    (sym (encodes-chars c.args.text.now c.utf8.text)) c.push_quoted.ensures
+    (sym (encodes-chars c.args.text.now c.utf8.text)) c.push_quoted.ensures.ok
