@@ -132,10 +132,28 @@ fn trace_act(
 {
     match act {
         Act::DidOpen { uri, version, .. } => {
-            trace_text(alloc, facts, events, number, act, uri.as_str(), *version, rule)
+            trace_text(
+                alloc,
+                facts,
+                events,
+                number,
+                act,
+                uri.as_str(),
+                *version,
+                rule,
+            )
         }
         Act::DidChange { uri, version, .. } => {
-            trace_text(alloc, facts, events, number, act, uri.as_str(), *version, rule)
+            trace_text(
+                alloc,
+                facts,
+                events,
+                number,
+                act,
+                uri.as_str(),
+                *version,
+                rule,
+            )
         }
         Act::DidClose { uri } => trace_held(facts, events.marks(), uri.as_str(), rule),
         Act::DidSave { uri, .. } => trace_held(facts, events.marks(), uri.as_str(), rule),
