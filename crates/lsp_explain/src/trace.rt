@@ -112,9 +112,9 @@ fn trace_spoken(
 }
 
 /// Adds to the facts on an act, the event of this number, that breaks this rule on documents the
-/// event that set the held version; under 702 the snapshots that wait for the version in it and have
-/// another text; under 608 and 702 the snapshot that was found equal, and the messages that can
-/// have made the texts differ.
+/// event that set the held version; under 702 the snapshots that wait for the version in it and
+/// have another text; under 608 and 702 the snapshot that was found equal, and the messages that
+/// can have made the texts differ.
 fn trace_act(
     alloc: Global,
     facts: &mut Vec<Fact>,

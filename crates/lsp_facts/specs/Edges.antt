@@ -8,7 +8,8 @@ use Rattle.lsp_text.specs.Lines.{Line, lines_of}
 use Rattle.lsp_text.specs.Places.{units, place_of}
 use Rattle.lsp_docs.specs.Texts.{Text}
 
--- it lies past the end of its line, or past the last line, where columns count units of the encoding
+-- it lies past the end of its line, or past the last line, where columns count units of the
+-- encoding
 abbrev pub is_past : Text → Position → Encoding → Bool
 is_past t p enc =
     unwrap_or (option_map (λ (l : Line). nat_lt (units enc l.text) p.column)
