@@ -185,13 +185,55 @@ REVERSED_FACTS += b"held 1 event 4\nsent 2\nchanges 1\nencoding utf-16\nchange 1
 REVERSED_FACTS += b"usually editor\n"
 APART = b'version 3\nencoding utf-16\nat 0 0\nby-messages "new"\nin-editor "old"\n'
 DIFFERS_FACTS = b"event 6 snapshot 1\n" + URI_LINE + b"held 3 event 5\n" + APART
-DIFFERS_FACTS += b"snapshot event 6\nusually editor\n"
+DIFFERS_FACTS += b"snapshot event 6\nsuspects 2\nsuspect 1 event 4\nsuspect 3 event 5\n"
+DIFFERS_FACTS += b"usually editor\n"
 PARTS_FACTS = b"event 7 snapshot 2\n" + URI_LINE + b"held 3 event 6\n" + APART
-PARTS_FACTS += b"snapshot event 7\nequal 1 event 5\nusually editor\n"
+PARTS_FACTS += b"snapshot event 7\nequal 1 event 5\nsuspects 1\nsuspect 3 event 6\n"
+PARTS_FACTS += b"usually editor\n"
 EXITS_FACTS = b'event 9 editor 6 notification "exit"\nphase exited\nsince event 8\nusually editor\n'
 TAKEN_FACTS = b'event 5 editor 4 request 1 "textDocument/hover"\nid 1\nasked event 4\n'
 TAKEN_FACTS += b"answered event 2\nusually editor\n"
 REST_FACTS = b'end 1 editor\nbegins "abc"\nusually recorder\n'
+
+
+
+def long_lines(held, other, column, by_messages, in_editor):
+    """The log of a snapshot that has one long line, the report on it, and what explains it."""
+    opened = OPEN_WITH.format(held)
+    log = HEAD + INITIALIZE + ANSWER + INITIALIZED + editor(opened) + shown(1, other.encode())
+    facts = b"event 5 snapshot 1\n" + URI_LINE + b"held 1 event 4\nversion 1\nencoding utf-16\n"
+    facts += f"at 0 {column}\nby-messages {by_messages}\nin-editor {in_editor}\n".encode()
+    facts += b"snapshot event 5\nsuspects 1\nsuspect 1 event 4\nusually editor\n"
+    return log, b"no 702 snapshot 1 event 5\nsnapshot differs\n", facts
+
+
+OPEN_WITH = (
+    '{{"jsonrpc":"2.0","method":"textDocument/didOpen","params":{{"textDocument":'
+    '{{"uri":"file:///a","languageId":"x","version":1,"text":"{}"}}}}}}'
+)
+AS, SMILES = "a" * 300, "\U0001f600" * 150
+
+# Of a line of more than 200 characters, at most 100 are shown before the first one that differs.
+LONG_LINES = [
+    long_lines(
+        AS[:150] + "b" + AS[:150],
+        AS[:150] + "c" + AS[:150],
+        150,
+        f'"{AS[:100]}b{AS[:99]}" cut 50 51',
+        f'"{AS[:100]}c{AS[:99]}" cut 50 51',
+    ),
+    long_lines(AS, AS + "b", 300, f'"{AS[:100]}" cut 200 0', f'"{AS[:100]}b" cut 200 0'),
+    long_lines("b" + AS, "c", 0, f'"b{AS[:199]}" cut 0 101', '"c"'),
+    long_lines(AS[:199] + "b", AS[:199] + "c", 199, f'"{AS[:199]}b"', f'"{AS[:199]}c"'),
+    long_lines(AS[:200] + "b", AS[:199] + "c", 199, f'"{AS[:101]}b" cut 99 0', f'"{AS[:199]}c"'),
+    long_lines(
+        SMILES + "b" + SMILES,
+        SMILES + "c" + SMILES,
+        300,
+        f'"{SMILES[:100]}b{SMILES[:99]}" cut 50 51',
+        f'"{SMILES[:100]}c{SMILES[:99]}" cut 50 51',
+    ),
+]
 
 # For logs with a no: what is written after its two lines.
 FACTS = [
@@ -203,6 +245,7 @@ FACTS = [
     (AGAIN, AGAIN_REPORT, b"event 3 server 2 result 1\nid 1\nanswered event 2\nusually server\n"),
     (TAKEN, TAKEN_REPORT, TAKEN_FACTS),
     (REST, REST_REPORT, REST_FACTS),
+    *LONG_LINES,
     (BROKEN, BROKEN_REPORT, rb'''event 1 editor 1
 begins "\r\n\r\n"
 usually editor
@@ -247,6 +290,8 @@ by-messages "new"
 in-editor "old"
 snapshot event 10
 equal 1 event 6
+suspects 1
+suspect 3 event 9
 usually editor
 no 406 editor 9 event 14
 editor message after exit

@@ -12,12 +12,13 @@ use Rattle.lsp_session.specs.Sent.{Sent}
 use Rattle.lsp_types.specs.declared.side.Side.{Side}
 use Rattle.lsp_verdict.specs.Event.{Event, message}
 use Rattle.lsp_survey.specs.Asking.{numbered}
-use Rattle.lsp_survey.specs.Marking.{Step, agreed, brought}
+use Rattle.lsp_survey.specs.Marking.{Step, agreed, recent}
 use Rattle.lsp_facts.specs.Fact.{Fact, fact_view, shown_by}
 use Rattle.lsp_facts.specs.declared.fact.Fact as code
 use Rattle.lsp_facts.specs.MessageFacts.{id_in}
-use Rattle.lsp_explain.specs.Traced.{act_call, equal_facts, call_traced, document_traced}
+use Rattle.lsp_explain.specs.Traced.{act_call, apart_facts, brought, call_traced, document_traced}
 use Rattle.lsp_explain.specs.Traced.{held_by, session_trace, traced, with_setter}
+use Rattle.lsp_explain.specs.declared.suspects.Until.{Until}
 use Rattle.lsp_explain.proofs.Spoken.{id_in-outline}
 
 module _ (terms : Terms) (before : List Event) (rule : ℕ) (plain : List Fact) where
@@ -68,13 +69,13 @@ short_stays n (first ∷ []) short = refl
 short_stays n (first ∷ second ∷ facts) short = absurd (omega arith)
 
 -- under another rule than 702 no snapshot that differs is named
-pub names_no_texts : (done : List Step) (ns ms : List ℕ) (rule : ℕ) (plain : List Fact)
-    → (rule ≡ 702 → ⊥) → document_traced done ns rule plain ≡ document_traced done ms rule plain
-names_no_texts done ns ms rule plain other =
+pub names_no_texts : (done : List Step) (ns ms : List ℕ) (until : Until) (rule : ℕ)
+    (plain : List Fact) → (rule ≡ 702 → ⊥)
+    → document_traced done ns until rule plain ≡ document_traced done ms until rule plain
+names_no_texts done ns ms until rule plain other =
     let is : (rule == 702) ≡ false = grind (arith, nat_tests) in
-    ap (λ (b : Bool). with_setter (brought done)
-    plain ++ (if b then map shown_by ns ++ equal_facts (agreed done) else
-    (if rule == 608 then equal_facts (agreed done) else []))) is
-    ∙ sym (ap (λ (b : Bool). with_setter (brought done)
-    plain ++ (if b then map shown_by ms ++ equal_facts (agreed done) else
-    (if rule == 608 then equal_facts (agreed done) else []))) is)
+    let apart : List Fact = apart_facts (agreed done) until (recent done) in
+    ap (λ (b : Bool). with_setter (brought (recent done))
+    plain ++ (if b then map shown_by ns ++ apart else (if rule == 608 then apart else []))) is
+    ∙ sym (ap (λ (b : Bool). with_setter (brought (recent done))
+    plain ++ (if b then map shown_by ms ++ apart else (if rule == 608 then apart else []))) is)

@@ -1,3 +1,4 @@
+pub mod Suspects
 pub mod Traced
 pub mod Standing
 pub mod Explained

@@ -20,13 +20,17 @@ use Rattle.lsp_verdict.specs.Calls.{call_of, calls}
 use Rattle.lsp_verdict.specs.Event.{Event, message, fault, snapshot, sent_in}
 use Rattle.lsp_verdict.specs.Offences.{is_within, kept_of, said_at}
 use Rattle.lsp_survey.specs.Asking.{Numbered, answered, asked, numbered, sents, since}
-use Rattle.lsp_survey.specs.Marking.{Step, agreed, brought, number_next, steps, waiting_for}
+use Rattle.lsp_survey.specs.Marking.{Step, agreed, last_setter, number_next, recent, steps}
+use Rattle.lsp_survey.specs.Marking.{waiting_for}
+use Rattle.lsp_survey.specs.declared.notes.mark.Setter.{Setter}
 use Rattle.lsp_survey.specs.declared.notes.mark.Shown.{Shown}
 use Rattle.lsp_facts.specs.Fact.{Fact, holds, waits, waits_since, holds_by, shown_by, equal_by}
 use Rattle.lsp_facts.specs.Fact.{answered_by, asked_by, led_by, in_phase}
 use Rattle.lsp_facts.specs.MessageFacts.{id_in}
 use Rattle.lsp_facts.specs.Refuting.{refuting}
 use Rattle.lsp_types.specs.declared.rules.TheConstants as rules
+use Rattle.lsp_explain.specs.Suspects.{suspect_facts, until_of}
+use Rattle.lsp_explain.specs.declared.suspects.Until.{Until}
 
 -- a fact on an event, where there is one
 abbrev pub number_facts : (ℕ → Fact) → Option ℕ → List Fact
@@ -59,15 +63,24 @@ differing terms before done n (closes uri) = []
 differing terms before done n (saves uri text) = []
 differing terms before done n (shows uri number text) = n ∷ []
 
--- 702: these snapshots; and with 608 the one that was found equal last
-abbrev pub texts_traced : Option Shown → List ℕ → ℕ → List Fact
-texts_traced equal snapshots rule =
-    if rule == rules.SNAPSHOT_DIFFERS then map shown_by snapshots ++ equal_facts equal
-    else (if rule == rules.SAVED_TEXT_DIFFERS then equal_facts equal else [])
+-- the snapshot that was found equal, and the messages that can have made the texts differ
+abbrev pub apart_facts : Option Shown → Until → List Setter → List Fact
+apart_facts equal until done = equal_facts equal ++ suspect_facts equal until done
 
-abbrev pub document_traced : List Step → List ℕ → ℕ → List Fact → List Fact
-document_traced done snapshots rule plain =
-    with_setter (brought done) plain ++ texts_traced (agreed done) snapshots rule
+-- 702: these snapshots; and with 608 this
+abbrev pub texts_traced : List ℕ → List Fact → ℕ → List Fact
+texts_traced snapshots apart rule =
+    if rule == rules.SNAPSHOT_DIFFERS then map shown_by snapshots ++ apart
+    else (if rule == rules.SAVED_TEXT_DIFFERS then apart else [])
+
+-- the event that set the held version, where these set the last ones
+abbrev pub brought : List Setter → Option ℕ
+brought done = option_map (λ (s : Setter). s.event) (last_setter done)
+
+abbrev pub document_traced : List Step → List ℕ → Until → ℕ → List Fact → List Fact
+document_traced done snapshots until rule plain =
+    with_setter (brought (recent done)) plain
+    ++ texts_traced snapshots (apart_facts (agreed done) until (recent done)) rule
 
 -- what an act says about a document after these events, under what was agreed
 abbrev pub act_call : Terms → List Event → Act → Option Call
@@ -81,7 +94,7 @@ call_traced terms before rule None plain = plain
 call_traced terms before rule (Some call) plain =
     document_traced (steps terms (uri_of call) before)
     (differing terms (calls (kept_of terms before)) (steps terms (uri_of call) before)
-    (number_next before) call) rule plain
+    (number_next before) call) (until_of (number_next before) call) rule plain
 
 -- ---- messages
 

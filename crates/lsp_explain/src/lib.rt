@@ -10,6 +10,7 @@ mod laws;
 mod run;
 mod run_all;
 mod said;
+mod suspects;
 mod trace;
 
 pub use laws::{

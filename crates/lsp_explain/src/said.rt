@@ -55,7 +55,7 @@ fn facts_of(
         Offending::Content { content, .. } => content_facts(alloc, content.as_slice()),
         Offending::Message { side, spoken } => {
             let side = *side;
-            message_traced(alloc, events, side, spoken, rule)
+            message_traced(alloc, events, number, side, spoken, rule)
         }
         Offending::Snapshot { version, uri, text } => {
             let version = *version;

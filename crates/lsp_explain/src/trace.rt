@@ -24,24 +24,26 @@ ghost use Rattle.lsp_explain.specs.Standing.{StandsAfter, terms_in};
 ghost use Rattle.lsp_explain.specs.Traced as spec;
 ghost use Rattle.lsp_types.specs.declared.rules.TheConstants as rules;
 
+use crate::suspects::{Until, push_suspects};
 use lsp_facts::{Fact, id_in, message_facts, refuting, shown_facts};
 use lsp_rpc::{Act, Encoding, Memory, Message, Side, Spoken, copy_id};
 use lsp_session::{OpenRequest, Pending};
-use lsp_survey::{Marks, SessionNotes, Shown, SurveyReader};
+use lsp_survey::{Marks, SessionNotes, Setter, Shown, SurveyReader};
 use lsp_types::rules;
 use std::alloc::Global;
 
-/// What is said about a message of a side that offends by this rule, 301 to 702, with the events
-/// that brought it. The reader stands for the events before it.
+/// What is said about a message of a side, the event of this number, that offends by this rule, 301
+/// to 702, with the events that brought it. The reader stands for the events before it.
 pub(crate) fn message_traced(
     alloc: Global,
     events: &SurveyReader,
+    number: u64,
     side: Side,
     spoken: &Spoken,
     rule: u16,
 ) -> Result<Vec<Fact>, Memory>
     ensures { IfOk result (λ facts. (content : List ℕ) (before : List Event)
-        → StandsAfter events.now before
+        → StandsAfter events.now before → number ≡ number_next before
         → (refused : RefusesMessage side content (message_view spoken.now.message)
         (act_view spoken.now.act) (terms_in events.now)
         (kept_of (terms_in events.now) before) rule)
@@ -51,7 +53,7 @@ pub(crate) fn message_traced(
 {
     let session = events.session();
     let mut facts = message_facts(alloc, session, events.docs(), side, spoken, rule)?;
-    trace_spoken(alloc, &mut facts, events, side, spoken, rule)?;
+    trace_spoken(alloc, &mut facts, events, number, side, spoken, rule)?;
     Ok(facts)
 }
 
@@ -78,21 +80,23 @@ pub(crate) fn shown_traced(
 {
     let session = events.session();
     let mut facts = shown_facts(alloc, session, events.docs(), version, uri, text, rule)?;
-    trace_snapshot(&mut facts, events.marks(), number, uri, rule)?;
+    trace_snapshot(&mut facts, events.marks(), number, version, uri, rule)?;
     Ok(facts)
 }
 
-/// Adds to the facts on a message of a side that breaks this rule the events that brought it. The
-/// reader stands for the events before it.
+/// Adds to the facts on a message of a side, the event of this number, that breaks this rule the
+/// events that brought it. The reader stands for the events before it.
 fn trace_spoken(
     alloc: Global,
     facts: &mut Vec<Fact>,
     events: &SurveyReader,
+    number: u64,
     side: Side,
     spoken: &Spoken,
     rule: u16,
 ) -> Result<(), Memory>
     ensures { OnOk result ((before : List Event) → StandsAfter events.now before
+        → number ≡ number_next before
         → facts_view facts.new.items ≡ (if nat_lt rule rules.FIRST_ON_DOCUMENTS
         then facts_view facts.old.items ++ spec.session_trace rule
         (numbered (terms_in events.now) before) side (id_in (message_view spoken.now.message))
@@ -104,20 +108,23 @@ fn trace_spoken(
         let said = events.session_notes();
         return trace_message(facts, said, side, &spoken.message, rule);
     }
-    trace_act(alloc, facts, events, &spoken.act, rule)
+    trace_act(alloc, facts, events, number, &spoken.act, rule)
 }
 
-/// Adds to the facts on an act that breaks this rule on documents the event that set the held
-/// version; under 702 the snapshots that wait for the version in it and have another text; under
-/// 608 and 702 the snapshot that was found equal last.
+/// Adds to the facts on an act, the event of this number, that breaks this rule on documents the
+/// event that set the held version; under 702 the snapshots that wait for the version in it and
+/// have another text; under 608 and 702 the snapshot that was found equal, and the messages that
+/// can have made the texts differ.
 fn trace_act(
     alloc: Global,
     facts: &mut Vec<Fact>,
     events: &SurveyReader,
+    number: u64,
     act: &Act,
     rule: u16,
 ) -> Result<(), Memory>
     ensures { OnOk result ((before : List Event) → StandsAfter events.now before
+        → number ≡ number_next before
         → facts_view facts.new.items
         ≡ spec.call_traced (terms_in events.now) before rule
         (spec.act_call (terms_in events.now) before (act_view act.now))
@@ -125,13 +132,31 @@ fn trace_act(
 {
     match act {
         Act::DidOpen { uri, version, .. } => {
-            trace_text(alloc, facts, events, act, uri.as_str(), *version, rule)
+            trace_text(
+                alloc,
+                facts,
+                events,
+                number,
+                act,
+                uri.as_str(),
+                *version,
+                rule,
+            )
         }
         Act::DidChange { uri, version, .. } => {
-            trace_text(alloc, facts, events, act, uri.as_str(), *version, rule)
+            trace_text(
+                alloc,
+                facts,
+                events,
+                number,
+                act,
+                uri.as_str(),
+                *version,
+                rule,
+            )
         }
-        Act::DidClose { uri } => trace_document(facts, events.marks(), uri.as_str(), &[], rule),
-        Act::DidSave { uri, .. } => trace_document(facts, events.marks(), uri.as_str(), &[], rule),
+        Act::DidClose { uri } => trace_held(facts, events.marks(), uri.as_str(), rule),
+        Act::DidSave { uri, .. } => trace_held(facts, events.marks(), uri.as_str(), rule),
         _ => Ok(()),
     }
 }
@@ -141,6 +166,7 @@ fn trace_text(
     alloc: Global,
     facts: &mut Vec<Fact>,
     events: &SurveyReader,
+    number: u64,
     act: &Act,
     uri: &str,
     version: i32,
@@ -152,33 +178,50 @@ fn trace_text(
         ≡ spec.document_traced (steps (terms_in events.now) uri.now before)
         (refuting (terms_in events.now) (calls (kept_of (terms_in events.now) before)) call
         (waiting_for version (steps (terms_in events.now) uri.now before)))
-        rule (facts_view facts.old.items)) }
+        (Until.Message number version) rule (facts_view facts.old.items)) }
 {
     let marks = events.marks();
+    let until = Until::Message {
+        event: number,
+        version,
+    };
     if rule != rules::SNAPSHOT_DIFFERS {
-        return trace_document(facts, marks, uri, &[], rule);
+        return trace_document(facts, marks, uri, &[], until, rule);
     }
     let encoding = events.session().encoding().unwrap_or(Encoding::Utf16);
     let waiting = marks.waiting(uri, version);
     let snapshots = refuting(alloc, events.docs(), encoding, act, waiting)?;
-    trace_document(facts, marks, uri, snapshots.as_slice(), rule)
+    trace_document(facts, marks, uri, snapshots.as_slice(), until, rule)
 }
 
-/// The same of a snapshot, the event of this number, which is named itself under 702.
+/// The same of an act that leaves this document at its version.
+fn trace_held(facts: &mut Vec<Fact>, marks: &Marks, uri: &str, rule: u16) -> Result<(), Memory>
+    ensures { OnOk result ((terms : Terms) (before : List Event)
+        → AreMarks terms marks.now.map.entries before
+        → facts_view facts.new.items
+        ≡ spec.document_traced (steps terms uri.now before) [] Until.Held rule
+        (facts_view facts.old.items)) }
+{
+    trace_document(facts, marks, uri, &[], Until::Held, rule)
+}
+
+/// The same of a snapshot of this version, the event of this number, which is named itself under
+/// 702.
 fn trace_snapshot(
     facts: &mut Vec<Fact>,
     marks: &Marks,
     event: u64,
+    version: i32,
     uri: &str,
     rule: u16,
 ) -> Result<(), Memory>
     ensures { OnOk result ((terms : Terms) (before : List Event)
         → AreMarks terms marks.now.map.entries before
         → facts_view facts.new.items
-        ≡ spec.document_traced (steps terms uri.now before) (event ∷ []) rule
-        (facts_view facts.old.items)) }
+        ≡ spec.document_traced (steps terms uri.now before) (event ∷ []) (Until.Version version)
+        rule (facts_view facts.old.items)) }
 {
-    trace_document(facts, marks, uri, &[event], rule)
+    trace_document(facts, marks, uri, &[event], Until::Version(version), rule)
 }
 
 /// Adds to the facts on a message of a side that breaks this rule, 301 to 504, under 301 and 302
@@ -252,16 +295,28 @@ fn trace_document(
     marks: &Marks,
     uri: &str,
     snapshots: &[u64],
+    until: Until,
     rule: u16,
 ) -> Result<(), Memory>
     ensures { OnOk result ((terms : Terms) (before : List Event)
         → AreMarks terms marks.now.map.entries before
         → facts_view facts.new.items
-        ≡ spec.document_traced (steps terms uri.now before) snapshots.now rule
+        ≡ spec.document_traced (steps terms uri.now before) snapshots.now until rule
         (facts_view facts.old.items)) }
 {
-    put_setter(facts, marks.brought(uri))?;
-    push_texts(facts, marks.agreed(uri), snapshots, rule)
+    let setters = marks.setters(uri);
+    put_setter(facts, last_event(setters))?;
+    push_texts(facts, marks.agreed(uri), setters, snapshots, until, rule)
+}
+
+/// The event of the last of these messages, which set the held version.
+fn last_event(setters: &[Setter]) -> Option<u64>
+    ensures { result ≡ spec.brought setters.now }
+{
+    match setters.last() {
+        Some(setter) => Some(setter.event),
+        None => None,
+    }
 }
 
 /// Adds the event that set the held version to that fact.
@@ -298,24 +353,41 @@ fn held_by(fact: Fact, event: u64) -> Fact
     fact
 }
 
-/// Adds the snapshots that differ, and the one that was found equal last.
+/// Adds the snapshots that differ, the one that was found equal, and the messages that can have
+/// made the texts differ.
 fn push_texts(
     facts: &mut Vec<Fact>,
     equal: Option<Shown>,
+    setters: &[Setter],
     snapshots: &[u64],
+    until: Until,
     rule: u16,
 ) -> Result<(), Memory>
     ensures { OnOk result (facts_view facts.new.items ≡ facts_view facts.old.items
-        ++ spec.texts_traced equal snapshots.now rule) }
+        ++ spec.texts_traced snapshots.now (spec.apart_facts equal until setters.now) rule) }
 {
     if rule == rules::SNAPSHOT_DIFFERS {
         push_snapshots(facts, snapshots)?;
-        return push_equal(facts, equal);
+        return push_apart(facts, equal, setters, until);
     }
     if rule == rules::SAVED_TEXT_DIFFERS {
-        return push_equal(facts, equal);
+        return push_apart(facts, equal, setters, until);
     }
     Ok(())
+}
+
+/// Adds the snapshot that was found equal, and the messages that can have made the texts differ.
+fn push_apart(
+    facts: &mut Vec<Fact>,
+    equal: Option<Shown>,
+    setters: &[Setter],
+    until: Until,
+) -> Result<(), Memory>
+    ensures { OnOk result (facts_view facts.new.items ≡ facts_view facts.old.items
+        ++ spec.apart_facts equal until setters.now) }
+{
+    push_equal(facts, equal)?;
+    push_suspects(facts, equal, until, setters)
 }
 
 fn push_snapshots(facts: &mut Vec<Fact>, snapshots: &[u64]) -> Result<(), Memory>
@@ -332,7 +404,7 @@ fn push_equal(facts: &mut Vec<Fact>, equal: Option<Shown>) -> Result<(), Memory>
     ensures { OnOk result (facts_view facts.new.items ≡ facts_view facts.old.items
         ++ spec.equal_facts equal) }
 {
-    let Some(Shown { event, version }) = equal else {
+    let Some(Shown { event, version, .. }) = equal else {
         return Ok(());
     };
     Ok(facts.push(Fact::Equal { version, event })?)

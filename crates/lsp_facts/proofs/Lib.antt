@@ -3,6 +3,7 @@ pub mod Naming
 pub mod Offers
 pub mod MadeChanges
 pub mod Refusals
+pub mod AtEdges
 pub mod OtherTexts
 pub mod DocumentRules
 pub mod Refused

@@ -20,7 +20,7 @@ use Rattle.lsp_docs.specs.Kept.{kept as versions_kept}
 use Rattle.lsp_docs.specs.Snapshots.{waiting, versions_of}
 use Rattle.lsp_docs.specs.Terms.{Terms}
 use Rattle.lsp_docs.specs.Texts.{Text}
-use Rattle.lsp_facts.specs.DocumentFacts.{head_facts, line_length, first_length, stray, difference_facts, IsStray, IsTooLong, IsLongWithLine, IsReason, IsRefused, IsFailing, AreApart, IsRefuted, IsRefuting, IsRefutedText, AreOfOpening, AreOfChange, AreOfSave, AreOfSnapshot, AreDetails, AreFactsOf}
+use Rattle.lsp_facts.specs.DocumentFacts.{fits_fact, head_facts, line_length, first_length, stray, difference_facts, IsStray, IsTooLong, IsLongWithLine, IsReason, IsRefused, IsFailing, AreApart, IsRefuted, IsRefuting, IsRefutedText, AreOfOpening, AreOfChange, AreOfSave, AreOfSnapshot, AreDetails, AreFactsOf}
 use Rattle.lsp_session.specs.Negotiation.{encoding}
 use Rattle.lsp_session.specs.Sent.{Sent}
 use Rattle.lsp_verdict.specs.Calls.{call_at, calls}
@@ -28,6 +28,8 @@ use Rattle.lsp_verdict.specs.Event.{Event, message, fault, snapshot, sent_in}
 use Rattle.lsp_verdict.specs.Placed.{Raw}
 use Rattle.lsp_facts.specs.EventFacts.{AreCallFacts, AreFactsBy, AreFacts}
 use Rattle.lsp_facts.specs.FlawFacts.{Rests}
+use Rattle.lsp_facts.specs.Edges.{edges}
+use Rattle.lsp_facts.specs.Part.{Part}
 use Rattle.lsp_facts.specs.Fact.{Fact, falls_inside, would_have, may_have, in_editor, saved_line, counts_in, fails}
 use Rattle.lsp_facts.proofs.MadeChanges.{fails_there}
 
@@ -43,7 +45,7 @@ either one apart across other (inr p) (inr q) = other p q
 
 -- ---- texts that differ
 
-one_apart : (enc : Encoding) (t u : Text) (line : Text → Fact) (f g : List Fact) → AreApart enc t u line f → AreApart enc t u line g → f ≡ g
+one_apart : (enc : Encoding) (t u : Text) (line : Part → Fact) (f g : List Fact) → AreApart enc t u line f → AreApart enc t u line g → f ≡ g
 one_apart enc t u line f g p q = p.2 ∙ ap (difference_facts enc t u line) (one_place t u p.0 q.0 p.1 q.1) ∙ sym q.2
 
 -- ---- a change that a rule refuses
@@ -64,8 +66,10 @@ module _ (limit : ℕ) (enc : Encoding) (t : Text) where
       let spans : p.of ≡ q.of = same_Some p.of q.of (sym p.there ∙ q.there) in
       let at : LiesInside enc t (stray enc t q.of) p.char = subst (λ s. LiesInside enc t (stray enc t s) p.char) spans p.lies in
       p.are
-      ∙ ap (λ s. line_length enc t (stray enc t s) ++ falls_inside (p.char ∷ []) ∷ []) spans
-      ∙ ap (λ c. line_length enc t (stray enc t q.of) ++ falls_inside (c ∷ []) ∷ []) (positions_lie_inside.once enc t (stray enc t q.of) p.char q.char at q.lies)
+      ∙ ap (λ s. line_length enc t (stray enc t s) ++ falls_inside (p.char ∷ []) ∷ fits_fact
+      (edges t (stray enc t s))) spans
+      ∙ ap (λ c. line_length enc t (stray enc t q.of) ++ falls_inside (c ∷ []) ∷ fits_fact
+      (edges t (stray enc t q.of))) (positions_lie_inside.once enc t (stray enc t q.of) p.char q.char at q.lies)
       ∙ sym q.are
 
   one_too_long : (edit : Edit) (f g : List Fact) → IsTooLong limit enc t edit f → IsTooLong limit enc t edit g → f ≡ g

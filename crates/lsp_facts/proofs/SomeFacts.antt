@@ -21,7 +21,7 @@ use Rattle.lsp_docs.specs.Rules.{differs, version_rule, text_rule, change_rule, 
 use Rattle.lsp_docs.specs.Snapshots.{waiting, versions_of}
 use Rattle.lsp_docs.specs.Terms.{Terms}
 use Rattle.lsp_docs.specs.Texts.{Text, byte_len}
-use Rattle.lsp_facts.specs.DocumentFacts.{head_facts, first_length, line_length, kept_fact, kind_facts, difference_facts, stray, IsReason, IsFailing, AreApart, IsRefuted, AreOfOpening, AreOfChange, AreOfSnapshot, AreDetails, AreFactsOf}
+use Rattle.lsp_facts.specs.DocumentFacts.{fits_fact, head_facts, first_length, line_length, kept_fact, kind_facts, difference_facts, stray, IsReason, IsFailing, AreApart, IsRefuted, AreOfOpening, AreOfChange, AreOfSnapshot, AreDetails, AreFactsOf}
 use Rattle.lsp_session.specs.Negotiation.{encoding}
 use Rattle.lsp_session.specs.Sent.{Sent}
 use Rattle.lsp_verdict.specs.Calls.{call_at, calls}
@@ -30,6 +30,8 @@ use Rattle.lsp_verdict.specs.Placed.{Raw}
 use Rattle.lsp_verdict.specs.Verdict.{offence}
 use Rattle.lsp_facts.specs.EventFacts.{fault_facts, AreCallFacts, AreFactsBy, AreFacts}
 use Rattle.lsp_facts.specs.FlawFacts.{Rests}
+use Rattle.lsp_facts.specs.Edges.{edges}
+use Rattle.lsp_facts.specs.Part.{Part}
 use Rattle.lsp_facts.specs.MessageFacts.{session_facts}
 use Rattle.lsp_facts.specs.Fact.{Fact, falls_inside, would_have, may_have, in_editor, saved_line, counts_in, fails}
 use Rattle.lsp_facts.proofs.DocumentRules.{other_apart, show_breaks, version_breaks, waiting_apart, waiting_some}
@@ -44,7 +46,7 @@ same_number a b e = cc
 
 -- ---- texts that differ
 
-pub some_apart : (enc : Encoding) (t u : Text) (line : Text → Fact) → t ≢ u → (facts : List Fact) × AreApart enc t u line facts
+pub some_apart : (enc : Encoding) (t u : Text) (line : Part → Fact) → t ≢ u → (facts : List Fact) × AreApart enc t u line facts
 some_apart enc t u line differ =
     elim (one_difference t u) [
       | inl same ↦ absurd (differ same.0)
@@ -71,7 +73,7 @@ module _ (limit : ℕ) (enc : Encoding) (t : Text) (x : Text) (rule : ℕ) where
 
   -- one of its positions lies inside a character
   inside : (span : Span) → rule ≡ 605 → (c : ℕ) → LiesInside enc t (stray enc t span) c → HasReason (Some span)
-  inside span is c lies = (line_length enc t (stray enc t span) ++ falls_inside (c ∷ []) ∷ [], inl (is, record { of = span; there = refl; char = c; lies = lies; are = refl }))
+  inside span is c lies = (line_length enc t (stray enc t span) ++ falls_inside (c ∷ []) ∷ fits_fact (edges t (stray enc t span)), inl (is, record { of = span; there = refl; char = c; lies = lies; are = refl }))
 
   -- both are places
   between : (span : Span) (a b : ℕ) → place_of enc t span.first ≡ Some a → place_of enc t span.second ≡ Some b → (r : Bool) → nat_lt b a ≡ r

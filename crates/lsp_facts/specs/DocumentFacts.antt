@@ -23,8 +23,11 @@ use Rattle.lsp_docs.specs.Snapshots.{texts_at, waiting, versions_of}
 use Rattle.lsp_docs.specs.Others.{other_than}
 use Rattle.lsp_facts.specs.Fact.{Fact, of_uri, holds, sends, shows_version, has_changes}
 use Rattle.lsp_facts.specs.Fact.{has_kind, counts_in, fails, line_has}
-use Rattle.lsp_facts.specs.Fact.{falls_inside, would_have, may_have, differs_at, by_messages}
+use Rattle.lsp_facts.specs.Fact.{falls_inside, fits_in, would_have, may_have, differs_at}
+use Rattle.lsp_facts.specs.Fact.{by_messages}
 use Rattle.lsp_facts.specs.Fact.{in_editor, saved_line, keeps}
+use Rattle.lsp_facts.specs.Edges.{edges}
+use Rattle.lsp_facts.specs.Part.{Part, part_at, same_front}
 use Rattle.lsp_facts.specs.Refuting.{first_other}
 use Rattle.lsp_types.specs.declared.rules.TheConstants as rules
 
@@ -92,14 +95,20 @@ kind_facts limit enc kind t cs =
 abbrev pub stray : Encoding → Text → Span → Position
 stray enc t span = if is_some (place_of enc t span.first) then span.second else span.first
 
--- 605: the line of that position, and the character
+-- the encodings in which a column fits, where there are any
+abbrev pub fits_fact : List Encoding → List Fact
+fits_fact [] = []
+fits_fact (enc ∷ encs) = fits_in (enc ∷ encs) ∷ []
+
+-- 605: the line of that position, the character, and the encodings in which it would fit
 pub record IsStray (enc : Encoding) (t : Text) (span : Option Span) (facts : List Fact) : Type 0
   where
     pub of : Span
     pub there : span ≡ Some of
     pub char : ℕ
     pub lies : LiesInside enc t (stray enc t of) char
-    pub are : facts ≡ line_length enc t (stray enc t of) ++ falls_inside (char ∷ []) ∷ []
+    pub are : facts ≡ line_length enc t (stray enc t of)
+        ++ falls_inside (char ∷ []) ∷ fits_fact (edges t (stray enc t of))
 
 -- 607: the bytes that the text would have, and how many it may have
 pub record IsTooLong (limit : ℕ) (enc : Encoding) (t : Text) (edit : Edit)
@@ -142,13 +151,19 @@ pub record IsFailing (limit : ℕ) (enc : Encoding) (t : Text) (cs : List Edit) 
 
 -- ---- 608 and 702: texts that differ
 
--- where they first differ, and the line of each there
-abbrev pub difference_facts : Encoding → Text → Text → (Text → Fact) → ℕ → List Fact
-difference_facts enc t other line n =
-    counts_in enc ∷ differs_at (position_at enc t n) ∷ by_messages (line_around t n)
-    ∷ line (line_around other n) ∷ []
+-- two lines, of long ones the parts around the first character that differs in them
+abbrev pub lines_apart : Text → Text → (Part → Fact) → List Fact
+lines_apart held other line =
+    by_messages (part_at (same_front held other) held)
+    ∷ line (part_at (same_front held other) other) ∷ []
 
-abbrev pub AreApart : Encoding → Text → Text → (Text → Fact) → List Fact → Type 0
+-- where they first differ, and the line of each there
+abbrev pub difference_facts : Encoding → Text → Text → (Part → Fact) → ℕ → List Fact
+difference_facts enc t other line n =
+    counts_in enc ∷ differs_at (position_at enc t n)
+    ∷ lines_apart (line_around t n) (line_around other n) line
+
+abbrev pub AreApart : Encoding → Text → Text → (Part → Fact) → List Fact → Type 0
 AreApart enc t other line facts =
     DifferFirst t other (λ n. facts ≡ difference_facts enc t other line n)
 

@@ -9,6 +9,7 @@ use Rattle.lsp_types.specs.declared.position.Span.{Span}
 use Rattle.lsp_rpc.specs.Ident.{Ident, id_view}
 use Rattle.lsp_rpc.specs.View.{texts_view}
 use Rattle.lsp_session.specs.declared.phase.Phase.{Phase}
+use Rattle.lsp_facts.specs.Part.{Part, part_view}
 use Rattle.lsp_facts.specs.declared.fact.Fact as fact
 use Rattle.lsp_facts.specs.declared.fact.Fact.TheVariants as facts
 
@@ -30,15 +31,17 @@ pub data Fact : Type 0 where
   -- the units of a line, and the character into which a column falls
   line_has : ℕ → Fact
   falls_inside : List ℕ → Fact
+  -- the encodings in which it falls between two
+  fits_in : List Encoding → Fact
   -- the bytes that a text would have, and how many it may have
   would_have : ℕ → Fact
   may_have : ℕ → Fact
-  -- where two texts first differ, and the line of each there: of the one that the messages make,
-  -- and of a snapshot or a save
+  -- where two texts first differ, and the line of each there, or a part of it: of the one that the
+  -- messages make, and of a snapshot or a save
   differs_at : Position → Fact
-  by_messages : List ℕ → Fact
-  in_editor : List ℕ → Fact
-  saved_line : List ℕ → Fact
+  by_messages : Part → Fact
+  in_editor : Part → Fact
+  saved_line : Part → Fact
   -- the versions that are kept in addition to the held one
   keeps : List ℤ → Fact
   -- the id of a message, null where there is none
@@ -56,6 +59,9 @@ pub data Fact : Type 0 where
   -- event of its snapshot
   shown_by : ℕ → Fact
   equal_by : ℤ → ℕ → Fact
+  -- how many messages can have made texts differ, and one of them, by its version and its event
+  has_suspects : ℕ → Fact
+  suspects : ℤ → ℕ → Fact
   -- the event that answered a request, that asked one, and that led to the phase
   answered_by : ℕ → Fact
   asked_by : ℕ → Fact
@@ -79,12 +85,13 @@ fact_view (facts.Encoding encoding) = counts_in encoding
 fact_view (facts.Change which span) = fails which span
 fact_view (facts.Length units) = line_has units
 fact_view (facts.Inside text) = falls_inside (chars (string_bytes text))
+fact_view (facts.Fits names) = fits_in names.items
 fact_view (facts.Bytes count) = would_have count
 fact_view (facts.Limit count) = may_have count
 fact_view (facts.At place) = differs_at place
-fact_view (facts.ByMessages text) = by_messages (chars (string_bytes text))
-fact_view (facts.InEditor text) = in_editor (chars (string_bytes text))
-fact_view (facts.SavedLine text) = saved_line (chars (string_bytes text))
+fact_view (facts.ByMessages line) = by_messages (part_view line)
+fact_view (facts.InEditor line) = in_editor (part_view line)
+fact_view (facts.SavedLine line) = saved_line (part_view line)
 fact_view (facts.Kept numbers) = keeps numbers.items
 fact_view (facts.Id id) = has_id (option_map id_view id)
 fact_view (facts.Phase phase) = in_phase phase
@@ -95,6 +102,8 @@ fact_view (facts.Request id method) = waits (id_view id) (string_bytes method)
 fact_view (facts.RequestBy id method event) = waits_since (id_view id) (string_bytes method) event
 fact_view (facts.Snapshot event) = shown_by event
 fact_view (facts.Equal number event) = equal_by number event
+fact_view (facts.Suspects count) = has_suspects count
+fact_view (facts.Suspect number event) = suspects number event
 fact_view (facts.Answered event) = answered_by event
 fact_view (facts.Asked event) = asked_by event
 fact_view (facts.Since event) = led_by event

@@ -1,3 +1,5 @@
+pub mod Part
+pub mod Edges
 pub mod Fact
 pub mod Lines
 pub mod FlawFacts

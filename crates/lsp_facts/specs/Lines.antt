@@ -1,5 +1,5 @@
 -- The lines of an explanation.
-use Rattle.std.specs.Prelude.{ℕ, ℤ, List, [], ◌∷◌, ◌++◌, Bool, ◌||◌, if◌then◌else◌, ◌==◌}
+use Rattle.std.specs.Prelude.{ℕ, ℤ, List, [], ◌∷◌, ◌++◌, Bool, ◌&&◌, ◌||◌, if◌then◌else◌, ◌==◌}
 use Rattle.std.specs.Prelude.{Option, Some, None}
 use Rattle.std.specs.Prelude.{is_none, option_and_then, codes, decimal}
 use Rattle.std.specs.List.{flat_map}
@@ -24,10 +24,13 @@ use Rattle.lsp_verdict.specs.Verdict.{Verdict, yes, no, bad_log}
 use Rattle.lsp_verdict.specs.declared.verdict.Who.{Who}
 use Rattle.lsp_facts.specs.Fact.{Fact, of_uri, holds, holds_by, sends, shows_version, has_changes}
 use Rattle.lsp_facts.specs.Fact.{has_kind, counts_in, fails, line_has}
-use Rattle.lsp_facts.specs.Fact.{falls_inside, would_have, may_have, differs_at, by_messages}
+use Rattle.lsp_facts.specs.Fact.{falls_inside, fits_in, would_have, may_have, differs_at}
+use Rattle.lsp_facts.specs.Fact.{by_messages}
 use Rattle.lsp_facts.specs.Fact.{in_editor, saved_line, keeps, has_id, in_phase, offers, picks}
-use Rattle.lsp_facts.specs.Fact.{registers, waits, waits_since, shown_by, equal_by}
+use Rattle.lsp_facts.specs.Fact.{registers, waits, waits_since, shown_by, equal_by, has_suspects}
+use Rattle.lsp_facts.specs.Fact.{suspects}
 use Rattle.lsp_facts.specs.Fact.{answered_by, asked_by, led_by, begins, in_record, at_byte, finds}
+use Rattle.lsp_facts.specs.Part.{Part}
 use Rattle.lsp_types.specs.declared.rules.TheConstants as rules
 
 -- ---- words
@@ -60,6 +63,17 @@ more_words count = if count == 0 then [] else spaced (codes "and") ++ spaced (de
 abbrev pub quoted_text : List ℕ → List ℕ
 quoted_text text = quoted (encodes text)
 
+-- a part of a line, and how many characters are left out before and after it
+abbrev pub cut_line : List ℕ → Part → List ℕ
+cut_line key part =
+    line (key ∷ quoted_text part.text ∷ codes "cut" ∷ decimal part.before ∷ decimal part.after ∷ [])
+
+-- a line of a document, or a part of it
+abbrev pub part_line : List ℕ → Part → List ℕ
+part_line key part =
+    if part.before == 0 && part.after == 0 then line (key ∷ quoted_text part.text ∷ [])
+    else cut_line key part
+
 -- an event that is cited: its number
 abbrev pub cited : List ℕ → ℕ → List ℕ
 cited key event = line (key ∷ codes "event" ∷ decimal event ∷ [])
@@ -84,12 +98,14 @@ fact_line (fails which span) =
     codes "change" ++ spaced (decimal which) ++ span_words span ++ 10 ∷ []
 fact_line (line_has units) = line (codes "length" ∷ decimal units ∷ [])
 fact_line (falls_inside text) = line (codes "inside" ∷ quoted_text text ∷ [])
+fact_line (fits_in encs) =
+    codes "fits" ++ flat_map (λ enc. spaced (encoding_name (Some enc))) encs ++ 10 ∷ []
 fact_line (would_have count) = line (codes "bytes" ∷ decimal count ∷ [])
 fact_line (may_have count) = line (codes "limit" ∷ decimal count ∷ [])
 fact_line (differs_at place) = line (codes "at" ∷ decimal place.line ∷ decimal place.column ∷ [])
-fact_line (by_messages text) = line (codes "by-messages" ∷ quoted_text text ∷ [])
-fact_line (in_editor text) = line (codes "in-editor" ∷ quoted_text text ∷ [])
-fact_line (saved_line text) = line (codes "saved" ∷ quoted_text text ∷ [])
+fact_line (by_messages part) = part_line (codes "by-messages") part
+fact_line (in_editor part) = part_line (codes "in-editor") part
+fact_line (saved_line part) = part_line (codes "saved") part
 fact_line (keeps numbers) =
     codes "kept" ++ flat_map (λ number. spaced (signed_decimal number)) numbers ++ 10 ∷ []
 fact_line (has_id id) = line (codes "id" ∷ response_id_text id ∷ [])
@@ -103,6 +119,8 @@ fact_line (waits_since id method event) =
     line (codes "request" ∷ id_text id ∷ quoted method ∷ codes "event" ∷ decimal event ∷ [])
 fact_line (shown_by event) = cited (codes "snapshot") event
 fact_line (equal_by number event) = version_by (codes "equal") number event
+fact_line (has_suspects count) = line (codes "suspects" ∷ decimal count ∷ [])
+fact_line (suspects number event) = version_by (codes "suspect") number event
 fact_line (answered_by event) = cited (codes "answered") event
 fact_line (asked_by event) = cited (codes "asked") event
 fact_line (led_by event) = cited (codes "since") event

@@ -1,12 +1,15 @@
 //! Facts on two texts that differ.
 
-ghost use Rattle.std.specs.Prelude.{◌≡◌, ◌≢◌, ◌∷◌, ◌++◌, [], IfOk, OnOk};
+ghost use Rattle.std.specs.Prelude.{◌≡◌, ◌≢◌, IfOk};
 ghost use Rattle.std.specs.Str.{chars};
 ghost use Rattle.lsp_facts.specs.DocumentFacts.{AreApart};
 ghost use Rattle.lsp_facts.specs.Comparing.{line_fact};
+ghost use Rattle.lsp_facts.specs.Fact.{fact_view};
+ghost use Rattle.lsp_facts.specs.Part.{part_view};
 
 use crate::fact::Fact;
 use crate::fact_list::FactList;
+use crate::part::{Part, part_at, same_front};
 use lsp_text::first_difference;
 use lsp_types::{Encoding, Memory};
 use std::alloc::Global;
@@ -20,7 +23,8 @@ pub(crate) enum Against {
     Saved,
 }
 
-/// Where a held text and another one first differ, and the line of each there.
+/// Where a held text and another one first differ, and the line of each there; of a long one the
+/// part around the first character that differs in the two lines.
 pub(crate) fn difference(
     alloc: Global,
     encoding: Encoding,
@@ -37,17 +41,18 @@ pub(crate) fn difference(
     };
     facts.push(Fact::Encoding(encoding))?;
     facts.push(Fact::At(found.at))?;
-    facts.push_by_messages(found.held)?;
-    push_other(&mut facts, found.other, against)?;
+    let same = same_front(found.held, found.other);
+    facts.push(Fact::ByMessages(part_at(alloc, found.held, same)?))?;
+    facts.push(line_fact(against, part_at(alloc, found.other, same)?))?;
     Ok(facts)
 }
 
-/// Adds a line of the other text.
-fn push_other(facts: &mut FactList, line: &str, against: Against) -> Result<(), Memory>
-    ensures { OnOk result (facts.new ≡ facts.old ++ line_fact against (chars line.now) ∷ []) }
+/// A line of the other text.
+fn line_fact(against: Against, line: Part) -> Fact
+    ensures { fact_view result ≡ line_fact against (part_view line) }
 {
     match against {
-        Against::Recorded => facts.push_in_editor(line),
-        Against::Saved => facts.push_saved(line),
+        Against::Recorded => Fact::InEditor(line),
+        Against::Saved => Fact::SavedLine(line),
     }
 }

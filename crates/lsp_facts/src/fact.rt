@@ -1,4 +1,5 @@
 //! What an explanation says.
+use crate::part::Part;
 use lsp_rpc::Id;
 use lsp_session::Phase;
 use lsp_types::{Encoding, Position, Span, SyncKind};
@@ -30,18 +31,22 @@ pub enum Fact {
     Length(u64),
     /// The character into which a column falls.
     Inside(String),
+    /// The other encodings in which the column lies at the edge of a character (LSP 3.17,
+    /// PositionEncodingKind).
+    Fits(Vec<Encoding>),
     /// The bytes of UTF-8 that the text would have.
     Bytes(u64),
     /// The most bytes of UTF-8 that a text may have.
     Limit(u64),
     /// Where the text that the messages make and the editor's own first differ.
     At(Position),
-    /// The line of the text that the messages make there, its line end included.
-    ByMessages(String),
+    /// The line of the text that the messages make there, its line end included; of a long one the
+    /// part around the first character that differs in the two lines.
+    ByMessages(Part),
     /// The same of the text of a snapshot.
-    InEditor(String),
+    InEditor(Part),
     /// The same of the text that was saved.
-    SavedLine(String),
+    SavedLine(Part),
     /// The versions that are kept in addition to the held one.
     Kept(Vec<i32>),
     /// The id in the message. `None` where it is null.
@@ -64,6 +69,10 @@ pub enum Fact {
     /// The greatest version since the document was opened of which a snapshot was found equal, and
     /// the number of the event of the last such snapshot, from 1.
     Equal { version: i32, event: u64 },
+    /// How many messages can have made the texts differ.
+    Suspects(u64),
+    /// The version that one of them set, and the number of its event, from 1.
+    Suspect { version: i32, event: u64 },
     /// The number of the event that answered a request of this id, from 1.
     Answered(u64),
     /// The number of the event that asked the open request of this id, from 1.

@@ -2,11 +2,12 @@
 
 ghost use Rattle.std.specs.Prelude.{◌≡◌, ◌<◌, ◌^◌, ◌+◌, [], ◌∷◌, ◌++◌, OnOk};
 ghost use Rattle.std.specs.Str.{chars};
-ghost use Rattle.lsp_facts.specs.Fact.{of_uri, counts_in, fails, by_messages, in_editor};
-ghost use Rattle.lsp_facts.specs.Fact.{saved_line};
+ghost use Rattle.lsp_facts.specs.Fact.{of_uri, counts_in, fails};
 ghost use Rattle.lsp_facts.specs.Fact.{falls_inside, fact_view, facts_view};
-ghost use Rattle.lsp_facts.specs.DocumentFacts.{line_length, first_length};
+ghost use Rattle.lsp_facts.specs.DocumentFacts.{line_length, first_length, fits_fact};
+ghost use Rattle.lsp_facts.specs.Edges.{edges};
 
+use crate::edges::edges;
 use crate::fact::Fact;
 use lsp_text::{line_at, width_of};
 use lsp_types::{Encoding, Memory, Position, Span};
@@ -97,28 +98,16 @@ impl FactList {
         self.push(Fact::Inside(text))
     }
 
-    /// Adds a line of the text that the messages make.
-    pub(crate) fn push_by_messages(&mut self, line: &str) -> Result<(), Memory>
-        ensures { OnOk result (self.new ≡ self.old ++ by_messages (chars line.now) ∷ []) }
+    /// Adds the encodings in which a position lies at the edge of a character, where there are any.
+    pub(crate) fn push_fits(&mut self, text: &str, position: Position) -> Result<(), Memory>
+        ensures { OnOk result (self.new ≡ self.old
+            ++ fits_fact (edges (chars text.now) position)) }
     {
-        let line = String::from_str(self.alloc(), line)?;
-        self.push(Fact::ByMessages(line))
-    }
-
-    /// Adds a line of the text of a snapshot.
-    pub(crate) fn push_in_editor(&mut self, line: &str) -> Result<(), Memory>
-        ensures { OnOk result (self.new ≡ self.old ++ in_editor (chars line.now) ∷ []) }
-    {
-        let line = String::from_str(self.alloc(), line)?;
-        self.push(Fact::InEditor(line))
-    }
-
-    /// Adds a line of the text that was saved.
-    pub(crate) fn push_saved(&mut self, line: &str) -> Result<(), Memory>
-        ensures { OnOk result (self.new ≡ self.old ++ saved_line (chars line.now) ∷ []) }
-    {
-        let line = String::from_str(self.alloc(), line)?;
-        self.push(Fact::SavedLine(line))
+        let names = edges(self.alloc(), text, position)?;
+        if names.len() > 0 {
+            self.push(Fact::Fits(names))?;
+        }
+        Ok(())
     }
 
     /// Adds the length of the line of a position, where the text has that line.

@@ -12,6 +12,7 @@
 
 mod difference;
 mod documents;
+mod edges;
 mod fact;
 mod fact_list;
 mod flaws;
@@ -19,6 +20,7 @@ mod lines;
 mod making;
 mod messages;
 mod offending;
+mod part;
 mod refused_change;
 mod waiting;
 
@@ -30,4 +32,5 @@ pub use lines::{
 };
 pub use messages::{content_facts, id_in, session_facts};
 pub use offending::{message_facts, shown_facts};
+pub use part::Part;
 pub use waiting::refuting;

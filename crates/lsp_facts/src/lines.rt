@@ -10,10 +10,12 @@ ghost use Rattle.lsp_rpc.specs.View.{message_view, texts_view};
 ghost use Rattle.lsp_verdict.specs.Report.{encoding_name, line};
 ghost use Rattle.lsp_facts.specs.Fact.{fact_view, facts_view, has_kind, counts_in, differs_at};
 ghost use Rattle.lsp_facts.specs.Fact.{fails, in_phase, has_id, waits, waits_since, keeps};
-ghost use Rattle.lsp_facts.specs.Fact.{offers};
+ghost use Rattle.lsp_facts.specs.Fact.{fits_in, offers};
 ghost use Rattle.lsp_facts.specs.Lines as spec;
+ghost use Rattle.lsp_facts.specs.Part.{part_view};
 
 use crate::fact::Fact;
+use crate::part::Part;
 use lsp_rpc::{Id, Memory, Message, RpcFault, push_id, push_quoted, read, words_of};
 use lsp_session::Phase;
 use lsp_types::{Encoding, Position, Span, SyncKind, rules};
@@ -65,7 +67,42 @@ fn push_characters(alloc: Global, lines: &mut String, key: &str, text: &str) -> 
     ensures { OnOk result (string_bytes lines.new ≡ string_bytes lines.old
         ++ line (key.now ∷ spec.quoted_text (chars text.now) ∷ [])) }
 {
-    push_text(alloc, lines, key, text)
+    write!(lines, "{key} ")?;
+    push_quoted_text(alloc, lines, text)?;
+    Ok(lines.push_str("\n")?)
+}
+
+/// Adds a text of a document as JSON.
+fn push_quoted_text(alloc: Global, lines: &mut String, text: &str) -> Result<(), Memory>
+    ensures { OnOk result (string_bytes lines.new ≡ string_bytes lines.old
+        ++ spec.quoted_text (chars text.now)) }
+{
+    push_quoted(alloc, lines, text)
+}
+
+/// Adds a key and a line of a document as JSON; of a part of one, how many characters are left out
+/// before and after it.
+fn push_part(alloc: Global, lines: &mut String, key: &str, part: &Part) -> Result<(), Memory>
+    ensures { OnOk result (string_bytes lines.new ≡ string_bytes lines.old
+        ++ spec.part_line key.now (part_view part.now)) }
+{
+    if part.before == 0 && part.after == 0 {
+        return push_characters(alloc, lines, key, part.text.as_str());
+    }
+    push_cut(alloc, lines, key, part)
+}
+
+/// Adds a key and a part of a line as JSON, and how many characters are left out before and after
+/// it.
+fn push_cut(alloc: Global, lines: &mut String, key: &str, part: &Part) -> Result<(), Memory>
+    ensures { OnOk result (string_bytes lines.new ≡ string_bytes lines.old
+        ++ spec.cut_line key.now (part_view part.now)) }
+{
+    write!(lines, "{key} ")?;
+    push_quoted_text(alloc, lines, part.text.as_str())?;
+    let Part { before, after, .. } = part;
+    writeln!(lines, " cut {before} {after}")?;
+    Ok(())
 }
 
 fn push_kind(lines: &mut String, kind: SyncKind) -> Result<(), Memory>
@@ -217,6 +254,26 @@ fn push_spaced_version(lines: &mut String, version: i32) -> Result<(), Memory>
     Ok(())
 }
 
+fn push_fits(lines: &mut String, encodings: &[Encoding]) -> Result<(), Memory>
+    ensures { OnOk result (string_bytes lines.new ≡ string_bytes lines.old
+        ++ spec.fact_line (fits_in encodings.now)) }
+{
+    lines.push_str("fits")?;
+    for encoding in encodings {
+        push_spaced_encoding(lines, *encoding)?;
+    }
+    Ok(lines.push_str("\n")?)
+}
+
+fn push_spaced_encoding(lines: &mut String, encoding: Encoding) -> Result<(), Memory>
+    ensures { OnOk result (string_bytes lines.new ≡ string_bytes lines.old
+        ++ spec.spaced (encoding_name (Some encoding))) }
+{
+    let name = encoding_name(encoding);
+    write!(lines, " {name}")?;
+    Ok(())
+}
+
 fn push_offer(alloc: Global, lines: &mut String, names: &[String], more: u64) -> Result<(), Memory>
     ensures { OnOk result (string_bytes lines.new
         ≡ string_bytes lines.old ++ spec.fact_line (offers (texts_view names.now) more)) }
@@ -275,12 +332,13 @@ fn push_fact(alloc: Global, lines: &mut String, fact: &Fact) -> Result<(), Memor
         Fact::Change { which, span } => push_change(lines, *which, *span),
         Fact::Length(units) => push_number(lines, "length", *units),
         Fact::Inside(text) => push_characters(alloc, lines, "inside", text.as_str()),
+        Fact::Fits(names) => push_fits(lines, names.as_slice()),
         Fact::Bytes(count) => push_number(lines, "bytes", *count),
         Fact::Limit(count) => push_number(lines, "limit", *count),
         Fact::At(place) => push_place(lines, *place),
-        Fact::ByMessages(text) => push_characters(alloc, lines, "by-messages", text.as_str()),
-        Fact::InEditor(text) => push_characters(alloc, lines, "in-editor", text.as_str()),
-        Fact::SavedLine(text) => push_characters(alloc, lines, "saved", text.as_str()),
+        Fact::ByMessages(line) => push_part(alloc, lines, "by-messages", line),
+        Fact::InEditor(line) => push_part(alloc, lines, "in-editor", line),
+        Fact::SavedLine(line) => push_part(alloc, lines, "saved", line),
         Fact::Kept(versions) => push_versions(lines, versions.as_slice()),
         Fact::Id(id) => push_message_id(alloc, lines, id.as_ref()),
         Fact::Phase(phase) => push_phase(lines, *phase),
@@ -293,6 +351,8 @@ fn push_fact(alloc: Global, lines: &mut String, fact: &Fact) -> Result<(), Memor
         }
         Fact::Snapshot(event) => push_cited(lines, "snapshot", *event),
         Fact::Equal { version, event } => push_version_by(lines, "equal", *version, *event),
+        Fact::Suspects(count) => push_number(lines, "suspects", *count),
+        Fact::Suspect { version, event } => push_version_by(lines, "suspect", *version, *event),
         Fact::Answered(event) => push_cited(lines, "answered", *event),
         Fact::Asked(event) => push_cited(lines, "asked", *event),
         Fact::Since(event) => push_cited(lines, "since", *event),

@@ -134,7 +134,8 @@ fn reason(
     Ok(facts)
 }
 
-/// The line of the position of a span that lies inside a character, and that character.
+/// The line of the position of a span that lies inside a character, that character, and the other
+/// encodings in which the position lies at an edge.
 fn stray_facts(
     alloc: Global,
     encoding: Encoding,
@@ -154,6 +155,7 @@ fn stray_facts(
         return Ok(facts);
     };
     facts.push_inside(c)?;
+    facts.push_fits(text, position)?;
     Ok(facts)
 }
 

@@ -1,17 +1,18 @@
 -- The requests of one side, with one message more.
-use Rattle.std.specs.Prelude.{◌-◌, drop, length, map, nat_lt, if◌then◌else◌}
+use Rattle.std.specs.Prelude.{drop, length, map, nat_lt, if◌then◌else◌}
 use Rattle.std.specs.List.{cons_option, filter_map}
 use Rattle.std.specs.Map.{lookup}
 use Rattle.std.specs.Option.{option_or}
-use Rattle.std.proofs.Common.{◌≡◌, ℕ, zero, suc, ◌≤◌, ◌<◌, Bool, true, false, cond, List, [], ◌∷◌}
+use Rattle.std.proofs.Common.{◌≡◌, ℕ, Bool, true, false, cond, List, [], ◌∷◌}
 use Rattle.std.proofs.Common.{◌++◌, Option, Some, None, refl, sym, ap, ◌∙◌, inl, inr, arith}
 use Rattle.std.proofs.lemmas.Bool.{cases_Bool}
-use Rattle.std.proofs.lemmas.Bool.Decides.{nat_tests}
-use Rattle.std.proofs.lemmas.List.{map-append, length-drop, length-map, drop-map}
+use Rattle.std.proofs.lemmas.List.{map-append, length-map, drop-map}
 use Rattle.lsp_rpc.specs.Ident.{Ident, id_view, same_id}
 use Rattle.lsp_rpc.specs.declared.message.Id.{Id}
 use Rattle.lsp_verdict.specs.Offences.{last_or}
-use Rattle.lsp_survey.specs.Asking.{Reply, most_replies, last_ones, reply_to, last_reply}
+use Rattle.lsp_survey.specs.Asking.{Reply, most_replies, reply_to, last_reply}
+use Rattle.lsp_survey.specs.LastOnes.{last_ones}
+use Rattle.lsp_survey.proofs.LastOnes.{last_behind_all}
 use Rattle.lsp_survey.specs.SessionNoting.{asked_in, given_view, room_in}
 use Rattle.lsp_survey.specs.declared.notes.exchange.Given.{Given}
 
@@ -39,60 +40,6 @@ updates_in eq agrees id t at w old new says k =
     ∙ ap (λ (b : Bool). cond b w (lookup (eq k) old)) (at k)
     ∙ ap (λ (o : Option ℕ). cond (same_id id (id_view k)) w o)
     (lookup_in (eq k) (id_view k) (agrees k) old)
-
--- ---- the last ones of a list
-
-drop_behind : {A : Type 0} (n : ℕ) (xs : List A) (x : A) → n ≤ length xs
-    → drop n (xs ++ x ∷ []) ≡ drop n xs ++ x ∷ []
-drop_behind zero xs x h = refl
-drop_behind (suc n) [] x h = absurd (omega (arith, h))
-drop_behind (suc n) (y ∷ xs) x h = drop_behind n xs x (omega (arith, h))
-
-drop_more : {A : Type 0} (n : ℕ) (xs : List A) → drop 1 (drop n xs) ≡ drop (suc n) xs
-drop_more zero xs = refl
-drop_more (suc n) [] = refl
-drop_more (suc n) (x ∷ xs) = drop_more n xs
-
-length_behind : {A : Type 0} (xs : List A) (x : A) → length (xs ++ x ∷ []) ≡ suc (length xs)
-length_behind [] x = refl
-length_behind (y ∷ xs) x = ap suc (length_behind xs x)
-
--- so many as may be, or one less with room for another
-pub last_behind_all : {A : Type 0} (most : ℕ) (xs : List A) (x : A) → 0 < most
-    → last_ones most (xs ++ x ∷ [])
-    ≡ (if nat_lt (length (last_ones most xs)) most then last_ones most xs else drop 1
-    (last_ones most xs)) ++ x ∷ []
-last_behind_all most xs x some =
-    ap (λ (n : ℕ). drop (n - most) (xs ++ x ∷ [])) (length_behind xs x)
-    ∙ elim (cases_Bool (nat_lt (length xs) most)) [
-      | inl p ↦
-          let few : length xs < most = grind (arith, nat_tests) in
-          let none : suc (length xs) - most ≡ 0 = omega (arith, few) in
-          let all : length xs - most ≡ 0 = omega (arith, few) in
-          let short : nat_lt (length (drop (length xs - most) xs)) most ≡ true =
-          ap (λ (n : ℕ). nat_lt (length (drop n xs)) most) all ∙ p in
-          ap (λ (n : ℕ). drop n (xs ++ x ∷ [])) none
-          ∙ sym (ap (λ (n : ℕ). drop n xs ++ x ∷ []) all)
-          ∙ sym (ap (λ (b : Bool). (if b then last_ones most xs else drop 1
-          (last_ones most xs)) ++ x ∷ []) short)
-      | inr p ↦
-          let many : most ≤ length xs = grind (arith, nat_tests) in
-          let next : suc (length xs) - most ≡ suc (length xs - most) = omega (arith, many) in
-          let fits : suc (length xs - most) ≤ length xs = omega (arith, many, some) in
-          let size : length (drop (length xs - most) xs) ≡ most =
-          length-drop (length xs - most) xs
-          ∙ (let back : length xs - (length xs - most) ≡ most = omega (arith, many) in back) in
-          let full : nat_lt (length (drop (length xs - most) xs)) most ≡ false =
-          ap (λ (n : ℕ). nat_lt n most) size ∙ not_less most in
-          ap (λ (n : ℕ). drop n (xs ++ x ∷ [])) next
-          ∙ drop_behind (suc (length xs - most)) xs x fits
-          ∙ sym (ap (λ (l : List _). l ++ x ∷ []) (drop_more (length xs - most) xs))
-          ∙ sym (ap (λ (b : Bool). (if b then last_ones most xs else drop 1
-          (last_ones most xs)) ++ x ∷ []) full)
-    ]
-  where
-    not_less : (n : ℕ) → nat_lt n n ≡ false
-    not_less n = grind (arith, nat_tests)
 
 -- ---- answers
 

@@ -1,5 +1,6 @@
 pub mod Noting
 pub mod Putting
+pub mod LastOnes
 pub mod Exchanging
 pub mod Marking
 pub mod MarkSteps

@@ -1,40 +1,139 @@
 -- What is marked of a document, with one step more.
-use Rattle.std.specs.Prelude.{ℤ, int_lt, option_map, unwrap_or, is_none, ◌&&◌, ◌||◌, not}
-use Rattle.std.specs.Prelude.{if◌then◌else◌}
-use Rattle.std.specs.List.{cons_option, filter_map, list_any}
+use Rattle.std.specs.Prelude.{ℤ, int_lt, option_map, is_none, ◌&&◌, ◌||◌, not, filter, length}
+use Rattle.std.specs.Prelude.{if◌then◌else◌, ◌+◌}
+use Rattle.std.specs.List.{cons_option, list_any}
 use Rattle.std.specs.Ordering.{int_eq}
+use Rattle.std.proofs.lemmas.List.{length-append}
+use Rattle.std.proofs.lemmas.List.Elements.{filter-append}
 use Rattle.std.proofs.lemmas.List.Folds.{list_any-append}
 use Rattle.std.proofs.lemmas.Int.{ints}
 use Rattle.std.proofs.Common.{◌≡◌, ℕ, Bool, true, false, List, [], ◌∷◌, ◌++◌, Option, Some, None}
 use Rattle.std.proofs.Common.{refl, sym, ap, ◌∙◌, append_assoc, append-nil, arith}
+use Rattle.lsp_docs.specs.State.{capped}
 use Rattle.lsp_docs.specs.Terms.{Terms}
+use Rattle.lsp_docs.proofs.Words.{capped-add}
 use Rattle.lsp_verdict.specs.Event.{Event}
 use Rattle.lsp_verdict.specs.LookBack.{each_of}
-use Rattle.lsp_verdict.specs.Offences.{last_or}
-use Rattle.lsp_verdict.proofs.LookBackLemmas.{each_of-snoc, cons_append}
-use Rattle.lsp_verdict.proofs.Offences.Steps.{last_behind}
-use Rattle.lsp_survey.specs.Marking.{Step, touches, closed, step_at, steps, brings, brought}
+use Rattle.lsp_verdict.proofs.LookBackLemmas.{each_of-snoc}
+use Rattle.lsp_survey.specs.LastOnes.{last_ones}
+use Rattle.lsp_survey.specs.Marking.{Step, touches, closed, step_at, steps, is_end, standing, sets}
+use Rattle.lsp_survey.specs.Marking.{rank_after, setter_at, setters, most_setters, recent}
+use Rattle.lsp_survey.specs.Marking.{with_room, next_rank}
 use Rattle.lsp_survey.specs.Marking.{ends_waiting, waiting_entry, waiting_for, last_shown}
 use Rattle.lsp_survey.specs.Marking.{finds, newer, newer_of, newest, agreed, marked, stepped}
+use Rattle.lsp_survey.specs.declared.notes.mark.Setter.{Setter}
 use Rattle.lsp_survey.specs.declared.notes.mark.Shown.{Shown}
+use Rattle.lsp_survey.specs.declared.notes.mark.Touch.{Touch}
 use Rattle.lsp_survey.specs.declared.notes.mark.Touch.TheVariants.{Reached, Compared, Awaited}
+use Rattle.lsp_survey.proofs.LastOnes.{last_behind_all}
 
--- ---- the last that is said
+-- ---- the messages that set versions
 
-pub filter_map-snoc : {A X : Type 0} (f : A → Option X) (xs : List A) (x : A)
-    → filter_map f (xs ++ x ∷ []) ≡ filter_map f xs ++ cons_option (f x) []
-filter_map-snoc f [] x = refl
-filter_map-snoc f (y ∷ xs) x =
-    ap (cons_option (f y)) (filter_map-snoc f xs x)
-    ∙ cons_append (f y) (filter_map f xs) (cons_option (f x) [])
+any-last : {A : Type 0} (p : A → Bool) (xs : List A) (x : A)
+    → list_any p (xs ++ x ∷ []) ≡ (list_any p xs || p x)
+any-last p xs x = list_any-append p xs (x ∷ []) ∙ by_tests (list_any p xs) (p x)
+  where
+    by_tests : (a b : Bool) → (a || (b || false)) ≡ (a || b)
+    by_tests true b = refl
+    by_tests false true = refl
+    by_tests false false = refl
 
--- ---- one step more
+or_none : (b : Bool) → (b || false) ≡ b
+or_none true = refl
+or_none false = refl
 
-pub brought-push : (done : List Step) (step : Step)
-    → brought (done ++ step ∷ []) ≡ unwrap_or (brings step) (brought done)
-brought-push done step =
-    ap (last_or None) (filter_map-snoc brings done step)
-    ∙ last_behind None (filter_map brings done) (brings step)
+or_all : (b : Bool) → (b || true) ≡ true
+or_all true = refl
+or_all false = refl
+
+-- closed, nothing stands
+standing-closed : (done : List Step) → standing (done ++ closed ∷ []) ≡ []
+standing-closed [] = refl
+standing-closed (s ∷ done) =
+    ap cut (any-last is_end (s ∷ done) closed ∙ or_all (list_any is_end (s ∷ done)))
+    ∙ standing-closed done
+  where
+    cut : Bool → List Step
+    cut b = if b then standing (done ++ closed ∷ []) else s ∷ (done ++ closed ∷ [])
+
+standing-touch : (done : List Step) (touch : Touch) (n : ℕ) (own : ℤ)
+    → standing (done ++ touches touch n own ∷ []) ≡ standing done ++ touches touch n own ∷ []
+standing-touch [] touch n own = refl
+standing-touch (s ∷ done) touch n own =
+    ap cut (any-last is_end (s ∷ done) (touches touch n own)
+    ∙ or_none (list_any is_end (s ∷ done)))
+    ∙ ap (λ (l : List Step). if list_any is_end (s ∷ done) then l else s ∷ (done ++ touches touch n
+    own ∷ [])) (standing-touch done touch n own)
+    ∙ by_cut (list_any is_end (s ∷ done))
+  where
+    cut : Bool → List Step
+    cut b =
+        if b then standing (done ++ touches touch n own ∷ []) else s ∷ (done ++ touches touch n
+        own ∷ [])
+
+    by_cut : (b : Bool)
+        → (if b then standing done ++ touches touch n own ∷ [] else s ∷ (done ++ touches touch n
+        own ∷ []))
+        ≡ (if b then standing done else s ∷ done) ++ touches touch n own ∷ []
+    by_cut true = refl
+    by_cut false = refl
+
+-- those that an opening had, with one step more
+setters_with : (done : List Step) (touch : Touch) (n : ℕ) (own : ℤ)
+    → setters (done ++ touches touch n own ∷ [])
+    ≡ setters done ++ cons_option (setter_at (standing done) (touches touch n own)) []
+setters_with done touch n own =
+    ap (each_of setter_at) (standing-touch done touch n own)
+    ∙ each_of-snoc setter_at (standing done) (touches touch n own)
+
+recent-kept : (done : List Step) (touch : Touch) (n : ℕ) (own : ℤ)
+    → setter_at (standing done) (touches touch n own) ≡ None
+    → recent (done ++ touches touch n own ∷ []) ≡ recent done
+recent-kept done touch n own none =
+    ap (last_ones most_setters) (setters_with done touch n own
+    ∙ ap (λ (o : Option Setter). setters done ++ cons_option o []) none
+    ∙ append-nil (setters done))
+
+-- how many there are
+count-more : (xs : List Step) (n : ℕ) (own : ℤ)
+    → length (filter sets (xs ++ touches Reached n own ∷ [])) ≡ length (filter sets xs) + 1
+count-more xs n own =
+    ap length (filter-append sets xs (touches Reached n own ∷ []))
+    ∙ length-append (filter sets xs) (touches Reached n own ∷ [])
+
+rank-more : (xs : List Step) (n : ℕ) (own : ℤ)
+    → rank_after (xs ++ touches Reached n own ∷ []) ≡ next_rank (rank_after xs)
+rank-more xs n own =
+    ap capped (count-more xs n own) ∙ sym (capped-add (length (filter sets xs)) 1)
+
+rank-same : (done : List Step) (touch : Touch) (n : ℕ) (own : ℤ)
+    → sets (touches touch n own) ≡ false
+    → rank_after (standing (done ++ touches touch n own ∷ [])) ≡ rank_after (standing done)
+rank-same done touch n own none =
+    ap rank_after (standing-touch done touch n own)
+    ∙ ap (λ (l : List Step). capped (length l))
+    (filter-append sets (standing done) (touches touch n own ∷ [])
+    ∙ ap (λ (b : Bool). filter sets (standing done) ++ (if b then touches touch n own ∷ [] else []))
+    none
+    ∙ append-nil (filter sets (standing done)))
+
+-- one more sets a version
+recent-more : (done : List Step) (n : ℕ) (own : ℤ)
+    → recent (done ++ touches Reached n own ∷ [])
+    ≡ with_room (recent done) ++ record {
+      event = n;
+      version = own;
+      rank = next_rank
+          (rank_after (standing done));
+    } ∷ []
+recent-more done n own =
+    ap (last_ones most_setters) (setters_with done Reached n own)
+    ∙ last_behind_all most_setters (setters done) _ (omega arith)
+    ∙ ap (λ (r : ℕ). with_room (recent done) ++ record {
+      event = n;
+      version = own;
+      rank = r;
+    } ∷ []) (rank-more (standing done) n own)
 
 -- ---- the equal snapshot of the greatest version
 
@@ -58,15 +157,6 @@ newer_of-assoc : (a b : Option Shown) (c : Shown)
 newer_of-assoc None b c = refl
 newer_of-assoc (Some a) None c = refl
 newer_of-assoc (Some a) (Some b) c = ap (λ (s : Shown). Some s) (newer-assoc a b c)
-
-any-last : {A : Type 0} (p : A → Bool) (xs : List A) (x : A)
-    → list_any p (xs ++ x ∷ []) ≡ (list_any p xs || p x)
-any-last p xs x = list_any-append p xs (x ∷ []) ∙ by_tests (list_any p xs) (p x)
-  where
-    by_tests : (a b : Bool) → (a || (b || false)) ≡ (a || b)
-    by_tests true b = refl
-    by_tests false true = refl
-    by_tests false false = refl
 
 -- nothing is left
 newest-none : (xs : List (Option Shown)) → newest (xs ++ None ∷ []) ≡ None
@@ -198,27 +288,36 @@ waits_above own number waiting = by_test (int_lt own number)
 pub marked-push : (done : List Step) (step : Step)
     → marked (done ++ step ∷ []) ≡ stepped step (marked done)
 marked-push done (touches Reached n own) = λ i. record {
-  brought = brought-push done (touches Reached n own) i;
+  setters = recent-more done n own i;
+  rank =
+      (ap rank_after (standing-touch done Reached n own) ∙ rank-more (standing done) n own) i;
   agreed =
       (agreed-push done (touches Reached n own)
-      ∙ reached_with (last_shown own (waiting_for own done)) (agreed done)) i;
+      ∙ reached_with (last_shown own (rank_after (standing done ++ touches Reached n own ∷ []))
+      (waiting_for own done)) (agreed done)
+      ∙ ap (λ (r : ℕ). newer_of (agreed done) (last_shown own r (waiting_for own done)))
+      (rank-more (standing done) n own)) i;
   waiting = λ number.
       (waiting_for-push number done (touches Reached n own)
       ∙ waits_above own number (waiting_for number done)) i;
 }
 marked-push done (touches Compared n own) = λ i. record {
-  brought = brought-push done (touches Compared n own) i;
+  setters = recent-kept done Compared n own refl i;
+  rank = rank-same done Compared n own refl i;
   agreed = agreed-push done (touches Compared n own) i;
   waiting = λ number. (waiting_for-push number done (touches Compared n own)
       ∙ append-nil (waiting_for number done)) i;
 }
 marked-push done (touches Awaited n own) = λ i. record {
-  brought = brought-push done (touches Awaited n own) i;
+  setters = recent-kept done Awaited n own refl i;
+  rank = rank-same done Awaited n own refl i;
   agreed = agreed-push done (touches Awaited n own) i;
   waiting = λ number. waiting_for-push number done (touches Awaited n own) i;
 }
 marked-push done closed = λ i. record {
-  brought = brought-push done closed i;
+  setters = ap (λ (l : List Step). last_ones most_setters (each_of setter_at l))
+      (standing-closed done) i;
+  rank = ap rank_after (standing-closed done) i;
   agreed = agreed-push done closed i;
   waiting = λ number. waiting_for-push number done closed i;
 }

@@ -1,8 +1,10 @@
 -- Marks and notes, worked on short lists.
-use Rattle.std.proofs.Common.{◌≡◌, pos, List, [], ◌∷◌, ◌++◌, Some, None, refl}
+use Rattle.std.proofs.Common.{◌≡◌, ℕ, ℤ, pos, List, [], ◌∷◌, ◌++◌, Some, None, refl}
 use Rattle.lsp_rpc.specs.Ident.{number}
-use Rattle.lsp_survey.specs.Asking.{Reply, last_ones, last_reply, replied}
-use Rattle.lsp_survey.specs.Marking.{Step, touches, closed, agreed, brought, waiting_for}
+use Rattle.lsp_survey.specs.Asking.{Reply, last_reply, replied}
+use Rattle.lsp_survey.specs.LastOnes.{last_ones}
+use Rattle.lsp_survey.specs.Marking.{Step, touches, closed, agreed, recent, shown_at, waiting_for}
+use Rattle.lsp_survey.specs.declared.notes.mark.Setter.{Setter}
 use Rattle.lsp_survey.specs.declared.notes.mark.Touch.TheVariants.{Reached, Compared, Awaited}
 
 -- two snapshots wait for version 5, one of them since before the opening
@@ -16,8 +18,12 @@ both_wait = refl
 none_waits : waiting_for (pos 3) opening ≡ []
 none_waits = refl
 
-brought_by_five : brought opening ≡ Some 5
-brought_by_five = refl
+-- the message of this event set this version, which has this rank
+abbrev set_by : ℕ → ℤ → ℕ → Setter
+set_by n own rank = record { event = n; version = own; rank = rank }
+
+set_by_two : recent opening ≡ set_by 3 (pos 1) 1 ∷ set_by 5 (pos 3) 2 ∷ []
+set_by_two = refl
 
 none_agreed : agreed opening ≡ None
 none_agreed = refl
@@ -29,33 +35,28 @@ reached = opening ++ touches Reached 6 (pos 5) ∷ []
 none_waits_on : waiting_for (pos 5) reached ≡ []
 none_waits_on = refl
 
-brought_by_six : brought reached ≡ Some 6
-brought_by_six = refl
+set_by_three : recent reached
+    ≡ set_by 3 (pos 1) 1 ∷ set_by 5 (pos 3) 2 ∷ set_by 6 (pos 5) 3 ∷ []
+set_by_three = refl
 
-the_later_agreed : agreed reached ≡ Some (record { event = 4; version = pos 5 })
+the_later_agreed : agreed reached ≡ Some (shown_at (pos 5) 3 4)
 the_later_agreed = refl
 
 -- a further change leaves what agreed, a snapshot that is compared takes its place
-left : agreed (reached ++ touches Reached 7 (pos 6) ∷ []) ≡ Some (record {
-  event = 4;
-  version = pos 5;
-})
+left : agreed (reached ++ touches Reached 7 (pos 6) ∷ []) ≡ Some (shown_at (pos 5) 3 4)
 left = refl
 
 compared : agreed (reached ++ touches Reached 7 (pos 6) ∷ touches Compared 8 (pos 6) ∷ [])
-    ≡ Some (record { event = 8; version = pos 6 })
+    ≡ Some (shown_at (pos 6) 4 8)
 compared = refl
 
 -- a late snapshot of a version below the greatest one that was found equal leaves that one
 late : agreed (reached ++ touches Reached 7 (pos 6) ∷ touches Compared 8 (pos 3) ∷ [])
-    ≡ Some (record { event = 4; version = pos 5 })
+    ≡ Some (shown_at (pos 5) 3 4)
 late = refl
 
 -- of two of one version the later counts
-twice : agreed (reached ++ touches Compared 7 (pos 5) ∷ []) ≡ Some (record {
-  event = 7;
-  version = pos 5;
-})
+twice : agreed (reached ++ touches Compared 7 (pos 5) ∷ []) ≡ Some (shown_at (pos 5) 3 7)
 twice = refl
 
 -- passed over, they wait no more
@@ -63,8 +64,12 @@ passed_over : waiting_for (pos 5) (opening ++ touches Reached 6 (pos 7) ∷ []) 
 passed_over = refl
 
 -- closed, nothing is left; opened again, no snapshot of before agrees
-closed_brought : brought (reached ++ closed ∷ []) ≡ None
-closed_brought = refl
+none_set : recent (reached ++ closed ∷ []) ≡ []
+none_set = refl
+
+-- the versions of the next opening count from 1
+set_anew : recent (reached ++ closed ∷ touches Reached 9 (pos 5) ∷ []) ≡ set_by 9 (pos 5) 1 ∷ []
+set_anew = refl
 
 again : agreed (reached ++ closed ∷ touches Reached 9 (pos 5) ∷ []) ≡ None
 again = refl

@@ -15,18 +15,25 @@ use Rattle.lsp_verdict.specs.Event.{Event, message, sent_in, sent_of}
 use Rattle.lsp_verdict.specs.LookBack.{each_from, each_of}
 use Rattle.lsp_verdict.specs.OffenceLaws.{kept_at}
 use Rattle.lsp_verdict.specs.Offences.{kept_of, last_or, rule_at}
-use Rattle.lsp_verdict.proofs.LookBackLemmas.{each_of-snoc}
+use Rattle.lsp_verdict.proofs.LookBackLemmas.{each_of-snoc, cons_append}
 use Rattle.lsp_verdict.proofs.Offences.Offending.{kept_are_others}
 use Rattle.lsp_verdict.proofs.Offences.Steps.{last_behind}
 use Rattle.lsp_survey.specs.Asking.{Numbered, Reply, numbered_as, numbered_by, numbered_at}
 use Rattle.lsp_survey.specs.Asking.{numbered, sents, asks, asks_by, replied, reply_by, replies}
-use Rattle.lsp_survey.specs.Asking.{most_replies, last_ones, leads, leads_by}
+use Rattle.lsp_survey.specs.Asking.{most_replies, leads, leads_by}
+use Rattle.lsp_survey.specs.LastOnes.{last_ones}
 use Rattle.lsp_survey.specs.Marking.{number_next}
 use Rattle.lsp_survey.specs.SessionNoting.{asked_in, Exchanges, IsExchange, SaysOn, SessionStands}
 use Rattle.lsp_survey.specs.SessionNoting.{AreNotes}
 use Rattle.lsp_survey.specs.declared.notes.exchange.Exchange.{Exchange}
 use Rattle.lsp_survey.specs.declared.notes.session_notes.SessionNotes.{SessionNotes}
-use Rattle.lsp_survey.proofs.Marking.{filter_map-snoc}
+
+filter_map-snoc : {A X : Type 0} (f : A → Option X) (xs : List A) (x : A)
+    → filter_map f (xs ++ x ∷ []) ≡ filter_map f xs ++ cons_option (f x) []
+filter_map-snoc f [] x = refl
+filter_map-snoc f (y ∷ xs) x =
+    ap (cons_option (f y)) (filter_map-snoc f xs x)
+    ∙ cons_append (f y) (filter_map f xs) (cons_option (f x) [])
 
 -- ---- the kept messages
 

@@ -1,5 +1,5 @@
 -- By which events requests were asked and answered, and which event led to the phase of a session.
-use Rattle.std.specs.Prelude.{ℕ, ◌-◌, List, [], ◌∷◌, ◌++◌, map, drop, length, Bool, ◌==◌}
+use Rattle.std.specs.Prelude.{ℕ, List, [], ◌∷◌, ◌++◌, map, Bool, ◌==◌}
 use Rattle.std.specs.Prelude.{if◌then◌else◌, Option, Some, None, option_map}
 use Rattle.std.specs.List.{filter_map}
 use Rattle.lsp_docs.specs.Terms.{Terms}
@@ -15,6 +15,7 @@ use Rattle.lsp_types.specs.declared.side.Side.{Side}
 use Rattle.lsp_verdict.specs.Event.{Event, sent_of}
 use Rattle.lsp_verdict.specs.LookBack.{each_of}
 use Rattle.lsp_verdict.specs.Offences.{last_or, rule_at}
+use Rattle.lsp_survey.specs.LastOnes.{last_ones}
 use Rattle.lsp_survey.specs.Marking.{number_next}
 
 -- ---- the kept messages
@@ -84,9 +85,6 @@ replies side said = filter_map (reply_by side) said
 -- how many of them are looked at
 abbrev pub most_replies : ℕ
 most_replies = 1024
-
-abbrev pub last_ones : {A : Type 0} → ℕ → List A → List A
-last_ones n xs = drop (length xs - n) xs
 
 abbrev pub reply_to : Ident → Reply → Option (Option ℕ)
 reply_to id reply = if same_id id reply.id then Some (Some reply.number) else None

@@ -1,9 +1,10 @@
--- Which events left a document as it is: the one that brought its version, the equal snapshot of
+-- Which events left a document as it is: the messages that set its versions, the equal snapshot of
 -- the greatest version, and the snapshots that wait.
-use Rattle.std.specs.Prelude.{ℕ, ℤ, int_lt, ◌+◌, ◌-◌, List, [], ◌∷◌, ◌++◌, length, slice_get, Bool}
+use Rattle.std.specs.Prelude.{ℕ, ℤ, int_lt, nat_lt, ◌+◌, ◌-◌, List, [], ◌∷◌, ◌++◌, length}
+use Rattle.std.specs.Prelude.{drop, filter, slice_get, Bool}
 use Rattle.std.specs.Prelude.{true, false, ◌&&◌, not, if◌then◌else◌, Option, Some, None, option_map}
 use Rattle.std.specs.Prelude.{option_and_then, is_none}
-use Rattle.std.specs.List.{filter_map, list_any}
+use Rattle.std.specs.List.{find, list_any}
 use Rattle.std.specs.Ordering.{int_eq}
 use Rattle.std.specs.Str.{bytes_eq}
 use Rattle.lsp_docs.specs.Answer.{answer_of}
@@ -17,7 +18,9 @@ use Rattle.lsp_docs.specs.declared.snapshot.Match.TheVariants.{Equal, Waits, Mis
 use Rattle.lsp_verdict.specs.Calls.{calls}
 use Rattle.lsp_verdict.specs.Event.{Event}
 use Rattle.lsp_verdict.specs.LookBack.{each_of}
-use Rattle.lsp_verdict.specs.Offences.{kept_of, last_or, rule_at, said_at}
+use Rattle.lsp_verdict.specs.Offences.{kept_of, rule_at, said_at}
+use Rattle.lsp_survey.specs.LastOnes.{last_ones}
+use Rattle.lsp_survey.specs.declared.notes.mark.Setter.{Setter}
 use Rattle.lsp_survey.specs.declared.notes.mark.Shown.{Shown}
 use Rattle.lsp_survey.specs.declared.notes.mark.Touch.{Touch}
 use Rattle.lsp_survey.specs.declared.notes.mark.Touch.TheVariants.{Reached, Compared, Awaited}
@@ -64,17 +67,72 @@ step_at terms uri before event =
 abbrev pub steps : Terms → List ℕ → List Event → List Step
 steps terms uri events = each_of (step_at terms uri) events
 
--- ---- the event that brought the version
+-- ---- the messages that set its versions
 
-abbrev pub brings : Step → Option (Option ℕ)
-brings (touches Reached n number) = Some (Some n)
-brings (touches Compared n number) = None
-brings (touches Awaited n number) = None
-brings closed = Some None
+abbrev pub is_end : Step → Bool
+is_end (touches touch n number) = false
+is_end closed = true
 
--- **the event that brought the held version**, where the document is open
-abbrev pub brought : List Step → Option ℕ
-brought done = last_or None (filter_map brings done)
+-- the steps of the standing opening
+abbrev pub standing : List Step → List Step
+standing [] = []
+standing (step ∷ later) =
+    if list_any is_end (step ∷ later) then standing later else step ∷ later
+
+-- the step sets a version
+abbrev pub sets : Step → Bool
+sets (touches Reached n number) = true
+sets (touches Compared n number) = false
+sets (touches Awaited n number) = false
+sets closed = false
+
+-- how many versions an opening of these steps had, as far as 64 bits count them
+abbrev pub rank_after : List Step → ℕ
+rank_after opening = capped (length (filter sets opening))
+
+-- the message that a step is which sets a version, after these of its opening
+abbrev pub setter_at : List Step → Step → Option Setter
+setter_at opening (touches Reached n number) =
+    Some (record {
+      event = n;
+      version = number;
+      rank = rank_after
+          (opening ++ touches Reached n number ∷ []);
+    })
+setter_at opening (touches Compared n number) = None
+setter_at opening (touches Awaited n number) = None
+setter_at opening closed = None
+
+-- **the messages that set the versions of the standing opening**, in order
+abbrev pub setters : List Step → List Setter
+setters done = each_of setter_at (standing done)
+
+-- how many of the last ones are looked at: the one of the held version, and those of as many
+-- versions before it as are ever kept
+abbrev pub most_setters : ℕ
+most_setters = 17
+
+abbrev pub recent : List Step → List Setter
+recent done = last_ones most_setters (setters done)
+
+abbrev pub is_set_to : ℤ → Setter → Bool
+is_set_to number setter = int_eq setter.version number
+
+abbrev pub rank_by : ℕ → Option Setter → ℕ
+rank_by rank None = rank
+rank_by rank (Some setter) = setter.rank
+
+-- which version of its opening this is by one of these messages; 0 where none of them set it
+abbrev pub rank_of : ℤ → List Setter → ℕ
+rank_of number done = rank_by 0 (find (is_set_to number) done)
+
+-- the last of these messages
+abbrev pub last_setter : List Setter → Option Setter
+last_setter done = slice_get done (length done - 1)
+
+-- the rank of the version that the last of these messages set, or this one where there is none
+abbrev pub rank_or : ℕ → List Setter → ℕ
+rank_or rank done = rank_by rank (last_setter done)
 
 -- ---- the snapshots that wait
 
@@ -99,17 +157,24 @@ waiting_for number (step ∷ later) = waiting_entry number step later ++ waiting
 
 -- ---- the equal snapshot of the greatest version
 
+-- the snapshot of this event, of the version of this rank
+abbrev pub shown_at : ℤ → ℕ → ℕ → Shown
+shown_at number rank n = record { event = n; version = number; rank = rank }
+
 -- the last of these snapshots of this version
-abbrev pub last_shown : ℤ → List ℕ → Option Shown
-last_shown number events =
-    option_map (λ n. record { event = n; version = number }) (slice_get events (length events - 1))
+abbrev pub last_shown : ℤ → ℕ → List ℕ → Option Shown
+last_shown number rank events =
+    option_map (shown_at number rank) (slice_get events (length events - 1))
 
 -- the snapshot that a step finds equal, after these: one of a version that is held or kept, or the
 -- last of those that waited for the version to which the document comes; closed, it has none
 abbrev pub finds : List Step → Step → Option (Option Shown)
 finds before (touches Reached n number) =
-    option_map (λ shown. Some shown) (last_shown number (waiting_for number before))
-finds before (touches Compared n number) = Some (Some (record { event = n; version = number }))
+    option_map (λ shown. Some shown)
+    (last_shown number (rank_after (standing before ++ touches Reached n number ∷ []))
+    (waiting_for number before))
+finds before (touches Compared n number) =
+    Some (Some (shown_at number (rank_of number (recent before)) n))
 finds before (touches Awaited n number) = None
 finds before closed = Some None
 
@@ -136,38 +201,54 @@ agreed done = newest (each_of finds done)
 
 -- what is marked of a document
 pub record Marked : Type 0 where
-  pub brought : Option ℕ
+  pub setters : List Setter
+  pub rank : ℕ
   pub agreed : Option Shown
   pub waiting : ℤ → List ℕ
 
 abbrev pub marked : List Step → Marked
 marked done = record {
-  brought = brought done;
+  setters = recent done;
+  rank = rank_after (standing done);
   agreed = agreed done;
   waiting = λ number. waiting_for number done;
 }
 
 abbrev pub unmarked : Marked
-unmarked = record { brought = None; agreed = None; waiting = λ number. [] }
+unmarked = record { setters = []; rank = 0; agreed = None; waiting = λ number. [] }
 
 -- those of a greater version than this wait on
 abbrev pub above : ℤ → (ℤ → List ℕ) → ℤ → List ℕ
 above own waiting number = if int_lt own number then waiting number else []
 
+-- all but the first, where there is no room for one more
+abbrev pub with_room : List Setter → List Setter
+with_room done = if nat_lt (length done) most_setters then done else drop 1 done
+
+abbrev pub next_rank : ℕ → ℕ
+next_rank rank = capped (rank + 1)
+
 -- one more step
 abbrev pub stepped : Step → Marked → Marked
 stepped (touches Reached n own) m = record {
-  brought = Some n;
-  agreed = newer_of m.agreed (last_shown own (m.waiting own));
+  setters = with_room m.setters ++ record {
+    event = n;
+    version = own;
+    rank = next_rank m.rank;
+  } ∷ [];
+  rank = next_rank m.rank;
+  agreed = newer_of m.agreed (last_shown own (next_rank m.rank) (m.waiting own));
   waiting = above own m.waiting;
 }
 stepped (touches Compared n own) m = record {
-  brought = m.brought;
-  agreed = newer_of m.agreed (Some (record { event = n; version = own }));
+  setters = m.setters;
+  rank = m.rank;
+  agreed = newer_of m.agreed (Some (shown_at own (rank_of own m.setters) n));
   waiting = m.waiting;
 }
 stepped (touches Awaited n own) m = record {
-  brought = m.brought;
+  setters = m.setters;
+  rank = m.rank;
   agreed = m.agreed;
   waiting = λ number. m.waiting number ++ (if int_eq own number then n ∷ [] else []);
 }

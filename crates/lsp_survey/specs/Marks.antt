@@ -27,7 +27,8 @@ waiting_in es number = events_in (lookup (int_eq number) es)
 
 abbrev pub mark_view : Mark → Marked
 mark_view m = record {
-  brought = m.brought;
+  setters = m.setters.items;
+  rank = m.rank;
   agreed = m.agreed;
   waiting = waiting_in m.waiting.entries;
 }

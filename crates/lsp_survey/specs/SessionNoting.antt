@@ -13,7 +13,8 @@ use Rattle.lsp_types.specs.declared.side.Side.{Side}
 use Rattle.lsp_types.specs.declared.side.Side.TheVariants.{Editor, Server}
 use Rattle.lsp_verdict.specs.Event.{Event}
 use Rattle.lsp_survey.specs.Asking.{Numbered, Reply, asks, asked, replies, replied, most_replies}
-use Rattle.lsp_survey.specs.Asking.{last_ones, leads, numbered, sents, since}
+use Rattle.lsp_survey.specs.Asking.{leads, numbered, sents, since}
+use Rattle.lsp_survey.specs.LastOnes.{last_ones}
 use Rattle.lsp_survey.specs.declared.notes.exchange.Exchange.{Exchange}
 use Rattle.lsp_survey.specs.declared.notes.exchange.Given.{Given}
 use Rattle.lsp_survey.specs.declared.notes.session_notes.SessionNotes.{SessionNotes}

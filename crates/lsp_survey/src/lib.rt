@@ -5,8 +5,8 @@
 //! earlier one that left a document, or the handshake, apart on the two sides; what is an offence,
 //! and what follows, is defined in `lsp_verdict`.
 //!
-//! What is noted of the events on the way, as which one brought a version of a document, is in
-//! `notes`: [`Marks`], [`Shown`] and [`SessionNotes`] lend it to who explains an offence.
+//! What is noted of the events on the way, as which one set a version of a document, is in `notes`:
+//! [`Marks`], [`Setter`], [`Shown`] and [`SessionNotes`] lend it to who explains an offence.
 #![tactic(auto)]
 
 mod notes;
@@ -18,7 +18,7 @@ mod tally;
 mod walk;
 
 pub use lsp_verdict::Listing;
-pub use notes::{Marks, SessionNotes, Shown};
+pub use notes::{Marks, SessionNotes, Setter, Shown};
 pub use offending::{Found, Heard, Offending};
 pub use run::run_survey;
 pub use survey_reader::{End, Next, SurveyReader};

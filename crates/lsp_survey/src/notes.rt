@@ -17,7 +17,7 @@ mod said;
 mod session_notes;
 
 pub(crate) use asks::{asks_again, asks_handshake};
-pub use mark::Shown;
+pub use mark::{Setter, Shown};
 pub use marks::Marks;
 pub(crate) use note::{Note, Notes};
 pub(crate) use rules::{breaks_handshake, wants_handshake, wants_text};

@@ -10,6 +10,7 @@ use Rattle.json.specs.Text.{content}
 use Rattle.json.specs.Word.{word, after_number}
 use Rattle.json.specs.Print.{escape_byte}
 use Rattle.serde_json.specs.Read.{number_of}
+use Rattle.lsp_docs.specs.Terms.{Terms}
 use Rattle.lsp_survey.specs.Asking.{numbered}
 use Rattle.lsp_verdict.specs.Event.{Event}
 use Rattle.lsp_verdict.proofs.Worked.Templates.{terms, I1, N1, START, OPEN, CHG, FULL, CLOSE, REQ}
@@ -78,6 +79,7 @@ snapshot_differs : with_events 702
     (START ++ OPEN (codes "1") (codes "ab") ∷ T 1 (codes "ab") ∷ CHG (codes "2")
     (FULL (codes "abc")) ∷ []) (T 2 (codes "abd")) (of_uri [] ∷ holds (pos 2) ∷ shows_version (pos 2) ∷ [])
     ≡ codes "uri \"\"\nheld 2 event 6\nversion 2\nsnapshot event 7\nequal 1 event 5\n"
+    ++ codes "suspects 1\nsuspect 2 event 6\n"
 unfolding value punctuate lex content word after_number number_of scan_numeral chars digits
     escape_byte
 snapshot_differs = refl
@@ -87,6 +89,21 @@ opened_again : with_events 702
     (START ++ OPEN (codes "1") (codes "ab") ∷ T 1 (codes "ab") ∷ CLOSE ∷ OPEN (codes "1")
     (codes "ab") ∷ []) (T 1 (codes "ac")) (of_uri [] ∷ holds (pos 1) ∷ shows_version (pos 1) ∷ [])
     ≡ codes "uri \"\"\nheld 1 event 7\nversion 1\nsnapshot event 8\n"
+    ++ codes "suspects 1\nsuspect 1 event 7\n"
 unfolding value punctuate lex content word after_number number_of scan_numeral chars digits
     escape_byte
 opened_again = refl
+
+-- a late snapshot clears the versions up to its own, and one that differs ends with its own
+abbrev keeping : Terms
+keeping = record { limit = 16777216; kept = 16 }
+
+late_suspect : fact_lines (traced keeping
+    (START ++ OPEN (codes "1") (codes "ab") ∷ CHG (codes "2") (FULL (codes "ax")) ∷ CHG (codes "3")
+    (FULL (codes "axy")) ∷ T 1 (codes "ab") ∷ []) (T 2 (codes "ay")) 702
+    (of_uri [] ∷ holds (pos 3) ∷ shows_version (pos 2) ∷ []))
+    ≡ codes "uri \"\"\nheld 3 event 6\nversion 2\nsnapshot event 8\nequal 1 event 7\n"
+    ++ codes "suspects 1\nsuspect 2 event 5\n"
+unfolding value punctuate lex content word after_number number_of scan_numeral chars digits
+    escape_byte
+late_suspect = refl

@@ -1,7 +1,7 @@
 -- What is said of calls that break a rule on documents, one of each.
 use Rattle.std.proofs.Common.{◌<◌, ℕ, Bool, false, List, [], ◌∷◌, ◌++◌, Option, Some, None, refl, ap, inl, inr, arith, true≢false}
 use Rattle.std.specs.Prelude.{◌==◌, codes, pos}
-use Rattle.lsp_types.specs.declared.position.Encoding.TheVariants.{Utf8, Utf16}
+use Rattle.lsp_types.specs.declared.position.Encoding.TheVariants.{Utf8, Utf16, Utf32}
 use Rattle.lsp_types.specs.declared.position.Position.{Position}
 use Rattle.lsp_types.specs.declared.position.Span.{Span}
 use Rattle.lsp_types.specs.declared.change.SyncKind.TheVariants.{Nothing, Full, Incremental}
@@ -9,8 +9,13 @@ use Rattle.lsp_text.specs.Edits.{Edit}
 use Rattle.lsp_docs.specs.Texts.{Text}
 use Rattle.lsp_docs.specs.Terms.{Terms}
 use Rattle.lsp_docs.specs.Calls.{Call, opens, changes, closes, saves, shows}
-use Rattle.lsp_facts.specs.Fact.{of_uri, holds, sends, shows_version, has_changes, has_kind, counts_in, fails, line_has, falls_inside, would_have, may_have, differs_at, by_messages, in_editor, saved_line, keeps}
+use Rattle.lsp_facts.specs.Fact.{of_uri, holds, sends, shows_version, has_changes, has_kind, counts_in, fails, line_has, falls_inside, fits_in, would_have, may_have, differs_at, by_messages, in_editor, saved_line, keeps}
+use Rattle.lsp_facts.specs.Part.{Part}
 use Rattle.lsp_facts.specs.DocumentFacts.{AreDocumentFacts}
+
+-- a line that is shown whole
+abbrev whole : List ℕ → Part
+whole line = record { before = 0; text = line; after = 0 }
 
 abbrev A : List ℕ
 A = codes "a"
@@ -69,7 +74,7 @@ none_under_none = record { details = _; says = inr (inl (refl, refl)); are = ref
 -- 605: the second position lies inside the smile; the line has four units of UTF-16
 inside_a_smile :
     AreDocumentFacts terms Utf16 opened (changes Utf16 Incremental A (pos 2) (edit (between (at 0 0) (at 0 1)) [] ∷ edit (between (at 0 9) (at 1 2)) (codes "z") ∷ [])) 605
-    (of_uri A ∷ holds (pos 1) ∷ sends (pos 2) ∷ has_changes 2 ∷ counts_in Utf16 ∷ fails 2 (between (at 0 9) (at 1 2)) ∷ line_has 4 ∷ falls_inside (128512 ∷ []) ∷ [])
+    (of_uri A ∷ holds (pos 1) ∷ sends (pos 2) ∷ has_changes 2 ∷ counts_in Utf16 ∷ fails 2 (between (at 0 9) (at 1 2)) ∷ line_has 4 ∷ falls_inside (128512 ∷ []) ∷ fits_in (Utf32 ∷ []) ∷ [])
 inside_a_smile =
     record {
       details = _;
@@ -154,7 +159,7 @@ too_long_to_change =
 -- 608: the saved text lacks a character of the second line
 saved_other :
     AreDocumentFacts terms Utf16 opened (saves A (Some (codes "ab\nxy\n"))) 608
-    (of_uri A ∷ holds (pos 1) ∷ counts_in Utf16 ∷ differs_at (at 1 1) ∷ by_messages (120 ∷ 128512 ∷ codes "y\n") ∷ saved_line (codes "xy\n") ∷ [])
+    (of_uri A ∷ holds (pos 1) ∷ counts_in Utf16 ∷ differs_at (at 1 1) ∷ by_messages (whole (120 ∷ 128512 ∷ codes "y\n")) ∷ saved_line (whole (codes "xy\n")) ∷ [])
 saved_other =
     record { details = _; says = (refl, (4, record { before = refl; here = λ e. true≢false (ap (is_char 128512) e) }, refl)); are = refl }
 
@@ -170,7 +175,7 @@ late = record { details = _; says = inl (refl, refl); are = refl }
 -- 702: the text of a kept version is another
 kept_differs :
     AreDocumentFacts terms Utf16 edited (shows A (pos 5) (codes "p")) 702
-    (of_uri A ∷ holds (pos 6) ∷ shows_version (pos 5) ∷ counts_in Utf16 ∷ differs_at (at 0 0) ∷ by_messages (codes "q") ∷ in_editor (codes "p") ∷ [])
+    (of_uri A ∷ holds (pos 6) ∷ shows_version (pos 5) ∷ counts_in Utf16 ∷ differs_at (at 0 0) ∷ by_messages (whole (codes "q")) ∷ in_editor (whole (codes "p")) ∷ [])
 kept_differs =
     record {
       details = _;
@@ -181,7 +186,7 @@ kept_differs =
 -- a snapshot that waits refutes the text of an opening
 refuted :
     AreDocumentFacts terms Utf16 (shows A (pos 4) (codes "new") ∷ []) (opens A (pos 4) (codes "now")) 702
-    (of_uri A ∷ sends (pos 4) ∷ counts_in Utf16 ∷ differs_at (at 0 1) ∷ by_messages (codes "now") ∷ in_editor (codes "new") ∷ [])
+    (of_uri A ∷ sends (pos 4) ∷ counts_in Utf16 ∷ differs_at (at 0 1) ∷ by_messages (whole (codes "now")) ∷ in_editor (whole (codes "new")) ∷ [])
 refuted =
     record {
       details = _;

@@ -21,11 +21,17 @@ use Rattle.lsp_verdict.specs.declared.verdict.Who.TheVariants as who
 use Rattle.lsp_verdict.specs.Placed as placed
 use Rattle.lsp_verdict.specs.Placed.{broken, show}
 use Rattle.lsp_facts.specs.Fact.{of_uri, holds, holds_by, sends, shows_version, has_changes}
-use Rattle.lsp_facts.specs.Fact.{has_kind, counts_in, fails, line_has, falls_inside, would_have}
+use Rattle.lsp_facts.specs.Fact.{has_kind, counts_in, fails, line_has, falls_inside, fits_in}
+use Rattle.lsp_facts.specs.Fact.{would_have}
 use Rattle.lsp_facts.specs.Fact.{may_have, differs_at, by_messages, in_editor, saved_line, keeps}
 use Rattle.lsp_facts.specs.Fact.{offers, in_record, shown_by, equal_by, answered_by, asked_by}
-use Rattle.lsp_facts.specs.Fact.{led_by, waits_since}
+use Rattle.lsp_facts.specs.Fact.{led_by, waits_since, has_suspects, suspects}
+use Rattle.lsp_facts.specs.Part.{Part}
 use Rattle.lsp_facts.specs.Lines.{fact_lines, end_event, event_line, usual}
+
+-- a line that is shown whole
+abbrev whole : List ℕ → Part
+whole line = record { before = 0; text = line; after = 0 }
 
 abbrev at : ℕ → ℕ → Position
 at line column = record { line = line; column = column }
@@ -47,10 +53,19 @@ of_a_character : fact_lines (falls_inside (128512 ∷ []) ∷ []) ≡ codes "ins
 unfolding digits escape_byte encode
 of_a_character = refl
 
-of_a_difference : fact_lines (differs_at (at 10 4) ∷ by_messages (codes "int x;\n") ∷ in_editor (codes "int y;\r\n") ∷ saved_line [] ∷ [])
+of_a_difference : fact_lines (differs_at (at 10 4) ∷ by_messages (whole (codes "int x;\n")) ∷ in_editor (whole (codes "int y;\r\n")) ∷ saved_line (whole []) ∷ [])
     ≡ codes "at 10 4\nby-messages \"int x;\\n\"\nin-editor \"int y;\\r\\n\"\nsaved \"\"\n"
 unfolding digits escape_byte encode
 of_a_difference = refl
+
+of_a_fit : fact_lines (fits_in (Utf8 ∷ Utf32 ∷ []) ∷ []) ≡ codes "fits utf-8 utf-32\n"
+of_a_fit = refl
+
+of_a_part : fact_lines (by_messages (record { before = 3; text = codes "b\n"; after = 0 })
+    ∷ in_editor (record { before = 0; text = codes "b"; after = 12 }) ∷ [])
+    ≡ codes "by-messages \"b\\n\" cut 3 0\nin-editor \"b\" cut 0 12\n"
+unfolding digits escape_byte encode
+of_a_part = refl
 
 of_lists : fact_lines (keeps (pos 3 ∷ pos 4 ∷ pos 7 ∷ []) ∷ offers (codes "utf-8" ∷ codes "utf-16" ∷ []) 0 ∷ offers [] 0 ∷ offers (codes "a" ∷ []) 12 ∷ in_record 12 ∷ [])
     ≡ codes "kept 3 4 7\noffered \"utf-8\" \"utf-16\"\noffered\noffered \"a\" and 12\nrecord 12\n"
@@ -59,10 +74,11 @@ of_lists = refl
 
 of_earlier_events : fact_lines (holds_by (pos 3) 12 ∷ shows_version (negsuc 0) ∷ counts_in Utf8
     ∷ counts_in Utf16 ∷ counts_in Utf32 ∷ shown_by 7 ∷ equal_by (pos 1) 5 ∷ answered_by 9
-    ∷ asked_by 4 ∷ led_by 8 ∷ waits_since (number (pos 7)) (codes "shutdown") 6 ∷ [])
+    ∷ asked_by 4 ∷ led_by 8 ∷ waits_since (number (pos 7)) (codes "shutdown") 6
+    ∷ has_suspects 12 ∷ suspects (pos 2) 6 ∷ [])
     ≡ codes "held 3 event 12\nversion -1\nencoding utf-8\nencoding utf-16\nencoding utf-32\n"
     ++ codes "snapshot event 7\nequal 1 event 5\nanswered event 9\nasked event 4\nsince event 8\n"
-    ++ codes "request 7 \"shutdown\" event 6\n"
+    ++ codes "request 7 \"shutdown\" event 6\nsuspects 12\nsuspect 2 event 6\n"
 unfolding digits escape_byte
 of_earlier_events = refl
 

@@ -2,7 +2,8 @@
 ghost use Rattle.std.specs.Prelude.{◌≡◌, ◌++◌, ◌∷◌, [], List, None, Some, OnOk, map, if◌then◌else◌};
 ghost use Rattle.lsp_rpc.specs.Ident.{id_view, same_id};
 ghost use Rattle.lsp_rpc.specs.declared.message.Id.{Id as AnId};
-ghost use Rattle.lsp_survey.specs.Asking.{Reply, last_ones, last_reply, most_replies, replied};
+ghost use Rattle.lsp_survey.specs.Asking.{Reply, last_reply, most_replies, replied};
+ghost use Rattle.lsp_survey.specs.LastOnes.{last_ones};
 ghost use Rattle.lsp_survey.specs.SessionNoting.{asked_in, given_view, replies_in, room_in};
 
 use indexmap::IndexMap;

@@ -1,16 +1,33 @@
-//! What left a document as it is: which event brought its version, which equal snapshot has the
+//! What left a document as it is: which messages set its versions, which equal snapshot has the
 //! greatest version, and which snapshots wait.
 ghost use Rattle.std.specs.Prelude.{◌≡◌, ◌++◌, ◌∷◌, [], None, OnOk, if◌then◌else◌, ℤ, false};
-ghost use Rattle.std.specs.Prelude.{int_lt, not};
+ghost use Rattle.std.specs.Prelude.{int_lt, not, option_map};
+ghost use Rattle.std.specs.List.{find};
 ghost use Rattle.std.specs.Map.{lookup};
 ghost use Rattle.std.specs.Ordering.{int_eq};
-ghost use Rattle.lsp_survey.specs.Marking.{above, last_shown, newer, newer_of, stepped, touches};
-ghost use Rattle.lsp_survey.specs.Marking.{unmarked};
+ghost use Rattle.lsp_survey.specs.Marking.{above, is_set_to, last_shown, newer, newer_of};
+ghost use Rattle.lsp_survey.specs.Marking.{next_rank, rank_of, stepped, touches, unmarked};
+ghost use Rattle.lsp_survey.specs.Marking.{with_room};
 ghost use Rattle.lsp_survey.specs.Marks.{is_first_reached, mark_view, rest_of, waiting_in};
 
 use lsp_rpc::Memory;
 use std::alloc::Global;
 use std::collections::BTreeMap;
+
+/// How many of the messages that set a version are held at most: the one of the held version, and
+/// those of as many versions before it as are ever kept.
+const MOST_SETTERS: usize = 17;
+
+/// A `didOpen` or a `didChange` that set a version of a document.
+#[derive(Clone, Copy, Debug, PartialEq, Eq)]
+pub struct Setter {
+    /// The number of its event, from 1, all events counted.
+    pub event: u64,
+    /// The version that it set.
+    pub version: i32,
+    /// Which version of its opening that is, from 1 for the one of the `didOpen`.
+    pub rank: u64,
+}
 
 /// A snapshot.
 #[derive(Clone, Copy, Debug, PartialEq, Eq)]
@@ -19,6 +36,9 @@ pub struct Shown {
     pub event: u64,
     /// The version of which it is.
     pub version: i32,
+    /// Which version of its opening that is, from 1 for the one of the `didOpen`; 0 where it was
+    /// not among the last that were set.
+    pub rank: u64,
 }
 
 /// How a kept event touches a document that it doesn't close.
@@ -38,7 +58,8 @@ type WaitMap = BTreeMap<i32, Vec<u64>>;
 /// What is marked of a document.
 #[derive(Drop)]
 pub(crate) struct Mark {
-    brought: Option<u64>,
+    setters: Vec<Setter>,
+    rank: u64,
     agreed: Option<Shown>,
     waiting: WaitMap,
 }
@@ -49,17 +70,18 @@ impl Mark {
         ensures { mark_view result ≡ unmarked }
     {
         Mark {
-            brought: None,
+            setters: Vec::new(alloc),
+            rank: 0,
             agreed: None,
             waiting: BTreeMap::new(alloc),
         }
     }
 
-    /// The event that brought the held version.
-    pub(crate) fn brought(&self) -> Option<u64>
-        ensures { result ≡ (mark_view self.now).brought }
+    /// The messages that set the last versions of the standing opening, in order.
+    pub(crate) fn setters(&self) -> &[Setter]
+        ensures { result.now ≡ (mark_view self.now).setters }
     {
-        self.brought
+        self.setters.as_slice()
     }
 
     /// The equal snapshot of the greatest version.
@@ -91,28 +113,100 @@ impl Mark {
             ≡ stepped (touches touch event version) (mark_view self.old)) }
     {
         match touch {
-            Touch::Reached => {
-                self.agreed = newer_of(self.agreed, last_of(&self.waiting, version));
-                self.brought = Some(event);
-                drop_reached(&mut self.waiting, version);
-                Ok(())
-            }
+            Touch::Reached => self.reach(event, version),
             Touch::Compared => {
-                self.agreed = newer_of(self.agreed, Some(Shown { event, version }));
+                self.compare(event, version);
                 Ok(())
             }
             Touch::Awaited => add(&mut self.waiting, alloc, version, event),
         }
     }
+
+    /// Marks that the event of this number brings the document to this version.
+    fn reach(&mut self, event: u64, version: i32) -> Result<(), Memory>
+        ensures { OnOk result (mark_view self.new
+            ≡ stepped (touches Touch.Reached event version) (mark_view self.old)) }
+    {
+        let rank = next_rank(self.rank);
+        let shown = last_of(&self.waiting, version, rank);
+        make_room(&mut self.setters);
+        self.setters.push(Setter {
+            event,
+            version,
+            rank,
+        })?;
+        self.rank = rank;
+        self.agreed = newer_of(self.agreed, shown);
+        drop_reached(&mut self.waiting, version);
+        Ok(())
+    }
+
+    /// Marks that the event of this number is an equal snapshot of this version.
+    fn compare(&mut self, event: u64, version: i32)
+        ensures { mark_view self.new
+            ≡ stepped (touches Touch.Compared event version) (mark_view self.old) }
+    {
+        let rank = rank_of(self.setters.as_slice(), version);
+        let shown = Shown {
+            event,
+            version,
+            rank,
+        };
+        self.agreed = newer_of(self.agreed, Some(shown));
+    }
 }
 
-/// The last of the snapshots that wait for a version.
-fn last_of(waiting: &WaitMap, version: i32) -> Option<Shown>
-    ensures { result ≡ last_shown version (waiting_in waiting.now.entries version) }
+/// Which version of its opening comes after the one of this rank.
+fn next_rank(rank: u64) -> u64
+    ensures { result ≡ next_rank rank }
+{
+    rank.saturating_add(1)
+}
+
+/// Drops the oldest message where no more are held.
+fn make_room(setters: &mut Vec<Setter>)
+    ensures { setters.new.items ≡ with_room setters.old.items }
+{
+    if setters.len() < MOST_SETTERS {
+        return;
+    }
+    let _oldest = setters.remove(0);
+}
+
+/// Which version of its opening this is by one of these messages; 0 where none of them set it.
+fn rank_of(setters: &[Setter], version: i32) -> u64
+    ensures { result ≡ rank_of version setters.now }
+{
+    match setter_of(setters, version) {
+        Some(setter) => setter.rank,
+        None => 0,
+    }
+}
+
+/// The first of the messages that set this version.
+fn setter_of(setters: &[Setter], version: i32) -> Option<&Setter>
+    ensures { option_map (λ s. s.now) result ≡ find (is_set_to version) setters.now }
+{
+    setters.iter().find(|setter| is_set_to(setter, version))
+}
+
+fn is_set_to(setter: &Setter, version: i32) -> bool
+    ensures { result ≡ is_set_to version setter.now }
+{
+    setter.version == version
+}
+
+/// The last of the snapshots that wait for a version, which is the one of this rank.
+fn last_of(waiting: &WaitMap, version: i32, rank: u64) -> Option<Shown>
+    ensures { result ≡ last_shown version rank (waiting_in waiting.now.entries version) }
 {
     let events = waiting.get(&version)?;
     let event = *events.as_slice().last()?;
-    Some(Shown { event, version })
+    Some(Shown {
+        event,
+        version,
+        rank,
+    })
 }
 
 /// Of two snapshots that of the greater version, the later one where these are equal.

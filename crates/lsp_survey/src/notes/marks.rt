@@ -6,11 +6,11 @@ ghost use Rattle.lsp_types.specs.declared.change.SyncKind.{SyncKind};
 ghost use Rattle.lsp_types.specs.declared.position.Encoding.{Encoding};
 ghost use Rattle.lsp_verdict.specs.Calls.{call_of};
 ghost use Rattle.lsp_verdict.specs.Event.{Event};
-ghost use Rattle.lsp_survey.specs.Marking.{agreed, brought, closed, steps, touches, unmarked};
+ghost use Rattle.lsp_survey.specs.Marking.{agreed, closed, recent, steps, touches, unmarked};
 ghost use Rattle.lsp_survey.specs.Marking.{waiting_for};
 ghost use Rattle.lsp_survey.specs.Marks.{AreMarks, DoneBy, ShownBy, StepsOn, marked_in};
 
-use crate::notes::mark::{Mark, Shown, Touch};
+use crate::notes::mark::{Mark, Setter, Shown, Touch};
 use indexmap::IndexMap;
 use lsp_docs::Match;
 use lsp_rpc::{Act, Memory};
@@ -18,7 +18,7 @@ use std::alloc::Global;
 
 type MarkMap = IndexMap<String, Mark>;
 
-/// Which events left the documents as they are, by URI: which one brought the held version, which
+/// Which events left the documents as they are, by URI: which messages set the last versions, which
 /// equal snapshot has the greatest version, and which snapshots wait for a version.
 ///
 /// It stands for the events of a session of which those that offend are skipped. A document of
@@ -38,15 +38,15 @@ impl Marks {
         }
     }
 
-    /// The number of the event that brought the held version of a URI, from 1; none where it isn't
-    /// open.
-    pub fn brought(&self, uri: &str) -> Option<u64>
+    /// The messages that set the last versions of a URI, in order, the held one last; at most 17,
+    /// and none where it isn't open.
+    pub fn setters(&self, uri: &str) -> &[Setter]
         ensures { (terms : Terms) (events : List Event) → AreMarks terms self.now.map.entries events
-            → result ≡ brought (steps terms uri.now events) }
+            → result.now ≡ recent (steps terms uri.now events) }
     {
         match self.map.get(uri) {
-            Some(mark) => mark.brought(),
-            None => None,
+            Some(mark) => mark.setters(),
+            None => &[],
         }
     }
 

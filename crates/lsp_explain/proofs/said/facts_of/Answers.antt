@@ -34,4 +34,4 @@ returns-in-Message c = IfOk-weaker c.message_traced.result _ _
     facts_said terms before c.args.rule c.args.rest.now rests raw event _ (facts_view facts.items)
     reads (subst (IsOffending raw terms (kept_of terms before) c.args.rule) c.in-Message.is is)
     offends (subst (λ o. ShowsFault rests o c.args.rest.now) c.in-Message.is shows)
-    (λ bytes refused. says bytes before stands refused)) c.message_traced.ensures
+    (λ bytes refused. says bytes before stands number refused)) c.message_traced.ensures

@@ -4,7 +4,7 @@ use Rattle.std.proofs.lemmas.Int.{to_z-of_z}
 use Rattle.std.proofs.lemmas.Result.{on_ok_weaker}
 use Rattle.std.specs.Str.{chars}
 use mir.Val.{SFits}
-use Rattle.lsp_docs.specs.Calls.{Call, opens, changes}
+use Rattle.lsp_docs.specs.Calls.{Call, opens, changes, uri_of}
 use Rattle.lsp_rpc.specs.View.{act_view, changes_view}
 use Rattle.lsp_session.specs.Negotiation.{encoding, sync_kind}
 use Rattle.lsp_types.specs.declared.change.SyncKind.TheVariants.{Nothing}
@@ -17,6 +17,7 @@ use Rattle.lsp_facts.specs.Fact.{facts_view}
 use Rattle.lsp_facts.specs.Refuting.{refuting}
 use Rattle.lsp_explain.specs.Standing.{terms_in}
 use Rattle.lsp_explain.specs.Traced.{act_call, call_traced, document_traced}
+use Rattle.lsp_explain.specs.declared.suspects.Until.TheVariants as until
 use Rattle.lsp_explain.proofs.trace.trace_act.Goals as goal
 
 pub returns-in-DidOpen : goal.returns-in-DidOpen
@@ -29,13 +30,17 @@ returns-in-DidOpen c =
     (chars (string_bytes c.in-DidOpen.text)) in
     let told = simp to_z-of_z at c.trace_text.ensures in
     on_ok_weaker c.trace_text.result
-    (λ says before stands.
+    (λ says before stands next.
     let is : act_call terms before (act_view c.args.act.now) ≡ Some call =
     ap (λ a. act_call terms before (act_view a)) c.in-DidOpen.is in
     says before call stands is
     ∙ ap (λ (u : List ℕ). document_traced (steps terms u before)
     (refuting terms (calls (kept_of terms before)) call (waiting_for number (steps terms u before)))
-    c.args.rule plain) c.as_str.ensures.value
+    (until.Message c.args.number number) c.args.rule plain) c.as_str.ensures.value
+    ∙ ap (λ (n : ℕ). document_traced (steps terms (uri_of call) before)
+    (refuting terms (calls (kept_of terms before)) call
+    (waiting_for number (steps terms (uri_of call) before)))
+    (until.Message n number) c.args.rule plain) next
     ∙ ap (λ o. call_traced terms before c.args.rule o plain) (sym is))
     told
 
@@ -47,7 +52,7 @@ returns-in-DidChange c =
     let number = c.in-DidChange.version in
     let told = simp to_z-of_z at c.trace_text-in-DidChange.ensures in
     on_ok_weaker c.trace_text-in-DidChange.result
-    (λ says before stands.
+    (λ says before stands next.
     let enc = unwrap_or (encoding (sent_in (kept_of terms before))) Utf16 in
     let kind = unwrap_or (sync_kind (sent_in (kept_of terms before))) Nothing in
     let call : Call = changes enc kind (string_bytes c.in-DidChange.uri) number
@@ -57,6 +62,10 @@ returns-in-DidChange c =
     says before call stands is
     ∙ ap (λ (u : List ℕ). document_traced (steps terms u before)
     (refuting terms (calls (kept_of terms before)) call (waiting_for number (steps terms u before)))
-    c.args.rule plain) c.as_str-in-DidChange.ensures.value
+    (until.Message c.args.number number) c.args.rule plain) c.as_str-in-DidChange.ensures.value
+    ∙ ap (λ (n : ℕ). document_traced (steps terms (uri_of call) before)
+    (refuting terms (calls (kept_of terms before)) call
+    (waiting_for number (steps terms (uri_of call) before)))
+    (until.Message n number) c.args.rule plain) next
     ∙ ap (λ o. call_traced terms before c.args.rule o plain) (sym is))
     told

@@ -19,12 +19,16 @@ use Rattle.lsp_facts.specs.Fact.{facts_view}
 use Rattle.lsp_facts.specs.Refuting.{refuting}
 use Rattle.lsp_explain.specs.Standing.{terms_in}
 use Rattle.lsp_explain.specs.Traced.{document_traced}
+use Rattle.lsp_explain.specs.declared.suspects.Until.{Until}
+use Rattle.lsp_explain.specs.declared.suspects.Until.TheVariants as untils
 use Rattle.lsp_explain.proofs.Tracing.{names_no_texts}
 use Rattle.lsp_explain.proofs.trace.trace_text.Goals as goal
 
 pub returns-then-rule-ne-SNAPSHOT_DIFFERS : goal.returns-then-rule-ne-SNAPSHOT_DIFFERS
 returns-then-rule-ne-SNAPSHOT_DIFFERS c =
+    let fits : SFits w32 c.args.version = c.ranges.version in
     let terms = terms_in c.args.events.now in
+    let until : Until = untils.Message c.args.number c.args.version in
     let uri = c.args.uri.now in
     on_ok_weaker c.trace_document.result
     (λ says before call stands is.
@@ -32,15 +36,16 @@ returns-then-rule-ne-SNAPSHOT_DIFFERS c =
     (sym c.marks-marks.ensures) stands.marked)
     ∙ names_no_texts (steps terms uri before) []
     (refuting terms (calls (kept_of terms before)) call
-    (waiting_for c.args.version (steps terms uri before))) c.args.rule
+    (waiting_for c.args.version (steps terms uri before))) until c.args.rule
     (facts_view c.args.facts.now.items) c.if-rule-ne-SNAPSHOT_DIFFERS.true)
-    c.trace_document.ensures
+    (simp to_z-of_z at c.trace_document.ensures)
 
 pub returns : goal.returns
 returns c =
     let fits : SFits w32 c.args.version = c.ranges.version in
     let terms = terms_in c.args.events.now in
     let uri = c.args.uri.now in
+    let until : Until = untils.Message c.args.number c.args.version in
     let waits = simp to_z-of_z at c.waiting-waiting.ensures in
     on_ok_weaker c.trace_document-2.result
     (λ says before call stands is.
@@ -56,9 +61,9 @@ returns c =
     let found = c.in_ok-snapshots.ensures kind (calls kept) call called
     (ap (λ e. call_of e kind (act_view c.args.act.now)) agreed ∙ is) in
     says terms before marked
-    ∙ ap (λ (ns : List ℕ). document_traced (steps terms uri before) ns c.args.rule
+    ∙ ap (λ (ns : List ℕ). document_traced (steps terms uri before) ns until c.args.rule
     (facts_view c.args.facts.now.items))
     (c.as_slice.ensures.value ∙ found
     ∙ ap (λ d. refuting d.terms (calls kept) call c.waiting-waiting.result.now) c.docs.ensures
     ∙ ap (refuting terms (calls kept) call) (waits terms before marked)))
-    c.trace_document-2.ensures
+    (simp to_z-of_z at c.trace_document-2.ensures)

@@ -1,5 +1,6 @@
 use Rattle.std.proofs.Common.{◌∷◌, [], ◌++◌, ap, ◌∙◌}
-use Rattle.lsp_survey.specs.Asking.{last_ones, most_replies, replied}
+use Rattle.lsp_survey.specs.Asking.{most_replies, replied}
+use Rattle.lsp_survey.specs.LastOnes.{last_ones}
 use Rattle.lsp_survey.proofs.Exchanging.{pushed}
 use Rattle.lsp_survey.proofs.notes.exchange.push.Goals as goal
 

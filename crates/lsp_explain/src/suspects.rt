@@ -1,0 +1,156 @@
+//! Which messages can have made texts differ.
+ghost use Rattle.std.specs.Prelude.{◌≡◌, ◌≤◌, ◌++◌, ◌∷◌, [], OnOk, length};
+ghost use Rattle.std.specs.List.{prefix_len};
+ghost use Rattle.lsp_survey.specs.Marking.{rank_or};
+ghost use Rattle.lsp_facts.specs.Fact.{facts_view};
+ghost use Rattle.lsp_explain.specs.Suspects as spec;
+
+use lsp_facts::Fact;
+use lsp_rpc::Memory;
+use lsp_survey::{Setter, Shown};
+
+/// By which message the text came about that differs.
+#[derive(Clone, Copy, Debug, PartialEq, Eq)]
+pub(crate) enum Until {
+    /// The last one that set a version: the text is the held one.
+    Held,
+    /// The one that set the version of a snapshot.
+    Version(i32),
+    /// The message itself that offends, the event of this number, which would set this version.
+    Message { event: u64, version: i32 },
+}
+
+/// Adds how many messages can have made texts differ, and each of them that is among those that set
+/// the last versions, in order.
+pub(crate) fn push_suspects(
+    facts: &mut Vec<Fact>,
+    equal: Option<Shown>,
+    until: Until,
+    setters: &[Setter],
+) -> Result<(), Memory>
+    ensures { OnOk result (facts_view facts.new.items ≡ facts_view facts.old.items
+        ++ spec.suspect_facts equal until setters.now) }
+{
+    let rank = equal_rank(equal);
+    let named = up_to(until, after_equal(rank, setters));
+    let count = suspect_count(rank, until, named);
+    facts.push(Fact::Suspects(count))?;
+    push_named(facts, named)?;
+    push_own(facts, until)
+}
+
+/// The rank of the version that was found equal; 0 where none was.
+fn equal_rank(equal: Option<Shown>) -> u64
+    ensures { result ≡ spec.equal_rank equal }
+{
+    match equal {
+        Some(shown) => shown.rank,
+        None => 0,
+    }
+}
+
+/// Those of the messages that set a version after the one of this rank.
+fn after_equal(rank: u64, setters: &[Setter]) -> &[Setter]
+    ensures { result.now ≡ spec.after_equal rank setters.now }
+{
+    &setters[count_cleared(rank, setters)..]
+}
+
+fn count_cleared(rank: u64, setters: &[Setter]) -> usize
+    ensures value { result ≡ prefix_len (spec.is_cleared rank) setters.now }
+    ensures bound { result ≤ length setters.now }
+{
+    setters
+        .iter()
+        .take_while(|setter| is_cleared(rank, setter))
+        .count()
+}
+
+fn is_cleared(rank: u64, setter: &Setter) -> bool
+    ensures { result ≡ spec.is_cleared rank setter.now }
+{
+    setter.rank <= rank
+}
+
+/// Those of the messages that come no later than the one by which the text came about.
+fn up_to(until: Until, setters: &[Setter]) -> &[Setter]
+    ensures { result.now ≡ spec.up_to until setters.now }
+{
+    &setters[..count_up_to(until, setters)]
+}
+
+fn count_up_to(until: Until, setters: &[Setter]) -> usize
+    ensures value { result ≡ prefix_len (spec.is_up_to until) setters.now }
+    ensures bound { result ≤ length setters.now }
+{
+    setters
+        .iter()
+        .take_while(|setter| is_up_to(until, setter))
+        .count()
+}
+
+fn is_up_to(until: Until, setter: &Setter) -> bool
+    ensures { result ≡ spec.is_up_to until setter.now }
+{
+    match until {
+        Until::Version(version) => setter.version <= version,
+        _ => true,
+    }
+}
+
+/// How many suspects there are, also those that are no longer looked at.
+fn suspect_count(rank: u64, until: Until, named: &[Setter]) -> u64
+    ensures { result ≡ spec.suspect_count rank until named.now }
+{
+    rank_at(rank, until, named).saturating_sub(rank)
+}
+
+/// The rank of the version that differs.
+fn rank_at(rank: u64, until: Until, named: &[Setter]) -> u64
+    ensures { result ≡ spec.rank_at rank until named.now }
+{
+    let last = last_rank(rank, named);
+    match until {
+        Until::Message { .. } => last.saturating_add(1),
+        _ => last,
+    }
+}
+
+/// The rank of the last of the messages, or this one where there is none.
+fn last_rank(rank: u64, named: &[Setter]) -> u64
+    ensures { result ≡ rank_or rank named.now }
+{
+    match named.last() {
+        Some(setter) => setter.rank,
+        None => rank,
+    }
+}
+
+fn push_named(facts: &mut Vec<Fact>, named: &[Setter]) -> Result<(), Memory>
+    ensures { OnOk result (facts_view facts.new.items ≡ facts_view facts.old.items
+        ++ spec.named_facts named.now) }
+{
+    for setter in named {
+        push_suspect(facts, setter)?;
+    }
+    Ok(())
+}
+
+fn push_suspect(facts: &mut Vec<Fact>, setter: &Setter) -> Result<(), Memory>
+    ensures { OnOk result (facts_view facts.new.items ≡ facts_view facts.old.items
+        ++ spec.named_facts (setter.now ∷ [])) }
+{
+    let Setter { event, version, .. } = *setter;
+    Ok(facts.push(Fact::Suspect { version, event })?)
+}
+
+/// Adds the message that offends, where the text came about by it.
+fn push_own(facts: &mut Vec<Fact>, until: Until) -> Result<(), Memory>
+    ensures { OnOk result (facts_view facts.new.items ≡ facts_view facts.old.items
+        ++ spec.own_facts until) }
+{
+    match until {
+        Until::Message { event, version } => Ok(facts.push(Fact::Suspect { version, event })?),
+        _ => Ok(()),
+    }
+}
