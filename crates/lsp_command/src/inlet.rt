@@ -8,7 +8,6 @@ ghost use Rattle.lsp_command.specs.Beginnings.{kept};
 ghost use Rattle.lsp_command.specs.Ports.{first_bytes, input_error};
 
 use crate::beginning::Beginning;
-use crate::pace::Supply;
 use crate::tally::Tally;
 use lsp_frame::{Failed, Source};
 use std::alloc::{AllocError, Global};
@@ -19,29 +18,27 @@ use std::io::{BufRead, BufReader, Read};
 const GATHERED: usize = 65_536;
 
 /// A source over a reader of std, which reads ahead. It keeps what the reader gave first, and the
-/// error by which it last failed, and notes whether anything is left of what was read ahead.
+/// error by which it last failed.
 #[derive(Drop)]
-pub struct Inlet<'a, R> {
+pub struct Inlet<R> {
     reader: BufReader<R>,
     beginning: Beginning,
     tally: Tally,
-    supply: &'a Supply,
 }
 
-impl<'a, R: Read + Drop> Inlet<'a, R> {
+impl<R: Read + Drop> Inlet<R> {
     /// A source that has not failed and has given nothing yet.
-    pub fn new(alloc: Global, reader: R, supply: &'a Supply) -> Result<Inlet<'a, R>, AllocError>
+    pub fn new(alloc: Global, reader: R) -> Result<Inlet<R>, AllocError>
         ensures remaining { IfOk result (λ inlet.
-            Consumes (R.remaining reader) (⟦<Inlet<'a, R> as Source>⟧.told inlet).bytes []) }
+            Consumes (R.remaining reader) (⟦<Inlet<R> as Source>⟧.told inlet).bytes []) }
         ensures first { IfOk result (λ inlet. first_bytes inlet ≡ []) }
         ensures failures { IfOk result (λ inlet.
-            (⟦<Inlet<'a, R> as Source>⟧.told inlet).failures ≡ 0) }
+            (⟦<Inlet<R> as Source>⟧.told inlet).failures ≡ 0) }
     {
         Ok(Inlet {
             reader: BufReader::with_capacity(alloc, GATHERED, reader).map_err(|_| AllocError)?,
             beginning: Beginning::new(),
             tally: Tally::new(),
-            supply,
         })
     }
 
@@ -55,13 +52,13 @@ impl<'a, R: Read + Drop> Inlet<'a, R> {
     /// Why the last call failed that did.
     pub fn cause(&self) -> Option<io::Error>
         ensures value { result ≡ input_error self.now }
-        ensures failed { IsSome result ↔ (0 < (⟦<Inlet<'a, R> as Source>⟧.told self.now).failures) }
+        ensures failed { IsSome result ↔ (0 < (⟦<Inlet<R> as Source>⟧.told self.now).failures) }
     {
         self.tally.cause()
     }
 }
 
-impl<'a, R: Read> Source for Inlet<'a, R> {
+impl<R: Read> Source for Inlet<R> {
     ghost told = { λ s. record {
       bytes = ⟦<BufReader<R> as Read>⟧.remaining s.reader;
       count = s.tally.bytes;
@@ -73,22 +70,21 @@ impl<'a, R: Read> Source for Inlet<'a, R> {
     fn pull(&mut self, buffer: &mut [u8]) -> Result<usize, Failed>
         ensures count { ReadsAtMost result buffer.new }
         ensures gave { IfOk result (λ n.
-            Gave (⟦<Inlet<'a, R> as Source>⟧.told self.old)
-            (⟦<Inlet<'a, R> as Source>⟧.told self.new) (take n buffer.new)) }
-        ensures end { IfOk result (λ n. n ≡ 0 → 0 < length buffer.new
-            → IsAtEnd (⟦<Inlet<'a, R> as Source>⟧.told self.new).bytes) }
+            Gave (⟦<Inlet<R> as Source>⟧.told self.old) (⟦<Inlet<R> as Source>⟧.told self.new)
+            (take n buffer.new)) }
+        ensures end { IfOk result (λ n.
+            n ≡ 0 → 0 < length buffer.new → IsAtEnd (⟦<Inlet<R> as Source>⟧.told self.new).bytes) }
         ensures err { OnErr result
-            (KeepsBytes (⟦<Inlet<'a, R> as Source>⟧.told self.old)
-            (⟦<Inlet<'a, R> as Source>⟧.told self.new)) }
-        ensures failures { CountsFailure (⟦<Inlet<'a, R> as Source>⟧.told self.old).failures
-            (⟦<Inlet<'a, R> as Source>⟧.told self.new).failures result }
+            (KeepsBytes (⟦<Inlet<R> as Source>⟧.told self.old)
+            (⟦<Inlet<R> as Source>⟧.told self.new)) }
+        ensures failures { CountsFailure (⟦<Inlet<R> as Source>⟧.told self.old).failures
+            (⟦<Inlet<R> as Source>⟧.told self.new).failures result }
         // The first bytes are kept.
         ensures first { IfOk result (λ n.
             first_bytes self.new ≡ take 32 (first_bytes self.old ++ take n buffer.new)) }
         ensures same_first { OnErr result (first_bytes self.new ≡ first_bytes self.old) }
     {
         let answer = self.reader.read(buffer);
-        self.supply.note(self.reader.buffer().len());
         let count = self.tally.count(answer)?;
         self.beginning.keep(&buffer[..count]);
         Ok(count)
@@ -100,16 +96,16 @@ impl<'a, R: Read> Source for Inlet<'a, R> {
         requires room { vec_len buffer.old + most ≤ vec_capacity buffer.old }
         ensures room { vec_capacity buffer.old ≤ vec_capacity buffer.new }
         ensures gave { IfOk result (λ n.
-            GaveOnto (⟦<Inlet<'a, R> as Source>⟧.told self.old)
-            (⟦<Inlet<'a, R> as Source>⟧.told self.new) buffer.old.items buffer.new.items most n) }
+            GaveOnto (⟦<Inlet<R> as Source>⟧.told self.old) (⟦<Inlet<R> as Source>⟧.told self.new)
+            buffer.old.items buffer.new.items most n) }
         ensures end { IfOk result (λ n.
-            n ≡ 0 → 0 < most → IsAtEnd (⟦<Inlet<'a, R> as Source>⟧.told self.new).bytes) }
+            n ≡ 0 → 0 < most → IsAtEnd (⟦<Inlet<R> as Source>⟧.told self.new).bytes) }
         ensures same { OnErr result (buffer.new.items ≡ buffer.old.items) }
         ensures err { OnErr result
-            (KeepsBytes (⟦<Inlet<'a, R> as Source>⟧.told self.old)
-            (⟦<Inlet<'a, R> as Source>⟧.told self.new)) }
-        ensures failures { CountsFailure (⟦<Inlet<'a, R> as Source>⟧.told self.old).failures
-            (⟦<Inlet<'a, R> as Source>⟧.told self.new).failures result }
+            (KeepsBytes (⟦<Inlet<R> as Source>⟧.told self.old)
+            (⟦<Inlet<R> as Source>⟧.told self.new)) }
+        ensures failures { CountsFailure (⟦<Inlet<R> as Source>⟧.told self.old).failures
+            (⟦<Inlet<R> as Source>⟧.told self.new).failures result }
         // The first bytes are kept.
         ensures first { OnOk result (first_bytes self.new
             ≡ take 32 (first_bytes self.old ++ appended_bytes buffer.old.items buffer.new.items)) }
@@ -123,30 +119,29 @@ impl<'a, R: Read> Source for Inlet<'a, R> {
         buffer.extend_from_slice(ahead).unwrap();
         self.beginning.keep(ahead);
         self.reader.consume(count);
-        self.supply.note(self.reader.buffer().len());
         self.tally.count(Ok(count))
     }
 }
 
 /// Appends what one call of the input gives, at most this many bytes and [`GATHERED`].
-fn pull_fresh<'a, R: Read>(
-    inlet: &mut Inlet<'a, R>,
+fn pull_fresh<R: Read>(
+    inlet: &mut Inlet<R>,
     buffer: &mut Vec<u8>,
     most: usize,
 ) -> Result<usize, Failed>
     requires room { vec_len buffer.old + most ≤ vec_capacity buffer.old }
     ensures room { vec_capacity buffer.old ≤ vec_capacity buffer.new }
     ensures gave { IfOk result (λ n.
-        GaveOnto (⟦<Inlet<'a, R> as Source>⟧.told inlet.old)
-        (⟦<Inlet<'a, R> as Source>⟧.told inlet.new) buffer.old.items buffer.new.items most n) }
+        GaveOnto (⟦<Inlet<R> as Source>⟧.told inlet.old) (⟦<Inlet<R> as Source>⟧.told inlet.new)
+        buffer.old.items buffer.new.items most n) }
     ensures end { IfOk result (λ n.
-        n ≡ 0 → 0 < most → IsAtEnd (⟦<Inlet<'a, R> as Source>⟧.told inlet.new).bytes) }
+        n ≡ 0 → 0 < most → IsAtEnd (⟦<Inlet<R> as Source>⟧.told inlet.new).bytes) }
     ensures same { OnErr result (buffer.new.items ≡ buffer.old.items) }
     ensures err { OnErr result
-        (KeepsBytes (⟦<Inlet<'a, R> as Source>⟧.told inlet.old)
-        (⟦<Inlet<'a, R> as Source>⟧.told inlet.new)) }
-    ensures failures { CountsFailure (⟦<Inlet<'a, R> as Source>⟧.told inlet.old).failures
-        (⟦<Inlet<'a, R> as Source>⟧.told inlet.new).failures result }
+        (KeepsBytes (⟦<Inlet<R> as Source>⟧.told inlet.old)
+        (⟦<Inlet<R> as Source>⟧.told inlet.new)) }
+    ensures failures { CountsFailure (⟦<Inlet<R> as Source>⟧.told inlet.old).failures
+        (⟦<Inlet<R> as Source>⟧.told inlet.new).failures result }
     ensures first { OnOk result (first_bytes inlet.new
         ≡ take 32 (first_bytes inlet.old ++ appended_bytes buffer.old.items buffer.new.items)) }
     ensures same_first { OnErr result (first_bytes inlet.new ≡ first_bytes inlet.old) }

@@ -3,7 +3,6 @@ ghost use Rattle.std.specs.Prelude.{◌≡◌, ◌<◌, ◌⊎◌, Ok, Err, IfOk
 ghost use Rattle.std.specs.IoError.{error_kind};
 ghost use Rattle.std.specs.declared.io.ErrorKind.TheVariants.{WriteZero};
 
-use crate::pace::Pace;
 use crate::tally::Tally;
 use lsp_frame::{Failed, Sink};
 use std::alloc::{AllocError, Global};
@@ -16,31 +15,29 @@ const GATHERED: usize = 65_536;
 /// A sink over a writer of std, which gathers bytes and writes them together. It keeps the error by
 /// which it last failed.
 #[derive(Drop)]
-pub struct Outlet<'a, W: Write + Drop> {
+pub struct Outlet<W: Write + Drop> {
     writer: BufWriter<W>,
     tally: Tally,
-    pace: Pace<'a>,
 }
 
-impl<'a, W: Write + Drop> Outlet<'a, W> {
+impl<W: Write + Drop> Outlet<W> {
     ghost use Rattle.std.specs.Prelude.{◌≡◌, ◌<◌, ◌↔◌, [], IfOk, OnOk, IsSome};
     ghost use Rattle.std.specs.Io.KnownBytes.{Appends};
     ghost use Rattle.lsp_frame.specs.Told.{CountsFailure, KeepsBytes};
     ghost use Rattle.lsp_command.specs.Ports.{output_error, unwritten};
 
     /// A sink that has not failed, and holds no bytes back.
-    pub fn new(alloc: Global, writer: W, pace: Pace<'a>) -> Result<Outlet<'a, W>, AllocError>
+    pub fn new(alloc: Global, writer: W) -> Result<Outlet<W>, AllocError>
         ensures taken { IfOk result
             (λ outlet. Appends (W.contents writer)
-            (⟦<Outlet<'a, W> as Sink>⟧.told outlet).bytes []) }
+            (⟦<Outlet<W> as Sink>⟧.told outlet).bytes []) }
         ensures empty { IfOk result (λ outlet. unwritten outlet ≡ []) }
         ensures failures { IfOk result
-            (λ outlet. (⟦<Outlet<'a, W> as Sink>⟧.told outlet).failures ≡ 0) }
+            (λ outlet. (⟦<Outlet<W> as Sink>⟧.told outlet).failures ≡ 0) }
     {
         Ok(Outlet {
             writer: BufWriter::with_capacity(alloc, GATHERED, writer).map_err(|_| AllocError)?,
             tally: Tally::new(),
-            pace,
         })
     }
 
@@ -52,31 +49,19 @@ impl<'a, W: Write + Drop> Outlet<'a, W> {
     /// and is written by the next flush.
     pub fn flush(&mut self) -> Result<(), Failed>
         ensures whole { OnOk result (unwritten self.new ≡ []) }
-        ensures bytes { KeepsBytes (⟦<Outlet<'a, W> as Sink>⟧.told self.old)
-            (⟦<Outlet<'a, W> as Sink>⟧.told self.new) }
-        ensures failures { CountsFailure (⟦<Outlet<'a, W> as Sink>⟧.told self.old).failures
-            (⟦<Outlet<'a, W> as Sink>⟧.told self.new).failures result }
+        ensures bytes { KeepsBytes (⟦<Outlet<W> as Sink>⟧.told self.old)
+            (⟦<Outlet<W> as Sink>⟧.told self.new) }
+        ensures failures { CountsFailure (⟦<Outlet<W> as Sink>⟧.told self.old).failures
+            (⟦<Outlet<W> as Sink>⟧.told self.new).failures result }
     {
         let answer = self.writer.flush();
         self.tally.heed(answer)
     }
 
-    /// Writes what was gathered, if that is due after a put. What the writer does not take stays
-    /// gathered, and the next flush has its error.
-    fn keep_pace(&mut self)
-        ensures bytes { KeepsBytes (⟦<Outlet<'a, W> as Sink>⟧.told self.old)
-            (⟦<Outlet<'a, W> as Sink>⟧.told self.new) }
-        ensures tally { self.new.tally ≡ self.old.tally }
-    {
-        if self.pace.is_due() {
-            let _ = self.writer.flush();
-        }
-    }
-
     /// Why the last call failed that did.
     pub fn cause(&self) -> Option<io::Error>
         ensures value { result ≡ output_error self.now }
-        ensures failed { IsSome result ↔ (0 < (⟦<Outlet<'a, W> as Sink>⟧.told self.now).failures) }
+        ensures failed { IsSome result ↔ (0 < (⟦<Outlet<W> as Sink>⟧.told self.now).failures) }
     {
         self.tally.cause()
     }
@@ -96,7 +81,7 @@ fn taken(answer: io::Result<usize>, len: usize) -> io::Result<usize>
     }
 }
 
-impl<'a, W: Write + Drop> Sink for Outlet<'a, W> {
+impl<W: Write + Drop> Sink for Outlet<W> {
     ghost told = { λ s. record {
       bytes = ⟦<BufWriter<W> as Write>⟧.contents s.writer;
       count = s.tally.bytes;
@@ -104,12 +89,9 @@ impl<'a, W: Write + Drop> Sink for Outlet<'a, W> {
     } };
 
     /// Takes bytes as the trait says. It fails where the writer does, or takes none of some bytes;
-    /// the writer is called only where the bytes don't fit after those that were gathered, or
-    /// what is gathered is due.
+    /// the writer is called only where the bytes don't fit after those that were gathered.
     fn put(&mut self, bytes: &[u8]) -> Result<usize, Failed> {
         let answer = taken(self.writer.write(bytes), bytes.len());
-        let count = self.tally.count(answer)?;
-        self.keep_pace();
-        Ok(count)
+        self.tally.count(answer)
     }
 }

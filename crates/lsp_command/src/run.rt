@@ -71,18 +71,18 @@ pub fn run_task<R: Source, W: Sink>(
 
 /// Does the task over an input and into an output. What the task wrote is passed on also where it
 /// failed.
-pub fn run_through<'a, R: Read + Drop, W: Write + Drop>(
+pub fn run_through<R: Read + Drop, W: Write + Drop>(
     alloc: Global,
     task: Task<'_>,
-    inlet: &mut Inlet<'a, R>,
-    outlet: &mut Outlet<'a, W>,
+    inlet: &mut Inlet<R>,
+    outlet: &mut Outlet<W>,
     limits: Limits,
 ) -> Result<TaskOutcome, RunFault>
     ensures ran { RanThrough limits task.entry (record {
-      source_before = ⟦<Inlet<'a, R> as Source>⟧.told inlet.old;
-      source_after = ⟦<Inlet<'a, R> as Source>⟧.told inlet.new;
-      sink_before = ⟦<Outlet<'a, W> as Sink>⟧.told outlet.old;
-      sink_after = ⟦<Outlet<'a, W> as Sink>⟧.told outlet.new;
+      source_before = ⟦<Inlet<R> as Source>⟧.told inlet.old;
+      source_after = ⟦<Inlet<R> as Source>⟧.told inlet.new;
+      sink_before = ⟦<Outlet<W> as Sink>⟧.told outlet.old;
+      sink_after = ⟦<Outlet<W> as Sink>⟧.told outlet.new;
     }) (unwritten outlet.new) result }
     ensures flushed { OnOk result (unwritten outlet.new ≡ []) }
     // A fault of the input or the output has its error.
