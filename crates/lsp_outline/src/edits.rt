@@ -2,14 +2,15 @@
 //! TextDocumentContentChangeEvent).
 ghost use Rattle.std.specs.Prelude.{◌≡◌, ◌≤◌, length, Some, IfSome, codes, option_map};
 ghost use Rattle.std.specs.Prelude.{string_bytes};
-ghost use Rattle.serde_json.specs.Data.{Members, Items, object, array};
+ghost use Rattle.serde_json.specs.Data.{Data, Members, Items, object, array};
 ghost use Rattle.lsp_rpc.specs.Params as spec;
+ghost use Rattle.lsp_rpc.specs.Shape.{unless_null};
 ghost use Rattle.lsp_rpc.specs.View.{change_view, changes_view};
 ghost use Rattle.lsp_outline.specs.Walk.{IsValue, AreItems};
 
 use crate::bytes::{byte_at, spaces_end};
 use crate::members::{Gathered, object_at, skipped, uinteger_at};
-use crate::walk::string_copy;
+use crate::walk::{literal_end, string_copy};
 use lsp_types::{Change, Position, Span};
 use std::alloc::Global;
 
@@ -131,7 +132,28 @@ fn span_at(alloc: Global, text: &str, from: usize, depth: usize) -> Option<(Span
     Some((span, end))
 }
 
-/// The members of a change.
+/// The span that begins there, where it is not null, and where it ends.
+#[inline(always)]
+fn span_unless_null_at(
+    alloc: Global,
+    text: &str,
+    from: usize,
+    depth: usize,
+) -> Option<(Option<Span>, usize)>
+    requires { from ≤ length text.now }
+    ensures { IfSome result (λ r. (d : Data) × IsValue depth text.now from r.1 d
+        × (spec.if_given spec.span_at (unless_null d) ≡ Some r.0)) }
+{
+    let bytes = text.as_bytes();
+    if byte_at(bytes, from) == b'n' {
+        let end = literal_end(bytes, from, b"null")?;
+        return Some((None, end));
+    }
+    let (span, end) = span_at(alloc, text, from, depth)?;
+    Some((Some(span), end))
+}
+
+/// The members of a change. A `range` that is null is none.
 #[derive(Drop)]
 struct ChangeParts {
     span: Option<Span>,
@@ -161,8 +183,8 @@ impl Gathered for ChangeParts {
     ) -> Option<usize> {
         match name {
             "range" => {
-                let (span, end) = span_at(alloc, text, from, depth)?;
-                self.span = Some(span);
+                let (span, end) = span_unless_null_at(alloc, text, from, depth)?;
+                self.span = span;
                 Some(end)
             }
             "text" => {

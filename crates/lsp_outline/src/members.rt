@@ -111,7 +111,7 @@ pub(crate) fn object_at<T: Gathered>(
 }
 
 /// Where the value that begins there ends, of which nothing is wanted.
-#[inline(always)]
+#[inline(never)]
 pub(crate) fn skipped(text: &str, from: usize, depth: usize) -> Option<usize>
     requires { from ≤ length text.now }
     ensures { IfSome result (λ end. (d : Data) × IsValue depth text.now from end d) }

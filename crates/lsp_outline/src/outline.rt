@@ -52,6 +52,7 @@ fn has_result(message: &Message) -> bool
 }
 
 /// What the text means as a call of this method, whose params are not read or came before it.
+#[inline(never)]
 fn act_otherwise(alloc: Global, method: Method, text: &str) -> Option<Act>
     ensures { IfSome result (λ act. (ms : Members) → read_text text.now ≡ Some (object ms)
         → Means ms method (act_view act)) }
@@ -127,6 +128,7 @@ fn meant(alloc: Global, side: Side, message: Message) -> Result<Spoken, RpcFault
 }
 
 /// What a content of the side says, of whatever form.
+#[inline(never)]
 fn spoken_whole(alloc: Global, side: Side, content: &[u8]) -> Result<Spoken, RpcFault>
     ensures ok { (results : Results) → IfOk result (λ spoken. spec.Says results side content.now
         (message_view spoken.message) (act_view spoken.act)) }

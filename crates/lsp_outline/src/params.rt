@@ -332,7 +332,7 @@ pub(crate) fn act_by(method: Method, told: Option<Told>) -> Option<Act>
 
 /// The params of this method that begin there, with what they mean where the method reads them, and
 /// where they end.
-#[inline(always)]
+#[inline(never)]
 pub(crate) fn params_at(
     alloc: Global,
     method: Method,

@@ -218,6 +218,7 @@ pub(crate) fn plain_text(text: &str, from: usize) -> Option<(&str, usize)>
 
 /// The text of a string that begins there, its escapes read, and where it ends, past its closing
 /// quote.
+#[inline(never)]
 fn unescaped(alloc: Global, text: &str, from: usize) -> Option<(String, usize)>
     requires { IsCharBoundary text.now from }
     ensures { IfSome result (λ r. IsText text.now from r.1 (string_bytes r.0)) }

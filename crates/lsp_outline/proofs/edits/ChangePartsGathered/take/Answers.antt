@@ -10,11 +10,10 @@ use Rattle.lsp_outline.proofs.edits.ChangePartsGathered.take.Goals as goal
 pub returns-in_ok-span-in-range : goal.returns-in_ok-span-in-range
 returns-in_ok-span-in-range c =
     let read = c.in_ok-span-in-range.ensures in (
-      object read.0,
+      read.0,
       read.1,
       first_came (λ o. if_given span_at (option_and_then unless_null o)) (option_and_then as_str)
-          (codes "range") (codes "text") c.args.name.now (object read.0) _ _ refl c.in-range.is _
-          (ap (option_map Some) read.2),
+          (codes "range") (codes "text") c.args.name.now read.0 _ _ refl c.in-range.is _ read.2,
     )
 
 pub returns-in_ok-copy-in-text : goal.returns-in_ok-copy-in-text

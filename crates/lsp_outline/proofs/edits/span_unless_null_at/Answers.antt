@@ -1,0 +1,19 @@
+use Rattle.std.proofs.Common.{◌≡◌, Some, get_or, option_map, refl, ap, arith}
+use Rattle.serde_json.specs.Data.{null, object}
+use Rattle.lsp_outline.proofs.Walking.{null_value}
+use Rattle.lsp_outline.proofs.edits.span_unless_null_at.Goals as goal
+
+pub returns-then-byte_at-eq110 : goal.returns-then-byte_at-eq110
+returns-then-byte_at-eq110 c =
+    let d = c.args.text.now in
+    let bytes = c.as_bytes-bytes.ensures.value in
+    let read = c.in_ok-end in
+    let first : get_or d c.args.from 0 ≡ 110 = rw (← bytes) (grind arith) in (
+      null,
+      null_value c.args.depth d c.args.from read.end first (rw (← bytes) read.ensures),
+      refl,
+    )
+
+pub returns : goal.returns
+returns c =
+    let read = c.in_ok-span.ensures in (object read.0, read.1, ap (option_map Some) read.2)
