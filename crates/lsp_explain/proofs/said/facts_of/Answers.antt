@@ -1,7 +1,14 @@
-use Rattle.std.proofs.Common.{◌∙◌, ap, subst}
+use Rattle.std.specs.Prelude.{chars, string_bytes}
+use Rattle.std.proofs.Common.{◌≡◌, ◌∙◌, List, ℕ, Some, ap, subst, w32, rules}
+use Rattle.std.proofs.lemmas.Int.{to_z-of_z}
+use mir.Val.{SFits}
+use Rattle.lsp_docs.specs.Calls.{shows}
+use Rattle.lsp_verdict.specs.Event.{snapshot}
+use Rattle.lsp_facts.specs.EventFacts.{AreCallFacts}
+use Rattle.lsp_explain.specs.Traced.{AreTraced}
 use Rattle.std.proofs.lemmas.Result.{IfOk-weaker}
 use Rattle.lsp_survey.specs.Walking.{IsOffending}
-use Rattle.lsp_verdict.specs.Offences.{kept_of}
+use Rattle.lsp_verdict.specs.Offences.{kept_of, rule_at}
 use Rattle.lsp_facts.specs.Fact.{facts_view}
 use Rattle.lsp_facts.specs.MessageFacts.{content_facts}
 use Rattle.lsp_explain.specs.RunSteps.{ShowsFault}
@@ -35,3 +42,23 @@ returns-in-Message c = IfOk-weaker c.message_traced.result _ _
     reads (subst (IsOffending raw terms (kept_of terms before) c.args.rule) c.in-Message.is is)
     offends (subst (λ o. ShowsFault rests o c.args.rest.now) c.in-Message.is shows)
     (λ bytes refused. says bytes before stands number refused)) c.message_traced.ensures
+
+pub returns-in-Snapshot : goal.returns-in-Snapshot
+returns-in-Snapshot c =
+    let fits : SFits w32 c.in-Snapshot.version = search rules in
+    let told = simp to_z-of_z at c.shown_traced.ensures in
+    let version = c.in-Snapshot.version in
+    IfOk-weaker c.shown_traced.result _ _
+    (λ facts says raw event before stands number reads is offends rests shown.
+    let terms = terms_in c.args.events.now in
+    let Said : List ℕ → List ℕ → Type 0 =
+    λ u t. rule_at terms before (snapshot u version (chars t)) ≡ Some c.args.rule
+    → AreTraced (AreCallFacts terms (kept_of terms before) c.args.rule
+    (Some (shows u version (chars t)))) terms before (snapshot u version (chars t)) c.args.rule
+    (facts_view facts.items) in
+    facts_said terms before c.args.rule c.args.rest.now rests raw event _ (facts_view facts.items)
+    reads (subst (IsOffending raw terms (kept_of terms before) c.args.rule) c.in-Snapshot.is is)
+    offends (subst (λ o. ShowsFault rests o c.args.rest.now) c.in-Snapshot.is shown)
+    (subst (λ u. Said u (string_bytes c.in-Snapshot.text)) c.as_str.ensures.value
+    (subst (Said c.as_str.result.now) c.as_str-in-Snapshot.ensures.value
+    (says before stands number)))) told
