@@ -104,7 +104,7 @@ impl<S: TextStore> Docs<S> {
         self.documents.at(index)
     }
 
-    /// The URIs of the open documents, one after another, in order of opening.
+    /// The URIs of the open documents, one after another, in the order in which they were opened.
     pub fn uris(&self) -> OpenUris<'_, S>
         ensures { (calls : List Call) → Stands self.now calls
             → result ≡ map (λ h. h.uri) (documents self.now.terms calls) }

@@ -7,7 +7,8 @@ use lsp_order::Walk;
 use lsp_text::TextStore;
 use std::marker::Model;
 
-/// The URIs that are still to come, in order of opening. Contracts see their list.
+/// The URIs that are still to come, in the order in which they were opened. Contracts see their
+/// list.
 #[derive(Drop)]
 pub struct OpenUris<'a, S: TextStore> {
     pub(crate) walk: Walk<'a, String, Document<S>>,

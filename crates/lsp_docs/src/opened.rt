@@ -68,7 +68,7 @@ impl<S: TextStore> OpenDocuments<S> {
         Some(uri.as_str())
     }
 
-    /// The URIs, one after another, in order of opening.
+    /// The URIs, one after another, in the order in which they were opened.
     pub(crate) fn uris(&self) -> OpenUris<'_, S>
         ensures { result ≡ map (λ h. h.uri) self.now.held }
     {

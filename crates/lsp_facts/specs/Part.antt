@@ -30,18 +30,18 @@ most_shown = 200
 abbrev pub shown_before : ℕ
 shown_before = 100
 
--- how many of so many characters are left out before those that are shown: none where all are
+-- how many of this many characters are left out before those that are shown: none where all are
 abbrev pub left_before : ℕ → ℕ → ℕ
 left_before count place = if nat_lt most_shown count then place - shown_before else 0
 
--- how many are left out after them, where so many are before them
+-- how many are left out after them, where this many are before them
 abbrev pub left_after : ℕ → ℕ → ℕ
 left_after count before = count - before - most_shown
 
 abbrev pub shown : ℕ → Text → Text
 shown before line = take most_shown (drop before line)
 
--- **the line, or the part of it around the place after so many of its characters**
+-- **the line, or the part of it around the place after this many of its characters**
 abbrev pub part_at : ℕ → Text → Part
 part_at place line =
     let before = left_before (length line) place in

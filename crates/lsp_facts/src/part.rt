@@ -34,7 +34,7 @@ pub(crate) fn same_front(first: &str, second: &str) -> usize
         .count()
 }
 
-/// A line, or the part of it around the place after so many of its characters.
+/// A line, or the part of it around the place after this many of its characters.
 pub(crate) fn part_at(alloc: Global, line: &str, place: usize) -> Result<Part, Memory>
     ensures { IfOk result (λ part. spec.part_view part ≡ spec.part_at place (chars line.now)) }
 {
@@ -54,7 +54,7 @@ fn char_count(line: &str) -> usize
     line.chars().count()
 }
 
-/// How many characters of a line of so many are left out before the text that is shown.
+/// How many characters of a line of this many are left out before the text that is shown.
 fn left_before(count: usize, place: usize) -> usize
     ensures { result ≡ spec.left_before count place }
 {
@@ -65,14 +65,14 @@ fn left_before(count: usize, place: usize) -> usize
     }
 }
 
-/// How many are left out after it, where so many are before it.
+/// How many are left out after it, where this many are before it.
 fn left_after(count: usize, before: usize) -> usize
     ensures { result ≡ spec.left_after count before }
 {
     count.saturating_sub(before).saturating_sub(MOST_SHOWN)
 }
 
-/// The characters of a line that are shown, where so many are left out before them.
+/// The characters of a line that are shown, where this many are left out before them.
 fn shown_text(alloc: Global, line: &str, before: usize) -> Result<String, Memory>
     ensures { IfOk result (λ text. string_bytes text
         ≡ encodes (spec.shown before (chars line.now))) }

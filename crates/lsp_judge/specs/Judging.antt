@@ -31,18 +31,18 @@ pub record KeepsAnswer {X : Type 0} (old new : State) (Is : X → spec.Verdict �
   pub repeats : (given : spec.Verdict) → is_given old.given ≡ Some given
       → IfOk result (λ answer. Is answer given)
   pub stays : (given : spec.Verdict) → is_given old.given ≡ Some given → new ≡ old
-  -- So is a want of memory.
+  -- So is a refusal of memory.
   pub refused : WasRefused old.given → IsErr result
   pub stays_refused : WasRefused old.given → new ≡ old
   pub memory : OnErr result (WasRefused new.given)
 
--- the records are kept, and where it has to be, their session was brought to its end
+-- the records are kept, and where it must be, their session was brought to its end
 abbrev pub AreKeptBy : Completeness → Bounds → Format → List Record → Type 0
 AreKeptBy Ignored limits format records = AreKept limits format records
 AreKeptBy Required limits format records = AreComplete limits format records
 
 -- what a No names: the first event that offends; or the stream that ends inside a frame; or, where
--- it has to be complete, what the session of records that are kept lacks
+-- it must be complete, what the session of records that are kept lacks
 abbrev pub NamesBy : Completeness → Bounds → Format → List Record → spec.Verdict → Type 0
 NamesBy Ignored limits format records given =
     NamesFirst limits format records given ⊎ NamesRest limits format records given
