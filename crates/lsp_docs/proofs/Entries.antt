@@ -10,7 +10,7 @@ use Rattle.std.specs.String.{string_eq}
 use Rattle.std.specs.Map.{keys_of, lookup, remove_entry, set_value}
 use Rattle.std.specs.Str.{bytes_eq}
 use Rattle.std.proofs.lemmas.Bool.{cases_Bool}
-use Rattle.lsp_order.specs.Texts.{is_text}
+use Rattle.lsp_types.specs.Texts.{is_text}
 use Rattle.lsp_docs.specs.Calls.{Bytes}
 use Rattle.lsp_docs.specs.Documents.{Version}
 use Rattle.lsp_docs.specs.Kept.{last_of}

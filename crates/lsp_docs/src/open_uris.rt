@@ -3,8 +3,8 @@
 ghost use Rattle.std.specs.Prelude.{◌≡◌, drop, option_map, slice_get};
 
 use crate::document::Document;
-use lsp_order::Walk;
 use lsp_text::TextStore;
+use lsp_types::Walk;
 use std::marker::Model;
 
 /// The URIs that are still to come, in the order in which they were opened. Contracts see their

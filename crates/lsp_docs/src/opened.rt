@@ -13,9 +13,8 @@ ghost use Rattle.lsp_docs.specs.State.{text_in, without};
 use crate::document::Document;
 use crate::fault::DocFault;
 use crate::open_uris::OpenUris;
-use lsp_order::OrderedMap;
 use lsp_text::TextStore;
-use lsp_types::{Change, Encoding};
+use lsp_types::{Change, Encoding, OrderedMap};
 use std::alloc::{AllocError, Global};
 use std::marker::Model;
 

@@ -3,8 +3,8 @@ ghost use Rattle.std.specs.Prelude.{◌≡◌, drop, option_map, slice_get};
 ghost use Rattle.lsp_session.specs.Entry.{request_view};
 
 use crate::pending::OpenRequest;
-use lsp_order::Walk;
 use lsp_rpc::Id;
+use lsp_types::Walk;
 use std::marker::Model;
 
 /// The open requests that are still to come, in the order in which they were asked. Contracts see

@@ -8,9 +8,8 @@ ghost use Rattle.lsp_session.specs.Refusal.{Names};
 
 use crate::open_requests::OpenRequests;
 use crate::refusal::Refusal;
-use lsp_order::OrderedMap;
 use lsp_rpc::{Id, Memory, copy_id};
-use lsp_types::rules;
+use lsp_types::{OrderedMap, rules};
 use std::alloc::Global;
 use std::marker::Model;
 

@@ -1,1 +1,4 @@
 pub mod Numbers
+pub mod Lends
+pub mod Places
+pub mod Texts

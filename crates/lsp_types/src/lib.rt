@@ -1,11 +1,13 @@
-//! Plain types of the Language Server Protocol 3.17 that several layers share, and the error for
-//! refused memory.
+//! What several layers share: plain types of the Language Server Protocol 3.17, the numbers of the
+//! rules, the error for refused memory, and a map that keeps its keys in the order in which they
+//! entered.
 #![tactic(auto)]
 
 mod change;
 mod laws;
 mod line_ends;
 mod memory;
+mod ordered;
 mod position;
 pub mod rules;
 mod side;
@@ -14,5 +16,6 @@ pub use change::{Change, SyncKind};
 pub use laws::{documents_begin_at_601, rules_are_numbered};
 pub use line_ends::LineEnds;
 pub use memory::Memory;
+pub use ordered::{OrderedMap, Walk};
 pub use position::{Encoding, Position, Span};
 pub use side::Side;

@@ -2,7 +2,7 @@ use Rattle.std.proofs.Common.{◌≡◌, ◌∷◌, [], Some, is_some, option_ma
 use Rattle.std.proofs.Common.{subst, ◌∙◌, w32, rules}
 use Rattle.std.specs.Map.{lookup}
 use Rattle.std.specs.Option.{option_copied_mut}
-use Rattle.lsp_order.specs.Texts.{is_text}
+use Rattle.lsp_types.specs.Texts.{is_text}
 use Rattle.std.proofs.lemmas.Int.{to_z-of_z}
 use mir.Val.{SFits}
 use Rattle.std.proofs.lemmas.Result.{on_err_weaker, IfErr-weaker}

@@ -3,7 +3,7 @@ use Rattle.std.specs.Map.{lookup}
 use Rattle.std.proofs.lemmas.Int.{to_z-of_z}
 use Rattle.std.proofs.lemmas.Result.{on_ok_weaker, on_err_weaker}
 use mir.Val.{SFits}
-use Rattle.lsp_order.specs.Texts.{is_text}
+use Rattle.lsp_types.specs.Texts.{is_text}
 use Rattle.lsp_docs.specs.Documents.{versioned}
 use Rattle.lsp_docs.specs.Opened.{held_of, kept_of}
 use Rattle.lsp_docs.specs.State.{held_in, KeepsSame}

@@ -2,7 +2,7 @@ use Rattle.std.proofs.Common.{[], is_some, sym, ap, ◌∙◌}
 use Rattle.std.specs.Prelude.{if◌then◌else◌}
 use Rattle.std.specs.Map.{lookup}
 use Rattle.std.specs.Str.{bytes_eq}
-use Rattle.lsp_order.specs.Texts.{is_text}
+use Rattle.lsp_types.specs.Texts.{is_text}
 use Rattle.lsp_docs.specs.Documents.{versioned}
 use Rattle.lsp_docs.specs.Opened.{held_of, kept_of}
 use Rattle.lsp_docs.specs.State.{held_in, kept_in, without}

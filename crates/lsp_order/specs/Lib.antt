@@ -1,3 +1,0 @@
-pub mod Lends
-pub mod Places
-pub mod Texts
