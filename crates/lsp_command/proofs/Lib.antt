@@ -1,3 +1,6 @@
 pub mod Appended
 pub mod Endings
 pub mod Fronts
+pub mod Asked
+pub mod Found
+mod Worked

@@ -5,3 +5,6 @@ pub mod Ports
 pub mod Remarks
 pub mod Status
 pub mod Tasks
+pub mod CommandLine
+pub mod Words
+pub mod Slips

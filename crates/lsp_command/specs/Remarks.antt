@@ -14,8 +14,9 @@ use Rattle.lsp_verdict.specs.declared.outcome.RunFault.{RunFault}
 use Rattle.lsp_verdict.specs.declared.outcome.RunFault.TheVariants.{Read, Write, Memory}
 use Rattle.lsp_verdict.specs.declared.verdict.Verdict.{Verdict}
 use Rattle.lsp_verdict.specs.declared.verdict.Verdict.TheVariants.{Yes}
-use Rattle.lsp_words.specs.declared.task.Task.{Task}
-use Rattle.lsp_words.specs.declared.task.Task.TheVariants.{Text, Normal, Upgrade, Frames}
+use Rattle.lsp_command.specs.declared.command_line.task.Task.{Task}
+use Rattle.lsp_command.specs.declared.command_line.task.Task.TheVariants.{Text, Normal, Upgrade}
+use Rattle.lsp_command.specs.declared.command_line.task.Task.TheVariants.{Frames}
 
 -- the fixed words for how a task ended
 abbrev pub remark_of : Result TaskOutcome RunFault → Option (List ℕ)

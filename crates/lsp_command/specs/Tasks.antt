@@ -31,8 +31,11 @@ use Rattle.lsp_streams.specs.declared.event.EventOutcome.{EventOutcome}
 use Rattle.lsp_streams.specs.declared.event.EventOutcome.TheVariants as events
 use Rattle.lsp_command.specs.Ended.{of_event, of_run}
 use Rattle.lsp_command.specs.declared.task_outcome.TaskOutcome.{TaskOutcome}
-use Rattle.lsp_words.specs.declared.task.Task.{Task}
-use Rattle.lsp_words.specs.declared.task.Task.TheVariants.{Check, Survey, Explain, ExplainAll, Show, Text, Event, Normal, Upgrade, Frames}
+use Rattle.lsp_command.specs.declared.command_line.task.Task.{Task}
+use Rattle.lsp_command.specs.declared.command_line.task.Task.TheVariants.{Check, Survey, Explain}
+use Rattle.lsp_command.specs.declared.command_line.task.Task.TheVariants.{ExplainAll, Show, Text}
+use Rattle.lsp_command.specs.declared.command_line.task.Task.TheVariants.{Event, Normal, Upgrade}
+use Rattle.lsp_command.specs.declared.command_line.task.Task.TheVariants.{Frames}
 
 -- `explain`: the verdict on the log read, whose session must be complete or not, and what explains
 -- it

@@ -3,10 +3,10 @@ ghost use Rattle.std.specs.Prelude.{◌≡◌, IfOk, IfErr, option_map, string_b
 ghost use Rattle.lsp_verdict.specs.declared.outcome.RunFault.TheVariants as faults;
 ghost use Rattle.lsp_command.specs.Remarks.{remark_of, report_apart, run_report_apart};
 
+use crate::command_line::Task;
 use crate::task_outcome::TaskOutcome;
 use lsp_judge::{EventOutcome, Mode, Outcome, RunFault, Verdict};
 use lsp_verdict::{frame_report, verdict_report};
-use lsp_words::Task;
 use std::alloc::Global;
 
 /// The fixed words for how a task ended, without their line end, where there are any.

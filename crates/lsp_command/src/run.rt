@@ -5,8 +5,9 @@ ghost use Rattle.lsp_verdict.specs.declared.outcome.RunFault.TheVariants as faul
 ghost use Rattle.lsp_command.specs.Ports.{input_error, output_error, unwritten};
 ghost use Rattle.lsp_command.specs.Tasks.{Answers, RanThrough};
 
-use crate::inlet::Inlet;
-use crate::outlet::Outlet;
+use crate::command_line::Task;
+use crate::input::Input;
+use crate::output::Output;
 use crate::task_outcome::{TaskOutcome, of_event, of_run};
 use lsp_explain::{run_explain, run_explain_all};
 use lsp_frame::{Limits, Sink, Source};
@@ -15,7 +16,6 @@ use lsp_judge::{
     run_normal, run_show, run_show_long, run_text, run_upgrade,
 };
 use lsp_survey::run_survey;
-use lsp_words::Task;
 use std::alloc::Global;
 use std::io::{Read, Write};
 
@@ -74,23 +74,23 @@ pub fn run_task<R: Source, W: Sink>(
 pub fn run_through<R: Read + Drop, W: Write + Drop>(
     alloc: Global,
     task: Task<'_>,
-    inlet: &mut Inlet<R>,
-    outlet: &mut Outlet<W>,
+    input: &mut Input<R>,
+    output: &mut Output<W>,
     limits: Limits,
 ) -> Result<TaskOutcome, RunFault>
     ensures ran { RanThrough limits task.entry (record {
-      source_before = ⟦<Inlet<R> as Source>⟧.told inlet.old;
-      source_after = ⟦<Inlet<R> as Source>⟧.told inlet.new;
-      sink_before = ⟦<Outlet<W> as Sink>⟧.told outlet.old;
-      sink_after = ⟦<Outlet<W> as Sink>⟧.told outlet.new;
-    }) (unwritten outlet.new) result }
-    ensures flushed { OnOk result (unwritten outlet.new ≡ []) }
+      source_before = ⟦<Input<R> as Source>⟧.told input.old;
+      source_after = ⟦<Input<R> as Source>⟧.told input.new;
+      sink_before = ⟦<Output<W> as Sink>⟧.told output.old;
+      sink_after = ⟦<Output<W> as Sink>⟧.told output.new;
+    }) (unwritten output.new) result }
+    ensures flushed { OnOk result (unwritten output.new ≡ []) }
     // A fault of the input or the output has its error.
-    ensures read_error { result ≡ Err faults.Read → IsSome (input_error inlet.new) }
-    ensures write_error { result ≡ Err faults.Write → IsSome (output_error outlet.new) }
+    ensures read_error { result ≡ Err faults.Read → IsSome (input_error input.new) }
+    ensures write_error { result ≡ Err faults.Write → IsSome (output_error output.new) }
 {
-    let ended = run_task(alloc, task, inlet, outlet, limits);
-    match outlet.flush() {
+    let ended = run_task(alloc, task, input, output, limits);
+    match output.flush() {
         Err(_) if ended.is_ok() => Err(RunFault::Write),
         _ => ended,
     }

@@ -16,7 +16,7 @@ use clap::Error;
 use clap::error::ErrorKind;
 pub use lsp_command::status_of;
 use lsp_command::{
-    Hint, Inlet, Outlet, Request, Slip, TaskOutcome, hint_of, only_word, remark_of, report_apart,
+    Hint, Input, Output, Request, Slip, TaskOutcome, hint_of, only_word, remark_of, report_apart,
     request_of, run_through, status_of_task, status_of_words, uri_alone,
 };
 use lsp_judge::{Limits, RunFault};
@@ -70,18 +70,18 @@ fn run_on<R: Print + Eprint + AllocGlobal, I: Read + Drop>(
     progress: &Progress<'_, R>,
 ) -> Ended {
     let alloc = rt.alloc();
-    let Ok(mut inlet) = Inlet::new(alloc, Watched::new(progress, input)) else {
+    let Ok(mut input) = Input::new(alloc, Watched::new(progress, input)) else {
         return Ended::by(RunFault::Memory);
     };
-    let Ok(mut outlet) = Outlet::new(alloc, MakingWay::new(progress, io::writer(rt))) else {
+    let Ok(mut output) = Output::new(alloc, MakingWay::new(progress, io::writer(rt))) else {
         return Ended::by(RunFault::Memory);
     };
     let limits = Limits::profile();
-    let answer = run_through(alloc, request.task, &mut inlet, &mut outlet, limits);
+    let answer = run_through(alloc, request.task, &mut input, &mut output, limits);
     let advice = match answer {
-        Err(RunFault::Read) => inlet.cause().map(Advice::Input),
-        Err(RunFault::Write) => outlet.cause().map(Advice::Output),
-        _ => hint_of(&answer, inlet.beginning().as_slice()).map(Advice::Hint),
+        Err(RunFault::Read) => input.cause().map(Advice::Input),
+        Err(RunFault::Write) => output.cause().map(Advice::Output),
+        _ => hint_of(&answer, input.beginning().as_slice()).map(Advice::Hint),
     };
     Ended { answer, advice }
 }

@@ -1,0 +1,27 @@
+use Rattle.std.proofs.Common.{◌≡◌, ◌∙◌, ap, codes, subst, sym, List, Option, Some}
+use Rattle.clap.specs.Words.{Row, Text}
+use Rattle.clap.specs.Matches.{found_of}
+use Rattle.clap.proofs.WalkLemmas.{first_value-rows}
+use Rattle.lsp_command.specs.Words.{AsksFor, file_of, rows_in}
+use Rattle.lsp_command.specs.declared.command_line.task.Request.{Request}
+use Rattle.lsp_command.proofs.Found.{subcommand_is}
+use Rattle.lsp_command.proofs.command_line.words.request_in.Goals as goal
+
+pub returns : goal.returns
+returns c =
+    let name = c.in_ok-name.name.now in
+    let arguments = c.in_ok-name.arguments.now in
+    let named = c.in_ok-name.ensures in
+    let found = subcommand_is c.args.matches.now name (rows_in arguments) named.name named.rows in
+    let file = c.get_str.ensures ∙ first_value-rows (found_of arguments) (codes "file") in
+    let request : Request = record {
+      task = c.in_ok-task.task;
+      file = c.file_of-file.result;
+      quiet = c.is_set-quiet.result;
+    } in
+    let asked : AsksFor (Some (name, rows_in arguments)) request = record {
+      task = c.in_ok-task.ensures;
+      file = c.file_of-file.ensures ∙ ap file_of file;
+      quiet = c.is_set-quiet.ensures;
+    } in
+    subst (λ (o : Option (Text × List Row)). AsksFor o request) (sym found) asked

@@ -1,0 +1,168 @@
+-- What the words of a command line ask for, read off what `clap` finds in them.
+use Rattle.std.specs.Prelude.{◌≡◌, ◌⊎◌, ◌<◌, ◌^◌, ℕ, Bool, true, false, List, [], Option, Some, None, MatchOption, codes, option_and_then, option_map, if◌then◌else◌}
+use Rattle.std.specs.Str.{bytes_eq}
+use Rattle.std.specs.Str.Parse.{IsNumeral, digits_value, without_leading_plus}
+use Rattle.std.specs.Int.NonZero.{non_zero_u64_get}
+use Rattle.std.specs.declared.num.NonZeroU64.{NonZeroU64}
+use Rattle.clap.specs.Words.{App, HasKind, Row, Text, fault_of, first_of, kind_of, one_of, rows_of, subcommand_of}
+use Rattle.clap.specs.Matches.{found_of}
+use Rattle.clap.specs.declared.error.Error.{Error}
+use Rattle.clap.specs.declared.error.kind.ErrorKind.TheVariants.{MissingSubcommand}
+use Rattle.clap.specs.declared.parser.matches.ArgMatches.{ArgMatches}
+use Rattle.lsp_verdict.specs.declared.completeness.Completeness.{Completeness}
+use Rattle.lsp_verdict.specs.declared.completeness.Completeness.TheVariants.{Ignored, Required}
+use Rattle.lsp_verdict.specs.declared.lines.Lines.{Lines}
+use Rattle.lsp_verdict.specs.declared.lines.Lines.TheVariants.{Short, Long}
+use Rattle.lsp_verdict.specs.declared.outcome.Mode.{Mode}
+use Rattle.lsp_verdict.specs.declared.outcome.Mode.TheVariants.{Lengths, Canonical, Kinds}
+use Rattle.lsp_verdict.specs.declared.listing.Listing.{Listing}
+use Rattle.lsp_verdict.specs.declared.listing.Listing.TheVariants.{Causes, Every}
+use Rattle.lsp_command.specs.declared.command_line.task.Request.{Request}
+use Rattle.lsp_command.specs.declared.command_line.task.Task.{Task}
+use Rattle.lsp_command.specs.declared.command_line.task.Task.TheVariants as tasks
+
+-- what was found of a command's arguments and options
+abbrev pub rows_in : ArgMatches → List Row
+rows_in arguments = rows_of (found_of arguments)
+
+-- the file of a name: standard input for `-`, and where there is no name
+abbrev pub file_of : Option (List ℕ) → Option (List ℕ)
+file_of name = option_and_then (λ n. if bytes_eq n (codes "-") then None else Some n) name
+
+-- the mode of a name
+abbrev pub mode_named : List ℕ → Mode
+mode_named name =
+    if bytes_eq name (codes "canonical") then Canonical
+    else if bytes_eq name (codes "kinds") then Kinds
+    else Lengths
+
+abbrev pub mode_of : Option (List ℕ) → Mode
+mode_of (Some name) = mode_named name
+mode_of None = Lengths
+
+abbrev pub completeness_of : Bool → Completeness
+completeness_of true = Required
+completeness_of false = Ignored
+
+-- an option with this value is set, or is not; one without a value is not
+pub record IsFlag (value : Option (List ℕ)) (set : Bool) : Type 0 where
+  pub given : value ≡ Some (codes "true") → set ≡ true
+  pub refused : value ≡ Some (codes "false") → set ≡ false
+  pub absent : value ≡ None → set ≡ false
+
+-- which offences are listed, where any but the first are: all that follow from none, or every one
+abbrev pub listing_of : Bool → Bool → Option Listing
+listing_of all every = if every then Some Every else if all then Some Causes else None
+
+abbrev pub check_of : Completeness → Option Listing → Task
+check_of completeness None = tasks.Check completeness
+check_of completeness (Some listing) = tasks.Survey completeness listing
+
+abbrev pub explain_of : Completeness → Bool → Task
+explain_of completeness all = if all then tasks.ExplainAll completeness else tasks.Explain completeness
+
+abbrev pub lines_of : Bool → Lines
+lines_of true = Long
+lines_of false = Short
+
+-- the session must be complete where the option for that is set, and offences are listed where an
+-- option for these is set
+pub record AsksCheck (rows : List Row) (completeness : Completeness) (listing : Option Listing) : Type 0 where
+  pub complete : Bool
+  pub all : Bool
+  pub every : Bool
+  pub complete_is : IsFlag (one_of (codes "complete") rows) complete
+  pub all_is : IsFlag (one_of (codes "all") rows) all
+  pub every_is : IsFlag (one_of (codes "every") rows) every
+  pub completeness_is : completeness ≡ completeness_of complete
+  pub listing_is : listing ≡ listing_of all every
+
+-- the session must be complete where the option for that is set, and all that is wrong is explained
+-- where the option for that is set
+pub record AsksExplain (rows : List Row) (completeness : Completeness) (all : Bool) : Type 0 where
+  pub complete : Bool
+  pub complete_is : IsFlag (one_of (codes "complete") rows) complete
+  pub all_is : IsFlag (one_of (codes "all") rows) all
+  pub completeness_is : completeness ≡ completeness_of complete
+
+-- the lines are long where the option for these is set
+abbrev pub AsksShow : List Row → Lines → Type 0
+AsksShow rows lines = (set : Bool) × IsFlag (one_of (codes "long") rows) set × (lines ≡ lines_of set)
+
+-- the words give this number, which 64 bits hold, and not 0
+pub record GivesNumber (rows : List Row) (number : ℕ) : Type 0 where
+  pub digits : Text
+  pub given : one_of (codes "number") rows ≡ Some digits
+  pub numeral : IsNumeral 10 (without_leading_plus digits)
+  pub value : number ≡ digits_value 10 (without_leading_plus digits)
+  pub some : 0 < number
+  pub fits : number < 2 ^ 64
+
+-- the number that the words give, where they give one
+abbrev pub NumberIn : List Row → Option NonZeroU64 → Type 0
+NumberIn rows result =
+    MatchOption result ((n : ℕ) → GivesNumber rows n → ⊥) (λ n. GivesNumber rows (non_zero_u64_get n))
+
+-- the command of a task
+abbrev pub command_of : Task → Text
+command_of (tasks.Check completeness) = codes "check"
+command_of (tasks.Survey completeness listing) = codes "check"
+command_of (tasks.Explain completeness) = codes "explain"
+command_of (tasks.ExplainAll completeness) = codes "explain"
+command_of (tasks.Show lines) = codes "show"
+command_of (tasks.Text number uri) = codes "text"
+command_of (tasks.Event number) = codes "event"
+command_of tasks.Normal = codes "normal"
+command_of tasks.Upgrade = codes "upgrade"
+command_of (tasks.Frames mode) = codes "frames"
+
+-- the arguments and options of a task
+abbrev pub HasArguments : List Row → Task → Type 0
+HasArguments rows (tasks.Check completeness) = AsksCheck rows completeness None
+HasArguments rows (tasks.Survey completeness listing) = AsksCheck rows completeness (Some listing)
+HasArguments rows (tasks.Explain completeness) = AsksExplain rows completeness false
+HasArguments rows (tasks.ExplainAll completeness) = AsksExplain rows completeness true
+HasArguments rows (tasks.Show lines) = AsksShow rows lines
+HasArguments rows (tasks.Text number uri) = GivesNumber rows (non_zero_u64_get number) × (first_of (codes "uri") rows ≡ Some uri.now)
+HasArguments rows (tasks.Event number) = GivesNumber rows (non_zero_u64_get number)
+HasArguments rows tasks.Normal = Unit {0}
+HasArguments rows tasks.Upgrade = Unit {0}
+HasArguments rows (tasks.Frames mode) = mode ≡ mode_of (first_of (codes "as") rows)
+
+-- **the command of this name asks for the task**, with what was found of its arguments and options
+pub record HasTask (name : Text) (rows : List Row) (task : Task) : Type 0 where
+  pub command : name ≡ command_of task
+  pub arguments : HasArguments rows task
+
+-- the task that the command of a name asks for, where it asks for one
+abbrev pub TaskIn : Text → List Row → Option Task → Type 0
+TaskIn name rows result =
+    MatchOption result ((task : Task) → HasTask name rows task → ⊥) (HasTask name rows)
+
+-- a command of this name asks for the request: its task, the file that it names, and whether no
+-- progress is to be shown
+pub record AsksOf (name : Text) (rows : List Row) (request : Request) : Type 0 where
+  pub task : HasTask name rows request.task
+  pub file : option_map (λ path. path.now) request.file ≡ file_of (first_of (codes "file") rows)
+  pub quiet : IsFlag (one_of (codes "quiet") rows) request.quiet
+
+abbrev pub AsksFor : Option (Text × List Row) → Request → Type 0
+AsksFor None request = ⊥
+AsksFor (Some p) request = AsksOf p.0 p.1 request
+
+-- the request that a command asks for, where it asks for one
+abbrev pub RequestIn : Option (Text × List Row) → Option Request → Type 0
+RequestIn found result =
+    MatchOption result ((request : Request) → AsksFor found request → ⊥) (AsksFor found)
+
+-- **what the words ask for**: `clap` takes them, and the command that it finds asks for the request
+pub record Asks (app : App) (words : List Text) (request : Request) : Type 0 where
+  pub taken : fault_of app words ≡ []
+  pub found : AsksFor (subcommand_of app words) request
+
+-- **how words are refused**: as `clap` refuses them; or what it finds asks for nothing, and a command is required
+abbrev pub Refuses : App → List Text → Error → Type 0
+Refuses app words error =
+    HasKind (fault_of app words) error
+    ⊎ ((kind_of error ≡ MissingSubcommand)
+    × ((request : Request) → AsksFor (subcommand_of app words) request → ⊥))

@@ -1,0 +1,198 @@
+//! What the words of the command line ask for.
+ghost use Rattle.std.specs.Prelude.{◌≡◌, IfErr, IfOk, codes, map, option_map, string_bytes};
+ghost use Rattle.clap.specs.Words.{App, one_of, subcommand_rows_of};
+ghost use Rattle.lsp_command.specs.CommandLine.{IsCommandLine};
+ghost use Rattle.lsp_command.specs.Words.{Asks, HasTask, IsFlag, NumberIn, Refuses, RequestIn};
+ghost use Rattle.lsp_command.specs.Words.{TaskIn, check_of, completeness_of, explain_of, file_of};
+ghost use Rattle.lsp_command.specs.Words.{lines_of, listing_of, mode_of, rows_in};
+
+use crate::command_line::commands::command_line;
+use crate::command_line::task::{Request, Task};
+use clap::error::ErrorKind;
+use clap::{ArgMatches, Error};
+use lsp_verdict::{Completeness, Lines, Listing, Mode};
+use std::alloc::Global;
+use std::num::NonZeroU64;
+
+/// The mode of this name; the parser of the option lets no other name pass.
+fn mode_of(name: Option<&str>) -> Mode
+    ensures { result ≡ mode_of (option_map (λ s. s.now) name.entry) }
+{
+    match name {
+        Some("canonical") => Mode::Canonical,
+        Some("kinds") => Mode::Kinds,
+        _ => Mode::Lengths,
+    }
+}
+
+/// Whether a session must be complete, where the option for it is set or not.
+fn completeness_of(set: bool) -> Completeness
+    ensures { result ≡ completeness_of set }
+{
+    if set {
+        Completeness::Required
+    } else {
+        Completeness::Ignored
+    }
+}
+
+/// Which offences are listed, where any but the first are: the options for all and for every one
+/// are set or not.
+fn listing_of(all: bool, every: bool) -> Option<Listing>
+    ensures { result ≡ listing_of all every }
+{
+    if every {
+        Some(Listing::Every)
+    } else if all {
+        Some(Listing::Causes)
+    } else {
+        None
+    }
+}
+
+/// The verdict on a session, or a list of its offences.
+fn check_of<'a>(completeness: Completeness, listing: Option<Listing>) -> Task<'a>
+    ensures { result ≡ check_of completeness listing }
+{
+    match listing {
+        Some(listing) => Task::Survey(completeness, listing),
+        None => Task::Check(completeness),
+    }
+}
+
+/// What explains the verdict on a session, or all that is wrong with it, where the option for that
+/// is set or not.
+fn explain_of<'a>(completeness: Completeness, all: bool) -> Task<'a>
+    ensures { result ≡ explain_of completeness all }
+{
+    if all {
+        Task::ExplainAll(completeness)
+    } else {
+        Task::Explain(completeness)
+    }
+}
+
+/// What the lines of events tell, where the option for long ones is set or not.
+fn lines_of(set: bool) -> Lines
+    ensures { result ≡ lines_of set }
+{
+    if set { Lines::Long } else { Lines::Short }
+}
+
+/// Whether this option is set.
+fn is_set(arguments: &ArgMatches<'_>, name: &str) -> bool
+    ensures { IsFlag (one_of name.now (rows_in arguments.now)) result }
+{
+    arguments.get_flag(name)
+}
+
+/// The number of a message or an event.
+fn number_of(arguments: &ArgMatches<'_>) -> Option<NonZeroU64>
+    ensures { NumberIn (rows_in arguments.now) result }
+{
+    NonZeroU64::new(arguments.get_one::<u64>("number")?)
+}
+
+fn check_task<'a>(arguments: &ArgMatches<'_>) -> Task<'a>
+    ensures { HasTask (codes "check") (rows_in arguments.now) result }
+{
+    check_of(
+        completeness_of(is_set(arguments, "complete")),
+        listing_of(is_set(arguments, "all"), is_set(arguments, "every")),
+    )
+}
+
+fn explain_task<'a>(arguments: &ArgMatches<'_>) -> Task<'a>
+    ensures { HasTask (codes "explain") (rows_in arguments.now) result }
+{
+    explain_of(
+        completeness_of(is_set(arguments, "complete")),
+        is_set(arguments, "all"),
+    )
+}
+
+fn show_task<'a>(arguments: &ArgMatches<'_>) -> Task<'a>
+    ensures { HasTask (codes "show") (rows_in arguments.now) result }
+{
+    Task::Show(lines_of(is_set(arguments, "long")))
+}
+
+fn text_task<'a>(arguments: &ArgMatches<'a>) -> Option<Task<'a>>
+    ensures { TaskIn (codes "text") (rows_in arguments.now) result }
+{
+    let number = number_of(arguments)?;
+    let uri = arguments.get_str("uri")?;
+    Some(Task::Text { number, uri })
+}
+
+fn event_task<'a>(arguments: &ArgMatches<'_>) -> Option<Task<'a>>
+    ensures { TaskIn (codes "event") (rows_in arguments.now) result }
+{
+    let number = number_of(arguments)?;
+    Some(Task::Event { number })
+}
+
+fn frames_task<'a>(arguments: &ArgMatches<'_>) -> Task<'a>
+    ensures { HasTask (codes "frames") (rows_in arguments.now) result }
+{
+    Task::Frames(mode_of(arguments.get_str("as")))
+}
+
+/// The task of the command of this name, with its arguments.
+fn task_of<'a>(name: &str, arguments: &ArgMatches<'a>) -> Option<Task<'a>>
+    ensures { TaskIn name.now (rows_in arguments.now) result }
+{
+    match name {
+        "check" => Some(check_task(arguments)),
+        "explain" => Some(explain_task(arguments)),
+        "show" => Some(show_task(arguments)),
+        "text" => text_task(arguments),
+        "event" => event_task(arguments),
+        "normal" => Some(Task::Normal),
+        "upgrade" => Some(Task::Upgrade),
+        "frames" => Some(frames_task(arguments)),
+        _ => None,
+    }
+}
+
+/// The file of this name, where it names one: `-` is standard input.
+fn file_of<'a>(name: Option<&'a str>) -> Option<&'a str>
+    ensures { option_map (λ s. s.now) result ≡ file_of (option_map (λ s. s.now) name.entry) }
+{
+    match name {
+        Some("-") => None,
+        _ => name,
+    }
+}
+
+/// The request of the command that was found, with its arguments.
+fn request_in<'a>(matches: &ArgMatches<'a>) -> Option<Request<'a>>
+    ensures { RequestIn (subcommand_rows_of matches.now) result }
+{
+    let (name, arguments) = matches.subcommand()?;
+    let task = task_of(name, arguments)?;
+    let file = file_of(arguments.get_str("file"));
+    let quiet = is_set(arguments, "quiet");
+    Some(Request { task, file, quiet })
+}
+
+/// Reads the words of a command line, the program's name first.
+///
+/// # Errors
+/// `OutOfMemory` where memory was refused; `DisplayHelp` and `DisplayVersion` where the words ask
+/// for these; anything else where they don't parse.
+pub fn request_of<'a>(alloc: Global, words: &'a [String]) -> Result<Request<'a>, Error>
+    // The words parse by the command line, and the command found in them asks for the request.
+    ensures ok { IfOk result (λ request.
+        (app : App) × IsCommandLine app × Asks app (map string_bytes words.entry.now) request) }
+    // The error is one that these words have by the command line, or memory was refused.
+    ensures err { IfErr result (λ error.
+        (app : App) × IsCommandLine app × Refuses app (map string_bytes words.entry.now) error) }
+{
+    let mut command = command_line(alloc)?;
+    let matches = command.try_get_matches_from_mut(words)?;
+    match request_in(&matches) {
+        Some(request) => Ok(request),
+        None => Err(command.error(ErrorKind::MissingSubcommand, "a command is required")?),
+    }
+}

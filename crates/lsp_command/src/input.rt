@@ -1,0 +1,154 @@
+//! What a run reads: a file or standard input.
+ghost use Rattle.std.specs.Prelude.{◌≡◌, ◌<◌, ◌≤◌, ◌↔◌, ◌+◌, ◌++◌, [], IfOk, OnOk, OnErr, IsSome};
+ghost use Rattle.std.specs.Prelude.{length, take, vec_len, vec_capacity};
+ghost use Rattle.std.specs.Io.{ReadsAtMost, appended_bytes};
+ghost use Rattle.std.specs.Io.KnownBytes.{Consumes, IsAtEnd};
+ghost use Rattle.lsp_frame.specs.Told.{CountsFailure, Gave, GaveOnto, KeepsBytes};
+ghost use Rattle.lsp_command.specs.Beginnings.{kept};
+ghost use Rattle.lsp_command.specs.Ports.{first_bytes, input_error};
+
+use crate::beginning::Beginning;
+use crate::io_state::IoState;
+use lsp_frame::{Failed, Source};
+use std::alloc::{AllocError, Global};
+use std::io;
+use std::io::{BufRead, BufReader, Read};
+
+/// How many bytes are asked for at once.
+const GATHERED: usize = 65_536;
+
+/// A source over a reader of std, which reads ahead. It keeps what the reader gave first, and the
+/// error by which it last failed.
+#[derive(Drop)]
+pub struct Input<R> {
+    reader: BufReader<R>,
+    beginning: Beginning,
+    tally: IoState,
+}
+
+impl<R: Read + Drop> Input<R> {
+    /// A source that has not failed and has given nothing yet.
+    pub fn new(alloc: Global, reader: R) -> Result<Input<R>, AllocError>
+        ensures remaining { IfOk result (λ input.
+            Consumes (R.remaining reader) (⟦<Input<R> as Source>⟧.told input).bytes []) }
+        ensures first { IfOk result (λ input. first_bytes input ≡ []) }
+        ensures failures { IfOk result (λ input.
+            (⟦<Input<R> as Source>⟧.told input).failures ≡ 0) }
+    {
+        Ok(Input {
+            reader: BufReader::with_capacity(alloc, GATHERED, reader).map_err(|_| AllocError)?,
+            beginning: Beginning::new(),
+            tally: IoState::new(),
+        })
+    }
+
+    /// The bytes that were given first.
+    pub fn beginning(&self) -> &Beginning
+        ensures { kept result.now ≡ first_bytes self.now }
+    {
+        &self.beginning
+    }
+
+    /// Why the last call failed that did.
+    pub fn cause(&self) -> Option<io::Error>
+        ensures value { result ≡ input_error self.now }
+        ensures failed { IsSome result ↔ (0 < (⟦<Input<R> as Source>⟧.told self.now).failures) }
+    {
+        self.tally.cause()
+    }
+}
+
+impl<R: Read> Source for Input<R> {
+    ghost told = { λ s. record {
+      bytes = ⟦<BufReader<R> as Read>⟧.remaining s.reader;
+      count = s.tally.bytes;
+      failures = s.tally.failures;
+    } };
+
+    /// Fills the front of the buffer as the trait says. It fails where the reader does, which is
+    /// asked only if nothing is left of what was read ahead.
+    fn pull(&mut self, buffer: &mut [u8]) -> Result<usize, Failed>
+        ensures count { ReadsAtMost result buffer.new }
+        ensures gave { IfOk result (λ n.
+            Gave (⟦<Input<R> as Source>⟧.told self.old) (⟦<Input<R> as Source>⟧.told self.new)
+            (take n buffer.new)) }
+        ensures end { IfOk result (λ n.
+            n ≡ 0 → 0 < length buffer.new → IsAtEnd (⟦<Input<R> as Source>⟧.told self.new).bytes) }
+        ensures err { OnErr result
+            (KeepsBytes (⟦<Input<R> as Source>⟧.told self.old)
+            (⟦<Input<R> as Source>⟧.told self.new)) }
+        ensures failures { CountsFailure (⟦<Input<R> as Source>⟧.told self.old).failures
+            (⟦<Input<R> as Source>⟧.told self.new).failures result }
+        // The first bytes are kept.
+        ensures first { IfOk result (λ n.
+            first_bytes self.new ≡ take 32 (first_bytes self.old ++ take n buffer.new)) }
+        ensures same_first { OnErr result (first_bytes self.new ≡ first_bytes self.old) }
+    {
+        let answer = self.reader.read(buffer);
+        let count = self.tally.count(answer)?;
+        self.beginning.keep(&buffer[..count]);
+        Ok(count)
+    }
+
+    /// Appends bytes to the buffer as the trait says: those that were read ahead, straight from
+    /// there, or if there are none, at most [`GATHERED`] from the reader.
+    fn pull_onto(&mut self, buffer: &mut Vec<u8>, most: usize) -> Result<usize, Failed>
+        requires room { vec_len buffer.old + most ≤ vec_capacity buffer.old }
+        ensures room { vec_capacity buffer.old ≤ vec_capacity buffer.new }
+        ensures gave { IfOk result (λ n.
+            GaveOnto (⟦<Input<R> as Source>⟧.told self.old) (⟦<Input<R> as Source>⟧.told self.new)
+            buffer.old.items buffer.new.items most n) }
+        ensures end { IfOk result (λ n.
+            n ≡ 0 → 0 < most → IsAtEnd (⟦<Input<R> as Source>⟧.told self.new).bytes) }
+        ensures same { OnErr result (buffer.new.items ≡ buffer.old.items) }
+        ensures err { OnErr result
+            (KeepsBytes (⟦<Input<R> as Source>⟧.told self.old)
+            (⟦<Input<R> as Source>⟧.told self.new)) }
+        ensures failures { CountsFailure (⟦<Input<R> as Source>⟧.told self.old).failures
+            (⟦<Input<R> as Source>⟧.told self.new).failures result }
+        // The first bytes are kept.
+        ensures first { OnOk result (first_bytes self.new
+            ≡ take 32 (first_bytes self.old ++ appended_bytes buffer.old.items buffer.new.items)) }
+        ensures same_first { OnErr result (first_bytes self.new ≡ first_bytes self.old) }
+    {
+        let count = self.reader.buffer().len().min(most);
+        if count == 0 {
+            return pull_fresh(self, buffer, most);
+        }
+        let ahead = &self.reader.buffer()[..count];
+        buffer.extend_from_slice(ahead).unwrap();
+        self.beginning.keep(ahead);
+        self.reader.consume(count);
+        self.tally.count(Ok(count))
+    }
+}
+
+/// Appends what one call of the input gives, at most this many bytes and [`GATHERED`].
+fn pull_fresh<R: Read>(
+    input: &mut Input<R>,
+    buffer: &mut Vec<u8>,
+    most: usize,
+) -> Result<usize, Failed>
+    requires room { vec_len buffer.old + most ≤ vec_capacity buffer.old }
+    ensures room { vec_capacity buffer.old ≤ vec_capacity buffer.new }
+    ensures gave { IfOk result (λ n.
+        GaveOnto (⟦<Input<R> as Source>⟧.told input.old) (⟦<Input<R> as Source>⟧.told input.new)
+        buffer.old.items buffer.new.items most n) }
+    ensures end { IfOk result (λ n.
+        n ≡ 0 → 0 < most → IsAtEnd (⟦<Input<R> as Source>⟧.told input.new).bytes) }
+    ensures same { OnErr result (buffer.new.items ≡ buffer.old.items) }
+    ensures err { OnErr result
+        (KeepsBytes (⟦<Input<R> as Source>⟧.told input.old)
+        (⟦<Input<R> as Source>⟧.told input.new)) }
+    ensures failures { CountsFailure (⟦<Input<R> as Source>⟧.told input.old).failures
+        (⟦<Input<R> as Source>⟧.told input.new).failures result }
+    ensures first { OnOk result (first_bytes input.new
+        ≡ take 32 (first_bytes input.old ++ appended_bytes buffer.old.items buffer.new.items)) }
+    ensures same_first { OnErr result (first_bytes input.new ≡ first_bytes input.old) }
+{
+    let start = buffer.len();
+    buffer.resize(start + most.min(GATHERED), 0).unwrap();
+    let answer = input.pull(&mut buffer[start..]);
+    buffer.truncate(start + answer.unwrap_or(0));
+    answer
+}
