@@ -70,12 +70,12 @@ pub trait Sink {
 
 /// How many bytes were moved, and how many calls have failed, each up to the greatest `u64`.
 #[derive(Clone, Copy)]
-struct Tally {
+struct IoStats {
     bytes: u64,
     failures: u64,
 }
 
-impl Tally {
+impl IoStats {
     /// Counts a call by its answer, and gives that on.
     fn count(&mut self, answer: Result<usize, Failed>) -> Result<usize, Failed>
         ensures same { result ≡ answer }
@@ -116,7 +116,7 @@ fn taken(answer: io::Result<usize>, len: usize) -> Result<usize, Failed>
 #[derive(Drop)]
 pub struct Input<R> {
     reader: R,
-    tally: Tally,
+    tally: IoStats,
 }
 
 impl<R: Read> Input<R> {
@@ -127,7 +127,7 @@ impl<R: Read> Input<R> {
     {
         Input {
             reader,
-            tally: Tally {
+            tally: IoStats {
                 bytes: 0,
                 failures: 0,
             },
@@ -153,7 +153,7 @@ impl<R: Read> Source for Input<R> {
 #[derive(Drop)]
 pub struct Output<W> {
     writer: W,
-    tally: Tally,
+    tally: IoStats,
 }
 
 impl<W: Write> Output<W> {
@@ -164,7 +164,7 @@ impl<W: Write> Output<W> {
     {
         Output {
             writer,
-            tally: Tally {
+            tally: IoStats {
                 bytes: 0,
                 failures: 0,
             },

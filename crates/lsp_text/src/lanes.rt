@@ -5,7 +5,7 @@ ghost use Rattle.std.specs.Prelude.{IsTrue};
 ghost use Rattle.std.specs.List.{sum_by};
 ghost use Rattle.lsp_text.specs.Offsets.{byte_units};
 
-use crate::counts::Counts;
+use crate::counts::TextCounts;
 use lsp_types::Encoding;
 use std::simd::u8x32;
 
@@ -19,7 +19,7 @@ const LEAD: u8 = 0xC0;
 const LEAD_OF_FOUR: u8 = 0xF0;
 
 /// The characters and the units of UTF-16 that bytes bring, in one pass.
-pub(crate) fn count(bytes: &[u8]) -> Counts
+pub(crate) fn count(bytes: &[u8]) -> TextCounts
     ensures chars { result.chars ≡ sum_by (byte_units Encoding.Utf32) bytes.now }
     ensures utf16 { result.utf16 ≡ sum_by (byte_units Encoding.Utf16) bytes.now }
 {
@@ -36,7 +36,7 @@ pub(crate) fn count(bytes: &[u8]) -> Counts
         chars += units_of_byte(*byte, Encoding::Utf32) as u64;
         utf16 += units_of_byte(*byte, Encoding::Utf16) as u64;
     }
-    Counts { chars, utf16 }
+    TextCounts { chars, utf16 }
 }
 
 /// The bytes of the blocks at the front that hold ASCII alone.

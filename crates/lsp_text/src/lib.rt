@@ -23,7 +23,7 @@ mod store;
 
 pub use changes::{change, change_all};
 pub use columns::offset_in_line;
-pub use counts::{Counts, measure};
+pub use counts::{TextCounts, measure};
 pub use cut::FirstLine;
 pub use difference::{Difference, first_difference};
 pub use fault::TextFault;
