@@ -8,7 +8,7 @@ use Rattle.lsp_verdict.specs.Event.{Event, message, fault, snapshot}
 use Rattle.lsp_verdict.specs.Shown.{event_line}
 use Rattle.lsp_events.specs.declared.heard.Heard.{Heard}
 use Rattle.lsp_events.specs.declared.heard.Heard.TheVariants as heard
-use Rattle.lsp_events.specs.declared.heard.Place.{Place}
+use Rattle.lsp_events.specs.declared.heard.EventPlace.{EventPlace}
 
 -- the event was heard as this: a message but for its params and the value of a result, with what it
 -- means, or a snapshot
@@ -23,7 +23,7 @@ IsHeard (snapshot uri number text) (heard.Snapshot version name shown answer) =
     (uri ≡ name.now) × (number ≡ version) × (text ≡ chars shown.now)
 
 -- the line of the event at this place, empty for a fault
-abbrev pub line_of : Lines → Place → Event → List ℕ
+abbrev pub line_of : Lines → EventPlace → Event → List ℕ
 line_of lines place event = unwrap_or (event_line lines place.event place.number event) []
 
 -- each word after a space

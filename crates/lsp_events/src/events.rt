@@ -23,7 +23,7 @@ use crate::fault::{Fault, Refused};
 use crate::heard::Heard;
 use lsp_docs::{DocFault, Docs};
 use lsp_frame::{Format, Limits};
-use lsp_outline::{OutlineReader, Results};
+use lsp_outline::{MessageReader, Results};
 use lsp_rpc::{Act, Change, Encoding, Side, Spoken, SyncKind};
 use lsp_session::Session;
 use lsp_text::TextStore;
@@ -39,7 +39,7 @@ pub struct Events<S: TextStore> {
     pub session: Session,
     pub docs: Docs<S>,
     pub counts: Counts,
-    messages: OutlineReader,
+    messages: MessageReader,
 }
 
 impl<S: TextStore> Events<S> {
@@ -52,7 +52,7 @@ impl<S: TextStore> Events<S> {
             session: Session::new(alloc),
             docs: Docs::of_format(alloc, limits, format),
             counts: Counts::new(),
-            messages: OutlineReader::new(alloc),
+            messages: MessageReader::new(alloc),
         }
     }
 
@@ -169,7 +169,7 @@ fn wanted_results(session: &Session) -> Results
 /// Reads a content with what it means on its side.
 fn spoken_in(
     session: &Session,
-    messages: &mut OutlineReader,
+    messages: &mut MessageReader,
     side: Side,
     content: &[u8],
 ) -> Result<Spoken, Refused>

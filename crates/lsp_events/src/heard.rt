@@ -21,7 +21,7 @@ pub enum Heard<'a> {
 
 /// Where an event stands.
 #[derive(Clone, Copy, Debug, PartialEq, Eq)]
-pub struct Place {
+pub struct EventPlace {
     /// Its number among those of its side, or of a snapshot among the snapshots, from 1.
     pub number: u64,
     /// Its number among all events, from 1.

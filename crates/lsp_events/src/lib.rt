@@ -14,6 +14,6 @@ mod summary;
 
 pub use events::Events;
 pub use fault::Refused;
-pub use heard::{Heard, Place};
+pub use heard::{EventPlace, Heard};
 pub use lines::write_event_line;
 pub use summary::summary_of;

@@ -12,7 +12,7 @@ ghost use Rattle.lsp_verdict.specs.Shown.{document_words, message_words, snapsho
 ghost use Rattle.lsp_verdict.specs.Shown.{words_behind};
 ghost use Rattle.lsp_events.specs.Lines.{IsHeard, line_of, row, spaced};
 
-use crate::heard::{Heard, Place};
+use crate::heard::{EventPlace, Heard};
 use lsp_frame::{Sink, put_all};
 use lsp_rpc::{Act, Memory, Side, Spoken, push_quoted, words_of};
 use lsp_verdict::{Lines, RunFault, side_name};
@@ -123,7 +123,7 @@ fn fill_message_line(
     alloc: Global,
     text: &mut String,
     lines: Lines,
-    place: Place,
+    place: EventPlace,
     side: Side,
     spoken: &Spoken,
 ) -> Result<(), Memory>
@@ -166,7 +166,7 @@ fn fill_snapshot_line(
     alloc: Global,
     text: &mut String,
     lines: Lines,
-    place: Place,
+    place: EventPlace,
     version: i32,
     uri: &str,
     shown: &str,
@@ -185,7 +185,7 @@ fn fill_event_line(
     alloc: Global,
     text: &mut String,
     lines: Lines,
-    place: Place,
+    place: EventPlace,
     heard: &Heard<'_>,
 ) -> Result<(), Memory>
     ensures { OnOk result ((event : Event) → IsHeard event heard.now
@@ -213,7 +213,7 @@ fn write_line<W: Sink>(
     writer: &mut W,
     text: &mut String,
     lines: Lines,
-    place: Place,
+    place: EventPlace,
     heard: &Heard<'_>,
 ) -> Result<(), RunFault>
     ensures { (event : Event) → IsHeard event heard.now
@@ -233,7 +233,7 @@ pub fn write_event_line<W: Sink>(
     writer: &mut W,
     text: &mut String,
     lines: Lines,
-    place: Place,
+    place: EventPlace,
     heard: Heard<'_>,
 ) -> Result<(), RunFault>
     ensures { (event : Event) → IsHeard event heard.entry

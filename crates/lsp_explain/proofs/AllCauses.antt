@@ -10,7 +10,7 @@ use Rattle.lsp_frame.specs.Bounds.{Bounds}
 use Rattle.lsp_log.specs.Log.{Record}
 use Rattle.lsp_streams.specs.LogEvents.{GoesBehind}
 use Rattle.lsp_survey.specs.Reads.{Finds}
-use Rattle.lsp_survey.specs.declared.offending.Found.{Found}
+use Rattle.lsp_survey.specs.declared.offending.FoundOffence.{FoundOffence}
 use Rattle.lsp_types.specs.declared.side.Side.TheVariants.{Editor, Server}
 use Rattle.lsp_verdict.specs.Offences.{Noted, Offence, events_of, follows, rule_at}
 use Rattle.lsp_verdict.specs.Outcome.{HasRest}
@@ -57,7 +57,7 @@ by_following terms hs h rule b is f =
     ∙ ap (λ (t : Bool). if not t then breach hs h rule ∷ [] else []) f
 
 -- it follows, or is a cause, as was found
-module _ (terms : Terms) (hs : List Heard) (h : Heard) (found : Found)
+module _ (terms : Terms) (hs : List Heard) (h : Heard) (found : FoundOffence)
     (f : Finds h.raw terms (notes_of hs) h.note found) where
   follows_as : found.offence.follows ≡ follows terms (notes_of hs) h.note f.rule
   follows_as = ap (λ (o : Offence). o.follows) f.is

@@ -24,7 +24,7 @@ use Rattle.lsp_survey.specs.Reads.{Ended, EndedBehind, IsSurveyOf}
 use Rattle.lsp_survey.specs.Reported.{IsTally}
 use Rattle.lsp_survey.specs.declared.survey_reader.End.{End}
 use Rattle.lsp_survey.specs.declared.survey_reader.SurveyReader.{SurveyReader}
-use Rattle.lsp_survey.specs.declared.tally.Tally.{Tally}
+use Rattle.lsp_survey.specs.declared.offence_count.OffenceCount.{OffenceCount}
 use Rattle.lsp_survey.proofs.Reporting.{closed_some}
 use Rattle.lsp_types.specs.declared.side.Side.TheVariants.{Editor, Server}
 use Rattle.lsp_verdict.specs.Event.{Event, sent_in}
@@ -64,7 +64,8 @@ use Rattle.lsp_explain.proofs.Judged.{some_by}
 
 -- ---- the log ended
 
-pub ended_telling : (completeness : Completeness) (limits : Bounds) (e f : SurveyReader) (t : Tally)
+pub ended_telling : (completeness : Completeness) (limits : Bounds) (e f : SurveyReader)
+    (t : OffenceCount)
     (start mid now old new : Told) (inv : IsTelling completeness limits e t start mid old new)
     (end : End) → f.walk.events.docs.terms ≡ e.walk.events.docs.terms
     → Ended e.completeness limits f start now (raws_of inv.hs) (notes_of inv.hs) inv.found end
@@ -166,7 +167,7 @@ module _ (rests held : Rests) (sent : List Numbered) (events : List Event) where
 
 -- ---- all that is said
 
-module _ (completeness : Completeness) (limits : Bounds) (e : SurveyReader) (t : Tally)
+module _ (completeness : Completeness) (limits : Bounds) (e : SurveyReader) (t : OffenceCount)
     (start now old new : Told) (end : End)
     (told : CausesTold completeness limits e t start now old new end) where
   abbrev hs : List Heard
@@ -325,7 +326,7 @@ module _ (completeness : Completeness) (limits : Bounds) (e : SurveyReader) (t :
 
 -- ---- what stands behind all offences
 
-pub last_some : (t : Tally) (found : List Offence) (first : code_offence.Offence)
+pub last_some : (t : OffenceCount) (found : List Offence) (first : code_offence.Offence)
     (bad : Option Verdict) (flaw : List Fact) (s : Summary) (text : List ℕ) (v : Verdict)
     → t.first ≡ Some first → IsTally t found → length found < 2 ^ 64
     → text ≡ bad_lines bad ++ flaw_lines bad flaw ++ line
@@ -341,7 +342,8 @@ last_some t (o ∷ found) first bad flaw s text v is tally few text_is v_is =
     is tally few refl v_is in
     (text_is ∙ ap (λ w. bad_lines bad ++ flaw_lines bad flaw ++ w) counted.0, counted.1)
 
-pub none_found : (t : Tally) (found : List Offence) → t.first ≡ None → IsTally t found → found ≡ []
+pub none_found : (t : OffenceCount) (found : List Offence) → t.first ≡ None → IsTally t found
+    → found ≡ []
 none_found t [] is tally = refl
 none_found t (o ∷ found) is tally =
     let same : None ≡ Some o = ap (option_map offence_view) (sym is) ∙ tally.first in absurd cc

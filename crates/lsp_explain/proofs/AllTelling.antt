@@ -14,9 +14,9 @@ use Rattle.lsp_log.specs.Log.{Record}
 use Rattle.lsp_streams.specs.LogEvents.{HasGiven}
 use Rattle.lsp_survey.specs.Reads.{SoFar, GaveBehind, BrokeOff, found_in}
 use Rattle.lsp_survey.specs.Reported.{IsTally}
-use Rattle.lsp_survey.specs.declared.offending.Heard as code_heard
+use Rattle.lsp_survey.specs.declared.offending.Judged as code_heard
 use Rattle.lsp_survey.specs.declared.survey_reader.SurveyReader.{SurveyReader}
-use Rattle.lsp_survey.specs.declared.tally.Tally.{Tally}
+use Rattle.lsp_survey.specs.declared.offence_count.OffenceCount.{OffenceCount}
 use Rattle.lsp_survey.proofs.Reading.{fewer_given, so_far_failures, so_far_given}
 use Rattle.lsp_types.specs.declared.side.Side.TheVariants.{Editor, Server}
 use Rattle.lsp_verdict.specs.Offences.{Noted, Offence, IsNoted}
@@ -48,7 +48,8 @@ lines_append xs ys = flat_map-append cause_lines xs ys
 -- ---- what was told so far
 
 -- these events of the log were heard, and the causes among them explained
-pub record IsTelling (completeness : Completeness) (limits : Bounds) (e : SurveyReader) (t : Tally)
+pub record IsTelling (completeness : Completeness) (limits : Bounds) (e : SurveyReader)
+    (t : OffenceCount)
     (start now old new : Told) : Type 0 where
   pub hs : List Heard
   pub said : List Explained
@@ -59,7 +60,8 @@ pub record IsTelling (completeness : Completeness) (limits : Bounds) (e : Survey
   pub tally : IsTally t found
   pub wrote : Wrote old new (lines said)
 
-pub nothing_told_yet : (limits : Bounds) (e : SurveyReader) (t : Tally) (start now old : Told)
+pub nothing_told_yet : (limits : Bounds) (e : SurveyReader) (t : OffenceCount)
+    (start now old : Told)
     → SoFar limits e start now [] [] [] → IsTally t []
     → IsTelling e.completeness limits e t start now old old
 nothing_told_yet limits e t start now old so tally = record {
@@ -121,7 +123,8 @@ module _ (limits : Bounds) (hs : List Heard) (noted : AllZip IsNoted (raws_of hs
 -- ---- faults
 
 -- the log was not read to its end
-pub broke_telling : (completeness : Completeness) (limits : Bounds) (e : SurveyReader) (t : Tally)
+pub broke_telling : (completeness : Completeness) (limits : Bounds) (e : SurveyReader)
+    (t : OffenceCount)
     (start mid now old new : Told) (fault : RunFault)
     → (inv : IsTelling completeness limits e t start mid old new) → (k : Completeness)
     → BrokeOff k limits start now inv.found fault
@@ -167,7 +170,7 @@ never_told completeness limits start now told fault off = record {
 
 -- ---- one more event
 
-module _ (completeness : Completeness) (limits : Bounds) (e f : SurveyReader) (t : Tally)
+module _ (completeness : Completeness) (limits : Bounds) (e f : SurveyReader) (t : OffenceCount)
     (start mid now old between : Told)
     (inv : IsTelling completeness limits e t start mid old between) (given : code_heard.Heard)
     (gave : GaveBehind inv.so_far.records limits f start now (raws_of inv.hs) (notes_of inv.hs)
@@ -220,7 +223,7 @@ module _ (completeness : Completeness) (limits : Bounds) (e f : SurveyReader) (t
       (sym (notes-append inv.hs (here ∷ []))) first)
 
   -- it was told
-  pub told_more : (u : Unit {0}) (new : Told) (s : Tally) → f.completeness ≡ e.completeness
+  pub told_more : (u : Unit {0}) (new : Told) (s : OffenceCount) → f.completeness ≡ e.completeness
       → IsTally s found → TellsCause limits gave.0.so_far.records terms inv.hs here between new
       (Ok u) → IsTelling completeness limits f s start now old new
   told_more u new s same tally (more, are, wrote) =

@@ -6,8 +6,8 @@ use Rattle.lsp_docs.specs.Terms.{Terms}
 use Rattle.lsp_events.specs.Standing.{RefusesMessage}
 use Rattle.lsp_rpc.specs.View.{act_view, message_view}
 use Rattle.lsp_survey.specs.Walking.{IsOffending}
-use Rattle.lsp_survey.specs.declared.offending.Offending.{Offending}
-use Rattle.lsp_survey.specs.declared.offending.Offending.TheVariants as what
+use Rattle.lsp_survey.specs.declared.offending.OffendingEvent.{OffendingEvent}
+use Rattle.lsp_survey.specs.declared.offending.OffendingEvent.TheVariants as what
 use Rattle.lsp_verdict.specs.Contents.{IsSent}
 use Rattle.lsp_verdict.specs.Event.{Event, message, fault, snapshot}
 use Rattle.lsp_verdict.specs.Offences.{kept_of, rule_at}
@@ -30,7 +30,7 @@ module _ (terms : Terms) (before : List Event) (rule : ℕ) where
   kept = kept_of terms before
 
   -- what is said of what was found, where these bytes are held of its side
-  abbrev pub Says : List ℕ → Offending → List Fact → Type 0
+  abbrev pub Says : List ℕ → OffendingEvent → List Fact → Type 0
   Says rest (what.Frames by) facts = facts ≡ frame_facts rest
   Says rest (what.Content by given) facts = facts ≡ content_facts given.items
   Says rest (what.Message by spoken) facts =
@@ -51,7 +51,7 @@ module _ (terms : Terms) (before : List Event) (rule : ℕ) where
       AreTraced (AreFacts rests terms kept raw event rule) terms before event rule facts
 
   -- is said of the event that it is
-  pub facts_said : (rest : List ℕ) (rests : Rests) (raw : Raw) (event : Event) (o : Offending)
+  pub facts_said : (rest : List ℕ) (rests : Rests) (raw : Raw) (event : Event) (o : OffendingEvent)
       (facts : List Fact) → Reads raw event → IsOffending raw terms kept rule o
       → rule_at terms before event ≡ Some rule → ShowsFault rests o rest → Says rest o facts
       → AreAll rests raw event facts
@@ -107,7 +107,7 @@ module _ (terms : Terms) (before : List Event) (rule : ℕ) where
 
 module _ (terms : Terms) (kept : List Event) (rule event : ℕ) (by : Who) (number : ℕ) where
   -- the line of what was found
-  abbrev pub line_for : Offending → List ℕ
+  abbrev pub line_for : OffendingEvent → List ℕ
   line_for (what.Frames side) = bare_event event by number
   line_for (what.Content side given) = content_event event by number (content_message given.items)
   line_for (what.Message side spoken) =
@@ -115,7 +115,7 @@ module _ (terms : Terms) (kept : List Event) (rule event : ℕ) (by : Who) (numb
   line_for (what.Snapshot version uri text) = bare_event event by number
 
   -- is that of the event that it is
-  pub line_said : (raw : Raw) (e : Event) (o : Offending) → Reads raw e
+  pub line_said : (raw : Raw) (e : Event) (o : OffendingEvent) → Reads raw e
       → IsOffending raw terms kept rule o → line_for o ≡ event_line event by number raw
   line_said (broken side code) e (what.Frames from) reads is = refl
   line_said (content side bytes) e (what.Content from given) reads is =

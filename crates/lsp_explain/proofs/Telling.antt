@@ -11,10 +11,10 @@ use Rattle.lsp_survey.specs.Marking.{number_next}
 use Rattle.lsp_survey.specs.Reads.{SoFar, Finds, GaveEvent, HasEnded, IsBroken, ShowsFront}
 use Rattle.lsp_survey.specs.Reads.{found_in}
 use Rattle.lsp_survey.specs.Walking.{IsOffending}
-use Rattle.lsp_survey.specs.declared.offending.Found.{Found}
-use Rattle.lsp_survey.specs.declared.offending.Heard.TheVariants as heard
-use Rattle.lsp_survey.specs.declared.offending.Offending.{Offending}
-use Rattle.lsp_survey.specs.declared.offending.Offending.TheVariants as what
+use Rattle.lsp_survey.specs.declared.offending.FoundOffence.{FoundOffence}
+use Rattle.lsp_survey.specs.declared.offending.Judged.TheVariants as heard
+use Rattle.lsp_survey.specs.declared.offending.OffendingEvent.{OffendingEvent}
+use Rattle.lsp_survey.specs.declared.offending.OffendingEvent.TheVariants as what
 use Rattle.lsp_survey.specs.declared.survey_reader.SurveyReader.{SurveyReader}
 use Rattle.lsp_verdict.specs.Event.{Event}
 use Rattle.lsp_verdict.specs.Given.{offence_view, verdict_view}
@@ -41,7 +41,7 @@ same_no r s a b m n k l e = (cc e, cc e)
 
 -- what is said of what was found, where the reader stands for the events before it, and these bytes
 -- of its side are held
-abbrev pub SaidOf : SurveyReader → Found → List ℕ → List ℕ → Type 0
+abbrev pub SaidOf : SurveyReader → FoundOffence → List ℕ → List ℕ → Type 0
 SaidOf e found rest said =
     (raw : Raw) (event : Event) (before : List Event) → StandsAfter e before
     → found.offence.event ≡ number_next before → Reads raw event
@@ -56,7 +56,7 @@ SaidOf e found rest said =
 
 -- behind a fault of its frames these bytes show the header part that has it, whatever records
 -- follow
-abbrev pub SeenOf : SurveyReader → Found → List ℕ → Type 0
+abbrev pub SeenOf : SurveyReader → FoundOffence → List ℕ → Type 0
 SeenOf e found rest =
     (limits : Bounds) (start now : Told) (past : List Raw) (notes : List Noted)
     (prior : List Offence) → (so : SoFar limits e start now past notes prior)
@@ -71,7 +71,7 @@ rest_at limits records rests Server behind = behind.server
 
 -- so the fault that was found is shown
 fault_shown : (limits : Bounds) (s : SurveyReader) (records : List Record) (rests : Rests)
-    (rest : List ℕ) (terms : Terms) (kept : List Event) (rule : ℕ) (raw : Raw) (o : Offending)
+    (rest : List ℕ) (terms : Terms) (kept : List Event) (rule : ℕ) (raw : Raw) (o : OffendingEvent)
     → IsOffending raw terms kept rule o → HasEnded s raw
     → (IsBroken s (side_of o) → ShowsFront limits (side_of o) records rest)
     → RestsBehind limits records rests → ShowsFault rests o rest
@@ -90,7 +90,7 @@ fault_shown limits s records rests rest terms kept rule raw (what.Message by spo
 fault_shown limits s records rests rest terms kept rule raw (what.Snapshot version uri text) is
     ended seen behind = tt
 
-module _ (e : SurveyReader) (found : Found) (x : Explanation) (rest said : List ℕ)
+module _ (e : SurveyReader) (found : FoundOffence) (x : Explanation) (rest said : List ℕ)
     (text : string_bytes x.text ≡ report (offence_view found.offence).no ++ said)
     (named : verdict_view x.verdict ≡ (offence_view found.offence).no)
     (says : SaidOf e found rest said) where

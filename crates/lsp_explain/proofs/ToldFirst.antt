@@ -8,8 +8,8 @@ use Rattle.lsp_frame.specs.Bounds.{Bounds}
 use Rattle.lsp_frame.specs.Told.{Told}
 use Rattle.lsp_survey.specs.Reads.{SoFar, GaveEvent, BrokeOff, Ended}
 use Rattle.lsp_survey.specs.declared.survey_reader.End.{End}
-use Rattle.lsp_survey.specs.declared.offending.Found.{Found}
-use Rattle.lsp_survey.specs.declared.offending.Heard.TheVariants as heard
+use Rattle.lsp_survey.specs.declared.offending.FoundOffence.{FoundOffence}
+use Rattle.lsp_survey.specs.declared.offending.Judged.TheVariants as heard
 use Rattle.lsp_survey.specs.declared.survey_reader.SurveyReader.{SurveyReader}
 use Rattle.lsp_streams.specs.LogEvents.{HasGiven}
 use Rattle.lsp_verdict.specs.Given.{offence_view, verdict_view}
@@ -52,7 +52,7 @@ nothing_before (x ∷ []) y z ys is e =
 nothing_before (x ∷ w ∷ xs) y z ys is e = absurd cc
 
 module _ (completeness : Completeness) (limits : Bounds) (e : SurveyReader) (start now : Told)
-    (hs : List Heard) (found : Found) (x : Explanation) where
+    (hs : List Heard) (found : FoundOffence) (x : Explanation) where
   module _ (given : GaveEvent limits e start now (raws_of hs) (notes_of hs) []
       (heard.Offence found)) (noted : AllZip IsNoted (raws_of hs) (notes_of hs)) where
     abbrev own : Terms

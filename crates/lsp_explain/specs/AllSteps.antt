@@ -10,10 +10,10 @@ use Rattle.lsp_log.specs.Log.{Record}
 use Rattle.lsp_survey.specs.Asking.{Numbered, numbered}
 use Rattle.lsp_survey.specs.Reads.{GaveEvent, Ended, EndedBehind}
 use Rattle.lsp_survey.specs.Reported.{IsTally}
-use Rattle.lsp_survey.specs.declared.offending.Heard as code_heard
+use Rattle.lsp_survey.specs.declared.offending.Judged as code_heard
 use Rattle.lsp_survey.specs.declared.survey_reader.End.{End}
 use Rattle.lsp_survey.specs.declared.survey_reader.SurveyReader.{SurveyReader}
-use Rattle.lsp_survey.specs.declared.tally.Tally.{Tally}
+use Rattle.lsp_survey.specs.declared.offence_count.OffenceCount.{OffenceCount}
 use Rattle.lsp_verdict.specs.Given.{offence_view, verdict_view}
 use Rattle.lsp_verdict.specs.Offences.{Noted, Offence, events_of}
 use Rattle.lsp_verdict.specs.RunIo.{OfRead, failures_after, sink_failures_after}
@@ -95,7 +95,8 @@ TellsAll completeness limits start now old new (Err fault) =
     PartTold completeness limits start now old new fault
 
 -- the causes among the events were explained up to the log's end
-pub record CausesTold (completeness : Completeness) (limits : Bounds) (e : SurveyReader) (t : Tally)
+pub record CausesTold (completeness : Completeness) (limits : Bounds) (e : SurveyReader)
+    (t : OffenceCount)
     (start now old new : Told) (end : End) : Type 0 where
   pub hs : List Heard
   pub said : List Explained
@@ -108,7 +109,8 @@ pub record CausesTold (completeness : Completeness) (limits : Bounds) (e : Surve
   pub tally : IsTally t found
   pub wrote : Wrote old new (flat_map cause_lines said)
 
-abbrev pub TellsCauses : Completeness → Bounds → SurveyReader → Tally → Told → Told → Told → Told
+abbrev pub TellsCauses : Completeness → Bounds → SurveyReader → OffenceCount → Told → Told → Told
+    → Told
     → Result End RunFault → Type 0
 TellsCauses completeness limits e t start now old new (Ok end) =
     CausesTold completeness limits e t start now old new end
@@ -123,7 +125,7 @@ ends_said rests sent listed =
     map (λ (o : Offence). end_explained rests sent o.no) (map offence_view listed)
 
 -- what is written after these offences: what is said about the end of the log, and the closing
-abbrev pub IsClosing : SurveyReader → Tally → End → Explanation → Type 0
+abbrev pub IsClosing : SurveyReader → OffenceCount → End → Explanation → Type 0
 IsClosing e t end x =
     (found : List Offence) (notes : List Noted) → IsTally t found → (found ≡ [] → IsSound e notes)
     → StandsAfter e (events_of notes)
@@ -138,7 +140,7 @@ IsClosing e t end x =
     (summary_behind e notes))
 
 -- the same where what is listed of the end is already among those found
-abbrev pub IsLast : SurveyReader → Tally → Option code.Verdict → Explanation → Type 0
+abbrev pub IsLast : SurveyReader → OffenceCount → Option code.Verdict → Explanation → Type 0
 IsLast e t bad x =
     (found : List Offence) (notes : List Noted) → IsTally t found → (found ≡ [] → IsSound e notes)
     → length found < 2 ^ 64

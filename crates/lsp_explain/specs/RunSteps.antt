@@ -11,10 +11,10 @@ use Rattle.lsp_types.specs.declared.side.Side.TheVariants.{Editor, Server}
 use Rattle.lsp_docs.specs.Terms.{Terms}
 use Rattle.lsp_events.specs.Standing.{Follows}
 use Rattle.lsp_survey.specs.Reads.{SoFar, GaveEvent, Ended}
-use Rattle.lsp_survey.specs.declared.offending.Found.{Found}
-use Rattle.lsp_survey.specs.declared.offending.Heard.TheVariants as heard
-use Rattle.lsp_survey.specs.declared.offending.Offending.{Offending}
-use Rattle.lsp_survey.specs.declared.offending.Offending.TheVariants as what
+use Rattle.lsp_survey.specs.declared.offending.FoundOffence.{FoundOffence}
+use Rattle.lsp_survey.specs.declared.offending.Judged.TheVariants as heard
+use Rattle.lsp_survey.specs.declared.offending.OffendingEvent.{OffendingEvent}
+use Rattle.lsp_survey.specs.declared.offending.OffendingEvent.TheVariants as what
 use Rattle.lsp_survey.specs.declared.survey_reader.End.{End}
 use Rattle.lsp_survey.specs.declared.survey_reader.SurveyReader.{SurveyReader}
 use Rattle.lsp_verdict.specs.Given.{as_given, offence_view, verdict_view}
@@ -47,7 +47,7 @@ flaw_held e (Some (bad_log number code)) = flaw_facts number e.log.log.place (sh
 flaw_held e _ = []
 
 -- whose event offends; a snapshot is the editor's
-abbrev pub side_of : Offending → Side
+abbrev pub side_of : OffendingEvent → Side
 side_of (what.Frames side) = side
 side_of (what.Content side content) = side
 side_of (what.Message side spoken) = side
@@ -60,7 +60,7 @@ pub record RestsBehind (limits : Bounds) (records : List Record) (rests : Rests)
   pub server : HasRest limits (joined Server (records ++ more)) rests.server
 
 -- of a fault of the frames these bytes show the header part that has it
-abbrev pub ShowsFault : Rests → Offending → List ℕ → Type 0
+abbrev pub ShowsFault : Rests → OffendingEvent → List ℕ → Type 0
 ShowsFault rests (what.Frames side) bytes = header_front bytes ≡ header_front (rest_of rests side)
 ShowsFault rests (what.Content side content) bytes = Unit {0}
 ShowsFault rests (what.Message side spoken) bytes = Unit {0}
@@ -70,7 +70,7 @@ ShowsFault rests (what.Snapshot version uri text) bytes = Unit {0}
 
 -- the event that was found offends after these, and this is said about it, whatever records follow
 pub record Tells (limits : Bounds) (records : List Record) (terms : Terms) (hs : List Heard)
-    (h : Heard) (found : Found) (x : Explanation) : Type 0 where
+    (h : Heard) (found : FoundOffence) (x : Explanation) : Type 0 where
   pub rule : ℕ
   pub offends : rule_at terms (events_of (notes_of hs)) h.note.event ≡ Some rule
   pub told : Explained
@@ -82,7 +82,7 @@ pub record Tells (limits : Bounds) (records : List Record) (terms : Terms) (hs :
   pub text_is : string_bytes x.text ≡ report told.no ++ said_of told
 
 -- what was found is told, whatever was heard before it
-abbrev pub TellsOf : SurveyReader → Found → Explanation → Type 0
+abbrev pub TellsOf : SurveyReader → FoundOffence → Explanation → Type 0
 TellsOf e found x =
     (limits : Bounds) (start now : Told) (hs : List Heard) (prior : List Offence)
     (given : GaveEvent limits e start now (raws_of hs) (notes_of hs) prior

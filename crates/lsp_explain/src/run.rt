@@ -26,7 +26,7 @@ use crate::said::{push_end, push_said};
 use lsp_facts::{flaw_facts, push_details};
 use lsp_frame::{Limits, Sink, Source, put_all};
 use lsp_rpc::{Memory, Side};
-use lsp_survey::{End, Found, Heard, Next, Offending, SurveyReader};
+use lsp_survey::{End, FoundOffence, Judged, NextJudged, OffendingEvent, SurveyReader};
 use lsp_verdict::{
     Completeness, Offence, Outcome, RunFault, Summary, Verdict, Who, verdict_report,
 };
@@ -118,12 +118,12 @@ fn explain_first<R: Source>(
 {
     loop {
         match events.next(reader)? {
-            Next::Event(heard) => {
+            NextJudged::Event(heard) => {
                 if let Some(explanation) = explain_heard(alloc, events, heard)? {
                     return Ok(explanation);
                 }
             }
-            Next::End(end) => return Ok(explain_end(alloc, events, end)?),
+            NextJudged::End(end) => return Ok(explain_end(alloc, events, end)?),
         }
     }
 }
@@ -132,16 +132,16 @@ fn explain_first<R: Source>(
 fn explain_heard(
     alloc: Global,
     events: &SurveyReader,
-    heard: Heard,
+    heard: Judged,
 ) -> Result<Option<Explanation>, Memory>
-    ensures kept { result ≡ Ok None → heard ≡ Heard.Kept }
+    ensures kept { result ≡ Ok None → heard ≡ Judged.Kept }
     ensures told { IfOk result
-        (λ answer. IfSome answer (λ x. (found : Found) × (heard ≡ Heard.Offence found)
+        (λ answer. IfSome answer (λ x. (found : FoundOffence) × (heard ≡ Judged.Offence found)
         × TellsOf events.now found x)) }
 {
     match heard {
-        Heard::Kept => Ok(None),
-        Heard::Offence(found) => Ok(Some(explain_found(alloc, events, &found)?)),
+        Judged::Kept => Ok(None),
+        Judged::Offence(found) => Ok(Some(explain_found(alloc, events, &found)?)),
     }
 }
 
@@ -149,7 +149,7 @@ fn explain_heard(
 pub(crate) fn explain_found(
     alloc: Global,
     events: &SurveyReader,
-    found: &Found,
+    found: &FoundOffence,
 ) -> Result<Explanation, Memory>
     ensures { IfOk result (TellsOf events.now found.now) }
 {
@@ -163,14 +163,14 @@ pub(crate) fn explain_found(
 }
 
 /// Whose event offends; a snapshot is the editor's.
-fn side_of(offending: &Offending) -> Side
+fn side_of(offending: &OffendingEvent) -> Side
     ensures { result ≡ side_of offending.now }
 {
     match offending {
-        Offending::Frames(side) => *side,
-        Offending::Content { side, .. } => *side,
-        Offending::Message { side, .. } => *side,
-        Offending::Snapshot { .. } => Side::Editor,
+        OffendingEvent::Frames(side) => *side,
+        OffendingEvent::Content { side, .. } => *side,
+        OffendingEvent::Message { side, .. } => *side,
+        OffendingEvent::Snapshot { .. } => Side::Editor,
     }
 }
 

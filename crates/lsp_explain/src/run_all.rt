@@ -22,7 +22,7 @@ ghost use Rattle.lsp_explain.specs.Standing.{StandsAfter, terms_in};
 use crate::run::{Explanation, explain_found, explain_listed, explain_sound, flaw_text, side_by};
 use lsp_frame::{Limits, Sink, Source, put_all};
 use lsp_rpc::Memory;
-use lsp_survey::{End, Found, Heard, Next, SurveyReader, Tally};
+use lsp_survey::{End, FoundOffence, Judged, NextJudged, OffenceCount, SurveyReader};
 use lsp_verdict::{
     Completeness, Offence, Outcome, RunFault, Summary, Verdict, found_report, verdict_report,
 };
@@ -88,7 +88,7 @@ fn explain_log<R: Source, W: Sink>(
         → TellsAll events.old.completeness limits start (R.told reader.new) (W.told writer.old)
         (W.told writer.new) result }
 {
-    let mut tally = Tally::new();
+    let mut tally = OffenceCount::new();
     let end = explain_events(alloc, events, reader, writer, &mut tally)?;
     close(alloc, events, writer, &mut tally, end)
 }
@@ -99,7 +99,7 @@ fn explain_events<R: Source, W: Sink>(
     events: &mut SurveyReader,
     reader: &mut R,
     writer: &mut W,
-    tally: &mut Tally,
+    tally: &mut OffenceCount,
 ) -> Result<End, RunFault>
     requires tally { IsTally tally.old [] }
     requires fresh { IsFresh events.old (R.told reader.old) }
@@ -110,8 +110,8 @@ fn explain_events<R: Source, W: Sink>(
 {
     loop {
         match events.next(reader)? {
-            Next::Event(heard) => explain_heard(alloc, events, writer, tally, heard)?,
-            Next::End(end) => return Ok(end),
+            NextJudged::Event(heard) => explain_heard(alloc, events, writer, tally, heard)?,
+            NextJudged::End(end) => return Ok(end),
         }
     }
 }
@@ -121,16 +121,16 @@ fn explain_heard<W: Sink>(
     alloc: Global,
     events: &SurveyReader,
     writer: &mut W,
-    tally: &mut Tally,
-    heard: Heard,
+    tally: &mut OffenceCount,
+    heard: Judged,
 ) -> Result<(), RunFault>
     ensures tally { (found : List SpecOffence) → IsTally tally.old found
         → IsTally tally.new (found ++ found_in heard) }
     ensures tells { TellsHeard events.now heard (W.told writer.old) (W.told writer.new) result }
 {
     match heard {
-        Heard::Kept => Ok(()),
-        Heard::Offence(found) => {
+        Judged::Kept => Ok(()),
+        Judged::Offence(found) => {
             tally.add(&found.offence);
             explain_cause(alloc, events, writer, &found)
         }
@@ -142,9 +142,9 @@ fn explain_cause<W: Sink>(
     alloc: Global,
     events: &SurveyReader,
     writer: &mut W,
-    found: &Found,
+    found: &FoundOffence,
 ) -> Result<(), RunFault>
-    ensures { TellsHeard events.now (Heard.Offence found.now) (W.told writer.old)
+    ensures { TellsHeard events.now (Judged.Offence found.now) (W.told writer.old)
         (W.told writer.new) result }
 {
     if found.offence.follows {
@@ -160,7 +160,7 @@ fn close<W: Sink>(
     alloc: Global,
     events: &SurveyReader,
     writer: &mut W,
-    tally: &mut Tally,
+    tally: &mut OffenceCount,
     end: End,
 ) -> Result<Verdict, RunFault>
     ensures { (completeness : Completeness) (limits : Bounds) (start now old : Told)
@@ -177,7 +177,7 @@ fn close<W: Sink>(
 fn closing_of(
     alloc: Global,
     events: &SurveyReader,
-    tally: &mut Tally,
+    tally: &mut OffenceCount,
     end: End,
 ) -> Result<Explanation, Memory>
     ensures tally { OnOk result ((found : List SpecOffence) → IsTally tally.old found
@@ -198,7 +198,7 @@ fn closing_of(
 fn ends_text(
     alloc: Global,
     events: &SurveyReader,
-    tally: &mut Tally,
+    tally: &mut OffenceCount,
     listed: &[Offence],
 ) -> Result<String, Memory>
     ensures tally { OnOk result ((found : List SpecOffence) → IsTally tally.old found
@@ -222,7 +222,7 @@ fn ends_text(
 fn last_of(
     alloc: Global,
     events: &SurveyReader,
-    tally: &Tally,
+    tally: &OffenceCount,
     bad: Option<Verdict>,
 ) -> Result<Explanation, Memory>
     ensures { IfOk result (λ x. IsLast events.now tally.now bad x) }
@@ -240,7 +240,7 @@ fn last_of(
 fn last_lines(
     alloc: Global,
     events: &SurveyReader,
-    tally: &Tally,
+    tally: &OffenceCount,
     bad: &Option<Verdict>,
 ) -> Result<String, Memory>
     ensures { IfOk result (λ text. string_bytes text ≡ bad_lines (option_map verdict_view bad.now)

@@ -25,7 +25,7 @@ use lsp_facts::{
     push_end_event, push_message_event, unfinished_facts, usual,
 };
 use lsp_rpc::Memory;
-use lsp_survey::{Found, Offending, SurveyReader};
+use lsp_survey::{FoundOffence, OffendingEvent, SurveyReader};
 use lsp_types::rules;
 use lsp_verdict::Offence;
 use std::alloc::Global;
@@ -36,7 +36,7 @@ fn facts_of(
     alloc: Global,
     events: &SurveyReader,
     rest: &[u8],
-    offending: &Offending,
+    offending: &OffendingEvent,
     number: u64,
     rule: u16,
 ) -> Result<Vec<Fact>, Memory>
@@ -51,13 +51,13 @@ fn facts_of(
         (terms_in events.now) before event rule (facts_view facts.items)) }
 {
     match offending {
-        Offending::Frames(_) => frame_facts(alloc, rest),
-        Offending::Content { content, .. } => content_facts(alloc, content.as_slice()),
-        Offending::Message { side, spoken } => {
+        OffendingEvent::Frames(_) => frame_facts(alloc, rest),
+        OffendingEvent::Content { content, .. } => content_facts(alloc, content.as_slice()),
+        OffendingEvent::Message { side, spoken } => {
             let side = *side;
             message_traced(alloc, events, number, side, spoken, rule)
         }
-        Offending::Snapshot { version, uri, text } => {
+        OffendingEvent::Snapshot { version, uri, text } => {
             let version = *version;
             shown_traced(
                 alloc,
@@ -77,7 +77,7 @@ fn push_event(
     alloc: Global,
     lines: &mut String,
     offence: &Offence,
-    offending: &Offending,
+    offending: &OffendingEvent,
 ) -> Result<(), Memory>
     ensures { OnOk result ((raw : Raw) (event : Event) (terms : Terms) (kept : List Event)
         (rule : ℕ) → Reads raw event → IsOffending raw terms kept rule offending.now
@@ -88,14 +88,14 @@ fn push_event(
     let by = offence.who;
     let number = offence.number;
     match offending {
-        Offending::Frames(_) => push_bare_event(lines, event, by, number),
-        Offending::Content { content, .. } => {
+        OffendingEvent::Frames(_) => push_bare_event(lines, event, by, number),
+        OffendingEvent::Content { content, .. } => {
             push_content_event(alloc, lines, event, by, number, content.as_slice())
         }
-        Offending::Message { spoken, .. } => {
+        OffendingEvent::Message { spoken, .. } => {
             push_message_event(alloc, lines, event, by, number, &spoken.message)
         }
-        Offending::Snapshot { .. } => push_bare_event(lines, event, by, number),
+        OffendingEvent::Snapshot { .. } => push_bare_event(lines, event, by, number),
     }
 }
 
@@ -106,7 +106,7 @@ pub(crate) fn push_said(
     lines: &mut String,
     events: &SurveyReader,
     rest: &[u8],
-    found: &Found,
+    found: &FoundOffence,
 ) -> Result<(), Memory>
     ensures { OnOk result ((raw : Raw) (event : Event) (before : List Event)
         → StandsAfter events.now before → found.now.offence.event ≡ number_next before
@@ -123,7 +123,7 @@ pub(crate) fn push_said(
         ++ (event_line found.now.offence.event found.now.offence.who found.now.offence.number raw
         ++ detail_lines facts (offence_view found.now.offence).no))) }
 {
-    let Found { offence, offending } = found;
+    let FoundOffence { offence, offending } = found;
     push_event(alloc, lines, offence, offending)?;
     let facts = facts_of(alloc, events, rest, offending, offence.event, offence.rule)?;
     let usual = usual(offence.rule, offence.who);

@@ -36,13 +36,13 @@ use Rattle.lsp_verdict.proofs.Logs.UpTo.{count-append}
 use Rattle.lsp_judge.specs.LogEvents.{EndsAt, EndsBy, BeginsWith, SoFar, Found, BrokeOff}
 use Rattle.lsp_judge.specs.ShownLog.{IsShown, BeginsShown, OneShown, ShowedAll, ShowedPart, IsPlace}
 use Rattle.lsp_events.specs.Lines.{line_of}
-use Rattle.lsp_events.specs.declared.heard.Place.{Place}
+use Rattle.lsp_events.specs.declared.heard.EventPlace.{EventPlace}
 use Rattle.lsp_judge.specs.declared.event_reader.EventReader.{EventReader}
 use Rattle.lsp_verdict.proofs.RunsJudged.{judged_as}
 use Rattle.lsp_judge.proofs.LogEvents.{so_far_begins, so_far_few, so_far_failures, so_far_range}
 
 -- the place of the event that comes behind these
-abbrev IsPlaceBehind : List Event → Event → Place → Type 0
+abbrev IsPlaceBehind : List Event → Event → EventPlace → Type 0
 IsPlaceBehind before event place =
     (place.event ≡ length before + 1)
     × (place.number ≡ count_of (belongs_to (whose event)) before + 1)
@@ -69,7 +69,7 @@ module _ (lines : Lines) where
       ∙ flat_map-append (λ shown. shown) (each_of (line_at lines) xs)
       (each_from (line_at lines) xs ys)
 
-  lines-snoc : (xs : List Event) (x : Event) (place : Place) → IsPlaceBehind xs x place
+  lines-snoc : (xs : List Event) (x : Event) (place : EventPlace) → IsPlaceBehind xs x place
       → lines_of lines (xs ++ x ∷ []) ≡ lines_of lines xs ++ line_of lines place x
   lines-snoc xs x place is =
       ap (flat_map (λ shown. shown)) (each_of-snoc (line_at lines) xs x)
@@ -147,7 +147,7 @@ nothing_shown lines limits e start now old so_far ignored = record {
 
 module _ (lines : Lines) (limits : Bounds) (start now old mid new : Told) (heard : List Event)
     (wrote : Wrote old mid (lines_of lines heard)) where
-  placed : (e : EventReader) (event : Event) (place : Place)
+  placed : (e : EventReader) (event : Event) (place : EventPlace)
       → SoFar limits e start now (heard ++ event ∷ []) → IsPlace heard event place
       → IsPlaceBehind heard event place
   placed e event place so_far is =
@@ -161,7 +161,7 @@ module _ (lines : Lines) (limits : Bounds) (start now old mid new : Told) (heard
       )
 
   -- one more event and its line
-  pub one_shown_more : (e : EventReader) (event : Event) (place : Place)
+  pub one_shown_more : (e : EventReader) (event : Event) (place : EventPlace)
       → SoFar limits e start now (heard ++ event ∷ []) → e.completeness ≡ Ignored
       → IsPlace heard event place → Wrote mid new (line_of lines place event)
       → Showing lines limits e start now old new
@@ -176,7 +176,7 @@ module _ (lines : Lines) (limits : Bounds) (start now old mid new : Told) (heard
       }
 
   -- its line was not written
-  pub line_failed : (e : EventReader) (event : Event) (place : Place) (fault : RunFault)
+  pub line_failed : (e : EventReader) (event : Event) (place : EventPlace) (fault : RunFault)
       → SoFar limits e start now (heard ++ event ∷ []) → IsPlace heard event place
       → Tells mid new (line_of lines place event) (Err fault)
       → ShowedPart lines limits start now old new fault

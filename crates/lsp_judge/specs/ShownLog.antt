@@ -18,7 +18,7 @@ use Rattle.lsp_verdict.specs.RunIo.{OfRead, failures_after, sink_failures_after}
 use Rattle.lsp_verdict.specs.Runs.{Judges}
 use Rattle.lsp_verdict.specs.Shown.{show_of}
 use Rattle.lsp_verdict.specs.Verdict.{Verdict, belongs_to, count_of, whose}
-use Rattle.lsp_events.specs.declared.heard.Place.{Place}
+use Rattle.lsp_events.specs.declared.heard.EventPlace.{EventPlace}
 
 -- ---- a log
 
@@ -64,7 +64,7 @@ pub record ShowedPart (lines : Lines) (limits : Bounds) (start now old new : Tol
   pub sink : new.failures ≡ sink_failures_after fault old.failures
 
 -- the place of the event that comes after these, as it is counted
-pub record IsPlace (before : List Event) (event : Event) (place : Place) : Type 0 where
+pub record IsPlace (before : List Event) (event : Event) (place : EventPlace) : Type 0 where
   pub among_all : place.event ≡ capped (length (before ++ event ∷ []))
   pub among_own : place.number ≡ capped (count_of (belongs_to (whose event)) (before ++ event ∷ []))
 

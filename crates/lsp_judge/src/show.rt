@@ -9,7 +9,7 @@ ghost use Rattle.lsp_judge.specs.ShownLog.{IsPlace, Showed, Shows};
 
 use crate::contents::hear;
 use crate::event_reader::EventReader;
-use lsp_events::{Heard, Place, write_event_line};
+use lsp_events::{EventPlace, Heard, write_event_line};
 use lsp_frame::{Limits, Sink, Source, put_all};
 use lsp_streams::Next;
 use lsp_verdict::{
@@ -116,11 +116,11 @@ fn show_log<R: Source, W: Sink>(
 }
 
 /// Where the event stands that was heard last.
-fn place_of(counts: &Counts, heard: &Heard<'_>) -> Place
+fn place_of(counts: &Counts, heard: &Heard<'_>) -> EventPlace
     ensures { (before : List Event) (event : Event) → AreCounts counts.now (before ++ event ∷ [])
         → IsHeard event heard.now → IsPlace before event result }
 {
-    Place {
+    EventPlace {
         number: counts.of(whose(heard)),
         event: counts.all,
     }

@@ -143,13 +143,13 @@ fn spoken_whole(alloc: Global, side: Side, content: &[u8]) -> Result<Spoken, Rpc
 
 /// Reads contents one after another, apart from what their params and results hold.
 #[derive(Drop)]
-pub struct OutlineReader {
+pub struct MessageReader {
     alloc: Global,
 }
 
-impl OutlineReader {
-    pub fn new(alloc: Global) -> OutlineReader {
-        OutlineReader { alloc }
+impl MessageReader {
+    pub fn new(alloc: Global) -> MessageReader {
+        MessageReader { alloc }
     }
 
     /// Reads a content of a side as [`read`] does, with what it means there as [`take_act`] gives

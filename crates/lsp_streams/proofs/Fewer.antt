@@ -6,8 +6,8 @@ use Rattle.lsp_streams.specs.Streams.{State, StepsBy, StepsSide, StepsAt, Steps}
 use Rattle.lsp_streams.specs.Streams.{left_of, left_in, unbroken}
 use Rattle.lsp_streams.specs.declared.streams.Due.{Due}
 use Rattle.lsp_streams.specs.declared.streams.Due.TheVariants as next
-use Rattle.lsp_streams.specs.declared.streams.Turn.{Turn}
-use Rattle.lsp_streams.specs.declared.streams.Turn.TheVariants as turn
+use Rattle.lsp_streams.specs.declared.streams.PendingEvents.{PendingEvents}
+use Rattle.lsp_streams.specs.declared.streams.PendingEvents.TheVariants as turn
 use Rattle.lsp_streams.proofs.Framing.Found.{frame_step}
 use Rattle.lsp_types.specs.declared.side.Side.{Side}
 use Rattle.lsp_types.specs.declared.side.Side.TheVariants.{Editor, Server}
@@ -38,7 +38,7 @@ side_fewer side d e given steps = by_fault d.fault refl given steps
 pub fewer : (old new : State) (given : Due) → Steps old new (Some given) → left_in new < left_in old
 fewer old new given steps = by_turn old.turn refl steps
   where
-    by_turn : (t : Option Turn) → old.turn ≡ t
+    by_turn : (t : Option PendingEvents) → old.turn ≡ t
         → StepsAt t old new (Some given) → left_in new < left_in old
     by_turn None is (none, same) = absurd cc
     by_turn (Some (turn.Bytes Editor)) is (steps, same) =
@@ -52,5 +52,5 @@ fewer old new given steps = by_turn old.turn refl steps
     by_turn (Some turn.Snapshot) is (shown, same, held) =
         let all : left_in new ≡ left_of old.editor + left_of old.server + 0 = ap left_in same in
         let before : left_in old ≡ left_of old.editor + left_of old.server + 1
-        = ap (λ (t : Option Turn). left_in (record old { turn = t })) is in
+        = ap (λ (t : Option PendingEvents). left_in (record old { turn = t })) is in
         omega (arith, all, before)

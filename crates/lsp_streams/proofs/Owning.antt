@@ -12,8 +12,8 @@ use Rattle.lsp_session.specs.Sent.{same_side}
 use Rattle.lsp_session.proofs.LawLemmas.{same_side-refl}
 use Rattle.lsp_streams.specs.Streams.{State, IsDue, ShowsDue, Stands, decoder_of, due_of, shown}
 use Rattle.lsp_streams.specs.declared.streams.Snapshot.{Snapshot}
-use Rattle.lsp_streams.specs.declared.streams.Turn.{Turn}
-use Rattle.lsp_streams.specs.declared.streams.Turn.TheVariants as turn
+use Rattle.lsp_streams.specs.declared.streams.PendingEvents.{PendingEvents}
+use Rattle.lsp_streams.specs.declared.streams.PendingEvents.TheVariants as turn
 use Rattle.lsp_streams.proofs.Giving.{broken_stream, over}
 use Rattle.lsp_types.specs.declared.side.Side.{Side}
 use Rattle.lsp_types.specs.declared.side.Side.TheVariants.{Editor, Server}
@@ -104,7 +104,7 @@ module _ (limits : Bounds) (s : State) (records : List Record) (given due : List
   own_left : (side : Side) → filter (is_own side) due ≡ due_of side s.turn due
   own_left Editor = by_turn s.turn h.editor h.server h.shows
     where
-      by_turn : (t : Option Turn)
+      by_turn : (t : Option PendingEvents)
           → IsDue Editor s.editor (joined Editor records) (due_of Editor t due)
           → IsDue Server s.server (joined Server records) (due_of Server t due)
           → ShowsDue t s.snapshot due
@@ -120,7 +120,7 @@ module _ (limits : Bounds) (s : State) (records : List Record) (given due : List
           ap (filter (is_own Editor)) shows ∙ shown_own Editor s.snapshot
   own_left Server = by_turn s.turn h.editor h.server h.shows
     where
-      by_turn : (t : Option Turn)
+      by_turn : (t : Option PendingEvents)
           → IsDue Editor s.editor (joined Editor records) (due_of Editor t due)
           → IsDue Server s.server (joined Server records) (due_of Server t due)
           → ShowsDue t s.snapshot due

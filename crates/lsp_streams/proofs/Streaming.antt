@@ -12,8 +12,8 @@ use Rattle.lsp_streams.specs.Streams.{StepsAt, Steps, decoder_of, due_of}
 use Rattle.lsp_streams.specs.declared.streams.Due.{Due}
 use Rattle.lsp_streams.specs.declared.streams.Due.TheVariants as next
 use Rattle.lsp_streams.specs.declared.streams.Snapshot.{Snapshot}
-use Rattle.lsp_streams.specs.declared.streams.Turn.{Turn}
-use Rattle.lsp_streams.specs.declared.streams.Turn.TheVariants as turn
+use Rattle.lsp_streams.specs.declared.streams.PendingEvents.{PendingEvents}
+use Rattle.lsp_streams.specs.declared.streams.PendingEvents.TheVariants as turn
 use Rattle.lsp_streams.proofs.Giving.{over, none_next, content_next, fault_next, pushed_due}
 use Rattle.lsp_types.specs.declared.side.Side.{Side}
 use Rattle.lsp_types.specs.declared.side.Side.TheVariants.{Editor, Server}
@@ -93,9 +93,9 @@ module _ (limits : Bounds) (records : List Record) (given due : List Raw) where
       → Stands limits s records given due
       → StepGives limits (record s { editor = e }) records given due o
   editor_stepped s e o own steps h =
-      let is_due = subst (λ (t : Option Turn).
+      let is_due = subst (λ (t : Option PendingEvents).
       IsDue Editor s.editor (joined Editor records) (due_of Editor t due)) own h.editor in
-      let other = subst (λ (t : Option Turn).
+      let other = subst (λ (t : Option PendingEvents).
       IsDue Server s.server (joined Server records) (due_of Server t due)) own h.server in
       let one = side_gives Editor s.editor e (joined Editor records) due o steps is_due in
       by_next o one.0 (one.1 ∙ h.editor_limits) other
@@ -109,11 +109,11 @@ module _ (limits : Bounds) (records : List Record) (given due : List Raw) where
         editor_limits = same;
         server_limits = h.server_limits;
         placed = placed;
-        editor = subst (λ (t : Option Turn). IsDue Editor e (joined Editor records)
+        editor = subst (λ (t : Option PendingEvents). IsDue Editor e (joined Editor records)
             (due_of Editor t left)) (sym own) own_due;
-        server = subst (λ (t : Option Turn). IsDue Server s.server (joined Server records)
+        server = subst (λ (t : Option PendingEvents). IsDue Server s.server (joined Server records)
             (due_of Server t left)) (sym own) other;
-        shows = subst (λ (t : Option Turn). ShowsDue t s.snapshot left) (sym own) tt;
+        shows = subst (λ (t : Option PendingEvents). ShowsDue t s.snapshot left) (sym own) tt;
       }
 
       by_next : (o : Option Due) → SideGives Editor e (joined Editor records) due o
@@ -140,9 +140,9 @@ module _ (limits : Bounds) (records : List Record) (given due : List Raw) where
       → Stands limits s records given due
       → StepGives limits (record s { server = e }) records given due o
   server_stepped s e o own steps h =
-      let is_due = subst (λ (t : Option Turn).
+      let is_due = subst (λ (t : Option PendingEvents).
       IsDue Server s.server (joined Server records) (due_of Server t due)) own h.server in
-      let other = subst (λ (t : Option Turn).
+      let other = subst (λ (t : Option PendingEvents).
       IsDue Editor s.editor (joined Editor records) (due_of Editor t due)) own h.editor in
       let one = side_gives Server s.server e (joined Server records) due o steps is_due in
       by_next o one.0 (one.1 ∙ h.server_limits) other
@@ -156,11 +156,11 @@ module _ (limits : Bounds) (records : List Record) (given due : List Raw) where
         editor_limits = h.editor_limits;
         server_limits = same;
         placed = placed;
-        editor = subst (λ (t : Option Turn). IsDue Editor s.editor (joined Editor records)
+        editor = subst (λ (t : Option PendingEvents). IsDue Editor s.editor (joined Editor records)
             (due_of Editor t left)) (sym own) other;
-        server = subst (λ (t : Option Turn). IsDue Server e (joined Server records)
+        server = subst (λ (t : Option PendingEvents). IsDue Server e (joined Server records)
             (due_of Server t left)) (sym own) own_due;
-        shows = subst (λ (t : Option Turn). ShowsDue t s.snapshot left) (sym own) tt;
+        shows = subst (λ (t : Option PendingEvents). ShowsDue t s.snapshot left) (sym own) tt;
       }
 
       by_next : (o : Option Due) → SideGives Server e (joined Server records) due o
@@ -188,7 +188,7 @@ module _ (limits : Bounds) (records : List Record) (given due : List Raw) where
   shown_stepped s own held h = by_snapshot s.snapshot refl held
     where
       is_due : due ≡ streams.shown s.snapshot
-      is_due = subst (λ (t : Option Turn). ShowsDue t s.snapshot due) own h.shows
+      is_due = subst (λ (t : Option PendingEvents). ShowsDue t s.snapshot due) own h.shows
 
       by_snapshot : (o : Option Snapshot) → s.snapshot ≡ o → IsSome o
           → StepGives limits (record s { turn = None }) records given due (Some next.Snapshot)
@@ -206,9 +206,11 @@ module _ (limits : Bounds) (records : List Record) (given due : List Raw) where
                 editor_limits = h.editor_limits;
                 server_limits = h.server_limits;
                 placed = placed_next limits records given due [] raw first h.placed;
-                editor = subst (λ (t : Option Turn). IsDue Editor s.editor (joined Editor records)
+                editor = subst (λ (t : Option PendingEvents).
+                    IsDue Editor s.editor (joined Editor records)
                     (due_of Editor t due)) own h.editor;
-                server = subst (λ (t : Option Turn). IsDue Server s.server (joined Server records)
+                server = subst (λ (t : Option PendingEvents).
+                    IsDue Server s.server (joined Server records)
                     (due_of Server t due)) own h.server;
                 shows = refl;
               },
@@ -218,22 +220,24 @@ module _ (limits : Bounds) (records : List Record) (given due : List Raw) where
   idle_stepped : (s : State) → s.turn ≡ None → Stands limits s records given due
       → StepGives limits (record s { snapshot = None }) records given due None
   idle_stepped s own h =
-      let none = subst (λ (t : Option Turn). ShowsDue t s.snapshot due) own h.shows in (
+      let none = subst (λ (t : Option PendingEvents). ShowsDue t s.snapshot due) own h.shows in (
         none,
         record {
           range = h.range;
           editor_limits = h.editor_limits;
           server_limits = h.server_limits;
           placed = subst (λ (w : List Raw). Placed limits records (given ++ w)) none h.placed;
-          editor = subst (λ (t : Option Turn). IsDue Editor s.editor (joined Editor records)
+          editor = subst (λ (t : Option PendingEvents).
+              IsDue Editor s.editor (joined Editor records)
               (due_of Editor t [])) (sym own)
-              (subst (λ (t : Option Turn). IsDue Editor s.editor (joined Editor records)
+              (subst (λ (t : Option PendingEvents). IsDue Editor s.editor (joined Editor records)
               (due_of Editor t due)) own h.editor);
-          server = subst (λ (t : Option Turn). IsDue Server s.server (joined Server records)
+          server = subst (λ (t : Option PendingEvents).
+              IsDue Server s.server (joined Server records)
               (due_of Server t [])) (sym own)
-              (subst (λ (t : Option Turn). IsDue Server s.server (joined Server records)
+              (subst (λ (t : Option PendingEvents). IsDue Server s.server (joined Server records)
               (due_of Server t due)) own h.server);
-          shows = subst (λ (t : Option Turn). ShowsDue t None []) (sym own) refl;
+          shows = subst (λ (t : Option PendingEvents). ShowsDue t None []) (sym own) refl;
         },
       )
 
@@ -246,7 +250,7 @@ module _ (limits : Bounds) (records : List Record) (given due : List Raw) where
       along s p same gives = subst (λ (w : State). StepGives limits w records given due p)
           (sym same) gives
 
-      by_turn : (t : Option Turn) → old.turn ≡ t → StepsAt t old new o
+      by_turn : (t : Option PendingEvents) → old.turn ≡ t → StepsAt t old new o
           → StepGives limits new records given due o
       by_turn None own (none, same) =
           subst (StepGives limits new records given due) (sym none) (along (record old {
@@ -290,7 +294,7 @@ module _ (limits : Bounds) (records : List Record) (given : List Raw) where
       → IsDue side (decoder_of side s) (joined side records) []
   own_due Editor s h = by_turn s.turn h.editor
     where
-      by_turn : (t : Option Turn)
+      by_turn : (t : Option PendingEvents)
           → IsDue Editor s.editor (joined Editor records) (due_of Editor t [])
           → IsDue Editor s.editor (joined Editor records) []
       by_turn None is = is
@@ -299,7 +303,7 @@ module _ (limits : Bounds) (records : List Record) (given : List Raw) where
       by_turn (Some turn.Snapshot) is = is
   own_due Server s h = by_turn s.turn h.server
     where
-      by_turn : (t : Option Turn)
+      by_turn : (t : Option PendingEvents)
           → IsDue Server s.server (joined Server records) (due_of Server t [])
           → IsDue Server s.server (joined Server records) []
       by_turn None is = is

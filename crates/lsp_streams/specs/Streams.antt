@@ -9,8 +9,8 @@ use Rattle.lsp_log.specs.Log.{Record}
 use Rattle.lsp_streams.specs.declared.streams.Due.{Due}
 use Rattle.lsp_streams.specs.declared.streams.Due.TheVariants as due
 use Rattle.lsp_streams.specs.declared.streams.Snapshot.{Snapshot}
-use Rattle.lsp_streams.specs.declared.streams.Turn.{Turn}
-use Rattle.lsp_streams.specs.declared.streams.Turn.TheVariants as turn
+use Rattle.lsp_streams.specs.declared.streams.PendingEvents.{PendingEvents}
+use Rattle.lsp_streams.specs.declared.streams.PendingEvents.TheVariants as turn
 use Rattle.lsp_types.specs.declared.side.Side.{Side}
 use Rattle.lsp_types.specs.declared.side.Side.TheVariants.{Editor, Server}
 use Rattle.lsp_verdict.specs.Lent.{raw_view}
@@ -26,14 +26,14 @@ pub record State : Type 0 where
   pub editor : decoder.State
   pub server : decoder.State
   pub snapshot : Option Snapshot
-  pub turn : Option Turn
+  pub turn : Option PendingEvents
 
 abbrev pub decoder_of : Side → State → decoder.State
 decoder_of Editor s = s.editor
 decoder_of Server s = s.server
 
 -- where a snapshot is to be given, it is held
-abbrev pub FitsTurn : Option Turn → Option Snapshot → Type 0
+abbrev pub FitsTurn : Option PendingEvents → Option Snapshot → Type 0
 FitsTurn (Some turn.Snapshot) snapshot = IsSome snapshot
 FitsTurn turn snapshot = Unit {0}
 
@@ -71,7 +71,7 @@ StepsBy None side old new (Some due.Snapshot) = ⊥
 abbrev pub StepsSide : Side → decoder.State → decoder.State → Option Due → Type 0
 StepsSide side old new next = StepsBy old.fault side old new next
 
-abbrev pub StepsAt : Option Turn → State → State → Option Due → Type 0
+abbrev pub StepsAt : Option PendingEvents → State → State → Option Due → Type 0
 StepsAt None old new next = (next ≡ None) × (new ≡ record old { snapshot = None })
 StepsAt (Some (turn.Bytes Editor)) old new next =
     StepsSide Editor old.editor new.editor next × (new ≡ record old { editor = new.editor })
@@ -98,13 +98,13 @@ pub record IsDue (side : Side) (d : decoder.State) (bytes : List ℕ) (due : Lis
   pub are : due ≡ map (content side) left ++ new_fault side d.fault breaks
 
 -- of the events that are due, those of a side
-abbrev pub due_of : Side → Option Turn → List Raw → List Raw
+abbrev pub due_of : Side → Option PendingEvents → List Raw → List Raw
 due_of Editor (Some (turn.Bytes Editor)) due = due
 due_of Server (Some (turn.Bytes Server)) due = due
 due_of side turn due = []
 
 -- what is due of no side is the snapshot, or nothing
-abbrev pub ShowsDue : Option Turn → Option Snapshot → List Raw → Type 0
+abbrev pub ShowsDue : Option PendingEvents → Option Snapshot → List Raw → Type 0
 ShowsDue None snapshot due = due ≡ []
 ShowsDue (Some (turn.Bytes side)) snapshot due = Unit {0}
 ShowsDue (Some turn.Snapshot) snapshot due = due ≡ shown snapshot
@@ -134,7 +134,7 @@ abbrev pub unbroken : Option ℕ → ℕ
 unbroken None = 1
 unbroken (Some rule) = 0
 
-abbrev pub unshown : Option Turn → ℕ
+abbrev pub unshown : Option PendingEvents → ℕ
 unshown (Some turn.Snapshot) = 1
 unshown turn = 0
 

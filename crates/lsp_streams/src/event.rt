@@ -30,55 +30,55 @@ pub enum EventOutcome {
 
 /// What is due for an event that was asked for.
 #[derive(Drop)]
-pub(crate) struct Answer {
+pub(crate) struct EventAnswer {
     /// What the event holds; nothing where there is no such event, or no content.
     content: Vec<u8>,
     outcome: EventOutcome,
 }
 
-impl Answer {
+impl EventAnswer {
     /// What is due for this event.
-    fn of_event(alloc: Global, raw: &Raw<'_>) -> Result<Answer, RunFault>
+    fn of_event(alloc: Global, raw: &Raw<'_>) -> Result<EventAnswer, RunFault>
         ensures ok { IfOk result (λ answer. Answers answer (raw_view raw.now)) }
         ensures err { (fault : RunFault) → result ≡ Err fault → fault ≡ RunFault.Memory }
     {
         match raw {
-            Raw::Content { content, .. } => Answer::of_content(alloc, content),
-            Raw::Broken { .. } => Ok(Answer::without_content(alloc, EventOutcome::NoContent)),
-            Raw::Snapshot { text, .. } => Answer::of_content(alloc, text.as_bytes()),
+            Raw::Content { content, .. } => EventAnswer::of_content(alloc, content),
+            Raw::Broken { .. } => Ok(EventAnswer::without_content(alloc, EventOutcome::NoContent)),
+            Raw::Snapshot { text, .. } => EventAnswer::of_content(alloc, text.as_bytes()),
         }
     }
 
     /// What is due where the log ends so, before the event.
-    fn of_end(alloc: Global, end: End) -> Answer
+    fn of_end(alloc: Global, end: End) -> EventAnswer
         ensures { IsOfEnd result end }
     {
         match end {
-            End::Sound => Answer::without_content(alloc, EventOutcome::FewerEvents),
+            End::Sound => EventAnswer::without_content(alloc, EventOutcome::FewerEvents),
             End::Bad { number, fault } => {
-                Answer::without_content(alloc, EventOutcome::BadLog { number, fault })
+                EventAnswer::without_content(alloc, EventOutcome::BadLog { number, fault })
             }
         }
     }
 
     /// The event holds these bytes.
-    fn of_content(alloc: Global, content: &[u8]) -> Result<Answer, RunFault>
+    fn of_content(alloc: Global, content: &[u8]) -> Result<EventAnswer, RunFault>
         ensures ok { IfOk result
             (λ answer. (answer.content.items ≡ content.now)
             × (answer.outcome ≡ EventOutcome.Done)) }
         ensures err { (fault : RunFault) → result ≡ Err fault → fault ≡ RunFault.Memory }
     {
-        Ok(Answer {
+        Ok(EventAnswer {
             content: Vec::from_slice(alloc, content)?,
             outcome: EventOutcome::Done,
         })
     }
 
     /// Nothing is held, and the run ends so.
-    fn without_content(alloc: Global, outcome: EventOutcome) -> Answer
+    fn without_content(alloc: Global, outcome: EventOutcome) -> EventAnswer
         ensures { (result.content.items ≡ []) × (result.outcome ≡ outcome) }
     {
-        Answer {
+        EventAnswer {
             content: Vec::new(alloc),
             outcome,
         }
@@ -91,7 +91,7 @@ fn find_event<R: Source>(
     reader: &mut R,
     limits: Limits,
     number: u64,
-) -> Result<Answer, RunFault>
+) -> Result<EventAnswer, RunFault>
     requires { 0 < number }
     ensures { Finds limits number (R.told reader.old) (R.told reader.new) result }
 {
@@ -105,7 +105,7 @@ fn find_next<R: Source>(
     events: &mut LogEvents,
     reader: &mut R,
     number: u64,
-) -> Result<Answer, RunFault>
+) -> Result<EventAnswer, RunFault>
     requires { 0 < number }
     ensures { (limits : Bounds) (start : Told) (n : ℕ)
         → HasPassed limits events.old start (R.told reader.old) n number
@@ -115,11 +115,11 @@ fn find_next<R: Source>(
     loop {
         match events.next(reader) {
             Err(fault) => return Err(fault),
-            Ok(Next::End(end)) => return Ok(Answer::of_end(alloc, end)),
+            Ok(Next::End(end)) => return Ok(EventAnswer::of_end(alloc, end)),
             Ok(Next::Event(raw)) => {
                 left -= 1;
                 if left == 0 {
-                    return Answer::of_event(alloc, &raw);
+                    return EventAnswer::of_event(alloc, &raw);
                 }
             }
         }

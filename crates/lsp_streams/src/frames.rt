@@ -18,7 +18,7 @@ ghost use Rattle.lsp_verdict.specs.declared.outcome.Mode.TheVariants.{Lengths};
 
 use itoa::write_digits;
 use lsp_frame::{Decoder, Limits, Missing, Sink, Source, WriteFault, put_all, write_frame};
-use lsp_outline::OutlineReader;
+use lsp_outline::MessageReader;
 use lsp_rpc::RpcFault;
 use lsp_verdict::{Mode, Outcome, RunFault, StreamFault, stream_report};
 use std::alloc::Global;
@@ -71,7 +71,7 @@ fn write_kind_line<W: Sink>(
 /// Writes the line of the message that the content is (JSON-RPC 2.0, sections 4 and 5), or gives
 /// the rule that it breaks.
 fn write_kind<W: Sink>(
-    messages: &mut OutlineReader,
+    messages: &mut MessageReader,
     writer: &mut W,
     frame: u64,
     content: &[u8],
@@ -90,7 +90,7 @@ fn write_kind<W: Sink>(
 
 /// Writes the part of one frame, or gives the rule by which the mode refuses its content.
 fn write_part<W: Sink>(
-    messages: &mut OutlineReader,
+    messages: &mut MessageReader,
     writer: &mut W,
     mode: Mode,
     frame: u64,
@@ -112,7 +112,7 @@ fn write_part<W: Sink>(
 /// left or a fault is met, whose rule is given.
 fn write_found<W: Sink>(
     decoder: &mut Decoder,
-    messages: &mut OutlineReader,
+    messages: &mut MessageReader,
     writer: &mut W,
     mode: Mode,
     given: &mut u64,
@@ -212,7 +212,7 @@ fn write_parts<R: Source, W: Sink>(
 {
     let log = limits.log();
     let mut decoder = Decoder::new(alloc, limits);
-    let mut messages = OutlineReader::new(alloc);
+    let mut messages = MessageReader::new(alloc);
     let mut given = 0;
     let mut read = 0;
     loop {

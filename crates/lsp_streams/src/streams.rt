@@ -27,7 +27,7 @@ pub(crate) struct Snapshot {
 
 /// Which events of the record pushed last are still to be given.
 #[derive(Clone, Copy)]
-pub(crate) enum Turn {
+pub(crate) enum PendingEvents {
     /// Those that the bytes of this side brought.
     Bytes(Side),
     /// The snapshot.
@@ -55,7 +55,7 @@ pub struct Streams {
     server: Decoder,
     /// The snapshot pushed last, until the event after it is asked for.
     snapshot: Option<Snapshot>,
-    turn: Option<Turn>,
+    turn: Option<PendingEvents>,
 }
 
 impl Model for Streams {
@@ -105,18 +105,18 @@ impl Streams {
                 bytes,
             } => {
                 self.editor.push_owned(bytes)?;
-                self.turn = Some(Turn::Bytes(Side::Editor));
+                self.turn = Some(PendingEvents::Bytes(Side::Editor));
             }
             Record::Bytes {
                 side: Side::Server,
                 bytes,
             } => {
                 self.server.push_owned(bytes)?;
-                self.turn = Some(Turn::Bytes(Side::Server));
+                self.turn = Some(PendingEvents::Bytes(Side::Server));
             }
             Record::Snapshot { version, uri, text } => {
                 self.snapshot = Some(Snapshot { version, uri, text });
-                self.turn = Some(Turn::Snapshot);
+                self.turn = Some(PendingEvents::Snapshot);
             }
         }
         Ok(())
@@ -158,9 +158,15 @@ impl Streams {
         ensures { Steps self.old self.new result }
     {
         match self.turn {
-            Some(Turn::Bytes(Side::Editor)) => advance_side(Side::Editor, &mut self.editor),
-            Some(Turn::Bytes(Side::Server)) => advance_side(Side::Server, &mut self.server),
-            Some(Turn::Snapshot) => {
+            Some(PendingEvents::Bytes(Side::Editor)) => advance_side(
+                Side::Editor,
+                &mut self.editor,
+            ),
+            Some(PendingEvents::Bytes(Side::Server)) => advance_side(
+                Side::Server,
+                &mut self.server,
+            ),
+            Some(PendingEvents::Snapshot) => {
                 self.turn = None;
                 Some(Due::Snapshot)
             }

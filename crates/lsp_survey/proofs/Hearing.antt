@@ -33,10 +33,10 @@ use Rattle.lsp_survey.specs.declared.notes.session_notes.SessionNotes.{SessionNo
 use Rattle.lsp_survey.specs.Notes.{AreAfter, asks_of, note_in}
 use Rattle.lsp_survey.specs.Walking.{Walks, WalksBy, IsRefused, IsShown, IsUnread, PassesOver}
 use Rattle.lsp_survey.specs.Walking.{IsOffending, Hears, NotesKept, NotesMessage, NotesSnapshot}
-use Rattle.lsp_survey.specs.declared.offending.Heard.{Heard}
-use Rattle.lsp_survey.specs.declared.offending.Heard.TheVariants as heard
-use Rattle.lsp_survey.specs.declared.offending.Offending.{Offending}
-use Rattle.lsp_survey.specs.declared.offending.Offending.TheVariants as what
+use Rattle.lsp_survey.specs.declared.offending.Judged.{Judged}
+use Rattle.lsp_survey.specs.declared.offending.Judged.TheVariants as heard
+use Rattle.lsp_survey.specs.declared.offending.OffendingEvent.{OffendingEvent}
+use Rattle.lsp_survey.specs.declared.offending.OffendingEvent.TheVariants as what
 use Rattle.lsp_survey.specs.declared.walk.Walk.{Walk}
 use Rattle.lsp_types.specs.declared.change.SyncKind.TheVariants.{Nothing}
 use Rattle.lsp_types.specs.declared.position.Encoding.TheVariants.{Utf16}
@@ -137,7 +137,7 @@ module _ (old new : Walk) (notes : List Noted) (number : ℕ) (walks : Walks old
       (other_unsaid terms new.said events n.event
       (subst (λ (m : SessionNotes). AreNotes terms m events) (sym noted.2) walks.said) refl)
 
-  by_event : (raw : Raw) (given : lent.Heard) (event : Event) → Reads raw event
+  by_event : (raw : Raw) (given : lent.Judged) (event : Event) → Reads raw event
       → IsHeard event given → AnswersAs terms before given → offence terms before event ≡ None
       → Holds new.events.session new.events.docs (before ++ event ∷ [])
       → AreCounts new.events.counts (events ++ event ∷ []) → NotesKept number given old new
@@ -175,7 +175,7 @@ module _ (old new : Walk) (notes : List Noted) (number : ℕ) (walks : Walks old
       noted
 
 -- what was noted before is all that matters
-pub noted_after : (number : ℕ) (given : lent.Heard) (mid old new : Walk) → mid.notes ≡ old.notes
+pub noted_after : (number : ℕ) (given : lent.Judged) (mid old new : Walk) → mid.notes ≡ old.notes
     → mid.marks ≡ old.marks → mid.said ≡ old.said → NotesKept number given mid new
     → NotesKept number given old new
 noted_after number (kept.Message side spoken) mid old new notes marks said noted =
@@ -199,7 +199,7 @@ noted_after number (kept.Snapshot version uri text answer) mid old new notes mar
 
 -- the next event was heard, kept and noted
 pub kept_heard : (raw : Raw) (old new : Walk) (notes : List Noted) (number : ℕ)
-    (given : lent.Heard) (m : session.State) (d : docs.State) (c : Counts) → Walks old notes
+    (given : lent.Judged) (m : session.State) (d : docs.State) (c : Counts) → Walks old notes
     → number ≡ number_next (events_of notes) → d.terms ≡ old.events.docs.terms
     → new.events.session ≡ m → new.events.docs ≡ d → new.events.counts ≡ c
     → new.broken ≡ old.broken
@@ -238,7 +238,7 @@ still_walks old new notes walks terms_are holds counts notes_are is_broken marks
       said = subst (λ (m : SessionNotes). AreNotes terms m events) (sym said) walks.said;
     })
 
-module _ (old new : Walk) (notes : List Noted) (given : Heard) (walks : Walks old notes) where
+module _ (old new : Walk) (notes : List Noted) (given : Judged) (walks : Walks old notes) where
   -- a fault of the frames
   pub frames_refused : (side : Side) (code rule : ℕ)
       → IsRefused (broken side code) old.events.docs.terms notes (refused.Rule rule)
@@ -262,7 +262,7 @@ module _ (old new : Walk) (notes : List Noted) (given : Heard) (walks : Walks ol
       passed_over (content side bytes) old new notes n (who_of side) rule (λ e k. None) Utf16
       Nothing (IsUnread side bytes) given walks (reads, asked) refl refl refl is_such passes
     where
-      is_such : (o : Offending) → IsUnread side bytes o
+      is_such : (o : OffendingEvent) → IsUnread side bytes o
           → IsOffending (content side bytes) old.events.docs.terms
           (kept_of old.events.docs.terms (events_of notes)) rule o
       is_such (what.Frames by) u = absurd u

@@ -14,9 +14,9 @@ use Rattle.lsp_survey.specs.Walking.{WalksBy, Walks, offence_of, PassesOver}
 use Rattle.lsp_survey.specs.Walking.{IsOffending, Offends, IsHeard, Hears}
 use Rattle.lsp_survey.specs.declared.notes.marks.Marks.{Marks}
 use Rattle.lsp_survey.specs.declared.notes.note.Note.{Note}
-use Rattle.lsp_survey.specs.declared.offending.Heard.{Heard}
-use Rattle.lsp_survey.specs.declared.offending.Heard.TheVariants as heard
-use Rattle.lsp_survey.specs.declared.offending.Offending.{Offending}
+use Rattle.lsp_survey.specs.declared.offending.Judged.{Judged}
+use Rattle.lsp_survey.specs.declared.offending.Judged.TheVariants as heard
+use Rattle.lsp_survey.specs.declared.offending.OffendingEvent.{OffendingEvent}
 use Rattle.lsp_survey.specs.declared.notes.session_notes.SessionNotes.{SessionNotes}
 use Rattle.lsp_survey.specs.declared.walk.Walk.{Walk}
 use Rattle.lsp_types.specs.declared.change.SyncKind.{SyncKind}
@@ -130,10 +130,10 @@ kept_holds terms notes n rule m d is holds =
 -- it was passed over
 pub passed_over : (raw : Raw) (old new : Walk) (notes : List Noted) (n : Noted) (by : Who)
     (rule : ℕ) (says : Encoding → SyncKind → Option Call) (enc : Encoding) (kind : SyncKind)
-    (IsSuch : Offending → Type 0) (given : Heard) → Walks old notes → IsNoted raw n
+    (IsSuch : OffendingEvent → Type 0) (given : Judged) → Walks old notes → IsNoted raw n
     → whose n.event ≡ by → rule_at old.events.docs.terms (events_of notes) n.event ≡ Some rule
     → said_at old.events.docs.terms (events_of notes) n.event ≡ says enc kind
-    → ((what : Offending) → IsSuch what → IsOffending raw old.events.docs.terms
+    → ((what : OffendingEvent) → IsSuch what → IsOffending raw old.events.docs.terms
     (kept_of old.events.docs.terms (events_of notes)) rule what)
     → PassesOver old new by rule n.asks says IsSuch given
     → Hears raw old.events.docs.terms new notes given

@@ -24,9 +24,9 @@ use Rattle.lsp_types.specs.declared.side.Side.TheVariants.{Editor, Server}
 use Rattle.lsp_survey.specs.Reads.{BeginsSurvey, SoFar, IsHeardAs, found_in, HasEnded, GaveBehind}
 use Rattle.lsp_survey.specs.Reads.{BrokeOff, Gives}
 use Rattle.lsp_survey.specs.Walking.{Walks, IsHeard, Hears}
-use Rattle.lsp_survey.specs.declared.offending.Heard.{Heard}
-use Rattle.lsp_survey.specs.declared.offending.Heard.TheVariants as heard
-use Rattle.lsp_survey.specs.declared.survey_reader.Next.{Next}
+use Rattle.lsp_survey.specs.declared.offending.Judged.{Judged}
+use Rattle.lsp_survey.specs.declared.offending.Judged.TheVariants as heard
+use Rattle.lsp_survey.specs.declared.survey_reader.NextJudged.{NextJudged}
 use Rattle.lsp_survey.specs.declared.survey_reader.SurveyReader.{SurveyReader}
 use Rattle.lsp_verdict.specs.LookBack.{each_from}
 use Rattle.lsp_verdict.specs.Offences.{Noted, Offence, IsNoted, events_of, offence_at, offence_by}
@@ -262,7 +262,7 @@ small_events limits sizes notes few =
 
 -- its numbers are exact
 pub exact_event : (limits : Bounds) (raw : Raw) (terms : Terms) (before : List Noted) (n : Noted)
-    (given : Heard) → length (events_of before) + 1 < 2 ^ 64 → IsHeard raw terms before n given
+    (given : Judged) → length (events_of before) + 1 < 2 ^ 64 → IsHeard raw terms before n given
     → IsHeardAs raw terms before n given
 exact_event limits raw terms before n heard.Kept small is = is
 exact_event limits raw terms before n (heard.Offence found) small is = record {
@@ -276,7 +276,7 @@ exact_event limits raw terms before n (heard.Offence found) small is = record {
   is_such = is.is_such;
 }
 
-pub one_listed : (terms : Terms) (before : List Noted) (n : Noted) (raw : Raw) (given : Heard)
+pub one_listed : (terms : Terms) (before : List Noted) (n : Noted) (raw : Raw) (given : Judged)
     → IsHeardAs raw terms before n given
     → offences terms (before ++ n ∷ []) ≡ offences terms before ++ found_in given
 one_listed terms before n raw heard.Kept is =
@@ -364,7 +364,7 @@ module _ (limits : Bounds) (e : SurveyReader) (start mid now : Told) (past : Lis
         )
 
     -- **one more was heard**, of these records or of more
-    pub event_given : (f : SurveyReader) (raw : lent.Raw) (given : Heard)
+    pub event_given : (f : SurveyReader) (raw : lent.Raw) (given : Judged)
         → NextIs e.log f.log mid now (Ok (next.Event raw))
         → f.walk.events.docs.terms ≡ e.walk.events.docs.terms
         → (Walks e.walk notes → Hears (raw_view raw) e.walk.events.docs.terms f.walk notes given)
@@ -418,7 +418,7 @@ broke_by k m limits start now found fault same broke =
     subst (λ (c : Completeness). BrokeOff c limits start now found fault) same broke
 
 pub gives_by : (k m : Completeness) (limits : Bounds) (e : SurveyReader) (start now : Told)
-    (past : List Raw) (notes : List Noted) (found : List Offence) (given : Next) → k ≡ m
+    (past : List Raw) (notes : List Noted) (found : List Offence) (given : NextJudged) → k ≡ m
     → Gives k limits e start now past notes found given
     → Gives m limits e start now past notes found given
 gives_by k m limits e start now past notes found given same gives =

@@ -18,7 +18,7 @@ use Rattle.lsp_survey.specs.Reported.{IsTally, AllReported, PartReported}
 use Rattle.lsp_verdict.specs.declared.listing.Listing.{Listing}
 use Rattle.lsp_verdict.specs.declared.listing.Listing.TheVariants.{Causes, Every}
 use Rattle.lsp_survey.specs.declared.survey_reader.SurveyReader.{SurveyReader}
-use Rattle.lsp_survey.specs.declared.tally.Tally.{Tally}
+use Rattle.lsp_survey.specs.declared.offence_count.OffenceCount.{OffenceCount}
 use Rattle.lsp_verdict.specs.Given.{offence_view, verdict_view}
 use Rattle.lsp_verdict.specs.Offences.{Noted, Offence}
 use Rattle.lsp_verdict.specs.Placed.{Raw}
@@ -118,7 +118,7 @@ by_sink old mid faults.Memory e unwritten = e
 
 -- these events of the log were heard, and the lines of the offences among them written
 pub record IsListing (completeness : Completeness) (limits : Bounds) (listing : Listing)
-    (e : SurveyReader) (t : Tally) (start now old new : Told) : Type 0 where
+    (e : SurveyReader) (t : OffenceCount) (start now old new : Told) : Type 0 where
   pub past : List Raw
   pub notes : List Noted
   pub found : List Offence
@@ -324,7 +324,8 @@ filter_few (x ∷ xs) = by_test x.follows (filter_few xs)
     by_test false h = omega (arith, h)
 
 -- what comes after the lines where something was found
-pub closed_some : (t : Tally) (found : List Offence) (first : code.Offence) (bad : Option Verdict)
+pub closed_some : (t : OffenceCount) (found : List Offence) (first : code.Offence)
+    (bad : Option Verdict)
     (s : Summary) (text : List ℕ) (v : Verdict) → t.first ≡ Some first → IsTally t found
     → length found < 2 ^ 64
     → text ≡ bad_lines bad ++ line (codes "offences" ∷ decimal t.found ∷ codes "following" ∷ decimal
@@ -448,7 +449,7 @@ each_more listing xs i x old mid new at wrote more =
     (wrote_then old mid new (lines_of listing (map offence_view (take i xs)))
     (lines_of listing (offence_view x ∷ [])) wrote more)
 
-pub tally_more : (t : Tally) (xs : List code.Offence) (i : ℕ) (x : code.Offence)
+pub tally_more : (t : OffenceCount) (xs : List code.Offence) (i : ℕ) (x : code.Offence)
     (found : List Offence) → slice_get xs i ≡ Some x
     → IsTally t ((found ++ map offence_view (take i xs)) ++ offence_view x ∷ [])
     → IsTally t (found ++ map offence_view (take (i + 1) xs))

@@ -23,12 +23,12 @@ use Rattle.lsp_types.specs.declared.side.Side.{Side}
 use Rattle.lsp_types.specs.declared.side.Side.TheVariants.{Editor, Server}
 use Rattle.lsp_survey.specs.Ending.{ends_by, given_by}
 use Rattle.lsp_survey.specs.Walking.{IsOffending, Walks}
-use Rattle.lsp_survey.specs.declared.offending.Found.{Found}
-use Rattle.lsp_survey.specs.declared.offending.Heard.{Heard}
-use Rattle.lsp_survey.specs.declared.offending.Heard.TheVariants as heard
+use Rattle.lsp_survey.specs.declared.offending.FoundOffence.{FoundOffence}
+use Rattle.lsp_survey.specs.declared.offending.Judged.{Judged}
+use Rattle.lsp_survey.specs.declared.offending.Judged.TheVariants as heard
 use Rattle.lsp_survey.specs.declared.survey_reader.End.{End}
-use Rattle.lsp_survey.specs.declared.survey_reader.Next.{Next}
-use Rattle.lsp_survey.specs.declared.survey_reader.Next.TheVariants as next
+use Rattle.lsp_survey.specs.declared.survey_reader.NextJudged.{NextJudged}
+use Rattle.lsp_survey.specs.declared.survey_reader.NextJudged.TheVariants as next
 use Rattle.lsp_survey.specs.declared.survey_reader.SurveyReader.{SurveyReader}
 use Rattle.lsp_verdict.specs.Given.{as_given, offence_view, verdict_view}
 use Rattle.lsp_verdict.specs.Offences.{Noted, Offence, IsNoted, events_of, kept_of, offence_by}
@@ -72,18 +72,18 @@ IsFresh e now = (limits : Bounds) × (start : Told) × SoFar limits e start now 
 
 -- the event offends after these, and this is its offence
 pub record Finds (raw : Raw) (terms : Terms) (before : List Noted) (n : Noted)
-    (found : Found) : Type 0 where
+    (found : FoundOffence) : Type 0 where
   pub rule : ℕ
   pub offends : rule_at terms (events_of before) n.event ≡ Some rule
   pub is : offence_view found.offence ≡ offence_by terms before n rule
   pub is_such : IsOffending raw terms (kept_of terms (events_of before)) rule found.offending
 
-abbrev pub IsHeardAs : Raw → Terms → List Noted → Noted → Heard → Type 0
+abbrev pub IsHeardAs : Raw → Terms → List Noted → Noted → Judged → Type 0
 IsHeardAs raw terms before n heard.Kept = rule_at terms (events_of before) n.event ≡ None
 IsHeardAs raw terms before n (heard.Offence found) = Finds raw terms before n found
 
 -- the offence that was found, if any
-abbrev pub found_in : Heard → List Offence
+abbrev pub found_in : Judged → List Offence
 found_in heard.Kept = []
 found_in (heard.Offence found) = offence_view found.offence ∷ []
 
@@ -105,7 +105,7 @@ ShowsFront limits side records bytes =
 
 -- **one more event was heard**
 pub record GaveEvent (limits : Bounds) (e : SurveyReader) (start now : Told) (past : List Raw)
-    (before : List Noted) (found : List Offence) (given : Heard) : Type 0 where
+    (before : List Noted) (found : List Offence) (given : Judged) : Type 0 where
   pub raw : Raw
   pub n : Noted
   pub is_noted : IsNoted raw n
@@ -170,14 +170,14 @@ pub record BrokeOff (completeness : Completeness) (limits : Bounds) (start now :
 
 -- one more event was heard, or the log has ended
 abbrev pub Gives : Completeness → Bounds → SurveyReader → Told → Told → List Raw → List Noted
-    → List Offence → Next → Type 0
+    → List Offence → NextJudged → Type 0
 Gives completeness limits e start now past before found (next.Event given) =
     GaveEvent limits e start now past before found given
 Gives completeness limits e start now past before found (next.End end) =
     Ended completeness limits e start now past before found end
 
 abbrev pub Pulls : Completeness → Bounds → SurveyReader → Told → Told → List Raw → List Noted
-    → List Offence → Result Next RunFault → Type 0
+    → List Offence → Result NextJudged RunFault → Type 0
 Pulls completeness limits e start now past before found (Ok given) =
     Gives completeness limits e start now past before found given
 Pulls completeness limits e start now past before found (Err fault) =
@@ -204,7 +204,7 @@ EndIs e (Bad number fault) end = (end.listed.items ≡ []) × (end.bad ≡ Some 
 
 -- one more event was heard, of records that continue after these
 abbrev pub GaveBehind : List Record → Bounds → SurveyReader → Told → Told → List Raw → List Noted
-    → List Offence → Heard → Type 0
+    → List Offence → Judged → Type 0
 GaveBehind front limits e start now past before found given =
     (gave : GaveEvent limits e start now past before found given)
     × GoesBehind front gave.so_far.records
@@ -218,7 +218,7 @@ EndedBehind front completeness limits e start now past notes found end =
     e.walk.events.docs.terms past notes) × GoesBehind front is.survey.records)
 
 abbrev pub GivesBehind : List Record → Completeness → Bounds → SurveyReader → Told → Told → List Raw
-    → List Noted → List Offence → Next → Type 0
+    → List Noted → List Offence → NextJudged → Type 0
 GivesBehind front completeness limits e start now past before found (next.Event given) =
     GaveBehind front limits e start now past before found given
 GivesBehind front completeness limits e start now past before found (next.End end) =

@@ -11,7 +11,7 @@ use Rattle.lsp_verdict.specs.declared.listing.Listing.{Listing}
 use Rattle.lsp_verdict.specs.declared.listing.Listing.TheVariants.{Causes, Every}
 use Rattle.lsp_survey.specs.declared.survey_reader.End.{End}
 use Rattle.lsp_survey.specs.declared.survey_reader.SurveyReader.{SurveyReader}
-use Rattle.lsp_survey.specs.declared.tally.Tally.{Tally}
+use Rattle.lsp_survey.specs.declared.offence_count.OffenceCount.{OffenceCount}
 use Rattle.lsp_verdict.specs.Complete.{IsVerdictBy}
 use Rattle.lsp_verdict.specs.Given.{offence_view, verdict_view}
 use Rattle.lsp_verdict.specs.Offences.{Noted, Offence}
@@ -72,7 +72,7 @@ head_of [] = None
 head_of (o ∷ found) = Some o
 
 -- the tally is that of these offences
-pub record IsTally (t : Tally) (found : List Offence) : Type 0 where
+pub record IsTally (t : OffenceCount) (found : List Offence) : Type 0 where
   pub first : option_map offence_view t.first ≡ head_of found
   pub all : t.found ≡ capped (length found)
   pub following : t.following ≡ capped (length (filter (λ (o : Offence). o.follows) found))
@@ -103,7 +103,7 @@ Reports completeness limits listing start now old new (Err fault) =
 
 -- the offences of the events were listed up to the log's end
 pub record Listed (completeness : Completeness) (limits : Bounds) (listing : Listing)
-    (e : SurveyReader) (t : Tally) (start now old new : Told) (end : End) : Type 0 where
+    (e : SurveyReader) (t : OffenceCount) (start now old new : Told) (end : End) : Type 0 where
   pub past : List Raw
   pub notes : List Noted
   pub found : List Offence
@@ -111,7 +111,8 @@ pub record Listed (completeness : Completeness) (limits : Bounds) (listing : Lis
   pub tally : IsTally t found
   pub wrote : Wrote old new (lines_of listing found)
 
-abbrev pub Lists : Completeness → Bounds → Listing → SurveyReader → Tally → Told → Told → Told
+abbrev pub Lists : Completeness → Bounds → Listing → SurveyReader → OffenceCount → Told → Told
+    → Told
     → Told → Result End RunFault → Type 0
 Lists completeness limits listing e t start now old new (Ok end) =
     Listed completeness limits listing e t start now old new end

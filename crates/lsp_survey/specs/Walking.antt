@@ -17,11 +17,11 @@ use Rattle.lsp_session.specs.State.{Stands}
 use Rattle.lsp_survey.specs.Marks.{AreMarks, DoneBy, ShownBy}
 use Rattle.lsp_survey.specs.SessionNoting.{AreNotes, SaysOn}
 use Rattle.lsp_survey.specs.Notes.{note_in, note_of, AreAfter, is_noted_lost}
-use Rattle.lsp_survey.specs.declared.offending.Found.{Found}
-use Rattle.lsp_survey.specs.declared.offending.Heard.{Heard}
-use Rattle.lsp_survey.specs.declared.offending.Heard.TheVariants as heard
-use Rattle.lsp_survey.specs.declared.offending.Offending.{Offending}
-use Rattle.lsp_survey.specs.declared.offending.Offending.TheVariants as what
+use Rattle.lsp_survey.specs.declared.offending.FoundOffence.{FoundOffence}
+use Rattle.lsp_survey.specs.declared.offending.Judged.{Judged}
+use Rattle.lsp_survey.specs.declared.offending.Judged.TheVariants as heard
+use Rattle.lsp_survey.specs.declared.offending.OffendingEvent.{OffendingEvent}
+use Rattle.lsp_survey.specs.declared.offending.OffendingEvent.TheVariants as what
 use Rattle.lsp_survey.specs.declared.walk.Walk.{Walk}
 use Rattle.lsp_types.specs.declared.change.SyncKind.{SyncKind}
 use Rattle.lsp_types.specs.declared.position.Encoding.{Encoding}
@@ -79,7 +79,7 @@ NotesSnapshot number uri version answer old new =
     × (new.said ≡ old.said)
 
 -- the event that is kept, of this number, was noted
-abbrev pub NotesKept : ℕ → events.Heard → Walk → Walk → Type 0
+abbrev pub NotesKept : ℕ → events.Judged → Walk → Walk → Type 0
 NotesKept number (kept.Message side spoken) old new =
     NotesMessage number side (message_view spoken.message) (act_view spoken.act) old new
 NotesKept number (kept.Snapshot version uri text answer) old new =
@@ -103,12 +103,12 @@ offence_of terms before by rule on_lost = record {
 }
 
 -- this content of the side does not read as a message that means something
-abbrev pub IsUnread : Side → List ℕ → Offending → Type 0
+abbrev pub IsUnread : Side → List ℕ → OffendingEvent → Type 0
 IsUnread side bytes (what.Content by given) = (by ≡ side) × (given.items ≡ bytes)
 IsUnread side bytes other = ⊥
 
 -- this text of the editor's was found
-abbrev pub IsShown : ℤ → List ℕ → List ℕ → Offending → Type 0
+abbrev pub IsShown : ℤ → List ℕ → List ℕ → OffendingEvent → Type 0
 IsShown number uri text (what.Snapshot version name shown) =
     (version ≡ number) × (string_bytes name ≡ uri) × (string_bytes shown ≡ text)
 IsShown number uri text other = ⊥
@@ -116,9 +116,10 @@ IsShown number uri text other = ⊥
 -- an event of theirs that offends by this rule was skipped: it says this about a document, under
 -- what was agreed, and is such as was found
 pub record PassesOver (old new : Walk) (by : Who) (rule : ℕ) (asks : Bool)
-    (says : Encoding → SyncKind → Option Call) (IsSuch : Offending → Type 0) (given : Heard) : Type
+    (says : Encoding → SyncKind → Option Call) (IsSuch : OffendingEvent → Type 0)
+    (given : Judged) : Type
     0 where
-  pub found : Found
+  pub found : FoundOffence
   pub is_given : given ≡ heard.Offence found
   pub is_such : IsSuch found.offending
   pub counted : Counted old new by rule asks
@@ -134,7 +135,7 @@ pub record PassesOver (old new : Walk) (by : Who) (rule : ℕ) (asks : Bool)
 -- ---- what was heard
 
 -- what was found is this event, which offends by the rule after these kept events
-abbrev pub IsOffending : Raw → Terms → List Event → ℕ → Offending → Type 0
+abbrev pub IsOffending : Raw → Terms → List Event → ℕ → OffendingEvent → Type 0
 IsOffending (broken side code) terms kept rule (what.Frames by) = by ≡ side
 IsOffending (content side bytes) terms kept rule (what.Content by given) =
     (by ≡ side) × (given.items ≡ bytes) × ReadsAs side bytes (fault side rule)
@@ -146,18 +147,19 @@ IsOffending raw terms kept rule other = ⊥
 
 -- the event offends after these, and this is its offence
 pub record Offends (raw : Raw) (terms : Terms) (before : List Noted) (n : Noted)
-    (found : Found) : Type 0 where
+    (found : FoundOffence) : Type 0 where
   pub rule : ℕ
   pub offends : rule_at terms (events_of before) n.event ≡ Some rule
   pub is : offence_view found.offence ≡ given_offence (offence_by terms before n rule)
   pub is_such : IsOffending raw terms (kept_of terms (events_of before)) rule found.offending
 
-abbrev pub IsHeard : Raw → Terms → List Noted → Noted → Heard → Type 0
+abbrev pub IsHeard : Raw → Terms → List Noted → Noted → Judged → Type 0
 IsHeard raw terms before n heard.Kept = rule_at terms (events_of before) n.event ≡ None
 IsHeard raw terms before n (heard.Offence found) = Offends raw terms before n found
 
 -- **one more event was heard after these**
-pub record Hears (raw : Raw) (terms : Terms) (w : Walk) (before : List Noted) (given : Heard) : Type
+pub record Hears (raw : Raw) (terms : Terms) (w : Walk) (before : List Noted)
+    (given : Judged) : Type
     0 where
   pub n : Noted
   pub is_noted : IsNoted raw n

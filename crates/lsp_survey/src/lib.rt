@@ -10,16 +10,16 @@
 #![tactic(auto)]
 
 mod notes;
+mod offence_count;
 mod offending;
 mod run;
 mod session_end;
 mod survey_reader;
-mod tally;
 mod walk;
 
 pub use lsp_verdict::Listing;
 pub use notes::{Marks, SessionNotes, Setter, Shown};
-pub use offending::{Found, Heard, Offending};
+pub use offence_count::OffenceCount;
+pub use offending::{FoundOffence, Judged, OffendingEvent};
 pub use run::run_survey;
-pub use survey_reader::{End, Next, SurveyReader};
-pub use tally::Tally;
+pub use survey_reader::{End, NextJudged, SurveyReader};

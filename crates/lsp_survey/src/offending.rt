@@ -4,7 +4,7 @@ use lsp_verdict::Offence;
 
 /// The event that offends. What was held before it is held still.
 #[derive(Drop)]
-pub enum Offending {
+pub enum OffendingEvent {
     /// A fault of the frames of this side.
     Frames(Side),
     /// A content of this side that is not a message, or whose params don't have their shape.
@@ -27,16 +27,16 @@ pub enum Offending {
 
 /// An offence, and the event that offends.
 #[derive(Drop)]
-pub struct Found {
+pub struct FoundOffence {
     pub offence: Offence,
-    pub offending: Offending,
+    pub offending: OffendingEvent,
 }
 
 /// How an event was heard.
 #[derive(Drop)]
-pub enum Heard {
+pub enum Judged {
     /// It is kept.
     Kept,
     /// It offends after the kept events before it, and is skipped.
-    Offence(Found),
+    Offence(FoundOffence),
 }

@@ -15,9 +15,9 @@ ghost use Rattle.lsp_verdict.specs.RunIo.{Tells, TellsSome};
 ghost use Rattle.lsp_verdict.specs.Survey.{bad_lines, first_verdict};
 ghost use Rattle.lsp_verdict.specs.Verdict.{summary, yes};
 
-use crate::offending::Heard;
-use crate::survey_reader::{End, Next, SurveyReader};
-use crate::tally::Tally;
+use crate::offence_count::OffenceCount;
+use crate::offending::Judged;
+use crate::survey_reader::{End, NextJudged, SurveyReader};
 use lsp_frame::{Limits, Sink, Source, put_all};
 use lsp_rpc::Memory;
 use lsp_verdict::{
@@ -97,7 +97,7 @@ fn report_events<R: Source, W: Sink>(
         → Reports events.old.completeness limits listing start (R.told reader.new)
         (W.told writer.old) (W.told writer.new) result }
 {
-    let mut tally = Tally::new();
+    let mut tally = OffenceCount::new();
     let end = list_events(alloc, events, reader, writer, listing, &mut tally)?;
     close(alloc, events, writer, listing, &mut tally, end)
 }
@@ -109,7 +109,7 @@ fn list_events<R: Source, W: Sink>(
     reader: &mut R,
     writer: &mut W,
     listing: Listing,
-    tally: &mut Tally,
+    tally: &mut OffenceCount,
 ) -> Result<End, RunFault>
     requires tally { IsTally tally.old [] }
     requires fresh { IsFresh events.old (R.told reader.old) }
@@ -120,8 +120,8 @@ fn list_events<R: Source, W: Sink>(
 {
     loop {
         match events.next(reader)? {
-            Next::Event(heard) => list_heard(alloc, writer, listing, tally, heard)?,
-            Next::End(end) => return Ok(end),
+            NextJudged::Event(heard) => list_heard(alloc, writer, listing, tally, heard)?,
+            NextJudged::End(end) => return Ok(end),
         }
     }
 }
@@ -131,8 +131,8 @@ fn list_heard<W: Sink>(
     alloc: Global,
     writer: &mut W,
     listing: Listing,
-    tally: &mut Tally,
-    heard: Heard,
+    tally: &mut OffenceCount,
+    heard: Judged,
 ) -> Result<(), RunFault>
     ensures tally { (found : List SpecOffence) → IsTally tally.old found
         → IsTally tally.new (found ++ found_in heard) }
@@ -140,8 +140,8 @@ fn list_heard<W: Sink>(
         (lines_of listing (found_in heard)) result }
 {
     match heard {
-        Heard::Kept => Ok(()),
-        Heard::Offence(found) => {
+        Judged::Kept => Ok(()),
+        Judged::Offence(found) => {
             let offence = found.offence;
             drop(found);
             list(alloc, writer, listing, tally, &offence)
@@ -154,7 +154,7 @@ fn list<W: Sink>(
     alloc: Global,
     writer: &mut W,
     listing: Listing,
-    tally: &mut Tally,
+    tally: &mut OffenceCount,
     offence: &Offence,
 ) -> Result<(), RunFault>
     ensures tally { (found : List SpecOffence) → IsTally tally.old found
@@ -186,7 +186,7 @@ fn list_each<W: Sink>(
     alloc: Global,
     writer: &mut W,
     listing: Listing,
-    tally: &mut Tally,
+    tally: &mut OffenceCount,
     offences: &[Offence],
 ) -> Result<(), RunFault>
     ensures tally { OnOk result ((found : List SpecOffence) → IsTally tally.old found
@@ -206,7 +206,7 @@ fn close<W: Sink>(
     events: &SurveyReader,
     writer: &mut W,
     listing: Listing,
-    tally: &mut Tally,
+    tally: &mut OffenceCount,
     end: End,
 ) -> Result<Verdict, RunFault>
     ensures { (completeness : Completeness) (limits : Bounds) (start now old : Told)
@@ -224,7 +224,7 @@ fn close<W: Sink>(
 fn closing_of(
     alloc: Global,
     events: &SurveyReader,
-    tally: &Tally,
+    tally: &OffenceCount,
     bad: Option<Verdict>,
 ) -> Result<Closing, Memory>
     ensures { IfOk result (λ closed. (found : List SpecOffence) (notes : List Noted)
@@ -255,7 +255,7 @@ fn closing_of(
 }
 
 /// The lines of a fault of the log, and the one that says how many offences were found.
-fn last_lines(alloc: Global, tally: &Tally, bad: &Option<Verdict>) -> Result<String, Memory>
+fn last_lines(alloc: Global, tally: &OffenceCount, bad: &Option<Verdict>) -> Result<String, Memory>
     ensures { IfOk result (λ text. string_bytes text ≡ bad_lines (option_map verdict_view bad.now)
         ++ line (codes "offences" ∷ decimal tally.now.found ∷ codes "following" ∷ decimal
         tally.now.following ∷ [])) }

@@ -16,7 +16,7 @@ ghost use Rattle.lsp_survey.specs.Reads.{EndIs, EndsAre, GivesBehind, IsBroken, 
 ghost use Rattle.lsp_survey.specs.Reads.{SoFar};
 
 use crate::notes::{Marks, SessionNotes};
-use crate::offending::Heard;
+use crate::offending::Judged;
 use crate::session_end::ends;
 use crate::walk::Walk;
 use lsp_docs::Docs;
@@ -51,9 +51,9 @@ impl Drop for SurveyReader {
 
 /// What a log has next.
 #[derive(Drop)]
-pub enum Next {
+pub enum NextJudged {
     /// An event.
-    Event(Heard),
+    Event(Judged),
     /// Its end.
     End(End),
 }
@@ -98,7 +98,7 @@ impl SurveyReader {
     ///
     /// # Errors
     /// `Read` where the source failed, and `Memory` where memory was refused.
-    pub fn next<R: Source>(&mut self, reader: &mut R) -> Result<Next, RunFault>
+    pub fn next<R: Source>(&mut self, reader: &mut R) -> Result<NextJudged, RunFault>
         ensures completeness { self.new.completeness ≡ self.old.completeness }
         ensures terms { self.new.walk.events.docs.terms ≡ self.old.walk.events.docs.terms }
         ensures answer { (limits : Bounds) (start : Told) (past : List Raw) (before : List Noted)
@@ -124,8 +124,10 @@ impl SurveyReader {
     {
         match self.log.next(reader) {
             Err(fault) => Err(fault),
-            Ok(streams::Next::Event(raw)) => Ok(Next::Event(self.walk.hear(self.alloc, raw)?)),
-            Ok(streams::Next::End(end)) => Ok(Next::End(self.end(end)?)),
+            Ok(streams::NextJudged::Event(raw)) => Ok(NextJudged::Event(
+                self.walk.hear(self.alloc, raw)?,
+            )),
+            Ok(streams::NextJudged::End(end)) => Ok(NextJudged::End(self.end(end)?)),
         }
     }
 

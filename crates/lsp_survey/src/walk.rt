@@ -24,7 +24,7 @@ use crate::notes::{
     Marks, Notes, SessionNotes, asks_again, asks_handshake, breaks_handshake, is_on_lost,
     note_kept_act, note_refused, note_refused_act, wants_handshake, wants_text,
 };
-use crate::offending::{Found, Heard, Offending};
+use crate::offending::{FoundOffence, Judged, OffendingEvent};
 use lsp_events as events;
 use lsp_events::{Events, Refused};
 use lsp_frame::{Format, Limits};
@@ -64,7 +64,7 @@ impl Walk {
     }
 
     /// Hears the next event.
-    pub(crate) fn hear(&mut self, alloc: Global, raw: Raw<'_>) -> Result<Heard, Memory>
+    pub(crate) fn hear(&mut self, alloc: Global, raw: Raw<'_>) -> Result<Judged, Memory>
         ensures terms { self.new.events.docs.terms ≡ self.old.events.docs.terms }
         ensures heard { IfOk result (λ heard. (before : List Noted) → Walks self.old before
             → Hears (raw_view raw.entry) self.old.events.docs.terms self.new before heard) }
@@ -88,25 +88,25 @@ impl Walk {
     }
 
     /// Takes over the event of this number, which was heard and is kept.
-    fn keep(&mut self, number: u64, kept: events::Heard<'_>) -> Result<Heard, Memory>
+    fn keep(&mut self, number: u64, kept: events::Judged<'_>) -> Result<Judged, Memory>
         ensures same { (self.new.events ≡ self.old.events) × (self.new.broken ≡ self.old.broken) }
-        ensures keeps { IfOk result (λ heard. (heard ≡ Heard.Kept)
+        ensures keeps { IfOk result (λ heard. (heard ≡ Judged.Kept)
             × NotesKept number kept.entry self.old self.new) }
     {
         let noted = self.note(number, &kept);
         drop(kept);
         noted?;
-        Ok(Heard::Kept)
+        Ok(Judged::Kept)
     }
 
     /// Notes the event of this number, which was heard and is kept.
-    fn note(&mut self, number: u64, kept: &events::Heard<'_>) -> Result<(), Memory>
+    fn note(&mut self, number: u64, kept: &events::Judged<'_>) -> Result<(), Memory>
         ensures same { (self.new.events ≡ self.old.events) × (self.new.broken ≡ self.old.broken) }
         ensures noted { OnOk result (NotesKept number kept.now self.old self.new) }
     {
         match kept {
-            events::Heard::Message { side, spoken } => self.note_message(number, *side, spoken),
-            events::Heard::Snapshot {
+            events::Judged::Message { side, spoken } => self.note_message(number, *side, spoken),
+            events::Judged::Snapshot {
                 version,
                 uri,
                 text: _,
@@ -131,7 +131,7 @@ impl Walk {
     }
 
     /// Skips the event that was refused so.
-    fn pass_over(&mut self, alloc: Global, raw: Raw<'_>, refused: Refused) -> Result<Heard, Memory>
+    fn pass_over(&mut self, alloc: Global, raw: Raw<'_>, refused: Refused) -> Result<Judged, Memory>
         ensures terms { self.new.events.docs.terms ≡ self.old.events.docs.terms }
         ensures heard { IfOk result (λ heard. (before : List Noted) → Walks self.old before
             → IsRefused (raw_view raw.entry) self.old.events.docs.terms before refused
@@ -145,7 +145,7 @@ impl Walk {
     }
 
     /// Skips the event that breaks this rule, and of which no message is known.
-    fn refuse_raw(&mut self, alloc: Global, rule: u16, raw: Raw<'_>) -> Result<Heard, Memory>
+    fn refuse_raw(&mut self, alloc: Global, rule: u16, raw: Raw<'_>) -> Result<Judged, Memory>
         ensures terms { self.new.events.docs.terms ≡ self.old.events.docs.terms }
         ensures heard { IfOk result (λ heard. (before : List Noted) → Walks self.old before
             → IsRefused (raw_view raw.entry) self.old.events.docs.terms before (Refused.Rule rule)
@@ -161,34 +161,34 @@ impl Walk {
     }
 
     /// Skips a fault of the frames of a side.
-    fn refuse_frames(&mut self, side: Side, rule: u16) -> Heard
+    fn refuse_frames(&mut self, side: Side, rule: u16) -> Judged
         ensures terms { self.new.events.docs.terms ≡ self.old.events.docs.terms }
         ensures passes { PassesOver self.old self.new (spec.who_of side) rule false
-            (λ enc kind. None) (λ what. what ≡ Offending.Frames side) result }
+            (λ enc kind. None) (λ what. what ≡ OffendingEvent.Frames side) result }
     {
         let offence = self.refuse(rule, who_of(side), false, false);
-        Heard::Offence(Found {
+        Judged::Offence(FoundOffence {
             offence,
-            offending: Offending::Frames(side),
+            offending: OffendingEvent::Frames(side),
         })
     }
 
     /// Skips a message that offends by this rule.
-    fn refuse_message(&mut self, side: Side, rule: u16, spoken: Spoken) -> Result<Heard, Memory>
+    fn refuse_message(&mut self, side: Side, rule: u16, spoken: Spoken) -> Result<Judged, Memory>
         ensures terms { self.new.events.docs.terms ≡ self.old.events.docs.terms }
         ensures passes { IfOk result
             (PassesOver self.old self.new (spec.who_of side) rule
             (asks_of side (message_view spoken.message))
             (λ enc kind. call_of enc kind (act_view spoken.act))
-            (λ what. what ≡ Offending.Message side spoken)) }
+            (λ what. what ≡ OffendingEvent.Message side spoken)) }
     {
         let asks = asks_handshake(side, &spoken.message);
         let on_lost = is_on_lost(&self.notes, &spoken.act);
         let offence = self.refuse(rule, who_of(side), asks, on_lost);
         note_refused_act(&mut self.notes, rule, &spoken.act)?;
-        Ok(Heard::Offence(Found {
+        Ok(Judged::Offence(FoundOffence {
             offence,
-            offending: Offending::Message { side, spoken },
+            offending: OffendingEvent::Message { side, spoken },
         }))
     }
 
@@ -199,7 +199,7 @@ impl Walk {
         side: Side,
         rule: u16,
         content: &[u8],
-    ) -> Result<Heard, Memory>
+    ) -> Result<Judged, Memory>
         ensures terms { self.new.events.docs.terms ≡ self.old.events.docs.terms }
         ensures passes { IfOk result
             (λ heard. (asks : Bool) × Asks (placed.content side content.now) asks
@@ -209,9 +209,9 @@ impl Walk {
         let asks = asks_again(alloc, side, content)?;
         let content = Vec::from_slice(alloc, content)?;
         let offence = self.refuse(rule, who_of(side), asks, false);
-        Ok(Heard::Offence(Found {
+        Ok(Judged::Offence(FoundOffence {
             offence,
-            offending: Offending::Content { side, content },
+            offending: OffendingEvent::Content { side, content },
         }))
     }
 
@@ -223,7 +223,7 @@ impl Walk {
         version: i32,
         uri: &str,
         text: &str,
-    ) -> Result<Heard, Memory>
+    ) -> Result<Judged, Memory>
         ensures terms { self.new.events.docs.terms ≡ self.old.events.docs.terms }
         ensures passes { IfOk result (PassesOver self.old self.new Who.Snapshot rule false
             (λ enc kind. Some (shows uri.now version (chars text.now)))
@@ -234,9 +234,9 @@ impl Walk {
         note_refused(&mut self.notes, rule, uri, false)?;
         let uri = String::from_str(alloc, uri)?;
         let text = String::from_str(alloc, text)?;
-        Ok(Heard::Offence(Found {
+        Ok(Judged::Offence(FoundOffence {
             offence,
-            offending: Offending::Snapshot { version, uri, text },
+            offending: OffendingEvent::Snapshot { version, uri, text },
         }))
     }
 

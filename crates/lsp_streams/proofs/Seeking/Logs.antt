@@ -13,7 +13,7 @@ use Rattle.lsp_streams.specs.Event.{BeginsEvent}
 use Rattle.lsp_streams.specs.EventSteps.{Answers, Finds, Found, HasPassed, IsOfEnd}
 use Rattle.lsp_streams.specs.LogEvents.{Ended, Gives, HasGiven, IsLogOf, Opens, Reads, flaw_of}
 use Rattle.lsp_verdict.specs.Lent.{raw_view}
-use Rattle.lsp_streams.specs.declared.event.Answer.{Answer}
+use Rattle.lsp_streams.specs.declared.event.EventAnswer.{EventAnswer}
 use Rattle.lsp_streams.specs.declared.event.EventOutcome.{EventOutcome}
 use Rattle.lsp_streams.specs.declared.event.EventOutcome.TheVariants.{FewerEvents}
 use Rattle.lsp_streams.specs.declared.log_events.End.{End}
@@ -44,7 +44,7 @@ module _ (limits : Bounds) (format : Option Format) (e : LogEvents) (start now :
     (records : List Record) (given due : List Raw) (raw : Raw)
     (h : Reads limits format e start now records (given ++ raw ∷ []) due) (n : ℕ)
     (last : length given + 1 ≡ n) where
-  event_found : (answer : Answer) → Answers answer raw → Found limits n start now answer
+  event_found : (answer : EventAnswer) → Answers answer raw → Found limits n start now answer
   event_found answer answers = record {
     of_read = read_map limits start now (HasGiven limits format records (given ++ raw ∷ []))
         (λ log. IsEvent limits log n answer.content.items answer.outcome)
@@ -68,7 +68,7 @@ module _ (limits : Bounds) (format : Option Format) (e : LogEvents) (start now :
   }
 
   -- and its content was copied, if memory was not refused
-  answered : (result : Result Answer RunFault) → IfOk result (λ answer. Answers answer raw)
+  answered : (result : Result EventAnswer RunFault) → IfOk result (λ answer. Answers answer raw)
       → ((fault : RunFault) → result ≡ Err fault → fault ≡ faults.Memory)
       → Finds limits n start now result
   answered (Ok answer) answers memory = event_found answer answers
@@ -90,7 +90,7 @@ met_end Sound now r_met outcome is fewer = r_met refl
 met_end (Bad number fault) now r_met outcome is fewer = absurd (cc (sym is ∙ fewer))
 
 fewer_found : (limits : Bounds) (format : Option Format) (e : LogEvents) (start now : Told)
-    (records : List Record) (given : List Raw) (end : End) (n : ℕ) (answer : Answer)
+    (records : List Record) (given : List Raw) (end : End) (n : ℕ) (answer : EventAnswer)
     → Ended limits format e start now records given end → length given < n → IsOfEnd answer end
     → Found limits n start now answer
 fewer_found limits format e start now records given end n answer h before is =
@@ -127,7 +127,7 @@ module _ (limits : Bounds) (old new : LogEvents) (start before now : Told) (n le
     unwritten = broke.unwritten;
   }
 
-  pub log_ends : (end : End) (answer : Answer)
+  pub log_ends : (end : End) (answer : EventAnswer)
       → Gives limits p.format new start now p.records p.given (Ok (next.End end))
       → IsOfEnd answer end → Finds limits n start now (Ok answer)
   log_ends end answer (more, ends) is =
@@ -135,7 +135,7 @@ module _ (limits : Bounds) (old new : LogEvents) (start before now : Told) (n le
       (omega (arith, ahead, p.count)) is
 
   -- the last of those to come
-  pub last_given : (raw : code.Raw) (result : Result Answer RunFault) → left ≡ 1
+  pub last_given : (raw : code.Raw) (result : Result EventAnswer RunFault) → left ≡ 1
       → Gives limits p.format new start now p.records p.given (Ok (next.Event raw))
       → IfOk result (λ answer. Answers answer (raw_view raw))
       → ((fault : RunFault) → result ≡ Err fault → fault ≡ faults.Memory)
@@ -178,7 +178,7 @@ none_written limits start now n fault broke =
     read_map limits start now (λ log. Unit {0}) (λ log. BeginsEvent limits log n [])
     (λ log u. let due = some_event limits log n in (due.1, due.0, due.2)) broke.of_read
 
-pub front_written : (limits : Bounds) (start now : Told) (n : ℕ) (answer : Answer)
+pub front_written : (limits : Bounds) (start now : Told) (n : ℕ) (answer : EventAnswer)
     (front back : List ℕ) → Found limits n start now answer → answer.content.items ≡ front ++ back
     → OfRead limits start now (λ log. BeginsEvent limits log n front)
 front_written limits start now n answer front back found whole =

@@ -2,7 +2,7 @@ use Rattle.std.proofs.Common.{[], ◌∷◌, ◌++◌, ◌∙◌, ◌+◌, ◌-�
 use Rattle.std.proofs.lemmas.Result.{err_from_is_err_and}
 use Rattle.lsp_frame.specs.Bounds.{Bounds}
 use Rattle.lsp_survey.specs.Reads.{found_in}
-use Rattle.lsp_survey.specs.declared.survey_reader.Next.TheVariants as next
+use Rattle.lsp_survey.specs.declared.survey_reader.NextJudged.TheVariants as next
 use Rattle.lsp_survey.proofs.Reading.{broke_by, gives_by, fewer, so_far_begins, so_far_failures}
 use Rattle.lsp_survey.proofs.Reporting.{broke_listing, lines_failed, more_wrote, wrote_none}
 use Rattle.lsp_survey.proofs.run.list_events.Goals as goal

@@ -7,7 +7,7 @@ use Rattle.lsp_survey.specs.Notes.{AreAfter}
 use Rattle.lsp_survey.specs.Walking.{offence_of}
 use Rattle.lsp_survey.specs.declared.notes.note.Note.{Note}
 use Rattle.lsp_survey.specs.declared.notes.note.Notes.{Notes}
-use Rattle.lsp_survey.specs.declared.offending.Offending.TheVariants.{Snapshot}
+use Rattle.lsp_survey.specs.declared.offending.OffendingEvent.TheVariants.{Snapshot}
 use Rattle.lsp_verdict.specs.Given.{given_offence}
 use Rattle.lsp_verdict.specs.declared.verdict.Who.TheVariants as who
 use Rattle.lsp_survey.proofs.walk.Walk.refuse_snapshot.Goals as goal

@@ -8,7 +8,7 @@ use lsp_verdict::Offence;
 
 /// The first offence, how many there were, and how many of them follow from earlier ones.
 #[derive(Drop)]
-pub struct Tally {
+pub struct OffenceCount {
     /// The first that was found.
     pub first: Option<Offence>,
     /// How many were found, at most 2^64 - 1.
@@ -17,12 +17,12 @@ pub struct Tally {
     pub following: u64,
 }
 
-impl Tally {
+impl OffenceCount {
     /// The tally of no offences.
-    pub fn new() -> Tally
+    pub fn new() -> OffenceCount
         ensures { IsTally result [] }
     {
-        Tally {
+        OffenceCount {
             first: None,
             found: 0,
             following: 0,

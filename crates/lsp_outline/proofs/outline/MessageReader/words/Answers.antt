@@ -1,7 +1,7 @@
 use Rattle.std.proofs.Common.{◌∙◌}
 use Rattle.lsp_outline.proofs.Outlining.{same_words}
 use Rattle.lsp_outline.proofs.Walking.{some_content}
-use Rattle.lsp_outline.proofs.outline.OutlineReader.words.Goals as goal
+use Rattle.lsp_outline.proofs.outline.MessageReader.words.Goals as goal
 
 pub returns-in-Ok-clause-ok : goal.returns-in-Ok-clause-ok
 returns-in-Ok-clause-ok c =
