@@ -8,7 +8,7 @@ use Rattle.std.proofs.lemmas.Option.{same_Some}
 use Rattle.lsp_docs.specs.Terms.{Terms}
 use Rattle.lsp_frame.specs.Bounds.{Bounds}
 use Rattle.lsp_log.specs.Log.{Record}
-use Rattle.lsp_streams.specs.LogEvents.{GoesBehind}
+use Rattle.lsp_replay.specs.LogEvents.{GoesBehind}
 use Rattle.lsp_survey.specs.Reads.{Finds}
 use Rattle.lsp_survey.specs.declared.offending.FoundOffence.{FoundOffence}
 use Rattle.lsp_types.specs.declared.side.Side.TheVariants.{Editor, Server}
@@ -20,7 +20,7 @@ use Rattle.lsp_explain.specs.AllExplained.{is_cause, causes, cause_lines}
 use Rattle.lsp_explain.specs.AllSteps.{cause_at, AreSaid}
 use Rattle.lsp_explain.specs.Explained.{Heard, Breach, Explained, Explains, notes_of, breach}
 use Rattle.lsp_explain.specs.Explained.{breach_at, breaches}
-use Rattle.lsp_facts.specs.FlawFacts.{Rests}
+use Rattle.lsp_explain.specs.FlawFacts.{Rests}
 use Rattle.lsp_explain.specs.RunSteps.{RestsBehind, Tells}
 use Rattle.lsp_explain.specs.declared.run.Explanation.{Explanation}
 

@@ -11,7 +11,7 @@ use Rattle.lsp_frame.specs.declared.format.Format.{Format}
 use Rattle.lsp_frame.proofs.Telling.{took_then}
 use Rattle.lsp_frame.proofs.Writing.{wrote_nothing, wrote_then}
 use Rattle.lsp_log.specs.Log.{Record}
-use Rattle.lsp_streams.specs.LogEvents.{HasGiven}
+use Rattle.lsp_replay.specs.LogEvents.{HasGiven}
 use Rattle.lsp_survey.specs.Reads.{SoFar, GaveBehind, BrokeOff, found_in}
 use Rattle.lsp_survey.specs.Reported.{IsTally}
 use Rattle.lsp_survey.specs.declared.offending.Judged as code_heard
@@ -32,7 +32,7 @@ use Rattle.lsp_verdict.proofs.Sessions.{some_placed}
 use Rattle.lsp_explain.specs.AllExplained.{causes, cause_lines, AreFirstSaid, BeginsAllExplained}
 use Rattle.lsp_explain.specs.AllSteps.{AreSaid, PartTold, TellsCause, cause_at}
 use Rattle.lsp_explain.specs.Explained.{Heard, Breach, Explained, Explains, raws_of, notes_of}
-use Rattle.lsp_facts.specs.FlawFacts.{Rests}
+use Rattle.lsp_explain.specs.FlawFacts.{Rests}
 use Rattle.lsp_explain.specs.RunSteps.{RestsBehind}
 use Rattle.lsp_explain.specs.Standing.{terms_in}
 use Rattle.lsp_explain.proofs.AllCauses.{causes-push, said_behind, said_under, zip_append}

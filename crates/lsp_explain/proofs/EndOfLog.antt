@@ -16,7 +16,7 @@ use Rattle.lsp_types.specs.declared.side.Side.{Side}
 use Rattle.lsp_types.specs.declared.side.Side.TheVariants.{Editor, Server}
 use Rattle.lsp_survey.specs.Asking.{Numbered, numbered}
 use Rattle.lsp_survey.specs.Reads.{IsSurveyOf, KnowsFlaw, Ended}
-use Rattle.lsp_streams.specs.Streams.{decoder_of}
+use Rattle.lsp_replay.specs.Streams.{decoder_of}
 use Rattle.lsp_survey.specs.declared.survey_reader.End.{End}
 use Rattle.lsp_survey.specs.declared.survey_reader.SurveyReader.{SurveyReader}
 use Rattle.lsp_verdict.specs.Event.{Event}
@@ -41,7 +41,7 @@ use Rattle.lsp_verdict.proofs.RunReading.{read_map}
 use Rattle.lsp_explain.specs.Explained.{Heard, Breach, Explains, raws_of, notes_of, breaches}
 use Rattle.lsp_explain.specs.Explained.{end_explained, explanation, flaw_lines, said_of}
 use Rattle.lsp_explain.specs.Explained.{IsExplained, IsExplanation}
-use Rattle.lsp_facts.specs.FlawFacts.{Rests, rest_of, flaw_facts, log_facts}
+use Rattle.lsp_explain.specs.FlawFacts.{Rests, rest_of, flaw_facts, log_facts}
 use Rattle.lsp_explain.specs.RunSteps.{IsSound, flaw_held, rests_held, summary_behind}
 use Rattle.lsp_explain.specs.Standing.{StandsAfter, terms_in}
 use Rattle.lsp_explain.specs.declared.run.Explanation.{Explanation}

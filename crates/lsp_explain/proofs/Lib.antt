@@ -15,3 +15,14 @@ pub mod AllTelling
 pub mod AllEnding
 pub mod AllLaws
 pub mod OneExplanation
+pub mod Differing
+pub mod Naming
+pub mod Offers
+pub mod MadeChanges
+pub mod Refusals
+pub mod AtEdges
+pub mod OtherTexts
+pub mod DocumentRules
+pub mod Refused
+pub mod SomeFacts
+pub mod OneFacts

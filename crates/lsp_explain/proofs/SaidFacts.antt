@@ -3,7 +3,7 @@ use Rattle.std.specs.Prelude.{chars, string_bytes}
 use Rattle.std.proofs.Common.{◌≡◌, ℕ, List, Some, refl, sym, ap, ◌∙◌, subst}
 use Rattle.lsp_docs.specs.Calls.{shows}
 use Rattle.lsp_docs.specs.Terms.{Terms}
-use Rattle.lsp_events.specs.Standing.{RefusesMessage}
+use Rattle.lsp_replay.specs.Standing.{RefusesMessage}
 use Rattle.lsp_rpc.specs.View.{act_view, message_view}
 use Rattle.lsp_survey.specs.Walking.{IsOffending}
 use Rattle.lsp_survey.specs.declared.offending.OffendingEvent.{OffendingEvent}
@@ -14,13 +14,13 @@ use Rattle.lsp_verdict.specs.Offences.{kept_of, rule_at}
 use Rattle.lsp_verdict.specs.Placed.{Raw, content, broken, show, Reads}
 use Rattle.lsp_verdict.specs.declared.verdict.Who.{Who}
 use Rattle.lsp_verdict.proofs.OneEvent.{one_event}
-use Rattle.lsp_facts.specs.EventFacts.{AreCallFacts, AreFacts, AreMessageFacts}
-use Rattle.lsp_facts.specs.Fact.{Fact}
-use Rattle.lsp_facts.specs.FlawFacts.{Rests, rest_of, frame_facts}
-use Rattle.lsp_facts.specs.Lines.{bare_event, content_event, content_message, event_line}
-use Rattle.lsp_facts.specs.Lines.{message_event}
-use Rattle.lsp_facts.proofs.Naming.{message_named}
-use Rattle.lsp_facts.specs.MessageFacts.{content_facts}
+use Rattle.lsp_explain.specs.EventFacts.{AreCallFacts, AreFacts, AreMessageFacts}
+use Rattle.lsp_explain.specs.Fact.{Fact}
+use Rattle.lsp_explain.specs.FlawFacts.{Rests, rest_of, frame_facts}
+use Rattle.lsp_explain.specs.Lines.{bare_event, content_event, content_message, event_line}
+use Rattle.lsp_explain.specs.Lines.{message_event}
+use Rattle.lsp_explain.proofs.Naming.{message_named}
+use Rattle.lsp_explain.specs.MessageFacts.{content_facts}
 use Rattle.lsp_explain.specs.RunSteps.{ShowsFault}
 use Rattle.lsp_explain.specs.Traced.{AreTraced}
 use Rattle.lsp_explain.proofs.Spoken.{same_line}

@@ -6,8 +6,8 @@ use Rattle.lsp_rpc.specs.Outline.{outline}
 use Rattle.lsp_rpc.specs.Words.{words_of}
 use Rattle.lsp_verdict.specs.Report.{line, who_name}
 use Rattle.lsp_verdict.specs.declared.verdict.Who.{Who}
-use Rattle.lsp_facts.specs.Lines.{message_event}
-use Rattle.lsp_facts.specs.MessageFacts.{id_in}
+use Rattle.lsp_explain.specs.Lines.{message_event}
+use Rattle.lsp_explain.specs.MessageFacts.{id_in}
 use Rattle.lsp_rpc.proofs.OutlineWords.{words_by_outline}
 
 pub id_in-outline : (m : Message) → id_in m ≡ id_in (outline m)

@@ -11,7 +11,7 @@ use Rattle.lsp_survey.specs.declared.survey_reader.End.{End}
 use Rattle.lsp_survey.specs.declared.offending.FoundOffence.{FoundOffence}
 use Rattle.lsp_survey.specs.declared.offending.Judged.TheVariants as heard
 use Rattle.lsp_survey.specs.declared.survey_reader.SurveyReader.{SurveyReader}
-use Rattle.lsp_streams.specs.LogEvents.{HasGiven}
+use Rattle.lsp_replay.specs.LogEvents.{HasGiven}
 use Rattle.lsp_verdict.specs.Given.{offence_view, verdict_view}
 use Rattle.lsp_verdict.specs.Offences.{Noted, Offence, IsNoted, events_of, offences, offence_at}
 use Rattle.lsp_verdict.specs.Offences.{offence_by, rule_at}

@@ -13,9 +13,9 @@ use Rattle.lsp_types.specs.declared.side.Side.{Side}
 use Rattle.lsp_verdict.specs.Event.{Event, message}
 use Rattle.lsp_survey.specs.Asking.{numbered}
 use Rattle.lsp_survey.specs.Marking.{Step, agreed, recent}
-use Rattle.lsp_facts.specs.Fact.{Fact, fact_view, shown_by}
-use Rattle.lsp_facts.specs.declared.fact.Fact as code
-use Rattle.lsp_facts.specs.MessageFacts.{id_in}
+use Rattle.lsp_explain.specs.Fact.{Fact, fact_view, shown_by}
+use Rattle.lsp_explain.specs.declared.facts.fact.Fact as code
+use Rattle.lsp_explain.specs.MessageFacts.{id_in}
 use Rattle.lsp_explain.specs.Traced.{act_call, apart_facts, brought, call_traced, document_traced}
 use Rattle.lsp_explain.specs.Traced.{held_by, session_trace, traced, with_setter}
 use Rattle.lsp_explain.specs.declared.suspects.Until.{Until}

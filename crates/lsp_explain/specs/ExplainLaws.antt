@@ -9,7 +9,7 @@ use Rattle.lsp_verdict.specs.Verdict.{Verdict, Summary, yes}
 use Rattle.lsp_verdict.specs.declared.completeness.Completeness.{Completeness}
 use Rattle.lsp_explain.specs.AllExplained.{AreAllSaid, IsAllExplained}
 use Rattle.lsp_explain.specs.Explained.{Explained, explanation, IsExplanation}
-use Rattle.lsp_facts.specs.Fact.{Fact}
+use Rattle.lsp_explain.specs.Fact.{Fact}
 
 -- **An explanation begins with the report of the verdict.**
 abbrev pub BeginsWithReport : Type 0

@@ -6,3 +6,14 @@ pub mod ExplainLaws
 pub mod RunSteps
 pub mod AllExplained
 pub mod AllSteps
+pub mod Part
+pub mod Edges
+pub mod Fact
+pub mod Lines
+pub mod FlawFacts
+pub mod MessageFacts
+pub mod Refuting
+pub mod DocumentFacts
+pub mod EventFacts
+pub mod Making
+pub mod Comparing

@@ -1,7 +1,7 @@
 -- For which events a reader stands that has heard them, and skipped each that offends.
 use Rattle.std.specs.Prelude.{List}
 use Rattle.lsp_docs.specs.Terms.{Terms}
-use Rattle.lsp_events.specs.Standing.{Holds}
+use Rattle.lsp_replay.specs.Standing.{Holds}
 use Rattle.lsp_verdict.specs.Event.{Event}
 use Rattle.lsp_verdict.specs.Offences.{kept_of}
 use Rattle.lsp_survey.specs.Marks.{AreMarks}

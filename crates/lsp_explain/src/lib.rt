@@ -2,10 +2,11 @@
 //! is wrong.
 //!
 //! [`run_explain`] reads a log and explains the verdict on it, and [`run_explain_all`] all that is
-//! wrong with it. What is said about an offence are the facts of `lsp_facts`, whose public names
-//! are exported again here, with the earlier events that brought it.
+//! wrong with it. What is said about an offence are the facts of the module `facts`, with the
+//! earlier events that brought it.
 #![tactic(auto)]
 
+mod facts;
 mod laws;
 mod run;
 mod run_all;
@@ -18,7 +19,7 @@ pub use laws::{
     first_explained_is_verdict, one_explanation, one_explanation_of_all, some_explanation,
     some_explanation_of_all,
 };
-pub use lsp_facts::{
+pub use facts::{
     Fact, act_facts, content_facts, flaw_facts, frame_facts, session_facts, snapshot_facts,
     unfinished_facts,
 };

@@ -16,14 +16,14 @@ ghost use Rattle.lsp_verdict.specs.RunIo.{OfRead, GaveAtMost, source_failures, s
 ghost use Rattle.lsp_verdict.specs.Survey.{first_verdict};
 ghost use Rattle.lsp_explain.specs.Explained.{BeginsExplanation, IsExplanation, end_explained};
 ghost use Rattle.lsp_explain.specs.Explained.{flaw_lines, said_of};
-ghost use Rattle.lsp_facts.specs.FlawFacts.{Rests, flaw_facts, rest_of, side_by};
-ghost use Rattle.lsp_facts.specs.Lines.{fact_lines, usual_line};
+ghost use Rattle.lsp_explain.specs.FlawFacts.{Rests, flaw_facts, rest_of, side_by};
+ghost use Rattle.lsp_explain.specs.Lines.{fact_lines, usual_line};
 ghost use Rattle.lsp_explain.specs.RunSteps.{EndsWhole, ExplainsLog, IsSound, TellsEnd, TellsOf};
 ghost use Rattle.lsp_explain.specs.RunSteps.{flaw_held, side_of, summary_behind};
 ghost use Rattle.lsp_explain.specs.Standing.{StandsAfter, terms_in};
 
 use crate::said::{push_end, push_said};
-use lsp_facts::{flaw_facts, push_details};
+use crate::facts::{flaw_facts, push_details};
 use lsp_frame::{Limits, Sink, Source, put_all};
 use lsp_rpc::{Memory, Side};
 use lsp_survey::{End, FoundOffence, Judged, NextJudged, OffendingEvent, SurveyReader};

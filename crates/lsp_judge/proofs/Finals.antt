@@ -12,15 +12,15 @@ use Rattle.lsp_docs.specs.State as docs
 use Rattle.lsp_docs.specs.Terms.{Terms, terms_of}
 use Rattle.lsp_log.specs.declared.fault.LogCode.{LogCode}
 use Rattle.lsp_log.specs.Log.{Record}
-use Rattle.lsp_streams.specs.Streams as frames
-use Rattle.lsp_streams.specs.Streams.{ends_inside}
+use Rattle.lsp_replay.specs.Streams as frames
+use Rattle.lsp_replay.specs.Streams.{ends_inside}
 use Rattle.lsp_verdict.specs.Complete.{IsFinalBy, completed, lack_of}
 use Rattle.lsp_verdict.specs.Event.{Event, sent_in}
 use Rattle.lsp_verdict.specs.Given.{summary_view, as_given}
 use Rattle.lsp_verdict.specs.Outcome.{IsFinal, is_rest}
 use Rattle.lsp_judge.specs.Ending.{end_by, lack_by}
 use Rattle.lsp_judge.specs.Rulings.{verdict_in, RestIs}
-use Rattle.lsp_events.specs.Standing.{Follows}
+use Rattle.lsp_replay.specs.Standing.{Follows}
 use Rattle.lsp_judge.specs.Heard.{HasHeard}
 use Rattle.lsp_judge.specs.Standing.{State, HasOffence, Stands}
 use Rattle.lsp_verdict.specs.Placed.{Raw, IsSession}

@@ -7,9 +7,9 @@ use Rattle.lsp_session.specs.State as session
 use Rattle.lsp_docs.specs.State as docs
 use Rattle.lsp_docs.specs.Terms.{Terms, terms_of}
 use Rattle.lsp_log.specs.Log.{Record}
-use Rattle.lsp_events.specs.Standing.{Keeps as KeepsOne}
-use Rattle.lsp_events.specs.declared.heard.Heard.{Heard}
-use Rattle.lsp_streams.specs.Streams as frames
+use Rattle.lsp_replay.specs.Standing.{Keeps as KeepsOne}
+use Rattle.lsp_replay.specs.declared.heard.Heard.{Heard}
+use Rattle.lsp_replay.specs.Streams as frames
 use Rattle.lsp_verdict.specs.Lent.{raw_view}
 use Rattle.lsp_verdict.specs.declared.raw.Raw as code
 use Rattle.lsp_verdict.specs.Event.{Event}
@@ -23,7 +23,7 @@ use Rattle.lsp_judge.specs.Rulings.{IsNoAt}
 use Rattle.lsp_judge.specs.Standing.{State, IsHearing, IsOpen, Keeps, Rules}
 use Rattle.lsp_judge.specs.declared.ruling.Ruling.{Ruling}
 use Rattle.lsp_judge.specs.declared.ruling.Ruling.TheVariants.{No, BadLog, Memory}
-use Rattle.lsp_events.proofs.Following.{follows_on}
+use Rattle.lsp_replay.proofs.Following.{follows_on}
 use Rattle.lsp_verdict.proofs.OneEvent.{some_list, lists_join}
 use Rattle.lsp_verdict.proofs.Verdicts.{no_found}
 

@@ -13,20 +13,20 @@ use Rattle.lsp_docs.specs.Terms.{Terms}
 use Rattle.lsp_log.specs.Log.{Record, IsLog}
 use Rattle.lsp_log.specs.Reader as reader
 use Rattle.lsp_log.specs.declared.fault.LogCode.{LogCode}
-use Rattle.lsp_events.specs.Lines.{IsHeard}
-use Rattle.lsp_events.specs.Standing.{Follows}
-use Rattle.lsp_events.specs.declared.heard.Heard.{Heard}
-use Rattle.lsp_streams.specs.LogEvents as streams
-use Rattle.lsp_streams.specs.LogEvents.{HasGiven, IsLogOf, NextIs, Reads}
-use Rattle.lsp_streams.specs.LogEvents.{Ended, flaw_of}
-use Rattle.lsp_streams.specs.Streams.{ends_inside}
+use Rattle.lsp_replay.specs.Lines.{IsHeard}
+use Rattle.lsp_replay.specs.Standing.{Follows}
+use Rattle.lsp_replay.specs.declared.heard.Heard.{Heard}
+use Rattle.lsp_replay.specs.LogEvents as streams
+use Rattle.lsp_replay.specs.LogEvents.{HasGiven, IsLogOf, NextIs, Reads}
+use Rattle.lsp_replay.specs.LogEvents.{Ended, flaw_of}
+use Rattle.lsp_replay.specs.Streams.{ends_inside}
 use Rattle.lsp_verdict.specs.Lent.{raw_view}
-use Rattle.lsp_streams.specs.declared.log_events.End.{End}
-use Rattle.lsp_streams.specs.declared.log_events.End.TheVariants.{Bad}
-use Rattle.lsp_streams.specs.declared.log_events.LogEvents.{LogEvents}
-use Rattle.lsp_streams.specs.declared.log_events.Next.TheVariants as next
+use Rattle.lsp_replay.specs.declared.log_events.End.{End}
+use Rattle.lsp_replay.specs.declared.log_events.End.TheVariants.{Bad}
+use Rattle.lsp_replay.specs.declared.log_events.LogEvents.{LogEvents}
+use Rattle.lsp_replay.specs.declared.log_events.Next.TheVariants as next
 use Rattle.lsp_verdict.specs.declared.raw.Raw as lent
-use Rattle.lsp_streams.proofs.Pulling.{reads_failures, reads_given}
+use Rattle.lsp_replay.proofs.Pulling.{reads_failures, reads_given}
 use Rattle.lsp_verdict.specs.Complete.{IsCompleteVerdict, IsFinalBy, IsVerdictBy, completed}
 use Rattle.lsp_verdict.specs.Event.{Event}
 use Rattle.lsp_verdict.specs.Given.{verdict_view, as_given}

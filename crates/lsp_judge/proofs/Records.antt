@@ -5,12 +5,12 @@ use Rattle.lsp_frame.specs.Bounds.{Bounds, IsInRange}
 use Rattle.lsp_frame.specs.declared.format.Format.{Format}
 use Rattle.lsp_docs.specs.Terms.{Terms, terms_of}
 use Rattle.lsp_log.specs.Log.{Record}
-use Rattle.lsp_streams.specs.Streams as frames
+use Rattle.lsp_replay.specs.Streams as frames
 use Rattle.lsp_verdict.specs.Event.{Event}
 use Rattle.lsp_verdict.specs.Given.{as_given}
 use Rattle.lsp_verdict.specs.Placed.{IsSession}
 use Rattle.lsp_judge.specs.Rulings.{verdict_in}
-use Rattle.lsp_events.specs.Standing.{Follows}
+use Rattle.lsp_replay.specs.Standing.{Follows}
 use Rattle.lsp_judge.specs.Standing.{State, IsOpen, HasOffence, Rules, Keeps, StandsBy, Stands}
 use Rattle.lsp_verdict.specs.Verdict.{Verdict, no, no_at, first_no}
 use Rattle.lsp_judge.specs.declared.ruling.Ruling.{Ruling}

@@ -5,9 +5,9 @@ use Rattle.lsp_frame.specs.Bounds.{Bounds}
 use Rattle.lsp_types.specs.declared.side.Side.{Side}
 use Rattle.lsp_docs.specs.Terms.{Terms}
 use Rattle.lsp_log.specs.Log.{Record}
-use Rattle.lsp_streams.specs.Streams as frames
-use Rattle.lsp_streams.specs.Streams.{decoder_of, ends_inside}
-use Rattle.lsp_streams.proofs.Resting.{faults_in, side_rest, side_ends}
+use Rattle.lsp_replay.specs.Streams as frames
+use Rattle.lsp_replay.specs.Streams.{decoder_of, ends_inside}
+use Rattle.lsp_replay.proofs.Resting.{faults_in, side_rest, side_ends}
 use Rattle.lsp_verdict.specs.Event.{Event}
 use Rattle.lsp_verdict.specs.LookBack.{first_from}
 use Rattle.lsp_verdict.specs.Outcome.{HasRest, is_rest}

@@ -35,8 +35,8 @@ use Rattle.lsp_verdict.proofs.RunReading.{read_map}
 use Rattle.lsp_verdict.proofs.Logs.UpTo.{count-append}
 use Rattle.lsp_judge.specs.LogEvents.{EndsAt, EndsBy, BeginsWith, SoFar, Found, BrokeOff}
 use Rattle.lsp_judge.specs.ShownLog.{IsShown, BeginsShown, OneShown, ShowedAll, ShowedPart, IsPlace}
-use Rattle.lsp_events.specs.Lines.{line_of}
-use Rattle.lsp_events.specs.declared.heard.EventPlace.{EventPlace}
+use Rattle.lsp_replay.specs.Lines.{line_of}
+use Rattle.lsp_replay.specs.declared.heard.EventPlace.{EventPlace}
 use Rattle.lsp_judge.specs.declared.event_reader.EventReader.{EventReader}
 use Rattle.lsp_verdict.proofs.RunsJudged.{judged_as}
 use Rattle.lsp_judge.proofs.LogEvents.{so_far_begins, so_far_few, so_far_failures, so_far_range}

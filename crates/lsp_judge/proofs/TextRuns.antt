@@ -37,7 +37,7 @@ use Rattle.lsp_verdict.proofs.Logs.UpTo.{reached_more, reached_past, reached_now
 use Rattle.lsp_verdict.proofs.Logs.UpTo.{count_one}
 use Rattle.lsp_verdict.proofs.Verdicts.{no_found}
 use Rattle.lsp_judge.specs.LogEvents.{EndsAt, EndsBy, SoFar, Found, GivesText}
-use Rattle.lsp_events.specs.Standing.{Follows}
+use Rattle.lsp_replay.specs.Standing.{Follows}
 use Rattle.lsp_judge.specs.declared.event_reader.EventReader.{EventReader}
 use Rattle.lsp_judge.proofs.KeptEvents.{kept_clean, kept_no, kept_final}
 use Rattle.lsp_judge.proofs.LogEvents.{BeginsBy, so_far_by, so_far_clean, so_far_failures}

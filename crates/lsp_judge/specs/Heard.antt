@@ -4,9 +4,9 @@ use Rattle.std.specs.List.{AllZip}
 use Rattle.lsp_session.specs.State as session
 use Rattle.lsp_docs.specs.State as docs
 use Rattle.lsp_docs.specs.Terms.{Terms}
-use Rattle.lsp_events.specs.Lines.{IsHeard}
-use Rattle.lsp_events.specs.Standing.{Follows}
-use Rattle.lsp_events.specs.declared.heard.Heard.{Heard}
+use Rattle.lsp_replay.specs.Lines.{IsHeard}
+use Rattle.lsp_replay.specs.Standing.{Follows}
+use Rattle.lsp_replay.specs.declared.heard.Heard.{Heard}
 use Rattle.lsp_verdict.specs.Event.{Event}
 use Rattle.lsp_verdict.specs.Placed.{Raw, Reads}
 use Rattle.lsp_verdict.specs.declared.counts.Counts.{Counts}

@@ -4,8 +4,8 @@ use Rattle.lsp_frame.specs.Bounds.{Bounds}
 use Rattle.lsp_frame.specs.Told.{Told}
 use Rattle.lsp_types.specs.declared.memory.Memory.{Memory}
 use Rattle.lsp_log.specs.Log.{Record}
-use Rattle.lsp_streams.specs.LogEvents.{Reads, Ended}
-use Rattle.lsp_streams.specs.declared.log_events.End.{End}
+use Rattle.lsp_replay.specs.LogEvents.{Reads, Ended}
+use Rattle.lsp_replay.specs.declared.log_events.End.{End}
 use Rattle.lsp_verdict.specs.Complete.{IsVerdictBy, completed}
 use Rattle.lsp_verdict.specs.Event.{Event}
 use Rattle.lsp_verdict.specs.Given.{verdict_view}

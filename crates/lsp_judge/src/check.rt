@@ -6,7 +6,7 @@ ghost use Rattle.lsp_judge.specs.LogEvents.{GivesVerdict};
 use crate::contents::hear;
 use crate::event_reader::EventReader;
 use lsp_frame::{Limits, Sink, Source, put_all};
-use lsp_streams::Next;
+use lsp_replay::Next;
 use lsp_verdict::{Completeness, Outcome, RunFault, Verdict, report_of};
 use std::alloc::Global;
 

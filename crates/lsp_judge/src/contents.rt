@@ -5,12 +5,12 @@ ghost use Rattle.lsp_verdict.specs.Counting.{AreCounts};
 ghost use Rattle.lsp_verdict.specs.Event.{Event};
 ghost use Rattle.lsp_verdict.specs.Lent.{raw_view, whose_raw};
 ghost use Rattle.lsp_verdict.specs.Placed as placed;
-ghost use Rattle.lsp_events.specs.Standing.{Follows, Refuses};
+ghost use Rattle.lsp_replay.specs.Standing.{Follows, Refuses};
 ghost use Rattle.lsp_judge.specs.Rulings.{IsNoAt};
 ghost use Rattle.lsp_judge.specs.Heard.{HasHeard, HearsOne};
 
 use crate::ruling::Ruling;
-use lsp_events::{Events, Heard, Refused};
+use lsp_replay::{Events, Heard, Refused};
 use lsp_text::TextStore;
 use lsp_verdict::{Counts, Raw, Who};
 

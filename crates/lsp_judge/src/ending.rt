@@ -1,6 +1,6 @@
 //! What is given where a session ends of which no event offends.
 ghost use Rattle.std.specs.Prelude.{◌≡◌, List};
-ghost use Rattle.lsp_events.specs.Standing.{Follows};
+ghost use Rattle.lsp_replay.specs.Standing.{Follows};
 ghost use Rattle.lsp_judge.specs.Ending.{EndIs, end_by, lack_by};
 ghost use Rattle.lsp_judge.specs.Rulings.{RestIs};
 ghost use Rattle.lsp_verdict.specs.Counting.{AreCounts};
@@ -8,7 +8,7 @@ ghost use Rattle.lsp_verdict.specs.Event.{Event};
 ghost use Rattle.lsp_verdict.specs.Verdict.{rest_of};
 
 use crate::ruling::Ruling;
-use lsp_events::{Events, summary_of};
+use lsp_replay::{Events, summary_of};
 use lsp_text::TextStore;
 use lsp_types::rules;
 use lsp_verdict::{Completeness, Counts, Summary, Who};

@@ -5,8 +5,8 @@
 //! `run_upgrade` writes a log again in format 2, up to its verdict. `Judge` takes the records of a
 //! log one by one, `report_of` prints a verdict. `run_frames` reads one raw stream, one direction
 //! of a session, and says what its frames are. What a session is and means is defined in
-//! `lsp_verdict`, how its events are heard in `lsp_events`, and the runs that judge nothing in
-//! `lsp_streams`; the public names of the first and the last are exported again here.
+//! `lsp_verdict`, how its events are heard in `lsp_replay`, and the runs that judge nothing in
+//! `lsp_replay`; the public names of the first and the last are exported again here.
 #![tactic(auto)]
 
 mod check;
@@ -25,7 +25,7 @@ pub use check::{run_check, run_check_complete};
 pub use judge::Judge;
 pub use lsp_frame::{Format, Input, Limits, Output};
 pub use lsp_log::LogCode;
-pub use lsp_streams::{
+pub use lsp_replay::{
     EventOutcome, event_is_numbered, normal_form_keeps_events, normal_form_keeps_verdict,
     normal_form_stays, one_event, one_normal_form, one_run, run_event, run_frames, run_normal,
     some_event, some_normal_form, some_run,

@@ -4,14 +4,13 @@ ghost use Rattle.lsp_frame.specs.Bounds.{IsInRange};
 ghost use Rattle.lsp_verdict.specs.Counting.{AreCounts};
 ghost use Rattle.lsp_verdict.specs.Event.{Event};
 ghost use Rattle.lsp_verdict.specs.Verdict as spec;
-ghost use Rattle.lsp_events.specs.Lines.{IsHeard};
+ghost use Rattle.lsp_replay.specs.Lines.{IsHeard};
 ghost use Rattle.lsp_judge.specs.ShownLog.{IsPlace, Showed, Shows};
 
 use crate::contents::hear;
 use crate::event_reader::EventReader;
-use lsp_events::{EventPlace, Heard, write_event_line};
+use lsp_replay::{EventPlace, Heard, Next, write_event_line};
 use lsp_frame::{Limits, Sink, Source, put_all};
-use lsp_streams::Next;
 use lsp_verdict::{
     Completeness, Counts, Lines, Outcome, RunFault, Verdict, Who, report_of, who_of,
 };

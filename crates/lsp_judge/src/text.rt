@@ -9,7 +9,7 @@ use crate::contents::hear;
 use crate::event_reader::EventReader;
 use crate::text_answer::TextAnswer;
 use lsp_frame::{Limits, Sink, Source, put_all};
-use lsp_streams::Next;
+use lsp_replay::Next;
 use lsp_verdict::{Completeness, Outcome, RunFault};
 use std::alloc::Global;
 

@@ -10,9 +10,9 @@ use Rattle.std.proofs.Math.Bool.{and-false, and-true}
 use Rattle.lsp_frame.specs.Bounds.{Bounds}
 use Rattle.lsp_types.specs.declared.side.Side.{Side}
 use Rattle.lsp_log.specs.Log.{Record}
-use Rattle.lsp_streams.specs.Streams as streams
-use Rattle.lsp_streams.specs.Streams.{State, Stands, decoder_of, ends_at}
-use Rattle.lsp_streams.proofs.Resting.{whole_rest}
+use Rattle.lsp_replay.specs.Streams as streams
+use Rattle.lsp_replay.specs.Streams.{State, Stands, decoder_of, ends_at}
+use Rattle.lsp_replay.proofs.Resting.{whole_rest}
 use Rattle.lsp_survey.specs.Ending.{given_by, lack_by}
 use Rattle.lsp_survey.proofs.FrameRules.{faults_are}
 use Rattle.lsp_verdict.specs.Event.{Event}

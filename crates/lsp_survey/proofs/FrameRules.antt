@@ -13,8 +13,8 @@ use Rattle.lsp_rpc.specs.Shape.{is_object}
 use Rattle.lsp_types.specs.declared.side.Side.{Side}
 use Rattle.lsp_session.specs.Sent.{same_side}
 use Rattle.lsp_session.proofs.LawLemmas.{same_side-refl}
-use Rattle.lsp_streams.specs.Streams.{State, Stands, decoder_of}
-use Rattle.lsp_streams.proofs.Owning.{given_own, side_broken}
+use Rattle.lsp_replay.specs.Streams.{State, Stands, decoder_of}
+use Rattle.lsp_replay.proofs.Owning.{given_own, side_broken}
 use Rattle.lsp_verdict.specs.Contents.{IsRefused, ReadsAs}
 use Rattle.lsp_verdict.specs.Event.{Event, message, fault, snapshot}
 use Rattle.lsp_verdict.specs.Offences.{Noted, IsNoted, events_of}

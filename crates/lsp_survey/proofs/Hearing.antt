@@ -8,12 +8,12 @@ use Rattle.lsp_docs.specs.Documents.{held}
 use Rattle.lsp_docs.specs.Kept.{kept as kept_versions}
 use Rattle.lsp_docs.specs.declared.snapshot.Match.{Match}
 use Rattle.lsp_docs.specs.Terms.{Terms}
-use Rattle.lsp_events.specs.Faults.{rule_of}
-use Rattle.lsp_events.specs.Lines.{IsHeard}
-use Rattle.lsp_events.specs.Standing.{AnswersAs, Holds, Keeps}
-use Rattle.lsp_events.specs.declared.fault.Refused.TheVariants as refused
-use Rattle.lsp_events.specs.declared.heard.Heard as lent
-use Rattle.lsp_events.specs.declared.heard.Heard.TheVariants as kept
+use Rattle.lsp_replay.specs.Faults.{rule_of}
+use Rattle.lsp_replay.specs.Lines.{IsHeard}
+use Rattle.lsp_replay.specs.Standing.{AnswersAs, Holds, Keeps}
+use Rattle.lsp_replay.specs.declared.fault.Refused.TheVariants as refused
+use Rattle.lsp_replay.specs.declared.heard.Heard as lent
+use Rattle.lsp_replay.specs.declared.heard.Heard.TheVariants as kept
 use Rattle.lsp_rpc.specs.Act.{Act}
 use Rattle.lsp_rpc.specs.Message.{Message, request, notification, response, result, error}
 use Rattle.lsp_rpc.specs.Outline.{outline}

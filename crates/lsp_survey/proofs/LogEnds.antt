@@ -7,7 +7,7 @@ use Rattle.std.proofs.Common.{length, length-append, Option, Some, None, Ok, ref
 use Rattle.std.proofs.Common.{◌∙◌, append-nil, arith}
 use Rattle.std.proofs.lemmas.List.{length-map}
 use Rattle.lsp_docs.specs.Terms.{Terms}
-use Rattle.lsp_events.specs.Standing.{Follows, Holds}
+use Rattle.lsp_replay.specs.Standing.{Follows, Holds}
 use Rattle.lsp_frame.specs.Bounds.{Bounds}
 use Rattle.lsp_frame.specs.Told.{Told}
 use Rattle.lsp_frame.specs.declared.format.Format.{Format}
@@ -15,13 +15,13 @@ use Rattle.lsp_log.specs.Log.{Record, IsLog}
 use Rattle.lsp_log.specs.declared.fault.LogCode.{LogCode}
 use Rattle.lsp_session.specs.Incomplete.{incomplete}
 use Rattle.lsp_types.specs.declared.side.Side.TheVariants.{Editor, Server}
-use Rattle.lsp_streams.specs.LogEvents as streams
-use Rattle.lsp_streams.specs.LogEvents.{GoesBehind, IsLogOf, NextIs, flaw_of}
-use Rattle.lsp_streams.specs.Streams.{Stands, decoder_of, ends_inside}
-use Rattle.lsp_streams.specs.declared.log_events.End as log_end
-use Rattle.lsp_streams.specs.declared.log_events.End.TheVariants.{Sound, Bad}
-use Rattle.lsp_streams.specs.declared.log_events.Next.TheVariants as next
-use Rattle.lsp_streams.proofs.Pulling.{log_of}
+use Rattle.lsp_replay.specs.LogEvents as streams
+use Rattle.lsp_replay.specs.LogEvents.{GoesBehind, IsLogOf, NextIs, flaw_of}
+use Rattle.lsp_replay.specs.Streams.{Stands, decoder_of, ends_inside}
+use Rattle.lsp_replay.specs.declared.log_events.End as log_end
+use Rattle.lsp_replay.specs.declared.log_events.End.TheVariants.{Sound, Bad}
+use Rattle.lsp_replay.specs.declared.log_events.Next.TheVariants as next
+use Rattle.lsp_replay.proofs.Pulling.{log_of}
 use Rattle.lsp_survey.specs.Ending.{ends_by, given_by}
 use Rattle.lsp_survey.specs.Reads.{EndedBehind, EndIs, SoFar, Ended, IsSurveyOf, KnowsFlaw}
 use Rattle.lsp_survey.specs.Walking.{Walks}

@@ -5,7 +5,7 @@ use Rattle.std.proofs.Common.{refl, sym, ap, subst, ◌∙◌}
 use Rattle.lsp_docs.specs.Calls.{Call}
 use Rattle.lsp_docs.specs.State as docs
 use Rattle.lsp_docs.specs.Terms.{Terms}
-use Rattle.lsp_events.specs.Standing.{Holds}
+use Rattle.lsp_replay.specs.Standing.{Holds}
 use Rattle.lsp_session.specs.State as session
 use Rattle.lsp_survey.specs.Notes.{note_of, note_after, AreAfter, is_noted_lost}
 use Rattle.lsp_survey.specs.Marks.{AreMarks}

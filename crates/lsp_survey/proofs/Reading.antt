@@ -11,15 +11,15 @@ use Rattle.lsp_frame.specs.Told.{Told}
 use Rattle.lsp_frame.specs.declared.format.Format.{Format}
 use Rattle.lsp_log.specs.Log.{Record, IsLog}
 use Rattle.lsp_log.specs.declared.fault.LogCode.{LogCode}
-use Rattle.lsp_streams.specs.LogEvents.{GoesBehind, HasGiven, NextIs, Opens, Reads}
-use Rattle.lsp_streams.specs.Streams.{Stands}
+use Rattle.lsp_replay.specs.LogEvents.{GoesBehind, HasGiven, NextIs, Opens, Reads}
+use Rattle.lsp_replay.specs.Streams.{Stands}
 use Rattle.lsp_verdict.specs.Lent.{raw_view}
-use Rattle.lsp_streams.specs.declared.log_events.End as log_end
-use Rattle.lsp_streams.specs.declared.log_events.LogEvents.{LogEvents}
-use Rattle.lsp_streams.specs.declared.log_events.Next.TheVariants as next
+use Rattle.lsp_replay.specs.declared.log_events.End as log_end
+use Rattle.lsp_replay.specs.declared.log_events.LogEvents.{LogEvents}
+use Rattle.lsp_replay.specs.declared.log_events.Next.TheVariants as next
 use Rattle.lsp_verdict.specs.declared.raw.Raw as lent
-use Rattle.lsp_streams.proofs.Owning.{given_fault}
-use Rattle.lsp_streams.proofs.Pulling.{reads_failures, reads_given}
+use Rattle.lsp_replay.proofs.Owning.{given_fault}
+use Rattle.lsp_replay.proofs.Pulling.{reads_failures, reads_given}
 use Rattle.lsp_types.specs.declared.side.Side.TheVariants.{Editor, Server}
 use Rattle.lsp_survey.specs.Reads.{BeginsSurvey, SoFar, IsHeardAs, found_in, HasEnded, GaveBehind}
 use Rattle.lsp_survey.specs.Reads.{BrokeOff, Gives}

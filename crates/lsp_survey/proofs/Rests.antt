@@ -8,8 +8,8 @@ use Rattle.lsp_frame.specs.Frame.{IsStream}
 use Rattle.lsp_frame.specs.Front.{header_front}
 use Rattle.lsp_log.specs.Log.{Record, chunk, shown}
 use Rattle.lsp_session.specs.Sent.{same_side}
-use Rattle.lsp_streams.specs.Streams.{State, Stands, decoder_of}
-use Rattle.lsp_streams.proofs.Owning.{AreBroken, side_broken}
+use Rattle.lsp_replay.specs.Streams.{State, Stands, decoder_of}
+use Rattle.lsp_replay.proofs.Owning.{AreBroken, side_broken}
 use Rattle.lsp_types.specs.declared.side.Side.{Side}
 use Rattle.lsp_survey.specs.Reads.{ShowsFront}
 use Rattle.lsp_verdict.specs.Outcome.{HasRest}

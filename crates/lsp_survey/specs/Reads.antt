@@ -4,7 +4,7 @@ use Rattle.std.specs.Prelude.{Option, Some, None, IsSome, Result, Ok, Err}
 use Rattle.std.specs.Io.KnownBytes.{IsAtEnd}
 use Rattle.std.specs.List.{AllZip, list_any}
 use Rattle.lsp_docs.specs.Terms.{Terms}
-use Rattle.lsp_events.specs.Standing.{Follows}
+use Rattle.lsp_replay.specs.Standing.{Follows}
 use Rattle.lsp_frame.specs.Bounds.{Bounds}
 use Rattle.lsp_frame.specs.Front.{header_front}
 use Rattle.lsp_frame.specs.Told.{Told}
@@ -14,11 +14,11 @@ use Rattle.lsp_log.specs.Place.{place_of, found_behind}
 use Rattle.lsp_log.specs.Reader as reader
 use Rattle.lsp_log.specs.Reader.{shown_by}
 use Rattle.lsp_log.specs.declared.fault.LogCode.{LogCode}
-use Rattle.lsp_streams.specs.LogEvents.{Reads, GoesBehind}
-use Rattle.lsp_streams.specs.Streams as streams
-use Rattle.lsp_streams.specs.Streams.{decoder_of}
-use Rattle.lsp_streams.specs.declared.log_events.End as log_end
-use Rattle.lsp_streams.specs.declared.log_events.End.TheVariants.{Sound, Bad}
+use Rattle.lsp_replay.specs.LogEvents.{Reads, GoesBehind}
+use Rattle.lsp_replay.specs.Streams as streams
+use Rattle.lsp_replay.specs.Streams.{decoder_of}
+use Rattle.lsp_replay.specs.declared.log_events.End as log_end
+use Rattle.lsp_replay.specs.declared.log_events.End.TheVariants.{Sound, Bad}
 use Rattle.lsp_types.specs.declared.side.Side.{Side}
 use Rattle.lsp_types.specs.declared.side.Side.TheVariants.{Editor, Server}
 use Rattle.lsp_survey.specs.Ending.{ends_by, given_by}

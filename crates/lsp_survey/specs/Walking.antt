@@ -4,10 +4,10 @@ use Rattle.std.specs.Prelude.{None, is_some, string_bytes}
 use Rattle.lsp_docs.specs.Calls.{Call}
 use Rattle.lsp_docs.specs.Terms.{Terms}
 use Rattle.lsp_docs.specs.declared.snapshot.Match.{Match}
-use Rattle.lsp_events.specs.Standing.{Holds, Refuses, RefusesMessage}
-use Rattle.lsp_events.specs.declared.fault.Refused.{Refused}
-use Rattle.lsp_events.specs.declared.heard.Heard as events
-use Rattle.lsp_events.specs.declared.heard.Heard.TheVariants as kept
+use Rattle.lsp_replay.specs.Standing.{Holds, Refuses, RefusesMessage}
+use Rattle.lsp_replay.specs.declared.fault.Refused.{Refused}
+use Rattle.lsp_replay.specs.declared.heard.Heard as events
+use Rattle.lsp_replay.specs.declared.heard.Heard.TheVariants as kept
 use Rattle.lsp_rpc.specs.Act.{Act}
 use Rattle.lsp_rpc.specs.Message.{Message}
 use Rattle.lsp_rpc.specs.View.{act_view, message_view}

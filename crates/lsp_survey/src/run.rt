@@ -2,7 +2,7 @@
 ghost use Rattle.std.specs.Prelude.{◌≡◌, ◌++◌, ◌∷◌, ◌+◌, ◌<◌, ◌^◌, ◌||◌, not, [], List};
 ghost use Rattle.std.specs.Prelude.{string_bytes, map, length, codes, decimal, option_map, Ok};
 ghost use Rattle.std.specs.Prelude.{IfOk, OnOk};
-ghost use Rattle.lsp_events.specs.Standing.{Follows};
+ghost use Rattle.lsp_replay.specs.Standing.{Follows};
 ghost use Rattle.lsp_frame.specs.Bounds.{Bounds, IsInRange};
 ghost use Rattle.lsp_frame.specs.Told.{Told};
 ghost use Rattle.lsp_survey.specs.Reads.{IsFresh, SoFar, found_in};

@@ -1,11 +1,11 @@
 //! The events of a log, heard one by one past each that offends, up to its end.
 ghost use Rattle.std.specs.Prelude.{◌≡◌, [], List, IfOk, IfErr, OnErr, option_map};
-ghost use Rattle.lsp_events.specs.Standing.{Follows};
+ghost use Rattle.lsp_replay.specs.Standing.{Follows};
 ghost use Rattle.lsp_frame.specs.Bounds.{Bounds};
 ghost use Rattle.lsp_frame.specs.Told.{Told};
 ghost use Rattle.lsp_log.specs.Reader.{shown_by};
-ghost use Rattle.lsp_streams.specs.LogEvents.{HasGiven};
-ghost use Rattle.lsp_streams.specs.Streams.{decoder_of};
+ghost use Rattle.lsp_replay.specs.LogEvents.{HasGiven};
+ghost use Rattle.lsp_replay.specs.Streams.{decoder_of};
 ghost use Rattle.lsp_verdict.specs.Given.{as_given, verdict_view};
 ghost use Rattle.lsp_verdict.specs.Offences.{Noted, Offence as SpecOffence, events_of};
 ghost use Rattle.lsp_verdict.specs.Placed.{Raw};
@@ -20,13 +20,12 @@ use crate::offending::Judged;
 use crate::session_end::ends;
 use crate::walk::Walk;
 use lsp_docs::Docs;
-use lsp_events::summary_of;
+use lsp_replay::{LogEvents, summary_of};
 use lsp_frame::{Format, Limits, Source};
 use lsp_lined::Lined;
 use lsp_rpc::{Memory, Side};
 use lsp_session::Session;
-use lsp_streams as streams;
-use lsp_streams::LogEvents;
+use lsp_replay as streams;
 use lsp_verdict::{Completeness, Offence, RunFault, Verdict};
 use std::alloc::Global;
 

@@ -3,7 +3,7 @@ ghost use Rattle.std.specs.Prelude.{◌≡◌, ◌&&◌, ◌||◌, [], Bool, Lis
 ghost use Rattle.std.specs.Prelude.{chars};
 ghost use Rattle.lsp_docs.specs.Calls.{shows};
 ghost use Rattle.lsp_docs.specs.Terms.{terms_of};
-ghost use Rattle.lsp_events.specs.Standing.{Holds};
+ghost use Rattle.lsp_replay.specs.Standing.{Holds};
 ghost use Rattle.lsp_rpc.specs.View.{act_view, message_view};
 ghost use Rattle.lsp_verdict.specs.Calls.{call_of};
 ghost use Rattle.lsp_verdict.specs.Counting.{AreCounts};
@@ -25,8 +25,8 @@ use crate::notes::{
     note_kept_act, note_refused, note_refused_act, wants_handshake, wants_text,
 };
 use crate::offending::{FoundOffence, Judged, OffendingEvent};
-use lsp_events as events;
-use lsp_events::{Events, Refused};
+use lsp_replay as events;
+use lsp_replay::{Events, Refused};
 use lsp_frame::{Format, Limits};
 use lsp_lined::Lined;
 use lsp_rpc::{Memory, Side, Spoken};

@@ -1,7 +1,7 @@
 use Rattle.std.proofs.Common.{sym, ◌∙◌}
 use Rattle.lsp_verdict.specs.Placed.{Reads}
-use Rattle.lsp_events.proofs.Following.{whose_read}
-use Rattle.lsp_events.proofs.Hearing.{refused_event}
+use Rattle.lsp_replay.proofs.Following.{whose_read}
+use Rattle.lsp_replay.proofs.Hearing.{refused_event}
 use Rattle.lsp_judge.proofs.Ruled.{ruled}
 use Rattle.lsp_judge.proofs.contents.no_at.Goals as goal
 

@@ -1,5 +1,5 @@
 use Rattle.std.proofs.Common.{ap, rules, Fits, w64}
-use Rattle.lsp_streams.specs.LogEvents.{flaw_of}
+use Rattle.lsp_replay.specs.LogEvents.{flaw_of}
 use Rattle.lsp_judge.proofs.LogEvents.{answered_end, found_bad, found_sound}
 use Rattle.lsp_judge.proofs.event_reader.EventReader.finish.Goals as goal
 

@@ -1,5 +1,5 @@
 use Rattle.lsp_log.specs.Records.{record_view}
-use Rattle.lsp_streams.specs.Streams.{left_in}
+use Rattle.lsp_replay.specs.Streams.{left_in}
 use Rattle.lsp_judge.proofs.Hearing.{IsHearingOn}
 use Rattle.lsp_judge.proofs.judge.Judge.hear.Given as goal
 

@@ -1,5 +1,0 @@
-pub mod Edits
-pub mod Apart
-pub mod Hearing
-pub mod Following
-pub mod Listing

@@ -1,4 +1,0 @@
-pub mod Apart
-pub mod Faults
-pub mod Standing
-pub mod Lines

@@ -1,0 +1,21 @@
+use Rattle.std.proofs.Common.{◌≡◌, Some, ap, sym, ◌∙◌, w32}
+use Rattle.std.proofs.lemmas.Int.{to_z-of_z}
+use Rattle.std.specs.Str.{chars}
+use mir.Val.{SFits}
+use Rattle.lsp_explain.proofs.DocumentRules.{show_explained, show_absurd}
+use Rattle.lsp_explain.proofs.facts.documents.of_snapshot.Goals as goal
+
+pub returns-in_default : goal.returns-in_default
+returns-in_default g c = λ calls h e.
+    let fits : SFits w32 c.args.version = c.ranges.version in
+    let none = simp to_z-of_z at c.in_default.ensures in
+    absurd (show_absurd c.args.version (chars c.args.text.now) _ _ c.args.rule c.if-rule-eq-LATE_SNAPSHOT.false e (sym (none calls h)))
+
+pub returns : goal.returns
+returns g c =
+    let fits : SFits w32 c.args.version = c.ranges.version in
+    let found = simp to_z-of_z at c.in-Some.ensures in
+    let held = chars c.as_str.result.now in
+    let same : held ≡ g.S.TextStore.content c.in-Some.store.now = ap chars c.as_str.ensures.value ∙ c.in_ok-held.ensures in
+    λ calls h e.
+    show_explained c.args.encoding c.args.version (chars c.args.text.now) _ _ c.args.rule held c.in_ok-facts.facts c.if-rule-eq-LATE_SNAPSHOT.false e (sym (found calls h) ∙ ap Some (sym same)) c.in_ok-facts.ensures

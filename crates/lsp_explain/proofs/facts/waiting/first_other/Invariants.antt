@@ -1,0 +1,9 @@
+use Rattle.std.proofs.Common.{◌≡◌, take, None}
+use Rattle.std.specs.List.{find}
+use Rattle.std.specs.Str.{chars}
+use Rattle.lsp_docs.specs.Stored.{text_of}
+use Rattle.lsp_explain.specs.Refuting.{is_other}
+use Rattle.lsp_explain.proofs.facts.waiting.first_other.Given as goal
+
+abbrev pub invariant-loop-other : goal.invariant-loop-other
+invariant-loop-other l = find (λ t. is_other (chars l.text) (text_of t)) (take l.other-index l.texts) ≡ None

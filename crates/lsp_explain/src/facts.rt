@@ -1,0 +1,35 @@
+//! Facts on an event that offends, read off the events before it, and the line of each. No run
+//! reads a log here, and nothing is written to a sink.
+//!
+//! A [`Fact`] is one thing that an explanation says. Of a message [`message_facts`] says them, of a
+//! snapshot [`shown_facts`]: by their rules [`session_facts`], or [`act_facts`] and
+//! [`snapshot_facts`], which say what is wrong with a call on a document. [`content_facts`] are on
+//! a content that is not a message, [`frame_facts`] and [`unfinished_facts`] on a stream whose
+//! frames have a fault or an end inside one, [`flaw_facts`] on a log that has a fault. [`refuting`]
+//! finds the snapshots whose texts refute a call. [`push_details`] writes the lines of facts, and
+//! `write_event` the line that names an event.
+
+mod difference;
+mod documents;
+mod edges;
+mod fact;
+mod fact_list;
+mod flaws;
+mod lines;
+mod making;
+mod messages;
+mod offending;
+mod part;
+mod refused_change;
+mod waiting;
+
+pub use documents::{act_facts, snapshot_facts};
+pub use fact::Fact;
+pub use flaws::{flaw_facts, frame_facts, unfinished_facts};
+pub use lines::{
+    push_bare_event, push_content_event, push_details, push_end_event, push_message_event, usual,
+};
+pub use messages::{content_facts, id_in, session_facts};
+pub use offending::{message_facts, shown_facts};
+pub use part::Part;
+pub use waiting::refuting;

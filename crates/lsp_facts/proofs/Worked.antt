@@ -1,5 +1,0 @@
--- Worked rows, each checked by computing it.
-pub mod Messages
-pub mod Flaws
-pub mod Lines
-pub mod Documents

@@ -1,0 +1,153 @@
+-- How a content is heard: read, admitted, and taken over.
+use Rattle.std.proofs.Common.{◌≡◌, ℕ, List, [], ◌∷◌, ◌++◌, Option, Some, None, inl, inr, refl, sym, ap, subst, ◌∙◌}
+use Rattle.std.specs.Prelude.{◌⊎◌, ℤ, chars, option_and_then, unwrap_or}
+use Rattle.std.specs.Option.{option_or}
+use Rattle.std.specs.List.{cons_option}
+use Rattle.lsp_rpc.specs.Message.{Message}
+use Rattle.lsp_rpc.specs.Outline.{outline, without_params}
+use Rattle.lsp_rpc.specs.View.{act_view, message_view}
+use Rattle.lsp_rpc.specs.declared.act.Spoken.{Spoken}
+use Rattle.lsp_rpc.specs.declared.fault.RpcFault.{RpcFault}
+use Rattle.lsp_rpc.specs.declared.fault.RpcFault.TheVariants as contents
+use Rattle.lsp_types.specs.declared.position.Encoding.{Encoding}
+use Rattle.lsp_types.specs.declared.position.Encoding.TheVariants.{Utf16}
+use Rattle.lsp_outline.specs.Spoken.{IsUnspoken}
+use Rattle.lsp_types.specs.declared.side.Side.{Side}
+use Rattle.lsp_types.specs.declared.change.SyncKind.{SyncKind}
+use Rattle.lsp_types.specs.declared.change.SyncKind.TheVariants.{Nothing}
+use Rattle.lsp_session.specs.Handshake.{open_initializes}
+use Rattle.lsp_session.specs.Negotiation.{encoding, sync_kind}
+use Rattle.lsp_session.specs.Refusal as refusal
+use Rattle.lsp_session.specs.Rules.{rule_after}
+use Rattle.lsp_session.specs.Sent.{Sent}
+use Rattle.lsp_session.specs.State as session
+use Rattle.lsp_session.specs.declared.refusal.Refusal.{Refusal}
+use Rattle.lsp_session.specs.declared.refusal.Refusal.TheVariants as refusals
+use Rattle.lsp_docs.specs.Calls.{Call, shows}
+use Rattle.lsp_docs.specs.Fault as docs_fault
+use Rattle.lsp_docs.specs.Rules.{call_rule}
+use Rattle.lsp_docs.specs.State as docs
+use Rattle.lsp_docs.specs.declared.fault.DocFault.{DocFault}
+use Rattle.lsp_docs.specs.declared.fault.DocFault.TheVariants as faults
+use Rattle.lsp_docs.specs.Terms.{Terms}
+use Rattle.lsp_verdict.specs.Calls.{call_of, call_at, calls}
+use Rattle.lsp_verdict.specs.Contents.{IsSent, ReadsAs}
+use Rattle.lsp_verdict.specs.Event.{Event, message, fault as broken, snapshot, sent_in}
+use Rattle.lsp_replay.specs.Faults.{of_content, of_message, of_call, of_snapshot, refused_by}
+use Rattle.lsp_replay.specs.Faults.{rule_of}
+use Rattle.lsp_replay.specs.Standing.{Hears, Refuses, RefusesBy, RefusesContent, RefusesSnapshot}
+use Rattle.lsp_replay.specs.declared.fault.Fault.{Fault}
+use Rattle.lsp_replay.specs.declared.fault.Fault.TheVariants as own
+use Rattle.lsp_replay.specs.declared.fault.Refused.{Refused}
+use Rattle.lsp_replay.specs.declared.fault.Refused.TheVariants as refused
+use Rattle.lsp_verdict.specs.Placed as placed
+use Rattle.lsp_verdict.specs.Placed.{Raw, Reads}
+use Rattle.lsp_verdict.specs.Verdict.{offence, document_rule}
+use Rattle.lsp_verdict.proofs.LookBackLemmas.{each_of-snoc}
+use Rattle.lsp_verdict.proofs.Messages.{sent_in-append}
+
+-- a content that says nothing
+pub unspoken : (side : Side) (bytes : List ℕ) (terms : Terms) (events : List Event) (f : RpcFault)
+    → IsUnspoken side bytes f → RefusesContent side bytes terms events (of_content f)
+unspoken side bytes terms events (contents.Rule rule) (inl breaks) = (refl, inl breaks)
+unspoken side bytes terms events (contents.Rule rule) (inr (is, params)) =
+    (refl, inr (is, record { of = params.0; reads = params.1; unread = params.2 }))
+unspoken side bytes terms events contents.Memory e = tt
+
+-- the document rule of a message, under what was agreed
+rule_is : (terms : Terms) (events : List Event) (m : Sent) (enc : Encoding) (kind : SyncKind) → enc ≡ unwrap_or (encoding (sent_in events)) Utf16 → kind ≡ unwrap_or (sync_kind (sent_in events)) Nothing
+    → document_rule terms events (message m) ≡ option_and_then (call_rule terms (calls events)) (call_of enc kind m.act)
+rule_is terms events m enc kind e k =
+    ap (λ x. option_and_then (call_rule terms (calls events)) (call_of x (unwrap_or (sync_kind (sent_in events)) Nothing) m.act)) (sym e)
+    ∙ ap (λ x. option_and_then (call_rule terms (calls events)) (call_of enc x m.act)) (sym k)
+
+offence_is : (terms : Terms) (events : List Event) (m : Sent) (rule : Option ℕ) → rule_after (sent_in events) m ≡ None → document_rule terms events (message m) ≡ rule → offence terms events (message m) ≡ rule
+offence_is terms events m rule none is = ap (λ o. option_or o (document_rule terms events (message m))) none ∙ is
+
+-- a message, and what is left of it
+module _ (side : Side) (bytes : List ℕ) (terms : Terms) (events : List Event) (m : Sent) (is : IsSent side bytes m) (said : Message) (says : outline m.message ≡ outline said) where
+  -- the session doesn't admit it
+  pub message_refused : (f : Refusal) → refusal.Names (rule_after (sent_in events) m) f → (open_initializes (sent_in events) ≡ []) ⊎ (said ≡ without_params m.message) → RefusesBy side bytes said m.act terms events (of_message f)
+  message_refused (refusals.Rule rule) named whole = record {
+    sent = m;
+    reads = is;
+    says = says;
+    means = refl;
+    offends = ap (λ o. option_or o (document_rule terms events (message m))) named;
+    whole = whole;
+  }
+  message_refused refusals.Memory named whole = tt
+
+  -- it is admitted, under what was agreed
+  module _ (enc : Encoding) (kind : SyncKind) (none : rule_after (sent_in events) m ≡ None) (e : enc ≡ unwrap_or (encoding (sent_in events)) Utf16) (k : kind ≡ unwrap_or (sync_kind (sent_in events)) Nothing) where
+    -- the documents don't accept its call
+    pub call_refused : (f : DocFault) → docs_fault.Names (option_and_then (call_rule terms (calls events)) (call_of enc kind m.act)) f → (open_initializes (sent_in events) ≡ []) ⊎ (said ≡ without_params m.message)
+        → RefusesBy side bytes said m.act terms events (of_call f)
+    call_refused (faults.Rule rule) named whole = record {
+      sent = m;
+      reads = is;
+      says = says;
+      means = refl;
+      offends = offence_is terms events m (Some rule) none (rule_is terms events m enc kind e k ∙ named);
+      whole = whole;
+    }
+    call_refused faults.Memory named whole = tt
+
+    -- its call is accepted
+    pub heard : (messages : session.State) (documents : docs.State) → option_and_then (call_rule terms (calls events)) (call_of enc kind m.act) ≡ None
+        → session.Stands messages (sent_in events ++ m ∷ []) → docs.Stands documents (calls events ++ cons_option (call_of enc kind m.act) []) → Hears side bytes said m.act terms messages documents events
+    heard messages documents accepted sent called = record {
+      sent = m;
+      reads = is;
+      says = says;
+      means = refl;
+      clean = offence_is terms events m None none (rule_is terms events m enc kind e k ∙ accepted);
+      holds = record {
+        sent = subst (λ (w : List Sent). session.Stands messages w) (sym (sent_in-append events (message m ∷ []))) sent;
+        called = subst (λ (w : List Call). docs.Stands documents w)
+            (ap (λ x. calls events ++ cons_option (call_of x kind m.act) []) e
+            ∙ ap (λ x. calls events ++ cons_option (call_of (unwrap_or (encoding (sent_in events)) Utf16) x m.act) []) k
+            ∙ sym (each_of-snoc call_at events (message m))) called;
+      };
+    }
+
+-- ---- refusals
+
+-- a message that offends the rule of a fault is refused with it
+pub refused_as : (side : Side) (bytes : List ℕ) (terms : Terms) (events : List Event)
+    (spoken : Spoken) (f : Fault)
+    → RefusesBy side bytes (message_view spoken.message) (act_view spoken.act) terms events f
+    → RefusesContent side bytes terms events (refused_by f side spoken)
+refused_as side bytes terms events spoken (own.Rule rule) refuses = (refl, refuses)
+refused_as side bytes terms events spoken own.Memory refuses = tt
+
+-- a snapshot that the documents don't accept
+pub snapshot_refused : (uri text : List ℕ) (number : ℤ) (terms : Terms) (events : List Event)
+    (f : DocFault) → docs_fault.Names (call_rule terms (calls events) (shows uri number text)) f
+    → RefusesSnapshot (snapshot uri number text) terms events (of_snapshot f)
+snapshot_refused uri text number terms events (faults.Rule rule) named = named
+snapshot_refused uri text number terms events faults.Memory named = tt
+
+content_event : (side : Side) (bytes : List ℕ) (terms : Terms) (events : List Event) (r : Refused)
+    (rule : ℕ) → rule_of r ≡ Some rule → RefusesContent side bytes terms events r
+    → (event : Event) × ReadsAs side bytes event × (offence terms events event ≡ Some rule)
+content_event side bytes terms events (refused.Rule code) rule is refuses =
+    (broken side code, refuses, is)
+content_event side bytes terms events (refused.Message by code spoken) rule is (same, refuses) =
+    (message refuses.sent, refuses.reads, refuses.offends ∙ is)
+content_event side bytes terms events refused.Memory rule is refuses = absurd (cc)
+
+-- what is refused is an event that offends this rule
+pub refused_event : (raw : Raw) (terms : Terms) (events : List Event) (r : Refused) (rule : ℕ)
+    → rule_of r ≡ Some rule → Refuses raw terms events r
+    → (event : Event) × Reads raw event × (offence terms events event ≡ Some rule)
+refused_event (placed.content side bytes) terms events r rule is refuses =
+    content_event side bytes terms events r rule is refuses
+refused_event (placed.broken side code) terms events r rule is refuses =
+    (broken side code, refl, ap rule_of (sym refuses) ∙ is)
+refused_event (placed.show number uri text) terms events (refused.Rule code) rule is refuses =
+    (snapshot uri number (chars text), refl, refuses ∙ is)
+refused_event (placed.show number uri text) terms events (refused.Message by code spoken) rule is
+    refuses = absurd refuses
+refused_event (placed.show number uri text) terms events refused.Memory rule is refuses =
+    absurd (cc)

@@ -1,0 +1,15 @@
+pub mod Edits
+pub mod Apart
+pub mod Hearing
+pub mod Following
+pub mod Listing
+pub mod SameLimits
+pub mod Framing
+pub mod Forming
+pub mod Seeking
+pub mod Giving
+pub mod Fewer
+pub mod Streaming
+pub mod Pulling
+pub mod Owning
+pub mod Resting

@@ -1,0 +1,390 @@
+-- The events of a log, with one entry more taken or one event more given.
+use Rattle.std.proofs.Common.{◌≡◌, ℕ, List, [], ◌∷◌, ◌++◌, Option, Some, None, IsSome, Result, Ok}
+use Rattle.std.proofs.Common.{Err, refl, sym, ap, subst, ◌∙◌, append_assoc, append-nil}
+use Rattle.std.specs.Io.KnownBytes.{IsAtEnd}
+use Rattle.lsp_frame.specs.Bounds.{Bounds}
+use Rattle.lsp_frame.specs.Told.{Told}
+use Rattle.lsp_frame.specs.declared.format.Format.{Format}
+use Rattle.lsp_log.specs.Log.{Record, IsLog}
+use Rattle.lsp_log.specs.Reader as reader
+use Rattle.lsp_log.specs.declared.fault.LogCode.{LogCode}
+use Rattle.lsp_replay.specs.LogEvents.{HasGiven, IsLogOf, EndsBehind, HasRead, Reads, Ended}
+use Rattle.lsp_replay.specs.LogEvents.{BrokeOff, Finds, IsIdle, Takes, flaw_of}
+use Rattle.lsp_replay.specs.Streams.{State, IsRaw, Stands, Steps}
+use Rattle.lsp_replay.specs.declared.log_events.End.{End}
+use Rattle.lsp_replay.specs.declared.log_events.End.TheVariants.{Sound, Bad}
+use Rattle.lsp_replay.specs.declared.log_events.LogEvents.{LogEvents}
+use Rattle.lsp_replay.specs.declared.log_events.Step.{Step}
+use Rattle.lsp_replay.specs.declared.log_events.Step.TheVariants as found
+use Rattle.lsp_replay.specs.declared.streams.Due.{Due}
+use Rattle.lsp_verdict.specs.Entries as entries
+use Rattle.lsp_verdict.specs.Entries.{IsAt, HasFirst, HasRecords, ShowsFault}
+use Rattle.lsp_verdict.specs.Placed.{Raw, Placed}
+use Rattle.lsp_verdict.specs.RunIo.{OfRead}
+use Rattle.lsp_verdict.specs.declared.outcome.RunFault.{RunFault}
+use Rattle.lsp_verdict.specs.declared.outcome.RunFault.TheVariants as faults
+use Rattle.lsp_verdict.proofs.Entries.{is_first}
+use Rattle.lsp_verdict.proofs.Outcomes.{placed_front}
+use Rattle.lsp_verdict.proofs.RunReading.{read_map}
+use Rattle.lsp_verdict.proofs.Sessions.{some_placed}
+use Rattle.lsp_replay.proofs.Streaming.{one_raw, stepped}
+
+-- ---- a log that has these records and events first
+
+none_more : (P : List Record → Type 0) (records : List Record) → P records
+    → (more : List Record) × P (records ++ more)
+none_more P records p = ([], subst P (sym (append-nil records)) p)
+
+more_then : (P : List Record → Type 0) (records more : List Record)
+    → ((rest : List Record) × P ((records ++ more) ++ rest))
+    → (all : List Record) × P (records ++ all)
+more_then P records more (rest, p) = (more ++ rest, subst P (append_assoc records more rest) p)
+
+-- the log is of the format that is known
+first_format : (limits : Bounds) (known : Option Format) (records : List Record) (log : List ℕ)
+    → IsSome known → (has : HasFirst limits known records log) → has.format ≡ known
+first_format limits None records log known has = absurd cc
+first_format limits (Some format) records log known has = has.is_known
+
+-- its events begin with those of its first records
+first_given : (limits : Bounds) (known : Option Format) (records : List Record)
+    (given due : List Raw) → Placed limits records (given ++ due) → IsSome known → (log : List ℕ)
+    → HasFirst limits known records log → HasGiven limits known records given log
+first_given limits known records given due placed is_known log has =
+    let all = some_placed limits [] [] (records ++ has.more) in
+    let front = placed_front limits [] [] records has.more (given ++ due) all.0 placed all.1 in
+    record {
+      records = records ++ has.more;
+      log_fault = has.fault;
+      later = due ++ front.0;
+      is_log = subst (λ (f : Option Format). IsLog limits log f (records ++ has.more) has.fault)
+          (first_format limits known records log is_known has) has.is_log;
+      goes = (has.more, refl);
+      placed = subst (Placed limits (records ++ has.more))
+          (front.1 ∙ append_assoc given due front.0) all.1;
+    }
+
+-- these are all of its records
+pub log_of : (limits : Bounds) (r : reader.State) (records : List Record)
+    (flaw : Option (ℕ × LogCode)) (log : List ℕ) → IsLogOf r limits records flaw log
+    → IsLog limits log r.format records flaw
+log_of limits r records None log is = is
+log_of limits r records (Some flaw) log is = is.is_log
+
+read_given : (end : Option End) (r : reader.State) (limits : Bounds) (start now : Told)
+    (records : List Record) (given due : List Raw) → r.limits ≡ limits
+    → Placed limits records (given ++ due) → HasRead end r limits start now records
+    → OfRead limits start now (HasGiven limits r.format records given)
+read_given None r limits start now records given due same placed (at, known) =
+    read_map limits start now (HasFirst limits r.format records)
+    (HasGiven limits r.format records given)
+    (first_given limits r.format records given due placed known)
+    (is_first r limits start now records same at)
+read_given (Some end) r limits start now records given due same placed ends =
+    read_map limits start now (IsLogOf r limits records (flaw_of end))
+    (HasGiven limits r.format records given)
+    (λ log is. record {
+      records = records;
+      log_fault = flaw_of end;
+      later = due;
+      is_log = log_of limits r records (flaw_of end) log is;
+      goes = ([], sym (append-nil records));
+      placed = placed;
+    }) ends.of_read
+
+-- **the log read has these events first**
+pub reads_given : (limits : Bounds) (format : Option Format) (e : LogEvents) (start now : Told)
+    (records : List Record) (given due : List Raw)
+    → Reads limits format e start now records given due
+    → OfRead limits start now (HasGiven limits format records given)
+reads_given limits format e start now records given due h =
+    subst (λ (f : Option Format). OfRead limits start now (HasGiven limits f records given))
+    h.format_is (read_given e.end e.log limits start now records given due h.same
+    h.stands.placed h.read)
+
+-- the source did not fail
+pub reads_failures : (limits : Bounds) (format : Option Format) (e : LogEvents) (start now : Told)
+    (records : List Record) (given due : List Raw)
+    → Reads limits format e start now records given due → now.failures ≡ start.failures
+reads_failures limits format e start now records given due h = by_end e.end h.read
+  where
+    by_end : (o : Option End) → HasRead o e.log limits start now records
+        → now.failures ≡ start.failures
+    by_end None read = read.0.failures
+    by_end (Some end) read = read.failures
+
+-- ---- one more entry
+
+known_record : (format : Option Format) (records : List Record) (next : Record)
+    → (format ≡ None → records ++ next ∷ [] ≡ []) → IsSome format
+known_record None [] next early = let none : next ∷ [] ≡ [] = early refl in absurd cc
+known_record None (r ∷ rs) next early =
+    let none : r ∷ (rs ++ next ∷ []) ≡ [] = early refl in absurd cc
+known_record (Some f) records next early = refl
+
+module _ (limits : Bounds) (start now : Told) (records : List Record) (given : List Raw) where
+  -- the next entry could not be read
+  pub unread_entry : (was : Bounds) (known : Option Format) (e : LogEvents) (s : State)
+      (fault : RunFault) → was ≡ limits → Stands limits s records given []
+      → entries.BrokeOff was start now known records fault
+      → Takes limits known e start now records given (Err fault)
+  unread_entry was known e s fault same h broke =
+      let here = subst (λ (b : Bounds). entries.BrokeOff b start now known records fault) same
+      broke in (
+        record {
+          of_read = read_map limits start now (HasFirst limits known records) (λ log. Unit {0})
+              (λ log has. tt) here.of_read;
+          failures = here.failures;
+          unwritten = here.unwritten;
+        },
+        λ format is. record {
+          of_read = read_map limits start now (HasFirst limits (Some format) records)
+              (HasGiven limits (Some format) records given)
+              (first_given limits (Some format) records given [] h.placed refl)
+              (subst (λ (f : Option Format). OfRead limits start now (HasFirst limits f records)) is
+              here.of_read);
+          failures = here.failures;
+          unwritten = here.unwritten;
+        },
+      )
+
+  -- memory was refused for a record
+  pub unpushed : (known : Option Format) (e : LogEvents) (r : reader.State) (s : State)
+      (next : Record) → r.limits ≡ limits → reader.KeepsFormat known r.format
+      → Stands limits s records given [] → IsAt r start now (records ++ next ∷ [])
+      → Takes limits known e start now records given (Err faults.Memory)
+  unpushed known e r s next same keeps h at =
+      let first = is_first r limits start now (records ++ next ∷ []) same at in (
+        record {
+          of_read = read_map limits start now (HasFirst limits r.format (records ++ next ∷ []))
+              (λ log. Unit {0}) (λ log has. tt) first;
+          failures = at.failures;
+          unwritten = λ write. absurd cc;
+        },
+        λ format is. record {
+          of_read = read_map limits start now (HasFirst limits (Some format) (records ++ next ∷ []))
+              (HasGiven limits (Some format) records given)
+              (λ log has. first_given limits (Some format) records given [] h.placed refl log
+              (fewer_first (Some format) next log has))
+              (subst (λ (f : Option Format). OfRead limits start now
+              (HasFirst limits f (records ++ next ∷ []))) (keeps format is) first);
+          failures = at.failures;
+          unwritten = λ write. absurd cc;
+        },
+      )
+    where
+      fewer_first : (f : Option Format) (last : Record) (log : List ℕ)
+          → HasFirst limits f (records ++ last ∷ []) log → HasFirst limits f records log
+      fewer_first f last log has = record {
+        format = has.format;
+        more = last ∷ has.more;
+        fault = has.fault;
+        is_log = subst (λ (rs : List Record). IsLog limits log has.format rs has.fault)
+            (append_assoc records (last ∷ []) has.more) has.is_log;
+        is_known = has.is_known;
+      }
+
+  module _ (e : LogEvents) (same : e.log.limits ≡ limits) where
+    -- a record was taken
+    pub record_taken : (next : Record) → e.end ≡ None → IsAt e.log start now (records ++ next ∷ [])
+        → ((due : List Raw) × Stands limits e.streams (records ++ next ∷ []) given due)
+        → Takes limits e.log.format e start now records given (Ok tt)
+    record_taken next none at (due, stands) = (
+      next ∷ [],
+      due,
+      record {
+        same = same;
+        format_is = refl;
+        read = subst (λ (o : Option End). HasRead o e.log limits start now (records ++ next ∷ []))
+            (sym none) (at, known_record e.log.format records next at.early);
+        stands = stands;
+      },
+    )
+
+    -- the end was read
+    pub end_taken : (end : End) → e.end ≡ Some end → Stands limits e.streams records given []
+        → EndsBehind e.log limits start now records (flaw_of end)
+        → Takes limits e.log.format e start now records given (Ok tt)
+    end_taken end is stands ends =
+        let all = none_more (λ rs. Reads limits e.log.format e start now rs given []) records
+        (record {
+          same = same;
+          format_is = refl;
+          read = subst (λ (o : Option End). HasRead o e.log limits start now records) (sym is) ends;
+          stands = stands;
+        }) in
+        (all.0, [], all.1)
+
+pub sound_end : (was limits : Bounds) (r : reader.State) (start now : Told) (records : List Record)
+    → was ≡ limits → HasRecords was start now r.format records None → IsAtEnd now.bytes
+    → EndsBehind r limits start now records (flaw_of Sound)
+sound_end was limits r start now records same has met =
+    let here = subst (λ (b : Bounds). HasRecords b start now r.format records None) same has in
+    record {
+      of_read = read_map limits start now (λ log. IsLog limits log r.format records None)
+          (IsLogOf r limits records None) (λ log is. is) here.of_read;
+      failures = here.failures;
+      met = λ none. met;
+    }
+
+pub bad_end : (was limits : Bounds) (r : reader.State) (start now : Told) (records : List Record)
+    (number : ℕ) (fault : LogCode) → was ≡ limits
+    → HasRecords was start now r.format records (Some (number, fault))
+    → OfRead was start now (ShowsFault r was records (number, fault))
+    → EndsBehind r limits start now records (flaw_of (Bad number fault))
+bad_end was limits r start now records number fault same has shows = record {
+  of_read = read_map limits start now (ShowsFault r limits records (number, fault))
+      (IsLogOf r limits records (Some (number, fault))) (λ log is. is)
+      (subst (λ (b : Bounds). OfRead b start now (ShowsFault r b records (number, fault))) same
+      shows);
+  failures = has.failures;
+  met = λ none. absurd cc;
+}
+
+-- ---- the next event
+
+module _ (limits : Bounds) (format : Option Format) (start now : Told) (records : List Record)
+    (given due : List Raw) (old new : LogEvents) (log : new.log ≡ old.log) (end : new.end ≡ old.end)
+    (h : Reads limits format old start now records given due) where
+  -- the streams alone went on
+  moved : (past left : List Raw) → Stands limits new.streams records past left
+      → Reads limits format new start now records past left
+  moved past left stands = record {
+    same = ap (λ (r : reader.State). r.limits) log ∙ h.same;
+    format_is = ap (λ (r : reader.State). r.format) log ∙ h.format_is;
+    read = subst (λ (o : Option End). HasRead o new.log limits start now records) (sym end)
+        (subst (λ (r : reader.State). HasRead old.end r limits start now records) (sym log) h.read);
+    stands = stands;
+  }
+
+  -- one more event was given
+  pub event_found : (step : Due) → Steps old.streams new.streams (Some step)
+      → Finds limits format new start now records given (Ok (found.Event step))
+  event_found step steps =
+      let one = stepped limits records given due old.streams new.streams (Some step) steps
+      h.stands in
+      let past : List Raw = given ++ one.0 ∷ [] in
+      let all = none_more (λ rs. (left : List Raw) × Reads limits format new start now rs past left)
+      records (one.2.0, moved past one.2.0 one.2.2) in
+      (one.0, one.1, (all.0, all.1.0, all.1.1))
+
+  -- all were given
+  pub none_left : Steps old.streams new.streams None
+      → Reads limits format new start now records given []
+  none_left steps = moved given [] (stepped limits records given due old.streams new.streams None
+      steps h.stands).1
+
+abbrev pub TookMore : Bounds → Option Format → LogEvents → Told → Told → List Record → List Raw
+    → Result (Unit {0}) RunFault → Type 0
+TookMore limits format e start now records given (Ok u) =
+    (more : List Record) × (due : List Raw)
+    × Reads limits format e start now (records ++ more) given due
+TookMore limits format e start now records given (Err fault) =
+    BrokeOff limits start now format records given fault
+
+-- and the log ends
+pub end_found : (limits : Bounds) (format : Option Format) (start now : Told)
+    (records : List Record) (given : List Raw) (e : LogEvents) (end : End) → e.end ≡ Some end
+    → Reads limits format e start now records given []
+    → Finds limits format e start now records given (Ok (found.End end))
+end_found limits format start now records given e end is h =
+    none_more (λ rs. Ended limits format e start now rs given end) records (record {
+      reads = h;
+      ends = subst (λ (o : Option End). HasRead o e.log limits start now records) is h.read;
+    })
+
+-- it goes on, and is of a format
+pub goes_on : (limits : Bounds) (format : Option Format) (start now : Told) (records : List Record)
+    (given : List Raw) (e : LogEvents) → e.end ≡ None
+    → Reads limits format e start now records given []
+    → IsIdle limits e start now records given × IsSome e.log.format
+goes_on limits format start now records given e none h =
+    let read : HasRead None e.log limits start now records =
+    subst (λ (o : Option End). HasRead o e.log limits start now records) none h.read in
+    (record { same = h.same; at = read.0; stands = h.stands }, read.1)
+
+-- what was taken after these records
+pub took : (limits : Bounds) (format : Option Format) (start now : Told) (records : List Record)
+    (given : List Raw) (old new : LogEvents) (result : Result (Unit {0}) RunFault)
+    → old.log.format ≡ format → IsSome old.log.format
+    → reader.KeepsFormat old.log.format new.log.format
+    → Takes limits old.log.format new start now records given result
+    → TookMore limits format new start now records given result
+took limits format start now records given old new result is known keeps takes =
+    by_result (by_format old.log.format refl known) result takes
+  where
+    by_format : (o : Option Format) → old.log.format ≡ o → IsSome o
+        → (f : Format) × (old.log.format ≡ Some f)
+    by_format None same some = absurd cc
+    by_format (Some f) same some = (f, same)
+
+    by_result : (f : Format) × (old.log.format ≡ Some f) → (r : Result (Unit {0}) RunFault)
+        → Takes limits old.log.format new start now records given r
+        → TookMore limits format new start now records given r
+    by_result (f, same) (Ok u) (more, due, reads) = (
+      more,
+      due,
+      subst (λ (o : Option Format).
+          Reads limits o new start now (records ++ more) given due) (keeps f same ∙ sym same ∙ is)
+          reads,
+    )
+    by_result (f, same) (Err fault) (breaks, broke) =
+        subst (λ (o : Option Format). BrokeOff limits start now o records given fault)
+        (sym same ∙ is) (broke f same)
+
+-- what was found after more records
+pub finds_more : (limits : Bounds) (format : Option Format) (e : LogEvents) (start now : Told)
+    (records more : List Record) (given : List Raw) (result : Result Step RunFault)
+    → Finds limits format e start now (records ++ more) given result
+    → Finds limits format e start now records given result
+finds_more limits format e start now records more given (Ok (found.Event step))
+    (raw, is, (rest, later, reads)) =
+    let all = more_then (λ rs. (left : List Raw)
+    × Reads limits format e start now rs (given ++ raw ∷ []) left) records more
+    (rest, (later, reads)) in
+    (raw, is, (all.0, all.1.0, all.1.1))
+finds_more limits format e start now records more given (Ok (found.End end)) (rest, ends) =
+    more_then (λ rs. Ended limits format e start now rs given end) records more (rest, ends)
+finds_more limits format e start now records more given (Err fault) (rest, broke) =
+    more_then (λ rs. BrokeOff limits start now format rs given fault) records more (rest, broke)
+
+-- as far as the log was gone past when the loop began again
+abbrev pub ReadsOn : Bounds → Option Format → LogEvents → Told → Told → List Record → List Raw
+    → Type 0
+ReadsOn limits format e start now records given =
+    (more : List Record) × (due : List Raw)
+    × Reads limits format e start now (records ++ more) given due
+
+pub reads_on : (limits : Bounds) (format : Option Format) (e : LogEvents) (start now : Told)
+    (records : List Record) (given due : List Raw)
+    → Reads limits format e start now records given due
+    → ReadsOn limits format e start now records given
+reads_on limits format e start now records given due h =
+    let all = none_more (λ rs. Reads limits format e start now rs given due) records h in
+    (all.0, due, all.1)
+
+pub took_on : (limits : Bounds) (format : Option Format) (e : LogEvents) (start now : Told)
+    (records more : List Record) (given : List Raw)
+    → TookMore limits format e start now (records ++ more) given (Ok tt)
+    → ReadsOn limits format e start now records given
+took_on limits format e start now records more given (rest, due, reads) =
+    let all = more_then (λ rs. Reads limits format e start now rs given due) records more
+    (rest, reads) in
+    (all.0, due, all.1)
+
+pub broke_on : (limits : Bounds) (format : Option Format) (e : LogEvents) (start now : Told)
+    (records more : List Record) (given : List Raw) (fault : RunFault)
+    → TookMore limits format e start now (records ++ more) given (Err fault)
+    → Finds limits format e start now records given (Err fault)
+broke_on limits format e start now records more given fault broke = (more, broke)
+
+-- what was found is lent
+pub lent_event : (limits : Bounds) (format : Option Format) (e : LogEvents) (start now : Told)
+    (records : List Record) (given : List Raw) (due : Due) (raw : Raw) → IsRaw e.streams due raw
+    → Finds limits format e start now records given (Ok (found.Event due))
+    → (more : List Record) × (later : List Raw)
+    × Reads limits format e start now (records ++ more) (given ++ raw ∷ []) later
+lent_event limits format e start now records given due raw is finds =
+    subst (λ (w : Raw). (more : List Record) × (later : List Raw)
+    × Reads limits format e start now (records ++ more) (given ++ w ∷ []) later)
+    (one_raw e.streams due finds.0 raw finds.1 is) finds.2

@@ -1,0 +1,118 @@
+-- For which events the parts that hear them stand, and what the next event is heard as.
+use Rattle.std.specs.Prelude.{◌≡◌, ◌⊎◌, ℕ, List, [], ◌∷◌, ◌++◌, Some, None, chars}
+use Rattle.lsp_rpc.specs.Act.{Act}
+use Rattle.lsp_rpc.specs.Message as rpc
+use Rattle.lsp_rpc.specs.Outline.{outline, without_params}
+use Rattle.lsp_rpc.specs.View.{act_view, message_view}
+use Rattle.lsp_types.specs.declared.side.Side.{Side}
+use Rattle.lsp_session.specs.Handshake.{open_initializes}
+use Rattle.lsp_session.specs.Sent.{Sent}
+use Rattle.lsp_session.specs.State as session
+use Rattle.lsp_docs.specs.Answer.{answer_of}
+use Rattle.lsp_docs.specs.Documents.{held}
+use Rattle.lsp_docs.specs.Kept.{kept}
+use Rattle.lsp_docs.specs.State as docs
+use Rattle.lsp_docs.specs.Terms.{Terms}
+use Rattle.lsp_verdict.specs.declared.counts.Counts.{Counts}
+use Rattle.lsp_verdict.specs.Calls.{calls}
+use Rattle.lsp_verdict.specs.Contents.{IsSent, ReadsAs}
+use Rattle.lsp_verdict.specs.Counting.{AreCounts}
+use Rattle.lsp_verdict.specs.Event.{Event, message, fault, snapshot, sent_in}
+use Rattle.lsp_verdict.specs.Placed.{Raw, content, broken, show, Reads}
+use Rattle.lsp_verdict.specs.Verdict.{offence, first_no}
+use Rattle.lsp_replay.specs.Lines.{IsHeard}
+use Rattle.lsp_replay.specs.declared.fault.Fault.{Fault}
+use Rattle.lsp_replay.specs.declared.fault.Fault.TheVariants as faults
+use Rattle.lsp_replay.specs.declared.fault.Refused.{Refused}
+use Rattle.lsp_replay.specs.declared.fault.Refused.TheVariants.{Rule, Message, Memory}
+use Rattle.lsp_replay.specs.declared.heard.Heard.{Heard}
+use Rattle.lsp_replay.specs.declared.heard.Heard.TheVariants as heard
+
+-- ---- what is held
+
+-- the messages and the calls that the layers below stand for are those of the events
+pub record Holds (messages : session.State) (documents : docs.State)
+    (events : List Event) : Type 0 where
+  pub sent : session.Stands messages (sent_in events)
+  pub called : docs.Stands documents (calls events)
+
+-- none of these events offends, and what is held is their result
+pub record Follows (messages : session.State) (documents : docs.State) (counts : Counts)
+    (events : List Event) : Type 0 where
+  pub clean : first_no documents.terms events ≡ None
+  pub holds : Holds messages documents events
+  pub counted : AreCounts counts events
+
+-- ---- a content
+
+-- the content is this message, but for its params and the value of a result, and means this act; it
+-- doesn't offend, and what is held is the result of the events with it
+pub record Hears (side : Side) (bytes : List ℕ) (said : rpc.Message) (act : Act) (terms : Terms)
+    (messages : session.State) (documents : docs.State) (events : List Event) : Type 0 where
+  pub sent : Sent
+  pub reads : IsSent side bytes sent
+  pub says : outline sent.message ≡ outline said
+  pub means : sent.act ≡ act
+  pub clean : offence terms events (message sent) ≡ None
+  pub holds : Holds messages documents (events ++ message sent ∷ [])
+
+-- the content is this message, but for its params and the value of a result, and means this act; it
+-- offends this rule. Where an `initialize` is open, the value of a result is there
+pub record RefusesMessage (side : Side) (bytes : List ℕ) (said : rpc.Message) (act : Act)
+    (terms : Terms) (events : List Event) (rule : ℕ) : Type 0 where
+  pub sent : Sent
+  pub reads : IsSent side bytes sent
+  pub says : outline sent.message ≡ outline said
+  pub means : sent.act ≡ act
+  pub offends : offence terms events (message sent) ≡ Some rule
+  pub whole : (open_initializes (sent_in events) ≡ []) ⊎ (said ≡ without_params sent.message)
+
+-- the message that the content is offends the rule of this fault, unless memory ran out
+abbrev pub RefusesBy : Side → List ℕ → rpc.Message → Act → Terms → List Event → Fault → Type 0
+RefusesBy side bytes said act terms events (faults.Rule rule) =
+    RefusesMessage side bytes said act terms events rule
+RefusesBy side bytes said act terms events faults.Memory = Unit {0}
+
+-- the content breaks this rule, or is a message that offends it, unless memory ran out
+abbrev pub RefusesContent : Side → List ℕ → Terms → List Event → Refused → Type 0
+RefusesContent side bytes terms events (Rule rule) = ReadsAs side bytes (fault side rule)
+RefusesContent side bytes terms events (Message by rule spoken) =
+    (by ≡ side) × RefusesMessage side bytes (message_view spoken.message) (act_view spoken.act)
+    terms events rule
+RefusesContent side bytes terms events Memory = Unit {0}
+
+-- ---- an event
+
+-- a snapshot was compared with what its document holds and keeps
+abbrev pub AnswersAs : Terms → List Event → Heard → Type 0
+AnswersAs terms events (heard.Message side spoken) = Unit {0}
+AnswersAs terms events (heard.Snapshot version uri text answer) =
+    answer ≡ answer_of version (kept terms uri.now (calls events))
+    (held terms uri.now (calls events))
+
+-- **the next event is kept**: it doesn't offend after these events, what is held is their
+-- result with it, and it is counted
+pub record Keeps (raw : Raw) (terms : Terms) (before : Counts) (given : Heard)
+    (messages : session.State) (documents : docs.State) (after : Counts)
+    (events : List Event) : Type 0 where
+  pub event : Event
+  pub reads : Reads raw event
+  pub is_heard : IsHeard event given
+  pub answers : AnswersAs terms events given
+  pub clean : offence terms events event ≡ None
+  pub holds : Holds messages documents (events ++ event ∷ [])
+  -- also where more events were counted, which were refused
+  pub counted : (all : List Event) → AreCounts before all → AreCounts after (all ++ event ∷ [])
+
+-- the snapshot breaks this rule, unless memory ran out
+abbrev pub RefusesSnapshot : Event → Terms → List Event → Refused → Type 0
+RefusesSnapshot event terms events (Rule rule) = offence terms events event ≡ Some rule
+RefusesSnapshot event terms events (Message by rule spoken) = ⊥
+RefusesSnapshot event terms events Memory = Unit {0}
+
+-- **the next event is refused**, after these events
+abbrev pub Refuses : Raw → Terms → List Event → Refused → Type 0
+Refuses (content side bytes) terms events refused = RefusesContent side bytes terms events refused
+Refuses (broken side rule) terms events refused = refused ≡ Rule rule
+Refuses (show number uri text) terms events refused =
+    RefusesSnapshot (snapshot uri number (chars text)) terms events refused

@@ -1,0 +1,163 @@
+-- For which records, and which events of them, the streams of both sides stand.
+use Rattle.std.specs.Prelude.{◌≡◌, ℕ, ◌+◌, ◌<◌, ◌≤◌, List, [], ◌∷◌, ◌++◌, length, map, string_bytes}
+use Rattle.std.specs.Prelude.{Bool, false, Option, Some, None, IsSome, IfSome, Ok, Err}
+use Rattle.lsp_frame.specs.Bounds.{Bounds, IsInRange}
+use Rattle.lsp_frame.specs.Buffer.{last_of}
+use Rattle.lsp_frame.specs.Decoder as decoder
+use Rattle.lsp_frame.specs.Frame.{IsStream}
+use Rattle.lsp_log.specs.Log.{Record}
+use Rattle.lsp_replay.specs.declared.streams.Due.{Due}
+use Rattle.lsp_replay.specs.declared.streams.Due.TheVariants as due
+use Rattle.lsp_replay.specs.declared.streams.Snapshot.{Snapshot}
+use Rattle.lsp_replay.specs.declared.streams.PendingEvents.{PendingEvents}
+use Rattle.lsp_replay.specs.declared.streams.PendingEvents.TheVariants as turn
+use Rattle.lsp_types.specs.declared.side.Side.{Side}
+use Rattle.lsp_types.specs.declared.side.Side.TheVariants.{Editor, Server}
+use Rattle.lsp_verdict.specs.Lent.{raw_view}
+use Rattle.lsp_verdict.specs.Outcome.{is_rest}
+use Rattle.lsp_verdict.specs.Placed.{Raw, content, broken, show, new_fault, Placed, joined}
+use Rattle.lsp_verdict.specs.declared.raw.Raw as code
+
+-- ---- what is held
+
+-- the decoder of each side, the snapshot pushed last, and which events of the last record are still
+-- to be given
+pub record State : Type 0 where
+  pub editor : decoder.State
+  pub server : decoder.State
+  pub snapshot : Option Snapshot
+  pub turn : Option PendingEvents
+
+abbrev pub decoder_of : Side → State → decoder.State
+decoder_of Editor s = s.editor
+decoder_of Server s = s.server
+
+-- where a snapshot is to be given, it is held
+abbrev pub FitsTurn : Option PendingEvents → Option Snapshot → Type 0
+FitsTurn (Some turn.Snapshot) snapshot = IsSome snapshot
+FitsTurn turn snapshot = Unit {0}
+
+-- ---- an event
+
+-- the snapshot that is held
+abbrev pub shown : Option Snapshot → List Raw
+shown None = []
+shown (Some s) = show s.version (string_bytes s.uri) (string_bytes s.text) ∷ []
+
+-- what is lent of the event is held
+abbrev pub IsHeld : State → Due → Type 0
+IsHeld s (due.Content side len) = len ≤ length (decoder_of side s).kept
+IsHeld s (due.Broken side rule) = Unit {0}
+IsHeld s due.Snapshot = IsSome s.snapshot
+
+-- it is this event
+abbrev pub IsRaw : State → Due → Raw → Type 0
+IsRaw s (due.Content side len) raw = raw ≡ content side (last_of (decoder_of side s).kept len)
+IsRaw s (due.Broken side rule) raw = raw ≡ broken side rule
+IsRaw s due.Snapshot raw = shown s.snapshot ≡ raw ∷ []
+
+-- ---- one step
+
+abbrev pub StepsBy : Option ℕ → Side → decoder.State → decoder.State → Option Due → Type 0
+StepsBy (Some rule) side old new next = (next ≡ None) × (new ≡ old)
+StepsBy None side old new None = decoder.Next old new (Ok None)
+StepsBy None side old new (Some (due.Content by len)) =
+    (by ≡ side) × (len ≤ length new.kept) × decoder.Next old new (Ok (Some (last_of new.kept len)))
+StepsBy None side old new (Some (due.Broken by rule)) =
+    (by ≡ side) × decoder.Next old new (Err rule)
+StepsBy None side old new (Some due.Snapshot) = ⊥
+
+-- the decoder of a side skipped its next event, of which there is none after a fault that it gave
+abbrev pub StepsSide : Side → decoder.State → decoder.State → Option Due → Type 0
+StepsSide side old new next = StepsBy old.fault side old new next
+
+abbrev pub StepsAt : Option PendingEvents → State → State → Option Due → Type 0
+StepsAt None old new next = (next ≡ None) × (new ≡ record old { snapshot = None })
+StepsAt (Some (turn.Bytes Editor)) old new next =
+    StepsSide Editor old.editor new.editor next × (new ≡ record old { editor = new.editor })
+StepsAt (Some (turn.Bytes Server)) old new next =
+    StepsSide Server old.server new.server next × (new ≡ record old { server = new.server })
+StepsAt (Some turn.Snapshot) old new next =
+    (next ≡ Some due.Snapshot) × (new ≡ record old { turn = None }) × IsSome new.snapshot
+
+-- the next event was skipped, or there is none
+abbrev pub Steps : State → State → Option Due → Type 0
+Steps old new next = StepsAt old.turn old new next
+
+-- ---- records
+
+-- **a side's decoder has still to give these events of these bytes**: contents, and after them a
+-- fault that it did not give
+pub record IsDue (side : Side) (d : decoder.State) (bytes : List ℕ) (due : List Raw) : Type 0 where
+  pub given : List (List ℕ)
+  pub left : List (List ℕ)
+  pub rest : List ℕ
+  pub breaks : Option ℕ
+  pub stands : decoder.StandsFor d bytes given
+  pub stream : IsStream d.limits bytes (given ++ left) rest breaks
+  pub are : due ≡ map (content side) left ++ new_fault side d.fault breaks
+
+-- of the events that are due, those of a side
+abbrev pub due_of : Side → Option PendingEvents → List Raw → List Raw
+due_of Editor (Some (turn.Bytes Editor)) due = due
+due_of Server (Some (turn.Bytes Server)) due = due
+due_of side turn due = []
+
+-- what is due of no side is the snapshot, or nothing
+abbrev pub ShowsDue : Option PendingEvents → Option Snapshot → List Raw → Type 0
+ShowsDue None snapshot due = due ≡ []
+ShowsDue (Some (turn.Bytes side)) snapshot due = Unit {0}
+ShowsDue (Some turn.Snapshot) snapshot due = due ≡ shown snapshot
+
+-- **the streams took these records, gave these events of them, and have still to give those that
+-- are due**
+pub record Stands (limits : Bounds) (s : State) (records : List Record)
+    (given due : List Raw) : Type 0 where
+  pub range : IsInRange limits
+  pub editor_limits : s.editor.limits ≡ limits
+  pub server_limits : s.server.limits ≡ limits
+  pub placed : Placed limits records (given ++ due)
+  pub editor : IsDue Editor s.editor (joined Editor records) (due_of Editor s.turn due)
+  pub server : IsDue Server s.server (joined Server records) (due_of Server s.turn due)
+  pub shows : ShowsDue s.turn s.snapshot due
+
+-- ---- the next event
+
+-- all events of the records were given, or one more of those due
+abbrev pub Gives : Bounds → State → List Record → List Raw → List Raw → Option code.Raw → Type 0
+Gives limits new records given due None = (due ≡ []) × Stands limits new records given []
+Gives limits new records given due (Some raw) =
+    (later : List Raw) × (due ≡ raw_view raw ∷ later)
+    × Stands limits new records (given ++ raw_view raw ∷ []) later
+
+abbrev pub unbroken : Option ℕ → ℕ
+unbroken None = 1
+unbroken (Some rule) = 0
+
+abbrev pub unshown : Option PendingEvents → ℕ
+unshown (Some turn.Snapshot) = 1
+unshown turn = 0
+
+-- a bound on the events that a side may still give
+abbrev pub left_of : decoder.State → ℕ
+left_of d = length d.rest + unbroken d.fault
+
+-- and on those of all
+abbrev pub left_in : State → ℕ
+left_in s = left_of s.editor + left_of s.server + unshown s.turn
+
+-- one more event was given, or there is none; an event leaves fewer to give
+pub record NextIs (old new : State) (result : Option code.Raw) : Type 0 where
+  pub gives : (limits : Bounds) (records : List Record) (given due : List Raw)
+      → Stands limits old records given due → Gives limits new records given due result
+  pub less : IfSome result (λ raw. left_in new < left_in old)
+
+-- ---- the end
+
+abbrev pub ends_at : Option ℕ → List ℕ → Bool
+ends_at None rest = is_rest rest
+ends_at (Some rule) rest = false
+
+-- bytes are left that are not a whole frame and have no fault
+abbrev pub ends_inside : decoder.State → Bool
+ends_inside d = ends_at d.fault d.rest

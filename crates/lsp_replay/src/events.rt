@@ -1,0 +1,257 @@
+//! The events of a session, heard one after another.
+ghost use Rattle.std.specs.Prelude.{◌≡◌, ◌++◌, ◌∷◌, [], ℕ, List, None, Some, option_and_then, IfOk};
+ghost use Rattle.std.specs.Prelude.{IfErr, OnOk, OnErr, map};
+ghost use Rattle.std.specs.List.{cons_option};
+ghost use Rattle.lsp_rpc.specs.View.{act_view, changes_view, message_view};
+ghost use Rattle.lsp_docs.specs.Calls.{Call, changes};
+ghost use Rattle.lsp_docs.specs.Fault as doc_fault;
+ghost use Rattle.lsp_docs.specs.Rules.{call_rule};
+ghost use Rattle.lsp_docs.specs.State as docs_state;
+ghost use Rattle.lsp_docs.specs.Terms.{Terms, terms_of};
+ghost use Rattle.lsp_outline.specs.declared.outline.Results.TheVariants.{LeftOut};
+ghost use Rattle.lsp_session.specs.Handshake.{open_initializes};
+ghost use Rattle.lsp_session.specs.Sent.{Sent};
+ghost use Rattle.lsp_session.specs.State.{Stands};
+ghost use Rattle.lsp_verdict.specs.Calls.{call_of, edit_of};
+ghost use Rattle.lsp_verdict.specs.Event.{Event};
+ghost use Rattle.lsp_replay.specs.Apart.{Says};
+ghost use Rattle.lsp_verdict.specs.Lent.{raw_view};
+ghost use Rattle.lsp_replay.specs.Standing.{Follows, Holds, Hears, Keeps, Refuses, RefusesBy};
+ghost use Rattle.lsp_replay.specs.Standing.{RefusesContent};
+
+use crate::fault::{Fault, Refused};
+use crate::heard::Heard;
+use lsp_docs::{DocFault, Docs};
+use lsp_frame::{Format, Limits};
+use lsp_outline::{MessageReader, Results};
+use lsp_rpc::{Act, Change, Encoding, Side, Spoken, SyncKind};
+use lsp_session::Session;
+use lsp_text::TextStore;
+use lsp_verdict::{Counts, Raw, Who, who_of};
+use std::alloc::Global;
+
+/// What the events heard so far have come to, none of which offends after those before it.
+///
+/// It stands for these events: the session for their messages, the documents for their calls, and
+/// the counts for how many they were, as far as each was counted.
+#[derive(Drop)]
+pub struct Events<S: TextStore> {
+    pub session: Session,
+    pub docs: Docs<S>,
+    pub counts: Counts,
+    messages: MessageReader,
+}
+
+impl<S: TextStore> Events<S> {
+    /// Nothing heard yet, of a log of this format.
+    pub fn new(alloc: Global, limits: Limits, format: Format) -> Self
+        ensures terms { result.docs.terms ≡ terms_of limits format }
+        ensures follows { Follows result.session result.docs result.counts [] }
+    {
+        Events {
+            session: Session::new(alloc),
+            docs: Docs::of_format(alloc, limits, format),
+            counts: Counts::new(),
+            messages: MessageReader::new(alloc),
+        }
+    }
+
+    /// Hears the next event and counts it, unless it breaks a rule after the events heard. A
+    /// message is given without its params, and without the value of a result that nothing reads.
+    ///
+    /// # Errors
+    /// `Message` by the least of the rules 301 to 702 that a message offends. `Rule` by that of a
+    /// fault of the frames, by the least of 201 to 209 that a content breaks, and by the least of
+    /// 701 and 702 that a snapshot breaks. `Memory` where memory was refused, in place of whatever
+    /// would be answered about a content or a snapshot. What is held and the counts stay, so that
+    /// the event after it can be heard.
+    pub fn hear<'a>(&mut self, raw: Raw<'a>) -> Result<Heard<'a>, Refused>
+        ensures terms { self.new.docs.terms ≡ self.old.docs.terms }
+        ensures ok { IfOk result (λ heard. (events : List Event)
+            → Holds self.old.session self.old.docs events
+            → Keeps (raw_view raw.entry) self.old.docs.terms self.old.counts heard
+            self.new.session self.new.docs self.new.counts events) }
+        ensures rule { IfErr result (λ refused. (events : List Event)
+            → Holds self.old.session self.old.docs events
+            → Refuses (raw_view raw.entry) self.old.docs.terms events refused) }
+        ensures err { OnErr result ((events : List Event)
+            → Holds self.old.session self.old.docs events
+            → Holds self.new.session self.new.docs events) }
+        ensures uncounted { OnErr result (self.new.counts ≡ self.old.counts) }
+    {
+        match raw {
+            Raw::Content { side, content } => {
+                let spoken = self.hear_content(side, content)?;
+                self.counts.add(who_of(side));
+                Ok(Heard::Message { side, spoken })
+            }
+            Raw::Broken { rule, .. } => Err(Refused::Rule(rule)),
+            Raw::Snapshot { version, uri, text } => {
+                let answer = self.docs.snapshot(uri, version, text)?;
+                self.counts.add(Who::Snapshot);
+                Ok(Heard::Snapshot {
+                    version,
+                    uri,
+                    text,
+                    answer,
+                })
+            }
+        }
+    }
+
+    /// Reads a content of a side, admits the message that it is, and takes over what that says
+    /// about a document.
+    fn hear_content(&mut self, side: Side, content: &[u8]) -> Result<Spoken, Refused>
+        ensures terms { self.new.docs.terms ≡ self.old.docs.terms }
+        ensures counts { self.new.counts ≡ self.old.counts }
+        ensures ok { IfOk result
+            (λ spoken. (events : List Event) → Holds self.old.session self.old.docs events
+            → Hears side content.now (message_view spoken.message)
+            (act_view spoken.act) self.old.docs.terms self.new.session self.new.docs events) }
+        ensures rule { IfErr result
+            (λ refused. (events : List Event) → Holds self.old.session self.old.docs events
+            → RefusesContent side content.now self.old.docs.terms events refused) }
+        ensures err { OnErr result ((events : List Event)
+            → Holds self.old.session self.old.docs events
+            → Holds self.new.session self.new.docs events) }
+    {
+        let spoken = spoken_in(&self.session, &mut self.messages, side, content)?;
+        match self.follow(side, &spoken) {
+            Ok(()) => Ok(spoken),
+            Err(fault) => Err(fault.refuse(side, spoken)),
+        }
+    }
+
+    /// Admits the message that a content is, and takes over what it says about a document.
+    fn follow(&mut self, side: Side, spoken: &Spoken) -> Result<(), Fault>
+        ensures terms { self.new.docs.terms ≡ self.old.docs.terms }
+        ensures counts { self.new.counts ≡ self.old.counts }
+        ensures ok { OnOk result ((content : List ℕ) (events : List Event)
+            → Says self.old.session side content (message_view spoken.now.message)
+            (act_view spoken.now.act)
+            → Holds self.old.session self.old.docs events
+            → Hears side content (message_view spoken.now.message)
+            (act_view spoken.now.act) self.old.docs.terms self.new.session self.new.docs
+            events) }
+        ensures rule { IfErr result
+            (λ fault. (content : List ℕ) (events : List Event)
+            → Says self.old.session side content (message_view spoken.now.message)
+            (act_view spoken.now.act)
+            → Holds self.old.session self.old.docs events
+            → RefusesBy side content (message_view spoken.now.message)
+            (act_view spoken.now.act) self.old.docs.terms events fault) }
+        ensures err { OnErr result ((content : List ℕ) (events : List Event)
+            → Says self.old.session side content (message_view spoken.now.message)
+            (act_view spoken.now.act)
+            → Holds self.old.session self.old.docs events
+            → Holds self.new.session self.new.docs events) }
+    {
+        let encoding = self.session.encoding().unwrap_or(Encoding::Utf16);
+        let kind = self.session.sync_kind().unwrap_or(SyncKind::Nothing);
+        self.session.admit(side, &spoken.message, &spoken.act)?;
+        apply(&mut self.docs, encoding, kind, &spoken.act)?;
+        Ok(())
+    }
+}
+
+/// Whether the value of a result is wanted: a session that awaits its handshake reads one.
+fn wanted_results(session: &Session) -> Results
+    ensures { result ≡ LeftOut → (before : List Sent) → Stands session.now before
+        → open_initializes before ≡ [] }
+{
+    if session.awaits_initialize() {
+        Results::Whole
+    } else {
+        Results::LeftOut
+    }
+}
+
+/// Reads a content with what it means on its side.
+fn spoken_in(
+    session: &Session,
+    messages: &mut MessageReader,
+    side: Side,
+    content: &[u8],
+) -> Result<Spoken, Refused>
+    ensures ok { IfOk result (λ spoken. Says session.now side content.now
+        (message_view spoken.message) (act_view spoken.act)) }
+    ensures rule { IfErr result (λ refused. (terms : Terms) (events : List Event)
+        → RefusesContent side content.now terms events refused) }
+{
+    let spoken = messages.hear(side, content, wanted_results(session))?;
+    Ok(spoken)
+}
+
+/// Changes a document.
+fn change<S: TextStore>(
+    docs: &mut Docs<S>,
+    encoding: Encoding,
+    kind: SyncKind,
+    uri: &str,
+    version: i32,
+    edits: &[Change],
+) -> Result<(), DocFault>
+    ensures terms { docs.new.terms ≡ docs.old.terms }
+    ensures ok { OnOk result ((made : List Call) → docs_state.Stands docs.old made
+        → docs_state.Stands docs.new (made
+        ++ changes encoding kind uri.now version (map edit_of (changes_view edits.now)) ∷ [])) }
+    ensures accepted { OnOk result ((made : List Call) → docs_state.Stands docs.old made
+        → call_rule docs.old.terms made
+        (changes encoding kind uri.now version (map edit_of (changes_view edits.now))) ≡ None) }
+    ensures rule { IfErr result (λ fault. (made : List Call) → docs_state.Stands docs.old made
+        → doc_fault.Names (call_rule docs.old.terms made
+        (changes encoding kind uri.now version (map edit_of (changes_view edits.now)))) fault) }
+    ensures err { OnErr result (docs.new ≡ docs.old) }
+{
+    docs.did_change(encoding, kind, uri, version, edits)
+}
+
+/// Takes over what an act says about a document.
+fn apply<S: TextStore>(
+    docs: &mut Docs<S>,
+    encoding: Encoding,
+    kind: SyncKind,
+    act: &Act,
+) -> Result<(), DocFault>
+    ensures terms { docs.new.terms ≡ docs.old.terms }
+    ensures ok { OnOk result ((made : List Call) → docs_state.Stands docs.old made
+        → docs_state.Stands docs.new (made
+        ++ cons_option (call_of encoding kind (act_view act.now)) [])) }
+    ensures accepted { OnOk result ((made : List Call) → docs_state.Stands docs.old made
+        → option_and_then (call_rule docs.old.terms made)
+        (call_of encoding kind (act_view act.now)) ≡ None) }
+    ensures rule { IfErr result (λ fault. (made : List Call) → docs_state.Stands docs.old made
+        → doc_fault.Names (option_and_then (call_rule docs.old.terms made)
+        (call_of encoding kind (act_view act.now))) fault) }
+    // Only an act that says something of a document is refused, and then nothing changes.
+    ensures says { OnErr result ((call : Call)
+        × (call_of encoding kind (act_view act.now) ≡ Some call)) }
+    ensures err { OnErr result (docs.new ≡ docs.old) }
+{
+    match act {
+        Act::DidOpen { uri, version, text } => {
+            docs.did_open(uri.as_str(), *version, text.as_str())?
+        }
+        Act::DidChange {
+            uri,
+            version,
+            changes,
+        } => {
+            let version = *version;
+            change(
+                docs,
+                encoding,
+                kind,
+                uri.as_str(),
+                version,
+                changes.as_slice(),
+            )?
+        }
+        Act::DidClose { uri } => docs.did_close(uri.as_str())?,
+        Act::DidSave { uri, text } => {
+            docs.did_save(uri.as_str(), text.as_ref().map(|text| text.as_str()))?
+        }
+        _ => {}
+    }
+    Ok(())
+}
