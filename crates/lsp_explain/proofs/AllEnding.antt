@@ -22,7 +22,7 @@ use Rattle.lsp_session.specs.Sent.{is_exit}
 use Rattle.lsp_survey.specs.Asking.{Numbered, numbered}
 use Rattle.lsp_survey.specs.Reads.{Ended, EndedBehind, IsSurveyOf}
 use Rattle.lsp_survey.specs.Reported.{IsTally}
-use Rattle.lsp_survey.specs.declared.survey_reader.End.{End}
+use Rattle.lsp_survey.specs.declared.survey_reader.SurveyEnd.{SurveyEnd}
 use Rattle.lsp_survey.specs.declared.survey_reader.SurveyReader.{SurveyReader}
 use Rattle.lsp_survey.specs.declared.offence_count.OffenceCount.{OffenceCount}
 use Rattle.lsp_survey.proofs.Reporting.{closed_some}
@@ -67,7 +67,7 @@ use Rattle.lsp_explain.proofs.Judged.{some_by}
 pub ended_telling : (completeness : Completeness) (limits : Bounds) (e f : SurveyReader)
     (t : OffenceCount)
     (start mid now old new : Told) (inv : IsTelling completeness limits e t start mid old new)
-    (end : End) → f.walk.events.docs.terms ≡ e.walk.events.docs.terms
+    (end : SurveyEnd) → f.walk.events.docs.terms ≡ e.walk.events.docs.terms
     → Ended e.completeness limits f start now (raws_of inv.hs) (notes_of inv.hs) inv.found end
     → EndedBehind inv.so_far.records e.completeness limits f start now (raws_of inv.hs)
     (notes_of inv.hs) inv.found end → CausesTold completeness limits f t start now old new end
@@ -168,7 +168,7 @@ module _ (rests held : Rests) (sent : List Numbered) (events : List Event) where
 -- ---- all that is said
 
 module _ (completeness : Completeness) (limits : Bounds) (e : SurveyReader) (t : OffenceCount)
-    (start now old new : Told) (end : End)
+    (start now old new : Told) (end : SurveyEnd)
     (told : CausesTold completeness limits e t start now old new end) where
   abbrev hs : List Heard
   hs = told.hs

@@ -17,7 +17,7 @@ use Rattle.lsp_types.specs.declared.side.Side.TheVariants.{Editor, Server}
 use Rattle.lsp_survey.specs.Asking.{Numbered, numbered}
 use Rattle.lsp_survey.specs.Reads.{IsSurveyOf, KnowsFlaw, Ended}
 use Rattle.lsp_replay.specs.Streams.{decoder_of}
-use Rattle.lsp_survey.specs.declared.survey_reader.End.{End}
+use Rattle.lsp_survey.specs.declared.survey_reader.SurveyEnd.{SurveyEnd}
 use Rattle.lsp_survey.specs.declared.survey_reader.SurveyReader.{SurveyReader}
 use Rattle.lsp_verdict.specs.Event.{Event}
 use Rattle.lsp_verdict.specs.Given.{offence_view, verdict_view}
@@ -145,7 +145,7 @@ module _ (e : SurveyReader) (completeness : Completeness) (limits : Bounds) (log
       }
 
 module _ (completeness : Completeness) (limits : Bounds) (e : SurveyReader) (start now : Told)
-    (hs : List Heard) (end : End)
+    (hs : List Heard) (end : SurveyEnd)
     (ended : Ended completeness limits e start now (raws_of hs) (notes_of hs) [] end)
     (x : Explanation) where
   abbrev terms : Terms

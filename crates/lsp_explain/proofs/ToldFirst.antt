@@ -7,7 +7,7 @@ use Rattle.lsp_docs.specs.Terms.{Terms}
 use Rattle.lsp_frame.specs.Bounds.{Bounds}
 use Rattle.lsp_frame.specs.Told.{Told}
 use Rattle.lsp_survey.specs.Reads.{SoFar, GaveEvent, BrokeOff, Ended}
-use Rattle.lsp_survey.specs.declared.survey_reader.End.{End}
+use Rattle.lsp_survey.specs.declared.survey_reader.SurveyEnd.{SurveyEnd}
 use Rattle.lsp_survey.specs.declared.offending.FoundOffence.{FoundOffence}
 use Rattle.lsp_survey.specs.declared.offending.Judged.TheVariants as heard
 use Rattle.lsp_survey.specs.declared.survey_reader.SurveyReader.{SurveyReader}
@@ -136,7 +136,7 @@ refused limits e start now past notes found so_far = record {
 
 -- or at the end
 pub refused_end : (completeness : Completeness) (limits : Bounds) (e : SurveyReader)
-    (start now : Told) (hs : List Heard) (end : End)
+    (start now : Told) (hs : List Heard) (end : SurveyEnd)
     → Ended completeness limits e start now (raws_of hs) (notes_of hs) [] end
     → BreaksOff limits start now faults.Memory
 refused_end completeness limits e start now hs end ended = record {
@@ -147,7 +147,7 @@ refused_end completeness limits e start now hs end ended = record {
 
 -- the end of the log is explained
 pub end_told : (completeness : Completeness) (limits : Bounds) (e : SurveyReader) (start now : Told)
-    (hs : List Heard) (end : End) (x : Explanation)
+    (hs : List Heard) (end : SurveyEnd) (x : Explanation)
     → Ended completeness limits e start now (raws_of hs) (notes_of hs) [] end
     → ((c : Completeness) (b : Bounds) (s n : Told) → EndsWhole c b e s n end → TellsEnd c b s n x)
     → IsExplainedBy completeness limits start now x

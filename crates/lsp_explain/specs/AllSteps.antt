@@ -11,7 +11,7 @@ use Rattle.lsp_survey.specs.Asking.{Numbered, numbered}
 use Rattle.lsp_survey.specs.Reads.{GaveEvent, Ended, EndedBehind}
 use Rattle.lsp_survey.specs.Reported.{IsTally}
 use Rattle.lsp_survey.specs.declared.offending.Judged as code_heard
-use Rattle.lsp_survey.specs.declared.survey_reader.End.{End}
+use Rattle.lsp_survey.specs.declared.survey_reader.SurveyEnd.{SurveyEnd}
 use Rattle.lsp_survey.specs.declared.survey_reader.SurveyReader.{SurveyReader}
 use Rattle.lsp_survey.specs.declared.offence_count.OffenceCount.{OffenceCount}
 use Rattle.lsp_verdict.specs.Given.{offence_view, verdict_view}
@@ -97,7 +97,7 @@ TellsAll completeness limits start now old new (Err fault) =
 -- the causes among the events were explained up to the log's end
 pub record CausesTold (completeness : Completeness) (limits : Bounds) (e : SurveyReader)
     (t : OffenceCount)
-    (start now old new : Told) (end : End) : Type 0 where
+    (start now old new : Told) (end : SurveyEnd) : Type 0 where
   pub hs : List Heard
   pub said : List Explained
   pub found : List Offence
@@ -111,7 +111,7 @@ pub record CausesTold (completeness : Completeness) (limits : Bounds) (e : Surve
 
 abbrev pub TellsCauses : Completeness → Bounds → SurveyReader → OffenceCount → Told → Told → Told
     → Told
-    → Result End RunFault → Type 0
+    → Result SurveyEnd RunFault → Type 0
 TellsCauses completeness limits e t start now old new (Ok end) =
     CausesTold completeness limits e t start now old new end
 TellsCauses completeness limits e t start now old new (Err fault) =
@@ -125,7 +125,7 @@ ends_said rests sent listed =
     map (λ (o : Offence). end_explained rests sent o.no) (map offence_view listed)
 
 -- what is written after these offences: what is said about the end of the log, and the closing
-abbrev pub IsClosing : SurveyReader → OffenceCount → End → Explanation → Type 0
+abbrev pub IsClosing : SurveyReader → OffenceCount → SurveyEnd → Explanation → Type 0
 IsClosing e t end x =
     (found : List Offence) (notes : List Noted) → IsTally t found → (found ≡ [] → IsSound e notes)
     → StandsAfter e (events_of notes)

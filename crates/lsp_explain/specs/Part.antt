@@ -5,7 +5,7 @@ use Rattle.std.specs.Global.{Global}
 use Rattle.std.specs.List.{prefix_len}
 use Rattle.std.specs.Str.{chars}
 use Rattle.lsp_docs.specs.Texts.{Text}
-use Rattle.lsp_explain.specs.declared.facts.part.Part as code
+use Rattle.lsp_explain.specs.declared.facts.part.Excerpt as code
 
 -- some characters of a line, and how many are left out before and after them
 pub record Part : Type 0 where

@@ -15,7 +15,7 @@ use Rattle.lsp_survey.specs.declared.offending.FoundOffence.{FoundOffence}
 use Rattle.lsp_survey.specs.declared.offending.Judged.TheVariants as heard
 use Rattle.lsp_survey.specs.declared.offending.OffendingEvent.{OffendingEvent}
 use Rattle.lsp_survey.specs.declared.offending.OffendingEvent.TheVariants as what
-use Rattle.lsp_survey.specs.declared.survey_reader.End.{End}
+use Rattle.lsp_survey.specs.declared.survey_reader.SurveyEnd.{SurveyEnd}
 use Rattle.lsp_survey.specs.declared.survey_reader.SurveyReader.{SurveyReader}
 use Rattle.lsp_verdict.specs.Given.{as_given, offence_view, verdict_view}
 use Rattle.lsp_verdict.specs.Offences.{Noted, Offence, events_of, rule_at}
@@ -104,7 +104,7 @@ pub record IsSound (e : SurveyReader) (notes : List Noted) : Type 0 where
 
 -- the log ended after these events, none of which offends
 pub record EndsWhole (completeness : Completeness) (limits : Bounds) (e : SurveyReader)
-    (start now : Told) (end : End) : Type 0 where
+    (start now : Told) (end : SurveyEnd) : Type 0 where
   pub hs : List Heard
   pub ended : Ended completeness limits e start now (raws_of hs) (notes_of hs) [] end
 

@@ -31,5 +31,5 @@ pub use lines::{
 };
 pub use messages::{content_facts, id_in, session_facts};
 pub use offending::{message_facts, shown_facts};
-pub use part::Part;
+pub use part::Excerpt;
 pub use waiting::refuting;

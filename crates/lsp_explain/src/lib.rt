@@ -14,14 +14,14 @@ mod said;
 mod suspects;
 mod trace;
 
+pub use facts::{
+    Fact, act_facts, content_facts, flaw_facts, frame_facts, session_facts, snapshot_facts,
+    unfinished_facts,
+};
 pub use laws::{
     all_explained_are_causes, explanation_begins_with_report, explanation_of_yes_is_report,
     first_explained_is_verdict, one_explanation, one_explanation_of_all, some_explanation,
     some_explanation_of_all,
-};
-pub use facts::{
-    Fact, act_facts, content_facts, flaw_facts, frame_facts, session_facts, snapshot_facts,
-    unfinished_facts,
 };
 pub use run::run_explain;
 pub use run_all::run_explain_all;

@@ -22,11 +22,11 @@ ghost use Rattle.lsp_explain.specs.RunSteps.{EndsWhole, ExplainsLog, IsSound, Te
 ghost use Rattle.lsp_explain.specs.RunSteps.{flaw_held, side_of, summary_behind};
 ghost use Rattle.lsp_explain.specs.Standing.{StandsAfter, terms_in};
 
-use crate::said::{push_end, push_said};
 use crate::facts::{flaw_facts, push_details};
+use crate::said::{push_end, push_said};
 use lsp_frame::{Limits, Sink, Source, put_all};
 use lsp_rpc::{Memory, Side};
-use lsp_survey::{End, FoundOffence, Judged, NextJudged, OffendingEvent, SurveyReader};
+use lsp_survey::{FoundOffence, Judged, NextJudged, OffendingEvent, SurveyEnd, SurveyReader};
 use lsp_verdict::{
     Completeness, Offence, Outcome, RunFault, Summary, Verdict, Who, verdict_report,
 };
@@ -123,7 +123,7 @@ fn explain_first<R: Source>(
                     return Ok(explanation);
                 }
             }
-            NextJudged::End(end) => return Ok(explain_end(alloc, events, end)?),
+            NextJudged::SurveyEnd(end) => return Ok(explain_end(alloc, events, end)?),
         }
     }
 }
@@ -175,12 +175,12 @@ fn side_of(offending: &OffendingEvent) -> Side
 }
 
 /// What explains the end of a log, where no event offends.
-fn explain_end(alloc: Global, events: &SurveyReader, end: End) -> Result<Explanation, Memory>
+fn explain_end(alloc: Global, events: &SurveyReader, end: SurveyEnd) -> Result<Explanation, Memory>
     ensures { IfOk result (λ x. (completeness : Completeness) (limits : Bounds) (start now : Told)
         → EndsWhole completeness limits events.now start now end
         → TellsEnd completeness limits start now x) }
 {
-    let End { listed, bad } = end;
+    let SurveyEnd { listed, bad } = end;
     let Some(offence) = listed.first() else {
         return explain_sound(alloc, events, bad);
     };

@@ -22,7 +22,7 @@ ghost use Rattle.lsp_explain.specs.Standing.{StandsAfter, terms_in};
 use crate::run::{Explanation, explain_found, explain_listed, explain_sound, flaw_text, side_by};
 use lsp_frame::{Limits, Sink, Source, put_all};
 use lsp_rpc::Memory;
-use lsp_survey::{End, FoundOffence, Judged, NextJudged, OffenceCount, SurveyReader};
+use lsp_survey::{FoundOffence, Judged, NextJudged, OffenceCount, SurveyEnd, SurveyReader};
 use lsp_verdict::{
     Completeness, Offence, Outcome, RunFault, Summary, Verdict, found_report, verdict_report,
 };
@@ -100,7 +100,7 @@ fn explain_events<R: Source, W: Sink>(
     reader: &mut R,
     writer: &mut W,
     tally: &mut OffenceCount,
-) -> Result<End, RunFault>
+) -> Result<SurveyEnd, RunFault>
     requires tally { IsTally tally.old [] }
     requires fresh { IsFresh events.old (R.told reader.old) }
     ensures { (limits : Bounds) (start : Told)
@@ -111,7 +111,7 @@ fn explain_events<R: Source, W: Sink>(
     loop {
         match events.next(reader)? {
             NextJudged::Event(heard) => explain_heard(alloc, events, writer, tally, heard)?,
-            NextJudged::End(end) => return Ok(end),
+            NextJudged::SurveyEnd(end) => return Ok(end),
         }
     }
 }
@@ -161,7 +161,7 @@ fn close<W: Sink>(
     events: &SurveyReader,
     writer: &mut W,
     tally: &mut OffenceCount,
-    end: End,
+    end: SurveyEnd,
 ) -> Result<Verdict, RunFault>
     ensures { (completeness : Completeness) (limits : Bounds) (start now old : Told)
         → CausesTold completeness limits events.now tally.old start now old (W.told writer.old) end
@@ -178,13 +178,13 @@ fn closing_of(
     alloc: Global,
     events: &SurveyReader,
     tally: &mut OffenceCount,
-    end: End,
+    end: SurveyEnd,
 ) -> Result<Explanation, Memory>
     ensures tally { OnOk result ((found : List SpecOffence) → IsTally tally.old found
         → IsTally tally.new (found ++ map offence_view end.listed.items)) }
     ensures closing { IfOk result (λ x. IsClosing events.now tally.old end x) }
 {
-    let End { listed, bad } = end;
+    let SurveyEnd { listed, bad } = end;
     let mut text = ends_text(alloc, events, tally, listed.as_slice())?;
     let last = last_of(alloc, events, tally, bad)?;
     text.push_str(last.text.as_str())?;

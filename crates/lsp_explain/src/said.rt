@@ -19,11 +19,11 @@ ghost use Rattle.lsp_explain.specs.RunSteps.{ShowsFault};
 ghost use Rattle.lsp_explain.specs.Standing.{StandsAfter, terms_in};
 ghost use Rattle.lsp_explain.specs.Traced.{AreTraced};
 
-use crate::trace::{lack_traced, message_traced, shown_traced};
 use crate::facts::{
     Fact, content_facts, frame_facts, push_bare_event, push_content_event, push_details,
     push_end_event, push_message_event, unfinished_facts, usual,
 };
+use crate::trace::{lack_traced, message_traced, shown_traced};
 use lsp_rpc::Memory;
 use lsp_survey::{FoundOffence, OffendingEvent, SurveyReader};
 use lsp_types::rules;

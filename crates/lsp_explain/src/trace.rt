@@ -24,8 +24,8 @@ ghost use Rattle.lsp_explain.specs.Standing.{StandsAfter, terms_in};
 ghost use Rattle.lsp_explain.specs.Traced as spec;
 ghost use Rattle.lsp_types.specs.declared.rules.TheConstants as rules;
 
-use crate::suspects::{Until, push_suspects};
 use crate::facts::{Fact, id_in, message_facts, refuting, shown_facts};
+use crate::suspects::{Until, push_suspects};
 use lsp_rpc::{Act, Encoding, Memory, Message, Side, Spoken, copy_id};
 use lsp_session::{OpenRequest, Pending};
 use lsp_survey::{Marks, SessionNotes, Setter, Shown, SurveyReader};

@@ -37,7 +37,7 @@ use Rattle.lsp_survey.specs.declared.offending.Judged.{Judged}
 use Rattle.lsp_survey.specs.declared.offending.Judged.TheVariants as heard
 use Rattle.lsp_survey.specs.declared.offending.OffendingEvent.{OffendingEvent}
 use Rattle.lsp_survey.specs.declared.offending.OffendingEvent.TheVariants as what
-use Rattle.lsp_survey.specs.declared.walk.Walk.{Walk}
+use Rattle.lsp_survey.specs.declared.walk.Replay.{Replay}
 use Rattle.lsp_types.specs.declared.change.SyncKind.TheVariants.{Nothing}
 use Rattle.lsp_types.specs.declared.position.Encoding.TheVariants.{Utf16}
 use Rattle.lsp_types.specs.declared.side.Side.{Side}
@@ -75,7 +75,7 @@ asks_said Server bytes sent said is same = refl
 
 -- ---- an event that is kept
 
-module _ (old new : Walk) (notes : List Noted) (number : ℕ) (walks : Walks old notes)
+module _ (old new : Replay) (notes : List Noted) (number : ℕ) (walks : Walks old notes)
     (is_number : number ≡ number_next (events_of notes))
     (terms_are : new.events.docs.terms ≡ old.events.docs.terms)
     (is_broken : new.broken ≡ old.broken) where
@@ -175,7 +175,7 @@ module _ (old new : Walk) (notes : List Noted) (number : ℕ) (walks : Walks old
       noted
 
 -- what was noted before is all that matters
-pub noted_after : (number : ℕ) (given : lent.Judged) (mid old new : Walk) → mid.notes ≡ old.notes
+pub noted_after : (number : ℕ) (given : lent.Judged) (mid old new : Replay) → mid.notes ≡ old.notes
     → mid.marks ≡ old.marks → mid.said ≡ old.said → NotesKept number given mid new
     → NotesKept number given old new
 noted_after number (kept.Message side spoken) mid old new notes marks said noted =
@@ -198,7 +198,7 @@ noted_after number (kept.Snapshot version uri text answer) mid old new notes mar
 )
 
 -- the next event was heard, kept and noted
-pub kept_heard : (raw : Raw) (old new : Walk) (notes : List Noted) (number : ℕ)
+pub kept_heard : (raw : Raw) (old new : Replay) (notes : List Noted) (number : ℕ)
     (given : lent.Judged) (m : session.State) (d : docs.State) (c : Counts) → Walks old notes
     → number ≡ number_next (events_of notes) → d.terms ≡ old.events.docs.terms
     → new.events.session ≡ m → new.events.docs ≡ d → new.events.counts ≡ c
@@ -221,7 +221,7 @@ kept_heard raw old new notes number given m d c walks is_number terms_are same_m
 -- ---- an event that offends
 
 -- a walk whose events refused one is where it was
-pub still_walks : (old new : Walk) (notes : List Noted) → Walks old notes
+pub still_walks : (old new : Replay) (notes : List Noted) → Walks old notes
     → new.events.docs.terms ≡ old.events.docs.terms
     → Holds new.events.session new.events.docs (kept_of old.events.docs.terms (events_of notes))
     → new.events.counts ≡ old.events.counts → new.notes ≡ old.notes → new.broken ≡ old.broken
@@ -238,7 +238,7 @@ still_walks old new notes walks terms_are holds counts notes_are is_broken marks
       said = subst (λ (m : SessionNotes). AreNotes terms m events) (sym said) walks.said;
     })
 
-module _ (old new : Walk) (notes : List Noted) (given : Judged) (walks : Walks old notes) where
+module _ (old new : Replay) (notes : List Noted) (given : Judged) (walks : Walks old notes) where
   -- a fault of the frames
   pub frames_refused : (side : Side) (code rule : ℕ)
       → IsRefused (broken side code) old.events.docs.terms notes (refused.Rule rule)

@@ -25,9 +25,9 @@ use Rattle.lsp_replay.proofs.Pulling.{log_of}
 use Rattle.lsp_survey.specs.Ending.{ends_by, given_by}
 use Rattle.lsp_survey.specs.Reads.{EndedBehind, EndIs, SoFar, Ended, IsSurveyOf, KnowsFlaw}
 use Rattle.lsp_survey.specs.Walking.{Walks}
-use Rattle.lsp_survey.specs.declared.survey_reader.End.{End}
+use Rattle.lsp_survey.specs.declared.survey_reader.SurveyEnd.{SurveyEnd}
 use Rattle.lsp_survey.specs.declared.survey_reader.SurveyReader.{SurveyReader}
-use Rattle.lsp_survey.specs.declared.walk.Walk.{Walk}
+use Rattle.lsp_survey.specs.declared.walk.Replay.{Replay}
 use Rattle.lsp_verdict.specs.Event.{Event, sent_in}
 use Rattle.lsp_verdict.specs.Given.{offence_view, verdict_view}
 use Rattle.lsp_verdict.specs.LookBack.{each_from}
@@ -132,7 +132,7 @@ ends_few None events kept false false Required = by_rule (incomplete (sent_in ke
 -- the log ended, all of whose events are these
 module _ (completeness : Completeness) (limits : Bounds) (e : SurveyReader) (start now : Told)
     (records : List Record) (past : List Raw) (notes : List Noted) (found : List Offence)
-    (end : log_end.End) (told : End)
+    (end : log_end.SurveyEnd) (told : SurveyEnd)
     (ended : streams.Ended limits e.log.log.format e.log start now records past end)
     (are_noted : AllZip IsNoted past notes) (walks : Walks e.walk notes)
     (terms_are : e.walk.events.docs.terms ≡ log_terms limits e.log.log.format)
@@ -175,7 +175,7 @@ module _ (completeness : Completeness) (limits : Bounds) (e : SurveyReader) (sta
       (ending flaw editor.0 server.0))
   listed_given = by_end end is
     where
-      by_end : (o : log_end.End) → EndIs e o told
+      by_end : (o : log_end.SurveyEnd) → EndIs e o told
           → map offence_view told.listed.items
           ≡ map given_by (ends_listed completeness own (events_of notes)
           (ending (flaw_of o) editor.0 server.0))
@@ -204,7 +204,7 @@ module _ (completeness : Completeness) (limits : Bounds) (e : SurveyReader) (sta
   bad_is : option_map verdict_view told.bad ≡ bad_log_of flaw
   bad_is = by_end end is
     where
-      by_end : (o : log_end.End) → EndIs e o told
+      by_end : (o : log_end.SurveyEnd) → EndIs e o told
           → option_map verdict_view told.bad ≡ bad_log_of (flaw_of o)
       by_end Sound (are, none) = ap (option_map verdict_view) none
       by_end (Bad number fault) (none, bad) = ap (option_map verdict_view) bad
@@ -212,7 +212,7 @@ module _ (completeness : Completeness) (limits : Bounds) (e : SurveyReader) (sta
   met : told.bad ≡ None → IsAtEnd now.bytes
   met none = by_end end is ended.ends.met
     where
-      by_end : (o : log_end.End) → EndIs e o told → (flaw_of o ≡ None → IsAtEnd now.bytes)
+      by_end : (o : log_end.SurveyEnd) → EndIs e o told → (flaw_of o ≡ None → IsAtEnd now.bytes)
           → IsAtEnd now.bytes
       by_end Sound (are, none) met = met refl
       by_end (Bad number fault) (empty, bad) met = absurd (cc (sym none ∙ bad))
@@ -312,9 +312,10 @@ module _ (completeness : Completeness) (limits : Bounds) (e : SurveyReader) (sta
 -- ---- the end is next
 
 module _ (completeness : Completeness) (limits : Bounds) (e f : SurveyReader) (start mid now : Told)
-    (past : List Raw) (notes : List Noted) (found : List Offence) (end : log_end.End) (told : End)
+    (past : List Raw) (notes : List Noted) (found : List Offence) (end : log_end.SurveyEnd)
+    (told : SurveyEnd)
     (so : SoFar limits e start mid past notes found)
-    (next_is : NextIs e.log f.log mid now (Ok (next.End end))) (walk : f.walk ≡ e.walk)
+    (next_is : NextIs e.log f.log mid now (Ok (next.SurveyEnd end))) (walk : f.walk ≡ e.walk)
     (same : f.completeness ≡ completeness) (is : EndIs f end told) where
   at : (more : List Record)
       × streams.Ended limits f.log.log.format f.log start now (so.records ++ more) past end
@@ -326,16 +327,17 @@ module _ (completeness : Completeness) (limits : Bounds) (e f : SurveyReader) (s
       )
 
   walks : Walks f.walk notes
-  walks = subst (λ (w : Walk). Walks w notes) (sym walk) so.walks
+  walks = subst (λ (w : Replay). Walks w notes) (sym walk) so.walks
 
   terms_are : f.walk.events.docs.terms ≡ log_terms limits f.log.log.format
   terms_are =
       let known = (next_is limits e.log.log.format start so.records past so.due
       so.reads).1.reads.format_is in
-      ap (λ (w : Walk). w.events.docs.terms) walk ∙ so.terms_are ∙ ap (log_terms limits) (sym known)
+      ap (λ (w : Replay). w.events.docs.terms) walk ∙ so.terms_are
+      ∙ ap (log_terms limits) (sym known)
 
   lists : found ≡ offences f.walk.events.docs.terms notes
-  lists = so.lists ∙ ap (λ (w : Walk). offences w.events.docs.terms notes) (sym walk)
+  lists = so.lists ∙ ap (λ (w : Replay). offences w.events.docs.terms notes) (sym walk)
 
   pub ended_next : Ended completeness limits f start now past notes found told
   ended_next = ended_here completeness limits f start now (so.records ++ at.0) past notes found end

@@ -18,7 +18,7 @@ use Rattle.lsp_survey.specs.declared.offending.Judged.{Judged}
 use Rattle.lsp_survey.specs.declared.offending.Judged.TheVariants as heard
 use Rattle.lsp_survey.specs.declared.offending.OffendingEvent.{OffendingEvent}
 use Rattle.lsp_survey.specs.declared.notes.session_notes.SessionNotes.{SessionNotes}
-use Rattle.lsp_survey.specs.declared.walk.Walk.{Walk}
+use Rattle.lsp_survey.specs.declared.walk.Replay.{Replay}
 use Rattle.lsp_types.specs.declared.change.SyncKind.{SyncKind}
 use Rattle.lsp_types.specs.declared.position.Encoding.{Encoding}
 use Rattle.lsp_verdict.specs.Counting.{AreCounts}
@@ -68,7 +68,7 @@ broken_pushed terms notes n =
     (breaks_at (rule_at terms (events_of notes) n.event) n.asks)
 
 -- what is noted lost is lost
-pub noted_lost : (terms : Terms) (w : Walk) (notes : List Noted) (said : Option Call)
+pub noted_lost : (terms : Terms) (w : Replay) (notes : List Noted) (said : Option Call)
     → WalksBy terms w notes → is_noted_lost w.notes.map.entries said
     ≡ is_on_lost terms (events_of notes) said
 noted_lost terms w notes None walks = refl
@@ -78,7 +78,7 @@ noted_lost terms w notes (Some call) walks = ap (λ (n : Note). n.lost) (walks.n
 
 -- an event that offends by this rule, or is kept, and says this of a document, was counted and
 -- noted; what is held is what the kept events come to with it
-record Steps (terms : Terms) (old new : Walk) (notes : List Noted) (n : Noted) (rule : Option ℕ)
+record Steps (terms : Terms) (old new : Replay) (notes : List Noted) (n : Noted) (rule : Option ℕ)
     (said : Option Call) : Type 0 where
   pub rule_is : rule_at terms (events_of notes) n.event ≡ rule
   pub said_is : said_at terms (events_of notes) n.event ≡ said
@@ -90,7 +90,7 @@ record Steps (terms : Terms) (old new : Walk) (notes : List Noted) (n : Noted) (
   pub marked : AreMarks terms new.marks.map.entries (events_of notes ++ n.event ∷ [])
   pub told : AreNotes terms new.said (events_of notes ++ n.event ∷ [])
 
-walks_on : (terms : Terms) (old new : Walk) (notes : List Noted) (n : Noted) (rule : Option ℕ)
+walks_on : (terms : Terms) (old new : Replay) (notes : List Noted) (n : Noted) (rule : Option ℕ)
     (said : Option Call) → WalksBy terms old notes → Steps terms old new notes n rule said
     → Walks new (notes ++ n ∷ [])
 walks_on terms old new notes n rule said walks s =
@@ -128,7 +128,7 @@ kept_holds terms notes n rule m d is holds =
     ∙ kept-refused terms (events_of notes) n.event rule is)) holds
 
 -- it was passed over
-pub passed_over : (raw : Raw) (old new : Walk) (notes : List Noted) (n : Noted) (by : Who)
+pub passed_over : (raw : Raw) (old new : Replay) (notes : List Noted) (n : Noted) (by : Who)
     (rule : ℕ) (says : Encoding → SyncKind → Option Call) (enc : Encoding) (kind : SyncKind)
     (IsSuch : OffendingEvent → Type 0) (given : Judged) → Walks old notes → IsNoted raw n
     → whose n.event ≡ by → rule_at old.events.docs.terms (events_of notes) n.event ≡ Some rule
@@ -194,7 +194,7 @@ or_false true = refl
 or_false false = refl
 
 -- it was noted
-pub kept_on : (raw : Raw) (old new : Walk) (notes : List Noted) (n : Noted) (said : Option Call)
+pub kept_on : (raw : Raw) (old new : Replay) (notes : List Noted) (n : Noted) (said : Option Call)
     → Walks old notes → IsNoted raw n
     → rule_at old.events.docs.terms (events_of notes) n.event ≡ None
     → said_at old.events.docs.terms (events_of notes) n.event ≡ said

@@ -26,7 +26,7 @@ use Rattle.lsp_survey.specs.Walking.{IsOffending, Walks}
 use Rattle.lsp_survey.specs.declared.offending.FoundOffence.{FoundOffence}
 use Rattle.lsp_survey.specs.declared.offending.Judged.{Judged}
 use Rattle.lsp_survey.specs.declared.offending.Judged.TheVariants as heard
-use Rattle.lsp_survey.specs.declared.survey_reader.End.{End}
+use Rattle.lsp_survey.specs.declared.survey_reader.SurveyEnd.{SurveyEnd}
 use Rattle.lsp_survey.specs.declared.survey_reader.NextJudged.{NextJudged}
 use Rattle.lsp_survey.specs.declared.survey_reader.NextJudged.TheVariants as next
 use Rattle.lsp_survey.specs.declared.survey_reader.SurveyReader.{SurveyReader}
@@ -143,7 +143,7 @@ pub record IsSurveyOf (e : SurveyReader) (completeness : Completeness) (limits :
 -- **the log ended after these events**
 pub record Ended (completeness : Completeness) (limits : Bounds) (e : SurveyReader)
     (start now : Told) (past : List Raw) (notes : List Noted) (found : List Offence)
-    (end : End) : Type 0 where
+    (end : SurveyEnd) : Type 0 where
   pub of_read : OfRead limits start now
       (λ log. IsSurvey completeness limits log (found ++ map offence_view end.listed.items)
       (option_map verdict_view end.bad) (summary e.walk.events.docs.terms (events_of notes)))
@@ -173,7 +173,7 @@ abbrev pub Gives : Completeness → Bounds → SurveyReader → Told → Told �
     → List Offence → NextJudged → Type 0
 Gives completeness limits e start now past before found (next.Event given) =
     GaveEvent limits e start now past before found given
-Gives completeness limits e start now past before found (next.End end) =
+Gives completeness limits e start now past before found (next.SurveyEnd end) =
     Ended completeness limits e start now past before found end
 
 abbrev pub Pulls : Completeness → Bounds → SurveyReader → Told → Told → List Raw → List Noted
@@ -196,7 +196,7 @@ EndsAre e listed =
     (streams.ends_inside (decoder_of Server e.log.streams)))
 
 -- the end of the log, and its result
-abbrev pub EndIs : SurveyReader → log_end.End → End → Type 0
+abbrev pub EndIs : SurveyReader → log_end.SurveyEnd → SurveyEnd → Type 0
 EndIs e Sound end = EndsAre e end.listed.items × (end.bad ≡ None)
 EndIs e (Bad number fault) end = (end.listed.items ≡ []) × (end.bad ≡ Some (BadLog number fault))
 
@@ -211,7 +211,7 @@ GaveBehind front limits e start now past before found given =
 
 -- the records of the log do
 abbrev pub EndedBehind : List Record → Completeness → Bounds → SurveyReader → Told → Told → List Raw
-    → List Noted → List Offence → End → Type 0
+    → List Noted → List Offence → SurveyEnd → Type 0
 EndedBehind front completeness limits e start now past notes found end =
     OfRead limits start now (λ log. (is : IsSurveyOf e completeness limits log
     (found ++ map offence_view end.listed.items) (option_map verdict_view end.bad)
@@ -221,5 +221,5 @@ abbrev pub GivesBehind : List Record → Completeness → Bounds → SurveyReade
     → List Noted → List Offence → NextJudged → Type 0
 GivesBehind front completeness limits e start now past before found (next.Event given) =
     GaveBehind front limits e start now past before found given
-GivesBehind front completeness limits e start now past before found (next.End end) =
+GivesBehind front completeness limits e start now past before found (next.SurveyEnd end) =
     EndedBehind front completeness limits e start now past before found end

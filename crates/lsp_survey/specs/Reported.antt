@@ -9,7 +9,7 @@ use Rattle.lsp_frame.specs.Told.{Told, Took}
 use Rattle.lsp_survey.specs.Reads.{Ended}
 use Rattle.lsp_verdict.specs.declared.listing.Listing.{Listing}
 use Rattle.lsp_verdict.specs.declared.listing.Listing.TheVariants.{Causes, Every}
-use Rattle.lsp_survey.specs.declared.survey_reader.End.{End}
+use Rattle.lsp_survey.specs.declared.survey_reader.SurveyEnd.{SurveyEnd}
 use Rattle.lsp_survey.specs.declared.survey_reader.SurveyReader.{SurveyReader}
 use Rattle.lsp_survey.specs.declared.offence_count.OffenceCount.{OffenceCount}
 use Rattle.lsp_verdict.specs.Complete.{IsVerdictBy}
@@ -103,17 +103,18 @@ Reports completeness limits listing start now old new (Err fault) =
 
 -- the offences of the events were listed up to the log's end
 pub record Listed (completeness : Completeness) (limits : Bounds) (listing : Listing)
-    (e : SurveyReader) (t : OffenceCount) (start now old new : Told) (end : End) : Type 0 where
-  pub past : List Raw
-  pub notes : List Noted
-  pub found : List Offence
-  pub ended : Ended completeness limits e start now past notes found end
-  pub tally : IsTally t found
-  pub wrote : Wrote old new (lines_of listing found)
+    (e : SurveyReader) (t : OffenceCount) (start now old new : Told) (end : SurveyEnd) : Type 0
+  where
+    pub past : List Raw
+    pub notes : List Noted
+    pub found : List Offence
+    pub ended : Ended completeness limits e start now past notes found end
+    pub tally : IsTally t found
+    pub wrote : Wrote old new (lines_of listing found)
 
 abbrev pub Lists : Completeness → Bounds → Listing → SurveyReader → OffenceCount → Told → Told
     → Told
-    → Told → Result End RunFault → Type 0
+    → Told → Result SurveyEnd RunFault → Type 0
 Lists completeness limits listing e t start now old new (Ok end) =
     Listed completeness limits listing e t start now old new end
 Lists completeness limits listing e t start now old new (Err fault) =

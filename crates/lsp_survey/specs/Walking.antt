@@ -22,7 +22,7 @@ use Rattle.lsp_survey.specs.declared.offending.Judged.{Judged}
 use Rattle.lsp_survey.specs.declared.offending.Judged.TheVariants as heard
 use Rattle.lsp_survey.specs.declared.offending.OffendingEvent.{OffendingEvent}
 use Rattle.lsp_survey.specs.declared.offending.OffendingEvent.TheVariants as what
-use Rattle.lsp_survey.specs.declared.walk.Walk.{Walk}
+use Rattle.lsp_survey.specs.declared.walk.Replay.{Replay}
 use Rattle.lsp_types.specs.declared.change.SyncKind.{SyncKind}
 use Rattle.lsp_types.specs.declared.position.Encoding.{Encoding}
 use Rattle.lsp_types.specs.declared.side.Side.{Side}
@@ -42,7 +42,7 @@ use Rattle.lsp_verdict.specs.declared.verdict.Who.{Who}
 -- ---- what is held
 
 -- on these terms a walk has heard these events
-pub record WalksBy (terms : Terms) (w : Walk) (notes : List Noted) : Type 0 where
+pub record WalksBy (terms : Terms) (w : Replay) (notes : List Noted) : Type 0 where
   pub holds : Holds w.events.session w.events.docs (kept_of terms (events_of notes))
   pub counted : AreCounts w.events.counts (events_of notes)
   pub noted : (uri : List ℕ) → note_in w.notes.map.entries uri ≡ note_of terms uri (events_of notes)
@@ -52,7 +52,7 @@ pub record WalksBy (terms : Terms) (w : Walk) (notes : List Noted) : Type 0 wher
 
 -- **a walk has heard these events**, and skipped each that offends after the kept ones before
 -- it
-abbrev pub Walks : Walk → List Noted → Type 0
+abbrev pub Walks : Replay → List Noted → Type 0
 Walks w notes = WalksBy w.events.docs.terms w notes
 
 -- ---- one more event
@@ -62,7 +62,7 @@ abbrev pub IsRefused : Raw → Terms → List Noted → Refused → Type 0
 IsRefused raw terms before refused = Refuses raw terms (kept_of terms (events_of before)) refused
 
 -- a message of the side that is kept, the event of this number, was noted
-abbrev pub NotesMessage : ℕ → Side → Message → Act → Walk → Walk → Type 0
+abbrev pub NotesMessage : ℕ → Side → Message → Act → Replay → Replay → Type 0
 NotesMessage number side said act old new =
     ((enc : Encoding) (kind : SyncKind)
     → AreAfter None (call_of enc kind act) old.notes.map.entries new.notes.map.entries)
@@ -72,14 +72,14 @@ NotesMessage number side said act old new =
     → SaysOn number side said (phase sents) old.said new.said)
 
 -- a snapshot that is kept, the event of this number, was noted as it was answered
-abbrev pub NotesSnapshot : ℕ → List ℕ → ℤ → Match → Walk → Walk → Type 0
+abbrev pub NotesSnapshot : ℕ → List ℕ → ℤ → Match → Replay → Replay → Type 0
 NotesSnapshot number uri version answer old new =
     (new.notes ≡ old.notes)
     × ShownBy number uri version answer old.marks.map.entries new.marks.map.entries
     × (new.said ≡ old.said)
 
 -- the event that is kept, of this number, was noted
-abbrev pub NotesKept : ℕ → events.Judged → Walk → Walk → Type 0
+abbrev pub NotesKept : ℕ → events.Judged → Replay → Replay → Type 0
 NotesKept number (kept.Message side spoken) old new =
     NotesMessage number side (message_view spoken.message) (act_view spoken.act) old new
 NotesKept number (kept.Snapshot version uri text answer) old new =
@@ -87,7 +87,7 @@ NotesKept number (kept.Snapshot version uri text answer) old new =
 
 -- one more event of theirs was counted, which offends by this rule; the result of the kept events
 -- is as it was
-pub record Counted (old new : Walk) (by : Who) (rule : ℕ) (asks : Bool) : Type 0 where
+pub record Counted (old new : Replay) (by : Who) (rule : ℕ) (asks : Bool) : Type 0 where
   pub session : new.events.session ≡ old.events.session
   pub documents : new.events.docs ≡ old.events.docs
   pub counts : (events : List Event) (event : Event) → AreCounts old.events.counts events
@@ -115,7 +115,7 @@ IsShown number uri text other = ⊥
 
 -- an event of theirs that offends by this rule was skipped: it says this about a document, under
 -- what was agreed, and is such as was found
-pub record PassesOver (old new : Walk) (by : Who) (rule : ℕ) (asks : Bool)
+pub record PassesOver (old new : Replay) (by : Who) (rule : ℕ) (asks : Bool)
     (says : Encoding → SyncKind → Option Call) (IsSuch : OffendingEvent → Type 0)
     (given : Judged) : Type
     0 where
@@ -158,7 +158,7 @@ IsHeard raw terms before n heard.Kept = rule_at terms (events_of before) n.event
 IsHeard raw terms before n (heard.Offence found) = Offends raw terms before n found
 
 -- **one more event was heard after these**
-pub record Hears (raw : Raw) (terms : Terms) (w : Walk) (before : List Noted)
+pub record Hears (raw : Raw) (terms : Terms) (w : Replay) (before : List Noted)
     (given : Judged) : Type
     0 where
   pub n : Noted

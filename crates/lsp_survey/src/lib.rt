@@ -22,4 +22,4 @@ pub use notes::{Marks, SessionNotes, Setter, Shown};
 pub use offence_count::OffenceCount;
 pub use offending::{FoundOffence, Judged, OffendingEvent};
 pub use run::run_survey;
-pub use survey_reader::{End, NextJudged, SurveyReader};
+pub use survey_reader::{NextJudged, SurveyEnd, SurveyReader};

@@ -17,7 +17,7 @@ ghost use Rattle.lsp_verdict.specs.Verdict.{summary, yes};
 
 use crate::offence_count::OffenceCount;
 use crate::offending::Judged;
-use crate::survey_reader::{End, NextJudged, SurveyReader};
+use crate::survey_reader::{NextJudged, SurveyEnd, SurveyReader};
 use lsp_frame::{Limits, Sink, Source, put_all};
 use lsp_rpc::Memory;
 use lsp_verdict::{
@@ -110,7 +110,7 @@ fn list_events<R: Source, W: Sink>(
     writer: &mut W,
     listing: Listing,
     tally: &mut OffenceCount,
-) -> Result<End, RunFault>
+) -> Result<SurveyEnd, RunFault>
     requires tally { IsTally tally.old [] }
     requires fresh { IsFresh events.old (R.told reader.old) }
     ensures { (limits : Bounds) (start : Told)
@@ -121,7 +121,7 @@ fn list_events<R: Source, W: Sink>(
     loop {
         match events.next(reader)? {
             NextJudged::Event(heard) => list_heard(alloc, writer, listing, tally, heard)?,
-            NextJudged::End(end) => return Ok(end),
+            NextJudged::SurveyEnd(end) => return Ok(end),
         }
     }
 }
@@ -207,7 +207,7 @@ fn close<W: Sink>(
     writer: &mut W,
     listing: Listing,
     tally: &mut OffenceCount,
-    end: End,
+    end: SurveyEnd,
 ) -> Result<Verdict, RunFault>
     ensures { (completeness : Completeness) (limits : Bounds) (start now old : Told)
         → Listed completeness limits listing events.now tally.old start now old

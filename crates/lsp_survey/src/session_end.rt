@@ -9,7 +9,7 @@ ghost use Rattle.lsp_verdict.specs.Offences.{Noted, events_of, kept_of};
 ghost use Rattle.lsp_verdict.specs.Verdict.{no_next};
 ghost use Rattle.lsp_types.specs.declared.rules.TheConstants as rules;
 
-use crate::walk::Walk;
+use crate::walk::Replay;
 use lsp_rpc::Memory;
 use lsp_types::rules;
 use lsp_verdict::{Completeness, Counts, Offence, Who};
@@ -20,7 +20,7 @@ use std::alloc::Global;
 /// from the session.
 pub(crate) fn ends(
     alloc: Global,
-    walk: &Walk,
+    walk: &Replay,
     editor: bool,
     server: bool,
     completeness: Completeness,

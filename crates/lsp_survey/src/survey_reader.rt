@@ -18,14 +18,14 @@ ghost use Rattle.lsp_survey.specs.Reads.{SoFar};
 use crate::notes::{Marks, SessionNotes};
 use crate::offending::Judged;
 use crate::session_end::ends;
-use crate::walk::Walk;
+use crate::walk::Replay;
 use lsp_docs::Docs;
-use lsp_replay::{LogEvents, summary_of};
 use lsp_frame::{Format, Limits, Source};
 use lsp_lined::Lined;
+use lsp_replay as streams;
+use lsp_replay::{LogEvents, summary_of};
 use lsp_rpc::{Memory, Side};
 use lsp_session::Session;
-use lsp_replay as streams;
 use lsp_verdict::{Completeness, Offence, RunFault, Verdict};
 use std::alloc::Global;
 
@@ -33,7 +33,7 @@ use std::alloc::Global;
 pub struct SurveyReader {
     alloc: Global,
     log: LogEvents,
-    pub(crate) walk: Walk,
+    pub(crate) walk: Replay,
     completeness: Completeness,
 }
 
@@ -54,12 +54,12 @@ pub enum NextJudged {
     /// An event.
     Event(Judged),
     /// Its end.
-    End(End),
+    SurveyEnd(SurveyEnd),
 }
 
 /// How a log ends.
 #[derive(Drop)]
-pub struct End {
+pub struct SurveyEnd {
     /// What is listed of the end of the session; nothing where the log has a fault.
     pub listed: Vec<Offence>,
     /// The fault of the log, if it has one.
@@ -88,7 +88,7 @@ impl SurveyReader {
         Ok(SurveyReader {
             alloc,
             log,
-            walk: Walk::new(alloc, limits, format),
+            walk: Replay::new(alloc, limits, format),
             completeness,
         })
     }
@@ -126,7 +126,7 @@ impl SurveyReader {
             Ok(streams::NextJudged::Event(raw)) => Ok(NextJudged::Event(
                 self.walk.hear(self.alloc, raw)?,
             )),
-            Ok(streams::NextJudged::End(end)) => Ok(NextJudged::End(self.end(end)?)),
+            Ok(streams::NextJudged::SurveyEnd(end)) => Ok(NextJudged::SurveyEnd(self.end(end)?)),
         }
     }
 
@@ -206,15 +206,15 @@ impl SurveyReader {
     }
 
     /// The result of the end of the log.
-    fn end(&self, end: streams::End) -> Result<End, Memory>
+    fn end(&self, end: streams::SurveyEnd) -> Result<SurveyEnd, Memory>
         ensures { IfOk result (λ told. EndIs self.now end told) }
     {
         match end {
-            streams::End::Sound => Ok(End {
+            streams::SurveyEnd::Sound => Ok(SurveyEnd {
                 listed: self.ends()?,
                 bad: None,
             }),
-            streams::End::Bad { number, fault } => Ok(End {
+            streams::SurveyEnd::Bad { number, fault } => Ok(SurveyEnd {
                 listed: Vec::new(self.alloc),
                 bad: Some(Verdict::BadLog { number, fault }),
             }),

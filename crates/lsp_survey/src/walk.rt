@@ -25,10 +25,10 @@ use crate::notes::{
     note_kept_act, note_refused, note_refused_act, wants_handshake, wants_text,
 };
 use crate::offending::{FoundOffence, Judged, OffendingEvent};
-use lsp_replay as events;
-use lsp_replay::{Events, Refused};
 use lsp_frame::{Format, Limits};
 use lsp_lined::Lined;
+use lsp_replay as events;
+use lsp_replay::{Events, Refused};
 use lsp_rpc::{Memory, Side, Spoken};
 use lsp_verdict::{Completeness, Counts, Offence, Raw, Who, who_of};
 use std::alloc::Global;
@@ -37,7 +37,7 @@ use std::alloc::Global;
 ///
 /// Session and documents hold the kept ones, the counts are of all.
 #[derive(Drop)]
-pub(crate) struct Walk {
+pub(crate) struct Replay {
     pub events: Events<Lined>,
     notes: Notes,
     /// Whether an event of the handshake was refused.
@@ -48,13 +48,13 @@ pub(crate) struct Walk {
     pub said: SessionNotes,
 }
 
-impl Walk {
+impl Replay {
     /// A walk that heard nothing, of a log of this format.
-    pub(crate) fn new(alloc: Global, limits: Limits, format: Format) -> Walk
+    pub(crate) fn new(alloc: Global, limits: Limits, format: Format) -> Replay
         ensures terms { result.events.docs.terms ≡ terms_of limits format }
         ensures walks { Walks result [] }
     {
-        Walk {
+        Replay {
             events: Events::new(alloc, limits, format),
             notes: Notes::new(alloc),
             broken: false,

@@ -9,7 +9,7 @@ ghost use Rattle.lsp_explain.specs.Part.{part_view};
 
 use crate::facts::fact::Fact;
 use crate::facts::fact_list::FactList;
-use crate::facts::part::{Part, part_at, same_front};
+use crate::facts::part::{Excerpt, part_at, same_front};
 use lsp_text::first_difference;
 use lsp_types::{Encoding, Memory};
 use std::alloc::Global;
@@ -48,7 +48,7 @@ pub(crate) fn difference(
 }
 
 /// A line of the other text.
-fn line_fact(against: Against, line: Part) -> Fact
+fn line_fact(against: Against, line: Excerpt) -> Fact
     ensures { fact_view result ≡ line_fact against (part_view line) }
 {
     match against {

@@ -1,5 +1,5 @@
 //! What an explanation says.
-use crate::facts::part::Part;
+use crate::facts::part::Excerpt;
 use lsp_rpc::Id;
 use lsp_session::Phase;
 use lsp_types::{Encoding, Position, Span, SyncKind};
@@ -42,11 +42,11 @@ pub enum Fact {
     At(Position),
     /// The line of the text that the messages make there, its line end included; of a long one the
     /// part around the first character that differs in the two lines.
-    ByMessages(Part),
+    ByMessages(Excerpt),
     /// The same of the text of a snapshot.
-    InEditor(Part),
+    InEditor(Excerpt),
     /// The same of the text that was saved.
-    SavedLine(Part),
+    SavedLine(Excerpt),
     /// The versions that are kept in addition to the held one.
     Kept(Vec<i32>),
     /// The id in the message. `None` where it is null.

@@ -15,7 +15,7 @@ ghost use Rattle.lsp_explain.specs.Lines as spec;
 ghost use Rattle.lsp_explain.specs.Part.{part_view};
 
 use crate::facts::fact::Fact;
-use crate::facts::part::Part;
+use crate::facts::part::Excerpt;
 use lsp_rpc::{Id, Memory, Message, RpcFault, push_id, push_quoted, read, words_of};
 use lsp_session::Phase;
 use lsp_types::{Encoding, Position, Span, SyncKind, rules};
@@ -82,7 +82,7 @@ fn push_quoted_text(alloc: Global, lines: &mut String, text: &str) -> Result<(),
 
 /// Adds a key and a line of a document as JSON; of a part of one, how many characters are left out
 /// before and after it.
-fn push_part(alloc: Global, lines: &mut String, key: &str, part: &Part) -> Result<(), Memory>
+fn push_part(alloc: Global, lines: &mut String, key: &str, part: &Excerpt) -> Result<(), Memory>
     ensures { OnOk result (string_bytes lines.new ≡ string_bytes lines.old
         ++ spec.part_line key.now (part_view part.now)) }
 {
@@ -94,13 +94,13 @@ fn push_part(alloc: Global, lines: &mut String, key: &str, part: &Part) -> Resul
 
 /// Adds a key and a part of a line as JSON, and how many characters are left out before and after
 /// it.
-fn push_cut(alloc: Global, lines: &mut String, key: &str, part: &Part) -> Result<(), Memory>
+fn push_cut(alloc: Global, lines: &mut String, key: &str, part: &Excerpt) -> Result<(), Memory>
     ensures { OnOk result (string_bytes lines.new ≡ string_bytes lines.old
         ++ spec.cut_line key.now (part_view part.now)) }
 {
     write!(lines, "{key} ")?;
     push_quoted_text(alloc, lines, part.text.as_str())?;
-    let Part { before, after, .. } = part;
+    let Excerpt { before, after, .. } = part;
     writeln!(lines, " cut {before} {after}")?;
     Ok(())
 }

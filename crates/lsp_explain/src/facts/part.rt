@@ -15,7 +15,7 @@ const SHOWN_BEFORE: usize = 100;
 
 /// A line of a document, or the part of it around a place.
 #[derive(Debug, Drop, PartialEq, Eq)]
-pub struct Part {
+pub struct Excerpt {
     /// How many characters of the line are left out before the text.
     pub before: u64,
     pub text: String,
@@ -35,13 +35,13 @@ pub(crate) fn same_front(first: &str, second: &str) -> usize
 }
 
 /// A line, or the part of it around the place after this many of its characters.
-pub(crate) fn part_at(alloc: Global, line: &str, place: usize) -> Result<Part, Memory>
+pub(crate) fn part_at(alloc: Global, line: &str, place: usize) -> Result<Excerpt, Memory>
     ensures { IfOk result (λ part. spec.part_view part ≡ spec.part_at place (chars line.now)) }
 {
     let count = char_count(line);
     let before = left_before(count, place);
     let text = shown_text(alloc, line, before)?;
-    Ok(Part {
+    Ok(Excerpt {
         before: before as u64,
         text,
         after: left_after(count, before) as u64,

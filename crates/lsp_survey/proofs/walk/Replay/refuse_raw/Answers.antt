@@ -3,7 +3,7 @@ use Rattle.std.proofs.lemmas.Int.{to_z-of_z}
 use Rattle.std.proofs.lemmas.Result.{IfOk-weaker}
 use mir.Val.{SFits}
 use Rattle.lsp_survey.proofs.Hearing.{content_refused, frames_refused, snapshot_refused}
-use Rattle.lsp_survey.proofs.walk.Walk.refuse_raw.Goals as goal
+use Rattle.lsp_survey.proofs.walk.Replay.refuse_raw.Goals as goal
 
 pub returns-in-Content-clause-heard : goal.returns-in-Content-clause-heard
 returns-in-Content-clause-heard c =

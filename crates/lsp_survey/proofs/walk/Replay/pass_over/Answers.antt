@@ -1,7 +1,7 @@
 use Rattle.std.proofs.lemmas.Result.{IfOk-weaker}
 use Rattle.lsp_verdict.specs.Lent.{raw_view}
 use Rattle.lsp_survey.proofs.Hearing.{message_refused}
-use Rattle.lsp_survey.proofs.walk.Walk.pass_over.Goals as goal
+use Rattle.lsp_survey.proofs.walk.Replay.pass_over.Goals as goal
 
 pub returns-in-Message-clause-heard : goal.returns-in-Message-clause-heard
 returns-in-Message-clause-heard c =

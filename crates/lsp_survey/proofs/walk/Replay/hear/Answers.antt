@@ -5,7 +5,7 @@ use Rattle.lsp_verdict.specs.Lent.{raw_view}
 use Rattle.lsp_verdict.specs.Offences.{events_of, kept_of}
 use Rattle.lsp_survey.specs.Walking.{Hears, IsRefused}
 use Rattle.lsp_survey.proofs.Hearing.{kept_heard, noted_after, still_walks}
-use Rattle.lsp_survey.proofs.walk.Walk.hear.Goals as goal
+use Rattle.lsp_survey.proofs.walk.Replay.hear.Goals as goal
 
 pub returns-in-Ok-clause-heard : goal.returns-in-Ok-clause-heard
 returns-in-Ok-clause-heard c =

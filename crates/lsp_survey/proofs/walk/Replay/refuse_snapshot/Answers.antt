@@ -10,7 +10,7 @@ use Rattle.lsp_survey.specs.declared.notes.note.Notes.{Notes}
 use Rattle.lsp_survey.specs.declared.offending.OffendingEvent.TheVariants.{Snapshot}
 use Rattle.lsp_verdict.specs.Given.{given_offence}
 use Rattle.lsp_verdict.specs.declared.verdict.Who.TheVariants as who
-use Rattle.lsp_survey.proofs.walk.Walk.refuse_snapshot.Goals as goal
+use Rattle.lsp_survey.proofs.walk.Replay.refuse_snapshot.Goals as goal
 
 pub returns-clause-passes : goal.returns-clause-passes
 returns-clause-passes c =

@@ -2,7 +2,7 @@ use Rattle.std.proofs.Common.{None, Some, refl, sym, subst}
 use Rattle.lsp_survey.specs.Notes.{AreAfter}
 use Rattle.lsp_survey.specs.declared.notes.note.Notes.{Notes}
 use Rattle.lsp_survey.proofs.Noting.{nothing_said}
-use Rattle.lsp_survey.proofs.walk.Walk.refuse_frames.Goals as goal
+use Rattle.lsp_survey.proofs.walk.Replay.refuse_frames.Goals as goal
 
 pub returns-clause-passes : goal.returns-clause-passes
 returns-clause-passes c =

@@ -1,5 +1,5 @@
 use Rattle.std.proofs.Common.{refl}
-use Rattle.lsp_survey.proofs.walk.Walk.new.Goals as goal
+use Rattle.lsp_survey.proofs.walk.Replay.new.Goals as goal
 
 pub returns-clause-walks : goal.returns-clause-walks
 returns-clause-walks c = record {

@@ -1,7 +1,7 @@
 use Rattle.std.specs.Prelude.{unwrap_or}
 use Rattle.std.proofs.Common.{◌∙◌}
 use Rattle.lsp_survey.specs.Asking.{leads}
-use Rattle.lsp_survey.proofs.walk.Walk.note_message.Goals as goal
+use Rattle.lsp_survey.proofs.walk.Replay.note_message.Goals as goal
 use Rattle.lsp_docs.proofs.Faults.{on_ok_two}
 
 pub returns-clause-noted : goal.returns-clause-noted
