@@ -14,7 +14,7 @@ mod documents;
 mod edges;
 mod fact;
 mod fact_list;
-mod flaws;
+mod faults;
 mod lines;
 mod making;
 mod messages;
@@ -25,7 +25,7 @@ mod waiting;
 
 pub use documents::{act_facts, snapshot_facts};
 pub use fact::Fact;
-pub use flaws::{flaw_facts, frame_facts, unfinished_facts};
+pub use faults::{flaw_facts, frame_facts, unfinished_facts};
 pub use lines::{
     push_bare_event, push_content_event, push_details, push_end_event, push_message_event, usual,
 };

@@ -8,9 +8,9 @@
 
 mod facts;
 mod laws;
+mod offence_facts;
 mod run;
 mod run_all;
-mod said;
 mod suspects;
 mod trace;
 

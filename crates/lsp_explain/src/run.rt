@@ -23,7 +23,7 @@ ghost use Rattle.lsp_explain.specs.RunSteps.{flaw_held, side_of, summary_behind}
 ghost use Rattle.lsp_explain.specs.Standing.{StandsAfter, terms_in};
 
 use crate::facts::{flaw_facts, push_details};
-use crate::said::{push_end, push_said};
+use crate::offence_facts::{push_end, push_said};
 use lsp_frame::{Limits, Sink, Source, put_all};
 use lsp_rpc::{Memory, Side};
 use lsp_survey::{FoundOffence, Judged, NextJudged, OffendingEvent, SurveyEnd, SurveyReader};

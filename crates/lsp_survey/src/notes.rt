@@ -7,19 +7,19 @@
 //! [`wants_handshake`] and [`wants_text`] say whether it may follow from an earlier one, and
 //! [`breaks_handshake`] whether it leaves the handshake lost.
 
-mod asks;
+mod documents;
 mod exchange;
+mod handshake;
 mod mark;
 mod marks;
 mod note;
 mod rules;
-mod said;
 mod session_notes;
 
-pub(crate) use asks::{asks_again, asks_handshake};
+pub(crate) use documents::{is_on_lost, note_kept_act, note_refused, note_refused_act};
+pub(crate) use handshake::{asks_again, asks_handshake};
 pub use mark::{Setter, Shown};
 pub use marks::Marks;
 pub(crate) use note::{Note, Notes};
 pub(crate) use rules::{breaks_handshake, wants_handshake, wants_text};
-pub(crate) use said::{is_on_lost, note_kept_act, note_refused, note_refused_act};
 pub use session_notes::SessionNotes;

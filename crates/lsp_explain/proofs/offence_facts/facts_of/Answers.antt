@@ -14,7 +14,7 @@ use Rattle.lsp_explain.specs.MessageFacts.{content_facts}
 use Rattle.lsp_explain.specs.RunSteps.{ShowsFault}
 use Rattle.lsp_explain.specs.Standing.{terms_in}
 use Rattle.lsp_explain.proofs.SaidFacts.{facts_said}
-use Rattle.lsp_explain.proofs.said.facts_of.Goals as goal
+use Rattle.lsp_explain.proofs.offence_facts.facts_of.Goals as goal
 
 pub returns-in-Frames : goal.returns-in-Frames
 returns-in-Frames c = IfOk-weaker c.frame_facts.result _ _

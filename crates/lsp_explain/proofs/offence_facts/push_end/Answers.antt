@@ -6,7 +6,7 @@ use Rattle.lsp_explain.specs.Explained.{end_facts}
 use Rattle.lsp_explain.specs.Fact.{facts_view}
 use Rattle.lsp_explain.specs.Lines.{detail_lines, end_event, fact_lines, usual_line}
 use Rattle.lsp_explain.specs.Standing.{terms_in}
-use Rattle.lsp_explain.proofs.said.push_end.Goals as goal
+use Rattle.lsp_explain.proofs.offence_facts.push_end.Goals as goal
 
 pub returns : goal.returns
 returns c = IfOk-weaker c.push_details.result _ _ (λ u says rests before stands held.

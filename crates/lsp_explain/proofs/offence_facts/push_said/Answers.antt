@@ -5,7 +5,7 @@ use Rattle.lsp_verdict.specs.Offences.{kept_of}
 use Rattle.lsp_explain.specs.Fact.{facts_view}
 use Rattle.lsp_explain.specs.Lines.{detail_lines, event_line, fact_lines, usual_line}
 use Rattle.lsp_explain.specs.Standing.{terms_in}
-use Rattle.lsp_explain.proofs.said.push_said.Goals as goal
+use Rattle.lsp_explain.proofs.offence_facts.push_said.Goals as goal
 
 pub returns : goal.returns
 returns c = IfOk-weaker c.push_details.result _ _

@@ -5,7 +5,7 @@ use Rattle.lsp_docs.specs.Calls.{opens, changes, closes, saves}
 use Rattle.lsp_rpc.specs.View.{changes_view}
 use Rattle.lsp_verdict.specs.Calls.{edit_of}
 use Rattle.lsp_survey.proofs.Noting.{some_changes}
-use Rattle.lsp_survey.proofs.notes.said.note_refused_act.Goals as goal
+use Rattle.lsp_survey.proofs.notes.documents.note_refused_act.Goals as goal
 
 pub returns-in-DidOpen : goal.returns-in-DidOpen
 returns-in-DidOpen c =

@@ -3,7 +3,7 @@ use Rattle.std.proofs.lemmas.Result.{IfOk-weaker}
 use Rattle.lsp_explain.specs.Lines.{content_event, content_message}
 use Rattle.lsp_survey.specs.Walking.{IsOffending}
 use Rattle.lsp_explain.proofs.SaidFacts.{line_said}
-use Rattle.lsp_explain.proofs.said.push_event.Goals as goal
+use Rattle.lsp_explain.proofs.offence_facts.push_event.Goals as goal
 
 pub returns-in-Frames : goal.returns-in-Frames
 returns-in-Frames c = IfOk-weaker c.push_bare_event.result _ _
