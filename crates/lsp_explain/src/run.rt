@@ -123,7 +123,7 @@ fn explain_first<R: Source>(
                     return Ok(explanation);
                 }
             }
-            NextJudged::SurveyEnd(end) => return Ok(explain_end(alloc, events, end)?),
+            NextJudged::End(end) => return Ok(explain_end(alloc, events, end)?),
         }
     }
 }

@@ -111,7 +111,7 @@ fn explain_events<R: Source, W: Sink>(
     loop {
         match events.next(reader)? {
             NextJudged::Event(heard) => explain_heard(alloc, events, writer, tally, heard)?,
-            NextJudged::SurveyEnd(end) => return Ok(end),
+            NextJudged::End(end) => return Ok(end),
         }
     }
 }

@@ -137,7 +137,7 @@ module _ (old new : Replay) (notes : List Noted) (number : ℕ) (walks : Walks o
       (other_unsaid terms new.said events n.event
       (subst (λ (m : SessionNotes). AreNotes terms m events) (sym noted.2) walks.said) refl)
 
-  by_event : (raw : Raw) (given : lent.Judged) (event : Event) → Reads raw event
+  by_event : (raw : Raw) (given : lent.Heard) (event : Event) → Reads raw event
       → IsHeard event given → AnswersAs terms before given → offence terms before event ≡ None
       → Holds new.events.session new.events.docs (before ++ event ∷ [])
       → AreCounts new.events.counts (events ++ event ∷ []) → NotesKept number given old new
@@ -175,7 +175,7 @@ module _ (old new : Replay) (notes : List Noted) (number : ℕ) (walks : Walks o
       noted
 
 -- what was noted before is all that matters
-pub noted_after : (number : ℕ) (given : lent.Judged) (mid old new : Replay) → mid.notes ≡ old.notes
+pub noted_after : (number : ℕ) (given : lent.Heard) (mid old new : Replay) → mid.notes ≡ old.notes
     → mid.marks ≡ old.marks → mid.said ≡ old.said → NotesKept number given mid new
     → NotesKept number given old new
 noted_after number (kept.Message side spoken) mid old new notes marks said noted =
@@ -199,7 +199,7 @@ noted_after number (kept.Snapshot version uri text answer) mid old new notes mar
 
 -- the next event was heard, kept and noted
 pub kept_heard : (raw : Raw) (old new : Replay) (notes : List Noted) (number : ℕ)
-    (given : lent.Judged) (m : session.State) (d : docs.State) (c : Counts) → Walks old notes
+    (given : lent.Heard) (m : session.State) (d : docs.State) (c : Counts) → Walks old notes
     → number ≡ number_next (events_of notes) → d.terms ≡ old.events.docs.terms
     → new.events.session ≡ m → new.events.docs ≡ d → new.events.counts ≡ c
     → new.broken ≡ old.broken

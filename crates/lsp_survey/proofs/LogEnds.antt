@@ -132,7 +132,7 @@ ends_few None events kept false false Required = by_rule (incomplete (sent_in ke
 -- the log ended, all of whose events are these
 module _ (completeness : Completeness) (limits : Bounds) (e : SurveyReader) (start now : Told)
     (records : List Record) (past : List Raw) (notes : List Noted) (found : List Offence)
-    (end : log_end.SurveyEnd) (told : SurveyEnd)
+    (end : log_end.End) (told : SurveyEnd)
     (ended : streams.Ended limits e.log.log.format e.log start now records past end)
     (are_noted : AllZip IsNoted past notes) (walks : Walks e.walk notes)
     (terms_are : e.walk.events.docs.terms ≡ log_terms limits e.log.log.format)
@@ -175,7 +175,7 @@ module _ (completeness : Completeness) (limits : Bounds) (e : SurveyReader) (sta
       (ending flaw editor.0 server.0))
   listed_given = by_end end is
     where
-      by_end : (o : log_end.SurveyEnd) → EndIs e o told
+      by_end : (o : log_end.End) → EndIs e o told
           → map offence_view told.listed.items
           ≡ map given_by (ends_listed completeness own (events_of notes)
           (ending (flaw_of o) editor.0 server.0))
@@ -204,7 +204,7 @@ module _ (completeness : Completeness) (limits : Bounds) (e : SurveyReader) (sta
   bad_is : option_map verdict_view told.bad ≡ bad_log_of flaw
   bad_is = by_end end is
     where
-      by_end : (o : log_end.SurveyEnd) → EndIs e o told
+      by_end : (o : log_end.End) → EndIs e o told
           → option_map verdict_view told.bad ≡ bad_log_of (flaw_of o)
       by_end Sound (are, none) = ap (option_map verdict_view) none
       by_end (Bad number fault) (none, bad) = ap (option_map verdict_view) bad
@@ -212,7 +212,7 @@ module _ (completeness : Completeness) (limits : Bounds) (e : SurveyReader) (sta
   met : told.bad ≡ None → IsAtEnd now.bytes
   met none = by_end end is ended.ends.met
     where
-      by_end : (o : log_end.SurveyEnd) → EndIs e o told → (flaw_of o ≡ None → IsAtEnd now.bytes)
+      by_end : (o : log_end.End) → EndIs e o told → (flaw_of o ≡ None → IsAtEnd now.bytes)
           → IsAtEnd now.bytes
       by_end Sound (are, none) met = met refl
       by_end (Bad number fault) (empty, bad) met = absurd (cc (sym none ∙ bad))
@@ -312,10 +312,10 @@ module _ (completeness : Completeness) (limits : Bounds) (e : SurveyReader) (sta
 -- ---- the end is next
 
 module _ (completeness : Completeness) (limits : Bounds) (e f : SurveyReader) (start mid now : Told)
-    (past : List Raw) (notes : List Noted) (found : List Offence) (end : log_end.SurveyEnd)
+    (past : List Raw) (notes : List Noted) (found : List Offence) (end : log_end.End)
     (told : SurveyEnd)
     (so : SoFar limits e start mid past notes found)
-    (next_is : NextIs e.log f.log mid now (Ok (next.SurveyEnd end))) (walk : f.walk ≡ e.walk)
+    (next_is : NextIs e.log f.log mid now (Ok (next.End end))) (walk : f.walk ≡ e.walk)
     (same : f.completeness ≡ completeness) (is : EndIs f end told) where
   at : (more : List Record)
       × streams.Ended limits f.log.log.format f.log start now (so.records ++ more) past end

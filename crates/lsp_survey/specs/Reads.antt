@@ -173,7 +173,7 @@ abbrev pub Gives : Completeness → Bounds → SurveyReader → Told → Told �
     → List Offence → NextJudged → Type 0
 Gives completeness limits e start now past before found (next.Event given) =
     GaveEvent limits e start now past before found given
-Gives completeness limits e start now past before found (next.SurveyEnd end) =
+Gives completeness limits e start now past before found (next.End end) =
     Ended completeness limits e start now past before found end
 
 abbrev pub Pulls : Completeness → Bounds → SurveyReader → Told → Told → List Raw → List Noted
@@ -196,7 +196,7 @@ EndsAre e listed =
     (streams.ends_inside (decoder_of Server e.log.streams)))
 
 -- the end of the log, and its result
-abbrev pub EndIs : SurveyReader → log_end.SurveyEnd → SurveyEnd → Type 0
+abbrev pub EndIs : SurveyReader → log_end.End → SurveyEnd → Type 0
 EndIs e Sound end = EndsAre e end.listed.items × (end.bad ≡ None)
 EndIs e (Bad number fault) end = (end.listed.items ≡ []) × (end.bad ≡ Some (BadLog number fault))
 
@@ -221,5 +221,5 @@ abbrev pub GivesBehind : List Record → Completeness → Bounds → SurveyReade
     → List Noted → List Offence → NextJudged → Type 0
 GivesBehind front completeness limits e start now past before found (next.Event given) =
     GaveBehind front limits e start now past before found given
-GivesBehind front completeness limits e start now past before found (next.SurveyEnd end) =
+GivesBehind front completeness limits e start now past before found (next.End end) =
     EndedBehind front completeness limits e start now past before found end

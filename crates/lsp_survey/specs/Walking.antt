@@ -79,7 +79,7 @@ NotesSnapshot number uri version answer old new =
     × (new.said ≡ old.said)
 
 -- the event that is kept, of this number, was noted
-abbrev pub NotesKept : ℕ → events.Judged → Replay → Replay → Type 0
+abbrev pub NotesKept : ℕ → events.Heard → Replay → Replay → Type 0
 NotesKept number (kept.Message side spoken) old new =
     NotesMessage number side (message_view spoken.message) (act_view spoken.act) old new
 NotesKept number (kept.Snapshot version uri text answer) old new =

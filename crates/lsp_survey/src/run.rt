@@ -121,7 +121,7 @@ fn list_events<R: Source, W: Sink>(
     loop {
         match events.next(reader)? {
             NextJudged::Event(heard) => list_heard(alloc, writer, listing, tally, heard)?,
-            NextJudged::SurveyEnd(end) => return Ok(end),
+            NextJudged::End(end) => return Ok(end),
         }
     }
 }

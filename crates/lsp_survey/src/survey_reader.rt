@@ -22,7 +22,7 @@ use crate::walk::Replay;
 use lsp_docs::Docs;
 use lsp_frame::{Format, Limits, Source};
 use lsp_lined::Lined;
-use lsp_replay as streams;
+use lsp_replay as replay;
 use lsp_replay::{LogEvents, summary_of};
 use lsp_rpc::{Memory, Side};
 use lsp_session::Session;
@@ -54,7 +54,7 @@ pub enum NextJudged {
     /// An event.
     Event(Judged),
     /// Its end.
-    SurveyEnd(SurveyEnd),
+    End(SurveyEnd),
 }
 
 /// How a log ends.
@@ -123,10 +123,8 @@ impl SurveyReader {
     {
         match self.log.next(reader) {
             Err(fault) => Err(fault),
-            Ok(streams::NextJudged::Event(raw)) => Ok(NextJudged::Event(
-                self.walk.hear(self.alloc, raw)?,
-            )),
-            Ok(streams::NextJudged::SurveyEnd(end)) => Ok(NextJudged::SurveyEnd(self.end(end)?)),
+            Ok(replay::Next::Event(raw)) => Ok(NextJudged::Event(self.walk.hear(self.alloc, raw)?)),
+            Ok(replay::Next::End(end)) => Ok(NextJudged::End(self.end(end)?)),
         }
     }
 
@@ -206,15 +204,15 @@ impl SurveyReader {
     }
 
     /// The result of the end of the log.
-    fn end(&self, end: streams::SurveyEnd) -> Result<SurveyEnd, Memory>
+    fn end(&self, end: replay::End) -> Result<SurveyEnd, Memory>
         ensures { IfOk result (λ told. EndIs self.now end told) }
     {
         match end {
-            streams::SurveyEnd::Sound => Ok(SurveyEnd {
+            replay::End::Sound => Ok(SurveyEnd {
                 listed: self.ends()?,
                 bad: None,
             }),
-            streams::SurveyEnd::Bad { number, fault } => Ok(SurveyEnd {
+            replay::End::Bad { number, fault } => Ok(SurveyEnd {
                 listed: Vec::new(self.alloc),
                 bad: Some(Verdict::BadLog { number, fault }),
             }),

@@ -27,7 +27,7 @@ use crate::notes::{
 use crate::offending::{FoundOffence, Judged, OffendingEvent};
 use lsp_frame::{Format, Limits};
 use lsp_lined::Lined;
-use lsp_replay as events;
+use lsp_replay as replay;
 use lsp_replay::{Events, Refused};
 use lsp_rpc::{Memory, Side, Spoken};
 use lsp_verdict::{Completeness, Counts, Offence, Raw, Who, who_of};
@@ -88,7 +88,7 @@ impl Replay {
     }
 
     /// Takes over the event of this number, which was heard and is kept.
-    fn keep(&mut self, number: u64, kept: events::Judged<'_>) -> Result<Judged, Memory>
+    fn keep(&mut self, number: u64, kept: replay::Heard<'_>) -> Result<Judged, Memory>
         ensures same { (self.new.events ≡ self.old.events) × (self.new.broken ≡ self.old.broken) }
         ensures keeps { IfOk result (λ heard. (heard ≡ Judged.Kept)
             × NotesKept number kept.entry self.old self.new) }
@@ -100,13 +100,13 @@ impl Replay {
     }
 
     /// Notes the event of this number, which was heard and is kept.
-    fn note(&mut self, number: u64, kept: &events::Judged<'_>) -> Result<(), Memory>
+    fn note(&mut self, number: u64, kept: &replay::Heard<'_>) -> Result<(), Memory>
         ensures same { (self.new.events ≡ self.old.events) × (self.new.broken ≡ self.old.broken) }
         ensures noted { OnOk result (NotesKept number kept.now self.old self.new) }
     {
         match kept {
-            events::Judged::Message { side, spoken } => self.note_message(number, *side, spoken),
-            events::Judged::Snapshot {
+            replay::Heard::Message { side, spoken } => self.note_message(number, *side, spoken),
+            replay::Heard::Snapshot {
                 version,
                 uri,
                 text: _,
