@@ -16,8 +16,8 @@ use clap::Error;
 use clap::error::ErrorKind;
 pub use lsp_command::status_of;
 use lsp_command::{
-    Hint, Input, Output, Request, Slip, TaskOutcome, hint_of, only_word, remark_of, report_apart,
-    request_of, run_through, status_of_task, status_of_words, uri_alone,
+    BufferedInput, BufferedOutput, Hint, Request, Slip, TaskOutcome, hint_of, only_word, remark_of,
+    report_apart, request_of, run_through, status_of_task, status_of_words, uri_alone,
 };
 use lsp_judge::RunFault;
 use progress::{MakingWay, Progress, Watched};
@@ -39,9 +39,9 @@ struct Terminals {
 #[derive(Clone, Copy)]
 enum Advice {
     /// Why the input could not be read.
-    Input(io::Error),
+    BufferedInput(io::Error),
     /// Why standard output could not be written.
-    Output(io::Error),
+    BufferedOutput(io::Error),
     /// What the input seems to be.
     Hint(Hint),
 }
@@ -70,17 +70,17 @@ fn run_on<R: Print + Eprint + AllocGlobal, I: Read + Drop>(
     progress: &Progress<'_, R>,
 ) -> Ended {
     let alloc = rt.alloc();
-    let Ok(mut input) = Input::new(alloc, Watched::new(progress, input)) else {
+    let Ok(mut input) = BufferedInput::new(alloc, Watched::new(progress, input)) else {
         return Ended::by(RunFault::Memory);
     };
-    let Ok(mut output) = Output::new(alloc, MakingWay::new(progress, io::writer(rt))) else {
+    let Ok(mut output) = BufferedOutput::new(alloc, MakingWay::new(progress, io::writer(rt))) else {
         return Ended::by(RunFault::Memory);
     };
     let limits = request.limits();
     let answer = run_through(alloc, request.task, &mut input, &mut output, limits);
     let advice = match answer {
-        Err(RunFault::Read) => input.cause().map(Advice::Input),
-        Err(RunFault::Write) => output.cause().map(Advice::Output),
+        Err(RunFault::Read) => input.cause().map(Advice::BufferedInput),
+        Err(RunFault::Write) => output.cause().map(Advice::BufferedOutput),
         _ => hint_of(&answer, input.beginning().as_slice()).map(Advice::Hint),
     };
     Ended { answer, advice }
@@ -110,7 +110,7 @@ fn size_of<F: OpenFile>(file: &F) -> Option<u64> {
 }
 
 /// Runs over the file, or over standard input.
-fn run<R: Files + io::Input + Print + Eprint + AllocGlobal>(
+fn run<R: Files + io::BufferedInput + Print + Eprint + AllocGlobal>(
     rt: &R,
     request: &Request<'_>,
     terminals: Terminals,
@@ -125,7 +125,7 @@ fn run<R: Files + io::Input + Print + Eprint + AllocGlobal>(
         }
         Err(cause) => Ended {
             answer: Err(RunFault::Read),
-            advice: Some(Advice::Input(cause)),
+            advice: Some(Advice::BufferedInput(cause)),
         },
     }
 }
@@ -147,11 +147,11 @@ fn show_report<R: Eprint + AllocGlobal>(
 fn show_advice<R: Eprint>(rt: &R, file: Option<&str>, advice: Option<Advice>) {
     let _ = match advice {
         None => Ok(()),
-        Some(Advice::Input(cause)) => {
+        Some(Advice::BufferedInput(cause)) => {
             let name = file.unwrap_or("standard input");
             eprintln!(rt; "lspcheck: {name}: {cause}")
         }
-        Some(Advice::Output(cause)) => eprintln!(rt; "lspcheck: standard output: {cause}"),
+        Some(Advice::BufferedOutput(cause)) => eprintln!(rt; "lspcheck: standard output: {cause}"),
         Some(Advice::Hint(hint)) => eprintln!(rt; "lspcheck: hint: {hint}"),
     };
 }
@@ -166,7 +166,7 @@ fn status_shown<R: Eprint>(rt: &R, answer: &Result<TaskOutcome, RunFault>) -> u8
 }
 
 /// Runs, and writes to standard error what there is to report.
-fn status_of_run<R: Files + io::Input + Print + Eprint + AllocGlobal>(
+fn status_of_run<R: Files + io::BufferedInput + Print + Eprint + AllocGlobal>(
     rt: &R,
     request: &Request<'_>,
     terminals: Terminals,
@@ -211,7 +211,7 @@ fn words_of<R: Env + AllocGlobal>(rt: &R) -> io::Result<Vec<String>> {
     Ok(env::args(rt)?.collect(rt.alloc())?)
 }
 
-fn answer<R: Env + Files + io::Input + Print + Eprint + AllocGlobal>(
+fn answer<R: Env + Files + io::BufferedInput + Print + Eprint + AllocGlobal>(
     rt: &R,
     terminals: Terminals,
 ) -> u8 {
