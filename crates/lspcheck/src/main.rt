@@ -39,9 +39,9 @@ struct Terminals {
 #[derive(Clone, Copy)]
 enum Advice {
     /// Why the input could not be read.
-    BufferedInput(io::Error),
+    Input(io::Error),
     /// Why standard output could not be written.
-    BufferedOutput(io::Error),
+    Output(io::Error),
     /// What the input seems to be.
     Hint(Hint),
 }
@@ -79,8 +79,8 @@ fn run_on<R: Print + Eprint + AllocGlobal, I: Read + Drop>(
     let limits = request.limits();
     let answer = run_through(alloc, request.task, &mut input, &mut output, limits);
     let advice = match answer {
-        Err(RunFault::Read) => input.cause().map(Advice::BufferedInput),
-        Err(RunFault::Write) => output.cause().map(Advice::BufferedOutput),
+        Err(RunFault::Read) => input.cause().map(Advice::Input),
+        Err(RunFault::Write) => output.cause().map(Advice::Output),
         _ => hint_of(&answer, input.beginning().as_slice()).map(Advice::Hint),
     };
     Ended { answer, advice }
@@ -110,7 +110,7 @@ fn size_of<F: OpenFile>(file: &F) -> Option<u64> {
 }
 
 /// Runs over the file, or over standard input.
-fn run<R: Files + io::BufferedInput + Print + Eprint + AllocGlobal>(
+fn run<R: Files + io::Input + Print + Eprint + AllocGlobal>(
     rt: &R,
     request: &Request<'_>,
     terminals: Terminals,
@@ -125,7 +125,7 @@ fn run<R: Files + io::BufferedInput + Print + Eprint + AllocGlobal>(
         }
         Err(cause) => Ended {
             answer: Err(RunFault::Read),
-            advice: Some(Advice::BufferedInput(cause)),
+            advice: Some(Advice::Input(cause)),
         },
     }
 }
@@ -147,11 +147,11 @@ fn show_report<R: Eprint + AllocGlobal>(
 fn show_advice<R: Eprint>(rt: &R, file: Option<&str>, advice: Option<Advice>) {
     let _ = match advice {
         None => Ok(()),
-        Some(Advice::BufferedInput(cause)) => {
+        Some(Advice::Input(cause)) => {
             let name = file.unwrap_or("standard input");
             eprintln!(rt; "lspcheck: {name}: {cause}")
         }
-        Some(Advice::BufferedOutput(cause)) => eprintln!(rt; "lspcheck: standard output: {cause}"),
+        Some(Advice::Output(cause)) => eprintln!(rt; "lspcheck: standard output: {cause}"),
         Some(Advice::Hint(hint)) => eprintln!(rt; "lspcheck: hint: {hint}"),
     };
 }
@@ -166,7 +166,7 @@ fn status_shown<R: Eprint>(rt: &R, answer: &Result<TaskOutcome, RunFault>) -> u8
 }
 
 /// Runs, and writes to standard error what there is to report.
-fn status_of_run<R: Files + io::BufferedInput + Print + Eprint + AllocGlobal>(
+fn status_of_run<R: Files + io::Input + Print + Eprint + AllocGlobal>(
     rt: &R,
     request: &Request<'_>,
     terminals: Terminals,
@@ -211,7 +211,7 @@ fn words_of<R: Env + AllocGlobal>(rt: &R) -> io::Result<Vec<String>> {
     Ok(env::args(rt)?.collect(rt.alloc())?)
 }
 
-fn answer<R: Env + Files + io::BufferedInput + Print + Eprint + AllocGlobal>(
+fn answer<R: Env + Files + io::Input + Print + Eprint + AllocGlobal>(
     rt: &R,
     terminals: Terminals,
 ) -> u8 {
