@@ -138,11 +138,14 @@ pub show_explained : (ends : LineEnds) (enc : Encoding) (number : ℤ) (t : Text
 show_explained ends enc number t ks h rule u facts no701 e other apart =
     elim (show_breaks ends number t ks h rule e) [
       | inl is ↦ absurd (no701 is)
-      | inr is ↦ inr (is.0, record {
+      | inr is ↦ inr (
+        is.0,
+        record {
           text = u;
           other = other;
           apart = apart (other_apart ends (versioned number t) ks h u other);
-        })
+        },
+      )
     ]
 
 pub show_absurd : (ends : LineEnds) (number : ℤ) (t : Text) (ks : List Version)
@@ -162,9 +165,11 @@ later_rule false true o rule no603 no604 h = absurd (no604 (sym (same_number 604
 later_rule false false o rule no603 no604 h = h
 
 pub text_breaks : (terms : Terms) (ws : List Version) (enc : Encoding) (kind : SyncKind) (number : ℤ) (cs : List Edit) (v : Version) (rule : ℕ) → (rule ≡ 603 → ⊥) → (rule ≡ 604 → ⊥)
-    → change_rule terms ws enc kind number cs (Some v) ≡ Some rule → text_rule terms.line_ends ws number (applied terms.limit enc v.text cs) ≡ Some rule
+    → change_rule terms ws enc kind number cs (Some v) ≡ Some rule
+    → text_rule terms.line_ends ws number (applied terms.limit enc v.text cs) ≡ Some rule
 text_breaks terms ws enc kind number cs v rule no603 no604 h =
-    later_rule (not (int_lt v.number number)) (not (fits_kind kind cs)) (text_rule terms.line_ends ws number (applied terms.limit enc v.text cs)) rule no603 no604 h
+    later_rule (not (int_lt v.number number)) (not (fits_kind kind cs))
+    (text_rule terms.line_ends ws number (applied terms.limit enc v.text cs)) rule no603 no604 h
 
 pub version_breaks : (b : Bool) (rule : ℕ) → (if b then Some 702 else None) ≡ Some rule → (rule ≡ 702) × (b ≡ true)
 version_breaks true rule h = (sym (same_number 702 rule h), refl)
@@ -180,34 +185,44 @@ module _ (terms : Terms) (ws : List Version) (enc : Encoding) (kind : SyncKind) 
   -- a change fails
   fails_held : (v : Version) (edit : Edit) → IsMade terms.limit enc v.text cs n text → slice_get cs n ≡ Some edit
       → (changed enc text edit.span edit.text terms.limit ≡ Err rule → IsRefused terms.limit enc text n edit rule facts)
-      → change_rule terms ws enc kind number cs (Some v) ≡ Some rule → AreOfChange terms enc kind ws number cs (Some v) rule facts
+      → change_rule terms ws enc kind number cs (Some v) ≡ Some rule
+      → AreOfChange terms enc kind ws number cs (Some v) rule facts
   fails_held v edit made here explained h =
       let next : IsRejected terms.limit enc text (Some edit) = subst (IsRejected terms.limit enc text) here made.next in
       let all : applied terms.limit enc v.text cs ≡ Err next.0 = fails_there terms.limit enc v.text cs n text edit next.0 made.made here next.1 in
-      let same : next.0 ≡ rule = same_number next.0 rule (sym (ap (text_rule terms.line_ends ws number) all) ∙ text_breaks terms ws enc kind number cs v rule no603 no604 h) in
+      let same : next.0 ≡ rule =
+      same_number next.0 rule (sym (ap (text_rule terms.line_ends ws number) all)
+      ∙ text_breaks terms ws enc kind number cs v rule no603 no604 h) in
       let failed : changed enc text edit.span edit.text terms.limit ≡ Err rule = next.1 ∙ ap (λ (x : ℕ). let r : Result Text ℕ = Err x in r) same in
       inr (inr (inl (record { n = n; text = text; made = made.made; edit = edit; here = here; failed = failed; refused = explained failed })))
 
   -- all are made, and a snapshot refutes the text
   refutes_held : (v : Version) → IsMade terms.limit enc v.text cs n text → length cs ≤ n
-      → (list_any (differs terms.line_ends (versioned number text)) ws ≡ true → IsRefuted terms.line_ends enc ws (versioned number text) facts)
-      → change_rule terms ws enc kind number cs (Some v) ≡ Some rule → AreOfChange terms enc kind ws number cs (Some v) rule facts
+      → (list_any (differs terms.line_ends (versioned number text)) ws ≡ true
+      → IsRefuted terms.line_ends enc ws (versioned number text) facts)
+      → change_rule terms ws enc kind number cs (Some v) ≡ Some rule
+      → AreOfChange terms enc kind ws number cs (Some v) rule facts
   refutes_held v made le explained h =
       let all : applied terms.limit enc v.text cs ≡ Ok text = makes_all terms.limit enc v.text cs n text made le in
-      let breaks = version_breaks (list_any (differs terms.line_ends (versioned number text)) ws) rule (sym (ap (text_rule terms.line_ends ws number) all) ∙ text_breaks terms ws enc kind number cs v rule no603 no604 h) in
+      let breaks = version_breaks (list_any (differs terms.line_ends (versioned number text)) ws)
+      rule (sym (ap (text_rule terms.line_ends ws number) all)
+      ∙ text_breaks terms ws enc kind number cs v rule no603 no604 h) in
       inr (inr (inr (breaks.0, record { text = text; made = all; refuted = explained breaks.1 })))
 
   pub change_fails : (h : Option Version) (t : Text) (edit : Edit) → Some t ≡ option_map (λ (v : Version). v.text) h → IsMade terms.limit enc t cs n text → slice_get cs n ≡ Some edit
       → (changed enc text edit.span edit.text terms.limit ≡ Err rule → IsRefused terms.limit enc text n edit rule facts)
-      → change_rule terms ws enc kind number cs h ≡ Some rule → AreOfChange terms enc kind ws number cs h rule facts
+      → change_rule terms ws enc kind number cs h ≡ Some rule
+      → AreOfChange terms enc kind ws number cs h rule facts
   change_fails h t edit holds made here explained e =
       let v = held_there h t holds in
       subst (λ o. AreOfChange terms enc kind ws number cs o rule facts) (sym v.1)
       (fails_held v.0 edit (subst (λ x. IsMade terms.limit enc x cs n text) (sym v.2) made) here explained (ap (change_rule terms ws enc kind number cs) (sym v.1) ∙ e))
 
   pub change_refuted : (h : Option Version) (t : Text) → Some t ≡ option_map (λ (v : Version). v.text) h → IsMade terms.limit enc t cs n text → length cs ≤ n
-      → (list_any (differs terms.line_ends (versioned number text)) ws ≡ true → IsRefuted terms.line_ends enc ws (versioned number text) facts)
-      → change_rule terms ws enc kind number cs h ≡ Some rule → AreOfChange terms enc kind ws number cs h rule facts
+      → (list_any (differs terms.line_ends (versioned number text)) ws ≡ true
+      → IsRefuted terms.line_ends enc ws (versioned number text) facts)
+      → change_rule terms ws enc kind number cs h ≡ Some rule
+      → AreOfChange terms enc kind ws number cs h rule facts
   change_refuted h t holds made le explained e =
       let v = held_there h t holds in
       subst (λ o. AreOfChange terms enc kind ws number cs o rule facts) (sym v.1)

@@ -22,7 +22,12 @@ use Rattle.lsp_docs.specs.Kept.{kept as versions_kept}
 use Rattle.lsp_docs.specs.Snapshots.{waiting, versions_of}
 use Rattle.lsp_docs.specs.Terms.{Terms}
 use Rattle.lsp_docs.specs.Texts.{Text}
-use Rattle.lsp_explain.specs.DocumentFacts.{fits_fact, head_facts, line_length, first_length, stray, difference_facts, ends_facts, IsStray, IsTooLong, IsLongWithLine, IsReason, IsRefused, IsFailing, AreApart, AreOfDifference, IsRefuted, IsRefuting, IsRefutedText, AreOfOpening, AreOfChange, AreOfSave, AreOfSnapshot, AreDetails, AreFactsOf}
+use Rattle.lsp_explain.specs.DocumentFacts.{fits_fact, head_facts, line_length, first_length, stray}
+use Rattle.lsp_explain.specs.DocumentFacts.{difference_facts, ends_facts, IsStray, IsTooLong}
+use Rattle.lsp_explain.specs.DocumentFacts.{IsLongWithLine, IsReason, IsRefused, IsFailing}
+use Rattle.lsp_explain.specs.DocumentFacts.{AreApart, AreOfDifference, IsRefuted, IsRefuting}
+use Rattle.lsp_explain.specs.DocumentFacts.{IsRefutedText, AreOfOpening, AreOfChange, AreOfSave}
+use Rattle.lsp_explain.specs.DocumentFacts.{AreOfSnapshot, AreDetails, AreFactsOf}
 use Rattle.lsp_session.specs.Negotiation.{encoding}
 use Rattle.lsp_session.specs.Sent.{Sent}
 use Rattle.lsp_verdict.specs.Calls.{call_at, calls}
@@ -163,20 +168,27 @@ module _ (terms : Terms) (enc : Encoding) (ws : List Version) (f g : List Fact) 
   abbrev ends : LineEnds
   ends = terms.line_ends
 
-  one_of_opening : (v : Version) (rule : ℕ) → AreOfOpening terms enc ws v rule f → AreOfOpening terms enc ws v rule g → f ≡ g
+  one_of_opening : (v : Version) (rule : ℕ) → AreOfOpening terms enc ws v rule f
+      → AreOfOpening terms enc ws v rule g → f ≡ g
   one_of_opening v rule p q =
       either (λ a b. a.1 ∙ sym b.1) (λ a b. above g a.0 b) (λ a b. above f a.0 b)
-      (λ c d. either (λ a b. a.1 ∙ sym b.1) (λ a b. absurd (omega (arith, a.0, b.0))) (λ a b. absurd (omega (arith, a.0, b.0))) (λ a b. one_refuted ends enc ws v f g a.1 b.1) c d) p q
+      (λ c d. either (λ a b. a.1 ∙ sym b.1) (λ a b. absurd (omega (arith, a.0, b.0)))
+      (λ a b. absurd (omega (arith, a.0, b.0))) (λ a b. one_refuted ends enc ws v f g a.1 b.1) c
+      d) p q
     where
-      above : (h : List Fact) → rule ≡ 601 → ((rule ≡ 607) × (h ≡ would_have (units Utf8 v.text) ∷ may_have limit ∷ [])) ⊎ ((rule ≡ 702) × IsRefuted ends enc ws v h) → ⊥
+      above : (h : List Fact) → rule ≡ 601
+          → ((rule ≡ 607) × (h ≡ would_have (units Utf8 v.text) ∷ may_have limit ∷ []))
+          ⊎ ((rule ≡ 702) × IsRefuted ends enc ws v h) → ⊥
       above h is (inl a) = absurd (omega (arith, is, a.0))
       above h is (inr a) = absurd (omega (arith, is, a.0))
 
   module _ (kind : SyncKind) (number : ℤ) (cs : List Edit) (rule : ℕ) where
-    one_refuted_text : (t : Text) → IsRefutedText terms enc ws number t cs f → IsRefutedText terms enc ws number t cs g → f ≡ g
+    one_refuted_text : (t : Text) → IsRefutedText terms enc ws number t cs f
+        → IsRefutedText terms enc ws number t cs g → f ≡ g
     one_refuted_text t p q =
         let texts : p.text ≡ q.text = same_text p.text q.text (sym p.made ∙ q.made) in
-        one_refuted ends enc ws (versioned number q.text) f g (subst (λ u. IsRefuted ends enc ws (versioned number u) f) texts p.refuted) q.refuted
+        one_refuted ends enc ws (versioned number q.text) f g
+        (subst (λ u. IsRefuted ends enc ws (versioned number u) f) texts p.refuted) q.refuted
 
     abbrev Refuted : Text → List Fact → Type 0
     Refuted t h = (rule ≡ 702) × IsRefutedText terms enc ws number t cs h
@@ -192,7 +204,8 @@ module _ (terms : Terms) (enc : Encoding) (ws : List Version) (f g : List Fact) 
     later_rule t h k (inl p) = omega (arith, p.0)
     later_rule t h k (inr p) = omega (arith, last_rule t h p)
 
-    one_of_change : (o : Option Version) → AreOfChange terms enc kind ws number cs o rule f → AreOfChange terms enc kind ws number cs o rule g → f ≡ g
+    one_of_change : (o : Option Version) → AreOfChange terms enc kind ws number cs o rule f
+        → AreOfChange terms enc kind ws number cs o rule g → f ≡ g
     one_of_change None p q = p.1 ∙ sym q.1
     one_of_change (Some v) p q =
         either (λ a b. a.1 ∙ sym b.1) (λ a b. absurd (omega (arith, a.0, later_rule v.text g _ b))) (λ a b. absurd (omega (arith, a.0, later_rule v.text f _ b)))
@@ -220,11 +233,14 @@ one_of_snapshot ends enc ks o s rule f g p q =
 
 module _ (terms : Terms) (enc : Encoding) (h : Option Version) (ks ws : List Version) (rule : ℕ) where
   one_details : (call : Call) (f g : List Fact) → AreDetails terms enc h ks ws call rule f → AreDetails terms enc h ks ws call rule g → f ≡ g
-  one_details (opens uri number text) f g p q = one_of_opening terms enc ws f g (versioned number text) rule p q
-  one_details (changes agreed kind uri number edits) f g p q = one_of_change terms agreed ws f g kind number edits rule h p q
+  one_details (opens uri number text) f g p q =
+      one_of_opening terms enc ws f g (versioned number text) rule p q
+  one_details (changes agreed kind uri number edits) f g p q =
+      one_of_change terms agreed ws f g kind number edits rule h p q
   one_details (closes uri) f g p q = p.1 ∙ sym q.1
   one_details (saves uri text) f g p q = one_of_save terms.line_ends enc text h f g p.1 q.1
-  one_details (shows uri number text) f g p q = one_of_snapshot terms.line_ends enc ks h (versioned number text) rule f g p q
+  one_details (shows uri number text) f g p q =
+      one_of_snapshot terms.line_ends enc ks h (versioned number text) rule f g p q
 
   pub one_facts_of : (call : Call) (f g : List Fact) → AreFactsOf terms enc h ks ws call rule f → AreFactsOf terms enc h ks ws call rule g → f ≡ g
   one_facts_of call f g p q = p.are ∙ ap (λ l. head_facts h call ++ l) (one_details call p.details q.details p.says q.says) ∙ sym q.are

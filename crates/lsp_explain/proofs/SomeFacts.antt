@@ -22,7 +22,11 @@ use Rattle.lsp_docs.specs.Rules.{differs, version_rule, text_rule, change_rule, 
 use Rattle.lsp_docs.specs.Snapshots.{waiting, versions_of}
 use Rattle.lsp_docs.specs.Terms.{Terms}
 use Rattle.lsp_docs.specs.Texts.{Text, byte_len}
-use Rattle.lsp_explain.specs.DocumentFacts.{fits_fact, head_facts, first_length, line_length, kept_fact, kind_facts, difference_facts, ends_facts, stray, IsReason, IsFailing, AreApart, IsRefuted, AreOfOpening, AreOfChange, AreOfSnapshot, AreDetails, AreFactsOf}
+use Rattle.lsp_explain.specs.DocumentFacts.{fits_fact, head_facts, first_length, line_length}
+use Rattle.lsp_explain.specs.DocumentFacts.{kept_fact, kind_facts, difference_facts, ends_facts}
+use Rattle.lsp_explain.specs.DocumentFacts.{stray, IsReason, IsFailing, AreApart, IsRefuted}
+use Rattle.lsp_explain.specs.DocumentFacts.{AreOfOpening, AreOfChange, AreOfSnapshot, AreDetails}
+use Rattle.lsp_explain.specs.DocumentFacts.{AreFactsOf}
 use Rattle.lsp_session.specs.Negotiation.{encoding}
 use Rattle.lsp_session.specs.Sent.{Sent}
 use Rattle.lsp_verdict.specs.Calls.{call_at, calls}
@@ -35,7 +39,8 @@ use Rattle.lsp_explain.specs.Edges.{edges}
 use Rattle.lsp_explain.specs.Part.{Part}
 use Rattle.lsp_explain.specs.MessageFacts.{session_facts}
 use Rattle.lsp_explain.specs.Fact.{Fact, falls_inside, would_have, may_have, in_editor, saved_line, counts_in, fails}
-use Rattle.lsp_explain.proofs.DocumentRules.{IsOther, other_apart, show_breaks, version_breaks, waiting_apart, waiting_some}
+use Rattle.lsp_explain.proofs.DocumentRules.{IsOther, other_apart, show_breaks, version_breaks}
+use Rattle.lsp_explain.proofs.DocumentRules.{waiting_apart, waiting_some}
 use Rattle.lsp_explain.proofs.Refusals.{first_stray, second_stray}
 use Rattle.lsp_explain.proofs.Refused.{breaks_call}
 
@@ -55,13 +60,13 @@ some_apart ends enc t u line differ =
     elim (one_difference a b) [
       | inl same ↦ absurd (differ same.0)
       | inr at ↦ (
-          difference_facts enc a b line at.0 ++ ends_facts t u,
-          record {
-            place = difference_facts enc a b line at.0;
-            at = (at.0, at.1.first, refl);
-            are = refl;
-          },
-        )
+        difference_facts enc a b line at.0 ++ ends_facts t u,
+        record {
+          place = difference_facts enc a b line at.0;
+          at = (at.0, at.1.first, refl);
+          are = refl;
+        },
+      )
     ]
 
 -- ---- a change that a rule refuses
@@ -153,7 +158,10 @@ module _ (terms : Terms) (enc : Encoding) (ws : List Version) (v : Version) (rul
       else (if c then Some 607 else (if true then version_rule terms.line_ends ws v else None)))
       ≡ Some rule → (facts : List Fact) × AreOfOpening terms enc ws v rule facts
   some_of_opening true c e = ([], inl (sym (same_number 601 rule e), refl))
-  some_of_opening false true e = (would_have (byte_len v.text) ∷ may_have terms.limit ∷ [], inr (inl (sym (same_number 607 rule e), refl)))
+  some_of_opening false true e = (
+    would_have (byte_len v.text) ∷ may_have terms.limit ∷ [],
+    inr (inl (sym (same_number 607 rule e), refl)),
+  )
   some_of_opening false false e =
       let breaks = version_breaks (list_any (differs terms.line_ends v) ws) rule e in
       let refuted = some_refuted terms.line_ends enc ws v breaks.1 in
@@ -165,7 +173,8 @@ module _ (terms : Terms) (enc : Encoding) (kind : SyncKind) (ws : List Version) 
       → text_rule terms.line_ends ws number r ≡ Some rule
       → (facts : List Fact) × AreOfChange terms enc kind ws number cs (Some v) rule facts
   by_text v (Err own) is e =
-      let failing = some_failing terms.limit enc rule v.text cs (is ∙ ap (λ (n : ℕ). let r : Result Text ℕ = Err n in r) (same_number own rule e)) in
+      let failing = some_failing terms.limit enc rule v.text cs
+      (is ∙ ap (λ (n : ℕ). let r : Result Text ℕ = Err n in r) (same_number own rule e)) in
       (failing.0, inr (inr (inl failing.1)))
   by_text v (Ok t) is e =
       let s = versioned number t in
@@ -176,15 +185,19 @@ module _ (terms : Terms) (enc : Encoding) (kind : SyncKind) (ws : List Version) 
   by_rows : (v : Version) (b c : Bool)
       → (if b then Some 603 else (if c then Some 604 else (if true
       then text_rule terms.line_ends ws number (applied terms.limit enc v.text cs) else None)))
-      ≡ Some rule → (facts : List Fact) × AreOfChange terms enc kind ws number cs (Some v) rule facts
+      ≡ Some rule → (facts : List Fact) × AreOfChange terms enc kind ws number cs (Some v) rule
+      facts
   by_rows v true c e = ([], inl (sym (same_number 603 rule e), refl))
-  by_rows v false true e = (kind_facts terms.limit enc kind v.text cs, inr (inl (sym (same_number 604 rule e), refl)))
+  by_rows v false true e =
+      (kind_facts terms.limit enc kind v.text cs, inr (inl (sym (same_number 604 rule e), refl)))
   by_rows v false false e = by_text v (applied terms.limit enc v.text cs) refl e
 
 some_of_change : (terms : Terms) (enc : Encoding) (kind : SyncKind) (ws : List Version) (number : ℤ) (cs : List Edit) (h : Option Version) (rule : ℕ) → change_rule terms ws enc kind number cs h ≡ Some rule
     → (facts : List Fact) × AreOfChange terms enc kind ws number cs h rule facts
 some_of_change terms enc kind ws number cs None rule e = ([], (sym (same_number 602 rule e), refl))
-some_of_change terms enc kind ws number cs (Some v) rule e = by_rows terms enc kind ws number cs rule v (not (int_lt v.number number)) (not (fits_kind kind cs)) e
+some_of_change terms enc kind ws number cs (Some v) rule e =
+    by_rows terms enc kind ws number cs rule v (not (int_lt v.number number))
+    (not (fits_kind kind cs)) e
 
 close_breaks : (b : Bool) (rule : ℕ) → (if b then None else Some 602) ≡ Some rule → rule ≡ 602
 close_breaks true rule e = absurd (cc)
@@ -205,7 +218,10 @@ module _ (terms : Terms) (enc : Encoding) (h : Option Version) (ks ws : List Ver
       (sym ((bytes_eq-Decides (compared ends v.text) (compared ends t)).1 same) ∙ breaks.1)) in
       (facts.0, (breaks.0, facts.1))
 
-  some_of_snapshot : (number : ℤ) (text : Text) → rule_of terms h ks ws (shows [] number text) ≡ Some rule → (facts : List Fact) × AreOfSnapshot terms.line_ends enc ks h (versioned number text) rule facts
+  some_of_snapshot : (number : ℤ) (text : Text)
+      → rule_of terms h ks ws (shows [] number text) ≡ Some rule
+      → (facts : List Fact) × AreOfSnapshot terms.line_ends enc ks h (versioned number text) rule
+      facts
   some_of_snapshot number text e =
       elim (show_breaks terms.line_ends number text ks h rule e) [
         | inl is ↦ (kept_fact ks, inl (is, refl))
@@ -217,7 +233,9 @@ module _ (terms : Terms) (enc : Encoding) (h : Option Version) (ks ws : List Ver
       ]
 
   some_details : (call : Call) → rule_of terms h ks ws call ≡ Some rule → (facts : List Fact) × AreDetails terms enc h ks ws call rule facts
-  some_details (opens uri number text) e = some_of_opening terms enc ws (versioned number text) rule (is_some h) (nat_lt terms.limit (byte_len text)) e
+  some_details (opens uri number text) e =
+      some_of_opening terms enc ws (versioned number text) rule (is_some h)
+      (nat_lt terms.limit (byte_len text)) e
   some_details (changes agreed kind uri number edits) e = some_of_change terms agreed kind ws number edits h rule e
   some_details (closes uri) e = ([], (close_breaks (is_some h) rule e, refl))
   some_details (saves uri text) e = some_of_save uri text h e

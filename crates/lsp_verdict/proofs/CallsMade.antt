@@ -72,6 +72,7 @@ snapshots_agree terms made accepted before after front back uri number text v wh
 
 -- **Where line ends count, the same texts are equal.**
 pub exact_means_equal : ExactMeansEqual
-exact_means_equal terms made exact agree before after front back uri number text v whole cut is same binds =
+exact_means_equal terms made exact agree before after front back uri number text v whole cut is same
+    binds =
     subst (λ (ends : LineEnds). SameText ends v.text text) exact
     (agree before after front back uri number text v whole cut is same binds)

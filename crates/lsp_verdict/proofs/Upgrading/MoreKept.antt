@@ -139,7 +139,10 @@ module _ (t u : Terms) (same : t.limit ≡ u.limit) (ends : t.line_ends ≡ u.li
   change_same ws enc kind n cs (Some v) =
       ap (λ e. first_row ((not (int_lt v.number n), Some 603) ∷ (not (fits_kind kind cs), Some 604)
       ∷ (true, text_rule e ws n (applied t.limit enc v.text cs)) ∷ [])) ends
-      ∙ ap (λ l. first_row ((not (int_lt v.number n), Some 603) ∷ (not (fits_kind kind cs), Some 604)
+      ∙ ap (λ l. first_row ((not (int_lt v.number n), Some 603) ∷ (
+        not (fits_kind kind cs),
+        Some 604,
+      )
       ∷ (true, text_rule u.line_ends ws n (applied l enc v.text cs)) ∷ [])) same
 
   waits_same : (uri : Bytes) (before : List Call) → versions_of uri (waiting t before) ≡ versions_of uri (waiting u before)
@@ -203,7 +206,8 @@ module _ (t u : Terms) (same : t.limit ≡ u.limit) (ends : t.line_ends ≡ u.li
   entry_same before (shows uri n text) after accepted e =
       let own =
       held_here uri n text before ∙ sym (rule-none_kept t before uri n text none_kept) ∙ e in
-      let here : has_number n (kept u uri before) (held u uri before) ≡ holds_number n (held u uri before) =
+      let here : has_number n (kept u uri before) (held u uri before)
+      ≡ holds_number n (held u uri before) =
       shown_at u.line_ends n text (kept u uri before) (held u uri before)
       (kept-rises u uri before accepted) (none_past uri before) own in
       let compared : is_compared t before uri n after ≡ is_compared u before uri n after =

@@ -18,7 +18,8 @@ returns-then-is_other c =
 
 pub loop-other-preserved : goal.loop-other-preserved
 loop-other-preserved c =
-    let seen : String Global → Bool = λ s. is_other c.args.line_ends (chars c.args.text.now) (text_of s) in
+    let seen : String Global → Bool =
+    λ s. is_other c.args.line_ends (chars c.args.text.now) (text_of s) in
     find-more seen c.args.texts.now c.loop-other.other-index c.other-item.result c.loop-other-test.true c.other-item.is c.loop-other.invariant (sym c.is_other.ensures ∙ c.if-is_other.false)
 
 pub returns : goal.returns
