@@ -318,14 +318,8 @@ fn of_save<S: TextStore>(
         return Ok(FactList::new(alloc));
     };
     let held = store.to_text(alloc)?;
-    difference(
-        alloc,
-        docs.line_ends(),
-        encoding,
-        held.as_str(),
-        text,
-        Against::Saved,
-    )
+    let ends = docs.line_ends();
+    difference(alloc, ends, encoding, held.as_str(), text, Against::Saved)
 }
 
 /// What is said about a snapshot under its rule.
