@@ -10,7 +10,7 @@ use Rattle.std.proofs.Common.{None, refl, sym, ap, ◌∙◌}
 use Rattle.lsp_docs.specs.Calls.{Call, uri_of, changes as changes_by}
 use Rattle.lsp_rpc.specs.View.{changes_view}
 use Rattle.lsp_survey.specs.ByUri.{held_by}
-use Rattle.lsp_survey.specs.Notes.{nothing, note_in, SetsNote, AreAfter}
+use Rattle.lsp_survey.specs.Notes.{nothing, note_in, SetsNote, AreAfter, Leaves}
 use Rattle.lsp_survey.specs.declared.notes.note.Note.{Note}
 use Rattle.lsp_survey.proofs.Putting.{PutsUnder}
 use Rattle.lsp_text.specs.Edits.{Edit}

@@ -1,6 +1,6 @@
 -- What a walk over the events of a session holds, and how one more event is heard.
 use Rattle.std.specs.Prelude.{◌≡◌, ℕ, ℤ, List, [], ◌∷◌, ◌++◌, Bool, ◌&&◌, ◌||◌, Option, Some}
-use Rattle.std.specs.Prelude.{None, is_some, string_bytes}
+use Rattle.std.specs.Prelude.{None, is_some, option_and_then, string_bytes}
 use Rattle.lsp_docs.specs.Calls.{Call}
 use Rattle.lsp_docs.specs.Terms.{Terms}
 use Rattle.lsp_docs.specs.declared.snapshot.Match.{Match}
@@ -16,7 +16,7 @@ use Rattle.lsp_session.specs.Sent.{Sent}
 use Rattle.lsp_session.specs.State.{Stands}
 use Rattle.lsp_survey.specs.Marks.{AreMarks, DoneBy, ShownBy}
 use Rattle.lsp_survey.specs.SessionNoting.{AreNotes, SaysOn}
-use Rattle.lsp_survey.specs.Notes.{note_in, note_of, AreAfter, is_noted_lost}
+use Rattle.lsp_survey.specs.Notes.{note_in, note_of, AreAfter, Leaves, is_noted_lost}
 use Rattle.lsp_survey.specs.Sides.{sides_after, sides_of, sides_read}
 use Rattle.lsp_survey.specs.declared.offending.FoundOffence.{FoundOffence}
 use Rattle.lsp_survey.specs.declared.offending.Judged.{Judged}
@@ -33,8 +33,8 @@ use Rattle.lsp_verdict.specs.Contents.{ReadsAs}
 use Rattle.lsp_verdict.specs.Event.{Event, fault, message}
 use Rattle.lsp_verdict.specs.Given.{given_offence, offence_view}
 use Rattle.lsp_verdict.specs.LookBack.{first_of}
-use Rattle.lsp_verdict.specs.Offences.{Noted, Offence, IsNoted, breaks_handshake, broken_by}
-use Rattle.lsp_verdict.specs.Offences.{events_of, follows_bytes, is_handshake_lost, kept_of}
+use Rattle.lsp_verdict.specs.Offences.{Noted, Offence, IsNoted, asks, breaks_handshake, broken_by}
+use Rattle.lsp_verdict.specs.Offences.{brought_by, events_of, follows_bytes, is_handshake_lost, kept_of}
 use Rattle.lsp_verdict.specs.Offences.{may_answer, offence_by, rule_at}
 use Rattle.lsp_verdict.specs.Offences.{wants_handshake, wants_text}
 use Rattle.lsp_verdict.specs.Placed.{Raw, content, broken, show}
@@ -47,7 +47,7 @@ use Rattle.lsp_verdict.specs.declared.verdict.Who.{Who}
 pub record WalksBy (terms : Terms) (w : Replay) (notes : List Noted) : Type 0 where
   pub holds : Holds w.events.session w.events.docs (kept_of terms (events_of notes))
   pub counted : AreCounts w.events.counts (events_of notes)
-  pub noted : (uri : List ℕ) → note_in w.notes.map.entries uri ≡ note_of terms uri (events_of notes)
+  pub noted : (uri : List ℕ) → note_in w.notes.map.entries uri ≡ note_of terms uri notes
   pub is_broken : w.broken ≡ is_some (first_of (broken_by terms) notes)
   pub marked : AreMarks terms w.marks.map.entries (events_of notes)
   pub said : AreNotes terms w.said (events_of notes)
@@ -121,9 +121,10 @@ IsShown number uri text (what.Snapshot version name shown) =
     (version ≡ number) × (string_bytes name ≡ uri) × (string_bytes shown ≡ text)
 IsShown number uri text other = ⊥
 
--- an event of theirs that offends by this rule was skipped: it says this about a document, under
--- what was agreed, is such an event, and such as was found
-pub record PassesOver (old new : Replay) (by : Who) (rule : ℕ) (asks : Bool)
+-- an event of theirs that offends by this rule was skipped: it is this message, if its content is
+-- malformed, says this about a document, under what was agreed, is such an event, and such as was
+-- found
+pub record PassesOver (old new : Replay) (by : Who) (rule : ℕ) (malformed : Option Message)
     (says : Encoding → SyncKind → Option Call) (IsEvent : Event → Type 0)
     (IsSuch : OffendingEvent → Type 0) (given : Judged) : Type 0 where
   pub found : FoundOffence
@@ -132,10 +133,12 @@ pub record PassesOver (old new : Replay) (by : Who) (rule : ℕ) (asks : Bool)
   pub counted : Counted old new by
   pub is_broken : (event : Event) (kept : List Event) → IsEvent event
       → Holds old.events.session old.events.docs kept
-      → new.broken ≡ (old.broken || (breaks_handshake asks rule || may_answer kept event))
+      → new.broken ≡ (old.broken || (breaks_handshake (asks malformed) rule
+      || may_answer kept event))
   pub sides : (event : Event) → IsEvent event → new.sides ≡ sides_after event old.sides
   pub noted : (enc : Encoding) (kind : SyncKind)
-      → AreAfter (Some rule) (says enc kind) old.notes.map.entries new.notes.map.entries
+      → Leaves (Some rule) (option_and_then brought_by malformed) (says enc kind)
+      old.notes.map.entries new.notes.map.entries
   pub marks : new.marks ≡ old.marks
   pub said : new.said ≡ old.said
   pub offence : (enc : Encoding) (kind : SyncKind) (notes : List Noted) (event : Event)

@@ -9,7 +9,7 @@
 
 mod documents;
 mod exchange;
-mod handshake;
+mod malformed;
 mod mark;
 mod marks;
 mod note;
@@ -17,8 +17,10 @@ mod rules;
 mod session_notes;
 mod sides;
 
-pub(crate) use documents::{is_on_lost, note_kept_act, note_refused, note_refused_act};
-pub(crate) use handshake::{asks_again, asks_handshake};
+pub(crate) use documents::{
+    is_on_lost, note_kept_act, note_malformed, note_refused, note_refused_act,
+};
+pub(crate) use malformed::{Malformed, meant_again};
 pub use mark::{Setter, Shown};
 pub use marks::Marks;
 pub(crate) use note::{Note, Notes};

@@ -1,21 +1,20 @@
 //! The events of a session, of which those that offend are skipped.
 ghost use Rattle.std.specs.Prelude.{◌≡◌, ◌&&◌, ◌||◌, [], Bool, List, None, Some, false, IfOk, OnOk};
-ghost use Rattle.std.specs.Prelude.{chars, ℕ};
+ghost use Rattle.std.specs.Prelude.{Option, chars, ℕ};
 ghost use Rattle.lsp_docs.specs.Calls.{shows};
 ghost use Rattle.lsp_docs.specs.Terms.{terms_of};
 ghost use Rattle.lsp_replay.specs.Standing.{Holds};
+ghost use Rattle.lsp_rpc.specs.Message.{Message};
 ghost use Rattle.lsp_rpc.specs.View.{act_view, message_view};
 ghost use Rattle.lsp_verdict.specs.Calls.{call_of};
 ghost use Rattle.lsp_verdict.specs.Counting.{AreCounts};
 ghost use Rattle.lsp_verdict.specs.Event.{Event, fault, snapshot};
 ghost use Rattle.lsp_verdict.specs.Given.{given_offence, offence_view};
-ghost use Rattle.lsp_verdict.specs.Offences.{Asks, Noted, breaks_handshake, events_of};
+ghost use Rattle.lsp_verdict.specs.Offences.{IsReading, Noted, breaks_handshake, events_of};
 ghost use Rattle.lsp_verdict.specs.Offences.{follows_bytes, is_handshake_lost, may_answer};
 ghost use Rattle.lsp_verdict.specs.Offences.{wants_handshake, wants_text};
-ghost use Rattle.lsp_verdict.specs.Placed as placed;
 ghost use Rattle.lsp_verdict.specs.Verdict as spec;
 ghost use Rattle.lsp_survey.specs.Marking.{number_next};
-ghost use Rattle.lsp_survey.specs.Notes.{asks_of};
 ghost use Rattle.lsp_survey.specs.Sides.{sides_failed};
 ghost use Rattle.lsp_verdict.specs.Lent.{raw_view};
 ghost use Rattle.lsp_survey.specs.Ending.{lack_by};
@@ -24,8 +23,8 @@ ghost use Rattle.lsp_survey.specs.Walking.{IsUnread, NotesKept, NotesMessage, Pa
 ghost use Rattle.lsp_survey.specs.Walking.{offence_of};
 
 use crate::notes::{
-    Marks, Notes, SessionNotes, Sides, asks_again, asks_handshake, breaks_handshake, is_on_lost,
-    note_kept_act, note_refused, note_refused_act, wants_handshake, wants_text,
+    Malformed, Marks, Notes, SessionNotes, Sides, breaks_handshake, is_on_lost, meant_again,
+    note_kept_act, note_malformed, note_refused, note_refused_act, wants_handshake, wants_text,
 };
 use crate::offending::{FoundOffence, Judged, OffendingEvent};
 use lsp_frame::{Format, Limits};
@@ -170,7 +169,7 @@ impl Replay {
     /// Skips a fault of the frames of a side.
     fn refuse_frames(&mut self, side: Side, rule: u16) -> Judged
         ensures terms { self.new.events.docs.terms ≡ self.old.events.docs.terms }
-        ensures passes { PassesOver self.old self.new (spec.who_of side) rule false
+        ensures passes { PassesOver self.old self.new (spec.who_of side) rule None
             (λ enc kind. None) (λ event. event ≡ fault side rule)
             (λ what. what ≡ OffendingEvent.Frames side) result }
     {
@@ -185,12 +184,11 @@ impl Replay {
     fn refuse_message(&mut self, side: Side, rule: u16, spoken: Spoken) -> Result<Judged, Memory>
         ensures terms { self.new.events.docs.terms ≡ self.old.events.docs.terms }
         ensures passes { IfOk result
-            (PassesOver self.old self.new (spec.who_of side) rule
-            (asks_of side (message_view spoken.message))
+            (PassesOver self.old self.new (spec.who_of side) rule None
             (λ enc kind. call_of enc kind (act_view spoken.act))
             (IsMessageOf side) (λ what. what ≡ OffendingEvent.Message side spoken)) }
     {
-        let breaks = breaks_handshake(asks_handshake(side, &spoken.message), rule);
+        let breaks = breaks_handshake(false, rule);
         let on_lost = is_on_lost(&self.notes, &spoken.act);
         let late = self.sides.message_follows(side, rule);
         let follows = self.follows(rule, on_lost, late);
@@ -213,14 +211,15 @@ impl Replay {
     ) -> Result<Judged, Memory>
         ensures terms { self.new.events.docs.terms ≡ self.old.events.docs.terms }
         ensures passes { IfOk result
-            (λ heard. (asks : Bool) × Asks (placed.content side content.now) asks
-            × PassesOver self.old self.new (spec.who_of side) rule asks
+            (λ heard. (malformed : Option Message) × IsReading content.now malformed
+            × PassesOver self.old self.new (spec.who_of side) rule malformed
             (λ enc kind. None) (λ event. event ≡ fault side rule) (IsUnread side content.now)
             heard) }
     {
-        let asks = asks_again(alloc, side, content)?;
-        let content = Vec::from_slice(alloc, content)?;
+        let Malformed { asks, brings } = meant_again(alloc, content)?;
         let offence = self.refuse_fault(side, rule, asks);
+        note_malformed(&mut self.notes, rule, brings)?;
+        let content = Vec::from_slice(alloc, content)?;
         Ok(Judged::Offence(FoundOffence {
             offence,
             offending: OffendingEvent::Content { side, content },
@@ -237,7 +236,7 @@ impl Replay {
         text: &str,
     ) -> Result<Judged, Memory>
         ensures terms { self.new.events.docs.terms ≡ self.old.events.docs.terms }
-        ensures passes { IfOk result (PassesOver self.old self.new Who.Snapshot rule false
+        ensures passes { IfOk result (PassesOver self.old self.new Who.Snapshot rule None
             (λ enc kind. Some (shows uri.now version (chars text.now)))
             (λ event. event ≡ snapshot uri.now version (chars text.now))
             (IsShown version uri.now text.now)) }

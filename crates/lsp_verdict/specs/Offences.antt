@@ -4,9 +4,11 @@ use Rattle.std.specs.Prelude.{◌≡◌, ℕ, List, [], ◌∷◌, ◌++◌, map
 use Rattle.std.specs.Prelude.{◌==◌, nat_le, if◌then◌else◌, Option, Some, None, is_some, is_none}
 use Rattle.std.specs.Prelude.{option_map, option_and_then, codes}
 use Rattle.std.specs.List.{AllZip, filter_map, list_any}
+use Rattle.std.specs.Option.{option_or}
 use Rattle.std.specs.Str.{bytes_eq}
 use Rattle.lsp_frame.specs.Bounds.{Bounds}
 use Rattle.lsp_rpc.specs.Message.{Message, request, notification, response}
+use Rattle.lsp_rpc.specs.Params.{required, uri_at}
 use Rattle.lsp_rpc.specs.Reading as content
 use Rattle.lsp_types.specs.declared.side.Side.{Side}
 use Rattle.lsp_types.specs.declared.side.Side.TheVariants.{Editor, Server}
@@ -44,6 +46,33 @@ rule_at terms before event = offence terms (kept_of terms before) event
 abbrev pub said_at : Terms → List Event → Event → Option Call
 said_at terms before event = call_at (kept_of terms before) event
 
+-- ---- what an event is noted as
+
+-- an event; and where its content is refused though it is a message, this message: its params do
+-- not have their shape
+pub record Noted : Type 0 where
+  pub event : Event
+  pub malformed : Option Message
+
+abbrev pub events_of : List Noted → List Event
+events_of notes = map (λ (n : Noted). n.event) notes
+
+-- the message that a content reads as, if it reads as one
+abbrev pub IsReading : List ℕ → Option Message → Type 0
+IsReading bytes (Some m) = content.Reads bytes m
+IsReading bytes None = (m : Message) → content.Reads bytes m → ⊥
+
+abbrev pub IsMalformed : Raw → Event → Option Message → Type 0
+IsMalformed (placed.content side bytes) (fault by rule) m = IsReading bytes m
+IsMalformed raw event m = m ≡ None
+
+abbrev pub IsNoted : Raw → Noted → Type 0
+IsNoted raw n = Reads raw n.event × IsMalformed raw n.event n.malformed
+
+-- the records are a session of these events
+abbrev pub IsNotedSession : Bounds → List Record → List Noted → Type 0
+IsNotedSession limits records notes = (raws : List Raw) × Placed limits records raws × AllZip IsNoted raws notes
+
 -- ---- a document is lost, and found again
 
 abbrev pub has_changes : Call → Bool
@@ -73,10 +102,37 @@ abbrev pub left_lost : Option ℕ → Call → Option Bool
 left_lost (Some rule) call = if loses rule call then Some true else None
 left_lost None call = if renews call then Some false else None
 
--- whether an event leaves the document of this URI lost
-abbrev pub lost_by : Terms → List ℕ → List Event → Event → Option Bool
-lost_by terms uri before event =
-    option_and_then (λ call. if bytes_eq uri (uri_of call) then left_lost (rule_at terms before event) call else None) (said_at terms before event)
+-- the notification opens a document or changes it
+abbrev pub brings_text : List ℕ → Bool
+brings_text method = bytes_eq method (codes "textDocument/didOpen")
+    || bytes_eq method (codes "textDocument/didChange")
+
+-- the document that a message opens or changes, whatever else its params have
+abbrev pub brought_by : Message → Option (List ℕ)
+brought_by (request id method params) = None
+brought_by (notification method params) =
+    if brings_text method then option_and_then (required (codes "textDocument") uri_at) params
+    else None
+brought_by (response id reply) = None
+
+-- whether the document of this URI is left lost where this one was to be brought a text, by a
+-- message whose params do not have their shape
+abbrev pub left_without : List ℕ → Option ℕ → Option (List ℕ) → Option Bool
+left_without uri rule None = None
+left_without uri rule (Some brought) = option_and_then (λ r.
+    if r == rules.BAD_METHOD_PARAMS && bytes_eq uri brought then Some true else None) rule
+
+-- whether an event leaves the document of this URI lost that offends by this rule, or is kept: it
+-- was to bring the text of a document, or says this about one
+abbrev pub left_by : List ℕ → Option ℕ → Option (List ℕ) → Option Call → Option Bool
+left_by uri rule brought said = option_or (left_without uri rule brought)
+    (option_and_then (λ call.
+    if bytes_eq uri (uri_of call) then left_lost rule call else None) said)
+
+abbrev pub lost_by : Terms → List ℕ → List Noted → Noted → Option Bool
+lost_by terms uri before n =
+    left_by uri (rule_at terms (events_of before) n.event)
+    (option_and_then brought_by n.malformed) (said_at terms (events_of before) n.event)
 
 -- the last of these, or what stands where there is none
 abbrev pub last_or : {A : Type 0} → A → List A → A
@@ -85,22 +141,24 @@ last_or none (x ∷ xs) = last_or x xs
 
 -- **the document of this URI is lost after these events**: the last one that says anything about
 -- that left it so
-abbrev pub is_lost : Terms → List ℕ → List Event → Bool
+abbrev pub is_lost : Terms → List ℕ → List Noted → Bool
 is_lost terms uri before = last_or false (each_of (lost_by terms uri) before)
 
 -- ---- the handshake is lost
 
--- an event, and whether its content is a request `initialize` of the editor's, whatever its params
-pub record Noted : Type 0 where
-  pub event : Event
-  pub asks : Bool
+abbrev pub asks_handshake : Message → Bool
+asks_handshake (request id method params) = bytes_eq method (codes "initialize")
+asks_handshake (notification method params) = false
+asks_handshake (response id reply) = false
 
-abbrev pub events_of : List Noted → List Event
-events_of notes = map (λ (n : Noted). n.event) notes
+-- the message asks for the handshake
+abbrev pub asks : Option Message → Bool
+asks None = false
+asks (Some m) = asks_handshake m
 
 -- an `initialize` that does not have its shape, or an answer to one that is refused
 abbrev pub breaks_handshake : Bool → ℕ → Bool
-breaks_handshake asks rule = rule == rules.BAD_METHOD_PARAMS && asks
+breaks_handshake asked rule = rule == rules.BAD_METHOD_PARAMS && asked
     || is_within rules.BAD_INITIALIZE_RESULT rules.ENCODING_OUTSIDE_PROFILE rule
 
 -- after these kept events, what cannot be read may be the answer to an `initialize`: it is the
@@ -112,7 +170,7 @@ may_answer kept _ = false
 abbrev pub broken_by : Terms → List Noted → Noted → Option ℕ
 broken_by terms before n =
     option_and_then (λ rule.
-    if breaks_handshake n.asks rule || may_answer (kept_of terms (events_of before)) n.event
+    if breaks_handshake (asks n.malformed) rule || may_answer (kept_of terms (events_of before)) n.event
     then Some rule else None) (rule_at terms (events_of before) n.event)
 
 -- **the handshake is lost after these events**: an event of it was refused, and no answer has
@@ -170,7 +228,7 @@ abbrev pub wants_text : ℕ → Bool
 wants_text rule = is_within rules.DOCUMENT_NOT_OPEN rules.SAVED_TEXT_DIFFERS rule
     || rule == rules.SNAPSHOT_DIFFERS
 
-abbrev pub is_on_lost : Terms → List Event → Option Call → Bool
+abbrev pub is_on_lost : Terms → List Noted → Option Call → Bool
 is_on_lost terms before None = false
 is_on_lost terms before (Some call) = is_lost terms (uri_of call) before
 
@@ -179,7 +237,7 @@ abbrev pub follows : Terms → List Noted → Noted → ℕ → Bool
 follows terms before n rule =
     wants_handshake rule && is_handshake_lost terms before
     || (wants_text rule
-    && is_on_lost terms (events_of before) (said_at terms (events_of before) n.event)
+    && is_on_lost terms before (said_at terms (events_of before) n.event)
     || follows_bytes rule (events_of before) n.event)
 
 -- ---- all offences
@@ -198,25 +256,3 @@ offence_at terms before n = option_map (offence_by terms before n) (rule_at term
 -- **all offences of a session**, in order
 abbrev pub offences : Terms → List Noted → List Offence
 offences terms notes = each_of (offence_at terms) notes
-
--- ---- what an event is noted as
-
-abbrev pub asks_handshake : Message → Bool
-asks_handshake (request id method params) = bytes_eq method (codes "initialize")
-asks_handshake (notification method params) = false
-asks_handshake (response id reply) = false
-
--- whether the content of an event is a request `initialize` of the editor's
-abbrev pub Asks : Raw → Bool → Type 0
-Asks (placed.content Editor bytes) true = (m : Message) × content.Reads bytes m × (asks_handshake m ≡ true)
-Asks (placed.content Editor bytes) false = (m : Message) → content.Reads bytes m → asks_handshake m ≡ false
-Asks (placed.content Server bytes) asks = asks ≡ false
-Asks (broken side rule) asks = asks ≡ false
-Asks (show number uri text) asks = asks ≡ false
-
-abbrev pub IsNoted : Raw → Noted → Type 0
-IsNoted raw n = Reads raw n.event × Asks raw n.asks
-
--- the records are a session of these events
-abbrev pub IsNotedSession : Bounds → List Record → List Noted → Type 0
-IsNotedSession limits records notes = (raws : List Raw) × Placed limits records raws × AllZip IsNoted raws notes

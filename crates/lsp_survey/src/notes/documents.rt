@@ -1,5 +1,5 @@
 //! What messages and snapshots say about documents, and what they leave of the notes.
-ghost use Rattle.std.specs.Prelude.{◌≡◌, Some, None, OnOk, is_none, option_map, true};
+ghost use Rattle.std.specs.Prelude.{◌≡◌, Some, None, OnOk, is_none, option_map, string_bytes, true};
 ghost use Rattle.std.specs.List.{list_any};
 ghost use Rattle.lsp_docs.specs.Calls.{Call, uri_of};
 ghost use Rattle.lsp_rpc.specs.View.{act_view};
@@ -7,11 +7,12 @@ ghost use Rattle.lsp_types.specs.declared.position.Encoding.{Encoding};
 ghost use Rattle.lsp_types.specs.declared.change.SyncKind.{SyncKind};
 ghost use Rattle.lsp_verdict.specs.Calls.{call_of};
 ghost use Rattle.lsp_verdict.specs.Offences.{has_changes, renews};
-ghost use Rattle.lsp_survey.specs.Notes.{AreAfter, is_noted_lost};
+ghost use Rattle.lsp_survey.specs.Notes.{AreAfter, Leaves, is_noted_lost};
 
 use crate::notes::note::{Note, Notes};
 use crate::notes::rules::loses;
 use lsp_rpc::{Act, Change, Memory};
+use lsp_types::rules;
 
 /// The URI of the document that an act speaks of.
 fn uri_in(act: &Act) -> Option<&str>
@@ -63,6 +64,28 @@ pub(crate) fn note_refused(
         return Ok(());
     }
     notes.set(uri, Note { lost: true })
+}
+
+/// Notes that a message breaks this rule that was to open or to change this document.
+///
+/// # Errors
+/// `Memory` where memory was refused; nothing is then known of the notes.
+pub(crate) fn note_malformed(
+    notes: &mut Notes,
+    rule: u16,
+    brings: Option<String>,
+) -> Result<(), Memory>
+    ensures { OnOk result (Leaves (Some rule) (option_map string_bytes brings) None
+        notes.old.map.entries notes.new.map.entries) }
+{
+    let Some(uri) = brings else {
+        return Ok(());
+    };
+    if rule == rules::BAD_METHOD_PARAMS {
+        notes.set(uri.as_str(), Note { lost: true })
+    } else {
+        Ok(())
+    }
 }
 
 /// Notes that the text of a document was given again, whole.

@@ -17,8 +17,9 @@ use Rattle.lsp_verdict.specs.Event.{Event, message, fault, snapshot, sent_in}
 use Rattle.lsp_verdict.specs.LookBack.{first_from, first_of, each_from, each_of}
 use Rattle.lsp_verdict.specs.OffenceLaws.{KeptOffendNowhere, kept_at, KeptAreOthers, AllAreKept, NothingListed, FirstListed, IsOffence, IsListed, ListedOffend}
 use Rattle.lsp_verdict.specs.Offences.{Noted, Offence, events_of, kept_after, kept_of, rule_at}
-use Rattle.lsp_verdict.specs.Offences.{said_at, renews, left_lost, lost_by, last_or, is_lost}
-use Rattle.lsp_verdict.specs.Offences.{breaks_handshake, may_answer, broken_by, is_handshake_lost}
+use Rattle.lsp_verdict.specs.Offences.{said_at, renews, left_lost, left_by, brought_by, lost_by}
+use Rattle.lsp_verdict.specs.Offences.{last_or, is_lost, asks, breaks_handshake, may_answer}
+use Rattle.lsp_verdict.specs.Offences.{broken_by, is_handshake_lost}
 use Rattle.lsp_verdict.specs.Offences.{is_frame_fault, has_broken, unread_by, is_unread}
 use Rattle.lsp_verdict.specs.Offences.{wants_other, follows_bytes, wants_handshake, wants_text}
 use Rattle.lsp_verdict.specs.Offences.{is_on_lost, follows}
@@ -155,7 +156,7 @@ handshake_stands terms before clean =
     ap (λ (o : Option ℕ). is_some o && not (is_done (sent_in (kept_of terms (events_of before)))))
     (nothing_from (broken_by terms) [] before (λ front after n cut.
     ap (option_and_then (λ rule.
-    if breaks_handshake n.asks rule || may_answer (kept_of terms (events_of front)) n.event
+    if breaks_handshake (asks n.malformed) rule || may_answer (kept_of terms (events_of front)) n.event
     then Some rule else None))
     (clean_rule terms front after n
     (ap (λ (ns : List Noted). first_of (no_at terms) (events_of ns)) (sym cut) ∙ clean))))
@@ -174,6 +175,12 @@ kept_leaves uri (Some call) e = by_uri (bytes_eq uri (uri_of call)) e
     by_uri true h = not_lost (renews call) h
     by_uri false h = absurd cc
 
+-- an event that is kept does not leave a document lost
+never_lost : (uri : List ℕ) (brought : Option (List ℕ)) (said : Option Call)
+    → left_by uri None brought said ≡ Some true → ⊥
+never_lost uri None said e = kept_leaves uri said e
+never_lost uri (Some brought) said e = kept_leaves uri said e
+
 last_false : (o : Option Bool) (xs : List Bool) → (o ≡ Some true → ⊥) → last_or false xs ≡ false → last_or false (cons_option o xs) ≡ false
 last_false None xs none rest = rest
 last_false (Some false) xs none rest = rest
@@ -185,19 +192,19 @@ none_lost f front (x ∷ xs) none =
     last_false (f front x) (each_from f (front ++ x ∷ []) xs) (none front xs x refl)
     (none_lost f (front ++ x ∷ []) xs (λ before after y cut. none before after y (sym (append_assoc front (x ∷ []) xs) ∙ cut)))
 
-clean_event : (terms : Terms) (before after : List Event) (e : Event) → first_of (no_at terms) (before ++ e ∷ after) ≡ None → rule_at terms before e ≡ None
-clean_event terms before after e clean =
-    let parts = or_none_parts (first_of (no_at terms) before) _ (sym (first_of-append (no_at terms) before (e ∷ after)) ∙ clean) in
-    ap (λ (es : List Event). offence terms es e) (all_are_kept terms before parts.0) ∙ no_rule terms before e (nothing_at (no_at terms) (before ++ e ∷ after) before after e clean refl)
-
-document_stands : (terms : Terms) (uri : List ℕ) (before : List Event) → first_of (no_at terms) before ≡ None → is_lost terms uri before ≡ false
+document_stands : (terms : Terms) (uri : List ℕ) (before : List Noted) → IsClean terms before
+    → is_lost terms uri before ≡ false
 document_stands terms uri before clean =
-    none_lost (lost_by terms uri) [] before (λ front after e cut lost.
-    let rule = clean_event terms front after e (ap (first_of (no_at terms)) (sym cut) ∙ clean) in
-    kept_leaves uri (said_at terms front e)
-    (ap (λ (o : Option ℕ). option_and_then (λ call. if bytes_eq uri (uri_of call) then left_lost o call else None) (said_at terms front e)) (sym rule) ∙ lost))
+    none_lost (lost_by terms uri) [] before (λ front after n cut lost.
+    let rule = clean_rule terms front after n
+    (ap (λ (ns : List Noted). first_of (no_at terms) (events_of ns)) (sym cut) ∙ clean) in
+    let brought = option_and_then brought_by n.malformed in
+    let said = said_at terms (events_of front) n.event in
+    never_lost uri brought said
+    (ap (λ (o : Option ℕ). left_by uri o brought said) (sym rule) ∙ lost))
 
-none_on_lost : (terms : Terms) (before : List Event) (o : Option Call) → first_of (no_at terms) before ≡ None → is_on_lost terms before o ≡ false
+none_on_lost : (terms : Terms) (before : List Noted) (o : Option Call) → IsClean terms before
+    → is_on_lost terms before o ≡ false
 none_on_lost terms before None clean = refl
 none_on_lost terms before (Some call) clean = document_stands terms (uri_of call) before clean
 
@@ -254,12 +261,12 @@ follows_none terms before n rule clean =
     (handshake_stands terms before clean)
     ∙ ap (λ (b : Bool). b || (wants_text rule && on_lost || late)) (and-false (wants_handshake rule))
     ∙ ap (λ (b : Bool). wants_text rule && b || late)
-    (none_on_lost terms (events_of before) (said_at terms (events_of before) n.event) clean)
+    (none_on_lost terms before (said_at terms (events_of before) n.event) clean)
     ∙ ap (λ (b : Bool). b || late) (and-false (wants_text rule))
     ∙ bytes_stand terms rule (events_of before) n.event clean
   where
     on_lost : Bool
-    on_lost = is_on_lost terms (events_of before) (said_at terms (events_of before) n.event)
+    on_lost = is_on_lost terms before (said_at terms (events_of before) n.event)
 
     late : Bool
     late = follows_bytes rule (events_of before) n.event

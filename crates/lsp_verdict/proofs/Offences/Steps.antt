@@ -35,8 +35,12 @@ last_behind none [] (Some x) = refl
 last_behind none (y ∷ xs) o = last_behind y xs o
 
 -- a document is lost as this event leaves it, or as it was
-pub is_lost-push : (terms : Terms) (uri : List ℕ) (events : List Event) (e : Event) → is_lost terms uri (events ++ e ∷ []) ≡ unwrap_or (lost_by terms uri events e) (is_lost terms uri events)
-is_lost-push terms uri events e = ap (last_or false) (each_of-snoc (lost_by terms uri) events e) ∙ last_behind false (each_of (lost_by terms uri) events) (lost_by terms uri events e)
+pub is_lost-push : (terms : Terms) (uri : List ℕ) (notes : List Noted) (n : Noted)
+    → is_lost terms uri (notes ++ n ∷ [])
+    ≡ unwrap_or (lost_by terms uri notes n) (is_lost terms uri notes)
+is_lost-push terms uri notes n =
+    ap (last_or false) (each_of-snoc (lost_by terms uri) notes n)
+    ∙ last_behind false (each_of (lost_by terms uri) notes) (lost_by terms uri notes n)
 
 some_or : (a b : Option ℕ) → is_some (option_or a b) ≡ (is_some a || is_some b)
 some_or None b = refl

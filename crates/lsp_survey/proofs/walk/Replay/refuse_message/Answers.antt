@@ -1,7 +1,7 @@
 use Rattle.std.specs.Prelude.{◌&&◌, ◌||◌}
-use Rattle.std.proofs.Common.{◌≡◌, ◌∙◌, Some, refl, ap, subst}
-use Rattle.lsp_rpc.specs.View.{act_view, message_view}
-use Rattle.lsp_survey.specs.Notes.{AreAfter, asks_of}
+use Rattle.std.proofs.Common.{◌≡◌, ◌∙◌, Some, false, refl, ap, subst}
+use Rattle.lsp_rpc.specs.View.{act_view}
+use Rattle.lsp_survey.specs.Notes.{AreAfter}
 use Rattle.lsp_survey.specs.Sides.{sides_read}
 use Rattle.lsp_survey.specs.declared.notes.note.Notes.{Notes}
 use Rattle.lsp_verdict.specs.Calls.{call_of}
@@ -18,7 +18,6 @@ returns-clause-passes c =
     let old = c.args.self.now in
     let side = c.args.side in
     let rule = c.args.rule in
-    let asks = asks_of side (message_view c.args.spoken.message) in
     record {
       found = _;
       is_given = refl;
@@ -30,8 +29,7 @@ returns-clause-passes c =
       };
       is_broken = λ event kept is holds. refused.broken
           ∙ ap (λ b. old.broken || b) (c.breaks_handshake-breaks.ensures
-          ∙ ap (λ b. breaks_handshake b rule) c.asks_handshake.ensures
-          ∙ message_answers side (breaks_handshake asks rule) kept event is);
+          ∙ message_answers side (breaks_handshake false rule) kept event is);
       sides = λ event is. c.after_message.ensures ∙ ap (sides_read side) refused.sides
           ∙ message_after side old.sides event is;
       noted = λ enc kind. subst (λ (w : Notes).
