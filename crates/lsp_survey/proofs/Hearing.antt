@@ -16,6 +16,7 @@ use Rattle.lsp_replay.specs.declared.fault.Refused.TheVariants as refused
 use Rattle.lsp_replay.specs.declared.heard.Heard as lent
 use Rattle.lsp_replay.specs.declared.heard.Heard.TheVariants as kept
 use Rattle.lsp_rpc.specs.Act.{Act}
+use Rattle.lsp_rpc.specs.Ident.{id_view}
 use Rattle.lsp_rpc.specs.Message.{Message}
 use Rattle.lsp_rpc.specs.Outline.{outline}
 use Rattle.lsp_rpc.specs.View.{act_view, message_view}
@@ -30,11 +31,13 @@ use Rattle.lsp_survey.specs.Marks.{AreMarks, DoneBy, ShownBy}
 use Rattle.lsp_survey.specs.SessionNoting.{AreNotes, SaysOn}
 use Rattle.lsp_survey.specs.declared.notes.marks.Marks.{Marks}
 use Rattle.lsp_survey.specs.declared.notes.note.Notes.{Notes}
+use Rattle.lsp_survey.specs.declared.notes.passed.Passed.{Passed}
 use Rattle.lsp_survey.specs.declared.notes.session_notes.SessionNotes.{SessionNotes}
 use Rattle.lsp_survey.specs.Notes.{AreAfter, note_in}
 use Rattle.lsp_survey.specs.Walking.{Walks, WalksBy, IsRefused, IsShown, IsUnread, PassesOver}
 use Rattle.lsp_survey.specs.Walking.{IsMessageOf, IsOffending, Hears, NotesKept, NotesMessage}
 use Rattle.lsp_survey.specs.Walking.{NotesSnapshot}
+use Rattle.lsp_survey.specs.Passed.{has_passed}
 use Rattle.lsp_survey.specs.Sides.{sides_read}
 use Rattle.lsp_survey.specs.declared.offending.Judged.{Judged}
 use Rattle.lsp_survey.specs.declared.offending.Judged.TheVariants as heard
@@ -65,7 +68,7 @@ use Rattle.lsp_survey.proofs.SessionSteps.{message_noted, other_unsaid}
 module _ (old new : Replay) (notes : List Noted) (number : ℕ) (walks : Walks old notes)
     (is_number : number ≡ number_next (events_of notes))
     (terms_are : new.events.docs.terms ≡ old.events.docs.terms)
-    (is_broken : new.broken ≡ old.broken) where
+    (is_broken : new.broken ≡ old.broken) (is_passed : new.passed ≡ old.passed) where
   abbrev terms : Terms
   terms = old.events.docs.terms
 
@@ -95,7 +98,8 @@ module _ (old new : Replay) (notes : List Noted) (number : ℕ) (walks : Walks o
       kept_on (content side bytes) old new notes n (call_of enc kind act) walks
       (reads, refl) clean (ap (call_of enc kind) means)
       terms_are holds counted is_broken
-      (noted.3 ∙ ap (λ (s : Side). sides_read s old.sides) (sym is_by)) (noted.0 enc kind)
+      (noted.3 ∙ ap (λ (s : Side). sides_read s old.sides) (sym is_by)) is_passed
+      (noted.0 enc kind)
       (act_done terms old.marks.map.entries new.marks.map.entries events sent number walks.marked
       clean is_number
       (λ e k. subst (λ (a : Act). DoneBy number (call_of e k a) old.marks.map.entries
@@ -117,7 +121,7 @@ module _ (old new : Replay) (notes : List Noted) (number : ℕ) (walks : Walks o
       let call : Call = shows uri version text in
       let n : Noted = record { event = snapshot uri version text; malformed = None } in
       kept_on raw old new notes n (Some call) walks (reads, whole) clean refl terms_are holds counted
-      is_broken noted.3
+      is_broken noted.3 is_passed
       (subst (λ (w : Notes). AreAfter None (Some call) old.notes.map.entries w.map.entries)
       (sym noted.0) (notes_stay None call old.notes.map.entries refl))
       (shown_done terms old.marks.map.entries new.marks.map.entries events uri version text number
@@ -190,16 +194,16 @@ pub kept_heard : (raw : Raw) (old new : Replay) (notes : List Noted) (number : �
     (given : lent.Heard) (m : session.State) (d : docs.State) (c : Counts) → Walks old notes
     → number ≡ number_next (events_of notes) → d.terms ≡ old.events.docs.terms
     → new.events.session ≡ m → new.events.docs ≡ d → new.events.counts ≡ c
-    → new.broken ≡ old.broken
+    → new.broken ≡ old.broken → new.passed ≡ old.passed
     → Keeps raw old.events.docs.terms old.events.counts given m d c
     (kept_of old.events.docs.terms (events_of notes))
     → NotesKept number given old new → Hears raw old.events.docs.terms new notes heard.Kept
 kept_heard raw old new notes number given m d c walks is_number terms_are same_m same_d same_c
-    is_broken k noted =
+    is_broken is_passed k noted =
     let events : List Event = events_of notes in
     let before : List Event = kept_of old.events.docs.terms events in
     by_event old new notes number walks is_number
-    (ap (λ (w : docs.State). w.terms) same_d ∙ terms_are) is_broken raw given k.event k.reads
+    (ap (λ (w : docs.State). w.terms) same_d ∙ terms_are) is_broken is_passed raw given k.event k.reads
     k.is_heard k.answers k.clean
     (subst (λ (w : session.State). Holds w new.events.docs (before ++ k.event ∷ [])) (sym same_m)
     (subst (λ (w : docs.State). Holds m w (before ++ k.event ∷ [])) (sym same_d) k.holds))
@@ -213,8 +217,9 @@ pub still_walks : (old new : Replay) (notes : List Noted) → Walks old notes
     → new.events.docs.terms ≡ old.events.docs.terms
     → Holds new.events.session new.events.docs (kept_of old.events.docs.terms (events_of notes))
     → new.events.counts ≡ old.events.counts → new.notes ≡ old.notes → new.broken ≡ old.broken
-    → new.marks ≡ old.marks → new.said ≡ old.said → new.sides ≡ old.sides → Walks new notes
-still_walks old new notes walks terms_are holds counts notes_are is_broken marks said sides =
+    → new.marks ≡ old.marks → new.said ≡ old.said → new.sides ≡ old.sides
+    → new.passed ≡ old.passed → Walks new notes
+still_walks old new notes walks terms_are holds counts notes_are is_broken marks said sides passed =
     let terms : Terms = old.events.docs.terms in
     let events : List Event = events_of notes in
     subst (λ (t : Terms). WalksBy t new notes) (sym terms_are) (record {
@@ -225,6 +230,8 @@ still_walks old new notes walks terms_are holds counts notes_are is_broken marks
       marked = subst (λ (m : Marks). AreMarks terms m.map.entries events) (sym marks) walks.marked;
       said = subst (λ (m : SessionNotes). AreNotes terms m events) (sym said) walks.said;
       sided = sides ∙ walks.sided;
+      passed = λ side k. ap (λ (p : Passed). has_passed p side (id_view k)) passed
+          ∙ walks.passed side k;
     })
 
 module _ (old new : Replay) (notes : List Noted) (given : Judged) (walks : Walks old notes) where
@@ -267,7 +274,8 @@ module _ (old new : Replay) (notes : List Noted) (given : Judged) (walks : Walks
   pub message_refused : (raw : Raw) (side : Side) (rule : ℕ) (spoken : Spoken)
       → IsRefused raw old.events.docs.terms notes (refused.Message side rule spoken)
       → PassesOver old new (who_of side) rule None
-      (λ e k. call_of e k (act_view spoken.act)) (IsMessageOf side)
+      (λ e k. call_of e k (act_view spoken.act))
+      (IsMessageOf side (message_view spoken.message))
       (λ o. o ≡ what.Message side spoken) given → Hears raw old.events.docs.terms new notes given
   message_refused (content side bytes) by rule spoken (same, refuses) passes =
       let terms : Terms = old.events.docs.terms in
@@ -277,9 +285,10 @@ module _ (old new : Replay) (notes : List Noted) (given : Judged) (walks : Walks
       let sent = refuses.sent in
       let n : Noted = record { event = message sent; malformed = None } in
       passed_over (content side bytes) old new notes n (who_of by) rule
-      (λ e k. call_of e k (act_view spoken.act)) enc kind (IsMessageOf by)
+      (λ e k. call_of e k (act_view spoken.act)) enc kind
+      (IsMessageOf by (message_view spoken.message))
       (λ o. o ≡ what.Message by spoken) given walks (refuses.reads, refl)
-      (sent, refl, refuses.reads.by ∙ sym same) (ap who_of (refuses.reads.by ∙ sym same))
+      (sent, refl, refuses.reads.by ∙ sym same, refuses.says) (ap who_of (refuses.reads.by ∙ sym same))
       refuses.offends
       (ap (call_of enc kind) refuses.means)
       (λ o e. subst (IsOffending (content side bytes) terms kept rule) (sym e) (same, refuses))

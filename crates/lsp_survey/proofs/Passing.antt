@@ -1,5 +1,5 @@
 -- A walk over events, with one event more.
-use Rattle.std.specs.Prelude.{if◌then◌else◌, is_some, option_and_then, ◌||◌}
+use Rattle.std.specs.Prelude.{if◌then◌else◌, is_some, option_and_then, unwrap_or, ◌||◌}
 use Rattle.std.proofs.Common.{◌≡◌, ℕ, Bool, true, false, List, [], ◌∷◌, ◌++◌, Option, Some, None}
 use Rattle.std.proofs.Common.{refl, sym, ap, subst, ◌∙◌}
 use Rattle.lsp_docs.specs.Calls.{Call}
@@ -7,9 +7,11 @@ use Rattle.lsp_docs.specs.State as docs
 use Rattle.lsp_docs.specs.Terms.{Terms}
 use Rattle.lsp_replay.specs.Standing.{Holds}
 use Rattle.lsp_session.specs.State as session
+use Rattle.lsp_rpc.specs.Ident.{id_view}
 use Rattle.lsp_rpc.specs.Message.{Message}
 use Rattle.lsp_survey.specs.Notes.{note_of, note_after, Leaves, is_noted_lost}
 use Rattle.lsp_survey.specs.Marks.{AreMarks}
+use Rattle.lsp_survey.specs.Passed.{ArePassed}
 use Rattle.lsp_survey.specs.Sides.{sides_after, sides_of}
 use Rattle.lsp_survey.specs.SessionNoting.{AreNotes}
 use Rattle.lsp_survey.specs.Walking.{WalksBy, Walks, offence_of, PassesOver}
@@ -29,16 +31,18 @@ use Rattle.lsp_verdict.specs.Given.{given_offence}
 use Rattle.lsp_verdict.specs.LookBack.{first_of}
 use Rattle.lsp_verdict.specs.Offences.{Noted, IsNoted, asks, breaks_handshake, broken_by}
 use Rattle.lsp_verdict.specs.Offences.{brought_by, events_of, follows_bytes, is_on_lost, kept_of}
-use Rattle.lsp_verdict.specs.Offences.{may_answer, rule_at}
+use Rattle.lsp_verdict.specs.Offences.{answered_by, asked_by, follows_passed, is_passed}
+use Rattle.lsp_verdict.specs.Offences.{may_answer, passes, rule_at}
 use Rattle.lsp_verdict.specs.Offences.{said_at}
 use Rattle.lsp_verdict.specs.Placed.{Raw}
 use Rattle.lsp_verdict.specs.Verdict.{whose}
 use Rattle.lsp_verdict.specs.declared.verdict.Who.{Who}
 use Rattle.lsp_survey.proofs.MarkSteps.{refused_leaves}
 use Rattle.lsp_survey.proofs.SessionSteps.{refused_unsaid}
+use Rattle.lsp_survey.proofs.PassedSteps.{kept_passes}
 use Rattle.lsp_survey.proofs.SidesSteps.{sides_pushed}
-use Rattle.lsp_verdict.proofs.Offences.Steps.{broken-push, events_of-push, is_lost-push, kept-push}
-use Rattle.lsp_verdict.proofs.Offences.Steps.{kept-refused}
+use Rattle.lsp_verdict.proofs.Offences.Steps.{broken-push, events_of-push, is_lost-push}
+use Rattle.lsp_verdict.proofs.Offences.Steps.{is_passed-push, kept-push, kept-refused}
 
 -- ---- what is noted
 
@@ -98,6 +102,7 @@ record Steps (terms : Terms) (old new : Replay) (notes : List Noted) (n : Noted)
   pub is_broken : new.broken ≡ (old.broken || breaks_by rule n.malformed
       (may_answer (kept_of terms (events_of notes)) n.event))
   pub sides : new.sides ≡ sides_after n.event old.sides
+  pub passed : ArePassed rule n.event n.malformed old.passed new.passed
   pub noted : Leaves rule (option_and_then brought_by n.malformed) said old.notes.map.entries
       new.notes.map.entries
   pub marked : AreMarks terms new.marks.map.entries (events_of notes ++ n.event ∷ [])
@@ -131,6 +136,14 @@ walks_on terms old new notes n rule said walks s =
           ∙ ap (sides_after n.event) walks.sided
           ∙ sym (sides_pushed (events_of notes) n.event)
           ∙ ap sides_of (sym (events_of-push notes n));
+      passed = λ side k.
+          let was = is_passed terms side (id_view k) notes in
+          let does = passes (asked_by side n.event n.malformed) (answered_by side n.event)
+          (id_view k) in
+          s.passed side k
+          ∙ ap (λ (b : Bool). unwrap_or (option_and_then does rule) b) (walks.passed side k)
+          ∙ ap (λ (o : Option ℕ). unwrap_or (option_and_then does o) was) (sym s.rule_is)
+          ∙ sym (is_passed-push terms side (id_view k) notes n);
       marked = subst (AreMarks terms new.marks.map.entries) (sym (events_of-push notes n)) s.marked;
       said = subst (AreNotes terms new.said) (sym (events_of-push notes n)) s.told;
     })
@@ -160,7 +173,8 @@ pub passed_over : (raw : Raw) (old new : Replay) (notes : List Noted) (n : Noted
 passed_over raw old new notes n by rule says enc kind IsEvent IsSuch given walks is_noted is_event
     whose_is rule_is said_is such p =
     let terms : Terms = old.events.docs.terms in
-    let late : Bool = follows_bytes rule (events_of notes) n.event in
+    let late : Bool = follows_passed terms rule notes n.event
+    || follows_bytes rule (events_of notes) n.event in
     let found : Offends raw terms notes n p.found = record {
       rule = rule;
       offends = rule_is;
@@ -191,6 +205,7 @@ passed_over raw old new notes n by rule says enc kind IsEvent IsSuch given walks
         counted = p.counted.counts (events_of notes) n.event walks.counted whose_is;
         is_broken = p.is_broken n.event (kept_of terms (events_of notes)) is_event walks.holds;
         sides = p.sides n.event is_event;
+        passed = p.passed n.event is_event;
         noted = p.noted enc kind;
         marked = refused_leaves terms new.marks.map.entries (events_of notes) n.event rule
             (subst (λ (m : Marks). AreMarks terms m.map.entries (events_of notes)) (sym p.marks)
@@ -225,14 +240,14 @@ pub kept_on : (raw : Raw) (old new : Replay) (notes : List Noted) (n : Noted) (s
     → Holds new.events.session new.events.docs
     (kept_of old.events.docs.terms (events_of notes) ++ n.event ∷ [])
     → AreCounts new.events.counts (events_of notes ++ n.event ∷ []) → new.broken ≡ old.broken
-    → new.sides ≡ sides_after n.event old.sides
+    → new.sides ≡ sides_after n.event old.sides → new.passed ≡ old.passed
     → Leaves None (option_and_then brought_by n.malformed) said old.notes.map.entries
     new.notes.map.entries
     → AreMarks old.events.docs.terms new.marks.map.entries (events_of notes ++ n.event ∷ [])
     → AreNotes old.events.docs.terms new.said (events_of notes ++ n.event ∷ [])
     → Hears raw old.events.docs.terms new notes heard.Kept
 kept_on raw old new notes n said walks is_noted rule_is said_is terms_are holds counted is_broken
-    sides noted marked told =
+    sides passed noted marked told =
     let terms : Terms = old.events.docs.terms in
     record {
       n = n;
@@ -246,6 +261,7 @@ kept_on raw old new notes n said walks is_noted rule_is said_is terms_are holds 
         counted = counted;
         is_broken = is_broken ∙ or_false old.broken;
         sides = sides;
+        passed = kept_passes n.event n.malformed old.passed new.passed passed;
         noted = noted;
         marked = marked;
         told = told;

@@ -6,11 +6,13 @@ use Rattle.std.specs.Global.{Global}
 use Rattle.std.specs.Str.{bytes_eq}
 use Rattle.lsp_docs.specs.Calls.{Call, uri_of}
 use Rattle.lsp_docs.specs.Terms.{Terms}
+use Rattle.lsp_rpc.specs.Ident.{id_view}
 use Rattle.lsp_rpc.specs.Message.{Message}
 use Rattle.lsp_survey.specs.ByUri.{held_by}
 use Rattle.lsp_survey.specs.declared.notes.malformed.Malformed.{Malformed}
 use Rattle.lsp_survey.specs.declared.notes.note.Note.{Note}
 use Rattle.lsp_verdict.specs.Offences.{Noted, asks, brought_by, is_within, left_by, is_lost}
+use Rattle.lsp_verdict.specs.Offences.{request_id}
 use Rattle.lsp_types.specs.declared.rules.TheConstants as rules
 
 -- ---- notes
@@ -72,3 +74,4 @@ loses_by rule has_changes =
 pub record IsMeant (m : Option Message) (meant : Malformed) : Type 0 where
   pub asks : meant.asks ≡ asks m
   pub brings : option_map string_bytes meant.brings ≡ option_and_then brought_by m
+  pub asked : option_map id_view meant.asked ≡ option_and_then request_id m

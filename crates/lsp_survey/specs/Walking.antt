@@ -9,7 +9,10 @@ use Rattle.lsp_replay.specs.declared.fault.Refused.{Refused}
 use Rattle.lsp_replay.specs.declared.heard.Heard as events
 use Rattle.lsp_replay.specs.declared.heard.Heard.TheVariants as kept
 use Rattle.lsp_rpc.specs.Act.{Act}
+use Rattle.lsp_rpc.specs.Ident.{id_view}
 use Rattle.lsp_rpc.specs.Message.{Message}
+use Rattle.lsp_rpc.specs.Outline.{outline}
+use Rattle.lsp_rpc.specs.declared.message.Id.{Id}
 use Rattle.lsp_rpc.specs.View.{act_view, message_view}
 use Rattle.lsp_session.specs.Handshake.{phase}
 use Rattle.lsp_session.specs.Sent.{Sent}
@@ -17,6 +20,7 @@ use Rattle.lsp_session.specs.State.{Stands}
 use Rattle.lsp_survey.specs.Marks.{AreMarks, DoneBy, ShownBy}
 use Rattle.lsp_survey.specs.SessionNoting.{AreNotes, SaysOn}
 use Rattle.lsp_survey.specs.Notes.{note_in, note_of, AreAfter, Leaves, is_noted_lost}
+use Rattle.lsp_survey.specs.Passed.{ArePassed, has_passed}
 use Rattle.lsp_survey.specs.Sides.{sides_after, sides_of, sides_read}
 use Rattle.lsp_survey.specs.declared.offending.FoundOffence.{FoundOffence}
 use Rattle.lsp_survey.specs.declared.offending.Judged.{Judged}
@@ -35,7 +39,7 @@ use Rattle.lsp_verdict.specs.Given.{given_offence, offence_view}
 use Rattle.lsp_verdict.specs.LookBack.{first_of}
 use Rattle.lsp_verdict.specs.Offences.{Noted, Offence, IsNoted, asks, breaks_handshake, broken_by}
 use Rattle.lsp_verdict.specs.Offences.{brought_by, events_of, follows_bytes, is_handshake_lost, kept_of}
-use Rattle.lsp_verdict.specs.Offences.{may_answer, offence_by, rule_at}
+use Rattle.lsp_verdict.specs.Offences.{follows_passed, is_passed, may_answer, offence_by, rule_at}
 use Rattle.lsp_verdict.specs.Offences.{wants_handshake, wants_text}
 use Rattle.lsp_verdict.specs.Placed.{Raw, content, broken, show}
 use Rattle.lsp_verdict.specs.Verdict.{no_next, whose}
@@ -52,6 +56,8 @@ pub record WalksBy (terms : Terms) (w : Replay) (notes : List Noted) : Type 0 wh
   pub marked : AreMarks terms w.marks.map.entries (events_of notes)
   pub said : AreNotes terms w.said (events_of notes)
   pub sided : w.sides ≡ sides_of (events_of notes)
+  pub passed : (side : Side) (k : Id) → has_passed w.passed side (id_view k)
+      ≡ is_passed terms side (id_view k) notes
 
 -- **a walk has heard these events**, and skipped each that offends after the kept ones before
 -- it
@@ -98,7 +104,7 @@ pub record Counted (old new : Replay) (by : Who) : Type 0 where
       → whose event ≡ by → AreCounts new.events.counts (events ++ event ∷ [])
 
 -- the offence by this rule at the event of theirs that comes next, which speaks of a lost document
--- or does not, and follows from bytes that failed or does not
+-- or does not, and follows from bytes that failed or from a request that was passed over or does not
 abbrev pub offence_of : Terms → List Noted → Who → ℕ → Bool → Bool → Offence
 offence_of terms before by rule on_lost late = record {
   no = no_next rule by (events_of before);
@@ -106,9 +112,11 @@ offence_of terms before by rule on_lost late = record {
       || (wants_text rule && on_lost || late);
 }
 
--- a message of this side
-abbrev pub IsMessageOf : Side → Event → Type 0
-IsMessageOf side event = (sent : Sent) × (event ≡ message sent) × (sent.side ≡ side)
+-- this message of the side, up to its params
+abbrev pub IsMessageOf : Side → Message → Event → Type 0
+IsMessageOf side said event =
+    (sent : Sent) × (event ≡ message sent) × (sent.side ≡ side)
+    × (outline sent.message ≡ outline said)
 
 -- this content of the side does not read as a message that means something
 abbrev pub IsUnread : Side → List ℕ → OffendingEvent → Type 0
@@ -136,6 +144,8 @@ pub record PassesOver (old new : Replay) (by : Who) (rule : ℕ) (malformed : Op
       → new.broken ≡ (old.broken || (breaks_handshake (asks malformed) rule
       || may_answer kept event))
   pub sides : (event : Event) → IsEvent event → new.sides ≡ sides_after event old.sides
+  pub passed : (event : Event) → IsEvent event
+      → ArePassed (Some rule) event malformed old.passed new.passed
   pub noted : (enc : Encoding) (kind : SyncKind)
       → Leaves (Some rule) (option_and_then brought_by malformed) (says enc kind)
       old.notes.map.entries new.notes.map.entries
@@ -146,7 +156,8 @@ pub record PassesOver (old new : Replay) (by : Who) (rule : ℕ) (malformed : Op
       → offence_view found.offence
       ≡ given_offence (offence_of old.events.docs.terms notes by rule
       (is_noted_lost old.notes.map.entries (says enc kind))
-      (follows_bytes rule (events_of notes) event))
+      (follows_passed old.events.docs.terms rule notes event
+      || follows_bytes rule (events_of notes) event))
 
 -- ---- what was heard
 

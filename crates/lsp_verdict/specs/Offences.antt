@@ -7,13 +7,15 @@ use Rattle.std.specs.List.{AllZip, filter_map, list_any}
 use Rattle.std.specs.Option.{option_or}
 use Rattle.std.specs.Str.{bytes_eq}
 use Rattle.lsp_frame.specs.Bounds.{Bounds}
+use Rattle.lsp_rpc.specs.Ident.{Ident}
 use Rattle.lsp_rpc.specs.Message.{Message, request, notification, response}
 use Rattle.lsp_rpc.specs.Params.{required, uri_at}
 use Rattle.lsp_rpc.specs.Reading as content
 use Rattle.lsp_types.specs.declared.side.Side.{Side}
 use Rattle.lsp_types.specs.declared.side.Side.TheVariants.{Editor, Server}
 use Rattle.lsp_session.specs.Handshake.{is_done, is_empty, open_initializes}
-use Rattle.lsp_session.specs.Sent.{other_side, same_side}
+use Rattle.lsp_session.specs.Requests.{names}
+use Rattle.lsp_session.specs.Sent.{answered_from, other_side, request_of, response_id, same_side}
 use Rattle.lsp_text.specs.Edits.{Edit}
 use Rattle.lsp_docs.specs.Calls.{Call, opens, changes, closes, saves, shows, uri_of}
 use Rattle.lsp_docs.specs.Terms.{Terms}
@@ -215,6 +217,58 @@ follows_bytes rule before (fault side code) =
     nat_le rule rules.CHARSET_NOT_UTF_8 && is_unread side before
 follows_bytes rule before (snapshot uri number text) = false
 
+-- ---- a request is passed over
+
+-- the id of a request
+abbrev pub request_id : Message → Option Ident
+request_id m = option_map (λ asked. asked.0) (request_of m)
+
+-- the id of this side's request that a message of the sender is
+abbrev pub asked_from : Side → Side → Message → Option Ident
+asked_from side sender m = if same_side side sender then request_id m else None
+
+-- the id of this side's request that an event is, also where its params do not have their shape
+abbrev pub asked_by : Side → Event → Option Message → Option Ident
+asked_by side (message m) malformed = asked_from side m.side m.message
+asked_by side (fault by rule) malformed = option_and_then (asked_from side by) malformed
+asked_by side (snapshot uri number text) malformed = None
+
+-- the id of this side's request that an event answers
+abbrev pub answered_by : Side → Event → Option Ident
+answered_by side (message m) = answered_from side m.side m.message
+answered_by side (fault by rule) = None
+answered_by side (snapshot uri number text) = None
+
+-- what an event that offends by this rule does to the request with this id: it asks the one, which
+-- is passed over, or answers the other, so that no answer is left
+abbrev pub passes : Option Ident → Option Ident → Ident → ℕ → Option Bool
+passes asked answered id rule =
+    if names asked id then Some true
+    else (if names answered id && rule == rules.RESPONSE_TO_NO_OPEN_REQUEST then Some false
+    else None)
+
+abbrev pub passed_by : Terms → Side → Ident → List Noted → Noted → Option Bool
+passed_by terms side id before n =
+    option_and_then (passes (asked_by side n.event n.malformed) (answered_by side n.event) id)
+    (rule_at terms (events_of before) n.event)
+
+-- **a request of this side with this id was passed over**, and no answer to it has come yet
+abbrev pub is_passed : Terms → Side → Ident → List Noted → Bool
+is_passed terms side id before = last_or false (each_of (passed_by terms side id) before)
+
+abbrev pub is_any_passed : Terms → Side → Option Ident → List Noted → Bool
+is_any_passed terms side None before = false
+is_any_passed terms side (Some id) before = is_passed terms side id before
+
+-- **an offence of this event, by this rule, follows from a request that was passed over**: it is
+-- the answer to it
+abbrev pub follows_passed : Terms → ℕ → List Noted → Event → Bool
+follows_passed terms rule before (message m) =
+    rule == rules.RESPONSE_TO_NO_OPEN_REQUEST
+    && is_any_passed terms (other_side m.side) (response_id m.message) before
+follows_passed terms rule before (fault side code) = false
+follows_passed terms rule before (snapshot uri number text) = false
+
 -- ---- what follows
 
 -- the rules that are broken where there was no handshake: 301, 401, 402, 411, 412
@@ -238,7 +292,8 @@ follows terms before n rule =
     wants_handshake rule && is_handshake_lost terms before
     || (wants_text rule
     && is_on_lost terms before (said_at terms (events_of before) n.event)
-    || follows_bytes rule (events_of before) n.event)
+    || (follows_passed terms rule before n.event
+    || follows_bytes rule (events_of before) n.event))
 
 -- ---- all offences
 

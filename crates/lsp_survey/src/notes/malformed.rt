@@ -1,13 +1,15 @@
 //! The message of a content that is refused though it is one: its params don't have their shape.
 ghost use Rattle.std.specs.Prelude.{◌≡◌, IfOk, Some, codes, option_map};
+ghost use Rattle.lsp_rpc.specs.Ident.{id_view};
 ghost use Rattle.lsp_rpc.specs.Message.{Message as AMessage};
 ghost use Rattle.lsp_rpc.specs.Params.{required, uri_at};
 ghost use Rattle.lsp_rpc.specs.View.{message_view};
 ghost use Rattle.lsp_survey.specs.Notes.{IsMeant};
 ghost use Rattle.lsp_verdict.specs.Offences.{IsReading, asks_handshake, brings_text, brought_by};
+ghost use Rattle.lsp_verdict.specs.Offences.{request_id};
 ghost use Rattle.serde_json.specs.View.{view};
 
-use lsp_rpc::{Memory, Message, RpcFault, read};
+use lsp_rpc::{Id, Memory, Message, RpcFault, copy_id, read};
 use serde_json::Value;
 use std::alloc::Global;
 
@@ -18,6 +20,8 @@ pub(crate) struct Malformed {
     pub asks: bool,
     /// The URI of the document that it opens or changes.
     pub brings: Option<String>,
+    /// The id of the request that it is.
+    pub asked: Option<Id>,
 }
 
 /// Whether a message is a request `initialize`.
@@ -72,6 +76,17 @@ fn brought_by(message: &Message) -> Option<&str>
     }
 }
 
+/// The id of a request.
+fn request_id(message: &Message) -> Option<&Id>
+    ensures { option_map (λ id. id_view id.now) result ≡ request_id (message_view message.now) }
+{
+    match message {
+        Message::Request { id, .. } => Some(id),
+        Message::Notification { .. } => None,
+        Message::Response { .. } => None,
+    }
+}
+
 /// What a message was to do.
 fn meant_by(alloc: Global, message: &Message) -> Result<Malformed, Memory>
     ensures { IfOk result (IsMeant (Some (message_view message.now))) }
@@ -80,9 +95,14 @@ fn meant_by(alloc: Global, message: &Message) -> Result<Malformed, Memory>
         Some(uri) => Some(String::from_str(alloc, uri)?),
         None => None,
     };
+    let asked = match request_id(message) {
+        Some(id) => Some(copy_id(id)?),
+        None => None,
+    };
     Ok(Malformed {
         asks: is_initialize(message),
         brings,
+        asked,
     })
 }
 
@@ -103,6 +123,7 @@ pub(crate) fn meant_again(alloc: Global, content: &[u8]) -> Result<Malformed, Me
         Err(RpcFault::Rule(_)) => Ok(Malformed {
             asks: false,
             brings: None,
+            asked: None,
         }),
         Err(RpcFault::Memory) => Err(Memory),
     }

@@ -1,5 +1,5 @@
 -- All offences of a session: which events are kept, and what is listed.
-use Rattle.std.specs.Prelude.{option_map, option_and_then, ◌&&◌, ◌||◌, not, is_some, if◌then◌else◌}
+use Rattle.std.specs.Prelude.{option_map, option_and_then, ◌&&◌, ◌||◌, ◌==◌, not, is_some, if◌then◌else◌}
 use Rattle.std.specs.Prelude.{nat_le}
 use Rattle.std.specs.List.{cons_option, filter_map, list_any}
 use Rattle.std.specs.Option.{option_or}
@@ -10,7 +10,8 @@ use Rattle.std.proofs.Math.Bool.{and-false}
 use Rattle.lsp_docs.specs.Calls.{Call, uri_of}
 use Rattle.lsp_docs.specs.Terms.{Terms}
 use Rattle.lsp_session.specs.Handshake.{is_done}
-use Rattle.lsp_session.specs.Sent.{other_side, same_side}
+use Rattle.lsp_rpc.specs.Ident.{Ident}
+use Rattle.lsp_session.specs.Sent.{other_side, response_id, same_side}
 use Rattle.lsp_types.specs.declared.rules.TheConstants as rules
 use Rattle.lsp_types.specs.declared.side.Side.{Side}
 use Rattle.lsp_verdict.specs.Event.{Event, message, fault, snapshot, sent_in}
@@ -22,7 +23,8 @@ use Rattle.lsp_verdict.specs.Offences.{last_or, is_lost, asks, breaks_handshake,
 use Rattle.lsp_verdict.specs.Offences.{broken_by, is_handshake_lost}
 use Rattle.lsp_verdict.specs.Offences.{is_frame_fault, has_broken, unread_by, is_unread}
 use Rattle.lsp_verdict.specs.Offences.{wants_other, follows_bytes, wants_handshake, wants_text}
-use Rattle.lsp_verdict.specs.Offences.{is_on_lost, follows}
+use Rattle.lsp_verdict.specs.Offences.{is_on_lost, asked_by, answered_by, passes, passed_by}
+use Rattle.lsp_verdict.specs.Offences.{is_passed, is_any_passed, follows_passed, follows}
 use Rattle.lsp_verdict.specs.Offences.{offence_by, offence_at, offences}
 use Rattle.lsp_verdict.specs.Verdict.{Verdict, offence, no_by, no_at, first_no}
 use Rattle.lsp_verdict.proofs.Finding.{nothing_from, nothing_at, map_none}
@@ -254,19 +256,48 @@ bytes_stand terms rule before (fault side code) clean =
     (none_unread terms side [] before clean) ∙ and-false (nat_le rule rules.CHARSET_NOT_UTF_8)
 bytes_stand terms rule before (snapshot uri n t) clean = refl
 
+-- ---- no request is passed over
+
+none_passed : (terms : Terms) (side : Side) (id : Ident) (before : List Noted)
+    → IsClean terms before → is_passed terms side id before ≡ false
+none_passed terms side id before clean =
+    none_lost (passed_by terms side id) [] before (λ front after n cut passed.
+    let none = ap (option_and_then
+    (passes (asked_by side n.event n.malformed) (answered_by side n.event) id))
+    (clean_rule terms front after n
+    (ap (λ (ns : List Noted). first_of (no_at terms) (events_of ns)) (sym cut) ∙ clean)) in
+    absurd (cc (sym passed ∙ none)))
+
+no_answer : (terms : Terms) (rule : ℕ) (before : List Noted) (e : Event) → IsClean terms before
+    → follows_passed terms rule before e ≡ false
+no_answer terms rule before (message m) clean =
+    ap (λ (b : Bool). rule == rules.RESPONSE_TO_NO_OPEN_REQUEST && b)
+    (by_id (response_id m.message)) ∙ and-false (rule == rules.RESPONSE_TO_NO_OPEN_REQUEST)
+  where
+    by_id : (o : Option Ident) → is_any_passed terms (other_side m.side) o before ≡ false
+    by_id None = refl
+    by_id (Some id) = none_passed terms (other_side m.side) id before clean
+no_answer terms rule before (fault side code) clean = refl
+no_answer terms rule before (snapshot uri n t) clean = refl
+
 follows_none : (terms : Terms) (before : List Noted) (n : Noted) (rule : ℕ) → IsClean terms before
     → follows terms before n rule ≡ false
 follows_none terms before n rule clean =
-    ap (λ (b : Bool). wants_handshake rule && b || (wants_text rule && on_lost || late))
-    (handshake_stands terms before clean)
-    ∙ ap (λ (b : Bool). b || (wants_text rule && on_lost || late)) (and-false (wants_handshake rule))
-    ∙ ap (λ (b : Bool). wants_text rule && b || late)
+    ap (λ (b : Bool). wants_handshake rule && b || (wants_text rule && on_lost
+    || (passed || late))) (handshake_stands terms before clean)
+    ∙ ap (λ (b : Bool). b || (wants_text rule && on_lost || (passed || late)))
+    (and-false (wants_handshake rule))
+    ∙ ap (λ (b : Bool). wants_text rule && b || (passed || late))
     (none_on_lost terms before (said_at terms (events_of before) n.event) clean)
-    ∙ ap (λ (b : Bool). b || late) (and-false (wants_text rule))
+    ∙ ap (λ (b : Bool). b || (passed || late)) (and-false (wants_text rule))
+    ∙ ap (λ (b : Bool). b || late) (no_answer terms rule before n.event clean)
     ∙ bytes_stand terms rule (events_of before) n.event clean
   where
     on_lost : Bool
     on_lost = is_on_lost terms before (said_at terms (events_of before) n.event)
+
+    passed : Bool
+    passed = follows_passed terms rule before n.event
 
     late : Bool
     late = follows_bytes rule (events_of before) n.event

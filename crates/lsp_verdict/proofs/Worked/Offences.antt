@@ -10,6 +10,7 @@ use Rattle.json.specs.Text.{content}
 use Rattle.json.specs.Word.{word, after_number}
 use Rattle.json.specs.Print.{escape_byte}
 use Rattle.serde_json.specs.Read.{number_of, read}
+use Rattle.lsp_rpc.specs.Message.{Message}
 use Rattle.lsp_rpc.specs.Reading.{message_in, parts_of}
 use Rattle.lsp_log.specs.declared.fault.LogCode.{LogCode}
 use Rattle.lsp_log.specs.declared.fault.LogCode.TheVariants.{L4}
@@ -22,19 +23,22 @@ use Rattle.lsp_verdict.specs.declared.completeness.Completeness.{Completeness}
 use Rattle.lsp_verdict.specs.declared.completeness.Completeness.TheVariants.{Ignored, Required}
 use Rattle.lsp_verdict.specs.declared.verdict.Who.{Who}
 use Rattle.lsp_verdict.specs.declared.verdict.Who.TheVariants as who
-use Rattle.lsp_verdict.proofs.Worked.Templates.{terms, A, A1, E, I1, N1, START, OPEN, CHG, REP, FULL, CLOSE, SAVE, REQ, RES, LOG, SH, EX, T}
+use Rattle.lsp_verdict.proofs.Worked.Templates.{terms, A, A1, E, S, I1, N1, START, OPEN, CHG, REP, FULL, CLOSE, SAVE, REQ, RES, LOG, SH, EX, T}
 
 -- events none of which is a message whose params do not have their shape
 abbrev noted : List Event → List Noted
 noted events = map (λ (e : Event).
     let n : Noted = record { event = e; malformed = None } in n) events
 
+abbrev message_of : List ℕ → Option Message
+message_of content = option_and_then (λ d. message_in (parts_of d)) (read content)
+
 -- an event of the editor's with this content, whose params do not have their shape
 abbrev malformed : List ℕ → Noted
-malformed content = record {
-  event = E content;
-  malformed = option_and_then (λ d. message_in (parts_of d)) (read content);
-}
+malformed content = record { event = E content; malformed = message_of content }
+
+abbrev bad_registration : List ℕ
+bad_registration = codes "{\"jsonrpc\":\"2.0\",\"id\":5,\"method\":\"client/registerCapability\"}"
 
 abbrev all_of : List Event → List Offence
 all_of events = offences terms (noted events)
@@ -135,7 +139,7 @@ unfolding value punctuate lex content word after_number number_of scan_numeral c
 refused_otherwise = refl
 
 -- a session without a handshake: each offence is one of its own
-no_handshake : all_of (REQ ∷ LOG ∷ RES (codes "7") ∷ [])
+no_handshake : all_of (REQ ∷ LOG ∷ RES (codes "8") ∷ [])
     ≡ cause 401 who.Editor 1 1 ∷ cause 411 who.Server 1 2 ∷ cause 301 who.Server 2 3 ∷ []
 unfolding value punctuate lex content word after_number number_of scan_numeral chars
 no_handshake = refl
@@ -176,6 +180,36 @@ right_again : all_of (START ++ fault Editor 201 ∷ REQ ∷ fault Editor 102 ∷
     ≡ cause 201 who.Editor 3 4 ∷ cause 102 who.Editor 5 6 ∷ []
 unfolding value punctuate lex content word after_number number_of scan_numeral chars
 right_again = refl
+
+-- ---- requests that are passed over
+
+-- the answer to one that offends follows from it; a second answer does not
+passed_over : all_of (REQ ∷ I1 ∷ A1 ∷ N1 ∷ RES (codes "7") ∷ RES (codes "7") ∷ [])
+    ≡ cause 401 who.Editor 1 1 ∷ after_it 301 who.Server 2 5 ∷ cause 301 who.Server 3 6 ∷ []
+unfolding value punctuate lex content word after_number number_of scan_numeral chars
+passed_over = refl
+
+-- of two requests with one id the second is passed over: its answer is the second one
+twice_asked : all_of (START ++ REQ ∷ REQ ∷ RES (codes "7") ∷ RES (codes "7") ∷ RES (codes "7") ∷ [])
+    ≡ cause 302 who.Editor 4 5 ∷ after_it 301 who.Server 3 7 ∷ cause 301 who.Server 4 8 ∷ []
+unfolding value punctuate lex content word after_number number_of scan_numeral chars
+twice_asked = refl
+
+-- an answer with another id is one by itself, and so is one by the side that asked
+answered_otherwise : all_of (START ++ REQ ∷ REQ ∷ RES (codes "8") ∷ [])
+    ≡ cause 302 who.Editor 4 5 ∷ cause 301 who.Server 2 6 ∷ []
+unfolding value punctuate lex content word after_number number_of scan_numeral chars
+answered_otherwise = refl
+
+-- a request whose params do not have their shape
+unshaped : offences terms (noted START
+    ++ record {
+      event = S bad_registration;
+      malformed = message_of bad_registration;
+    } ∷ noted (E (codes "{\"jsonrpc\":\"2.0\",\"id\":5,\"result\":null}") ∷ []))
+    ≡ cause 209 who.Server 2 4 ∷ after_it 301 who.Editor 3 5 ∷ []
+unfolding value punctuate lex content word after_number number_of scan_numeral chars
+unshaped = refl
 
 -- ---- how sessions end
 

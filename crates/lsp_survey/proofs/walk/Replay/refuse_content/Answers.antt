@@ -1,11 +1,15 @@
 use Rattle.std.specs.Prelude.{List, Option, ℕ, option_map, string_bytes, ◌||◌}
 use Rattle.std.proofs.Common.{◌≡◌, ◌∙◌, false, None, Some, refl, sym, ap, subst}
 use Rattle.lsp_survey.specs.Notes.{Leaves}
+use Rattle.lsp_rpc.specs.Ident.{Ident, id_view}
+use Rattle.lsp_survey.specs.Passed.{ArePassed, SetsAny}
 use Rattle.lsp_survey.specs.Sides.{sides_after}
+use Rattle.lsp_survey.specs.declared.notes.passed.Passed.{Passed}
+use Rattle.lsp_survey.proofs.PassedSteps.{content_passes}
 use Rattle.lsp_survey.specs.Walking.{offence_of}
 use Rattle.lsp_survey.specs.declared.notes.note.Notes.{Notes}
 use Rattle.lsp_verdict.specs.Given.{given_offence}
-use Rattle.lsp_verdict.specs.Event.{fault}
+use Rattle.lsp_verdict.specs.Event.{Event, fault}
 use Rattle.lsp_verdict.specs.Offences.{asks, breaks_handshake, events_of, follows_bytes, may_answer}
 use Rattle.lsp_verdict.specs.Verdict.{who_of}
 use Rattle.lsp_survey.proofs.walk.Replay.refuse_content.Goals as goal
@@ -37,6 +41,13 @@ returns-clause-passes c =
             (subst (λ (w : Notes). Leaves (Some rule) (option_map string_bytes c.in_ok.brings) None
             w.map.entries c.note_malformed.new.notes.map.entries) refused.notes
             c.in_ok-note_malformed.ensures);
+        passed = λ event is. subst (λ (e : Event).
+            ArePassed (Some rule) e malformed old.passed c.note_asked.new.self) (sym is)
+            (content_passes c.args.side rule rule malformed old.passed c.note_asked.new.self
+            (subst (λ (o : Option Ident). SetsAny c.args.side o old.passed c.note_asked.new.self)
+            meant.asked (subst (λ (p : Passed). SetsAny c.args.side
+            (option_map id_view c.in_ok.asked) p c.note_asked.new.self) refused.passed
+            c.in_ok-note_asked.ensures)));
         marks = refused.marks;
         said = refused.said;
         offence = λ enc kind notes event is w. refused.offence notes w

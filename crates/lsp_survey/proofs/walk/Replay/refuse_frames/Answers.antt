@@ -8,6 +8,7 @@ use Rattle.lsp_verdict.specs.Given.{given_offence}
 use Rattle.lsp_verdict.specs.Offences.{breaks_handshake, events_of, follows_bytes, may_answer}
 use Rattle.lsp_verdict.specs.Verdict.{who_of}
 use Rattle.lsp_survey.proofs.Noting.{nothing_said}
+use Rattle.lsp_survey.proofs.PassedSteps.{fault_passes}
 use Rattle.lsp_survey.proofs.walk.Replay.refuse_frames.Goals as goal
 
 pub returns-clause-passes : goal.returns-clause-passes
@@ -26,6 +27,7 @@ returns-clause-passes c =
       noted = λ enc kind. subst (λ (w : Notes).
           AreAfter (Some rule) None old.notes.map.entries w.map.entries) (sym refused.notes)
           (nothing_said (Some rule) old.notes.map.entries);
+      passed = λ event is. fault_passes event c.args.side rule rule old.passed _ is refused.passed;
       marks = refused.marks;
       said = refused.said;
       offence = λ enc kind notes event is w. refused.offence notes w
