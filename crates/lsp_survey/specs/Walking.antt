@@ -38,6 +38,7 @@ use Rattle.lsp_verdict.specs.Event.{Event, fault, message}
 use Rattle.lsp_verdict.specs.Given.{given_offence, offence_view}
 use Rattle.lsp_verdict.specs.LookBack.{first_of}
 use Rattle.lsp_verdict.specs.Offences.{Noted, Offence, IsNoted, asks, breaks_handshake, broken_by}
+use Rattle.lsp_verdict.specs.Offences.{held_of}
 use Rattle.lsp_verdict.specs.Offences.{brought_by, events_of, follows_bytes, is_handshake_lost, kept_of}
 use Rattle.lsp_verdict.specs.Offences.{follows_passed, is_passed, may_answer, offence_by, rule_at}
 use Rattle.lsp_verdict.specs.Offences.{wants_handshake, wants_text}
@@ -74,7 +75,7 @@ IsRefused raw terms before refused = Refuses raw terms (kept_of terms (events_of
 abbrev pub NotesMessage : ℕ → Side → Message → Act → Replay → Replay → Type 0
 NotesMessage number side said act old new =
     ((enc : Encoding) (kind : SyncKind)
-    → AreAfter None (call_of enc kind act) old.notes.map.entries new.notes.map.entries)
+    → AreAfter (call_of enc kind act) old.notes.map.entries new.notes.map.entries)
     × ((enc : Encoding) (kind : SyncKind)
     → DoneBy number (call_of enc kind act) old.marks.map.entries new.marks.map.entries)
     × ((sents : List Sent) → Stands new.events.session sents
@@ -146,8 +147,10 @@ pub record PassesOver (old new : Replay) (by : Who) (rule : ℕ) (malformed : Op
   pub sides : (event : Event) → IsEvent event → new.sides ≡ sides_after event old.sides
   pub passed : (event : Event) → IsEvent event
       → ArePassed (Some rule) event malformed old.passed new.passed
-  pub noted : (enc : Encoding) (kind : SyncKind)
-      → Leaves (Some rule) (option_and_then brought_by malformed) (says enc kind)
+  pub noted : (enc : Encoding) (kind : SyncKind) (kept : List Event)
+      → Holds old.events.session old.events.docs kept
+      → Leaves (Some rule) (option_and_then brought_by malformed)
+      (held_of old.events.docs.terms kept (says enc kind)) (says enc kind)
       old.notes.map.entries new.notes.map.entries
   pub marks : new.marks ≡ old.marks
   pub said : new.said ≡ old.said

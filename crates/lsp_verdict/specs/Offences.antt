@@ -5,6 +5,7 @@ use Rattle.std.specs.Prelude.{◌==◌, nat_le, if◌then◌else◌, Option, Som
 use Rattle.std.specs.Prelude.{option_map, option_and_then, codes}
 use Rattle.std.specs.List.{AllZip, filter_map, list_any}
 use Rattle.std.specs.Option.{option_or}
+use Rattle.std.specs.Ordering.{int_eq}
 use Rattle.std.specs.Str.{bytes_eq}
 use Rattle.lsp_frame.specs.Bounds.{Bounds}
 use Rattle.lsp_rpc.specs.Ident.{Ident}
@@ -18,9 +19,10 @@ use Rattle.lsp_session.specs.Requests.{names}
 use Rattle.lsp_session.specs.Sent.{answered_from, other_side, request_of, response_id, same_side}
 use Rattle.lsp_text.specs.Edits.{Edit}
 use Rattle.lsp_docs.specs.Calls.{Call, opens, changes, closes, saves, shows, uri_of}
+use Rattle.lsp_docs.specs.Documents.{Version, held}
 use Rattle.lsp_docs.specs.Terms.{Terms}
 use Rattle.lsp_log.specs.Log.{Record}
-use Rattle.lsp_verdict.specs.Calls.{call_at}
+use Rattle.lsp_verdict.specs.Calls.{call_at, calls}
 use Rattle.lsp_verdict.specs.Event.{Event, message, fault, snapshot, sent_in}
 use Rattle.lsp_verdict.specs.LookBack.{first_of, each_of}
 use Rattle.lsp_verdict.specs.Placed as placed
@@ -84,12 +86,23 @@ has_changes _ = false
 abbrev pub is_within : ℕ → ℕ → ℕ → Bool
 is_within least most rule = nat_le least rule && nat_le rule most
 
--- a call that offends by this rule leaves the held text another than the sender's: 602, 603 with changes, 604 to 608, 702
-abbrev pub loses : ℕ → Call → Bool
-loses rule call = rule == rules.DOCUMENT_NOT_OPEN ||
+-- what is held of the document that a call is about, after these kept events
+abbrev pub held_of : Terms → List Event → Option Call → Option Version
+held_of terms kept None = None
+held_of terms kept (Some call) = held terms (uri_of call) (calls kept)
+
+-- the call opens a document with another version or text than this one, which is held
+abbrev pub is_other : Call → Option Version → Bool
+is_other (opens uri number text) (Some v) = not (int_eq v.number number && bytes_eq v.text text)
+is_other call now = false
+
+-- a call that offends by this rule, where this is held of its document, leaves the held text another than the sender's: 601 with another version or text, 602, 603 with changes, 604 to 608, 702
+abbrev pub loses : ℕ → Option Version → Call → Bool
+loses rule now call = is_other call now && rule == rules.DOCUMENT_ALREADY_OPEN ||
+    (rule == rules.DOCUMENT_NOT_OPEN ||
     (rule == rules.VERSION_DOES_NOT_RISE && has_changes call ||
     (is_within rules.CHANGE_NOT_OF_KIND rules.SAVED_TEXT_DIFFERS rule ||
-    rule == rules.SNAPSHOT_DIFFERS))
+    rule == rules.SNAPSHOT_DIFFERS)))
 
 -- the call gives the whole text again
 abbrev pub renews : Call → Bool
@@ -99,10 +112,10 @@ renews (closes uri) = false
 renews (saves uri text) = false
 renews (shows uri number text) = false
 
--- whether a call leaves its document lost, where it says anything of that: it offends by this rule, or is kept
-abbrev pub left_lost : Option ℕ → Call → Option Bool
-left_lost (Some rule) call = if loses rule call then Some true else None
-left_lost None call = if renews call then Some false else None
+-- whether a call leaves its document lost, of which this is held, where it says anything of that: it offends by this rule, or is kept
+abbrev pub left_lost : Option ℕ → Option Version → Call → Option Bool
+left_lost (Some rule) now call = if loses rule now call then Some true else None
+left_lost None now call = if renews call then Some false else None
 
 -- the notification opens a document or changes it
 abbrev pub brings_text : List ℕ → Bool
@@ -125,16 +138,19 @@ left_without uri rule (Some brought) = option_and_then (λ r.
     if r == rules.BAD_METHOD_PARAMS && bytes_eq uri brought then Some true else None) rule
 
 -- whether an event leaves the document of this URI lost that offends by this rule, or is kept: it
--- was to bring the text of a document, or says this about one
-abbrev pub left_by : List ℕ → Option ℕ → Option (List ℕ) → Option Call → Option Bool
-left_by uri rule brought said = option_or (left_without uri rule brought)
+-- was to bring the text of a document, or says this about one of which this is held
+abbrev pub left_by : List ℕ → Option ℕ → Option (List ℕ) → Option Version → Option Call
+    → Option Bool
+left_by uri rule brought now said = option_or (left_without uri rule brought)
     (option_and_then (λ call.
-    if bytes_eq uri (uri_of call) then left_lost rule call else None) said)
+    if bytes_eq uri (uri_of call) then left_lost rule now call else None) said)
 
 abbrev pub lost_by : Terms → List ℕ → List Noted → Noted → Option Bool
 lost_by terms uri before n =
     left_by uri (rule_at terms (events_of before) n.event)
-    (option_and_then brought_by n.malformed) (said_at terms (events_of before) n.event)
+    (option_and_then brought_by n.malformed)
+    (held_of terms (kept_of terms (events_of before)) (said_at terms (events_of before) n.event))
+    (said_at terms (events_of before) n.event)
 
 -- the last of these, or what stands where there is none
 abbrev pub last_or : {A : Type 0} → A → List A → A

@@ -77,6 +77,26 @@ nothing_lost : all_of (START ++ OPEN (codes "1") (codes "ab") ∷ CHG (codes "1"
 unfolding value punctuate lex content word after_number number_of scan_numeral chars
 nothing_lost = refl
 
+-- a document that is opened again with another text or version is lost, with the same it is not
+abbrev opened_again : List ℕ → List ℕ → List Event
+opened_again version text =
+    START ++ OPEN (codes "1") (codes "ab") ∷ OPEN version text ∷ T 1 (codes "c") ∷ []
+
+another_text : all_of (opened_again (codes "1") (codes "c"))
+    ≡ cause 601 who.Editor 4 5 ∷ after_it 702 who.Snapshot 1 6 ∷ []
+unfolding value punctuate lex content word after_number number_of scan_numeral chars
+another_text = refl
+
+another_version : all_of (opened_again (codes "2") (codes "ab"))
+    ≡ cause 601 who.Editor 4 5 ∷ after_it 702 who.Snapshot 1 6 ∷ []
+unfolding value punctuate lex content word after_number number_of scan_numeral chars
+another_version = refl
+
+the_same : all_of (opened_again (codes "1") (codes "ab"))
+    ≡ cause 601 who.Editor 4 5 ∷ cause 702 who.Snapshot 1 6 ∷ []
+unfolding value punctuate lex content word after_number number_of scan_numeral chars
+the_same = refl
+
 -- a message whose params do not have their shape loses the document that it was to open or to change
 abbrev on_document : List ℕ → List ℕ → Noted
 on_document method uri = malformed (codes "{\"jsonrpc\":\"2.0\",\"method\":\"textDocument/" ++ method
