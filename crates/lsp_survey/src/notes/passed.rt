@@ -1,6 +1,7 @@
 //! Which requests were passed over, so that the answer to one meets none.
-ghost use Rattle.std.specs.Prelude.{◌≡◌, OnOk, false, option_map, true};
+ghost use Rattle.std.specs.Prelude.{◌≡◌, OnOk, Some, false, option_map, true};
 ghost use Rattle.lsp_rpc.specs.Ident.{id_view};
+ghost use Rattle.lsp_rpc.specs.Message.{Reply, response};
 ghost use Rattle.lsp_rpc.specs.View.{message_view};
 ghost use Rattle.lsp_rpc.specs.declared.message.Id.{Id as AnId};
 ghost use Rattle.lsp_session.specs.Sent.{other_side, response_id};
@@ -55,9 +56,7 @@ impl Passed {
         match message {
             Message::Request { id, .. } => self.ask(side, id),
             Message::Response { id: Some(id), .. } => {
-                if rule == rules::RESPONSE_TO_NO_OPEN_REQUEST {
-                    self.answer(side, id);
-                }
+                self.answer(side, rule, id);
                 Ok(())
             }
             Message::Response { id: None, .. } => Ok(()),
@@ -88,8 +87,20 @@ impl Passed {
         }
     }
 
+    /// A response of this side breaks this rule: it answers a request of the other side that was
+    /// passed over, if it answers no open one.
+    fn answer(&mut self, side: Side, rule: u16, id: &Id)
+        ensures { (reply : Reply)
+            → Passes rule side (response (Some (id_view id.now)) reply) self.old self.new }
+    {
+        if rule != rules::RESPONSE_TO_NO_OPEN_REQUEST {
+            return;
+        }
+        self.forget_other(side, id);
+    }
+
     /// This side answers such a request of the other.
-    fn answer(&mut self, side: Side, id: &Id)
+    fn forget_other(&mut self, side: Side, id: &Id)
         ensures { Sets (other_side side) (id_view id.now) false self.old self.new }
     {
         match side {
