@@ -122,8 +122,8 @@ module _ (old new : Replay) (notes : List Noted) (number : ℕ) (walks : Walks o
       let n : Noted = record { event = snapshot uri version text; malformed = None } in
       kept_on raw old new notes n (Some call) walks (reads, whole) clean refl terms_are holds counted
       is_broken noted.3 is_passed
-      (subst (λ (w : Notes). AreAfter None (Some call) old.notes.map.entries w.map.entries)
-      (sym noted.0) (notes_stay None call old.notes.map.entries refl))
+      (subst (λ (w : Notes). AreAfter (Some call) old.notes.map.entries w.map.entries)
+      (sym noted.0) (notes_stay call old.notes.map.entries refl))
       (shown_done terms old.marks.map.entries new.marks.map.entries events uri version text number
       answer walks.marked clean is_number answers noted.1)
       (other_unsaid terms new.said events n.event
@@ -173,7 +173,7 @@ pub noted_after : (number : ℕ) (given : lent.Heard) (mid old new : Replay) →
 noted_after number (kept.Message side spoken) mid old new notes marks said noted =
     let act : Act = act_view spoken.act in (
       λ enc kind. subst (λ (w : Notes).
-          AreAfter None (call_of enc kind act) w.map.entries new.notes.map.entries) notes
+          AreAfter (call_of enc kind act) w.map.entries new.notes.map.entries) notes
           (noted.0 enc kind),
       λ enc kind. subst (λ (w : Marks).
           DoneBy number (call_of enc kind act) w.map.entries new.marks.map.entries) marks

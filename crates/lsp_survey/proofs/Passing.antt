@@ -25,12 +25,14 @@ use Rattle.lsp_survey.specs.declared.notes.session_notes.SessionNotes.{SessionNo
 use Rattle.lsp_survey.specs.declared.walk.Replay.{Replay}
 use Rattle.lsp_types.specs.declared.change.SyncKind.{SyncKind}
 use Rattle.lsp_types.specs.declared.position.Encoding.{Encoding}
+use Rattle.lsp_verdict.specs.Calls.{calls}
 use Rattle.lsp_verdict.specs.Counting.{AreCounts}
 use Rattle.lsp_verdict.specs.Event.{Event}
 use Rattle.lsp_verdict.specs.Given.{given_offence}
 use Rattle.lsp_verdict.specs.LookBack.{first_of}
 use Rattle.lsp_verdict.specs.Offences.{Noted, IsNoted, asks, breaks_handshake, broken_by}
-use Rattle.lsp_verdict.specs.Offences.{brought_by, events_of, follows_bytes, is_on_lost, kept_of}
+use Rattle.lsp_verdict.specs.Offences.{brought_by, events_of, follows_bytes, held_in, is_on_lost}
+use Rattle.lsp_verdict.specs.Offences.{kept_of}
 use Rattle.lsp_verdict.specs.Offences.{answered_by, asked_by, follows_passed, is_passed}
 use Rattle.lsp_verdict.specs.Offences.{may_answer, passes, rule_at}
 use Rattle.lsp_verdict.specs.Offences.{said_at}
@@ -49,6 +51,7 @@ use Rattle.lsp_verdict.proofs.Offences.Steps.{is_passed-push, kept-push, kept-re
 note_pushed : (terms : Terms) (uri : List ℕ) (notes : List Noted) (n : Noted)
     → note_of terms uri (notes ++ n ∷ [])
     ≡ note_after (rule_at terms (events_of notes) n.event) (option_and_then brought_by n.malformed)
+    (held_in terms (calls (kept_of terms (events_of notes))) (said_at terms (events_of notes) n.event))
     (said_at terms (events_of notes) n.event) uri (note_of terms uri notes)
 note_pushed terms uri notes n =
     ap (λ (b : Bool). let m : Note = record { lost = b } in m) (is_lost-push terms uri notes n)
@@ -103,8 +106,9 @@ record Steps (terms : Terms) (old new : Replay) (notes : List Noted) (n : Noted)
       (may_answer (kept_of terms (events_of notes)) n.event))
   pub sides : new.sides ≡ sides_after n.event old.sides
   pub passed : ArePassed rule n.event n.malformed old.passed new.passed
-  pub noted : Leaves rule (option_and_then brought_by n.malformed) said old.notes.map.entries
-      new.notes.map.entries
+  pub noted : Leaves rule (option_and_then brought_by n.malformed)
+      (held_in terms (calls (kept_of terms (events_of notes))) said) said
+      old.notes.map.entries new.notes.map.entries
   pub marked : AreMarks terms new.marks.map.entries (events_of notes ++ n.event ∷ [])
   pub told : AreNotes terms new.said (events_of notes ++ n.event ∷ [])
 
@@ -117,12 +121,13 @@ walks_on terms old new notes n rule said walks s =
       counted = subst (AreCounts new.events.counts) (sym (events_of-push notes n)) s.counted;
       noted = λ uri.
           let brought = option_and_then brought_by n.malformed in
+          let made = calls (kept_of terms (events_of notes)) in
           s.noted uri
-          ∙ ap (note_after rule brought said uri) (walks.noted uri)
-          ∙ ap (λ (o : Option ℕ). note_after o brought said uri (note_of terms uri notes))
-          (sym s.rule_is)
-          ∙ ap (λ (o : Option Call). note_after (rule_at terms (events_of notes) n.event) brought o
-          uri (note_of terms uri notes)) (sym s.said_is)
+          ∙ ap (note_after rule brought (held_in terms made said) said uri) (walks.noted uri)
+          ∙ ap (λ (o : Option ℕ). note_after o brought (held_in terms made said) said uri
+          (note_of terms uri notes)) (sym s.rule_is)
+          ∙ ap (λ (o : Option Call). note_after (rule_at terms (events_of notes) n.event) brought
+          (held_in terms made o) o uri (note_of terms uri notes)) (sym s.said_is)
           ∙ sym (note_pushed terms uri notes n);
       is_broken =
           s.is_broken
@@ -206,7 +211,7 @@ passed_over raw old new notes n by rule says enc kind IsEvent IsSuch given walks
         is_broken = p.is_broken n.event (kept_of terms (events_of notes)) is_event walks.holds;
         sides = p.sides n.event is_event;
         passed = p.passed n.event is_event;
-        noted = p.noted enc kind;
+        noted = p.noted enc kind (kept_of terms (events_of notes)) walks.holds;
         marked = refused_leaves terms new.marks.map.entries (events_of notes) n.event rule
             (subst (λ (m : Marks). AreMarks terms m.map.entries (events_of notes)) (sym p.marks)
             walks.marked) rule_is;
@@ -241,7 +246,7 @@ pub kept_on : (raw : Raw) (old new : Replay) (notes : List Noted) (n : Noted) (s
     (kept_of old.events.docs.terms (events_of notes) ++ n.event ∷ [])
     → AreCounts new.events.counts (events_of notes ++ n.event ∷ []) → new.broken ≡ old.broken
     → new.sides ≡ sides_after n.event old.sides → new.passed ≡ old.passed
-    → Leaves None (option_and_then brought_by n.malformed) said old.notes.map.entries
+    → Leaves None (option_and_then brought_by n.malformed) None said old.notes.map.entries
     new.notes.map.entries
     → AreMarks old.events.docs.terms new.marks.map.entries (events_of notes ++ n.event ∷ [])
     → AreNotes old.events.docs.terms new.said (events_of notes ++ n.event ∷ [])

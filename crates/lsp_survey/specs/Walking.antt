@@ -31,14 +31,14 @@ use Rattle.lsp_survey.specs.declared.walk.Replay.{Replay}
 use Rattle.lsp_types.specs.declared.change.SyncKind.{SyncKind}
 use Rattle.lsp_types.specs.declared.position.Encoding.{Encoding}
 use Rattle.lsp_types.specs.declared.side.Side.{Side}
-use Rattle.lsp_verdict.specs.Calls.{call_of}
+use Rattle.lsp_verdict.specs.Calls.{call_of, calls}
 use Rattle.lsp_verdict.specs.Counting.{AreCounts}
 use Rattle.lsp_verdict.specs.Contents.{ReadsAs}
 use Rattle.lsp_verdict.specs.Event.{Event, fault, message}
 use Rattle.lsp_verdict.specs.Given.{given_offence, offence_view}
 use Rattle.lsp_verdict.specs.LookBack.{first_of}
 use Rattle.lsp_verdict.specs.Offences.{Noted, Offence, IsNoted, asks, breaks_handshake, broken_by}
-use Rattle.lsp_verdict.specs.Offences.{held_of}
+use Rattle.lsp_verdict.specs.Offences.{held_in}
 use Rattle.lsp_verdict.specs.Offences.{brought_by, events_of, follows_bytes, is_handshake_lost, kept_of}
 use Rattle.lsp_verdict.specs.Offences.{follows_passed, is_passed, may_answer, offence_by, rule_at}
 use Rattle.lsp_verdict.specs.Offences.{wants_handshake, wants_text}
@@ -150,7 +150,7 @@ pub record PassesOver (old new : Replay) (by : Who) (rule : ℕ) (malformed : Op
   pub noted : (enc : Encoding) (kind : SyncKind) (kept : List Event)
       → Holds old.events.session old.events.docs kept
       → Leaves (Some rule) (option_and_then brought_by malformed)
-      (held_of old.events.docs.terms kept (says enc kind)) (says enc kind)
+      (held_in old.events.docs.terms (calls kept) (says enc kind)) (says enc kind)
       old.notes.map.entries new.notes.map.entries
   pub marks : new.marks ≡ old.marks
   pub said : new.said ≡ old.said

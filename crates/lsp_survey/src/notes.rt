@@ -20,7 +20,7 @@ mod session_notes;
 mod sides;
 
 pub(crate) use documents::{
-    is_on_lost, note_kept_act, note_malformed, note_refused, note_refused_act,
+    is_on_lost, note_kept_act, note_malformed, note_refused, note_refused_act, reopens,
 };
 pub(crate) use malformed::{Malformed, meant_again};
 pub use mark::{Setter, Shown};

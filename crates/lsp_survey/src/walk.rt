@@ -27,7 +27,7 @@ ghost use Rattle.lsp_survey.specs.Walking.{offence_of};
 
 use crate::notes::{
     Malformed, Marks, Notes, Passed, SessionNotes, Sides, breaks_handshake, is_on_lost, meant_again,
-    note_kept_act, note_malformed, note_refused, note_refused_act, wants_handshake, wants_text,
+    note_kept_act, note_malformed, note_refused, note_refused_act, reopens, wants_handshake, wants_text,
 };
 use crate::offending::{FoundOffence, Judged, OffendingEvent};
 use lsp_frame::{Format, Limits};
@@ -199,12 +199,13 @@ impl Replay {
             (IsMessageOf side (message_view spoken.message)) (λ what. what ≡ OffendingEvent.Message side spoken)) }
     {
         let breaks = breaks_handshake(false, rule);
+        let reopens = reopens(&self.events.docs, rule, &spoken.act);
         let on_lost = is_on_lost(&self.notes, &spoken.act);
         let late = self.message_follows(side, rule, &spoken.message);
         let follows = self.follows(rule, on_lost, late);
         let offence = self.refuse(rule, who_of(side), breaks, follows);
         self.sides = self.sides.after_message(side);
-        note_refused_act(&mut self.notes, rule, &spoken.act)?;
+        note_refused_act(&mut self.notes, rule, reopens, &spoken.act)?;
         self.passed.note(side, rule, &spoken.message)?;
         Ok(Judged::Offence(FoundOffence {
             offence,
@@ -261,7 +262,7 @@ impl Replay {
         let follows = self.follows(rule, on_lost, false);
         let breaks = breaks_handshake(false, rule);
         let offence = self.refuse(rule, Who::Snapshot, breaks, follows);
-        note_refused(&mut self.notes, rule, uri, false)?;
+        note_refused(&mut self.notes, rule, uri, false, false)?;
         let uri = String::from_str(alloc, uri)?;
         let text = String::from_str(alloc, text)?;
         Ok(Judged::Offence(FoundOffence {

@@ -86,10 +86,10 @@ has_changes _ = false
 abbrev pub is_within : ℕ → ℕ → ℕ → Bool
 is_within least most rule = nat_le least rule && nat_le rule most
 
--- what is held of the document that a call is about, after these kept events
-abbrev pub held_of : Terms → List Event → Option Call → Option Version
-held_of terms kept None = None
-held_of terms kept (Some call) = held terms (uri_of call) (calls kept)
+-- what is held of the document that a call is about, after these calls
+abbrev pub held_in : Terms → List Call → Option Call → Option Version
+held_in terms made None = None
+held_in terms made (Some call) = held terms (uri_of call) made
 
 -- the call opens a document with another version or text than this one, which is held
 abbrev pub is_other : Call → Option Version → Bool
@@ -149,7 +149,8 @@ abbrev pub lost_by : Terms → List ℕ → List Noted → Noted → Option Bool
 lost_by terms uri before n =
     left_by uri (rule_at terms (events_of before) n.event)
     (option_and_then brought_by n.malformed)
-    (held_of terms (kept_of terms (events_of before)) (said_at terms (events_of before) n.event))
+    (held_in terms (calls (kept_of terms (events_of before)))
+    (said_at terms (events_of before) n.event))
     (said_at terms (events_of before) n.event)
 
 -- the last of these, or what stands where there is none

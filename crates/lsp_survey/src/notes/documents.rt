@@ -1,18 +1,23 @@
 //! What messages and snapshots say about documents, and what they leave of the notes.
-ghost use Rattle.std.specs.Prelude.{◌≡◌, Option, Some, None, OnOk, is_none, option_map, string_bytes, true};
+ghost use Rattle.std.specs.Prelude.{◌≡◌, List, Option, Some, None, OnOk, chars, is_none};
+ghost use Rattle.std.specs.Prelude.{option_map, string_bytes, true};
 ghost use Rattle.std.specs.List.{list_any};
-ghost use Rattle.lsp_docs.specs.Calls.{Call, uri_of};
+ghost use Rattle.lsp_docs.specs.Calls.{Call, opens, uri_of};
 ghost use Rattle.lsp_rpc.specs.View.{act_view};
 ghost use Rattle.lsp_types.specs.declared.position.Encoding.{Encoding};
 ghost use Rattle.lsp_types.specs.declared.change.SyncKind.{SyncKind};
 ghost use Rattle.lsp_verdict.specs.Calls.{call_of};
 ghost use Rattle.lsp_verdict.specs.Offences.{has_changes, renews};
-ghost use Rattle.lsp_docs.specs.Documents.{Version};
+ghost use Rattle.lsp_docs.specs.Documents.{Version, held};
+ghost use Rattle.lsp_docs.specs.State.{Stands};
+ghost use Rattle.lsp_verdict.specs.Offences.{held_in, is_other};
 ghost use Rattle.lsp_survey.specs.Notes.{AreAfter, Leaves, is_noted_lost, is_reopened};
 
 use crate::notes::note::{Note, Notes};
 use crate::notes::rules::loses;
+use lsp_docs::Docs;
 use lsp_rpc::{Act, Change, Memory};
+use lsp_text::TextStore;
 use lsp_types::rules;
 
 /// The URI of the document that an act speaks of.
@@ -46,6 +51,42 @@ fn any_whole(changes: &[Change]) -> bool
     ensures { result ≡ list_any (λ change. is_none change.span) changes.now }
 {
     changes.iter().any(|change| change.span.is_none())
+}
+
+/// Whether another version or text is held of a document.
+fn holds_other<S: TextStore>(docs: &Docs<S>, uri: &str, version: i32, text: &str) -> bool
+    ensures { (calls : List Call) → Stands docs.now calls
+        → result ≡ is_other (opens uri.now version (chars text.now))
+        (held docs.now.terms uri.now calls) }
+{
+    let Some(number) = docs.version_of(uri) else {
+        return false;
+    };
+    let Some(store) = docs.store_of(uri) else {
+        return false;
+    };
+    if number != version {
+        return true;
+    }
+    !store.equals(text)
+}
+
+/// Whether an act that breaks this rule opens a document again, with another version or text than
+/// is held of it.
+pub(crate) fn reopens<S: TextStore>(docs: &Docs<S>, rule: u16, act: &Act) -> bool
+    ensures { (calls : List Call) → Stands docs.now calls → (enc : Encoding) (kind : SyncKind)
+        → result ≡ is_reopened rule (held_in docs.now.terms calls
+        (call_of enc kind (act_view act.now))) (call_of enc kind (act_view act.now)) }
+{
+    if rule != rules::DOCUMENT_ALREADY_OPEN {
+        return false;
+    }
+    match act {
+        Act::DidOpen { uri, version, text } => {
+            holds_other(docs, uri.as_str(), *version, text.as_str())
+        }
+        _ => false,
+    }
 }
 
 /// Notes that what was said about a document, which is opened again with another text or not, with

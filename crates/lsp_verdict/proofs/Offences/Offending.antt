@@ -14,12 +14,13 @@ use Rattle.lsp_rpc.specs.Ident.{Ident}
 use Rattle.lsp_session.specs.Sent.{other_side, response_id, same_side}
 use Rattle.lsp_types.specs.declared.rules.TheConstants as rules
 use Rattle.lsp_types.specs.declared.side.Side.{Side}
+use Rattle.lsp_verdict.specs.Calls.{calls}
 use Rattle.lsp_verdict.specs.Event.{Event, message, fault, snapshot, sent_in}
 use Rattle.lsp_verdict.specs.LookBack.{first_from, first_of, each_from, each_of}
 use Rattle.lsp_verdict.specs.OffenceLaws.{KeptOffendNowhere, kept_at, KeptAreOthers, AllAreKept, NothingListed, FirstListed, IsOffence, IsListed, ListedOffend}
 use Rattle.lsp_verdict.specs.Offences.{Noted, Offence, events_of, kept_after, kept_of, rule_at}
 use Rattle.lsp_docs.specs.Documents.{Version}
-use Rattle.lsp_verdict.specs.Offences.{held_of, said_at, renews, left_lost, left_by, brought_by, lost_by}
+use Rattle.lsp_verdict.specs.Offences.{held_in, said_at, renews, left_lost, left_by, brought_by, lost_by}
 use Rattle.lsp_verdict.specs.Offences.{last_or, is_lost, asks, breaks_handshake, may_answer}
 use Rattle.lsp_verdict.specs.Offences.{broken_by, is_handshake_lost}
 use Rattle.lsp_verdict.specs.Offences.{is_frame_fault, has_broken, unread_by, is_unread}
@@ -203,7 +204,7 @@ document_stands terms uri before clean =
     (ap (λ (ns : List Noted). first_of (no_at terms) (events_of ns)) (sym cut) ∙ clean) in
     let brought = option_and_then brought_by n.malformed in
     let said = said_at terms (events_of front) n.event in
-    let now = held_of terms (kept_of terms (events_of front)) said in
+    let now = held_in terms (calls (kept_of terms (events_of front))) said in
     never_lost uri brought now said
     (ap (λ (o : Option ℕ). left_by uri o brought now said) (sym rule) ∙ lost))
 

@@ -35,10 +35,10 @@ returns-clause-passes c =
             ∙ ap (λ e. old.broken || (breaks_handshake (asks malformed) rule
             || may_answer kept e)) (sym is);
         sides = λ event is. refused.sides ∙ ap (λ e. sides_after e old.sides) (sym is);
-        noted = λ enc kind. subst (λ (brought : Option (List ℕ)).
-            Leaves (Some rule) brought None old.notes.map.entries
+        noted = λ enc kind kept holds. subst (λ (brought : Option (List ℕ)).
+            Leaves (Some rule) brought None None old.notes.map.entries
             c.note_malformed.new.notes.map.entries) meant.brings
-            (subst (λ (w : Notes). Leaves (Some rule) (option_map string_bytes c.in_ok.brings) None
+            (subst (λ (w : Notes). Leaves (Some rule) (option_map string_bytes c.in_ok.brings) None None
             w.map.entries c.note_malformed.new.notes.map.entries) refused.notes
             c.in_ok-note_malformed.ensures);
         passed = λ event is. subst (λ (e : Event).

@@ -1,14 +1,14 @@
 use Rattle.std.specs.Prelude.{◌&&◌, ◌||◌}
-use Rattle.std.proofs.Common.{◌≡◌, ◌∙◌, Some, false, refl, ap, subst}
+use Rattle.std.proofs.Common.{◌≡◌, ◌∙◌, Some, None, false, refl, sym, ap, subst}
 use Rattle.lsp_rpc.specs.View.{act_view, message_view}
-use Rattle.lsp_survey.specs.Notes.{AreAfter}
+use Rattle.lsp_survey.specs.Notes.{Leaves}
 use Rattle.lsp_survey.specs.Passed.{Passes}
 use Rattle.lsp_survey.specs.Sides.{sides_read}
 use Rattle.lsp_survey.specs.declared.notes.passed.Passed.{Passed}
 use Rattle.lsp_survey.specs.declared.notes.note.Notes.{Notes}
-use Rattle.lsp_verdict.specs.Calls.{call_of}
+use Rattle.lsp_verdict.specs.Calls.{call_of, calls}
 use Rattle.lsp_verdict.specs.Given.{given_offence}
-use Rattle.lsp_verdict.specs.Offences.{breaks_handshake, events_of, is_handshake_lost}
+use Rattle.lsp_verdict.specs.Offences.{breaks_handshake, events_of, held_in, is_handshake_lost}
 use Rattle.lsp_verdict.specs.Offences.{wants_handshake, wants_text}
 use Rattle.lsp_verdict.specs.Verdict.{no_next, who_of}
 use Rattle.lsp_survey.proofs.PassedSteps.{message_passes}
@@ -39,10 +39,13 @@ returns-clause-passes c =
       passed = λ event is. message_passes side said event is rule old.passed
           c.note.new.self (subst (λ (p : Passed). Passes rule side said p c.note.new.self)
           refused.passed c.in_ok-note.ensures);
-      noted = λ enc kind. subst (λ (w : Notes).
-          AreAfter (Some rule) (call_of enc kind (act_view c.args.spoken.act)) w.map.entries
+      noted = λ enc kind kept holds.
+          let call = call_of enc kind (act_view c.args.spoken.act) in
+          let now = held_in old.events.docs.terms (calls kept) call in
+          subst (λ (w : Notes). Leaves (Some rule) None now call w.map.entries
           c.note_refused_act.new.notes.map.entries) refused.notes
-          (c.in_ok-note_refused_act.ensures enc kind);
+          (c.in_ok-note_refused_act.ensures enc kind now
+          (sym (c.reopens-reopens.ensures (calls kept) holds.called enc kind)));
       marks = refused.marks;
       said = refused.said;
       offence = λ enc kind notes event is walks.
