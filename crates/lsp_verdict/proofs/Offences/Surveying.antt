@@ -195,7 +195,7 @@ some_notes (raw ∷ raws) =
     let rest = some_notes raws in
     (first.0 ∷ rest.0, (first.1, rest.1))
 
-noted : Event → Option Message → Noted
+abbrev noted : Event → Option Message → Noted
 noted e malformed = record { event = e; malformed = malformed }
 
 one_note : (raw : Raw) (m n : Noted) → IsNoted raw m → IsNoted raw n → m ≡ n
