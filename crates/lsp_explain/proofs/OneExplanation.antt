@@ -20,8 +20,7 @@ use Rattle.lsp_verdict.specs.Survey.{ends_listed, first_verdict, found_in}
 use Rattle.lsp_verdict.specs.Verdict.{Verdict, Ending, Summary, summary, bad_log_of, no_by}
 use Rattle.lsp_verdict.specs.declared.completeness.Completeness.{Completeness}
 use Rattle.lsp_verdict.proofs.Below.{one_log, some_log, some_stream}
-use Rattle.lsp_verdict.proofs.Offences.Surveying.{one_notes, some_asks}
-use Rattle.lsp_verdict.proofs.OneEvent.{some_read}
+use Rattle.lsp_verdict.proofs.Offences.Surveying.{one_notes, some_note}
 use Rattle.lsp_verdict.proofs.Outcomes.{one_rest}
 use Rattle.lsp_verdict.proofs.PlacedLemmas.{one_placed}
 use Rattle.lsp_verdict.proofs.Sessions.{some_placed}
@@ -154,10 +153,7 @@ some_parts : (limits : Bounds) (log : List ℕ) → (x : Parts) × AreParts limi
 some_parts limits log =
     let whole = some_log limits log in
     let raws = some_placed limits [] [] whole.1 in
-    let heard = hears (λ raw. (
-      record { event = (some_read raw).0; asks = (some_asks raw).0 },
-      ((some_read raw).1, (some_asks raw).1),
-    )) raws.0 in
+    let heard = hears some_note raws.0 in
     let editor = some_stream limits (joined Editor whole.1) in
     let server = some_stream limits (joined Server whole.1) in (
       record {

@@ -26,8 +26,7 @@ use Rattle.lsp_verdict.specs.declared.outcome.RunFault.TheVariants as faults
 use Rattle.lsp_verdict.specs.declared.verdict.Verdict.TheVariants as verdicts
 use Rattle.lsp_survey.proofs.Reading.{so_far_failures, so_far_given}
 use Rattle.lsp_verdict.proofs.Offences.Steps.{offences-push}
-use Rattle.lsp_verdict.proofs.Offences.Surveying.{some_asks}
-use Rattle.lsp_verdict.proofs.OneEvent.{some_read}
+use Rattle.lsp_verdict.proofs.Offences.Surveying.{some_note}
 use Rattle.lsp_verdict.proofs.RunReading.{read_map}
 use Rattle.lsp_explain.specs.Explained.{Heard, Explains, raws_of, notes_of, breach, breaches}
 use Rattle.lsp_explain.specs.Explained.{said_of, IsExplanation}
@@ -38,11 +37,6 @@ use Rattle.lsp_explain.proofs.EndOfLog.{no_breach}
 use Rattle.lsp_explain.proofs.Explaining.{offence_of, raws-append, notes-append, noted-append}
 use Rattle.lsp_explain.proofs.FirstOffence.{IsFirst, first_explained}
 use Rattle.lsp_verdict.specs.RunIo.{BreaksOff}
-
--- each raw event is noted as one
-note : (raw : Raw) → (n : Noted) × IsNoted raw n
-note raw = let read = some_read raw in let asks =
-    some_asks raw in (record { event = read.0; asks = asks.0 }, (read.1, asks.1))
 
 nothing_before : {A : Type 0} (xs : List A) (y z : A) (ys : List A) → ys ≡ y ∷ []
     → xs ++ ys ≡ z ∷ [] → xs ≡ []
@@ -84,7 +78,7 @@ module _ (completeness : Completeness) (limits : Bounds) (e : SurveyReader) (sta
           let same : own ≡ log_terms limits e.log.log.format = given.so_far.terms_are in
           let f : IsFirst completeness limits log
           (offence_of (log_terms limits e.log.log.format) (breach hs here t.rule)) t.told =
-          first_explained completeness limits log e.log.log.format given.so_far.records note hs here
+          first_explained completeness limits log e.log.log.format given.so_far.records some_note hs here
           (subst (λ (w : List Raw). HasGiven limits e.log.log.format given.so_far.records w log)
           raws_here first)
           (noted-append hs (here ∷ []) noted (given.is_noted, tt))

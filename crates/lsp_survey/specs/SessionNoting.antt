@@ -25,7 +25,7 @@ abbrev pub given_view : Given → Reply
 given_view g = record { id = id_view g.id; number = g.event }
 
 -- the event that is held of an id
-abbrev pub asked_in : List (Id × ℕ) → Ident → Option ℕ
+abbrev pub asked_in : {X : Type 0} → List (Id × X) → Ident → Option X
 asked_in es id = lookup (λ key. same_id id (id_view key)) es
 
 abbrev pub replies_in : Exchange → List Reply

@@ -7,21 +7,26 @@
 //! which led to the phase. Of an offence, [`wants_handshake`] and [`wants_text`] say whether it may
 //! follow from an earlier one, and [`breaks_handshake`] whether it leaves the handshake lost.
 
+mod by_id;
 mod documents;
 mod exchange;
-mod handshake;
+mod malformed;
 mod mark;
 mod marks;
 mod note;
+mod passed;
 mod rules;
 mod session_notes;
 mod sides;
 
-pub(crate) use documents::{is_on_lost, note_kept_act, note_refused, note_refused_act};
-pub(crate) use handshake::{asks_again, asks_handshake};
+pub(crate) use documents::{
+    is_on_lost, note_kept_act, note_malformed, note_refused, note_refused_act, reopens,
+};
+pub(crate) use malformed::{Malformed, meant_again};
 pub use mark::{Setter, Shown};
 pub use marks::Marks;
 pub(crate) use note::{Note, Notes};
+pub(crate) use passed::Passed;
 pub(crate) use rules::{breaks_handshake, wants_handshake, wants_text};
 pub use session_notes::SessionNotes;
 pub(crate) use sides::Sides;
