@@ -9,6 +9,7 @@ ghost use Rattle.std.specs.String.{string_bytes};
 ghost use Rattle.lsp_text.specs.Places.{units, place_in_line};
 ghost use Rattle.lsp_text.specs.Offsets.{IsOffset};
 ghost use Rattle.lsp_lined.specs.Ends.{ends_in, ends_with_return, moved_place, CanMove, IsLineEnd};
+ghost use Rattle.lsp_lined.specs.Ends.{IsNear};
 ghost use Rattle.lsp_lined.specs.Sums.{sums_of};
 ghost use Rattle.lsp_text.specs.SameText.{BeginsOtherwise, due, with_feeds};
 ghost use Rattle.lsp_lined.specs.Parts.{CanReplace, IsReplacedOr, KeepsEnds};
@@ -128,6 +129,11 @@ impl Part for Block {
         }
         let (front, _) = self.as_str().split_at(offset);
         width_of(front, encoding)
+    }
+
+    fn rest_of_block(&self, offset: usize) -> &str {
+        let (_, rest) = self.as_str().split_at(offset);
+        rest
     }
 
     fn replace(&mut self, from: usize, to: usize, inserted: &str) -> Result<bool, AllocError> {
