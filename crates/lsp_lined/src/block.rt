@@ -30,11 +30,9 @@ const FULL: usize = 2048;
 /// The bytes of a block, at most.
 const MOST: usize = 4096;
 
-/// The bytes by which a copy that is edited may grow in place.
-const ROOM: usize = 64;
-
 /// A text, the places after its line ends, and its sums. It is copied in order to be edited, so
-/// that the copy has room for more.
+/// that the copy has room for as much as a block may hold: it grows in place, and copies that come
+/// and go as versions do take memory of one size.
 #[derive(Drop)]
 struct BlockText {
     text: String,
@@ -51,7 +49,7 @@ impl Clone for BlockText {
 
     fn clone(&self) -> Result<BlockText, AllocError> {
         let held = self.text.as_str();
-        let mut text = String::with_capacity(self.alloc, held.len().saturating_add(ROOM))?;
+        let mut text = String::with_capacity(self.alloc, MOST)?;
         text.push_str(held)?;
         Ok(BlockText {
             text,
