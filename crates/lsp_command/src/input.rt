@@ -17,6 +17,10 @@ use std::io::{BufRead, BufReader, Read};
 /// How many bytes are asked for at once.
 const GATHERED: usize = 65_536;
 
+/// How many bytes are appended at once, at most. They come from what was read ahead, so that no
+/// more than these are ever zeroed before they are written over.
+const PIECE: usize = 2_048;
+
 /// A source over a reader of std, which reads ahead. It keeps what the reader gave first, and the
 /// error by which it last failed.
 #[derive(Drop)]
@@ -90,8 +94,8 @@ impl<R: Read> Source for BufferedInput<R> {
         Ok(count)
     }
 
-    /// Appends bytes to the buffer as the trait says: those that were read ahead, straight from
-    /// there, or if there are none, at most [`GATHERED`] from the reader.
+    /// Appends bytes to the buffer as the trait says, at most [`PIECE`]: those that were read ahead,
+    /// straight from there, or if there are none, what the reader gives.
     fn pull_onto(&mut self, buffer: &mut Vec<u8>, most: usize) -> Result<usize, Failed>
         requires room { vec_len buffer.old + most ≤ vec_capacity buffer.old }
         ensures room { vec_capacity buffer.old ≤ vec_capacity buffer.new }
@@ -111,7 +115,7 @@ impl<R: Read> Source for BufferedInput<R> {
             ≡ take 32 (first_bytes self.old ++ appended_bytes buffer.old.items buffer.new.items)) }
         ensures same_first { OnErr result (first_bytes self.new ≡ first_bytes self.old) }
     {
-        let count = self.reader.buffer().len().min(most);
+        let count = self.reader.buffer().len().min(most).min(PIECE);
         if count == 0 {
             return pull_fresh(self, buffer, most);
         }
@@ -123,7 +127,7 @@ impl<R: Read> Source for BufferedInput<R> {
     }
 }
 
-/// Appends what one call of the input gives, at most this many bytes and [`GATHERED`].
+/// Appends what one call of the input gives, at most this many bytes and [`PIECE`].
 fn pull_fresh<R: Read>(
     input: &mut BufferedInput<R>,
     buffer: &mut Vec<u8>,
@@ -147,7 +151,7 @@ fn pull_fresh<R: Read>(
     ensures same_first { OnErr result (first_bytes input.new ≡ first_bytes input.old) }
 {
     let start = buffer.len();
-    buffer.resize(start + most.min(GATHERED), 0).unwrap();
+    buffer.resize(start + most.min(PIECE), 0).unwrap();
     let answer = input.pull(&mut buffer[start..]);
     buffer.truncate(start + answer.unwrap_or(0));
     answer

@@ -146,6 +146,7 @@ fn explain_heard(
 }
 
 /// What explains an offence that was found.
+#[inline(never)]
 pub(crate) fn explain_found(
     alloc: Global,
     events: &SurveyReader,

@@ -147,6 +147,7 @@ impl Replay {
     }
 
     /// Skips the event that was refused so.
+    #[inline(never)]
     fn pass_over(&mut self, alloc: Global, raw: Raw<'_>, refused: Refused) -> Result<Judged, Memory>
         ensures terms { self.new.events.docs.terms ≡ self.old.events.docs.terms }
         ensures heard { IfOk result (λ heard. (before : List Noted) → Walks self.old before
