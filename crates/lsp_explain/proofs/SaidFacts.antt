@@ -20,7 +20,7 @@ use Rattle.lsp_explain.specs.FlawFacts.{Rests, rest_of, frame_facts}
 use Rattle.lsp_explain.specs.Lines.{bare_event, content_event, content_message, event_line}
 use Rattle.lsp_explain.specs.Lines.{message_event}
 use Rattle.lsp_explain.proofs.Naming.{message_named}
-use Rattle.lsp_explain.specs.MessageFacts.{content_facts}
+use Rattle.lsp_explain.specs.MessageFacts.{content_facts, front_facts}
 use Rattle.lsp_explain.specs.RunSteps.{ShowsFault}
 use Rattle.lsp_explain.specs.Traced.{AreTraced}
 use Rattle.lsp_explain.proofs.Spoken.{same_line}
@@ -57,7 +57,7 @@ module _ (terms : Terms) (before : List Event) (rule : ℕ) where
       → AreAll rests raw event facts
   facts_said rest rests (broken side code) event (what.Frames by) facts reads is offends seen says =
       subst (λ e. AreAll rests (broken side code) e facts) (sym reads)
-      (facts, says ∙ ap content_facts seen ∙ ap (λ s. frame_facts (rest_of rests s)) is, refl)
+      (facts, says ∙ ap front_facts seen ∙ ap (λ s. frame_facts (rest_of rests s)) is, refl)
   facts_said rest rests (content side bytes) event (what.Content by given) facts reads is offends
       seen says =
       let same : event ≡ fault side rule =

@@ -68,6 +68,8 @@ pub data Fact : Type 0 where
   led_by : ℕ → Fact
   -- the front of a content
   begins : List ℕ → Fact
+  -- the member that does not have its shape, by a pointer
+  wrong_at : List ℕ → Fact
   -- the number of a record, the byte at which it begins, and the line that is there
   in_record : ℕ → Fact
   at_byte : ℕ → Fact
@@ -108,6 +110,7 @@ fact_view (facts.Answered event) = answered_by event
 fact_view (facts.Asked event) = asked_by event
 fact_view (facts.Since event) = led_by event
 fact_view (facts.Begins text) = begins (string_bytes text)
+fact_view (facts.Member pointer) = wrong_at (string_bytes pointer)
 fact_view (facts.Record number) = in_record number
 fact_view (facts.Byte place) = at_byte place
 fact_view (facts.Found text) = finds (string_bytes text)

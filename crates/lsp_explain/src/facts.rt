@@ -4,7 +4,7 @@
 //! A [`Fact`] is one thing that an explanation says. Of a message [`message_facts`] says them, of a
 //! snapshot [`shown_facts`]: by their rules [`session_facts`], or [`act_facts`] and
 //! [`snapshot_facts`], which say what is wrong with a call on a document. [`content_facts`] are on
-//! a content that is not a message, [`frame_facts`] and [`unfinished_facts`] on a stream whose
+//! a content that is not a message or has params of another shape, [`frame_facts`] and [`unfinished_facts`] on a stream whose
 //! frames have a fault or an end inside one, [`flaw_facts`] on a log that has a fault. [`refuting`]
 //! finds the snapshots whose texts refute a call. [`push_details`] writes the lines of facts, and
 //! `write_event` the line that names an event.
@@ -17,9 +17,12 @@ mod fact_list;
 mod faults;
 mod lines;
 mod making;
+mod members;
 mod messages;
 mod offending;
+mod params;
 mod part;
+mod plain;
 mod refused_change;
 mod waiting;
 

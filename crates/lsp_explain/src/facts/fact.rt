@@ -81,6 +81,9 @@ pub enum Fact {
     Since(u64),
     /// The front of a content that is not a message.
     Begins(String),
+    /// The member of the params or of the result that does not have its shape, as a JSON pointer
+    /// (RFC 6901) from there.
+    Member(String),
     /// The number of a record of the log, from 1; 0 for the first line.
     Record(u64),
     /// How many bytes of the log come before it.

@@ -357,6 +357,7 @@ fn push_fact(alloc: Global, lines: &mut String, fact: &Fact) -> Result<(), Memor
         Fact::Asked(event) => push_cited(lines, "asked", *event),
         Fact::Since(event) => push_cited(lines, "since", *event),
         Fact::Begins(text) => push_text(alloc, lines, "begins", text.as_str()),
+        Fact::Member(pointer) => push_text(alloc, lines, "member", pointer.as_str()),
         Fact::Record(number) => push_number(lines, "record", *number),
         Fact::Byte(place) => push_number(lines, "byte", *place),
         Fact::Found(text) => push_text(alloc, lines, "found", text.as_str()),
