@@ -16,4 +16,6 @@ pub mod Refuting
 pub mod DocumentFacts
 pub mod EventFacts
 pub mod Making
+pub mod Members
+pub mod MemberLaws
 pub mod Comparing
