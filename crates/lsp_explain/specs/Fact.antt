@@ -68,6 +68,10 @@ pub data Fact : Type 0 where
   led_by : ℕ → Fact
   -- the front of a content
   begins : List ℕ → Fact
+  -- how many bytes of it come before the place where it breaks, and what is before and after that
+  breaks : ℕ → Fact
+  before : List ℕ → Fact
+  after : List ℕ → Fact
   -- the member that does not have its shape, by a pointer
   wrong_at : List ℕ → Fact
   -- the number of a record, the byte at which it begins, and the line that is there
@@ -110,6 +114,9 @@ fact_view (facts.Answered event) = answered_by event
 fact_view (facts.Asked event) = asked_by event
 fact_view (facts.Since event) = led_by event
 fact_view (facts.Begins text) = begins (string_bytes text)
+fact_view (facts.Breaks place) = breaks place
+fact_view (facts.Before text) = before (string_bytes text)
+fact_view (facts.After text) = after (string_bytes text)
 fact_view (facts.Member pointer) = wrong_at (string_bytes pointer)
 fact_view (facts.Record number) = in_record number
 fact_view (facts.Byte place) = at_byte place

@@ -269,16 +269,17 @@ abbrev pub is_whole : Place → List Around → Bool
 is_whole place [] = is_end place
 is_whole place (around ∷ opened) = false
 
-mutual
-  -- the number of the first of these bytes that cannot stand there, the numbers beginning here; the
-  -- next number, where the text ends too early
-  pub break_from : ℕ → Place → List Around → List ℕ → Option ℕ
-  break_from n place opened [] = if is_whole place opened then None else Some n
-  break_from n place opened (x ∷ xs) = break_after n opened xs (move_in place opened x)
+abbrev pub break_on : ℕ → (Place → List Around → Option ℕ) → List Around → Option Move → Option ℕ
+break_on n later opened None = Some n
+break_on n later opened (Some by) = later (to by) (left_open opened by)
 
-  pub break_after : ℕ → List Around → List ℕ → Option Move → Option ℕ
-  break_after n opened xs None = Some n
-  break_after n opened xs (Some by) = break_from (suc n) (to by) (left_open opened by) xs
+-- the number of the first of these bytes that cannot stand there, the numbers beginning here; the
+-- next number, where the text ends too early
+abbrev pub break_from : ℕ → Place → List Around → List ℕ → Option ℕ
+break_from n place opened [] = if is_whole place opened then None else Some n
+break_from n place opened (x ∷ xs) =
+    break_on n (λ place opened. break_from (suc n) place opened xs) opened
+    (move_in place opened x)
 
 -- **how many bytes come before the first one that cannot stand there**, all if the text ends too
 -- early; `None` of a JSON text

@@ -12,6 +12,8 @@ pub mod Fact
 pub mod Lines
 pub mod FlawFacts
 pub mod MessageFacts
+pub mod ContentFacts
+pub mod Grammar
 pub mod Refuting
 pub mod DocumentFacts
 pub mod EventFacts

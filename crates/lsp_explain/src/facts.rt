@@ -9,12 +9,15 @@
 //! finds the snapshots whose texts refute a call. [`push_details`] writes the lines of facts, and
 //! `write_event` the line that names an event.
 
+mod contents;
 mod difference;
 mod documents;
 mod edges;
 mod fact;
 mod fact_list;
 mod faults;
+mod grammar;
+mod json;
 mod lines;
 mod making;
 mod members;
@@ -26,13 +29,14 @@ mod plain;
 mod refused_change;
 mod waiting;
 
+pub use contents::content_facts;
 pub use documents::{act_facts, snapshot_facts};
 pub use fact::Fact;
 pub use faults::{flaw_facts, frame_facts, unfinished_facts};
 pub use lines::{
     push_bare_event, push_content_event, push_details, push_end_event, push_message_event, usual,
 };
-pub use messages::{content_facts, id_in, session_facts};
+pub use messages::{id_in, session_facts};
 pub use offending::{message_facts, shown_facts};
 pub use part::Excerpt;
 pub use waiting::refuting;

@@ -81,6 +81,13 @@ pub enum Fact {
     Since(u64),
     /// The front of a content that is not a message.
     Begins(String),
+    /// How many bytes of a content come before the first one that cannot stand there, all of them if
+    /// it ends too early (RFC 8259).
+    Breaks(u64),
+    /// What comes before that place.
+    Before(String),
+    /// What comes after it.
+    After(String),
     /// The member of the params or of the result that does not have its shape, as a JSON pointer
     /// (RFC 6901) from there.
     Member(String),

@@ -1,6 +1,6 @@
-//! Facts on messages, and on contents that are not messages.
+//! Facts on messages, and how some bytes begin.
 ghost use Rattle.std.specs.Prelude.{◌≡◌, ◌≤◌, List, [], ◌∷◌, ◌++◌, IfOk, OnOk, length, take};
-ghost use Rattle.std.specs.Prelude.{option_and_then, option_map, unwrap_or};
+ghost use Rattle.std.specs.Prelude.{option_map, unwrap_or};
 ghost use Rattle.std.specs.Str.{IsUtf8};
 ghost use Rattle.serde_json.specs.View.{view};
 ghost use Rattle.lsp_rpc.specs.Ident.{id_view};
@@ -11,13 +11,12 @@ ghost use Rattle.lsp_session.specs.Sent.{Sent};
 ghost use Rattle.lsp_session.specs.State.{Stands};
 ghost use Rattle.lsp_session.specs.View.{sent};
 ghost use Rattle.lsp_explain.specs.Fact.{fact_view, facts_view, has_id};
-ghost use Rattle.lsp_explain.specs.Lines.{content_message};
-ghost use Rattle.lsp_explain.specs.Members.{Finds, pointer_view, wrong_member};
+ghost use Rattle.lsp_explain.specs.Members.{pointer_view};
 ghost use Rattle.lsp_explain.specs.MessageFacts as spec;
 
 use crate::facts::fact::Fact;
-use crate::facts::params::{wrong_member, wrong_result};
-use lsp_rpc::{Act, Id, Memory, Message, Offer, RpcFault, Side, copy_id, picked_of, read};
+use crate::facts::params::wrong_result;
+use lsp_rpc::{Act, Id, Memory, Message, Offer, RpcFault, Side, copy_id, picked_of};
 use lsp_session::{Session, is_synchronisation};
 use lsp_types::rules;
 use serde_json::Value;
@@ -58,17 +57,23 @@ pub(crate) fn text_front(bytes: &[u8]) -> &str
     }
 }
 
+/// As much of some bytes as is UTF-8, and lies within so many.
+pub(crate) fn shown(bytes: &[u8], most: usize) -> &str
+    ensures { result.now ≡ spec.shown most bytes.now }
+{
+    let len = most.min(bytes.len());
+    text_front(&bytes[..len])
+}
+
 /// How some bytes begin, as far as that is UTF-8.
 pub(crate) fn front_facts(alloc: Global, bytes: &[u8]) -> Result<Vec<Fact>, Memory>
     ensures { IfOk result (λ facts. facts_view facts.items ≡ spec.front_facts bytes.now) }
 {
-    let shown = SHOWN_BYTES.min(bytes.len());
-    let text = text_front(&bytes[..shown]);
-    only(alloc, Fact::Begins(String::from_str(alloc, text)?))
+    only(alloc, Fact::Begins(String::from_str(alloc, shown(bytes, SHOWN_BYTES))?))
 }
 
 /// Adds a member that does not have its shape, where there is one.
-fn push_member(facts: &mut Vec<Fact>, found: Option<String>) -> Result<(), Memory>
+pub(crate) fn push_member(facts: &mut Vec<Fact>, found: Option<String>) -> Result<(), Memory>
     ensures { OnOk result (facts_view facts.new.items
         ≡ facts_view facts.old.items ++ spec.member_facts (pointer_view found)) }
 {
@@ -76,30 +81,6 @@ fn push_member(facts: &mut Vec<Fact>, found: Option<String>) -> Result<(), Memor
         Some(pointer) => Ok(facts.push(Fact::Member(pointer))?),
         None => Ok(()),
     }
-}
-
-/// The member of the params that does not have its shape, of a content that is a message.
-fn member_in(alloc: Global, content: &[u8]) -> Result<Option<String>, Memory>
-    ensures { Finds result (option_and_then wrong_member (content_message content.now)) }
-{
-    match read(alloc, content) {
-        Ok(message) => wrong_member(alloc, &message),
-        Err(RpcFault::Rule(_)) => Ok(None),
-        Err(RpcFault::Memory) => Err(Memory),
-    }
-}
-
-/// What is said about a content that breaks a rule, 201 to 209: how it begins, as far as that is
-/// UTF-8, and of a message the member of its params that does not have its shape.
-///
-/// # Errors
-/// `Memory` where memory was refused.
-pub fn content_facts(alloc: Global, content: &[u8]) -> Result<Vec<Fact>, Memory>
-    ensures { IfOk result (λ facts. facts_view facts.items ≡ spec.content_facts content.now) }
-{
-    let mut facts = front_facts(alloc, content)?;
-    push_member(&mut facts, member_in(alloc, content)?)?;
-    Ok(facts)
 }
 
 /// The id in a message, if it has one.

@@ -3,7 +3,7 @@ use Rattle.std.specs.Prelude.{option_and_then}
 use Rattle.lsp_rpc.specs.Reading.{IsRefusal}
 use Rattle.lsp_explain.specs.Members.{Finds, wrong_member}
 use Rattle.lsp_explain.proofs.Naming.{message_named, none_named}
-use Rattle.lsp_explain.proofs.facts.messages.member_in.Goals as goal
+use Rattle.lsp_explain.proofs.facts.contents.member_in.Goals as goal
 
 pub returns-in-Ok : goal.returns-in-Ok
 returns-in-Ok c =
