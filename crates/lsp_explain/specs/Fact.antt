@@ -62,6 +62,8 @@ pub data Fact : Type 0 where
   -- how many messages can have made texts differ, and one of them, by its version and its event
   has_suspects : ℕ → Fact
   suspects : ℤ → ℕ → Fact
+  -- the open request whose id is the same but for its type, with the event that asked it
+  opens_as : Ident → ℕ → Fact
   -- the event that answered a request, that asked one, and that led to the phase
   answered_by : ℕ → Fact
   asked_by : ℕ → Fact
@@ -110,6 +112,7 @@ fact_view (facts.Snapshot event) = shown_by event
 fact_view (facts.Equal number event) = equal_by number event
 fact_view (facts.Suspects count) = has_suspects count
 fact_view (facts.Suspect number event) = suspects number event
+fact_view (facts.Open id event) = opens_as (id_view id) event
 fact_view (facts.Answered event) = answered_by event
 fact_view (facts.Asked event) = asked_by event
 fact_view (facts.Since event) = led_by event

@@ -73,6 +73,9 @@ pub enum Fact {
     Suspects(u64),
     /// The version that one of them set, and the number of its event, from 1.
     Suspect { version: i32, event: u64 },
+    /// The id of an open request that differs in its type alone, and the number of the event that
+    /// asked it, from 1.
+    Open { id: Id, event: u64 },
     /// The number of the event that answered a request of this id, from 1.
     Answered(u64),
     /// The number of the event that asked the open request of this id, from 1.
