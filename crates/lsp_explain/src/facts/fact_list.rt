@@ -2,14 +2,17 @@
 
 ghost use Rattle.std.specs.Prelude.{◌≡◌, ◌<◌, ◌^◌, ◌+◌, [], ◌∷◌, ◌++◌, OnOk};
 ghost use Rattle.std.specs.Str.{chars};
+ghost use Rattle.lsp_types.specs.declared.line_ends.LineEnds.TheVariants.{Ignored};
+ghost use Rattle.lsp_text.specs.SameText.{same_text};
 ghost use Rattle.lsp_explain.specs.Fact.{of_uri, counts_in, fails};
 ghost use Rattle.lsp_explain.specs.Fact.{falls_inside, fact_view, facts_view};
-ghost use Rattle.lsp_explain.specs.DocumentFacts.{line_length, first_length, fits_fact};
+ghost use Rattle.lsp_explain.specs.DocumentFacts.{ends_facts, line_length, first_length};
+ghost use Rattle.lsp_explain.specs.DocumentFacts.{fits_fact};
 ghost use Rattle.lsp_explain.specs.Edges.{edges};
 
 use crate::facts::edges::edges;
 use crate::facts::fact::Fact;
-use lsp_text::{line_at, width_of};
+use lsp_text::{line_at, same_lines, width_of};
 use lsp_types::{Encoding, Memory, Position, Span};
 use std::alloc::Global;
 use std::marker::Model;
@@ -110,6 +113,17 @@ impl FactList {
         Ok(())
     }
 
+    /// Adds that two texts differ in line ends alone, where they do.
+    pub(crate) fn push_line_ends(&mut self, held: &str, other: &str) -> Result<(), Memory>
+        ensures { OnOk result (self.new ≡ self.old
+            ++ ends_facts (chars held.now) (chars other.now)) }
+    {
+        if are_same_lines(held, other) {
+            self.push(Fact::LineEnds)?;
+        }
+        Ok(())
+    }
+
     /// Adds the length of the line of a position, where the text has that line.
     pub(crate) fn push_length(
         &mut self,
@@ -145,4 +159,11 @@ impl FactList {
     fn alloc(&self) -> Global {
         *self.facts.allocator()
     }
+}
+
+/// Whether two texts are the same up to their line ends.
+fn are_same_lines(held: &str, other: &str) -> bool
+    ensures { result ≡ same_text Ignored (chars held.now) (chars other.now) }
+{
+    same_lines(held, other)
 }
