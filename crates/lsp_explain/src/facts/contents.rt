@@ -1,5 +1,5 @@
 //! Facts on contents that are not a message, and on messages whose params have another shape.
-ghost use Rattle.std.specs.Prelude.{◌≡◌, ◌≤◌, ◌++◌, IfOk, IfSome, OnOk, length};
+ghost use Rattle.std.specs.Prelude.{◌≡◌, ◌≤◌, ◌-◌, ◌++◌, IfOk, IfSome, OnOk, length};
 ghost use Rattle.std.specs.List.{prefix_len};
 ghost use Rattle.lsp_explain.specs.ContentFacts as spec;
 ghost use Rattle.lsp_explain.specs.Fact.{facts_view};
