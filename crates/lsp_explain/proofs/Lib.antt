@@ -24,5 +24,6 @@ pub mod AtEdges
 pub mod OtherTexts
 pub mod DocumentRules
 pub mod Refused
+pub mod ShapedMembers
 pub mod SomeFacts
 pub mod OneFacts

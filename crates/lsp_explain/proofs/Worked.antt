@@ -1,6 +1,7 @@
 -- Worked rows, each checked by computing it.
 pub mod Traced
 pub mod Messages
+pub mod Contents
 pub mod Flaws
 pub mod Lines
 pub mod Documents

@@ -1,4 +1,5 @@
 pub mod Suspects
+pub mod Twins
 pub mod Traced
 pub mod Standing
 pub mod Explained
@@ -12,8 +13,12 @@ pub mod Fact
 pub mod Lines
 pub mod FlawFacts
 pub mod MessageFacts
+pub mod ContentFacts
+pub mod Grammar
 pub mod Refuting
 pub mod DocumentFacts
 pub mod EventFacts
 pub mod Making
+pub mod Members
+pub mod MemberLaws
 pub mod Comparing
