@@ -3,23 +3,28 @@
 //!
 //! [`Notes`] says which documents are lost: an offence left the held text another than the
 //! sender's. [`Marks`] says which events left a document as it is, and [`SessionNotes`] by which
-//! events requests were asked and answered, and which led to the phase. Of an offence,
-//! [`wants_handshake`] and [`wants_text`] say whether it may follow from an earlier one, and
-//! [`breaks_handshake`] whether it leaves the handshake lost.
+//! events requests were asked and answered, which led to the phase, and what is remarkable about the
+//! messages, though it breaks no rule. Of an offence, [`wants_handshake`] and [`wants_text`] say
+//! whether it may follow from an earlier one, and [`breaks_handshake`] whether it leaves the
+//! handshake lost.
 
 mod documents;
 mod exchange;
 mod handshake;
 mod mark;
 mod marks;
+mod misuses;
 mod note;
+mod remarks;
 mod rules;
 mod session_notes;
+mod standard_methods;
 
 pub(crate) use documents::{is_on_lost, note_kept_act, note_refused, note_refused_act};
 pub(crate) use handshake::{asks_again, asks_handshake};
 pub use mark::{Setter, Shown};
 pub use marks::Marks;
+pub use misuses::{Misuse, Misused};
 pub(crate) use note::{Note, Notes};
 pub(crate) use rules::{breaks_handshake, wants_handshake, wants_text};
 pub use session_notes::SessionNotes;
