@@ -435,7 +435,8 @@ some_explanation_of_all completeness limits log =
 module _ (completeness : Completeness) (limits : Bounds) (log : List ℕ) (v : Verdict) (out : List ℕ)
   where
     abbrev AllSays : Parts → Type 0
-    AllSays x = Says causes (λ es. es) (λ terms hs. all_explanation) completeness limits log x v out
+    AllSays x = Says causes (λ es. es) (λ terms hs. all_explanation) completeness limits log x v
+        out
 
     all_said : IsAllExplained completeness limits log v out
         → (x : Parts) × AreParts limits log x × AllSays x
@@ -468,5 +469,5 @@ pub one_explanation_of_all : OneExplanationOfAll
 one_explanation_of_all completeness limits sizes log v w out other p q =
     let first = all_said completeness limits log v out p in
     let second = all_said completeness limits log w other q in
-    both_say causes (λ es. es) (λ terms hs. all_explanation) completeness limits log sizes first.0 second.0 v w
-    out other first.1 second.1 first.2 second.2
+    both_say causes (λ es. es) (λ terms hs. all_explanation) completeness limits log sizes
+    first.0 second.0 v w out other first.1 second.1 first.2 second.2

@@ -176,7 +176,8 @@ pub record IsExplanation (completeness : Completeness) (limits : Bounds) (log : 
   pub s : Summary
   pub is : IsExplained completeness limits log found explained bad flaw s
   pub judges : v ≡ first_verdict found bad s
-  pub says : out ≡ noted_explanation (log_terms limits is.format) is.heard found explained bad flaw s
+  pub says : out
+      ≡ noted_explanation (log_terms limits is.format) is.heard found explained bad flaw s
 
 -- what begins the explanation of a log
 abbrev pub BeginsExplanation : Completeness → Bounds → List ℕ → List ℕ → Type 0

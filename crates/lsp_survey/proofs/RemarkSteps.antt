@@ -6,6 +6,7 @@ use Rattle.std.specs.Option.{option_or}
 use Rattle.std.proofs.Common.{◌≡◌, ℕ, Bool, List, [], ◌∷◌, ◌++◌, Option, Some, None, inl, inr, refl}
 use Rattle.std.proofs.Common.{sym, ap, ◌∙◌, append-nil, append_assoc}
 use Rattle.std.proofs.lemmas.List.{map-append}
+use Rattle.std.proofs.lemmas.List.Elements.{filter_map-append}
 use Rattle.std.proofs.lemmas.Option.{same_Some}
 use Rattle.serde_json.specs.Data.{Data}
 use Rattle.lsp_rpc.specs.Act.{Offer}
@@ -13,7 +14,8 @@ use Rattle.lsp_rpc.specs.Ident.{Ident}
 use Rattle.lsp_rpc.specs.Message.{Message, request, notification, response, result, error}
 use Rattle.lsp_rpc.specs.Outline.{outline, without_params}
 use Rattle.lsp_session.specs.Handshake.{Settled, first_settled, is_done, offer_to, open_initializes}
-use Rattle.lsp_session.specs.Handshake.{first_settled_from, phase, result_of, settled_among, settled_at, settled_by}
+use Rattle.lsp_session.specs.Handshake.{first_settled_from, phase, result_of, settled_among}
+use Rattle.lsp_session.specs.Handshake.{settled_at, settled_by}
 use Rattle.lsp_session.specs.OpenInitialize.{Initialize}
 use Rattle.lsp_session.specs.Sent.{Sent, answered_from}
 use Rattle.lsp_session.proofs.Steps.{option_or-assoc, option_or-none}
@@ -21,7 +23,7 @@ use Rattle.lsp_types.specs.declared.side.Side.{Side}
 use Rattle.lsp_types.specs.declared.side.Side.TheVariants.{Editor}
 use Rattle.lsp_verdict.specs.LookBack.{each_of}
 use Rattle.lsp_verdict.specs.Offences.{last_or}
-use Rattle.lsp_verdict.proofs.LookBackLemmas.{each_of-snoc, cons_append}
+use Rattle.lsp_verdict.proofs.LookBackLemmas.{each_of-snoc}
 use Rattle.lsp_verdict.proofs.Offences.Steps.{last_behind}
 use Rattle.lsp_survey.specs.Asking.{Numbered, numbered_as, sents}
 use Rattle.lsp_survey.specs.Misuses.{Misused, misuse_at, misuse_in, misused_views, misuses}
@@ -37,10 +39,7 @@ on_ok_three (Err e) f p q s = tt
 
 pub filter_map-snoc : {A X : Type 0} (f : A → Option X) (xs : List A) (x : A)
     → filter_map f (xs ++ x ∷ []) ≡ filter_map f xs ++ cons_option (f x) []
-filter_map-snoc f [] x = refl
-filter_map-snoc f (y ∷ xs) x =
-    ap (cons_option (f y)) (filter_map-snoc f xs x)
-    ∙ cons_append (f y) (filter_map f xs) (cons_option (f x) [])
+filter_map-snoc f xs x = filter_map-append f xs (x ∷ [])
 
 -- ---- calls that are misused
 
@@ -127,7 +126,8 @@ older_more : (before by : Option Settled) (said : Message) (old new : Option (Li
     → new ≡ older_by (option_or before by)
 older_more (Some s) by said old new has are more = more ∙ are
 older_more None None said old new has are more = more ∙ are
-older_more None (Some s) said old new has are more = more ∙ ap (option_and_then older_in) (has s refl)
+older_more None (Some s) said old new has are more =
+    more ∙ ap (option_and_then older_in) (has s refl)
 
 -- ---- one message more
 

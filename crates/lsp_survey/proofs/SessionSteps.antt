@@ -18,7 +18,7 @@ use Rattle.lsp_verdict.specs.Event.{Event, message, sent_in, sent_of}
 use Rattle.lsp_verdict.specs.LookBack.{each_from, each_of}
 use Rattle.lsp_verdict.specs.OffenceLaws.{kept_at}
 use Rattle.lsp_verdict.specs.Offences.{kept_of, last_or, rule_at}
-use Rattle.lsp_verdict.proofs.LookBackLemmas.{each_of-snoc, cons_append}
+use Rattle.lsp_verdict.proofs.LookBackLemmas.{each_of-snoc}
 use Rattle.lsp_verdict.proofs.Offences.Offending.{kept_are_others}
 use Rattle.lsp_verdict.proofs.Offences.Steps.{last_behind}
 use Rattle.lsp_survey.specs.Asking.{Numbered, Reply, numbered_as, numbered_by, numbered_at}

@@ -66,7 +66,8 @@ pub record SaysOn (n : ℕ) (sender : Side) (m : Message) (behind : List Sent)
   pub server : Exchanges Server n sender m old.server new.server
   pub phase_is : new.phase ≡ phase behind
   pub since_is : new.since ≡ unwrap_or (leads n old.phase (phase behind)) old.since
-  pub remarked : Remarked n sender m old.phase (phase behind) (is_done behind) old.remarks new.remarks
+  pub remarked : Remarked n sender m old.phase (phase behind) (is_done behind) old.remarks
+      new.remarks
 
 -- **they stand for the kept messages of these events**
 abbrev pub AreNotes : Terms → SessionNotes → List Event → Type 0

@@ -3,9 +3,9 @@
 //!
 //! [`Notes`] says which documents are lost: an offence left the held text another than the
 //! sender's. [`Marks`] says which events left a document as it is, and [`SessionNotes`] by which
-//! events requests were asked and answered, which led to the phase, and what is remarkable about the
-//! messages, though it breaks no rule. Of an offence, [`wants_handshake`] and [`wants_text`] say
-//! whether it may follow from an earlier one, and [`breaks_handshake`] whether it leaves the
+//! events requests were asked and answered, which led to the phase, and what is remarkable about
+//! the messages, though it breaks no rule. Of an offence, [`wants_handshake`] and [`wants_text`]
+//! say whether it may follow from an earlier one, and [`breaks_handshake`] whether it leaves the
 //! handshake lost.
 
 mod documents;

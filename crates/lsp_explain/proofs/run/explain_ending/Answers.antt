@@ -11,7 +11,8 @@ use Rattle.lsp_explain.proofs.run.explain_ending.Goals as goal
 pub returns : goal.returns
 returns c =
     let list = first_some c.deref.result.now c.in-Some.offence.now c.in-Some.ensures.value in
-    if_ok_both c.explain_listed.result _ _ _ (λ plain named says x adds completeness limits start now w.
+    if_ok_both c.explain_listed.result _ _ _ (λ plain named says x adds completeness limits start now
+    w.
     ends_told completeness limits c.args.events.now start now w.hs c.args.end w.ended plain x adds
     c.in-Some.offence.now list.0 (sym c.deref.ensures.value ∙ list.1) named
     (λ before stands. says (rests_held c.args.events.now) before stands
