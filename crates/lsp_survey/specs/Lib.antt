@@ -8,6 +8,7 @@ pub mod StandardMethods
 pub mod Misuses
 pub mod Remarks
 pub mod SessionNoting
+pub mod Sides
 pub mod Walking
 pub mod Ending
 pub mod Reads

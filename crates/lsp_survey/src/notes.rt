@@ -2,11 +2,11 @@
 //! event is judged here, and no log is read.
 //!
 //! [`Notes`] says which documents are lost: an offence left the held text another than the
-//! sender's. [`Marks`] says which events left a document as it is, and [`SessionNotes`] by which
-//! events requests were asked and answered, which led to the phase, and what is remarkable about
-//! the messages, though it breaks no rule. Of an offence, [`wants_handshake`] and [`wants_text`]
-//! say whether it may follow from an earlier one, and [`breaks_handshake`] whether it leaves the
-//! handshake lost.
+//! sender's. [`Sides`] says how the bytes of the two sides failed. [`Marks`] says which events left
+//! a document as it is, and [`SessionNotes`] by which events requests were asked and answered, which
+//! led to the phase, and what is remarkable about the messages, though it breaks no rule. Of an
+//! offence, [`wants_handshake`] and [`wants_text`] say whether it may follow from an earlier one, and
+//! [`breaks_handshake`] whether it leaves the handshake lost.
 
 mod documents;
 mod exchange;
@@ -18,6 +18,7 @@ mod note;
 mod remarks;
 mod rules;
 mod session_notes;
+mod sides;
 mod standard_methods;
 
 pub(crate) use documents::{is_on_lost, note_kept_act, note_refused, note_refused_act};
@@ -28,3 +29,4 @@ pub use misuses::{Misuse, Misused};
 pub(crate) use note::{Note, Notes};
 pub(crate) use rules::{breaks_handshake, wants_handshake, wants_text};
 pub use session_notes::SessionNotes;
+pub(crate) use sides::Sides;
