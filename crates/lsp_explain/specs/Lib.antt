@@ -2,6 +2,7 @@ pub mod Suspects
 pub mod Twins
 pub mod Traced
 pub mod Standing
+pub mod Remarks
 pub mod Explained
 pub mod ExplainLaws
 pub mod RunSteps

@@ -9,6 +9,7 @@
 mod facts;
 mod laws;
 mod offence_facts;
+mod remarks;
 mod run;
 mod run_all;
 mod suspects;

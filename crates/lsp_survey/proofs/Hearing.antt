@@ -11,7 +11,7 @@ use Rattle.lsp_docs.specs.declared.snapshot.Match.{Match}
 use Rattle.lsp_docs.specs.Terms.{Terms}
 use Rattle.lsp_replay.specs.Faults.{rule_of}
 use Rattle.lsp_replay.specs.Lines.{IsHeard}
-use Rattle.lsp_replay.specs.Standing.{AnswersAs, Holds, Keeps}
+use Rattle.lsp_replay.specs.Standing.{AnswersAs, HasValue, HeardWhole, Holds, Keeps}
 use Rattle.lsp_replay.specs.declared.fault.Refused.TheVariants as refused
 use Rattle.lsp_replay.specs.declared.heard.Heard as lent
 use Rattle.lsp_replay.specs.declared.heard.Heard.TheVariants as kept
@@ -22,7 +22,6 @@ use Rattle.lsp_rpc.specs.Outline.{outline}
 use Rattle.lsp_rpc.specs.View.{act_view, message_view}
 use Rattle.lsp_rpc.specs.declared.act.Spoken.{Spoken}
 use Rattle.lsp_session.specs.Negotiation.{encoding, sync_kind}
-use Rattle.lsp_session.specs.Handshake.{phase}
 use Rattle.lsp_session.specs.Sent.{Sent}
 use Rattle.lsp_session.specs.State as session
 use Rattle.lsp_docs.specs.State as docs
@@ -80,19 +79,21 @@ module _ (old new : Replay) (notes : List Noted) (number : ℕ) (walks : Walks o
 
   message_heard : (side by : Side) (bytes : List ℕ) (sent : Sent) (said : Message) (act : Act)
       → IsSent side bytes sent → sent.side ≡ by → outline sent.message ≡ outline said
-      → sent.act ≡ act → rule_at terms events (message sent) ≡ None
+      → HasValue before said sent.message → sent.act ≡ act
+      → rule_at terms events (message sent) ≡ None
       → Holds new.events.session new.events.docs (before ++ message sent ∷ [])
       → AreCounts new.events.counts (events ++ message sent ∷ [])
       → NotesMessage number by said act old new
       → Hears (content side bytes) terms new notes heard.Kept
-  message_heard side by bytes sent said act reads is_by says means clean holds counted noted =
+  message_heard side by bytes sent said act reads is_by says has_value means clean holds counted
+      noted =
       let enc = unwrap_or (encoding (sent_in before)) Utf16 in
       let kind = unwrap_or (sync_kind (sent_in before)) Nothing in
       let more : before ++ message sent ∷ [] ≡ kept_of terms (events ++ message sent ∷ []) =
       sym (kept-push terms events (message sent) clean) in
       let told : SaysOn number by said
-      (phase (sent_in (kept_of terms (events ++ message sent ∷ [])))) old.said new.said =
-      subst (λ (es : List Event). SaysOn number by said (phase (sent_in es)) old.said new.said) more
+      (sent_in (kept_of terms (events ++ message sent ∷ []))) old.said new.said =
+      subst (λ (es : List Event). SaysOn number by said (sent_in es) old.said new.said) more
       (noted.2 (sent_in (before ++ message sent ∷ [])) holds.sent) in
       let n : Noted = record { event = message sent; malformed = None } in
       kept_on (content side bytes) old new notes n (call_of enc kind act) walks
@@ -105,8 +106,9 @@ module _ (old new : Replay) (notes : List Noted) (number : ℕ) (walks : Walks o
       (λ e k. subst (λ (a : Act). DoneBy number (call_of e k a) old.marks.map.entries
       new.marks.map.entries) (sym means) (noted.1 e k)))
       (message_noted terms old.said new.said events sent said number walks.said clean is_number says
+      has_value
       (subst (λ (s : Side). SaysOn number s said
-      (phase (sent_in (kept_of terms (events ++ message sent ∷ [])))) old.said new.said)
+      (sent_in (kept_of terms (events ++ message sent ∷ []))) old.said new.said)
       (sym is_by) told))
 
   snapshot_heard : (raw : Raw) (uri text : List ℕ) (version : ℤ) (answer : Match)
@@ -130,32 +132,33 @@ module _ (old new : Replay) (notes : List Noted) (number : ℕ) (walks : Walks o
       (subst (λ (m : SessionNotes). AreNotes terms m events) (sym noted.2) walks.said) refl)
 
   by_event : (raw : Raw) (given : lent.Heard) (event : Event) → Reads raw event
-      → IsHeard event given → AnswersAs terms before given → offence terms before event ≡ None
+      → IsHeard event given → AnswersAs terms before given → HeardWhole before event given
+      → offence terms before event ≡ None
       → Holds new.events.session new.events.docs (before ++ event ∷ [])
       → AreCounts new.events.counts (events ++ event ∷ []) → NotesKept number given old new
       → Hears raw terms new notes heard.Kept
-  by_event (content side bytes) (kept.Message by spoken) (message sent) reads is answers clean holds
-      counted noted =
+  by_event (content side bytes) (kept.Message by spoken) (message sent) reads is answers whole clean
+      holds counted noted =
       message_heard side by bytes sent (message_view spoken.message) (act_view spoken.act) reads
-      is.0 is.1 is.2 clean holds counted noted
-  by_event (broken side rule) (kept.Message by spoken) (message sent) reads is answers clean holds
-      counted noted = absurd cc
-  by_event (show n uri text) (kept.Message by spoken) (message sent) reads is answers clean holds
-      counted noted = absurd cc
-  by_event raw (kept.Message by spoken) (fault side rule) reads is answers clean holds counted
+      is.0 is.1 whole is.2 clean holds counted noted
+  by_event (broken side rule) (kept.Message by spoken) (message sent) reads is answers whole clean
+      holds counted noted = absurd cc
+  by_event (show n uri text) (kept.Message by spoken) (message sent) reads is answers whole clean
+      holds counted noted = absurd cc
+  by_event raw (kept.Message by spoken) (fault side rule) reads is answers whole clean holds counted
       noted = absurd is
-  by_event raw (kept.Message by spoken) (snapshot u m t) reads is answers clean holds counted
+  by_event raw (kept.Message by spoken) (snapshot u m t) reads is answers whole clean holds counted
       noted = absurd is
-  by_event raw (kept.Snapshot version uri text answer) (message sent) reads is answers clean holds
-      counted noted = absurd is
-  by_event raw (kept.Snapshot version uri text answer) (fault side rule) reads is answers clean
+  by_event raw (kept.Snapshot version uri text answer) (message sent) reads is answers whole clean
       holds counted noted = absurd is
+  by_event raw (kept.Snapshot version uri text answer) (fault side rule) reads is answers whole
+      clean holds counted noted = absurd is
   by_event (content side bytes) (kept.Snapshot version uri text answer) (snapshot u m t) reads is
-      answers clean holds counted noted = absurd reads
+      answers whole clean holds counted noted = absurd reads
   by_event (broken side rule) (kept.Snapshot version uri text answer) (snapshot u m t) reads is
-      answers clean holds counted noted = absurd cc
+      answers whole clean holds counted noted = absurd cc
   by_event (show n name shown) (kept.Snapshot version uri text answer) (snapshot u m t) reads is
-      answers clean holds counted noted =
+      answers whole clean holds counted noted =
       let same : snapshot u m t ≡ snapshot uri.now version (chars text.now) =
       λ i. snapshot (is.0 i) (is.1 i) (is.2 i) in
       snapshot_heard (show n name shown) uri.now (chars text.now) version answer
@@ -179,7 +182,7 @@ noted_after number (kept.Message side spoken) mid old new notes marks said noted
           DoneBy number (call_of enc kind act) w.map.entries new.marks.map.entries) marks
           (noted.1 enc kind),
       λ sents stands. subst (λ (w : SessionNotes).
-          SaysOn number side (message_view spoken.message) (phase sents) w new.said) said
+          SaysOn number side (message_view spoken.message) sents w new.said) said
           (noted.2 sents stands),
     )
 noted_after number (kept.Snapshot version uri text answer) mid old new notes marks said noted = (
@@ -204,7 +207,7 @@ kept_heard raw old new notes number given m d c walks is_number terms_are same_m
     let before : List Event = kept_of old.events.docs.terms events in
     by_event old new notes number walks is_number
     (ap (λ (w : docs.State). w.terms) same_d ∙ terms_are) is_broken is_passed raw given k.event k.reads
-    k.is_heard k.answers k.clean
+    k.is_heard k.answers k.whole k.clean
     (subst (λ (w : session.State). Holds w new.events.docs (before ++ k.event ∷ [])) (sym same_m)
     (subst (λ (w : docs.State). Holds m w (before ++ k.event ∷ [])) (sym same_d) k.holds))
     (subst (λ (w : Counts). AreCounts w (events ++ k.event ∷ [])) (sym same_c)

@@ -4,6 +4,9 @@ pub mod LastOnes
 pub mod Asking
 pub mod Marking
 pub mod Marks
+pub mod StandardMethods
+pub mod Misuses
+pub mod Remarks
 pub mod SessionNoting
 pub mod Passed
 pub mod Sides

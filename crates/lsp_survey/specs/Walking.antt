@@ -14,7 +14,6 @@ use Rattle.lsp_rpc.specs.Message.{Message}
 use Rattle.lsp_rpc.specs.Outline.{outline}
 use Rattle.lsp_rpc.specs.declared.message.Id.{Id}
 use Rattle.lsp_rpc.specs.View.{act_view, message_view}
-use Rattle.lsp_session.specs.Handshake.{phase}
 use Rattle.lsp_session.specs.Sent.{Sent}
 use Rattle.lsp_session.specs.State.{Stands}
 use Rattle.lsp_survey.specs.Marks.{AreMarks, DoneBy, ShownBy}
@@ -79,7 +78,7 @@ NotesMessage number side said act old new =
     × ((enc : Encoding) (kind : SyncKind)
     → DoneBy number (call_of enc kind act) old.marks.map.entries new.marks.map.entries)
     × ((sents : List Sent) → Stands new.events.session sents
-    → SaysOn number side said (phase sents) old.said new.said)
+    → SaysOn number side said sents old.said new.said)
     × (new.sides ≡ sides_read side old.sides)
 
 -- a snapshot that is kept, the event of this number, was noted as it was answered

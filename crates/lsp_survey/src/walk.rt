@@ -140,10 +140,11 @@ impl Replay {
             (act_view spoken.now.act) self.old self.new) }
     {
         let phase = self.events.session.phase();
+        let done = self.events.session.is_done();
         self.sides = self.sides.after_message(side);
         note_kept_act(&mut self.notes, &spoken.act)?;
         self.marks.keep_act(number, &spoken.act)?;
-        self.said.keep(number, side, &spoken.message, phase)
+        self.said.keep(number, side, &spoken.message, phase, done)
     }
 
     /// Skips the event that was refused so.
