@@ -71,18 +71,18 @@ pub fn run_task<R: Source, W: Sink>(
 
 /// Does the task over an input and into an output. What the task wrote is passed on also where it
 /// failed.
-pub fn run_through<R: Read + Drop, W: Write + Drop>(
+pub fn run_through<'a, R: Read + Drop, W: Write + Drop>(
     alloc: Global,
     task: Task<'_>,
-    input: &mut Input<R>,
-    output: &mut Output<W>,
+    input: &mut Input<'a, R>,
+    output: &mut Output<'a, W>,
     limits: Limits,
 ) -> Result<TaskOutcome, RunFault>
     ensures ran { RanThrough limits task.entry (record {
-      source_before = ⟦<Input<R> as Source>⟧.told input.old;
-      source_after = ⟦<Input<R> as Source>⟧.told input.new;
-      sink_before = ⟦<Output<W> as Sink>⟧.told output.old;
-      sink_after = ⟦<Output<W> as Sink>⟧.told output.new;
+      source_before = ⟦<Input<'a, R> as Source>⟧.told input.old;
+      source_after = ⟦<Input<'a, R> as Source>⟧.told input.new;
+      sink_before = ⟦<Output<'a, W> as Sink>⟧.told output.old;
+      sink_after = ⟦<Output<'a, W> as Sink>⟧.told output.new;
     }) (unwritten output.new) result }
     ensures flushed { OnOk result (unwritten output.new ≡ []) }
     // A fault of the input or the output has its error.
