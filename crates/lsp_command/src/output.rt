@@ -16,7 +16,7 @@ const GATHERED: usize = 65_536;
 /// A sink over a writer of std, which gathers bytes and writes them together. It keeps the error by
 /// which it last failed.
 #[derive(Drop)]
-pub struct Output<'a, W: Write + Drop> {
+pub struct BufferedOutput<'a, W: Write + Drop> {
     writer: BufWriter<W>,
     tally: IoState,
     pace: Pace<'a>,
@@ -24,22 +24,26 @@ pub struct Output<'a, W: Write + Drop> {
     late: Option<io::Error>,
 }
 
-impl<'a, W: Write + Drop> Output<'a, W> {
+impl<'a, W: Write + Drop> BufferedOutput<'a, W> {
     ghost use Rattle.std.specs.Prelude.{◌≡◌, ◌<◌, ◌↔◌, ◌⊎◌, [], None, IfOk, OnOk, IsSome};
     ghost use Rattle.std.specs.Io.KnownBytes.{Appends};
     ghost use Rattle.lsp_frame.specs.Told.{CountsFailure, KeepsBytes};
     ghost use Rattle.lsp_command.specs.Ports.{output_error, unwritten};
 
     /// A sink that has not failed, and holds no bytes back.
-    pub fn new(alloc: Global, writer: W, pace: Pace<'a>) -> Result<Output<'a, W>, AllocError>
+    pub fn new(
+        alloc: Global,
+        writer: W,
+        pace: Pace<'a>,
+    ) -> Result<BufferedOutput<'a, W>, AllocError>
         ensures taken { IfOk result
             (λ output. Appends (W.contents writer)
-            (⟦<Output<'a, W> as Sink>⟧.told output).bytes []) }
+            (⟦<BufferedOutput<'a, W> as Sink>⟧.told output).bytes []) }
         ensures empty { IfOk result (λ output. unwritten output ≡ []) }
         ensures failures { IfOk result
-            (λ output. (⟦<Output<'a, W> as Sink>⟧.told output).failures ≡ 0) }
+            (λ output. (⟦<BufferedOutput<'a, W> as Sink>⟧.told output).failures ≡ 0) }
     {
-        Ok(Output {
+        Ok(BufferedOutput {
             writer: BufWriter::with_capacity(alloc, GATHERED, writer).map_err(|_| AllocError)?,
             tally: IoState::new(),
             pace,
@@ -55,20 +59,20 @@ impl<'a, W: Write + Drop> Output<'a, W> {
     /// and is written by the next flush.
     pub fn flush(&mut self) -> Result<(), Failed>
         ensures whole { OnOk result (unwritten self.new ≡ []) }
-        ensures bytes { KeepsBytes (⟦<Output<'a, W> as Sink>⟧.told self.old)
-            (⟦<Output<'a, W> as Sink>⟧.told self.new) }
-        ensures failures { CountsFailure (⟦<Output<'a, W> as Sink>⟧.told self.old).failures
-            (⟦<Output<'a, W> as Sink>⟧.told self.new).failures result }
+        ensures bytes { KeepsBytes (⟦<BufferedOutput<'a, W> as Sink>⟧.told self.old)
+            (⟦<BufferedOutput<'a, W> as Sink>⟧.told self.new) }
+        ensures failures { CountsFailure (⟦<BufferedOutput<'a, W> as Sink>⟧.told self.old).failures
+            (⟦<BufferedOutput<'a, W> as Sink>⟧.told self.new).failures result }
     {
         let answer = self.write_gathered();
         self.tally.heed(answer)
     }
 
-    /// The writer's answer where it writes what was gathered, or why that failed after the last put.
+    /// The writer's answer to writing what was gathered, or why that failed after the last put.
     fn write_gathered(&mut self) -> io::Result<()>
         ensures whole { OnOk result (unwritten self.new ≡ []) }
-        ensures bytes { KeepsBytes (⟦<Output<'a, W> as Sink>⟧.told self.old)
-            (⟦<Output<'a, W> as Sink>⟧.told self.new) }
+        ensures bytes { KeepsBytes (⟦<BufferedOutput<'a, W> as Sink>⟧.told self.old)
+            (⟦<BufferedOutput<'a, W> as Sink>⟧.told self.new) }
         ensures tally { self.new.tally ≡ self.old.tally }
     {
         match self.late.take() {
@@ -80,8 +84,8 @@ impl<'a, W: Write + Drop> Output<'a, W> {
     /// Writes what was gathered, if that is due after a put. What the writer does not take stays
     /// gathered, and the next call fails.
     fn keep_pace(&mut self)
-        ensures bytes { KeepsBytes (⟦<Output<'a, W> as Sink>⟧.told self.old)
-            (⟦<Output<'a, W> as Sink>⟧.told self.new) }
+        ensures bytes { KeepsBytes (⟦<BufferedOutput<'a, W> as Sink>⟧.told self.old)
+            (⟦<BufferedOutput<'a, W> as Sink>⟧.told self.new) }
         ensures tally { self.new.tally ≡ self.old.tally }
         // All of it was written or nothing, unless it is known why that failed.
         ensures late { self.new.late ≡ None
@@ -99,7 +103,8 @@ impl<'a, W: Write + Drop> Output<'a, W> {
     /// Why the last call failed that did.
     pub fn cause(&self) -> Option<io::Error>
         ensures value { result ≡ output_error self.now }
-        ensures failed { IsSome result ↔ (0 < (⟦<Output<'a, W> as Sink>⟧.told self.now).failures) }
+        ensures failed { IsSome result
+            ↔ (0 < (⟦<BufferedOutput<'a, W> as Sink>⟧.told self.now).failures) }
     {
         self.tally.cause()
     }
@@ -119,7 +124,7 @@ fn taken(answer: io::Result<usize>, len: usize) -> io::Result<usize>
     }
 }
 
-impl<'a, W: Write + Drop> Sink for Output<'a, W> {
+impl<'a, W: Write + Drop> Sink for BufferedOutput<'a, W> {
     ghost told = { λ s. record {
       bytes = ⟦<BufWriter<W> as Write>⟧.contents s.writer;
       count = s.tally.bytes;

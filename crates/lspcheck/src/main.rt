@@ -16,8 +16,9 @@ use clap::Error;
 use clap::error::ErrorKind;
 pub use lsp_command::status_of;
 use lsp_command::{
-    Hint, Input, Output, Pace, Request, Slip, Supply, TaskOutcome, hint_of, only_word, remark_of,
-    report_apart, request_of, run_through, status_of_task, status_of_words, uri_alone,
+    BufferedInput, BufferedOutput, Hint, Pace, Request, Slip, Supply, TaskOutcome, hint_of,
+    only_word, remark_of, report_apart, request_of, run_through, status_of_task, status_of_words,
+    uri_alone,
 };
 use lsp_judge::{Limits, RunFault};
 use progress::{MakingWay, Progress, Watched};
@@ -71,11 +72,11 @@ fn run_on<R: Print + Eprint + AllocGlobal, I: Read + Drop>(
 ) -> Ended {
     let alloc = rt.alloc();
     let supply = Supply::new();
-    let Ok(mut input) = Input::new(alloc, Watched::new(progress, input), &supply) else {
+    let Ok(mut input) = BufferedInput::new(alloc, Watched::new(progress, input), &supply) else {
         return Ended::by(RunFault::Memory);
     };
     let output = MakingWay::new(progress, io::writer(rt));
-    let Ok(mut output) = Output::new(alloc, output, Pace::of(&request.task, &supply)) else {
+    let Ok(mut output) = BufferedOutput::new(alloc, output, Pace::of(&request.task, &supply)) else {
         return Ended::by(RunFault::Memory);
     };
     let limits = Limits::profile();
