@@ -49,6 +49,12 @@ texted_file : found texted (codes "file") ≡ Some (codes "text", None)
 unfolding clap_on_literals
 texted_file = refl
 
+-- `lspcheck text 12 u --all`
+texted_all : found (codes "lspcheck" ∷ codes "text" ∷ codes "12" ∷ codes "u" ∷ codes "--all" ∷ [])
+    (codes "all") ≡ Some (codes "text", Some (codes "true"))
+unfolding clap_on_literals
+texted_all = refl
+
 -- `lspcheck frames -`: by lengths, where nothing is said
 abbrev framed : List Text
 framed = codes "lspcheck" ∷ codes "frames" ∷ codes "-" ∷ []

@@ -4,7 +4,7 @@ ghost use Rattle.clap.specs.Words.{App, one_of, subcommand_rows_of};
 ghost use Rattle.lsp_command.specs.CommandLine.{IsCommandLine};
 ghost use Rattle.lsp_command.specs.Words.{Asks, HasTask, IsFlag, NumberIn, Refuses, RequestIn};
 ghost use Rattle.lsp_command.specs.Words.{TaskIn, check_of, completeness_of, explain_of, file_of};
-ghost use Rattle.lsp_command.specs.Words.{lines_of, listing_of, mode_of, rows_in};
+ghost use Rattle.lsp_command.specs.Words.{lines_of, listing_of, mode_of, rows_in, text_of};
 
 use crate::command_line::commands::command_line;
 use crate::command_line::task::{Request, Task};
@@ -72,6 +72,17 @@ fn explain_of<'a>(completeness: Completeness, all: bool) -> Task<'a>
     }
 }
 
+/// The text after a message, past each event that offends where the option for that is set.
+fn text_of<'a>(number: NonZeroU64, uri: &'a str, all: bool) -> Task<'a>
+    ensures { result ≡ text_of number uri.entry all }
+{
+    if all {
+        Task::TextAll { number, uri }
+    } else {
+        Task::Text { number, uri }
+    }
+}
+
 /// What the lines of events tell, where the option for long ones is set or not.
 fn lines_of(set: bool) -> Lines
     ensures { result ≡ lines_of set }
@@ -122,7 +133,7 @@ fn text_task<'a>(arguments: &ArgMatches<'a>) -> Option<Task<'a>>
 {
     let number = number_of(arguments)?;
     let uri = arguments.get_str("uri")?;
-    Some(Task::Text { number, uri })
+    Some(text_of(number, uri, is_set(arguments, "all")))
 }
 
 fn event_task<'a>(arguments: &ArgMatches<'_>) -> Option<Task<'a>>
