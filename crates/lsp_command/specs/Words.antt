@@ -106,7 +106,8 @@ NumberIn rows result =
 
 -- the words give the number and the URI, and each event that offends is skipped where the option
 -- for that is set
-pub record AsksText (rows : List Row) (number : NonZeroU64) (uri : Bor Text) (all : Bool) : Type 0 where
+pub record AsksText (rows : List Row) (number : NonZeroU64) (uri : Bor Text)
+    (all : Bool) : Type 0 where
   pub number_is : GivesNumber rows (non_zero_u64_get number)
   pub uri_is : first_of (codes "uri") rows ≡ Some uri.now
   pub all_is : IsFlag (one_of (codes "all") rows) all

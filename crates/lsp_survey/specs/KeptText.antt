@@ -20,7 +20,8 @@ end_answer (Some v) = refused v
 -- the text that is held for a URI just after the editor's n-th message, where these are the events
 -- up to it: what those of them that are kept make of it
 abbrev pub kept_answer : Terms → List ℕ → Option Verdict → Option (List Event) → TextAnswer
-kept_answer terms uri bad (Some events) = held_answer (held terms uri (calls (kept_of terms events)))
+kept_answer terms uri bad (Some events) =
+    held_answer (held terms uri (calls (kept_of terms events)))
 kept_answer terms uri bad None = end_answer bad
 
 -- **the answer on a log**

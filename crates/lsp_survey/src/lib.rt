@@ -1,8 +1,8 @@
 //! All that is wrong with a session, and not only the first: an event that offends is skipped,
 //! as if it had not been sent, and the next is judged after those that keep the rules.
 //!
-//! `run_survey` reads a log and writes a report of all its offences, `run_text_all` the text that is
-//! held after a message of the editor's. An offence may follow from an earlier one that left a
+//! `run_survey` reads a log and writes a report of all its offences, `run_text_all` the text that
+//! is held after a message of the editor's. An offence may follow from an earlier one that left a
 //! document, or the handshake, apart on the two sides; what is an offence, and what follows, is
 //! defined in `lsp_verdict`.
 //!

@@ -35,8 +35,8 @@ EndsAs no_document outcome = outcome ≡ NoDocument
 EndsAs too_few outcome = outcome ≡ TooFew
 EndsAs (refused v) outcome = (given : code.Verdict) × (outcome ≡ Judged given) × (verdict_view given ≡ v)
 
--- **what is due for a text**, where a log has one of these answers: the text that is held and nothing
--- else, and how the run ends
+-- **what is due for a text**, where a log has one of these answers: the text that is held and
+-- nothing else, and how the run ends
 pub record IsText (Answers : List ℕ → TextAnswer → Type 0) (log out : List ℕ)
     (outcome : Outcome) : Type 0 where
   pub answer : TextAnswer

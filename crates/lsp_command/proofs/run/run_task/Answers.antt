@@ -143,11 +143,13 @@ returns-in-TextAll-clause-answers g c =
 
 pub returns-in-TextAll-clause-source_failures : goal.returns-in-TextAll-clause-source_failures
 returns-in-TextAll-clause-source_failures g c =
-    run_source _ _ _ _ c.of_run-in-TextAll.ensures c.run_text_all.ensures.text.counts.source_failures
+    let counts = c.run_text_all.ensures.text.counts in
+    run_source _ _ _ _ c.of_run-in-TextAll.ensures counts.source_failures
 
 pub returns-in-TextAll-clause-sink_failures : goal.returns-in-TextAll-clause-sink_failures
 returns-in-TextAll-clause-sink_failures g c =
-    run_sink _ _ _ _ c.of_run-in-TextAll.ensures c.run_text_all.ensures.text.counts.sink_failures
+    let counts = c.run_text_all.ensures.text.counts in
+    run_sink _ _ _ _ c.of_run-in-TextAll.ensures counts.sink_failures
 
 pub returns-in-Event-clause-answers : goal.returns-in-Event-clause-answers
 returns-in-Event-clause-answers g c =
