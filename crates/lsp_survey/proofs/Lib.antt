@@ -7,6 +7,7 @@ pub mod MarkSteps
 pub mod MarksWorked
 pub mod SessionSteps
 pub mod Waiting
+pub mod SidesSteps
 pub mod Passing
 pub mod Hearing
 pub mod FrameRules

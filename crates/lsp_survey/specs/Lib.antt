@@ -5,6 +5,7 @@ pub mod Asking
 pub mod Marking
 pub mod Marks
 pub mod SessionNoting
+pub mod Sides
 pub mod Walking
 pub mod Ending
 pub mod Reads

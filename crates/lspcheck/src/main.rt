@@ -20,7 +20,7 @@ use lsp_command::{
     only_word, remark_of, report_apart, request_of, run_through, status_of_task, status_of_words,
     uri_alone,
 };
-use lsp_judge::{Limits, RunFault};
+use lsp_judge::RunFault;
 use progress::{MakingWay, Progress, Watched};
 use std::alloc::Global;
 use std::fs::OpenFile;
@@ -79,7 +79,7 @@ fn run_on<R: Print + Eprint + AllocGlobal, I: Read + Drop>(
     let Ok(mut output) = BufferedOutput::new(alloc, output, Pace::of(&request.task, &supply)) else {
         return Ended::by(RunFault::Memory);
     };
-    let limits = Limits::profile();
+    let limits = request.limits();
     let answer = run_through(alloc, request.task, &mut input, &mut output, limits);
     let advice = match answer {
         Err(RunFault::Read) => input.cause().map(Advice::Input),
