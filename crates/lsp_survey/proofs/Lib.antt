@@ -18,3 +18,4 @@ pub mod Ending
 pub mod Reading
 pub mod LogEnds
 pub mod Reporting
+pub mod KeptTexts

@@ -14,3 +14,4 @@ pub mod Walking
 pub mod Ending
 pub mod Reads
 pub mod Reported
+pub mod KeptText

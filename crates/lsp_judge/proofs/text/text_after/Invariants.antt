@@ -1,6 +1,6 @@
 use Rattle.std.proofs.Common.{◌+◌, ◌-◌}
 use Rattle.lsp_judge.proofs.TextRuns.{Reading}
-use Rattle.lsp_judge.proofs.text.text_by.Given as goal
+use Rattle.lsp_judge.proofs.text.text_after.Given as goal
 
 abbrev pub invariant-loop-fault : goal.invariant-loop-fault
 invariant-loop-fault g l =
