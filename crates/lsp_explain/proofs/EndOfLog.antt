@@ -127,30 +127,33 @@ module _ (e : SurveyReader) (completeness : Completeness) (limits : Bounds) (log
       let clean : offences own (notes_of hs) ≡ [] =
       ap (λ t. offences t (notes_of hs)) sv.terms_are ∙ none in
       let are : found ≡ map by_itself ends = lists ∙ ap (λ w. w ++ map by_itself ends) clean in
-      let quiet : breaches own hs ≡ [] = no_breach own hs clean in (record {
-        format = p.format;
-        records = p.records;
-        log_fault = p.log_fault;
-        heard = hs;
-        rests = rests;
-        of_events = [];
-        is_log = p.is_log;
-        placed_are = subst (λ (w : List Raw). Placed limits p.records w) sv.raws_are p.session.1;
-        noted = subst (λ (w : List Raw). AllZip IsNoted w (notes_of hs)) sv.raws_are
-            (subst (λ (ns : List Noted). AllZip IsNoted p.session.0 ns) sv.notes_are p.session.2);
-        editor_rest = subst (HasRest limits (joined Editor p.records)) editor p.editor_rest;
-        server_rest = subst (HasRest limits (joined Server p.records)) server p.server_rest;
-        lists = lists;
-        bad_is = p.bad_is;
-        flaw_is = flaw_said e limits log p.format p.records bad p.log_fault p.bad_is sv.flaw_known;
-        comes_to = p.comes_to ∙ ap (λ (ns : List Noted). summary own (events_of ns)) sv.notes_are;
-        explains = subst (λ (w : List Breach). AllZip (Explains rests own) (take 1 w) [])
-            (sym quiet) tt;
-        shows = ap (take 1) (ap (map (λ (o : Offence). end_explained rests said o.no)) are
-            ∙ ends_are rests said ends
-            ∙ ap (λ t. map (end_explained rests (numbered t (events_of (notes_of hs)))) ends)
-            (sym sv.terms_are));
-      }, said_all)
+      let quiet : breaches own hs ≡ [] = no_breach own hs clean in (
+        record {
+          format = p.format;
+          records = p.records;
+          log_fault = p.log_fault;
+          heard = hs;
+          rests = rests;
+          of_events = [];
+          is_log = p.is_log;
+          placed_are = subst (λ (w : List Raw). Placed limits p.records w) sv.raws_are p.session.1;
+          noted = subst (λ (w : List Raw). AllZip IsNoted w (notes_of hs)) sv.raws_are
+              (subst (λ (ns : List Noted). AllZip IsNoted p.session.0 ns) sv.notes_are p.session.2);
+          editor_rest = subst (HasRest limits (joined Editor p.records)) editor p.editor_rest;
+          server_rest = subst (HasRest limits (joined Server p.records)) server p.server_rest;
+          lists = lists;
+          bad_is = p.bad_is;
+          flaw_is = flaw_said e limits log p.format p.records bad p.log_fault p.bad_is sv.flaw_known;
+          comes_to = p.comes_to ∙ ap (λ (ns : List Noted). summary own (events_of ns)) sv.notes_are;
+          explains = subst (λ (w : List Breach). AllZip (Explains rests own) (take 1 w) [])
+              (sym quiet) tt;
+          shows = ap (take 1) (ap (map (λ (o : Offence). end_explained rests said o.no)) are
+              ∙ ends_are rests said ends
+              ∙ ap (λ t. map (end_explained rests (numbered t (events_of (notes_of hs)))) ends)
+              (sym sv.terms_are));
+        },
+        said_all,
+      )
     where
       said_all : said_before (log_terms limits sv.survey.format) hs ≡ said
       said_all = ap (λ (t : Terms). said_before t hs) sv.terms_are

@@ -67,84 +67,84 @@ module _ (completeness : Completeness) (limits : Bounds) (e : SurveyReader) (sta
     raws_here = sym (raws-append hs (here ∷ []))
 
     module _ (t : Tells limits given.so_far.records own hs here found x) (adds : AddsNotes e x y)
-        where
-      -- nothing was found before
-      clean : breaches own hs ≡ []
-      clean =
-          let listed : offences own (notes_of hs) ++ cons_option
-          (offence_at own (notes_of hs) given.n) [] ≡ offence_view found.offence ∷ [] =
-          sym (offences-push own (notes_of hs) given.n) ∙ sym given.so_far.lists in
-          no_breach own hs (nothing_before (offences own (notes_of hs))
-          (offence_by own (notes_of hs) given.n t.rule) (offence_view found.offence)
-          (cons_option (offence_at own (notes_of hs) given.n) [])
-          (ap (λ (o : Option ℕ). cons_option (option_map (offence_by own (notes_of hs) given.n) o)
-          []) t.offends) listed)
+      where
+        -- nothing was found before
+        clean : breaches own hs ≡ []
+        clean =
+            let listed : offences own (notes_of hs) ++ cons_option
+            (offence_at own (notes_of hs) given.n) [] ≡ offence_view found.offence ∷ [] =
+            sym (offences-push own (notes_of hs) given.n) ∙ sym given.so_far.lists in
+            no_breach own hs (nothing_before (offences own (notes_of hs))
+            (offence_by own (notes_of hs) given.n t.rule) (offence_view found.offence)
+            (cons_option (offence_at own (notes_of hs) given.n) [])
+            (ap (λ (o : Option ℕ). cons_option (option_map (offence_by own (notes_of hs) given.n) o)
+            []) t.offends) listed)
 
-      abbrev before : List Event
-      before = events_of (notes_of hs)
+        abbrev before : List Event
+        before = events_of (notes_of hs)
 
-      abbrev own_no : Verdict
-      own_no = no_by before given.n.event t.rule
+        abbrev own_no : Verdict
+        own_no = no_by before given.n.event t.rule
 
-      abbrev plain_text : List ℕ
-      plain_text = report own_no ++ (said_of t.told ++ [])
+        abbrev plain_text : List ℕ
+        plain_text = report own_no ++ (said_of t.told ++ [])
 
-      plain : string_bytes x.text ≡ plain_text
-      plain = t.text_is ∙ ap (λ v. report v ++ said_of t.told) t.no_is
-          ∙ ap (λ w. report own_no ++ w) (sym (append-nil (said_of t.told)))
+        plain : string_bytes x.text ≡ plain_text
+        plain = t.text_is ∙ ap (λ v. report v ++ said_of t.told) t.no_is
+            ∙ ap (λ w. report own_no ++ w) (sym (append-nil (said_of t.told)))
 
-      stands : StandsAfter e before
-      stands = stands_before e (notes_of hs) given.n t.rule given.so_far.walks t.offends
+        stands : StandsAfter e before
+        stands = stands_before e (notes_of hs) given.n t.rule given.so_far.walks t.offends
 
-      of_log : (log : List ℕ) → HasGiven limits e.log.log.format given.so_far.records
-          (raws_of hs ++ given.raw ∷ []) log
-          → IsExplanation completeness limits log (verdict_view y.verdict) (string_bytes y.text)
-      of_log log first =
-          let same : own ≡ log_terms limits e.log.log.format = given.so_far.terms_are in
-          let f : IsFirst completeness limits log
-          (offence_of (log_terms limits e.log.log.format) (breach hs here t.rule)) t.told
-          (numbered (log_terms limits e.log.log.format) before) =
-          first_explained completeness limits log e.log.log.format given.so_far.records some_note hs here
-          (subst (λ (w : List Raw). HasGiven limits e.log.log.format given.so_far.records w log)
-          raws_here first)
-          (noted-append hs (here ∷ []) noted (given.is_noted, tt))
-          t.rule t.told
-          (subst (λ (ts : Terms). breaches ts hs ≡ []) same clean)
-          (subst (λ (ts : Terms). rule_at ts (events_of (notes_of hs)) given.n.event ≡ Some t.rule)
-          same t.offends)
-          (λ rests behind. subst (λ (ts : Terms). Explains rests ts (breach hs here t.rule) t.told)
-          same (t.explains rests behind)) in record {
-            found = offence_of (log_terms limits e.log.log.format)
-                (breach hs here t.rule) ∷ f.found;
-            explained = t.told ∷ [];
-            bad = f.bad;
-            flaw = f.flaw;
-            s = f.s;
-            is = f.is;
-            judges = ap verdict_view adds.verdict_is ∙ t.verdict_is ∙ t.no_is;
-            says =
-                adds.text_is before stands
-                ∙ ap (λ w. w ++ notes_on (verdict_view x.verdict) (numbered own before)) plain
-                ∙ ap (λ v. plain_text ++ notes_on v (numbered own before))
-                (t.verdict_is ∙ t.no_is)
-                ∙ ap (λ w. plain_text ++ notes_on own_no w)
-                (ap (λ ts. numbered ts before) same ∙ sym f.said_is);
-          }
+        of_log : (log : List ℕ) → HasGiven limits e.log.log.format given.so_far.records
+            (raws_of hs ++ given.raw ∷ []) log
+            → IsExplanation completeness limits log (verdict_view y.verdict) (string_bytes y.text)
+        of_log log first =
+            let same : own ≡ log_terms limits e.log.log.format = given.so_far.terms_are in
+            let f : IsFirst completeness limits log
+            (offence_of (log_terms limits e.log.log.format) (breach hs here t.rule)) t.told
+            (numbered (log_terms limits e.log.log.format) before) =
+            first_explained completeness limits log e.log.log.format given.so_far.records some_note hs here
+            (subst (λ (w : List Raw). HasGiven limits e.log.log.format given.so_far.records w log)
+            raws_here first)
+            (noted-append hs (here ∷ []) noted (given.is_noted, tt))
+            t.rule t.told
+            (subst (λ (ts : Terms). breaches ts hs ≡ []) same clean)
+            (subst (λ (ts : Terms). rule_at ts (events_of (notes_of hs)) given.n.event ≡ Some t.rule)
+            same t.offends)
+            (λ rests behind. subst (λ (ts : Terms). Explains rests ts (breach hs here t.rule) t.told)
+            same (t.explains rests behind)) in record {
+              found = offence_of (log_terms limits e.log.log.format)
+                  (breach hs here t.rule) ∷ f.found;
+              explained = t.told ∷ [];
+              bad = f.bad;
+              flaw = f.flaw;
+              s = f.s;
+              is = f.is;
+              judges = ap verdict_view adds.verdict_is ∙ t.verdict_is ∙ t.no_is;
+              says =
+                  adds.text_is before stands
+                  ∙ ap (λ w. w ++ notes_on (verdict_view x.verdict) (numbered own before)) plain
+                  ∙ ap (λ v. plain_text ++ notes_on v (numbered own before))
+                  (t.verdict_is ∙ t.no_is)
+                  ∙ ap (λ w. plain_text ++ notes_on own_no w)
+                  (ap (λ ts. numbered ts before) same ∙ sym f.said_is);
+            }
 
-      pub told_first : IsExplainedBy completeness limits start now y
-      told_first = record {
-        of_read = read_map limits start now (HasGiven limits e.log.log.format given.so_far.records
-            (raws_of hs ++ given.raw ∷ []))
-            (λ log. IsExplanation completeness limits log (verdict_view y.verdict)
-            (string_bytes y.text)) of_log
-            (so_far_given completeness limits e start now (raws_of hs ++ given.raw ∷ [])
-            (notes_of hs ++ given.n ∷ []) (offence_view found.offence ∷ []) given.so_far);
-        failures = so_far_failures completeness limits e start now (raws_of hs ++ given.raw ∷ [])
-            (notes_of hs ++ given.n ∷ []) (offence_view found.offence ∷ []) given.so_far;
-        ended = λ s yes. let same : verdict_view (verdicts.Yes s)
-            ≡ no_by (events_of (notes_of hs)) given.n.event t.rule =
-            ap verdict_view (sym yes ∙ adds.verdict_is) ∙ t.verdict_is ∙ t.no_is in absurd cc;
-      }
+        pub told_first : IsExplainedBy completeness limits start now y
+        told_first = record {
+          of_read = read_map limits start now (HasGiven limits e.log.log.format given.so_far.records
+              (raws_of hs ++ given.raw ∷ []))
+              (λ log. IsExplanation completeness limits log (verdict_view y.verdict)
+              (string_bytes y.text)) of_log
+              (so_far_given completeness limits e start now (raws_of hs ++ given.raw ∷ [])
+              (notes_of hs ++ given.n ∷ []) (offence_view found.offence ∷ []) given.so_far);
+          failures = so_far_failures completeness limits e start now (raws_of hs ++ given.raw ∷ [])
+              (notes_of hs ++ given.n ∷ []) (offence_view found.offence ∷ []) given.so_far;
+          ended = λ s yes. let same : verdict_view (verdicts.Yes s)
+              ≡ no_by (events_of (notes_of hs)) given.n.event t.rule =
+              ap verdict_view (sym yes ∙ adds.verdict_is) ∙ t.verdict_is ∙ t.no_is in absurd cc;
+        }
 
 -- memory was refused behind some events
 pub refused : (limits : Bounds) (e : SurveyReader) (start now : Told) (past : List Raw)

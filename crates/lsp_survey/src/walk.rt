@@ -26,8 +26,9 @@ ghost use Rattle.lsp_survey.specs.Walking.{IsUnread, NotesKept, NotesMessage, Pa
 ghost use Rattle.lsp_survey.specs.Walking.{offence_of};
 
 use crate::notes::{
-    Malformed, Marks, Notes, Passed, SessionNotes, Sides, breaks_handshake, is_on_lost, meant_again,
-    note_kept_act, note_malformed, note_refused, note_refused_act, reopens, wants_handshake, wants_text,
+    Malformed, Marks, Notes, Passed, SessionNotes, Sides, breaks_handshake, is_on_lost,
+    meant_again, note_kept_act, note_malformed, note_refused, note_refused_act, reopens,
+    wants_handshake, wants_text,
 };
 use crate::offending::{FoundOffence, Judged, OffendingEvent};
 use lsp_frame::{Format, Limits};

@@ -133,7 +133,8 @@ impl SessionNotes {
             self.since = Some(event);
         }
         self.phase = phase;
-        self.remarks.keep(event, side, message, before, phase, done)?;
+        self.remarks
+            .keep(event, side, message, before, phase, done)?;
         self.exchange(event, side, message)
     }
 
