@@ -32,6 +32,7 @@ use Rattle.lsp_survey.specs.declared.notes.marks.Marks.{Marks}
 use Rattle.lsp_survey.specs.declared.notes.note.Notes.{Notes}
 use Rattle.lsp_survey.specs.declared.notes.passed.Passed.{Passed}
 use Rattle.lsp_survey.specs.declared.notes.session_notes.SessionNotes.{SessionNotes}
+use Rattle.lsp_survey.specs.declared.notes.sides.Sides.{Sides}
 use Rattle.lsp_survey.specs.Notes.{AreAfter, note_in}
 use Rattle.lsp_survey.specs.Walking.{Walks, WalksBy, IsRefused, IsShown, IsUnread, PassesOver}
 use Rattle.lsp_survey.specs.Walking.{IsMessageOf, IsOffending, Hears, NotesKept, NotesMessage}
@@ -171,9 +172,10 @@ module _ (old new : Replay) (notes : List Noted) (number : ℕ) (walks : Walks o
 
 -- what was noted before is all that matters
 pub noted_after : (number : ℕ) (given : lent.Heard) (mid old new : Replay) → mid.notes ≡ old.notes
-    → mid.marks ≡ old.marks → mid.said ≡ old.said → NotesKept number given mid new
+    → mid.marks ≡ old.marks → mid.said ≡ old.said → mid.sides ≡ old.sides
+    → NotesKept number given mid new
     → NotesKept number given old new
-noted_after number (kept.Message side spoken) mid old new notes marks said noted =
+noted_after number (kept.Message side spoken) mid old new notes marks said sides noted =
     let act : Act = act_view spoken.act in (
       λ enc kind. subst (λ (w : Notes).
           AreAfter (call_of enc kind act) w.map.entries new.notes.map.entries) notes
@@ -184,12 +186,14 @@ noted_after number (kept.Message side spoken) mid old new notes marks said noted
       λ sents stands. subst (λ (w : SessionNotes).
           SaysOn number side (message_view spoken.message) sents w new.said) said
           (noted.2 sents stands),
+      noted.3 ∙ ap (λ (s : Sides). sides_read side s) sides,
     )
-noted_after number (kept.Snapshot version uri text answer) mid old new notes marks said noted = (
+noted_after number (kept.Snapshot version uri text answer) mid old new notes marks said sides noted = (
   noted.0 ∙ notes,
   subst (λ (w : Marks).
       ShownBy number uri.now version answer w.map.entries new.marks.map.entries) marks noted.1,
   noted.2 ∙ said,
+  noted.3 ∙ sides,
 )
 
 -- the next event was heard, kept and noted

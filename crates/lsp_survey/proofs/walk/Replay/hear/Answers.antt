@@ -23,7 +23,7 @@ returns-in-Ok-clause-heard c =
     (c.in-Ok.ensures.ok kept walks.holds)
     (noted_after c.number_next-number.result c.in-Ok.kept (record old {
       events = c.hear.new.self;
-    }) old c.keep.new.self refl refl refl keeps.1)))
+    }) old c.keep.new.self refl refl refl refl keeps.1)))
     c.keep.ensures.keeps
 
 pub returns-in-Err-clause-heard : goal.returns-in-Err-clause-heard
