@@ -66,6 +66,11 @@ pub data Fact : Type 0 where
   answered_by : ℕ → Fact
   asked_by : ℕ → Fact
   led_by : ℕ → Fact
+  -- the event that closed a document, that none opened it, and an open document with a similar URI,
+  -- with the event that opened it
+  closed_by : ℕ → Fact
+  never_opened : Fact
+  similar_to : List ℕ → ℕ → Fact
   -- the front of a content
   begins : List ℕ → Fact
   -- the number of a record, the byte at which it begins, and the line that is there
@@ -107,6 +112,9 @@ fact_view (facts.Suspect number event) = suspects number event
 fact_view (facts.Answered event) = answered_by event
 fact_view (facts.Asked event) = asked_by event
 fact_view (facts.Since event) = led_by event
+fact_view (facts.Closed event) = closed_by event
+fact_view facts.NeverOpened = never_opened
+fact_view (facts.Similar uri event) = similar_to (string_bytes uri) event
 fact_view (facts.Begins text) = begins (string_bytes text)
 fact_view (facts.Record number) = in_record number
 fact_view (facts.Byte place) = at_byte place

@@ -29,7 +29,8 @@ use Rattle.lsp_explain.specs.Fact.{by_messages}
 use Rattle.lsp_explain.specs.Fact.{in_editor, saved_line, keeps, has_id, in_phase, offers, picks}
 use Rattle.lsp_explain.specs.Fact.{registers, waits, waits_since, shown_by, equal_by, has_suspects}
 use Rattle.lsp_explain.specs.Fact.{suspects}
-use Rattle.lsp_explain.specs.Fact.{answered_by, asked_by, led_by, begins, in_record, at_byte, finds}
+use Rattle.lsp_explain.specs.Fact.{answered_by, asked_by, led_by, closed_by, never_opened}
+use Rattle.lsp_explain.specs.Fact.{similar_to, begins, in_record, at_byte, finds}
 use Rattle.lsp_explain.specs.Part.{Part}
 use Rattle.lsp_types.specs.declared.rules.TheConstants as rules
 
@@ -124,6 +125,10 @@ fact_line (suspects number event) = version_by (codes "suspect") number event
 fact_line (answered_by event) = cited (codes "answered") event
 fact_line (asked_by event) = cited (codes "asked") event
 fact_line (led_by event) = cited (codes "since") event
+fact_line (closed_by event) = cited (codes "closed") event
+fact_line never_opened = line (codes "opened" ∷ codes "never" ∷ [])
+fact_line (similar_to uri event) =
+    line (codes "similar" ∷ quoted uri ∷ codes "event" ∷ decimal event ∷ [])
 fact_line (begins text) = line (codes "begins" ∷ quoted text ∷ [])
 fact_line (in_record number) = line (codes "record" ∷ decimal number ∷ [])
 fact_line (at_byte place) = line (codes "byte" ∷ decimal place ∷ [])

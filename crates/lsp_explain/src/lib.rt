@@ -13,6 +13,7 @@ mod run;
 mod run_all;
 mod suspects;
 mod trace;
+mod unopened;
 
 pub use facts::{
     Fact, act_facts, content_facts, flaw_facts, frame_facts, session_facts, snapshot_facts,

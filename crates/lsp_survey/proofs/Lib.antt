@@ -5,6 +5,7 @@ pub mod Exchanging
 pub mod Marking
 pub mod MarkSteps
 pub mod MarksWorked
+pub mod OpeningSteps
 pub mod SessionSteps
 pub mod Waiting
 pub mod Passing

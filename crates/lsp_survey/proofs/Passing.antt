@@ -9,11 +9,13 @@ use Rattle.lsp_replay.specs.Standing.{Holds}
 use Rattle.lsp_session.specs.State as session
 use Rattle.lsp_survey.specs.Notes.{note_of, note_after, AreAfter, is_noted_lost}
 use Rattle.lsp_survey.specs.Marks.{AreMarks}
+use Rattle.lsp_survey.specs.Openings.{AreOpenings}
 use Rattle.lsp_survey.specs.SessionNoting.{AreNotes}
 use Rattle.lsp_survey.specs.Walking.{WalksBy, Walks, offence_of, PassesOver}
 use Rattle.lsp_survey.specs.Walking.{IsOffending, Offends, IsHeard, Hears}
 use Rattle.lsp_survey.specs.declared.notes.marks.Marks.{Marks}
 use Rattle.lsp_survey.specs.declared.notes.note.Note.{Note}
+use Rattle.lsp_survey.specs.declared.notes.openings.Openings.{Openings}
 use Rattle.lsp_survey.specs.declared.offending.Judged.{Judged}
 use Rattle.lsp_survey.specs.declared.offending.Judged.TheVariants as heard
 use Rattle.lsp_survey.specs.declared.offending.OffendingEvent.{OffendingEvent}
@@ -31,6 +33,7 @@ use Rattle.lsp_verdict.specs.Placed.{Raw}
 use Rattle.lsp_verdict.specs.Verdict.{whose}
 use Rattle.lsp_verdict.specs.declared.verdict.Who.{Who}
 use Rattle.lsp_survey.proofs.MarkSteps.{refused_leaves}
+use Rattle.lsp_survey.proofs.OpeningSteps.{refused_opens}
 use Rattle.lsp_survey.proofs.SessionSteps.{refused_unsaid}
 use Rattle.lsp_verdict.proofs.Offences.Steps.{broken-push, events_of-push, is_lost-push, kept-push}
 use Rattle.lsp_verdict.proofs.Offences.Steps.{kept-refused}
@@ -88,6 +91,7 @@ record Steps (terms : Terms) (old new : Replay) (notes : List Noted) (n : Noted)
   pub is_broken : new.broken ≡ (old.broken || breaks_by rule n.asks)
   pub noted : AreAfter rule said old.notes.map.entries new.notes.map.entries
   pub marked : AreMarks terms new.marks.map.entries (events_of notes ++ n.event ∷ [])
+  pub opened : AreOpenings terms new.openings (events_of notes ++ n.event ∷ [])
   pub told : AreNotes terms new.said (events_of notes ++ n.event ∷ [])
 
 walks_on : (terms : Terms) (old new : Replay) (notes : List Noted) (n : Noted) (rule : Option ℕ)
@@ -113,6 +117,7 @@ walks_on terms old new notes n rule said walks s =
           is_some (first_of (broken_by terms) notes) || breaks_by o n.asks) (sym s.rule_is)
           ∙ sym (broken_pushed terms notes n);
       marked = subst (AreMarks terms new.marks.map.entries) (sym (events_of-push notes n)) s.marked;
+      opened = subst (AreOpenings terms new.openings) (sym (events_of-push notes n)) s.opened;
       said = subst (AreNotes terms new.said) (sym (events_of-push notes n)) s.told;
     })
 
@@ -172,6 +177,9 @@ passed_over raw old new notes n by rule says enc kind IsSuch given walks is_note
         marked = refused_leaves terms new.marks.map.entries (events_of notes) n.event rule
             (subst (λ (m : Marks). AreMarks terms m.map.entries (events_of notes)) (sym p.marks)
             walks.marked) rule_is;
+        opened = refused_opens terms new.openings (events_of notes) n.event rule
+            (subst (λ (o : Openings). AreOpenings terms o (events_of notes)) (sym p.openings)
+            walks.opened) rule_is;
         told = refused_unsaid terms new.said (events_of notes) n.event rule
             (subst (λ (m : SessionNotes). AreNotes terms m (events_of notes)) (sym p.said)
             walks.said) rule_is;
@@ -204,10 +212,11 @@ pub kept_on : (raw : Raw) (old new : Replay) (notes : List Noted) (n : Noted) (s
     → AreCounts new.events.counts (events_of notes ++ n.event ∷ []) → new.broken ≡ old.broken
     → AreAfter None said old.notes.map.entries new.notes.map.entries
     → AreMarks old.events.docs.terms new.marks.map.entries (events_of notes ++ n.event ∷ [])
+    → AreOpenings old.events.docs.terms new.openings (events_of notes ++ n.event ∷ [])
     → AreNotes old.events.docs.terms new.said (events_of notes ++ n.event ∷ [])
     → Hears raw old.events.docs.terms new notes heard.Kept
 kept_on raw old new notes n said walks is_noted rule_is said_is terms_are holds counted is_broken
-    noted marked told =
+    noted marked opened told =
     let terms : Terms = old.events.docs.terms in
     record {
       n = n;
@@ -222,6 +231,7 @@ kept_on raw old new notes n said walks is_noted rule_is said_is terms_are holds 
         is_broken = is_broken ∙ or_false old.broken;
         noted = noted;
         marked = marked;
+        opened = opened;
         told = told;
       });
     }

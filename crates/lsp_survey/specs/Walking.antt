@@ -15,6 +15,7 @@ use Rattle.lsp_session.specs.Handshake.{phase}
 use Rattle.lsp_session.specs.Sent.{Sent}
 use Rattle.lsp_session.specs.State.{Stands}
 use Rattle.lsp_survey.specs.Marks.{AreMarks, DoneBy, ShownBy}
+use Rattle.lsp_survey.specs.Openings.{AreOpenings, OpensBy}
 use Rattle.lsp_survey.specs.SessionNoting.{AreNotes, SaysOn}
 use Rattle.lsp_survey.specs.Notes.{note_in, note_of, AreAfter, is_noted_lost}
 use Rattle.lsp_survey.specs.declared.offending.FoundOffence.{FoundOffence}
@@ -48,6 +49,7 @@ pub record WalksBy (terms : Terms) (w : Replay) (notes : List Noted) : Type 0 wh
   pub noted : (uri : List ℕ) → note_in w.notes.map.entries uri ≡ note_of terms uri (events_of notes)
   pub is_broken : w.broken ≡ is_some (first_of (broken_by terms) notes)
   pub marked : AreMarks terms w.marks.map.entries (events_of notes)
+  pub opened : AreOpenings terms w.openings (events_of notes)
   pub said : AreNotes terms w.said (events_of notes)
 
 -- **a walk has heard these events**, and skipped each that offends after the kept ones before
@@ -68,6 +70,8 @@ NotesMessage number side said act old new =
     → AreAfter None (call_of enc kind act) old.notes.map.entries new.notes.map.entries)
     × ((enc : Encoding) (kind : SyncKind)
     → DoneBy number (call_of enc kind act) old.marks.map.entries new.marks.map.entries)
+    × ((enc : Encoding) (kind : SyncKind)
+    → OpensBy number (call_of enc kind act) old.openings new.openings)
     × ((sents : List Sent) → Stands new.events.session sents
     → SaysOn number side said (phase sents) old.said new.said)
 
@@ -76,6 +80,7 @@ abbrev pub NotesSnapshot : ℕ → List ℕ → ℤ → Match → Replay → Rep
 NotesSnapshot number uri version answer old new =
     (new.notes ≡ old.notes)
     × ShownBy number uri version answer old.marks.map.entries new.marks.map.entries
+    × (new.openings ≡ old.openings)
     × (new.said ≡ old.said)
 
 -- the event that is kept, of this number, was noted
@@ -126,6 +131,7 @@ pub record PassesOver (old new : Replay) (by : Who) (rule : ℕ) (asks : Bool)
   pub noted : (enc : Encoding) (kind : SyncKind)
       → AreAfter (Some rule) (says enc kind) old.notes.map.entries new.notes.map.entries
   pub marks : new.marks ≡ old.marks
+  pub openings : new.openings ≡ old.openings
   pub said : new.said ≡ old.said
   pub offence : (enc : Encoding) (kind : SyncKind) (notes : List Noted) → Walks old notes
       → offence_view found.offence

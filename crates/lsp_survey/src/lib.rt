@@ -6,7 +6,7 @@
 //! and what follows, is defined in `lsp_verdict`.
 //!
 //! What is noted of the events on the way, as which one set a version of a document, is in `notes`:
-//! [`Marks`], [`Setter`], [`Shown`] and [`SessionNotes`] lend it to who explains an offence.
+//! [`Marks`], [`Openings`] and [`SessionNotes`] lend it to who explains an offence.
 #![tactic(auto)]
 
 mod notes;
@@ -18,7 +18,7 @@ mod survey_reader;
 mod walk;
 
 pub use lsp_verdict::Listing;
-pub use notes::{Marks, SessionNotes, Setter, Shown};
+pub use notes::{Closing, DocumentEvent, Marks, Openings, SessionNotes, Setter, Shown, uri_in};
 pub use offence_count::OffenceCount;
 pub use offending::{FoundOffence, Judged, OffendingEvent};
 pub use run::run_survey;

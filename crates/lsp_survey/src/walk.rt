@@ -21,7 +21,7 @@ ghost use Rattle.lsp_survey.specs.Walking.{Counted, Hears, IsRefused, IsShown, I
 ghost use Rattle.lsp_survey.specs.Walking.{NotesKept, NotesMessage, PassesOver, Walks, offence_of};
 
 use crate::notes::{
-    Marks, Notes, SessionNotes, asks_again, asks_handshake, breaks_handshake, is_on_lost,
+    Marks, Notes, Openings, SessionNotes, asks_again, asks_handshake, breaks_handshake, is_on_lost,
     note_kept_act, note_refused, note_refused_act, wants_handshake, wants_text,
 };
 use crate::offending::{FoundOffence, Judged, OffendingEvent};
@@ -44,6 +44,8 @@ pub(crate) struct Replay {
     broken: bool,
     /// Which kept events left the documents as they are.
     pub marks: Marks,
+    /// Which documents they opened and closed last.
+    pub openings: Openings,
     /// By which kept events requests were asked and answered.
     pub said: SessionNotes,
 }
@@ -59,6 +61,7 @@ impl Replay {
             notes: Notes::new(alloc),
             broken: false,
             marks: Marks::new(alloc),
+            openings: Openings::new(alloc),
             said: SessionNotes::new(alloc),
         }
     }
@@ -127,6 +130,7 @@ impl Replay {
         let phase = self.events.session.phase();
         note_kept_act(&mut self.notes, &spoken.act)?;
         self.marks.keep_act(number, &spoken.act)?;
+        self.openings.keep_act(number, &spoken.act)?;
         self.said.keep(number, side, &spoken.message, phase)
     }
 
@@ -245,6 +249,7 @@ impl Replay {
         ensures counted { Counted self.old self.new by rule asks }
         ensures notes { self.new.notes ≡ self.old.notes }
         ensures marks { self.new.marks ≡ self.old.marks }
+        ensures openings { self.new.openings ≡ self.old.openings }
         ensures said { self.new.said ≡ self.old.said }
         ensures offence { (before : List Noted) → Walks self.old before
             → offence_view result ≡ given_offence

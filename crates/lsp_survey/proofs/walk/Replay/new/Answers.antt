@@ -8,5 +8,6 @@ returns-clause-walks c = record {
   noted = λ uri. c.new-2.ensures uri;
   is_broken = refl;
   marked = c.new-3.ensures c.new.result.docs.terms;
-  said = c.new-4.ensures c.new.result.docs.terms;
+  opened = c.new-4.ensures c.new.result.docs.terms;
+  said = c.new-5.ensures c.new.result.docs.terms;
 }

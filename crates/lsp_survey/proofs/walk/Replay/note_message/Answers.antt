@@ -10,6 +10,7 @@ returns-clause-noted c =
     (λ editor server. (
       c.in_ok-note_kept_act.ensures,
       c.in_ok-keep_act.ensures,
+      c.in_ok-keep_act-2.ensures,
       λ sents stands.
           let behind = c.phase-phase.ensures sents stands in
           record {

@@ -17,6 +17,7 @@ returns-clause-passes c =
           AreAfter (Some c.args.rule) None old.notes.map.entries w.map.entries) (sym refused.notes)
           (nothing_said (Some c.args.rule) old.notes.map.entries);
       marks = refused.marks;
+      openings = refused.openings;
       said = refused.said;
       offence = λ enc kind notes w. rw c.who_of.ensures at (refused.offence notes w);
     }

@@ -38,6 +38,7 @@ returns-clause-passes c =
           c.note_refused.new.notes.map.entries) refused.notes
           (c.in_ok-note_refused.ensures call refl refl);
       marks = refused.marks;
+      openings = refused.openings;
       said = refused.said;
       offence = λ enc kind notes w. refused.offence notes w
           ∙ ap (λ b. given_offence (offence_of old.events.docs.terms notes who.Snapshot c.args.rule
