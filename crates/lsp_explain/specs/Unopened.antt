@@ -1,6 +1,7 @@
 -- What is said about a document that is not open: how it was closed, and which documents with a
 -- similar URI are open.
-use Rattle.std.specs.Prelude.{ℕ, ◌/◌, List, [], ◌∷◌, ◌++◌, length, nat_le, Bool, false, ◌&&◌, ◌==◌}
+use Rattle.std.specs.Prelude.{ℕ, ◌*◌, List, [], ◌∷◌, ◌++◌, length, nat_lt, Bool, false, ◌&&◌}
+use Rattle.std.specs.Prelude.{not, ◌==◌}
 use Rattle.std.specs.Prelude.{if◌then◌else◌, Option, Some, None, is_some}
 use Rattle.std.specs.Char.{to_ascii_lowercase}
 use Rattle.std.specs.List.{flat_map}
@@ -31,10 +32,13 @@ folded_byte b = if b == 47 then [] else to_ascii_lowercase b ∷ []
 abbrev pub folded : List ℕ → List ℕ
 folded uri = flat_map folded_byte (percent_decode uri)
 
--- the other is at most three times as long, as percent-encoding makes it, and otherwise the same
+abbrev pub is_long : ℕ → ℕ → Bool
+is_long size other = nat_lt (3 * size) other
+
+-- the other is at most three times as long, and differs in these alone
 abbrev pub is_similar : List ℕ → List ℕ → Bool
 is_similar uri other =
-    nat_le (length other / 3) (length uri) && bytes_eq (folded uri) (folded other)
+    not (is_long (length uri) (length other)) && bytes_eq (folded uri) (folded other)
 
 -- ---- the documents that are open
 

@@ -145,10 +145,17 @@ fn is_at(event: u64, other: Option<u64>) -> bool
 fn is_similar(alloc: Global, uri: &str, other: &str) -> Result<bool, Memory>
     ensures { IfOk result (λ similar. similar ≡ spec.is_similar uri.now other.now) }
 {
-    if other.len() / 3 > uri.len() {
+    if is_long(uri.len(), other.len()) {
         return Ok(false);
     }
     is_alike(alloc, uri, other)
+}
+
+/// Whether the other size is more than three times this one.
+fn is_long(size: usize, other: usize) -> bool
+    ensures { result ≡ spec.is_long size other }
+{
+    other > size.saturating_mul(3)
 }
 
 fn is_alike(alloc: Global, uri: &str, other: &str) -> Result<bool, Memory>
