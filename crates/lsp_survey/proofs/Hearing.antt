@@ -203,12 +203,12 @@ noted_after number (kept.Message side spoken) mid old new notes marks openings s
     )
 noted_after number (kept.Snapshot version uri text answer) mid old new notes marks openings said
     noted = (
-  noted.0 ∙ notes,
-  subst (λ (w : Marks).
-      ShownBy number uri.now version answer w.map.entries new.marks.map.entries) marks noted.1,
-  noted.2 ∙ openings,
-  noted.3 ∙ said,
-)
+      noted.0 ∙ notes,
+      subst (λ (w : Marks).
+          ShownBy number uri.now version answer w.map.entries new.marks.map.entries) marks noted.1,
+      noted.2 ∙ openings,
+      noted.3 ∙ said,
+    )
 
 -- the next event was heard, kept and noted
 pub kept_heard : (raw : Raw) (old new : Replay) (notes : List Noted) (number : ℕ)

@@ -104,9 +104,7 @@ impl Openings {
             Act::DidOpen { uri, .. } => {
                 push(&mut self.opened, MOST_OPENINGS, uri.as_str(), event)
             }
-            Act::DidClose { uri } => {
-                push(&mut self.closed, MOST_CLOSINGS, uri.as_str(), event)
-            }
+            Act::DidClose { uri } => { push(&mut self.closed, MOST_CLOSINGS, uri.as_str(), event) }
             _ => Ok(()),
         }
     }
