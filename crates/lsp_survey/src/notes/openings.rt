@@ -101,10 +101,8 @@ impl Openings {
             → OpensBy event (call_of enc kind (act_view act.now)) self.old self.new) }
     {
         match act {
-            Act::DidOpen { uri, .. } => {
-                push(&mut self.opened, MOST_OPENINGS, uri.as_str(), event)
-            }
-            Act::DidClose { uri } => { push(&mut self.closed, MOST_CLOSINGS, uri.as_str(), event) }
+            Act::DidOpen { uri, .. } => push(&mut self.opened, MOST_OPENINGS, uri.as_str(), event),
+            Act::DidClose { uri } => push(&mut self.closed, MOST_CLOSINGS, uri.as_str(), event),
             _ => Ok(()),
         }
     }
